@@ -1,0 +1,485 @@
+//! The sketch.
+ghost use Rattle.std.specs.Prelude.{◌≡◌, ◌≢◌, ℕ, ◌+◌, ◌-◌, ◌*◌, ◌/◌, ◌^◌, ◌<◌, ◌≤◌, ◌↔◌, [], ◌∷◌, ◌++◌, length, IsTrue, IsSome, IsErrOf, IfOk, IfErr, OnOk, OnErr, vec_len, vec_capacity, IsSorted, None, if◌then◌else◌, ◌==◌, option_copied, drop, count_by, is_some, IfSome};
+ghost use Rattle.std.specs.declared.cmp.Ordering.TheVariants.{Equal};
+ghost use Rattle.std.specs.List.{between};
+ghost use Rattle.sketch_base.specs.declared.error.ErrorKind.TheVariants.{InvalidArgument, OutOfMemory};
+ghost use Rattle.sketch_base.specs.Bag.{empty_bag, retained, weight, weighted_rank};
+ghost use Rattle.sketch_base.specs.Query.{counted};
+ghost use Rattle.sketch_base.specs.Random.{bits_from, after_draws};
+ghost use Rattle.sketch_base.specs.Trace.{draws_of, coins as coins_of_trace};
+ghost use Rattle.sketch_kll.specs.Capacity.{total_of};
+ghost use Rattle.sketch_kll.specs.Fill.{IsFilled};
+ghost use Rattle.sketch_kll.specs.Flat.{levels_in, IsFlat};
+ghost use Rattle.sketch_kll.specs.Levels.{weight as weight_in, first_level, compacted, SameLevels, UpperSorted};
+ghost use Rattle.sketch_kll.specs.Rank.{counted_weight};
+ghost use Rattle.sketch_kll.specs.Schedule.{updates_trace};
+ghost use Rattle.sketch_kll.specs.Sketch.{bag_of, update_of, newer_or, Ties, least_with, greatest_with, IsUpdated};
+ghost use Rattle.sketch_kll.specs.Steps.{full_level, is_full, with_room, keeps_last, put};
+
+use crate::capacity::{MINIMUM_CAPACITY, level_capacity, total_capacity};
+use crate::compaction::compact_level;
+use sketch_base::common::{Rank, SearchCriteria};
+use sketch_base::error::{Error, ErrorKind};
+use sketch_base::common::random::RandomBits;
+use std::alloc::{AllocError, Global};
+use std::marker::Model;
+
+/// A KLL sketch of items of one type.
+#[derive(Drop)]
+pub struct KllSketch<T: Clone + Ord> {
+    k: u16,
+    min_k: u16,
+    n: u64,
+    is_level_zero_sorted: bool,
+    items: Vec<T>,
+    bounds: Vec<usize>,
+    min_item: Option<T>,
+    max_item: Option<T>,
+}
+
+impl<T: Clone + Ord> Model for KllSketch<T> {
+    ghost use Rattle.sketch_kll.specs.Sketch.{Kll, IsSketch, sketch_of};
+
+    ghost Value = { Kll T };
+
+    ghost view = { λ s. sketch_of s.k s.min_k s.n s.is_level_zero_sorted s.items.items s.bounds.items s.min_item s.max_item };
+
+    ghost invariant = { λ s. IsSketch T.cmp s.items.items s.bounds.items (sketch_of s.k s.min_k s.n s.is_level_zero_sorted s.items.items s.bounds.items s.min_item s.max_item) };
+}
+
+impl<T: Clone + Ord> KllSketch<T> {
+    pub fn new(alloc: Global, k: u16) -> Result<Self, Error>
+        ensures k { IfOk result (λ s. (s.k ≡ k) × (s.min_k ≡ k)) }
+        ensures n { IfOk result (λ s. s.n ≡ 0) }
+        ensures bag { IfOk result (λ s. bag_of s ≡ empty_bag) }
+        ensures extremes { IfOk result (λ s. (s.least ≡ None) × (s.greatest ≡ None)) }
+        ensures small { IsErrOf result InvalidArgument ↔ (k < 8) }
+    {
+        if k < 8 {
+            return Err(Error::new(ErrorKind::InvalidArgument));
+        }
+        let mut bounds = Vec::with_capacity(alloc, 2)?;
+        bounds.push(0)?;
+        bounds.push(0)?;
+        Ok(KllSketch {
+            k,
+            min_k: k,
+            n: 0,
+            is_level_zero_sorted: false,
+            items: Vec::new(alloc),
+            bounds,
+            min_item: None,
+            max_item: None,
+        })
+    }
+
+    pub fn k(&self) -> u16
+        ensures { result ≡ self.now.k }
+    {
+        self.k
+    }
+
+    pub fn min_k(&self) -> u16
+        ensures { result ≡ self.now.min_k }
+    {
+        self.min_k
+    }
+
+    pub fn n(&self) -> u64
+        ensures value { result ≡ self.now.n }
+        ensures weight { result ≡ weight (bag_of self.now) }
+    {
+        self.n
+    }
+
+    pub fn num_retained(&self) -> usize
+        ensures value { result ≡ retained (bag_of self.now) }
+        ensures within { result ≤ total_of self.now.k 8 (length self.now.levels) }
+        ensures bound { result ≤ 3 * self.now.k + 519 }
+    {
+        self.items.len()
+    }
+
+    pub fn is_empty(&self) -> bool
+        ensures { IsTrue result ↔ (self.now.n ≡ 0) }
+    {
+        self.n == 0
+    }
+
+    pub fn is_estimation_mode(&self) -> bool
+        ensures { IsTrue result ↔ (1 < length self.now.levels) }
+    {
+        self.bounds.len() > 2
+    }
+
+    pub fn min_item(&self) -> Option<&T>
+        ensures value { option_copied result ≡ self.now.least }
+        ensures there { IsSome result ↔ (self.now.n ≢ 0) }
+    {
+        self.min_item.as_ref()
+    }
+
+    pub fn max_item(&self) -> Option<&T>
+        ensures value { option_copied result ≡ self.now.greatest }
+        ensures there { IsSome result ↔ (self.now.n ≢ 0) }
+    {
+        self.max_item.as_ref()
+    }
+
+    pub fn rank(&self, item: &T, criteria: SearchCriteria) -> Option<Rank>
+        ensures empty { IsSome result ↔ (self.now.n ≢ 0) }
+        ensures weight { IfSome result (λ r. r.weight ≡ weighted_rank T.cmp (counted T.cmp item.now criteria) (bag_of self.now)) }
+        ensures total { IfSome result (λ r. r.total ≡ self.now.n) }
+    {
+        if self.n == 0 {
+            return None;
+        }
+        let weight = weight_counted(
+            self.items.as_slice(),
+            self.bounds.as_slice(),
+            item,
+            criteria,
+        );
+        Some(Rank {
+            weight,
+            total: self.n,
+        })
+    }
+
+    /// Takes one item in.
+    pub fn update<B: RandomBits>(&mut self, item: T, coins: &mut B) -> Result<(), Error>
+        requires clones { (x y : T) → T.is_clone x y → T.cmp x y ≡ Equal }
+        ensures ok { OnOk result (IsUpdated T.cmp self.old item (bits_from B.bit B.next coins.old (draws_of (update_of self.old item))) self.new) }
+        ensures coins { OnOk result (coins.new ≡ after_draws B.next coins.old (draws_of (update_of self.old item))) }
+        ensures err { OnErr result ((self.new ≡ self.old) × (coins.new ≡ coins.old)) }
+        ensures full { IsErrOf result InvalidArgument ↔ (self.old.n ≡ 2 ^ 64 - 1) }
+        ensures memory { IfErr result (λ e. self.old.n < 2 ^ 64 - 1 → e ≡ OutOfMemory) }
+    {
+        if self.n == u64::MAX {
+            return Err(Error::new(ErrorKind::InvalidArgument));
+        }
+        let least = clone_if_least(&item, &self.min_item)?;
+        let greatest = clone_if_greatest(&item, &self.max_item)?;
+        self.items.reserve(1)?;
+        self.bounds.reserve(1)?;
+        make_room(
+            self.k,
+            self.is_level_zero_sorted,
+            &mut self.items,
+            &mut self.bounds,
+            coins,
+        );
+        push_last(&mut self.items, &mut self.bounds, item);
+        set_if_some(&mut self.min_item, least);
+        set_if_some(&mut self.max_item, greatest);
+        self.n += 1;
+        self.is_level_zero_sorted = false;
+        Ok(())
+    }
+}
+
+impl<T: Clone + Ord> KllSketch<T> {
+    /// A fresh sketch that takes the items of a list.
+    pub fn from_items<B: RandomBits>(
+        alloc: Global,
+        k: u16,
+        items: Vec<T>,
+        coins: &mut B,
+    ) -> Result<Self, Error>
+        requires clones { (x y : T) → T.is_clone x y → T.cmp x y ≡ Equal }
+        ensures ok { IfOk result (λ s. IsFilled T.cmp B.bit B.next coins.old k items.items s) }
+        ensures coins { OnOk result (coins.new ≡ after_draws B.next coins.old (coins_of_trace (updates_trace 0 k items.items))) }
+        ensures small { IsErrOf result InvalidArgument ↔ (k < 8) }
+    {
+        let mut sketch = KllSketch::new(alloc, k)?;
+        for item in items {
+            sketch.update(item, coins)?;
+        }
+        let _items = &sketch.items;
+        Ok(sketch)
+    }
+}
+
+// Whether a query counts an item.
+fn is_item_counted<T: Ord>(item: &T, query: &T, criteria: SearchCriteria) -> bool
+    ensures { result ≡ counted T.cmp query.now criteria item.now }
+{
+    match criteria {
+        SearchCriteria::Inclusive => item.cmp(query).is_le(),
+        SearchCriteria::Exclusive => item.cmp(query).is_lt(),
+    }
+}
+
+fn count_counted<T: Ord>(items: &[T], query: &T, criteria: SearchCriteria) -> usize
+    ensures { result ≡ count_by (counted T.cmp query.now criteria) items.now }
+{
+    items
+        .iter()
+        .filter(|item| is_item_counted(*item, query, criteria))
+        .count()
+}
+
+// The items of one level.
+fn level_slice<'a, T>(items: &'a [T], bounds: &[usize], level: usize) -> &'a [T]
+    requires flat { IsFlat items.now bounds.now }
+    requires within { level + 1 < length bounds.now }
+    ensures { result.now ≡ first_level (drop level (levels_in items.now bounds.now)) }
+{
+    run_between(items, bounds[level + 1], bounds[level])
+}
+
+fn run_between<T>(items: &[T], start: usize, end: usize) -> &[T]
+    requires ordered { start ≤ end }
+    requires within { end ≤ length items.now }
+    ensures { result.now ≡ between start end items.now }
+{
+    &items[start..end]
+}
+
+fn weight_counted<T: Ord>(items: &[T], bounds: &[usize], query: &T, criteria: SearchCriteria) -> u64
+    requires flat { IsFlat items.now bounds.now }
+    requires fits { weight_in (levels_in items.now bounds.now) < 2 ^ 64 }
+    ensures { result ≡ counted_weight (counted T.cmp query.now criteria) (levels_in items.now bounds.now) }
+{
+    let mut weight = 0;
+    let mut level = bounds.len() - 1;
+    while level > 0 {
+        level -= 1;
+        let counted = count_counted(level_slice(items, bounds, level), query, criteria);
+        weight = 2 * weight + counted as u64;
+    }
+    weight
+}
+
+// The item's clone, where it is below the least item so far.
+fn clone_if_least<T: Clone + Ord>(item: &T, least: &Option<T>) -> Result<Option<T>, AllocError>
+    requires clones { (x y : T) → T.is_clone x y → T.cmp x y ≡ Equal }
+    ensures { IfOk result (λ new. Ties T.cmp (least_with T.cmp item.now least.now) (newer_or new least.now)) }
+{
+    match least {
+        None => Ok(Some(item.clone()?)),
+        Some(least) => {
+            if item.cmp(least).is_lt() {
+                Ok(Some(item.clone()?))
+            } else {
+                Ok(None)
+            }
+        }
+    }
+}
+
+// The item's clone, where it is above the greatest item so far.
+fn clone_if_greatest<T: Clone + Ord>(
+    item: &T,
+    greatest: &Option<T>,
+) -> Result<Option<T>, AllocError>
+    requires clones { (x y : T) → T.is_clone x y → T.cmp x y ≡ Equal }
+    ensures { IfOk result (λ new. Ties T.cmp (greatest_with T.cmp item.now greatest.now) (newer_or new greatest.now)) }
+{
+    match greatest {
+        None => Ok(Some(item.clone()?)),
+        Some(greatest) => {
+            if item.cmp(greatest).is_gt() {
+                Ok(Some(item.clone()?))
+            } else {
+                Ok(None)
+            }
+        }
+    }
+}
+
+fn set_if_some<T: Drop>(place: &mut Option<T>, new: Option<T>)
+    ensures { place.new ≡ newer_or new place.old }
+{
+    if let Some(value) = new {
+        *place = Some(value);
+    }
+}
+
+// The lowest level at or over its capacity, where the levels are at or over their total capacity.
+fn level_to_compact<T>(k: u16, items: &[T], bounds: &[usize]) -> Option<usize>
+    requires k { 8 ≤ k }
+    requires flat { IsFlat items.now bounds.now }
+    requires some_level { 1 < length bounds.now }
+    requires few_levels { length bounds.now ≤ 62 }
+    ensures full { is_some result ≡ is_full k (levels_in items.now bounds.now) }
+    ensures level { IfSome result (λ level. level ≡ full_level k (levels_in items.now bounds.now)) }
+    ensures within { IfSome result (λ level. level + 1 < length bounds.now) }
+{
+    let num_levels = bounds.len() - 1;
+    if items.len() < total_capacity(k, MINIMUM_CAPACITY, num_levels) as usize {
+        return None;
+    }
+    for level in 0..num_levels {
+        let capacity = level_capacity(k, num_levels, level, MINIMUM_CAPACITY) as usize;
+        if bounds[level] - bounds[level + 1] >= capacity {
+            return Some(level);
+        }
+    }
+    unreachable!()
+}
+
+// Compacts one level, where the levels are at or over their total capacity.
+fn make_room<T: Ord + Drop, B: RandomBits>(
+    k: u16,
+    is_sorted: bool,
+    items: &mut Vec<T>,
+    bounds: &mut Vec<usize>,
+    coins: &mut B,
+)
+    requires k { 8 ≤ k }
+    requires flat { IsFlat items.old.items bounds.old.items }
+    requires some_level { 0 < length (levels_in items.old.items bounds.old.items) }
+    requires few_levels { length (levels_in items.old.items bounds.old.items) ≤ 61 }
+    requires weight { weight_in (levels_in items.old.items bounds.old.items) < 2 ^ 64 }
+    requires spare { vec_len bounds.old < vec_capacity bounds.old }
+    ensures flat { IsFlat items.new.items bounds.new.items }
+    ensures levels { SameLevels T.cmp (with_room T.cmp k is_sorted (B.bit coins.old) (levels_in items.old.items bounds.old.items)) (levels_in items.new.items bounds.new.items) }
+    ensures sorted { UpperSorted T.cmp (levels_in items.old.items bounds.old.items) → UpperSorted T.cmp (levels_in items.new.items bounds.new.items) }
+    ensures capacity { vec_capacity items.new ≡ vec_capacity items.old }
+    ensures shorter { vec_len items.new ≤ vec_len items.old }
+    ensures coins { coins.new ≡ (if is_full k (levels_in items.old.items bounds.old.items) then B.next coins.old else coins.old) }
+{
+    if let Some(level) = level_to_compact(k, items.as_slice(), bounds.as_slice()) {
+        raise(bounds, level);
+        let keeps_last = keeps_last_item(is_sorted, level);
+        let coin = coins.random_bit();
+        compact(items, bounds, level, keeps_last, coin);
+    }
+}
+
+// Whether a level that is compacted keeps its last item or its first.
+pub(crate) fn keeps_last_item(is_sorted: bool, level: usize) -> bool
+    ensures { result ≡ keeps_last is_sorted level }
+{
+    level == 0 && !is_sorted
+}
+
+// Sees to it that there is a level above a level.
+pub(crate) fn raise(bounds: &mut Vec<usize>, level: usize)
+    requires spare { vec_len bounds.old < vec_capacity bounds.old }
+    requires within { level + 2 < 2 ^ 64 }
+    ensures items { bounds.new.items ≡ (if level + 2 == length bounds.old.items then bounds.old.items ++ 0 ∷ [] else bounds.old.items) }
+    ensures capacity { vec_capacity bounds.old ≤ vec_capacity bounds.new }
+{
+    if level + 2 == bounds.len() {
+        bounds.push(0).unwrap();
+    }
+}
+
+// Compacts a level that has a level above it, and drops what has to go.
+pub(crate) fn compact<T: Ord + Drop>(
+    items: &mut Vec<T>,
+    bounds: &mut Vec<usize>,
+    level: usize,
+    keeps_last: bool,
+    coin: bool,
+)
+    requires flat { IsFlat items.old.items bounds.old.items }
+    requires within { level + 2 < length bounds.old.items }
+    ensures flat { IsFlat items.new.items bounds.new.items }
+    ensures alike { SameLevels T.cmp (compacted T.cmp keeps_last coin level (levels_in items.old.items bounds.old.items)) (levels_in items.new.items bounds.new.items) }
+    ensures sorted { UpperSorted T.cmp (levels_in items.old.items bounds.old.items) → UpperSorted T.cmp (levels_in items.new.items bounds.new.items) }
+    ensures capacity { vec_capacity items.new ≡ vec_capacity items.old }
+    ensures bounds_capacity { vec_capacity bounds.new ≡ vec_capacity bounds.old }
+    ensures shorter { vec_len items.new ≤ vec_len items.old }
+{
+    let len = items.len();
+    let count = compact_level(
+        items.as_mut_slice(),
+        bounds.as_mut_slice(),
+        level,
+        keeps_last,
+        coin,
+    );
+    items.truncate(len - count);
+}
+
+// Puts an item last into level 0.
+fn push_last<T: Drop>(items: &mut Vec<T>, bounds: &mut Vec<usize>, item: T)
+    requires flat { IsFlat items.old.items bounds.old.items }
+    requires some_level { 0 < length (levels_in items.old.items bounds.old.items) }
+    requires spare { vec_len items.old < vec_capacity items.old }
+    ensures flat { IsFlat items.new.items bounds.new.items }
+    ensures levels { levels_in items.new.items bounds.new.items ≡ put item (levels_in items.old.items bounds.old.items) }
+{
+    items.push(item).unwrap();
+    bounds[0] = items.len();
+}
+
+#[cfg(test)]
+mod tests {
+    use super::*;
+    use crate::capacity;
+    use sketch_base::common::random::WordBits;
+    use std::test::Fail;
+
+    fn filled(alloc: Global, word: &[bool]) -> Result<KllSketch<i64>, Error> {
+        let mut sketch = KllSketch::new(alloc, 8)?;
+        let mut coins = WordBits::new(word);
+        for item in 1..10 {
+            sketch.update(item, &mut coins)?;
+        }
+        Ok(sketch)
+    }
+
+    #[test]
+    fn capacities(rt: HostRuntime) -> Result<(), Fail> {
+        assert_eq!(rt; capacity::level_capacity(200, 2, 0, 8), 133);
+        assert_eq!(rt; capacity::total_capacity(200, 8, 2), 333);
+        assert_eq!(rt; capacity::total_capacity(200, 8, 3), 422);
+        assert_eq!(rt; capacity::total_capacity(8, 8, 2), 16);
+        Ok(())
+    }
+
+    #[test]
+    fn compacts_at_the_ninth_item(rt: HostRuntime) -> Result<(), Fail> {
+        let low = filled(rt.alloc(), &[false])?;
+        assert_eq!(rt; low.items.as_slice(), [2, 4, 6, 8, 9].as_slice());
+        assert_eq!(rt; low.bounds.as_slice(), [5, 4, 0].as_slice());
+        let high = filled(rt.alloc(), &[true])?;
+        assert_eq!(rt; high.items.as_slice(), [1, 3, 5, 7, 9].as_slice());
+        assert_eq!(rt; high.n(), 9);
+        assert_eq!(rt; high.num_retained(), 5);
+        assert_eq!(rt; high.min_item(), Some(&1));
+        assert_eq!(rt; high.max_item, Some(9));
+        Ok(())
+    }
+
+    #[test]
+    fn keeps_the_last_of_an_unsorted_level(rt: HostRuntime) -> Result<(), Fail> {
+        let mut sketch = KllSketch::new(rt.alloc(), 9)?;
+        let mut coins = WordBits::new(&[false]);
+        for item in [9i64, 8, 7, 6, 5, 4, 3, 2, 1, 10] {
+            sketch.update(item, &mut coins)?;
+        }
+        assert_eq!(rt; sketch.items.as_slice(), [3, 5, 7, 9, 1, 10].as_slice());
+        assert_eq!(rt; sketch.bounds.as_slice(), [6, 4, 0].as_slice());
+        assert_eq!(rt; coins.drawn(), 1);
+        Ok(())
+    }
+
+    #[test]
+    fn ranks_sum_to_twice_the_true_rank(rt: HostRuntime) -> Result<(), Fail> {
+        let low = filled(rt.alloc(), &[false])?;
+        let high = filled(rt.alloc(), &[true])?;
+        let four = low.rank(&5, SearchCriteria::Inclusive).ok_or("empty")?;
+        let six = high.rank(&5, SearchCriteria::Inclusive).ok_or("empty")?;
+        assert_eq!(rt; four.weight, 4);
+        assert_eq!(rt; six.weight, 6);
+        assert_eq!(rt; six.total, 9);
+        Ok(())
+    }
+
+    #[test]
+    fn takes_text(rt: HostRuntime) -> Result<(), Fail> {
+        let mut sketch = KllSketch::new(rt.alloc(), 8)?;
+        let mut coins = WordBits::new(&[]);
+        sketch.update(String::from_str(rt.alloc(), "b")?, &mut coins)?;
+        sketch.update(String::from_str(rt.alloc(), "a")?, &mut coins)?;
+        assert_eq!(rt; sketch.n(), 2);
+        let least = sketch.min_item().ok_or("empty")?;
+        assert_eq!(rt; least.as_str(), "a");
+        Ok(())
+    }
+}
