@@ -5,30 +5,8 @@ use Rattle.std.proofs.lemmas.List.Sums.{sum-map}
 use Rattle.std.proofs.lemmas.Bool.{or_cases, false≢true}
 use Rattle.sketch_base.specs.Bag.{Bag, empty_bag, level_at}
 use Rattle.sketch_base.specs.Lengths.{bag_lengths}
+use Rattle.sketch_base.proofs.Changes.{changed-own, changed-through, changed-all}
 use Rattle.sketch_base.specs.Trace.{Put, Pull, Join, Forget, Clear, Snap, At, Work, World, changed, moved, act, happens}
-
--- a function of a changed value is a changed function
-pub changed-through : {B : Type 0} (g : B → ℕ) (f : ℕ → B) (i : ℕ) (value : B) (j : ℕ) → g (changed f i value j) ≡ changed (λ k. g (f k)) i (g value) j
-changed-through g f i value j = go (j == i)
-  where
-    go : (b : Bool) → g (if b then value else f j) ≡ (if b then g value else g (f j))
-    go true = refl
-    go false = refl
-
-changed-same : (f g : ℕ → ℕ) (i u v : ℕ) → ((j : ℕ) → f j ≡ g j) → u ≡ v → (j : ℕ) → changed f i u j ≡ changed g i v j
-changed-same f g i u v h e j = go (j == i)
-  where
-    go : (t : Bool) → (if t then u else f j) ≡ (if t then v else g j)
-    go true = e
-    go false = h j
-
--- a change to what stands there
-pub changed-own : (f : ℕ → ℕ) (i j : ℕ) → changed f i (f i) j ≡ f j
-changed-own f i j = go (j == i) refl
-  where
-    go : (t : Bool) → (j == i) ≡ t → (if t then f i else f j) ≡ f j
-    go true e = ap f (sym (eqb-true j i e))
-    go false e = refl
 
 -- nothing retained measures 0, and what moves from the scratch to the bag is lost by the one and gained by the other
 pub record IsMeasure {A : Type 0} (measure : List (List A) → ℕ) : Type 0 where
@@ -63,7 +41,7 @@ module _ {A : Type 0} {measure : List (List A) → ℕ} (is : IsMeasure measure)
   with-slot : (world : World (Bag A)) (s more : ℕ) (bag : Bag A) → measure world.scratch.levels ≡ 0 → measure bag.levels ≡ more → (i : ℕ) → with_scratch measure (record { slots = changed world.slots s bag; scratch = world.scratch; target = world.target }) i ≡ changed (with_scratch measure world) s more i
   with-slot world s more bag e r i =
       settled (record { slots = changed world.slots s bag; scratch = world.scratch; target = world.target }) e i ∙
-      (changed-through (λ (b : Bag A). measure b.levels) world.slots s bag i ∙ changed-same (λ j. measure (world.slots j).levels) (with_scratch measure world) s (measure bag.levels) more (λ j. sym (settled world e j)) r i)
+      (changed-through world.slots (λ (b : Bag A). measure b.levels) s bag i ∙ changed-all (λ m n _. m ≡ n) (λ j. measure (world.slots j).levels) (with_scratch measure world) (λ j. 0) s (measure bag.levels) more 0 (λ j. sym (settled world e j)) r i)
 
   pub with-snap : (cmp : A → A → Ordering) (s t : ℕ) (next : Bool) (world : World (Bag A)) → (sum (bag_lengths world.scratch) == 0 || false) ≡ true → (i : ℕ) → with_scratch measure (happens (act cmp) (Snap s t) next world) i ≡ changed (with_scratch measure world) t (with_scratch measure world t + with_scratch measure world s) i
   with-snap cmp s t next world rule i = go (i == t) refl
@@ -97,15 +75,15 @@ module _ {A : Type 0} {measure : List (List A) → ℕ} (is : IsMeasure measure)
       let work : Work (Bag A) = record { bag = world.slots s; scratch = world.scratch } in
       let after = moved h front rest work in
       let keeps = is.moves h front rest work all in
-      ap (λ n. n + (if i == world.target then measure after.scratch.levels else 0)) (changed-through (λ (b : Bag A). measure b.levels) world.slots s after.bag i) ∙
+      ap (λ n. n + (if i == world.target then measure after.scratch.levels else 0)) (changed-through world.slots (λ (b : Bag A). measure b.levels) s after.bag i) ∙
       kept_sum (λ j. measure (world.slots j).levels) s world.target (measure after.bag.levels) (measure after.scratch.levels) (measure world.scratch.levels) keeps.0 keeps.1 (⊎_elim (λ e. inl e) (λ e. inr (eqb-true _ _ e)) (by_rule world _ rule)) i
 
   pub with-pull : (cmp : A → A → Ordering) (s : ℕ) (next : Bool) (world : World (Bag A)) → (sum (bag_lengths world.scratch) == 0 || s == world.target) ≡ true → (i : ℕ) → with_scratch measure (happens (act cmp) (At s Pull) next world) i ≡ with_scratch measure world i
   with-pull cmp s next world rule i =
       let level = level_at world.scratch.levels 0 in
       ap (λ n. n + (if i == world.target then measure (moved 0 (take 1 level) (drop 1 level) (record { bag = world.slots s; scratch = world.scratch })).scratch.levels else 0))
-      (changed-through (λ (b : Bag A). measure b.levels) world.slots s (act cmp Pull next (record { bag = world.slots s; scratch = world.scratch })).bag i ∙
-      sym (changed-through (λ (b : Bag A). measure b.levels) world.slots s (moved 0 (take 1 level) (drop 1 level) (record { bag = world.slots s; scratch = world.scratch })).bag i)) ∙
+      (changed-through world.slots (λ (b : Bag A). measure b.levels) s (act cmp Pull next (record { bag = world.slots s; scratch = world.scratch })).bag i ∙
+      sym (changed-through world.slots (λ (b : Bag A). measure b.levels) s (moved 0 (take 1 level) (drop 1 level) (record { bag = world.slots s; scratch = world.scratch })).bag i)) ∙
       with-moved world s 0 (take 1 level) (drop 1 level) (take-append-drop 1 level) rule i
 
   pub with-join : (cmp : A → A → Ordering) (s h : ℕ) (next : Bool) (world : World (Bag A)) → (sum (bag_lengths world.scratch) == 0 || s == world.target) ≡ true → (i : ℕ) → with_scratch measure (happens (act cmp) (At s (Join h)) next world) i ≡ with_scratch measure world i
@@ -114,4 +92,4 @@ module _ {A : Type 0} {measure : List (List A) → ℕ} (is : IsMeasure measure)
   pub with-forget : (cmp : A → A → Ordering) (s : ℕ) (next : Bool) (world : World (Bag A)) → (i : ℕ) → with_scratch measure (happens (act cmp) (At s Forget) next world) i ≡ with_scratch measure world i
   with-forget cmp s next world i =
       ap (λ n. n + (if i == world.target then measure world.scratch.levels else 0))
-      (changed-through (λ (b : Bag A). measure b.levels) world.slots s (act cmp Forget next (record { bag = world.slots s; scratch = world.scratch })).bag i ∙ changed-own (λ j. measure (world.slots j).levels) s i)
+      (changed-through world.slots (λ (b : Bag A). measure b.levels) s (act cmp Forget next (record { bag = world.slots s; scratch = world.scratch })).bag i ∙ changed-own (λ j. measure (world.slots j).levels) s i)
