@@ -22,7 +22,8 @@ pub fn is_within_spread<T: Ord>()
     ensures { IsWithinSpread T.cmp }
 {}
 
-/// The error of a slot at a query is at most an eighth of its load for KLL, and a quarter of it for REQ, under every word.
+/// The error of a slot at a query is at most an eighth of its load for KLL, and a quarter of it for REQ, along every
+/// legal trace and under every word.
 pub fn is_within_load<T: Ord>()
     ensures kll { KllIsWithinLoad T.cmp }
     ensures req { ReqIsWithinLoad T.cmp }
