@@ -48,7 +48,7 @@ impl Error {
     pub fn new(kind: ErrorKind) -> Self
         ensures { result ≡ kind }
     {
-        Error { kind }
+        Self { kind }
     }
 
     /// Why the call was refused.
@@ -61,7 +61,7 @@ impl Error {
 
 impl fmt::Display for Error {
     fn fmt<W: fmt::Write>(&self, f: &mut fmt::Formatter<W>) -> fmt::Result {
-        let kind = self.kind;
+        let Error { kind } = self;
         write!(f, "{kind}")
     }
 }
@@ -79,8 +79,8 @@ impl From<AllocError> for Error {
 impl<T: Drop> From<AllocFailed<T>> for Error {
     ghost from_gives = { λ _ e. e ≡ OutOfMemory };
 
-    fn from(_refused: AllocFailed<T>) -> Error {
-        Error::new(ErrorKind::OutOfMemory)
+    fn from(refused: AllocFailed<T>) -> Error {
+        Error::from(AllocError::from(refused))
     }
 }
 
