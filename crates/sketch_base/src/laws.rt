@@ -1,7 +1,7 @@
 //! The laws of the definitions, each the contract of a function that does nothing.
 
 ghost use Rattle.sketch_base.specs.Rows.{KllRows, KllTraces, ReqLengths, ReqRows, ReqTraces};
-ghost use Rattle.sketch_base.specs.Laws.{RankIsLevelSum, HalvesShareTheCount, Unbiased, LengthsAreFixed, IsWithinSpread, UnbiasedByUpdates, AlikeIsKeptByKll, AlikeIsKeptByReq, AlikeRanksAlike, WeightIsLength, HighTailIsExact, LowTailIsExact, PlaysInParts, PlaysActions, CallsCompose, DrawsCompose};
+ghost use Rattle.sketch_base.specs.Laws.{RankIsLevelSum, HalvesShareTheCount, Unbiased, LengthsAreFixed, IsWithinSpread, KllIsWithinLoad, ReqIsWithinLoad, UnbiasedByUpdates, AlikeIsKeptByKll, AlikeIsKeptByReq, AlikeRanksAlike, WeightIsLength, HighTailIsExact, LowTailIsExact, PlaysInParts, PlaysActions, CallsCompose, DrawsCompose};
 
 use crate::common::random::RandomBits;
 
@@ -20,6 +20,12 @@ pub fn is_unbiased<T: Ord>()
 /// The squares of a slot's errors at a query, summed over all words, are at most the number of words times its spread.
 pub fn is_within_spread<T: Ord>()
     ensures { IsWithinSpread T.cmp }
+{}
+
+/// The error of a slot at a query is at most an eighth of its load for KLL, and a quarter of it for REQ, under every word.
+pub fn is_within_load<T: Ord>()
+    ensures kll { KllIsWithinLoad T.cmp }
+    ensures req { ReqIsWithinLoad T.cmp }
 {}
 
 /// Where no sketch is merged or read back: a REQ slot's ranks, summed over all words, are the number of words times its
