@@ -2,6 +2,7 @@
 
 ghost use Rattle.sketch_base.specs.Rows.{KllRows, KllTraces, ReqLengths, ReqRows, ReqTraces};
 ghost use Rattle.sketch_base.specs.Laws.{RankIsLevelSum, HalvesShareTheCount, Unbiased, LengthsAreFixed, IsWithinSpread, UnbiasedByUpdates, AlikeIsKeptByKll, AlikeIsKeptByReq, AlikeRanksAlike, WeightIsLength, HighTailIsExact, LowTailIsExact, PlaysInParts, PlaysActions, CallsCompose, DrawsCompose};
+ghost use Rattle.sketch_base.specs.Queries.{CdfNeverFalls, CdfEndsAtTheWhole, PmfSumsToTheWhole, EntryIsFirstAbove, CountIsWeightBefore, WholeIsLastWeight};
 
 use crate::common::random::RandomBits;
 
@@ -57,6 +58,21 @@ pub fn calls_compose<T: Ord, B: RandomBits>()
 /// Level lengths depend on no item and no bit.
 pub fn lengths_are_fixed<T: Ord>()
     ensures { LengthsAreFixed T.cmp }
+{}
+
+/// Over split points that strictly increase a distribution never falls and ends at the whole, and its differences sum to
+/// the whole.
+pub fn distributions_make_up_the_whole<T: Ord>()
+    ensures rises { CdfNeverFalls T.cmp }
+    ensures ends { CdfEndsAtTheWhole T.cmp }
+    ensures sums { PmfSumsToTheWhole T.cmp }
+{}
+
+/// What cumulated weights say of the list that the items stand for: its entries, its counts, its length.
+pub fn cumulated_weights_tell<T>()
+    ensures entry { EntryIsFirstAbove T }
+    ensures count { CountIsWeightBefore T }
+    ensures whole { WholeIsLastWeight T }
 {}
 
 /// What the play gives on worked examples.
