@@ -1,6 +1,6 @@
 -- The list that items with cumulated weights stand for: its entry at a place, its counts, its length.
 use Rattle.std.proofs.Common.{◌≡◌, ℕ, zero, suc, ◌+◌, ◌-◌, ◌*◌, ◌<◌, ◌≤◌, Bool, true, false, cond, List, [], ◌∷◌, ◌++◌, length, replicate, count_by, get_or, refl, sym, ap, ◌∙◌, arith, if◌then◌else◌, length-append}
-use Rattle.std.proofs.lemmas.List.{length-replicate}
+use Rattle.std.proofs.lemmas.List.{length-replicate, append-nil, append_assoc}
 use Rattle.std.specs.Prelude.{⊤, Option, Some, None, slice_get, nat_le, ◌==◌}
 use Rattle.std.specs.List.{AllWithin}
 use Rattle.std.proofs.lemmas.Bool.{leb-true, leb-false, false≢true}
@@ -89,3 +89,17 @@ module _ {A : Type 0} where
 
   pub length-spread_out : (items : List A) (cumulated : List ℕ) → AreCumulated items cumulated → length (spread_out items cumulated) ≡ weight_before cumulated (length cumulated)
   length-spread_out items cumulated h = length-spread_over 0 items cumulated h.one_each (rises_from_zero cumulated h.none_falls) ∙ from-zero cumulated (length cumulated)
+
+  spread_over-push : (before : ℕ) (items : List A) (cumulated : List ℕ) (x : A) (c : ℕ) → length items ≡ length cumulated → spread_over before (items ++ x ∷ []) (cumulated ++ c ∷ []) ≡ spread_over before items cumulated ++ replicate (c - get_or (before ∷ cumulated) (length cumulated) 0) x
+  spread_over-push before [] [] x c e = append-nil (replicate (c - before) x)
+  spread_over-push before [] (d ∷ ds) x c e = absurd (omega (arith, e))
+  spread_over-push before (y ∷ ys) [] x c e = absurd (omega (arith, e))
+  spread_over-push before (y ∷ ys) (d ∷ ds) x c e =
+      ap (λ l. replicate (d - before) y ++ l) (spread_over-push d ys ds x c (omega (arith, e))) ∙
+      sym (append_assoc (replicate (d - before) y) (spread_over d ys ds) (replicate (c - get_or (d ∷ ds) (length ds) 0) x))
+
+  -- one more item, which adds its weight to the last cumulated one
+  pub spread_out-push : (items : List A) (cumulated : List ℕ) (x : A) (c : ℕ) → length items ≡ length cumulated → spread_out (items ++ x ∷ []) (cumulated ++ c ∷ []) ≡ spread_out items cumulated ++ replicate (c - weight_before cumulated (length cumulated)) x
+  spread_out-push items cumulated x c e =
+      let last = from-zero cumulated (length cumulated) in
+      spread_over-push 0 items cumulated x c e ∙ ap (λ n. spread_out items cumulated ++ replicate (c - n) x) (omega (arith, last))

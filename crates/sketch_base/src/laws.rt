@@ -1,7 +1,7 @@
 //! The laws of the definitions, each the contract of a function that does nothing.
 
-ghost use Rattle.sketch_base.specs.Rows.{KllRows, KllTraces, ReqLengths, ReqRows, ReqTraces};
-ghost use Rattle.sketch_base.specs.Laws.{RankIsLevelSum, HalvesShareTheCount, Unbiased, LengthsAreFixed, IsWithinSpread, UnbiasedByUpdates, AlikeIsKeptByKll, AlikeIsKeptByReq, AlikeRanksAlike, WeightIsLength, HighTailIsExact, LowTailIsExact, PlaysInParts, PlaysActions, CallsCompose, DrawsCompose};
+ghost use Rattle.sketch_base.specs.Rows.{KllRows, KllTraces, QueryRows, ReqLengths, ReqRows, ReqTraces};
+ghost use Rattle.sketch_base.specs.Laws.{RankIsLevelSum, HalvesShareTheCount, Unbiased, LengthsAreFixed, IsWithinSpread, UnbiasedByUpdates, AlikeIsKeptByKll, AlikeIsKeptByReq, AlikeRanksAlike, WeightIsLength, HighTailIsExact, LowTailIsExact, PlaysInParts, PlaysActions, CallsCompose, DrawsCompose, AlikeQuantiles, AlikeDistributions, SpreadIsExpanded};
 ghost use Rattle.sketch_base.specs.Queries.{CdfNeverFalls, CdfEndsAtTheWhole, PmfSumsToTheWhole, EntryIsFirstAbove, CountIsWeightBefore, WholeIsLastWeight};
 
 use crate::common::random::RandomBits;
@@ -75,6 +75,14 @@ pub fn cumulated_weights_tell<T>()
     ensures whole { WholeIsLastWeight T }
 {}
 
+/// Lists that compare equal answer alike, and items in order with their cumulated weights stand for the expanded list of
+/// a bag that every query counts as it counts them.
+pub fn equal_entries_answer_alike<T: Ord>()
+    ensures quantiles { AlikeQuantiles T.cmp }
+    ensures distributions { AlikeDistributions T.cmp }
+    ensures expanded { SpreadIsExpanded T.cmp }
+{}
+
 /// What the play gives on worked examples.
 pub fn worked_rows()
     ensures kll { KllRows }
@@ -82,4 +90,5 @@ pub fn worked_rows()
     ensures kll_traces { KllTraces }
     ensures req_traces { ReqTraces }
     ensures req_lengths { ReqLengths }
+    ensures queries { QueryRows }
 {}
