@@ -1,7 +1,8 @@
 //! The laws of the definitions, each the contract of a function that does nothing.
 
-ghost use Rattle.sketch_base.specs.Rows.{KllRows, KllTraces, ReqLengths, ReqRows, ReqTraces};
-ghost use Rattle.sketch_base.specs.Laws.{RankIsLevelSum, HalvesShareTheCount, Unbiased, LengthsAreFixed, IsWithinSpread, KllIsWithinLoad, ReqIsWithinLoad, UnbiasedByUpdates, AlikeIsKeptByKll, AlikeIsKeptByReq, AlikeRanksAlike, WeightIsLength, HighTailIsExact, LowTailIsExact, PlaysInParts, PlaysActions, CallsCompose, DrawsCompose};
+ghost use Rattle.sketch_base.specs.Rows.{KllRows, KllTraces, ReqLengths, ReqRows, ReqTraces, QueryRows};
+ghost use Rattle.sketch_base.specs.Laws.{RankIsLevelSum, HalvesShareTheCount, Unbiased, LengthsAreFixed, IsWithinSpread, KllIsWithinLoad, ReqIsWithinLoad, UnbiasedByUpdates, AlikeIsKeptByKll, AlikeIsKeptByReq, AlikeRanksAlike, WeightIsLength, HighTailIsExact, LowTailIsExact, PlaysInParts, PlaysActions, CallsCompose, DrawsCompose, AlikeQuantiles, AlikeDistributions, SpreadIsExpanded};
+ghost use Rattle.sketch_base.specs.Queries.{CdfNeverFalls, CdfEndsAtTheWhole, PmfSumsToTheWhole, EntryIsFirstAbove, CountIsWeightBefore, WholeIsLastWeight};
 
 use crate::common::random::RandomBits;
 
@@ -65,6 +66,29 @@ pub fn lengths_are_fixed<T: Ord>()
     ensures { LengthsAreFixed T.cmp }
 {}
 
+/// Over split points that strictly increase a distribution never falls and ends at the whole, and its differences sum to
+/// the whole.
+pub fn distributions_make_up_the_whole<T: Ord>()
+    ensures rises { CdfNeverFalls T.cmp }
+    ensures ends { CdfEndsAtTheWhole T.cmp }
+    ensures sums { PmfSumsToTheWhole T.cmp }
+{}
+
+/// What cumulated weights say of the list that the items stand for: its entries, its counts, its length.
+pub fn cumulated_weights_tell<T>()
+    ensures entry { EntryIsFirstAbove T }
+    ensures count { CountIsWeightBefore T }
+    ensures whole { WholeIsLastWeight T }
+{}
+
+/// Lists that compare equal answer alike, and items in order with their cumulated weights stand for the expanded list of
+/// a bag that every query counts as it counts them.
+pub fn equal_entries_answer_alike<T: Ord>()
+    ensures quantiles { AlikeQuantiles T.cmp }
+    ensures distributions { AlikeDistributions T.cmp }
+    ensures expanded { SpreadIsExpanded T.cmp }
+{}
+
 /// What the play gives on worked examples.
 pub fn worked_rows()
     ensures kll { KllRows }
@@ -72,4 +96,5 @@ pub fn worked_rows()
     ensures kll_traces { KllTraces }
     ensures req_traces { ReqTraces }
     ensures req_lengths { ReqLengths }
+    ensures queries { QueryRows }
 {}
