@@ -5,6 +5,7 @@ ghost use Rattle.std.specs.List.{between};
 ghost use Rattle.sketch_base.specs.declared.error.ErrorKind.TheVariants.{InvalidArgument, OutOfMemory};
 ghost use Rattle.sketch_base.specs.Bag.{empty_bag, retained, weight, weighted_rank};
 ghost use Rattle.sketch_base.specs.Query.{counted};
+ghost use Rattle.sketch_base.specs.declared.common.SearchCriteria.TheVariants.{Inclusive, Exclusive};
 ghost use Rattle.sketch_base.specs.Random.{bits_from, after_draws};
 ghost use Rattle.sketch_base.specs.Trace.{draws_of, coins as coins_of_trace};
 ghost use Rattle.sketch_kll.specs.Capacity.{total_of};
@@ -18,9 +19,9 @@ ghost use Rattle.sketch_kll.specs.Steps.{full_level, is_full, with_room, keeps_l
 
 use crate::capacity::{MINIMUM_CAPACITY, level_capacity, total_capacity};
 use crate::compaction::compact_level;
+use sketch_base::common::random::RandomBits;
 use sketch_base::common::{Rank, SearchCriteria};
 use sketch_base::error::{Error, ErrorKind};
-use sketch_base::common::random::RandomBits;
 use std::alloc::{AllocError, Global};
 use std::marker::Model;
 
@@ -33,6 +34,7 @@ pub struct KllSketch<T: Clone + Ord> {
     is_level_zero_sorted: bool,
     items: Vec<T>,
     bounds: Vec<usize>,
+    total_capacity: u32,
     min_item: Option<T>,
     max_item: Option<T>,
 }
@@ -44,7 +46,7 @@ impl<T: Clone + Ord> Model for KllSketch<T> {
 
     ghost view = { λ s. sketch_of s.k s.min_k s.n s.is_level_zero_sorted s.items.items s.bounds.items s.min_item s.max_item };
 
-    ghost invariant = { λ s. IsSketch T.cmp s.items.items s.bounds.items (sketch_of s.k s.min_k s.n s.is_level_zero_sorted s.items.items s.bounds.items s.min_item s.max_item) };
+    ghost invariant = { λ s. IsSketch T.cmp s.items.items s.bounds.items s.total_capacity (sketch_of s.k s.min_k s.n s.is_level_zero_sorted s.items.items s.bounds.items s.min_item s.max_item) };
 }
 
 impl<T: Clone + Ord> KllSketch<T> {
@@ -68,6 +70,7 @@ impl<T: Clone + Ord> KllSketch<T> {
             is_level_zero_sorted: false,
             items: Vec::new(alloc),
             bounds,
+            total_capacity: total_capacity(k, MINIMUM_CAPACITY, 1),
             min_item: None,
             max_item: None,
         })
@@ -167,6 +170,7 @@ impl<T: Clone + Ord> KllSketch<T> {
             self.is_level_zero_sorted,
             &mut self.items,
             &mut self.bounds,
+            &mut self.total_capacity,
             coins,
         );
         push_last(&mut self.items, &mut self.bounds, item);
@@ -200,23 +204,38 @@ impl<T: Clone + Ord> KllSketch<T> {
     }
 }
 
-// Whether a query counts an item.
-fn is_item_counted<T: Ord>(item: &T, query: &T, criteria: SearchCriteria) -> bool
-    ensures { result ≡ counted T.cmp query.now criteria item.now }
-{
-    match criteria {
-        SearchCriteria::Inclusive => item.cmp(query).is_le(),
-        SearchCriteria::Exclusive => item.cmp(query).is_lt(),
-    }
-}
-
+// How many items a query counts. The criterion is chosen once, outside the loops.
 fn count_counted<T: Ord>(items: &[T], query: &T, criteria: SearchCriteria) -> usize
     ensures { result ≡ count_by (counted T.cmp query.now criteria) items.now }
 {
-    items
-        .iter()
-        .filter(|item| is_item_counted(*item, query, criteria))
-        .count()
+    match criteria {
+        SearchCriteria::Inclusive => count_up_to(items, query),
+        SearchCriteria::Exclusive => count_below(items, query),
+    }
+}
+
+fn count_below<T: Ord>(items: &[T], query: &T) -> usize
+    ensures { result ≡ count_by (counted T.cmp query.now Exclusive) items.now }
+{
+    let mut count = 0;
+    for item in items {
+        if item.cmp(query).is_lt() {
+            count += 1;
+        }
+    }
+    count
+}
+
+fn count_up_to<T: Ord>(items: &[T], query: &T) -> usize
+    ensures { result ≡ count_by (counted T.cmp query.now Inclusive) items.now }
+{
+    let mut count = 0;
+    for item in items {
+        if item.cmp(query).is_le() {
+            count += 1;
+        }
+    }
+    count
 }
 
 // The items of one level.
@@ -297,8 +316,9 @@ fn set_if_some<T: Drop>(place: &mut Option<T>, new: Option<T>)
 }
 
 // The lowest level at or over its capacity, where the levels are at or over their total capacity.
-fn level_to_compact<T>(k: u16, items: &[T], bounds: &[usize]) -> Option<usize>
+fn level_to_compact<T>(k: u16, total: u32, items: &[T], bounds: &[usize]) -> Option<usize>
     requires k { 8 ≤ k }
+    requires total { total ≡ total_of k 8 (length bounds.now - 1) }
     requires flat { IsFlat items.now bounds.now }
     requires some_level { 1 < length bounds.now }
     requires few_levels { length bounds.now ≤ 62 }
@@ -306,10 +326,10 @@ fn level_to_compact<T>(k: u16, items: &[T], bounds: &[usize]) -> Option<usize>
     ensures level { IfSome result (λ level. level ≡ full_level k (levels_in items.now bounds.now)) }
     ensures within { IfSome result (λ level. level + 1 < length bounds.now) }
 {
-    let num_levels = bounds.len() - 1;
-    if items.len() < total_capacity(k, MINIMUM_CAPACITY, num_levels) as usize {
+    if items.len() < total as usize {
         return None;
     }
+    let num_levels = bounds.len() - 1;
     for level in 0..num_levels {
         let capacity = level_capacity(k, num_levels, level, MINIMUM_CAPACITY) as usize;
         if bounds[level] - bounds[level + 1] >= capacity {
@@ -325,9 +345,11 @@ fn make_room<T: Ord + Drop, B: RandomBits>(
     is_sorted: bool,
     items: &mut Vec<T>,
     bounds: &mut Vec<usize>,
+    total: &mut u32,
     coins: &mut B,
 )
     requires k { 8 ≤ k }
+    requires total { total.old ≡ total_of k 8 (length (levels_in items.old.items bounds.old.items)) }
     requires flat { IsFlat items.old.items bounds.old.items }
     requires some_level { 0 < length (levels_in items.old.items bounds.old.items) }
     requires few_levels { length (levels_in items.old.items bounds.old.items) ≤ 61 }
@@ -338,13 +360,15 @@ fn make_room<T: Ord + Drop, B: RandomBits>(
     ensures sorted { UpperSorted T.cmp (levels_in items.old.items bounds.old.items) → UpperSorted T.cmp (levels_in items.new.items bounds.new.items) }
     ensures capacity { vec_capacity items.new ≡ vec_capacity items.old }
     ensures shorter { vec_len items.new ≤ vec_len items.old }
+    ensures total { total.new ≡ total_of k 8 (length (levels_in items.new.items bounds.new.items)) }
     ensures coins { coins.new ≡ (if is_full k (levels_in items.old.items bounds.old.items) then B.next coins.old else coins.old) }
 {
-    if let Some(level) = level_to_compact(k, items.as_slice(), bounds.as_slice()) {
+    if let Some(level) = level_to_compact(k, *total, items.as_slice(), bounds.as_slice()) {
         raise(bounds, level);
         let keeps_last = keeps_last_item(is_sorted, level);
         let coin = coins.random_bit();
         compact(items, bounds, level, keeps_last, coin);
+        *total = total_capacity(k, MINIMUM_CAPACITY, bounds.len() - 1);
     }
 }
 
