@@ -1,4 +1,5 @@
-//! The sketch.
+//! The sketch: its calls, and the private steps of an update and of a rank.
+//! Capacities, one compaction and the general compress stand in modules of their own.
 ghost use Rattle.std.specs.Prelude.{◌≡◌, ◌≢◌, ℕ, ◌+◌, ◌-◌, ◌*◌, ◌/◌, ◌^◌, ◌<◌, ◌≤◌, ◌↔◌, [], ◌∷◌, ◌++◌, length, IsTrue, IsSome, IsErrOf, IfOk, IfErr, OnOk, OnErr, vec_len, vec_capacity, IsSorted, None, if◌then◌else◌, ◌==◌, option_copied, drop, count_by, is_some, IfSome};
 ghost use Rattle.std.specs.declared.cmp.Ordering.TheVariants.{Equal};
 ghost use Rattle.std.specs.List.{between};
@@ -7,14 +8,14 @@ ghost use Rattle.sketch_base.specs.Bag.{empty_bag, retained, weight, weighted_ra
 ghost use Rattle.sketch_base.specs.Query.{counted};
 ghost use Rattle.sketch_base.specs.declared.common.SearchCriteria.TheVariants.{Inclusive, Exclusive};
 ghost use Rattle.sketch_base.specs.Random.{bits_from, after_draws};
-ghost use Rattle.sketch_base.specs.Trace.{draws_of, coins as coins_of_trace};
+ghost use Rattle.sketch_base.specs.Trace.{coins as coins_of_trace};
 ghost use Rattle.sketch_kll.specs.Capacity.{total_of};
 ghost use Rattle.sketch_kll.specs.Fill.{IsFilled};
 ghost use Rattle.sketch_kll.specs.Flat.{levels_in, IsFlat};
 ghost use Rattle.sketch_kll.specs.Levels.{weight as weight_in, first_level, compacted, SameLevels, UpperSorted};
 ghost use Rattle.sketch_kll.specs.Rank.{counted_weight};
 ghost use Rattle.sketch_kll.specs.Schedule.{updates_trace};
-ghost use Rattle.sketch_kll.specs.Sketch.{bag_of, update_of, newer_or, Ties, least_with, greatest_with, IsUpdated};
+ghost use Rattle.sketch_kll.specs.Sketch.{bag_of, coins_of_update, newer_or, Ties, least_with, greatest_with, IsUpdated};
 ghost use Rattle.sketch_kll.specs.Steps.{full_level, is_full, with_room, keeps_last, put};
 
 use crate::capacity::{MINIMUM_CAPACITY, level_capacity, total_capacity};
@@ -25,7 +26,12 @@ use sketch_base::error::{Error, ErrorKind};
 use std::alloc::{AllocError, Global};
 use std::marker::Model;
 
-/// A KLL sketch of items of one type.
+/// A KLL sketch of items of one type, after Karnin, Lang and Liberty, "Optimal quantile approximation
+/// in streams" (2016).
+///
+/// Levels of items, where an item of level h stands for `2^h` items of the stream. A contract sees
+/// it as the record `Kll` of specs/Sketch. The levels lie in one vector, the highest first: level h
+/// is `items[bounds[h + 1]..bounds[h]]`, so that an update without a compaction is a push.
 #[derive(Drop)]
 pub struct KllSketch<T: Clone + Ord> {
     k: u16,
@@ -50,12 +56,17 @@ impl<T: Clone + Ord> Model for KllSketch<T> {
 }
 
 impl<T: Clone + Ord> KllSketch<T> {
+    /// An empty sketch: one empty level, which does not count as sorted, and no extremes.
+    ///
+    /// A greater `k` keeps more items and answers more closely. `InvalidArgument` exactly where
+    /// `k` is below 8; any other error is `OutOfMemory`.
     pub fn new(alloc: Global, k: u16) -> Result<Self, Error>
         ensures k { IfOk result (λ s. (s.k ≡ k) × (s.min_k ≡ k)) }
         ensures n { IfOk result (λ s. s.n ≡ 0) }
         ensures bag { IfOk result (λ s. bag_of s ≡ empty_bag) }
         ensures extremes { IfOk result (λ s. (s.least ≡ None) × (s.greatest ≡ None)) }
         ensures small { IsErrOf result InvalidArgument ↔ (k < 8) }
+        ensures memory { IfErr result (λ e. 8 ≤ k → e ≡ OutOfMemory) }
     {
         if k < 8 {
             return Err(Error::new(ErrorKind::InvalidArgument));
@@ -76,18 +87,21 @@ impl<T: Clone + Ord> KllSketch<T> {
         })
     }
 
+    /// The parameter that the sketch was made with.
     pub fn k(&self) -> u16
         ensures { result ≡ self.now.k }
     {
         self.k
     }
 
+    /// The least parameter of the sketches that were merged in, or its own.
     pub fn min_k(&self) -> u16
         ensures { result ≡ self.now.min_k }
     {
         self.min_k
     }
 
+    /// How many items the sketch took: the weight of its levels.
     pub fn n(&self) -> u64
         ensures value { result ≡ self.now.n }
         ensures weight { result ≡ weight (bag_of self.now) }
@@ -95,6 +109,7 @@ impl<T: Clone + Ord> KllSketch<T> {
         self.n
     }
 
+    /// How many items the sketch keeps: at most its total capacity, and at most `3 * k + 519`.
     pub fn num_retained(&self) -> usize
         ensures value { result ≡ retained (bag_of self.now) }
         ensures within { result ≤ total_of self.now.k 8 (length self.now.levels) }
@@ -103,18 +118,21 @@ impl<T: Clone + Ord> KllSketch<T> {
         self.items.len()
     }
 
+    /// Whether the sketch took no item.
     pub fn is_empty(&self) -> bool
         ensures { IsTrue result ↔ (self.now.n ≡ 0) }
     {
         self.n == 0
     }
 
+    /// Whether the sketch has more than one level, so that its ranks are estimates.
     pub fn is_estimation_mode(&self) -> bool
         ensures { IsTrue result ↔ (1 < length self.now.levels) }
     {
         self.bounds.len() > 2
     }
 
+    /// The least item of the stream, and none exactly where the sketch is empty.
     pub fn min_item(&self) -> Option<&T>
         ensures value { option_copied result ≡ self.now.least }
         ensures there { IsSome result ↔ (self.now.n ≢ 0) }
@@ -122,6 +140,7 @@ impl<T: Clone + Ord> KllSketch<T> {
         self.min_item.as_ref()
     }
 
+    /// The greatest item of the stream, and none exactly where the sketch is empty.
     pub fn max_item(&self) -> Option<&T>
         ensures value { option_copied result ≡ self.now.greatest }
         ensures there { IsSome result ↔ (self.now.n ≢ 0) }
@@ -129,9 +148,12 @@ impl<T: Clone + Ord> KllSketch<T> {
         self.max_item.as_ref()
     }
 
+    /// The weight of the retained items that are at most the item (`Inclusive`) or below it
+    /// (`Exclusive`), over `n`; none exactly where the sketch is empty. It takes no memory.
     pub fn rank(&self, item: &T, criteria: SearchCriteria) -> Option<Rank>
         ensures empty { IsSome result ↔ (self.now.n ≢ 0) }
-        ensures weight { IfSome result (λ r. r.weight ≡ weighted_rank T.cmp (counted T.cmp item.now criteria) (bag_of self.now)) }
+        ensures weight { IfSome result (λ r.
+            r.weight ≡ weighted_rank T.cmp (counted T.cmp item.now criteria) (bag_of self.now)) }
         ensures total { IfSome result (λ r. r.total ≡ self.now.n) }
     {
         if self.n == 0 {
@@ -149,11 +171,16 @@ impl<T: Clone + Ord> KllSketch<T> {
         })
     }
 
-    /// Takes one item in.
+    /// Takes one item in, after at most one compaction, which takes one coin.
+    ///
+    /// Item clones have to compare equal to the item. `InvalidArgument` exactly where `n` is
+    /// `u64::MAX`; any other error is `OutOfMemory`. After an error the sketch and the source of
+    /// coins are what they were, and the item is gone.
     pub fn update<B: RandomBits>(&mut self, item: T, coins: &mut B) -> Result<(), Error>
         requires clones { (x y : T) → T.is_clone x y → T.cmp x y ≡ Equal }
-        ensures ok { OnOk result (IsUpdated T.cmp self.old item (bits_from B.bit B.next coins.old (draws_of (update_of self.old item))) self.new) }
-        ensures coins { OnOk result (coins.new ≡ after_draws B.next coins.old (draws_of (update_of self.old item))) }
+        ensures ok { OnOk result (IsUpdated T.cmp self.old item
+            (bits_from B.bit B.next coins.old (coins_of_update self.old item)) self.new) }
+        ensures coins { OnOk result (coins.new ≡ after_draws B.next coins.old (coins_of_update self.old item)) }
         ensures err { OnErr result ((self.new ≡ self.old) × (coins.new ≡ coins.old)) }
         ensures full { IsErrOf result InvalidArgument ↔ (self.old.n ≡ 2 ^ 64 - 1) }
         ensures memory { IfErr result (λ e. self.old.n < 2 ^ 64 - 1 → e ≡ OutOfMemory) }
@@ -183,7 +210,10 @@ impl<T: Clone + Ord> KllSketch<T> {
 }
 
 impl<T: Clone + Ord> KllSketch<T> {
-    /// A fresh sketch that takes the items of a list.
+    /// A fresh sketch that takes the items of a list, first to last.
+    ///
+    /// Item clones have to compare equal to the item. `InvalidArgument` exactly where `k` is below
+    /// 8; any other error is `OutOfMemory`.
     pub fn from_items<B: RandomBits>(
         alloc: Global,
         k: u16,
@@ -192,8 +222,10 @@ impl<T: Clone + Ord> KllSketch<T> {
     ) -> Result<Self, Error>
         requires clones { (x y : T) → T.is_clone x y → T.cmp x y ≡ Equal }
         ensures ok { IfOk result (λ s. IsFilled T.cmp B.bit B.next coins.old k items.items s) }
-        ensures coins { OnOk result (coins.new ≡ after_draws B.next coins.old (coins_of_trace (updates_trace 0 k items.items))) }
+        ensures coins { OnOk result (coins.new ≡ after_draws B.next coins.old
+            (coins_of_trace (updates_trace 0 k items.items))) }
         ensures small { IsErrOf result InvalidArgument ↔ (k < 8) }
+        ensures memory { IfErr result (λ e. 8 ≤ k → e ≡ OutOfMemory) }
     {
         let mut sketch = KllSketch::new(alloc, k)?;
         for item in items {
