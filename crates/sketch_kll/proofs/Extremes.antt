@@ -1,21 +1,26 @@
 -- the extremes with one more item, and the items between them
 use Rattle.std.proofs.Common.{◌≡◌, ℕ, Bool, true, false, if◌then◌else◌, ◌⊎◌, inl, inr, List, [], ◌∷◌, ◌++◌, Option, None, Some, refl, sym, ap, ◌∙◌, Ordering, Less, Equal, Greater, is_gt, is_lt}
 use Rattle.std.specs.Cmp.{IsTotalOrder}
+use Rattle.std.specs.Ordering.{ordering_reverse}
 use Rattle.std.specs.Option.{option_to_list}
-use Rattle.std.proofs.lemmas.Cmp.{upto, tied_itself}
+use Rattle.std.proofs.lemmas.Cmp.{upto, tied_itself, tied_back, alike_right}
 use Rattle.std.proofs.lemmas.Bool.{false≢true}
 use Rattle.sketch_base.specs.Extremes.{IsLeastOf, IsGreatestOf}
-use Rattle.sketch_base.proofs.Extremes.{congr-right, equal-sym}
+use Rattle.sketch_base.proofs.Sorting.{not_lt_gt}
 use Rattle.sketch_kll.specs.Levels.{SameLevels, AllItems}
 use Rattle.sketch_kll.specs.Sketch.{Ties, IsFrom, IsUpTo, AllBetween, AllTie, AreInOrder, least_with, greatest_with}
 use Rattle.sketch_kll.specs.Steps.{with_room, put}
 use Rattle.sketch_kll.proofs.Everywhere.{AllItems-map, AllItems-room, AllItems-same, AllItems-put}
-use Rattle.sketch_kll.proofs.Order.{other_way, not_lt_gt}
 
 lt_not_gt : (r : Ordering) → is_lt r ≡ true → is_gt r ≡ false
 lt_not_gt Less e = refl
 lt_not_gt Equal e = absurd (false≢true e)
 lt_not_gt Greater e = absurd (false≢true e)
+
+gt_not_gt : (r s : Ordering) → r ≡ ordering_reverse s → is_gt r ≡ true → is_gt s ≡ false
+gt_not_gt r Less e h = refl
+gt_not_gt r Equal e h = refl
+gt_not_gt r Greater e h = absurd (false≢true (sym (ap is_gt e) ∙ h))
 
 module _ {A : Type 0} {cmp : A → A → Ordering} (o : IsTotalOrder cmp) where
   -- an extreme that bounds a new item and all that the old one did
@@ -29,12 +34,12 @@ module _ {A : Type 0} {cmp : A → A → Ordering} (o : IsTotalOrder cmp) where
 
   lowers : (x : A) (old new : Option A) → Ties cmp (least_with cmp x old) new → Lowers x old new
   lowers x old None t = absurd t
-  lowers x None (Some z) t = record { here = ap is_gt (equal-sym o x z t); below = λ y h. absurd h }
+  lowers x None (Some z) t = record { here = ap is_gt (tied_back o x z t); below = λ y h. absurd h }
   lowers x (Some l) (Some z) t = go (is_lt (cmp x l)) refl t
     where
       go : (b : Bool) → is_lt (cmp x l) ≡ b → cmp (if b then x else l) z ≡ Equal → Lowers x (Some l) (Some z)
       go true e t = record {
-        here = ap is_gt (equal-sym o x z t);
+        here = ap is_gt (tied_back o x z t);
         below = λ y h. ap is_gt (sym (o.congr x z y t)) ∙ upto o x l y (lt_not_gt (cmp x l) e) h;
       }
       go false e t = record {
@@ -50,39 +55,39 @@ module _ {A : Type 0} {cmp : A → A → Ordering} (o : IsTotalOrder cmp) where
       go : (b : Bool) → is_gt (cmp x g) ≡ b → cmp (if b then x else g) z ≡ Equal → Raises x (Some g) (Some z)
       go true e t = record {
         here = ap is_gt t;
-        above = λ y h. ap is_gt (sym (congr-right o y x z t)) ∙ upto o y g x h (other_way o x g e);
+        above = λ y h. ap is_gt (sym (alike_right o x z y t)) ∙ upto o y g x h (gt_not_gt (cmp x g) (cmp g x) (o.antisymm x g) e);
       }
       go false e t = record {
-        here = ap is_gt (sym (congr-right o x g z t)) ∙ e;
-        above = λ y h. ap is_gt (sym (congr-right o y g z t)) ∙ h;
+        here = ap is_gt (sym (alike_right o g z x t)) ∙ e;
+        above = λ y h. ap is_gt (sym (alike_right o g z y t)) ∙ h;
       }
 
   -- the new extreme is that of the old one and the item
   pub least_of_both : (x : A) (old new : Option A) → Ties cmp (least_with cmp x old) new → IsLeastOf cmp (option_to_list old ++ x ∷ []) new
   least_of_both x old None t = absurd t
-  least_of_both x None (Some z) t = record { ties = inl (equal-sym o x z t); bounds = ((lowers x None (Some z) t).here, tt) }
+  least_of_both x None (Some z) t = record { ties = inl (tied_back o x z t); bounds = ((lowers x None (Some z) t).here, tt) }
   least_of_both x (Some l) (Some z) t =
       let b = lowers x (Some l) (Some z) t in
       record { ties = go (is_lt (cmp x l)) t; bounds = (b.below l (ap is_gt (tied_itself o l)), (b.here, tt)) }
     where
       go : (b : Bool) → cmp (if b then x else l) z ≡ Equal → (cmp z l ≡ Equal) ⊎ ((cmp z x ≡ Equal) ⊎ ⊥)
-      go true t = inr (inl (equal-sym o x z t))
-      go false t = inl (equal-sym o l z t)
+      go true t = inr (inl (tied_back o x z t))
+      go false t = inl (tied_back o l z t)
 
   pub greatest_of_both : (x : A) (old new : Option A) → Ties cmp (greatest_with cmp x old) new → IsGreatestOf cmp (option_to_list old ++ x ∷ []) new
   greatest_of_both x old None t = absurd t
-  greatest_of_both x None (Some z) t = record { ties = inl (equal-sym o x z t); bounds = ((raises x None (Some z) t).here, tt) }
+  greatest_of_both x None (Some z) t = record { ties = inl (tied_back o x z t); bounds = ((raises x None (Some z) t).here, tt) }
   greatest_of_both x (Some g) (Some z) t =
       let b = raises x (Some g) (Some z) t in
       record { ties = go (is_gt (cmp x g)) t; bounds = (b.above g (ap is_gt (tied_itself o g)), (b.here, tt)) }
     where
       go : (b : Bool) → cmp (if b then x else g) z ≡ Equal → (cmp z g ≡ Equal) ⊎ ((cmp z x ≡ Equal) ⊎ ⊥)
-      go true t = inr (inl (equal-sym o x z t))
-      go false t = inl (equal-sym o g z t)
+      go true t = inr (inl (tied_back o x z t))
+      go false t = inl (tied_back o g z t)
 
   from-same : (least : Option A) (x y : A) → cmp x y ≡ Equal → IsFrom cmp least x → IsFrom cmp least y
   from-same None x y e h = h
-  from-same (Some l) x y e h = ap is_gt (sym (congr-right o l x y e)) ∙ h
+  from-same (Some l) x y e h = ap is_gt (sym (alike_right o x y l e)) ∙ h
 
   up_to-same : (greatest : Option A) (x y : A) → cmp x y ≡ Equal → IsUpTo cmp greatest x → IsUpTo cmp greatest y
   up_to-same None x y e h = h
