@@ -18,9 +18,9 @@ ghost use Rattle.sketch_kll.specs.Steps.{full_level, is_full, with_room, keeps_l
 
 use crate::capacity::{MINIMUM_CAPACITY, level_capacity, total_capacity};
 use crate::compaction::compact_level;
+use sketch_base::common::random::RandomBits;
 use sketch_base::common::{Rank, SearchCriteria};
 use sketch_base::error::{Error, ErrorKind};
-use sketch_base::common::random::RandomBits;
 use std::alloc::{AllocError, Global};
 use std::marker::Model;
 
@@ -333,6 +333,7 @@ fn make_room<T: Ord + Drop, B: RandomBits>(
     requires few_levels { length (levels_in items.old.items bounds.old.items) ≤ 61 }
     requires weight { weight_in (levels_in items.old.items bounds.old.items) < 2 ^ 64 }
     requires spare { vec_len bounds.old < vec_capacity bounds.old }
+    requires sorted { UpperSorted T.cmp (levels_in items.old.items bounds.old.items) }
     ensures flat { IsFlat items.new.items bounds.new.items }
     ensures levels { SameLevels T.cmp (with_room T.cmp k is_sorted (B.bit coins.old) (levels_in items.old.items bounds.old.items)) (levels_in items.new.items bounds.new.items) }
     ensures sorted { UpperSorted T.cmp (levels_in items.old.items bounds.old.items) → UpperSorted T.cmp (levels_in items.new.items bounds.new.items) }
@@ -377,6 +378,7 @@ pub(crate) fn compact<T: Ord + Drop>(
 )
     requires flat { IsFlat items.old.items bounds.old.items }
     requires within { level + 2 < length bounds.old.items }
+    requires sorted { UpperSorted T.cmp (levels_in items.old.items bounds.old.items) }
     ensures flat { IsFlat items.new.items bounds.new.items }
     ensures alike { SameLevels T.cmp (compacted T.cmp keeps_last coin level (levels_in items.old.items bounds.old.items)) (levels_in items.new.items bounds.new.items) }
     ensures sorted { UpperSorted T.cmp (levels_in items.old.items bounds.old.items) → UpperSorted T.cmp (levels_in items.new.items bounds.new.items) }
