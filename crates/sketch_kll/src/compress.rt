@@ -39,6 +39,7 @@ fn compress_level<T: Ord + Drop, B: RandomBits>(
     requires within { level + 1 < length bounds.old.items }
     requires few { length bounds.old.items ≤ 62 }
     requires spare { vec_len bounds.old < vec_capacity bounds.old }
+    requires sorted { UpperSorted T.cmp (levels_in items.old.items bounds.old.items) }
     ensures flat { IsFlat items.new.items bounds.new.items }
     ensures levels { SameLevels T.cmp
         (stepped T.cmp k is_sorted (B.bit coins.old) level (levels_in items.old.items bounds.old.items))

@@ -395,6 +395,7 @@ fn make_room<T: Ord + Drop, B: RandomBits>(
     requires few_levels { length (levels_in items.old.items bounds.old.items) ≤ 61 }
     requires weight { weight_in (levels_in items.old.items bounds.old.items) < 2 ^ 64 }
     requires spare { vec_len bounds.old < vec_capacity bounds.old }
+    requires sorted { UpperSorted T.cmp (levels_in items.old.items bounds.old.items) }
     ensures flat { IsFlat items.new.items bounds.new.items }
     ensures levels { SameLevels T.cmp
         (with_room T.cmp k is_sorted (B.bit coins.old) (levels_in items.old.items bounds.old.items))
@@ -446,6 +447,7 @@ pub(crate) fn compact<T: Ord + Drop>(
 )
     requires flat { IsFlat items.old.items bounds.old.items }
     requires within { level + 2 < length bounds.old.items }
+    requires sorted { UpperSorted T.cmp (levels_in items.old.items bounds.old.items) }
     ensures flat { IsFlat items.new.items bounds.new.items }
     ensures alike { SameLevels T.cmp
         (compacted T.cmp keeps_last coin level (levels_in items.old.items bounds.old.items))
