@@ -42,7 +42,8 @@ fn compress_level<T: Ord + Drop, B: RandomBits>(
     requires sorted { UpperSorted T.cmp (levels_in items.old.items bounds.old.items) }
     ensures flat { IsFlat items.new.items bounds.new.items }
     ensures levels { SameLevels T.cmp
-        (stepped T.cmp k is_sorted (B.bit coins.old) level (levels_in items.old.items bounds.old.items))
+        (stepped T.cmp k is_sorted (B.bit coins.old) level
+        (levels_in items.old.items bounds.old.items))
         (levels_in items.new.items bounds.new.items) }
     ensures sorted { UpperSorted T.cmp (levels_in items.old.items bounds.old.items)
         → UpperSorted T.cmp (levels_in items.new.items bounds.new.items) }

@@ -408,12 +408,27 @@ fn make_room<T: Ord + Drop, B: RandomBits>(
     ensures coins { coins.new ≡ (if is_full k (levels_in items.old.items bounds.old.items)
         then B.next coins.old else coins.old) }
 {
+    let num_levels = bounds.len() - 1;
     if let Some(level) = level_to_compact(k, *total, items.as_slice(), bounds.as_slice()) {
         raise(bounds, level);
         let keeps_last = keeps_last_item(is_sorted, level);
         let coin = coins.random_bit();
         compact(items, bounds, level, keeps_last, coin);
-        *total = total_capacity(k, MINIMUM_CAPACITY, bounds.len() - 1);
+        *total = total_at(k, *total, num_levels, bounds.len() - 1);
+    }
+}
+
+// The total capacity at so many levels, from that at another number of them.
+fn total_at(k: u16, total: u32, known: usize, num_levels: usize) -> u32
+    requires k { 8 ≤ k }
+    requires total { total ≡ total_of k 8 known }
+    requires few_levels { num_levels ≤ 61 }
+    ensures { result ≡ total_of k 8 num_levels }
+{
+    if num_levels == known {
+        total
+    } else {
+        total_capacity(k, MINIMUM_CAPACITY, num_levels)
     }
 }
 
