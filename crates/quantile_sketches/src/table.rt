@@ -1,15 +1,18 @@
 //! The slots of a run of the program, and what each command does to them.
 //! Lines are read in `command` and answers are written in `answer`; what a sketch does lies in its own crate.
-ghost use Rattle.std.specs.Prelude.{◌≡◌, ◌≢◌, ◌↔◌, IfOk, IfErr, IsNone, Some, None, Err, slice_get, vec_len};
+ghost use Rattle.std.specs.Prelude.{◌≡◌};
 ghost use Rattle.quantile_sketches.specs.Command.{command_of};
+ghost use Rattle.quantile_sketches.specs.Step.{Makes, Reads, Turns, Changes, Executes, Answers};
 ghost use Rattle.quantile_sketches.specs.Words.{words};
 
 use crate::answer::{Answer, Refusal};
 use crate::command::Command;
 use crate::family::Family;
 use crate::words::Words;
+use sketch_base::common::SearchCriteria;
 use sketch_base::common::random::SplitMix64;
 use std::alloc::{AllocError, Global};
+use std::marker::Model;
 
 /// How many sketches a run holds at most.
 const SLOTS: usize = 256;
@@ -18,7 +21,16 @@ const SLOTS: usize = 256;
 #[derive(Drop)]
 pub struct Table<S> {
     slots: Vec<Option<S>>,
-    ghost all: { vec_len slots ≡ 256 },
+}
+
+impl<S> Model for Table<S> {
+    ghost use Rattle.std.specs.Prelude.{◌≡◌, List, Option, vec_len};
+
+    ghost Value = { List (Option S) };
+
+    ghost view = { λ t. t.slots.items };
+
+    ghost invariant = { λ t. vec_len t.slots ≡ 256 };
 }
 
 impl<S: Family> Table<S> {
@@ -36,8 +48,9 @@ impl<S: Family> Table<S> {
         coins: &mut SplitMix64,
         line: &[u8],
     ) -> Result<Answer, Refusal>
-        ensures bad { (result ≡ Err Refusal.BadLine)
-            ↔ IsNone (command_of S.Config.reader (words line.now)) }
+        ensures { Answers S.create_gives S.take_gives S.rank_gives
+            (command_of S.Config.reader (words line.now))
+            self.old coins.old result self.new coins.new }
     {
         let mut words = Words::new(line);
         let command = Command::parse(&mut words).ok_or(Refusal::BadLine)?;
@@ -50,41 +63,55 @@ impl<S: Family> Table<S> {
         coins: &mut SplitMix64,
         command: Command<S::Config>,
     ) -> Result<Answer, Refusal>
-        ensures { result ≢ Err Refusal.BadLine }
+        ensures { Executes S.create_gives S.take_gives S.rank_gives command
+            self.old coins.old result self.new coins.new }
     {
         match command {
-            Command::New { slot, config } => {
-                self.slots[slot as usize] = Some(S::create(alloc, config)?);
-                Ok(Answer::Done)
-            }
-            Command::Update { slot, item } => {
-                self.get_mut(slot)?.take(item, coins)?;
-                Ok(Answer::Done)
-            }
+            Command::New { slot, config } => self.create(alloc, slot, config),
+            Command::Update { slot, item } => self.update(slot, item, coins),
             Command::Rank {
                 slot,
                 item,
                 criteria,
-            } => Ok(Answer::Rank(self.get(slot)?.rank_of(item, criteria))),
+            } => self.rank(slot, item, criteria),
         }
     }
 
-    fn get(&self, slot: u8) -> Result<&S, Refusal>
-        ensures there { IfOk result
-            (λ sketch. slice_get self.now.slots.items slot ≡ Some (Some sketch.now)) }
-        ensures absent { IfErr result (λ refusal. (refusal ≡ Refusal.AbsentSlot)
-            × (slice_get self.now.slots.items slot ≡ Some None)) }
+    fn create(&mut self, alloc: Global, slot: u8, config: S::Config) -> Result<Answer, Refusal>
+        ensures { Makes (S.create_gives config) slot self.old result self.new }
     {
-        self.slots[slot as usize]
-            .as_ref()
-            .ok_or(Refusal::AbsentSlot)
+        self.slots[slot as usize] = Some(S::create(alloc, config)?);
+        Ok(Answer::Done)
     }
 
-    fn get_mut(&mut self, slot: u8) -> Result<&mut S, Refusal>
-        ensures { IfErr result (λ refusal. refusal ≡ Refusal.AbsentSlot) }
+    fn update(&mut self, slot: u8, item: i64, coins: &mut SplitMix64) -> Result<Answer, Refusal>
+        ensures { Changes (λ s. S.take_gives s item)
+            slot self.old coins.old result self.new coins.new }
     {
-        self.slots[slot as usize]
-            .as_mut()
-            .ok_or(Refusal::AbsentSlot)
+        take_in(&mut self.slots[slot as usize], item, coins)
     }
+
+    fn rank(&self, slot: u8, item: i64, criteria: SearchCriteria) -> Result<Answer, Refusal>
+        ensures { Reads (λ s a. (r : _) × S.rank_gives s item criteria r × (a ≡ Answer.Rank r))
+            slot self.now result }
+    {
+        let Some(sketch) = &self.slots[slot as usize] else {
+            return Err(Refusal::AbsentSlot);
+        };
+        Ok(Answer::Rank(sketch.rank_of(item, criteria)))
+    }
+}
+
+fn take_in<S: Family>(
+    slot: &mut Option<S>,
+    item: i64,
+    coins: &mut SplitMix64,
+) -> Result<Answer, Refusal>
+    ensures { Turns (λ s. S.take_gives s item) slot.old coins.old result slot.new coins.new }
+{
+    let Some(sketch) = slot else {
+        return Err(Refusal::AbsentSlot);
+    };
+    sketch.take(item, coins)?;
+    Ok(Answer::Done)
 }
