@@ -1,5 +1,5 @@
 -- what a KLL sketch of 64-bit integers gives where a command calls it
-use Rattle.std.specs.Prelude.{◌≡◌, ◌≢◌, ◌^◌, ◌-◌, ◌<◌, ◌↔◌, ℕ, ℤ, Bool, List, Option, None, Result, IsErrOf, IsSome, IfOk, IfSome, OnOk, OnErr}
+use Rattle.std.specs.Prelude.{◌≡◌, ◌≢◌, ◌^◌, ◌-◌, ◌<◌, ◌↔◌, ℕ, ℤ, Bool, List, Option, None, Result, IsErrOf, IsSome, IfOk, IfSome, OnOk, OnErr, replicate}
 use Rattle.std.specs.Ordering.{int_cmp}
 use Rattle.sketch_base.specs.Bag.{empty_bag, weighted_rank}
 use Rattle.sketch_base.specs.Query.{counted}
@@ -9,6 +9,9 @@ use Rattle.sketch_base.specs.declared.common.Rank.{Rank}
 use Rattle.sketch_base.specs.declared.common.SearchCriteria.{SearchCriteria}
 use Rattle.sketch_base.specs.declared.error.ErrorKind.{ErrorKind}
 use Rattle.sketch_base.specs.declared.error.ErrorKind.TheVariants.{InvalidArgument}
+use Rattle.quantile_sketches.specs.declared.table.TheConstants.{SLOTS}
+use Rattle.quantile_sketches.specs.Lines.{lines, Serves}
+use Rattle.quantile_sketches.specs.Reader.{size_of}
 use Rattle.sketch_kll.specs.Sketch.{Kll, bag_of, update_of, IsUpdated}
 
 -- an empty sketch of this k, refused exactly below 8 or for memory
@@ -34,3 +37,7 @@ IsRank s x criteria r =
     (IsSome r ↔ (s.n ≢ 0))
     × IfSome r (λ w. w.weight ≡ weighted_rank int_cmp (counted int_cmp x criteria) (bag_of s))
     × IfSome r (λ w. w.total ≡ s.n)
+
+-- what is written for a text of commands on KLL sketches, from empty slots on
+abbrev pub ServesKll : ℕ → List ℕ → List ℕ → Type 0
+ServesKll seed text out = Serves size_of IsMade TakesIn IsRank (replicate SLOTS None) seed (lines text) out

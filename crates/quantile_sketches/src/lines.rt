@@ -1,17 +1,24 @@
 //! The line program: an input line holds a command, and an output line its answer.
 //! How a line is read lies in `command`, what a command does in `table`, how an answer reads in `answer`.
-ghost use Rattle.std.specs.Prelude.{◌≡◌, [], ◌∷◌, map, string_bytes};
+ghost use Rattle.std.specs.Prelude.{◌≡◌, [], ◌∷◌, ◌++◌, map, string_bytes, None, OnOk, IfSome, IfErr, IsErr, IsTrue, replicate};
 ghost use Rattle.std.specs.Io.BufRead.{strip_last};
+ghost use Rattle.std.specs.Io.KnownBytes.{Appends, Keeps};
+ghost use Rattle.std.specs.IoError.{error_kind};
 ghost use Rattle.quantile_sketches.specs.Command.{arguments_of};
+ghost use Rattle.quantile_sketches.specs.Kll.{ServesKll};
+ghost use Rattle.quantile_sketches.specs.Lines.{lines, Serves};
 ghost use Rattle.quantile_sketches.specs.Words.{unsigned_of};
 
 use crate::answer::write_answer;
 use crate::family::Family;
-use crate::table::Table;
+use crate::table::{SLOTS, Table};
 use sketch_base::common::random::SplitMix64;
 use sketch_kll::sketch::KllSketch;
 use std::alloc::Global;
-use std::io::{self, BufRead, BufReader, BufWriter, ErrorKind, Read, Write};
+use std::io::{self, BufRead, BufReader, ErrorKind, Read, Write};
+
+/// As many bytes of answers wait at most before the next line's are added.
+const MANY: usize = 8192;
 
 /// Reads the words after the program's name, a family and a seed: whether the family is REQ, and the seed, which std's
 /// `parse` reads as a `u64`. `kll` is the one family as yet. Other words give None.
@@ -41,50 +48,85 @@ fn parse_seed(word: &str) -> Option<u64>
 }
 
 /// Answers each line of the input by a line of the output, to the input's end. The coins are those of `SplitMix64` from
-/// the seed on. A line ends with a line feed or with the input. Answers are written out before a read that would wait.
+/// the seed on. A line ends with a line feed or with the input.
 ///
 /// `req` asks for REQ sketches. As there are none yet, it is refused with an error of the kind `Unsupported`, before
 /// anything is read or written.
 ///
-/// Any other error is a fault of the input or the output, or want of memory for a line. What a sketch refuses is an
-/// answer, want of memory too.
+/// Any other error is a fault of the input or the output, or want of memory for a line or a long answer. What a sketch
+/// refuses is an answer, want of memory too.
 pub fn serve<R: Read, W: Write>(
     alloc: Global,
     req: bool,
     seed: u64,
     input: &mut R,
     output: &mut W,
-) -> io::Result<()> {
+) -> io::Result<()>
+    ensures served { OnOk result (IfSome (R.remaining input.old) (λ text. (out : _)
+        × ServesKll seed text out × Appends (W.contents output.old) (W.contents output.new) out)) }
+    ensures unsupported { IsTrue req → IfErr result (λ e. error_kind e ≡ ErrorKind.Unsupported) }
+    ensures refused { IsTrue req → IsErr result
+        × Keeps (W.contents output.old) (W.contents output.new) }
+{
     if req {
         return Err(io::Error::from(ErrorKind::Unsupported));
     }
     let mut input = BufReader::new(alloc, input)?;
-    let mut output = BufWriter::new(alloc, output)?;
-    answer_lines::<KllSketch<i64>, _, _>(alloc, seed, &mut input, &mut output)?;
-    output.flush()
+    answer_lines::<KllSketch<i64>, _, _>(alloc, seed, &mut input, output)
 }
 
+// Answers wait in a text, and are written out before a read that may wait and where many wait.
 fn answer_lines<S: Family, R: Read, W: Write>(
     alloc: Global,
     seed: u64,
     input: &mut BufReader<R>,
     output: &mut W,
-) -> io::Result<()> {
+) -> io::Result<()>
+    ensures { OnOk result (IfSome (⟦<BufReader<R> as Read>⟧.remaining input.old)
+        (λ text. (out : _) × Serves S.Config.reader S.create_gives S.take_gives S.rank_gives
+        (replicate SLOTS None) seed (lines text) out
+        × Appends (W.contents output.old) (W.contents output.new) out)) }
+{
     let mut table = Table::<S>::new(alloc)?;
     let mut coins = SplitMix64::new(seed);
     let mut line = Vec::new(alloc);
+    let mut answers = Vec::with_capacity(alloc, 2 * MANY)?;
     for _ in 0..u64::MAX {
-        if input.buffer().is_empty() {
-            output.flush()?;
-        }
+        let is_due = input.buffer().is_empty() || MANY <= answers.len();
+        write_out_if(is_due, output, &mut answers)?;
         line.clear();
-        if input.read_until(b'\n', &mut line)? == 0 {
-            break;
+        match input.read_until(b'\n', &mut line) {
+            Ok(0) => return write_out(output, &mut answers),
+            Ok(_) => {}
+            Err(error) => {
+                write_out(output, &mut answers)?;
+                return Err(error);
+            }
         }
         let answer = table.answer(alloc, &mut coins, without_line_feed(line.as_slice()));
-        write_answer(output, answer)?;
+        write_answer(&mut answers, answer)?;
+    }
+    Err(io::Error::from(ErrorKind::Other))
+}
+
+fn write_out_if<W: Write>(is_due: bool, output: &mut W, answers: &mut Vec<u8>) -> io::Result<()>
+    ensures { OnOk result ((sent : _) × (answers.old.items ≡ sent ++ answers.new.items)
+        × Appends (W.contents output.old) (W.contents output.new) sent) }
+{
+    if is_due {
+        write_out(output, answers)?;
     }
     Ok(())
+}
+
+// Writes out what waits.
+fn write_out<W: Write>(output: &mut W, answers: &mut Vec<u8>) -> io::Result<()>
+    ensures { OnOk result ((answers.new.items ≡ [])
+        × Appends (W.contents output.old) (W.contents output.new) answers.old.items) }
+{
+    output.write_all(answers.as_slice())?;
+    answers.clear();
+    output.flush()
 }
 
 fn without_line_feed(line: &[u8]) -> &[u8]

@@ -1,6 +1,6 @@
 //! The slots of a run of the program, and what each command does to them.
 //! Lines are read in `command` and answers are written in `answer`; what a sketch does lies in its own crate.
-ghost use Rattle.std.specs.Prelude.{◌≡◌};
+ghost use Rattle.std.specs.Prelude.{◌≡◌, IfOk, None, replicate};
 ghost use Rattle.quantile_sketches.specs.Command.{command_of};
 ghost use Rattle.quantile_sketches.specs.Step.{Makes, Reads, Turns, Changes, Executes, Answers};
 ghost use Rattle.quantile_sketches.specs.Words.{words};
@@ -15,7 +15,7 @@ use std::alloc::{AllocError, Global};
 use std::marker::Model;
 
 /// How many sketches a run holds at most.
-const SLOTS: usize = 256;
+pub const SLOTS: usize = 256;
 
 /// The sketches of a run, by their slots.
 #[derive(Drop)]
@@ -35,9 +35,13 @@ impl<S> Model for Table<S> {
 
 impl<S: Family> Table<S> {
     /// A table of empty slots.
-    pub fn new(alloc: Global) -> Result<Self, AllocError> {
-        let mut slots = Vec::new(alloc);
-        slots.resize_with(SLOTS, || None)?;
+    pub fn new(alloc: Global) -> Result<Self, AllocError>
+        ensures { IfOk result (λ table. table ≡ replicate SLOTS None) }
+    {
+        let mut slots = Vec::with_capacity(alloc, SLOTS)?;
+        for _i in 0..SLOTS {
+            slots.push(None)?;
+        }
         Ok(Table { slots })
     }
 
