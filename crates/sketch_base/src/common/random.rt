@@ -102,12 +102,9 @@ impl<'a> RandomBits for WordBits<'a> {
     ghost next = { λ s. record { word = s.word; drawn = drawn_after s.drawn } };
 
     fn random_bit(&mut self) -> bool {
-        let bit = if self.drawn < self.word.len() {
-            self.word[self.drawn]
-        } else {
-            false
-        };
-        self.drawn = self.drawn.saturating_add(1);
+        let WordBits { word, drawn } = self;
+        let bit = word.get(*drawn).copied().unwrap_or(false);
+        *drawn = drawn.saturating_add(1);
         bit
     }
 }
@@ -130,5 +127,15 @@ mod tests {
         assert!(rt; coins.random_bit());
         assert!(rt; !coins.random_bit());
         Ok(())
+    }
+
+    #[test]
+    fn word_then_false(rt: HostRuntime) {
+        let mut source = WordBits::new(&[true, false, true]);
+        for (drawn, bit) in [true, false, true, false, false].iter().enumerate() {
+            assert_eq!(rt; source.drawn(), drawn);
+            assert_eq!(rt; source.random_bit(), *bit, "at draw {drawn}");
+        }
+        assert_eq!(rt; source.drawn(), 5);
     }
 }
