@@ -6,7 +6,7 @@ use Rattle.sketch_base.specs.declared.error.ErrorKind.{ErrorKind}
 use Rattle.quantile_sketches.specs.Answer.{answer_text}
 use Rattle.quantile_sketches.specs.Command.{command_of}
 use Rattle.quantile_sketches.specs.Reader.{Reader}
-use Rattle.quantile_sketches.specs.Step.{Answers}
+use Rattle.quantile_sketches.specs.Step.{Slots, Answers}
 use Rattle.quantile_sketches.specs.Words.{words}
 
 -- a byte before the first line
@@ -20,8 +20,12 @@ lines [] = []
 lines (c ∷ cs) = if c == 10 then [] ∷ lines cs else onto_first_line c (lines cs)
 
 -- the text written for lines that come one after another: for each line an answer and a line feed
-module _ {S C : Type 0} (read : Reader C) (made : C → Result S ErrorKind → Type 0) (taken : S → ℤ → ℕ → Result Unit ErrorKind → S → ℕ → Type 0) (rank : S → ℤ → SearchCriteria → Option Rank → Type 0) where
-  abbrev pub Serves : List (Option S) → ℕ → List (List ℕ) → List ℕ → Type 0
+module _ {S C : Type 0}
+    (read : Reader C)
+    (made : C → Result S ErrorKind → Type 0)
+    (taken : S → ℤ → ℕ → Result Unit ErrorKind → S → ℕ → Type 0)
+    (rank : S → ℤ → SearchCriteria → Option Rank → Type 0) where
+  abbrev pub Serves : Slots S → ℕ → List (List ℕ) → List ℕ → Type 0
   Serves slots coins [] out = out ≡ []
   Serves slots coins (l ∷ ls) out =
       (r : _) × (slots' : _) × (coins' : _) × (rest : _)
