@@ -1,0 +1,34 @@
+-- the lines of a text, and what is written for them
+use Rattle.std.specs.Prelude.{◌≡◌, ℕ, ℤ, List, [], ◌∷◌, ◌++◌, ◌==◌, Option, Result, if◌then◌else◌}
+use Rattle.sketch_base.specs.declared.common.Rank.{Rank}
+use Rattle.sketch_base.specs.declared.common.SearchCriteria.{SearchCriteria}
+use Rattle.sketch_base.specs.declared.error.ErrorKind.{ErrorKind}
+use Rattle.quantile_sketches.specs.Answer.{answer_text}
+use Rattle.quantile_sketches.specs.Command.{command_of}
+use Rattle.quantile_sketches.specs.Reader.{Reader}
+use Rattle.quantile_sketches.specs.Step.{Slots, Answers}
+use Rattle.quantile_sketches.specs.Words.{words}
+
+-- a byte before the first line
+abbrev pub onto_first_line : ℕ → List (List ℕ) → List (List ℕ)
+onto_first_line c [] = (c ∷ []) ∷ []
+onto_first_line c (l ∷ ls) = (c ∷ l) ∷ ls
+
+-- a line ends with a line feed or with the text
+abbrev pub lines : List ℕ → List (List ℕ)
+lines [] = []
+lines (c ∷ cs) = if c == 10 then [] ∷ lines cs else onto_first_line c (lines cs)
+
+-- the text written for lines that come one after another: for each line an answer and a line feed
+module _ {S C : Type 0}
+    (read : Reader C)
+    (made : C → Result S ErrorKind → Type 0)
+    (taken : S → ℤ → ℕ → Result Unit ErrorKind → S → ℕ → Type 0)
+    (rank : S → ℤ → SearchCriteria → Option Rank → Type 0) where
+  abbrev pub Serves : Slots S → ℕ → List (List ℕ) → List ℕ → Type 0
+  Serves slots coins [] out = out ≡ []
+  Serves slots coins (l ∷ ls) out =
+      (r : _) × (slots' : _) × (coins' : _) × (rest : _)
+      × Answers made taken rank (command_of read (words l)) slots coins r slots' coins'
+      × Serves slots' coins' ls rest
+      × (out ≡ answer_text r ++ (10 ∷ rest))

@@ -1,0 +1,64 @@
+//! What a command gives, and the line that says so.
+//! Nothing here knows of slots or of sketches: those lie in `table` and `family`.
+ghost use Rattle.std.specs.Prelude.{◌≡◌, ◌++◌, [], ◌∷◌, OnOk};
+ghost use Rattle.std.specs.Io.KnownBytes.{Appends};
+ghost use Rattle.quantile_sketches.specs.Answer.{answer_text, refusal_text};
+
+use sketch_base::common::Rank;
+use sketch_base::error::{Error, ErrorKind};
+use std::io::{self, Write};
+
+/// What a command gives.
+#[derive(Clone, Copy, Debug, PartialEq, Eq)]
+pub enum Answer {
+    /// A sketch was made or changed.
+    Done,
+    /// A rank, or None of an empty sketch.
+    Rank(Option<Rank>),
+}
+
+/// Why a line is refused.
+#[derive(Clone, Copy, Debug, PartialEq, Eq)]
+pub enum Refusal {
+    /// The line is no command.
+    BadLine,
+    /// A slot that the command reads or changes holds no sketch.
+    AbsentSlot,
+    /// The sketch refused it.
+    Sketch(ErrorKind),
+}
+
+impl From<Error> for Refusal {
+    ghost use Rattle.quantile_sketches.specs.declared.answer.Refusal.TheVariants.{Sketch};
+
+    ghost from_gives = { λ e r. r ≡ Sketch e };
+
+    fn from(error: Error) -> Refusal {
+        Refusal::Sketch(error.kind())
+    }
+}
+
+/// Writes the line of an answer.
+pub fn write_answer<W: Write>(output: &mut W, answer: Result<Answer, Refusal>) -> io::Result<()>
+    ensures { OnOk result
+        (Appends (W.contents output.old) (W.contents output.new) (answer_text answer ++ 10 ∷ [])) }
+{
+    match answer {
+        Ok(Answer::Done) => output.write_all(b"ok\n"),
+        Ok(Answer::Rank(Some(rank))) => writeln!(output, "{}/{}", rank.weight, rank.total),
+        Ok(Answer::Rank(None)) => output.write_all(b"none\n"),
+        Err(refusal) => output.write_all(refusal_line(refusal)),
+    }
+}
+
+fn refusal_line(refusal: Refusal) -> &'static [u8]
+    ensures { result.now ≡ refusal_text refusal ++ 10 ∷ [] }
+{
+    match refusal {
+        Refusal::BadLine => b"error: bad line\n",
+        Refusal::AbsentSlot => b"error: absent slot\n",
+        Refusal::Sketch(ErrorKind::InvalidArgument) => b"error: invalid argument\n",
+        Refusal::Sketch(ErrorKind::InvalidData) => b"error: invalid data\n",
+        Refusal::Sketch(ErrorKind::OutOfMemory) => b"error: out of memory\n",
+    }
+}
