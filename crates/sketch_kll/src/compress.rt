@@ -1,12 +1,9 @@
 //! General compress: a walk over the levels from 0 up.
-ghost use Rattle.std.specs.Prelude.{◌≡◌, ℕ, ◌+◌, ◌-◌, ◌^◌, ◌<◌, ◌≤◌, length, map, IsTrue, IsSorted, vec_len, vec_capacity, if◌then◌else◌};
+ghost use Rattle.std.specs.Prelude.{◌≡◌, ℕ, ◌+◌, ◌-◌, ◌^◌, ◌<◌, ◌≤◌, length, IsTrue, IsSorted, vec_len, vec_capacity, if◌then◌else◌};
 ghost use Rattle.sketch_kll.specs.Capacity.{total_of};
-ghost use Rattle.sketch_base.specs.Bag.{AlikeKll};
-ghost use Rattle.sketch_base.specs.Random.{bits_from, after_draws};
-ghost use Rattle.sketch_base.specs.Trace.{bag_after, draws_of};
-ghost use Rattle.sketch_kll.specs.Compress.{passes, stepped};
-ghost use Rattle.sketch_kll.specs.Schedule.{compress_actions};
-ghost use Rattle.sketch_kll.specs.Sketch.{bag_in};
+ghost use Rattle.sketch_base.specs.Random.{after_draws};
+ghost use Rattle.sketch_base.specs.Trace.{draws_of};
+ghost use Rattle.sketch_kll.specs.Compress.{passes, stepped, compress_of, IsCompressed};
 ghost use Rattle.sketch_kll.specs.Flat.{levels_in, IsFlat};
 ghost use Rattle.sketch_kll.specs.Levels.{retained, weight, first_level, SameLevels, UpperSorted};
 
@@ -43,10 +40,14 @@ fn compress_level<T: Ord + Drop, B: RandomBits>(
     requires few { length bounds.old.items ≤ 62 }
     requires spare { vec_len bounds.old < vec_capacity bounds.old }
     ensures flat { IsFlat items.new.items bounds.new.items }
-    ensures levels { SameLevels T.cmp (stepped T.cmp k is_sorted (B.bit coins.old) level (levels_in items.old.items bounds.old.items)) (levels_in items.new.items bounds.new.items) }
-    ensures sorted { UpperSorted T.cmp (levels_in items.old.items bounds.old.items) → UpperSorted T.cmp (levels_in items.new.items bounds.new.items) }
+    ensures levels { SameLevels T.cmp
+        (stepped T.cmp k is_sorted (B.bit coins.old) level (levels_in items.old.items bounds.old.items))
+        (levels_in items.new.items bounds.new.items) }
+    ensures sorted { UpperSorted T.cmp (levels_in items.old.items bounds.old.items)
+        → UpperSorted T.cmp (levels_in items.new.items bounds.new.items) }
     ensures capacity { vec_capacity bounds.old ≤ vec_capacity bounds.new }
-    ensures coins { coins.new ≡ (if passes k (levels_in items.old.items bounds.old.items) level then coins.old else B.next coins.old) }
+    ensures coins { coins.new ≡ (if passes k (levels_in items.old.items bounds.old.items) level
+        then coins.old else B.next coins.old) }
 {
     if level_passes(k, items.as_slice(), bounds.as_slice(), level) {
         return;
@@ -57,8 +58,9 @@ fn compress_level<T: Ord + Drop, B: RandomBits>(
     compact(items, bounds, level, keeps_last, coin);
 }
 
-/// Compresses every level that has to be.
-pub fn compress<T: Ord + Drop, B: RandomBits>(
+// General compress: compacts, from level 0 up, each level that is over its capacity, until the
+// levels are below their total capacity. The walk goes on into a level that is added.
+pub(crate) fn compress<T: Ord + Drop, B: RandomBits>(
     k: u16,
     is_sorted: bool,
     items: &mut Vec<T>,
@@ -71,14 +73,18 @@ pub fn compress<T: Ord + Drop, B: RandomBits>(
     requires few { length bounds.old.items ≤ 62 }
     requires weight { weight (levels_in items.old.items bounds.old.items) < 2 ^ 64 }
     requires sorted { UpperSorted T.cmp (levels_in items.old.items bounds.old.items) }
-    requires flag { IsTrue is_sorted → IsSorted T.cmp (first_level (levels_in items.old.items bounds.old.items)) }
+    requires flag { IsTrue is_sorted
+        → IsSorted T.cmp (first_level (levels_in items.old.items bounds.old.items)) }
     requires spare { 63 ≤ vec_capacity bounds.old }
     ensures flat { IsFlat items.new.items bounds.new.items }
     ensures few { length bounds.new.items ≤ 62 }
-    ensures below { retained (levels_in items.new.items bounds.new.items) < total_of k 8 (length (levels_in items.new.items bounds.new.items)) }
-    ensures bag { AlikeKll T.cmp (bag_after T.cmp (compress_actions k (map length (levels_in items.old.items bounds.old.items))) (bits_from B.bit B.next coins.old (draws_of (compress_actions {A = T} k (map length (levels_in items.old.items bounds.old.items))))) (bag_in is_sorted (levels_in items.old.items bounds.old.items))) (bag_in is_sorted (levels_in items.new.items bounds.new.items)) }
+    ensures below { retained (levels_in items.new.items bounds.new.items)
+        < total_of k 8 (length (levels_in items.new.items bounds.new.items)) }
+    ensures bag { IsCompressed T.cmp B.bit B.next coins.old k is_sorted
+        (levels_in items.old.items bounds.old.items) (levels_in items.new.items bounds.new.items) }
     ensures sorted { UpperSorted T.cmp (levels_in items.new.items bounds.new.items) }
-    ensures coins { coins.new ≡ after_draws B.next coins.old (draws_of (compress_actions {A = T} k (map length (levels_in items.old.items bounds.old.items)))) }
+    ensures coins { coins.new ≡ after_draws B.next coins.old
+        (draws_of (compress_of k (levels_in items.old.items bounds.old.items))) }
 {
     let mut level = 0;
     while level + 1 < bounds.len() {
