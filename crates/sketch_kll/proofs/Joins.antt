@@ -11,11 +11,11 @@ use Rattle.sketch_base.specs.Bag.{sort, SameItems}
 use Rattle.sketch_kll.specs.Flat.{flat, marks, levels_in, IsFlat}
 use Rattle.sketch_kll.specs.Join.{joined_upper, joined, with_run, grown, held, waiting}
 use Rattle.sketch_kll.specs.Levels.{retained, weight, first_level, SameLevels, AllSorted, UpperSorted}
-use Rattle.sketch_kll.proofs.Alikes.{SameItems-sort}
 use Rattle.sketch_kll.proofs.Flats.{length-flat, is_flat, levels_of_flat, SameLevels-refl, drop_suc, retained-drop, take-flat, drop-flat, level_at, bound_at, bound_falls, length-bounds, length-items}
 use Rattle.sketch_kll.proofs.Sketches.{levels_with_top, UpperSorted-top}
 use Rattle.sketch_kll.proofs.Walks.{SameLevels-trans}
-use Rattle.sketch_kll.proofs.Order.{SameItems-refl, SameItems-append, same_as_sort}
+use Rattle.sketch_base.proofs.Items.{SameItems-refl, SameItems-append}
+use Rattle.sketch_base.proofs.Sorting.{SameItems-sort, same_as_sort}
 use Rattle.sketch_kll.proofs.Runs.{split_run, put_mid_at, mid_at}
 
 -- the two steps of a join, on lists

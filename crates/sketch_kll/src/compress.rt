@@ -3,7 +3,7 @@ ghost use Rattle.std.specs.Prelude.{◌≡◌, ℕ, ◌+◌, ◌-◌, ◌^◌, �
 ghost use Rattle.sketch_kll.specs.Capacity.{total_of};
 ghost use Rattle.sketch_base.specs.Random.{after_draws};
 ghost use Rattle.sketch_base.specs.Trace.{draws_of};
-ghost use Rattle.sketch_kll.specs.Compress.{passes, stepped, compress_of, IsCompressed};
+ghost use Rattle.sketch_kll.specs.Compress.{walked, passes, stepped, compress_of, IsCompressed};
 ghost use Rattle.sketch_kll.specs.Flat.{levels_in, IsFlat};
 ghost use Rattle.sketch_kll.specs.Levels.{retained, weight, first_level, SameLevels, UpperSorted};
 
@@ -80,6 +80,9 @@ pub(crate) fn compress<T: Ord + Drop, B: RandomBits>(
     ensures few { length bounds.new.items ≤ 62 }
     ensures below { retained (levels_in items.new.items bounds.new.items)
         < total_of k 8 (length (levels_in items.new.items bounds.new.items)) }
+    ensures levels { SameLevels T.cmp
+        (walked T.cmp B.bit B.next k is_sorted 61 0 coins.old (levels_in items.old.items bounds.old.items))
+        (levels_in items.new.items bounds.new.items) }
     ensures bag { IsCompressed T.cmp B.bit B.next coins.old k is_sorted
         (levels_in items.old.items bounds.old.items) (levels_in items.new.items bounds.new.items) }
     ensures sorted { UpperSorted T.cmp (levels_in items.new.items bounds.new.items) }
