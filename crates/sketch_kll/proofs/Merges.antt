@@ -38,10 +38,10 @@ zeroed (suc h) (n ∷ ns) b e =
     (omega (arith, s, e, t, z.0), ap suc z.1)
 
 module _ {A : Type 0} where
-  room_full : (k : ℕ) (lengths : List ℕ) → are_full k lengths ≡ true → room_actions {A = A} k lengths ≡ Compact (lowest_full k lengths) Fresh AllButLeftover ∷ []
+  pub room_full : (k : ℕ) (lengths : List ℕ) → are_full k lengths ≡ true → room_actions {A = A} k lengths ≡ Compact (lowest_full k lengths) Fresh AllButLeftover ∷ []
   room_full k lengths e = rw e refl
 
-  room_spare : (k : ℕ) (lengths : List ℕ) → are_full k lengths ≡ false → room_actions {A = A} k lengths ≡ []
+  pub room_spare : (k : ℕ) (lengths : List ℕ) → are_full k lengths ≡ false → room_actions {A = A} k lengths ≡ []
   room_spare k lengths e = rw e refl
 
   -- Pulls, Joins, and compactions of at least 8 items
