@@ -176,7 +176,7 @@ module _ (A : Type 0) where
       joins-empty more (suc level) (act_on_lengths {A = A} (Join level) work) (omega (arith, e, r.1)) r.0
 
   -- general compress, whatever is in the scratch
-  goes-walk : (k more level : ℕ) (work : Work (List ℕ)) → Goes {A = A} (walk_actions k more level work.bag) work
+  pub goes-walk : (k more level : ℕ) (work : Work (List ℕ)) → Goes {A = A} (walk_actions k more level work.bag) work
   unfolding walk_actions
   goes-walk k zero level work = tt
   goes-walk k (suc more) level work =
