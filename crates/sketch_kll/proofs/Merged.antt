@@ -245,3 +245,76 @@ module _ {A : Type 0} (cmp : A → A → Ordering) (o : IsTotalOrder cmp) where
         bag = r.alike;
         source_is = t.source_is ∙ ap (after_draws next source) (sym r.drawn);
       })
+
+  -- levels with others merged in
+  pub merged_compressed : {S : Type 0} (bit : S → Bool) (next : S → S) (source s1 s2 : S) (k : ℕ) (flag nf : Bool) (ls : List (List A)) (xs : List A) (us ms ns ps : List (List A)) →
+      HaveTaken cmp bit next source s1 k flag nf ls xs ms → SameLevels cmp (joined cmp ms us) ns → 0 < length ls → 0 < length us →
+      SameLevels cmp (walked cmp bit next k nf 61 0 s1 ns) ps → IsCompressed cmp bit next s1 k nf ns ps → s2 ≡ after_draws next s1 (draws_of (compress_of k ns)) →
+      length ps ≤ 61 → retained ps < total_of k 8 (length ps) → UpperSorted cmp ps →
+      HaveMerged cmp bit next source s2 k flag nf ls (xs ∷ us) ps
+  merged_compressed {S} bit next source s1 s2 k flag nf ls xs us ms ns ps t j some upper w c e few below sorted =
+      let r = compress_in bit next source s1 s2 k flag nf ls xs us ms ns ps t j some upper c e in
+      let zw = alike_size cmp (walked cmp bit next k nf 61 0 s1 ns) ps w in
+      let zj = alike_size cmp (joined cmp ms us) ns j in
+      let ww = walked-weight cmp bit next k nf 61 0 s1 ns in
+      let wj = weight-joined cmp ms us t.kept.some in
+      record {
+        kept = record {
+          some = positive ps below;
+          few = few;
+          within = omega (arith, below);
+          sorted = sorted;
+          flag_holds = λ h. first-same (walked cmp bit next k nf 61 0 s1 ns) ps w (walked-first cmp bit next k nf 61 0 s1 ns (first-same (joined cmp ms us) ns j (joined-first ms us (t.kept.flag_holds h))));
+        };
+        bag = r.bag;
+        source_is = r.source_is;
+        weighs = omega (arith, zw.weighs, ww, zj.weighs, wj, t.weighs);
+        flag_is = t.flag_is;
+        one_level = λ a b d. absurd (omega (arith, upper, d));
+        between = λ l g h i.
+            let P : A → Type 0 = λ (y : A). IsFrom cmp l y × IsUpTo cmp g y in
+            let keeps : (x y : A) → cmp x y ≡ Equal → P x → P y = λ x y t q. (from-same o l x y t q.0, up_to-same o g x y t q.1) in
+            let joins = AllItems-same P cmp keeps (joined cmp ms us) ns j (AllItems-joined P cmp ms us (t.between l g (i.0, h)) i.1) in
+            AllItems-same P cmp keeps (walked cmp bit next k nf 61 0 s1 ns) ps w (AllItems-walked P cmp bit next k nf 61 0 s1 ns joins);
+        ties = λ l g h i.
+            let P : A → Type 0 = λ (y : A). Ties cmp y l × Ties cmp y g in
+            let keeps : (x y : A) → cmp x y ≡ Equal → P x → P y = λ x y t q. (ties-same o l x y t q.0, ties-same o g x y t q.1) in
+            let joins = AllItems-same P cmp keeps (joined cmp ms us) ns j (AllItems-joined P cmp ms us (t.ties l g (i.0, h)) i.1) in
+            AllItems-same P cmp keeps (walked cmp bit next k nf 61 0 s1 ns) ps w (AllItems-walked P cmp bit next k nf 61 0 s1 ns joins);
+        below = λ h. below;
+      }
+    where
+      positive : (ps : List (List A)) → retained ps < total_of k 8 (length ps) → 0 < length ps
+      positive [] h = absurd (omega (arith, h))
+      positive (p ∷ ps) h = omega arith
+
+  pub merged_only : {S : Type 0} (bit : S → Bool) (next : S → S) (source s1 : S) (k : ℕ) (flag nf : Bool) (ls : List (List A)) (xs : List A) (us ms : List (List A)) →
+      HaveTaken cmp bit next source s1 k flag nf ls xs ms → length us ≡ 0 → HaveMerged cmp bit next source s1 k flag nf ls (xs ∷ us) ms
+  merged_only bit next source s1 k flag nf ls xs (u ∷ us) ms t e = absurd (omega arith)
+  merged_only bit next source s1 k flag nf ls xs [] ms t e =
+      let r = take_in_only bit next source s1 k flag nf ls xs ms t in
+      record {
+        kept = t.kept;
+        bag = r.bag;
+        source_is = r.source_is;
+        weighs = omega (arith, t.weighs);
+        flag_is = t.flag_is;
+        one_level = λ a b d. t.one_level a (omega (arith, b));
+        between = λ l g h i. t.between l g (i.0, h);
+        ties = λ l g h i. t.ties l g (i.0, h);
+        below = λ h. absurd (omega (arith, h));
+      }
+
+-- the sizes of joined levels
+pub record JoinedSize {A : Type 0} (ms us ns : List (List A)) : Type 0 where
+  pub some : 0 < length ns
+  pub few : length ns ≤ 61
+  pub weighs : weight ns ≡ weight ms + 2 * weight us
+
+pub joined_size : {A : Type 0} (cmp : A → A → Ordering) (ms us ns : List (List A)) → 0 < length ms → length ms ≤ 61 → length us ≤ 60 → SameLevels cmp (joined cmp ms us) ns → JoinedSize ms us ns
+joined_size cmp [] us ns some few less j = absurd (omega arith)
+joined_size cmp (m ∷ ms) us ns some few less j =
+    let z = alike_size cmp (joined cmp (m ∷ ms) us) ns j in
+    let n = length-joined cmp (m ∷ ms) us 61 few (omega arith) in
+    let w = weight-joined cmp (m ∷ ms) us some in
+    record { some = omega (arith, z.counts); few = omega (arith, z.counts, n); weighs = omega (arith, z.weighs, w) }
