@@ -142,10 +142,10 @@ module _ {A : Type 0} (cmp : A → A → Ordering) (o : IsTotalOrder cmp) where
   joined-first [] us h = h
   joined-first (l ∷ ls) us h = h
 
-  alike-refl : (flag : Bool) (ls : List (List A)) → AlikeKll cmp (bag_in flag ls) (bag_in flag ls)
+  pub alike-refl : (flag : Bool) (ls : List (List A)) → AlikeKll cmp (bag_in flag ls) (bag_in flag ls)
   alike-refl flag ls = record { levels = (like-refl cmp o ls).levels; level_zero = (like-refl cmp o ls).zeroth; flag = refl }
 
-  alike-same : (flag : Bool) (ls ms : List (List A)) → SameLevels cmp ls ms → AlikeKll cmp (bag_in flag ls) (bag_in flag ms)
+  pub alike-same : (flag : Bool) (ls ms : List (List A)) → SameLevels cmp ls ms → AlikeKll cmp (bag_in flag ls) (bag_in flag ms)
   alike-same flag ls ms s =
       let l = like_same cmp o ls ls ms (like-refl cmp o ls) s in
       record { levels = l.levels; level_zero = l.zeroth; flag = refl }
