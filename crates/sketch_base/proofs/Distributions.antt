@@ -1,5 +1,5 @@
 -- The distribution over split points never falls and ends at the whole; its differences sum to the whole.
-use Rattle.std.proofs.Common.{◌≡◌, ℕ, zero, suc, ◌+◌, ◌-◌, ◌≤◌, Bool, true, false, cond, List, [], ◌∷◌, ◌++◌, length, map, sum, refl, sym, ap, ◌∙◌, arith, Ordering, Less, Equal, Greater, is_lt, is_le}
+use Rattle.std.proofs.Common.{◌≡◌, ℕ, suc, ◌+◌, ◌-◌, ◌≤◌, Bool, true, false, cond, List, [], ◌∷◌, ◌++◌, length, map, sum, refl, ap, ◌∙◌, arith, Ordering, Less, Equal, Greater, is_lt, is_le}
 use Rattle.std.specs.Prelude.{Some, slice_get}
 use Rattle.std.specs.Cmp.{IsTotalOrder}
 use Rattle.std.specs.List.Sorted.{IsNonDecreasing}

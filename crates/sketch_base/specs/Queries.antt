@@ -7,7 +7,7 @@ use Rattle.std.specs.declared.cmp.Ordering.TheVariants.{Less, Equal}
 use Rattle.sketch_base.specs.declared.common.Rank.{Rank}
 use Rattle.sketch_base.specs.declared.common.SearchCriteria.{SearchCriteria}
 use Rattle.sketch_base.specs.declared.common.SearchCriteria.TheVariants.{Inclusive, Exclusive}
-use Rattle.sketch_base.specs.Query.{counted, true_rank}
+use Rattle.sketch_base.specs.Query.{true_rank}
 
 -- a fraction that no quantile takes: of nothing, or above the whole
 abbrev pub IsBadFraction : Rank → Type 0
