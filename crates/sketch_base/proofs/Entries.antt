@@ -1,14 +1,16 @@
 -- Lists in order that compare equal: they give the same answers, and equal counts make a list the expanded one.
-use Rattle.std.proofs.Common.{◌≡◌, ℕ, zero, suc, ◌+◌, ◌-◌, ◌<◌, ◌++◌, Bool, true, false, List, [], ◌∷◌, length, map, replicate, get_or, refl, sym, ap, ap₂, ◌∙◌, subst, arith, if◌then◌else◌, IsSorted, Ordering, Less, Equal, Greater, is_gt, is_lt}
+use Rattle.std.proofs.Common.{◌≡◌, ℕ, zero, suc, ◌+◌, ◌-◌, ◌<◌, ◌++◌, Bool, true, false, List, [], ◌∷◌, length, map, replicate, get_or, refl, sym, ap, ap₂, ◌∙◌, subst, arith, if◌then◌else◌, IsSorted, Ordering, Less, Equal, Greater, is_gt, is_lt, is_le}
 use Rattle.std.specs.Prelude.{Option, Some, None, slice_get, ◌==◌}
 use Rattle.std.specs.Cmp.{IsTotalOrder}
 use Rattle.std.specs.List.{AllByRecursion}
 use Rattle.std.specs.Ordering.{ordering_reverse}
 use Rattle.std.proofs.lemmas.Bool.{false≢true}
-use Rattle.std.proofs.lemmas.Cmp.{tied_itself}
+use Rattle.std.proofs.lemmas.Cmp.{tied_itself, alike_right}
+use Rattle.std.specs.List.Sorted.{IsPartitionedBy}
 use Rattle.std.proofs.lemmas.List.Elements.{length_all_zip}
 use Rattle.std.proofs.lemmas.List.Sorted.{sorted_far, ranks_by}
 use Rattle.sketch_base.specs.declared.common.SearchCriteria.{SearchCriteria}
+use Rattle.sketch_base.specs.declared.common.SearchCriteria.TheVariants.{Inclusive, Exclusive}
 use Rattle.sketch_base.specs.Bag.{Bag, SameItems, repeated, expanded, weighted_rank}
 use Rattle.sketch_base.specs.Query.{counted, true_rank}
 use Rattle.sketch_base.specs.Queries.{SameAnswer, quantile_in, quantile_place, cdf_of, spread_over}
@@ -100,3 +102,34 @@ module _ {A : Type 0} {cmp : A → A → Ordering} (order : IsTotalOrder cmp) wh
   Ordered-spread_over before [] cumulated up = tt
   Ordered-spread_over before (x ∷ xs) [] up = tt
   Ordered-spread_over before (x ∷ xs) (c ∷ cs) up = ordered-copies x (c - before) (spread_over c xs cs) (above-spread x c xs cs up.0) (Ordered-spread_over c xs cs up.1)
+
+  counted-below : (x z y : A) (criteria : SearchCriteria) → is_gt (cmp x z) ≡ false → counted cmp y criteria z ≡ true → counted cmp y criteria x ≡ true
+  counted-below x z y Inclusive le h = go (cmp x z) refl le
+    where
+      go : (o : Ordering) → cmp x z ≡ o → is_gt o ≡ false → is_le (cmp x y) ≡ true
+      go Less e le = through (cmp z y) refl h
+        where
+          through : (o : Ordering) → cmp z y ≡ o → is_le o ≡ true → is_le (cmp x y) ≡ true
+          through Less f h = ap is_le (order.trans x z y e f)
+          through Equal f h = ap is_le (sym (alike_right order z y x f) ∙ e)
+          through Greater f h = absurd (false≢true h)
+      go Equal e le = ap is_le (order.congr x z y e) ∙ h
+      go Greater e le = absurd (false≢true (sym le))
+  counted-below x z y Exclusive le h = go (cmp x z) refl le
+    where
+      go : (o : Ordering) → cmp x z ≡ o → is_gt o ≡ false → is_lt (cmp x y) ≡ true
+      go Less e le = through (cmp z y) refl h
+        where
+          through : (o : Ordering) → cmp z y ≡ o → is_lt o ≡ true → is_lt (cmp x y) ≡ true
+          through Less f h = ap is_lt (order.trans x z y e f)
+          through Equal f h = absurd (false≢true h)
+          through Greater f h = absurd (false≢true h)
+      go Equal e le = ap is_lt (order.congr x z y e) ∙ h
+      go Greater e le = absurd (false≢true (sym le))
+
+  -- a query counts a front of items in order
+  pub counted-parted : (xs : List A) (y : A) (criteria : SearchCriteria) → IsSorted cmp xs → IsPartitionedBy (counted cmp y criteria) xs
+  counted-parted xs y criteria up i j d le l h =
+      counted-below (get_or xs i d) (get_or xs j d) y criteria
+      (not-above (cmp (get_or xs j d) (get_or xs i d)) (cmp (get_or xs i d) (get_or xs j d)) (order.antisymm (get_or xs j d) (get_or xs i d))
+          (sorted_far (λ a b. is_lt (cmp a b)) (ranks_by order (λ (a : A). a)) xs up i j d le l)) h
