@@ -1,5 +1,5 @@
 -- The distribution over split points never falls and ends at the whole; its differences sum to the whole.
-use Rattle.std.proofs.Common.{◌≡◌, ℕ, suc, ◌+◌, ◌-◌, ◌≤◌, Bool, true, false, cond, List, [], ◌∷◌, ◌++◌, length, map, sum, refl, ap, ◌∙◌, arith, Ordering, Less, Equal, Greater, is_lt, is_le}
+use Rattle.std.proofs.Common.{◌≡◌, ℕ, suc, ◌+◌, ◌-◌, ◌<◌, ◌≤◌, Bool, true, false, cond, List, [], ◌∷◌, ◌++◌, length, map, take, drop, get_or, sum, refl, sym, ap, ◌∙◌, arith, Ordering, Less, Equal, Greater, is_lt, is_le}
 use Rattle.std.specs.Prelude.{Some, slice_get}
 use Rattle.std.specs.Cmp.{IsTotalOrder}
 use Rattle.std.specs.List.Sorted.{IsNonDecreasing}
@@ -8,7 +8,9 @@ use Rattle.std.proofs.lemmas.List.Sums.{sum_by-cons, sum_by-le-sum_by, count_by-
 use Rattle.sketch_base.specs.declared.common.SearchCriteria.{SearchCriteria}
 use Rattle.sketch_base.specs.declared.common.SearchCriteria.TheVariants.{Inclusive, Exclusive}
 use Rattle.sketch_base.specs.Query.{counted, true_rank}
-use Rattle.sketch_base.specs.Queries.{IsIncreasing, cdf_of, pmf_of, differences}
+use Rattle.sketch_base.specs.declared.common.Rank.{Rank}
+use Rattle.sketch_base.specs.Queries.{IsIncreasing, cdf_of, pmf_of, differences, ranks_of, rank_differences}
+use Rattle.std.proofs.lemmas.List.{take_more, take_all, take_at, map_push}
 use Rattle.sketch_base.proofs.Rises.{Rises, non_decreasing_from_rises}
 
 sum-differences : (before : ℕ) (ns : List ℕ) (n : ℕ) → Rises before (ns ++ n ∷ []) → sum (differences before (ns ++ n ∷ [])) + before ≡ n
@@ -67,3 +69,35 @@ module _ {A : Type 0} {cmp : A → A → Ordering} (order : IsTotalOrder cmp) wh
 
   pub cdf-last : (criteria : SearchCriteria) (entries points : List A) → slice_get (cdf_of cmp criteria entries points) (length points) ≡ Some (length entries)
   cdf-last criteria entries points = last-entry (λ y. true_rank cmp y criteria entries) points (length entries)
+
+-- ranks of weights: one more, and as differences
+pub weights-ranks_of : (n : ℕ) (weights : List ℕ) → map (λ (r : Rank). r.weight) (ranks_of n weights) ≡ weights
+weights-ranks_of n [] = refl
+weights-ranks_of n (w ∷ ws) = ap (λ l. w ∷ l) (weights-ranks_of n ws)
+
+pub ranks-more : {A : Type 0} (f : A → ℕ) (n : ℕ) (points : List A) (i w : ℕ) (y : A) (ranks new : List Rank) → i < length points → ranks ≡ ranks_of n (map f (take i points)) → y ≡ get_or points i y → w ≡ f y → new ≡ ranks ++ record { weight = w; total = n } ∷ [] → new ≡ ranks_of n (map f (take (i + 1) points))
+ranks-more f n points i w y ranks new l so_far at count e =
+    let one : ℕ → Rank = λ weight. record { weight = weight; total = n } in
+    let grown : take (i + 1) points ≡ take i points ++ y ∷ [] = take_more points i y l ∙ ap (λ z. take i points ++ z ∷ []) (sym at) in
+    let mapped : map f (take (i + 1) points) ≡ map f (take i points) ++ w ∷ [] = ap (map f) grown ∙ (map_push f (take i points) y ∙ ap (λ v. map f (take i points) ++ v ∷ []) (sym count)) in
+    e ∙ (ap (λ l. l ++ one w ∷ []) so_far ∙ (sym (map_push one (map f (take i points)) w) ∙ ap (ranks_of n) (sym mapped)))
+
+pub ranks-last : {A : Type 0} (f : A → ℕ) (n : ℕ) (points : List A) (i : ℕ) (ranks new : List Rank) → length points ≤ i → ranks ≡ ranks_of n (map f (take i points)) → new ≡ ranks ++ record { weight = n; total = n } ∷ [] → new ≡ ranks_of n (map f points ++ n ∷ [])
+ranks-last f n points i ranks new l so_far e =
+    let one : ℕ → Rank = λ weight. record { weight = weight; total = n } in
+    e ∙ (ap (λ l. l ++ one n ∷ []) (so_far ∙ ap (λ l. ranks_of n (map f l)) (take_all i points l)) ∙ sym (map_push one (map f points) n))
+
+rank_differences-ranks_of : (n before : ℕ) (weights : List ℕ) → rank_differences before (ranks_of n weights) ≡ ranks_of n (differences before weights)
+rank_differences-ranks_of n before [] = refl
+rank_differences-ranks_of n before (w ∷ ws) = ap (λ l. record { weight = w - before; total = n } ∷ l) (rank_differences-ranks_of n w ws)
+
+length-rank_differences : (before : ℕ) (ranks : List Rank) → length (rank_differences before ranks) ≡ length ranks
+length-rank_differences before [] = refl
+length-rank_differences before (r ∷ rs) = ap suc (length-rank_differences r.weight rs)
+
+-- what is left in a vector whose ranks became differences
+pub differences-left : (n len : ℕ) (weights : List ℕ) (items lent new : List Rank) → items ≡ ranks_of n weights → lent ≡ items → new ≡ rank_differences 0 lent → len ≡ length items → take len (new ++ drop (length new) items) ≡ ranks_of n (differences 0 weights)
+differences-left n len weights items lent new e same made k =
+    let new_is : new ≡ rank_differences 0 items = made ∙ ap (rank_differences 0) same in
+    let long : length new ≡ len = ap length new_is ∙ (length-rank_differences 0 items ∙ sym k) in
+    take_at new (drop (length new) items) len long ∙ (new_is ∙ (ap (rank_differences 0) e ∙ rank_differences-ranks_of n 0 weights))

@@ -9,9 +9,9 @@ use Rattle.sketch_base.specs.declared.common.SearchCriteria.{SearchCriteria}
 use Rattle.sketch_base.specs.declared.common.SearchCriteria.TheVariants.{Inclusive, Exclusive}
 use Rattle.sketch_base.specs.Query.{true_rank}
 
--- a fraction that no quantile takes: of nothing, or above the whole
-abbrev pub IsBadFraction : Rank → Type 0
-IsBadFraction fraction = (fraction.total ≡ 0) ⊎ (fraction.total < fraction.weight)
+-- a fraction that a quantile takes: of something, and not above the whole
+abbrev pub IsFraction : Rank → Type 0
+IsFraction fraction = (0 < fraction.total) × (fraction.weight ≤ fraction.total)
 
 -- the place, counted from 0, of the quantile a/b among n entries, for 0 < a < b
 abbrev pub quantile_place : ℕ → ℕ → ℕ → SearchCriteria → ℕ
@@ -48,6 +48,15 @@ differences before (n ∷ ns) = (n - before) ∷ differences n ns
 -- how many entries lie between the split points: the first rank, and then the differences
 abbrev pub pmf_of : {A : Type 0} → (A → A → Ordering) → SearchCriteria → List A → List A → List ℕ
 pmf_of cmp criteria entries points = differences 0 (cdf_of cmp criteria entries points)
+
+-- ranks of these weights out of a whole
+abbrev pub ranks_of : ℕ → List ℕ → List Rank
+ranks_of total weights = map (λ weight. record { weight = weight; total = total }) weights
+
+-- ranks of the differences of weights, the first from a start
+abbrev pub rank_differences : ℕ → List Rank → List Rank
+rank_differences before [] = []
+rank_differences before (r ∷ rs) = record { weight = r.weight - before; total = r.total } ∷ rank_differences r.weight rs
 
 -- each item as often as its cumulated weight is above that of the item before it, the first above a start
 abbrev pub spread_over : {A : Type 0} → ℕ → List A → List ℕ → List A

@@ -1,18 +1,20 @@
 //! What views of both families share: tests of arguments, and the entries that items in order with cumulated weights
 //! stand for.
-ghost use Rattle.std.specs.Prelude.{◌≡◌, ◌+◌, ◌-◌, ◌*◌, ◌/◌, ◌<◌, ◌≤◌, ◌↔◌, ◌^◌, nat_le, length, IsErrOf, IfErr, IsSorted, slice_get, option_copied};
-ghost use Rattle.std.specs.List.{Any};
+ghost use Rattle.std.specs.Prelude.{◌≡◌, ◌+◌, ◌-◌, ◌*◌, ◌/◌, ◌<◌, ◌≤◌, ◌^◌, nat_le, length, map, OnOk, OnErr, IfOk, IfErr, IsSorted, slice_get, option_copied};
+ghost use Rattle.std.specs.List.{All};
 ghost use Rattle.std.specs.List.Sorted.{IsNonDecreasing};
 ghost use Rattle.sketch_base.specs.declared.error.ErrorKind.TheVariants.{InvalidArgument};
 ghost use Rattle.sketch_base.specs.Query.{counted, true_rank};
-ghost use Rattle.sketch_base.specs.Queries.{AreCumulated, IsBadFraction, IsIncreasing, Parts, quantile_place, spread_out, weight_before};
+ghost use Rattle.sketch_base.specs.Queries.{AreCumulated, IsFraction, IsIncreasing, Parts, cdf_of, pmf_of, quantile_in, quantile_place, rank_differences, ranks_of, spread_out, weight_before};
 
 use crate::common::{Rank, SearchCriteria};
 use crate::error::{Error, ErrorKind};
+use std::alloc::{AllocError, Global};
 
 /// Refuses a fraction of nothing, and one above the whole.
 pub fn check_fraction(fraction: Rank) -> Result<(), Error>
-    ensures bad { IsErrOf result InvalidArgument ↔ IsBadFraction fraction }
+    ensures good { OnOk result (IsFraction fraction) }
+    ensures bad { OnErr result (¬ (IsFraction fraction)) }
     ensures kind { IfErr result (λ e. e ≡ InvalidArgument) }
 {
     if fraction.total == 0 || fraction.total < fraction.weight {
@@ -23,7 +25,8 @@ pub fn check_fraction(fraction: Rank) -> Result<(), Error>
 
 /// Refuses fractions of which one is of nothing or above the whole.
 pub fn check_fractions(fractions: &[Rank]) -> Result<(), Error>
-    ensures bad { IsErrOf result InvalidArgument ↔ Any IsBadFraction fractions.now }
+    ensures good { OnOk result (All IsFraction fractions.now) }
+    ensures bad { OnErr result (¬ (All IsFraction fractions.now)) }
     ensures kind { IfErr result (λ e. e ≡ InvalidArgument) }
 {
     for fraction in fractions {
@@ -34,7 +37,8 @@ pub fn check_fractions(fractions: &[Rank]) -> Result<(), Error>
 
 /// Refuses split points that do not strictly increase.
 pub fn check_points<T: Ord>(points: &[T]) -> Result<(), Error>
-    ensures bad { IsErrOf result InvalidArgument ↔ ¬ (IsIncreasing T.cmp points.now) }
+    ensures good { OnOk result (IsIncreasing T.cmp points.now) }
+    ensures bad { OnErr result (¬ (IsIncreasing T.cmp points.now)) }
     ensures kind { IfErr result (λ e. e ≡ InvalidArgument) }
 {
     for i in 1..points.len() {
@@ -114,4 +118,86 @@ pub fn entry_at<'a, T>(items: &'a [T], cumulated: &[u64], place: u64) -> Option<
     ensures { option_copied result ≡ slice_get (spread_out items.now cumulated.now) place }
 {
     items.get(items_before(cumulated, place))
+}
+
+/// The quantile of a fraction, where the entries' stream has these extremes.
+pub fn quantile_among<'a, T>(
+    items: &'a [T],
+    cumulated: &[u64],
+    least: &'a Option<T>,
+    greatest: &'a Option<T>,
+    fraction: Rank,
+    criteria: SearchCriteria,
+) -> Option<&'a T>
+    requires cumulated { AreCumulated items.now cumulated.now }
+    requires fraction { IsFraction fraction }
+    ensures { option_copied result ≡ quantile_in (spread_out items.now cumulated.now) least.now greatest.now fraction.weight fraction.total criteria }
+{
+    if fraction.weight == 0 {
+        return least.as_ref();
+    }
+    if fraction.weight == fraction.total {
+        return greatest.as_ref();
+    }
+    let entries = entries_of(items, cumulated);
+    if entries == 0 {
+        return None;
+    }
+    entry_at(items, cumulated, place_of(fraction, entries, criteria))
+}
+
+/// The ranks of split points among the entries, and last the whole.
+pub fn cdf_among<T: Ord>(
+    alloc: Global,
+    items: &[T],
+    cumulated: &[u64],
+    points: &[T],
+    criteria: SearchCriteria,
+) -> Result<Vec<Rank>, AllocError>
+    requires cumulated { AreCumulated items.now cumulated.now }
+    requires sorted { IsSorted T.cmp items.now }
+    ensures { let entries = spread_out items.now cumulated.now in IfOk result (λ ranks. ranks.items ≡ ranks_of (length entries) (cdf_of T.cmp criteria entries points.now)) }
+{
+    let total = entries_of(items, cumulated);
+    let mut ranks = Vec::with_capacity(alloc, points.len().saturating_add(1))?;
+    for point in points {
+        let weight = rank_among(items, cumulated, point, criteria);
+        ranks.push(Rank { weight, total })?;
+    }
+    ranks.push(Rank {
+        weight: total,
+        total,
+    })?;
+    Ok(ranks)
+}
+
+/// Makes of ranks that never fall the first and then the differences.
+fn take_differences(ranks: &mut [Rank])
+    requires { IsNonDecreasing (map (λ (r : Rank). r.weight) ranks.old) }
+    ensures { ranks.new ≡ rank_differences 0 ranks.old }
+{
+    let mut before = 0;
+    for i in 0..ranks.len() {
+        let weight = ranks[i].weight;
+        ranks[i].weight = weight - before;
+        before = weight;
+    }
+}
+
+/// How many entries lie between split points that strictly increase: the first rank, and then the differences.
+pub fn pmf_among<T: Ord>(
+    alloc: Global,
+    items: &[T],
+    cumulated: &[u64],
+    points: &[T],
+    criteria: SearchCriteria,
+) -> Result<Vec<Rank>, AllocError>
+    requires cumulated { AreCumulated items.now cumulated.now }
+    requires sorted { IsSorted T.cmp items.now }
+    requires increasing { IsIncreasing T.cmp points.now }
+    ensures { let entries = spread_out items.now cumulated.now in IfOk result (λ ranks. ranks.items ≡ ranks_of (length entries) (pmf_of T.cmp criteria entries points.now)) }
+{
+    let mut ranks = cdf_among(alloc, items, cumulated, points, criteria)?;
+    take_differences(ranks.as_mut_slice());
+    Ok(ranks)
 }

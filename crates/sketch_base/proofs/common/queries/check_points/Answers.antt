@@ -15,5 +15,5 @@ loop-i-preserved g c =
       (pair_read c.args.points.now (λ x y. g.T.Ord.cmp x y ≡ Less) (c.loop-i.i - 1) c.loop-i.i c.index-points-i.result c.index-points-i-in-loop-i.result (omega arith) (omega arith) c.index-points-i.is c.index-points-i-in-loop-i.is less),
     )
 
-pub returns-clause-bad : goal.returns-clause-bad
-returns-clause-bad g c = (λ h. cc, λ bad. absurd (bad (λ k d l. c.loop-i.invariant.1 k d (omega arith))))
+pub returns-clause-good : goal.returns-clause-good
+returns-clause-good g c = λ k d l. c.loop-i.invariant.1 k d (omega arith)
