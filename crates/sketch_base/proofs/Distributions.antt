@@ -1,5 +1,5 @@
 -- The distribution over split points never falls and ends at the whole; its differences sum to the whole.
-use Rattle.std.proofs.Common.{◌≡◌, ℕ, suc, ◌+◌, ◌-◌, ◌<◌, ◌≤◌, Bool, true, false, cond, List, [], ◌∷◌, ◌++◌, length, map, take, drop, get_or, sum, refl, sym, ap, ◌∙◌, arith, Ordering, Less, Equal, Greater, is_lt, is_le}
+use Rattle.std.proofs.Common.{◌≡◌, ℕ, suc, ◌+◌, ◌-◌, ◌<◌, ◌≤◌, Bool, true, false, cond, List, [], ◌∷◌, ◌++◌, length, map, take, drop, get_or, sum, sum_by, refl, sym, ap, subst, ◌∙◌, arith, Ordering, Less, Equal, Greater, is_lt, is_le}
 use Rattle.std.specs.Prelude.{Some, slice_get}
 use Rattle.std.specs.Cmp.{IsTotalOrder}
 use Rattle.std.specs.List.Sorted.{IsNonDecreasing}
@@ -101,3 +101,19 @@ differences-left n len weights items lent new e same made k =
     let new_is : new ≡ rank_differences 0 items = made ∙ ap (rank_differences 0) same in
     let long : length new ≡ len = ap length new_is ∙ (length-rank_differences 0 items ∙ sym k) in
     take_at new (drop (length new) items) len long ∙ (new_is ∙ (ap (rank_differences 0) e ∙ rank_differences-ranks_of n 0 weights))
+
+sum-ranks_of : (n : ℕ) (weights : List ℕ) → sum_by (λ (r : Rank). r.weight) (ranks_of n weights) ≡ sum weights
+sum-ranks_of n [] = refl
+sum-ranks_of n (w ∷ ws) =
+    let weigh : Rank → ℕ = λ r. r.weight in
+    omega (arith, sum_by-cons weigh (record { weight = w; total = n }) (ranks_of n ws), sum_by-cons (λ (x : ℕ). x) w ws, sum-ranks_of n ws)
+
+module _ {A : Type 0} {cmp : A → A → Ordering} (order : IsTotalOrder cmp) where
+  pub ranks-rise : (criteria : SearchCriteria) (entries points : List A) (ranks : List Rank) → IsIncreasing cmp points → ranks ≡ ranks_of (length entries) (cdf_of cmp criteria entries points) → IsNonDecreasing (map (λ (r : Rank). r.weight) ranks)
+  ranks-rise criteria entries points ranks up e =
+      let weights = ap (λ (l : List Rank). map (λ (r : Rank). r.weight) l) e ∙ weights-ranks_of (length entries) (cdf_of cmp criteria entries points) in
+      subst (λ l. IsNonDecreasing l) (sym weights) (cdf-non_decreasing order criteria entries points up)
+
+  pub ranks-sum : (criteria : SearchCriteria) (entries points : List A) (ranks : List Rank) → IsIncreasing cmp points → ranks ≡ ranks_of (length entries) (pmf_of cmp criteria entries points) → sum_by (λ (r : Rank). r.weight) ranks ≡ length entries
+  ranks-sum criteria entries points ranks up e =
+      ap (λ (l : List Rank). sum_by (λ (r : Rank). r.weight) l) e ∙ (sum-ranks_of (length entries) (pmf_of cmp criteria entries points) ∙ pmf-sums order criteria entries points up)

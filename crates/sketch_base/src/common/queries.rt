@@ -1,6 +1,6 @@
 //! What views of both families share: tests of arguments, and the entries that items in order with cumulated weights
 //! stand for.
-ghost use Rattle.std.specs.Prelude.{◌≡◌, ◌+◌, ◌-◌, ◌*◌, ◌/◌, ◌<◌, ◌≤◌, ◌^◌, nat_le, length, map, OnOk, OnErr, IfOk, IfErr, IsSorted, slice_get, option_copied};
+ghost use Rattle.std.specs.Prelude.{◌≡◌, ◌+◌, ◌-◌, ◌*◌, ◌/◌, ◌<◌, ◌≤◌, ◌^◌, nat_le, length, map, sum_by, OnOk, OnErr, IfOk, IfErr, IsSorted, slice_get, option_copied};
 ghost use Rattle.std.specs.List.{All};
 ghost use Rattle.std.specs.List.Sorted.{IsNonDecreasing};
 ghost use Rattle.sketch_base.specs.declared.error.ErrorKind.TheVariants.{InvalidArgument};
@@ -146,7 +146,7 @@ pub fn quantile_among<'a, T>(
     entry_at(items, cumulated, place_of(fraction, entries, criteria))
 }
 
-/// The ranks of split points among the entries, and last the whole.
+/// The ranks of split points that strictly increase, and last the whole.
 pub fn cdf_among<T: Ord>(
     alloc: Global,
     items: &[T],
@@ -156,7 +156,9 @@ pub fn cdf_among<T: Ord>(
 ) -> Result<Vec<Rank>, AllocError>
     requires cumulated { AreCumulated items.now cumulated.now }
     requires sorted { IsSorted T.cmp items.now }
-    ensures { let entries = spread_out items.now cumulated.now in IfOk result (λ ranks. ranks.items ≡ ranks_of (length entries) (cdf_of T.cmp criteria entries points.now)) }
+    requires increasing { IsIncreasing T.cmp points.now }
+    ensures ranks { let entries = spread_out items.now cumulated.now in IfOk result (λ ranks. ranks.items ≡ ranks_of (length entries) (cdf_of T.cmp criteria entries points.now)) }
+    ensures rises { IfOk result (λ ranks. IsNonDecreasing (map (λ (r : Rank). r.weight) ranks.items)) }
 {
     let total = entries_of(items, cumulated);
     let mut ranks = Vec::with_capacity(alloc, points.len().saturating_add(1))?;
@@ -195,7 +197,8 @@ pub fn pmf_among<T: Ord>(
     requires cumulated { AreCumulated items.now cumulated.now }
     requires sorted { IsSorted T.cmp items.now }
     requires increasing { IsIncreasing T.cmp points.now }
-    ensures { let entries = spread_out items.now cumulated.now in IfOk result (λ ranks. ranks.items ≡ ranks_of (length entries) (pmf_of T.cmp criteria entries points.now)) }
+    ensures ranks { let entries = spread_out items.now cumulated.now in IfOk result (λ ranks. ranks.items ≡ ranks_of (length entries) (pmf_of T.cmp criteria entries points.now)) }
+    ensures sums { IfOk result (λ ranks. sum_by (λ (r : Rank). r.weight) ranks.items ≡ length (spread_out items.now cumulated.now)) }
 {
     let mut ranks = cdf_among(alloc, items, cumulated, points, criteria)?;
     take_differences(ranks.as_mut_slice());
