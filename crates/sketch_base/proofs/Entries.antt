@@ -1,10 +1,11 @@
 -- Lists in order that compare equal: they give the same answers, and equal counts make a list the expanded one.
-use Rattle.std.proofs.Common.{◌≡◌, ℕ, zero, suc, ◌+◌, ◌-◌, ◌<◌, ◌++◌, Bool, true, false, List, [], ◌∷◌, length, map, replicate, get_or, refl, sym, ap, ap₂, ◌∙◌, subst, arith, if◌then◌else◌, IsSorted, Ordering, Less, Equal, Greater, is_gt, is_lt, is_le}
+use Rattle.std.proofs.Common.{◌≡◌, ℕ, zero, suc, ◌+◌, ◌-◌, ◌<◌, ◌++◌, Bool, true, false, List, [], ◌∷◌, length, map, take, replicate, get_or, refl, sym, ap, ap₂, ◌∙◌, subst, arith, if◌then◌else◌, IsSorted, Ordering, Less, Equal, Greater, is_gt, is_lt, is_le}
 use Rattle.std.specs.Prelude.{Option, Some, None, slice_get, ◌==◌}
 use Rattle.std.specs.Cmp.{IsTotalOrder}
 use Rattle.std.specs.List.{AllByRecursion, AllZip}
 use Rattle.std.specs.Ordering.{ordering_reverse}
 use Rattle.std.proofs.lemmas.Bool.{false≢true}
+use Rattle.std.proofs.lemmas.List.{take_more}
 use Rattle.std.proofs.lemmas.Cmp.{tied_itself, alike_right}
 use Rattle.std.specs.List.Sorted.{IsPartitionedBy}
 use Rattle.std.proofs.lemmas.List.Elements.{length_all_zip, AllZip-get_or}
@@ -169,3 +170,7 @@ module _ {A : Type 0} {cmp : A → A → Ordering} (order : IsTotalOrder cmp) wh
       let same : cmp (get_or xs (k + 1) d) (get_or xs k d) ≡ cmp (get_or ys (k + 1) d) (get_or ys k d) =
       order.congr (get_or xs (k + 1) d) (get_or ys (k + 1) d) (get_or xs k d) two ∙ alike_right order (get_or xs k d) (get_or ys k d) (get_or ys (k + 1) d) one in
       sym (ap is_lt same) ∙ up k d l within
+
+pub zip-more : {A B : Type 0} (R : A → B → Type 0) (xs : List A) (i : ℕ) (d : A) (ys new : List B) (y : B) → R (get_or xs i d) y → i < length xs → AllZip R (take i xs) ys → new ≡ ys ++ y ∷ [] → AllZip R (take (i + 1) xs) new
+zip-more R xs i d ys new y here l so_far e =
+    subst (λ zs. AllZip R (take (i + 1) xs) zs) (sym e) (subst (λ zs. AllZip R zs (ys ++ y ∷ [])) (sym (take_more xs i d l)) (zip-push R (take i xs) ys (get_or xs i d) y so_far here))
