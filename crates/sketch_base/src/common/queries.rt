@@ -1,8 +1,9 @@
 //! What views of both families share: tests of arguments, and the entries that items in order with cumulated weights
 //! stand for.
-ghost use Rattle.std.specs.Prelude.{◌≡◌, ◌+◌, ◌-◌, ◌*◌, ◌/◌, ◌<◌, ◌≤◌, ◌^◌, nat_le, length, map, sum_by, OnOk, OnErr, IfOk, IfErr, IsSorted, slice_get, option_copied};
+ghost use Rattle.std.specs.Prelude.{◌≡◌, ◌+◌, ◌-◌, ◌*◌, ◌/◌, ◌<◌, ◌≤◌, ◌↔◌, ◌^◌, nat_le, length, IsTrue, map, sum_by, OnOk, OnErr, IfOk, IfErr, IsSorted, slice_get, option_copied};
 ghost use Rattle.std.specs.List.{All};
 ghost use Rattle.std.specs.List.Sorted.{IsNonDecreasing};
+ghost use Rattle.std.specs.declared.cmp.Ordering.TheVariants.{Less};
 ghost use Rattle.sketch_base.specs.declared.error.ErrorKind.TheVariants.{InvalidArgument};
 ghost use Rattle.sketch_base.specs.Query.{counted, true_rank};
 ghost use Rattle.sketch_base.specs.Queries.{AreCumulated, IsFraction, IsIncreasing, Parts, cdf_of, pmf_of, quantile_in, quantile_place, rank_differences, ranks_of, spread_out, weight_before};
@@ -35,6 +36,13 @@ pub fn check_fractions(fractions: &[Rank]) -> Result<(), Error>
     Ok(())
 }
 
+// Whether an item is below another.
+fn is_below<T: Ord>(item: &T, other: &T) -> bool
+    ensures { IsTrue result ↔ (T.cmp item.now other.now ≡ Less) }
+{
+    item.cmp(other).is_lt()
+}
+
 /// Refuses split points that do not strictly increase.
 pub fn check_points<T: Ord>(points: &[T]) -> Result<(), Error>
     ensures good { OnOk result (IsIncreasing T.cmp points.now) }
@@ -42,7 +50,7 @@ pub fn check_points<T: Ord>(points: &[T]) -> Result<(), Error>
     ensures kind { IfErr result (λ e. e ≡ InvalidArgument) }
 {
     for i in 1..points.len() {
-        if !points[i - 1].cmp(&points[i]).is_lt() {
+        if !is_below(&points[i - 1], &points[i]) {
             return Err(Error::new(ErrorKind::InvalidArgument));
         }
     }
@@ -166,10 +174,8 @@ pub fn cdf_among<T: Ord>(
         let weight = rank_among(items, cumulated, point, criteria);
         ranks.push(Rank { weight, total })?;
     }
-    ranks.push(Rank {
-        weight: total,
-        total,
-    })?;
+    let whole = Rank { weight: total, total };
+    ranks.push(whole)?;
     Ok(ranks)
 }
 
