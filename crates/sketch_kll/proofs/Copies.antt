@@ -121,15 +121,15 @@ module _ {A : Type 0} (E : A → A → Bool) where
   levels-equal items items' bounds bounds' f f' =
       both_ways (pointwise nat_eq bounds bounds' && pointwise E items items') (pointwise (pointwise E) (levels_in items bounds) (levels_in items' bounds'))
       (λ h.
-          let parts = and_parts (pointwise nat_eq bounds bounds') (pointwise E items items') h in
-          to-levels (levels_in items bounds) (levels_in items' bounds') (f.bounds_are ∙ (same_text bounds bounds' (sym parts.0) ∙ sym f'.bounds_are))
-          (ap₂ (λ xs ys. pointwise E xs ys) f.items_are f'.items_are ∙ parts.1))
+      let parts = and_parts (pointwise nat_eq bounds bounds') (pointwise E items items') h in
+      to-levels (levels_in items bounds) (levels_in items' bounds') (f.bounds_are ∙ (same_text bounds bounds' (sym parts.0) ∙ sym f'.bounds_are))
+      (ap₂ (λ xs ys. pointwise E xs ys) f.items_are f'.items_are ∙ parts.1))
       (λ h.
-          let parts = from-levels (levels_in items bounds) (levels_in items' bounds') h in
-          let same : bounds ≡ bounds' = sym f.bounds_are ∙ (parts.0 ∙ f'.bounds_are) in
-          both-true (pointwise nat_eq bounds bounds') (pointwise E items items')
-          (subst (λ bs. pointwise nat_eq bounds bs ≡ true) same (nat_list_eq_equiv.refl bounds))
-          (sym (ap₂ (λ xs ys. pointwise E xs ys) f.items_are f'.items_are) ∙ parts.1))
+      let parts = from-levels (levels_in items bounds) (levels_in items' bounds') h in
+      let same : bounds ≡ bounds' = sym f.bounds_are ∙ (parts.0 ∙ f'.bounds_are) in
+      both-true (pointwise nat_eq bounds bounds') (pointwise E items items')
+      (subst (λ bs. pointwise nat_eq bounds bs ≡ true) same (nat_list_eq_equiv.refl bounds))
+      (sym (ap₂ (λ xs ys. pointwise E xs ys) f.items_are f'.items_are) ∙ parts.1))
 
 -- what every sketch keeps, kept by a copy of clones
 module _ {A : Type 0} {cmp : A → A → Ordering} (order : IsTotalOrder cmp) where

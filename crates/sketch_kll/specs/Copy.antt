@@ -35,10 +35,10 @@ same_sketch eq s t =
 pub same_sketch_equiv : {A : Type 0} {eq : A → A → Bool} → IsEquivalence eq → IsEquivalence (same_sketch eq)
 same_sketch_equiv e =
     and_equiv (and_equiv (and_equiv (and_equiv (and_equiv (and_equiv
-        (on_equiv (λ s. s.k) nat_eq_equiv)
-        (on_equiv (λ s. s.min_k) nat_eq_equiv))
-        (on_equiv (λ s. s.n) nat_eq_equiv))
-        (on_equiv (λ s. s.is_sorted) bool_eq_equiv))
-        (on_equiv (λ s. s.levels) (lists_equiv (lists_equiv e))))
-        (on_equiv (λ s. s.least) (options_equiv e)))
-        (on_equiv (λ s. s.greatest) (options_equiv e))
+    (on_equiv (λ s. s.k) nat_eq_equiv)
+    (on_equiv (λ s. s.min_k) nat_eq_equiv))
+    (on_equiv (λ s. s.n) nat_eq_equiv))
+    (on_equiv (λ s. s.is_sorted) bool_eq_equiv))
+    (on_equiv (λ s. s.levels) (lists_equiv (lists_equiv e))))
+    (on_equiv (λ s. s.least) (options_equiv e)))
+    (on_equiv (λ s. s.greatest) (options_equiv e))

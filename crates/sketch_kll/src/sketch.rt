@@ -21,9 +21,9 @@ mod queries;
 
 use crate::capacity::{MINIMUM_CAPACITY, level_capacity, total_capacity};
 use crate::compaction::compact_level;
+use sketch_base::common::random::RandomBits;
 use sketch_base::common::{Rank, SearchCriteria};
 use sketch_base::error::{Error, ErrorKind};
-use sketch_base::common::random::RandomBits;
 use std::alloc::{AllocError, Global};
 use std::marker::Model;
 

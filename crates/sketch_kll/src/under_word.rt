@@ -8,8 +8,8 @@ ghost use Rattle.sketch_kll.specs.Schedule.{updates_trace};
 
 use crate::sketch::KllSketch;
 use sketch_base::common::SearchCriteria;
-use sketch_base::error::Error;
 use sketch_base::common::random::WordBits;
+use sketch_base::error::Error;
 use std::alloc::Global;
 
 /// The weight that a query counts in the sketch of a list, under a word of coins that is long enough.

@@ -12,8 +12,8 @@ ghost use Rattle.sketch_kll.specs.Sketch.{bag_of};
 
 use crate::sketch::KllSketch;
 use crate::sorted_view::{SortedView, build_sorted_view, clone_found};
-use sketch_base::common::{Rank, SearchCriteria};
 use sketch_base::common::queries::{check_fraction, check_fractions, check_points};
+use sketch_base::common::{Rank, SearchCriteria};
 use sketch_base::error::Error;
 use std::alloc::{AllocError, Global};
 
@@ -83,11 +83,7 @@ impl<T: Clone + Ord> KllSketch<T> {
     }
 
     /// The rank of each split point, and last the whole; None for an empty sketch.
-    pub fn cdf(
-        &self,
-        points: &[T],
-        criteria: SearchCriteria,
-    ) -> Result<Option<Vec<Rank>>, Error>
+    pub fn cdf(&self, points: &[T], criteria: SearchCriteria) -> Result<Option<Vec<Rank>>, Error>
         requires clones { (x y : T) → T.is_clone x y → T.cmp x y ≡ Equal }
         ensures found { let s = self.now in IfOk result (λ found. IfSome found (λ ranks. ranks.items ≡ ranks_of s.n (cdf_of T.cmp criteria (expanded T.cmp (bag_of s)) points.now))) }
         ensures rises { IfOk result (λ found. IfSome found (λ ranks. IsNonDecreasing (map (λ (r : Rank). r.weight) ranks.items))) }
@@ -103,11 +99,7 @@ impl<T: Clone + Ord> KllSketch<T> {
     }
 
     /// How much lies between the split points; None for an empty sketch.
-    pub fn pmf(
-        &self,
-        points: &[T],
-        criteria: SearchCriteria,
-    ) -> Result<Option<Vec<Rank>>, Error>
+    pub fn pmf(&self, points: &[T], criteria: SearchCriteria) -> Result<Option<Vec<Rank>>, Error>
         requires clones { (x y : T) → T.is_clone x y → T.cmp x y ≡ Equal }
         ensures found { let s = self.now in IfOk result (λ found. IfSome found (λ ranks. ranks.items ≡ ranks_of s.n (pmf_of T.cmp criteria (expanded T.cmp (bag_of s)) points.now))) }
         ensures sums { IfOk result (λ found. IfSome found (λ ranks. sum_by (λ (r : Rank). r.weight) ranks.items ≡ self.now.n)) }
@@ -158,9 +150,13 @@ mod tests {
             }
         }
         let all = [fraction(0, 7), fraction(1, 2), fraction(3, 3)];
-        let found = sketch.quantiles(&all, SearchCriteria::Inclusive)?.ok_or("empty")?;
+        let found = sketch
+            .quantiles(&all, SearchCriteria::Inclusive)?
+            .ok_or("empty")?;
         assert_eq!(rt; found.as_slice(), [1, 6, 9].as_slice());
-        let none = view.quantiles(&[], SearchCriteria::Inclusive)?.ok_or("empty")?;
+        let none = view
+            .quantiles(&[], SearchCriteria::Inclusive)?
+            .ok_or("empty")?;
         assert_eq!(rt; none.len(), 0);
         Ok(())
     }
