@@ -133,7 +133,7 @@ module _ {A : Type 0} {cmp : A → A → Ordering} (order : IsTotalOrder cmp) wh
   counted-parted xs y criteria up i j d le l h =
       counted-below (get_or xs i d) (get_or xs j d) y criteria
       (not-above (cmp (get_or xs j d) (get_or xs i d)) (cmp (get_or xs i d) (get_or xs j d)) (order.antisymm (get_or xs j d) (get_or xs i d))
-          (sorted_far (λ a b. is_lt (cmp a b)) (ranks_by order (λ (a : A). a)) xs up i j d le l)) h
+      (sorted_far (λ a b. is_lt (cmp a b)) (ranks_by order (λ (a : A). a)) xs up i j d le l)) h
 
 -- one more pair of a list of pairs
 pub zip-push : {A B : Type 0} (R : A → B → Type 0) (xs : List A) (ys : List B) (x : A) (y : B) → AllZip R xs ys → R x y → AllZip R (xs ++ x ∷ []) (ys ++ y ∷ [])

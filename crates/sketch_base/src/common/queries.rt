@@ -103,7 +103,12 @@ pub fn entries_of<T>(items: &[T], cumulated: &[u64]) -> u64
 }
 
 /// How many entries a query counts.
-pub fn rank_among<T: Ord>(items: &[T], cumulated: &[u64], query: &T, criteria: SearchCriteria) -> u64
+pub fn rank_among<T: Ord>(
+    items: &[T],
+    cumulated: &[u64],
+    query: &T,
+    criteria: SearchCriteria,
+) -> u64
     requires cumulated { AreCumulated items.now cumulated.now }
     requires sorted { IsSorted T.cmp items.now }
     ensures { result ≡ true_rank T.cmp query.now criteria (spread_out items.now cumulated.now) }
@@ -139,7 +144,8 @@ pub fn quantile_among<'a, T>(
 ) -> Option<&'a T>
     requires cumulated { AreCumulated items.now cumulated.now }
     requires fraction { IsFraction fraction }
-    ensures { option_copied result ≡ quantile_in (spread_out items.now cumulated.now) least.now greatest.now fraction.weight fraction.total criteria }
+    ensures { option_copied result ≡
+        quantile_in (spread_out items.now cumulated.now) least.now greatest.now fraction.weight fraction.total criteria }
 {
     if fraction.weight == 0 {
         return least.as_ref();
@@ -165,7 +171,8 @@ pub fn cdf_among<T: Ord>(
     requires cumulated { AreCumulated items.now cumulated.now }
     requires sorted { IsSorted T.cmp items.now }
     requires increasing { IsIncreasing T.cmp points.now }
-    ensures ranks { let entries = spread_out items.now cumulated.now in IfOk result (λ ranks. ranks.items ≡ ranks_of (length entries) (cdf_of T.cmp criteria entries points.now)) }
+    ensures ranks { let entries = spread_out items.now cumulated.now in IfOk result (λ ranks.
+        ranks.items ≡ ranks_of (length entries) (cdf_of T.cmp criteria entries points.now)) }
     ensures rises { IfOk result (λ ranks. IsNonDecreasing (map (λ (r : Rank). r.weight) ranks.items)) }
 {
     let total = entries_of(items, cumulated);
@@ -174,7 +181,10 @@ pub fn cdf_among<T: Ord>(
         let weight = rank_among(items, cumulated, point, criteria);
         ranks.push(Rank { weight, total })?;
     }
-    let whole = Rank { weight: total, total };
+    let whole = Rank {
+        weight: total,
+        total,
+    };
     ranks.push(whole)?;
     Ok(ranks)
 }
@@ -203,8 +213,10 @@ pub fn pmf_among<T: Ord>(
     requires cumulated { AreCumulated items.now cumulated.now }
     requires sorted { IsSorted T.cmp items.now }
     requires increasing { IsIncreasing T.cmp points.now }
-    ensures ranks { let entries = spread_out items.now cumulated.now in IfOk result (λ ranks. ranks.items ≡ ranks_of (length entries) (pmf_of T.cmp criteria entries points.now)) }
-    ensures sums { IfOk result (λ ranks. sum_by (λ (r : Rank). r.weight) ranks.items ≡ length (spread_out items.now cumulated.now)) }
+    ensures ranks { let entries = spread_out items.now cumulated.now in IfOk result (λ ranks.
+        ranks.items ≡ ranks_of (length entries) (pmf_of T.cmp criteria entries points.now)) }
+    ensures sums { IfOk result (λ ranks. sum_by (λ (r : Rank).
+        r.weight) ranks.items ≡ length (spread_out items.now cumulated.now)) }
 {
     let mut ranks = cdf_among(alloc, items, cumulated, points, criteria)?;
     take_differences(ranks.as_mut_slice());

@@ -67,7 +67,8 @@ fn same_levels<T: PartialEq>(
 ) -> bool
     requires flat { IsFlat items.now bounds.now }
     requires other_flat { IsFlat other_items.now other_bounds.now }
-    ensures { result ≡ pointwise (pointwise T.eq) (levels_in items.now bounds.now) (levels_in other_items.now other_bounds.now) }
+    ensures { result ≡
+        pointwise (pointwise T.eq) (levels_in items.now bounds.now) (levels_in other_items.now other_bounds.now) }
 {
     let same_bounds = bounds == other_bounds;
     let same_items = items == other_items;

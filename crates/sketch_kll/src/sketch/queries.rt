@@ -51,7 +51,8 @@ impl<T: Clone + Ord> KllSketch<T> {
     /// The item that a fraction names; None for an empty sketch.
     pub fn quantile(&self, fraction: Rank, criteria: SearchCriteria) -> Result<Option<T>, Error>
         requires clones { (x y : T) → T.is_clone x y → T.cmp x y ≡ Equal }
-        ensures found { let s = self.now in IfOk result (SameAnswer T.cmp (quantile T.cmp (bag_of s) s.least s.greatest fraction.weight fraction.total criteria)) }
+        ensures found { let s = self.now in
+            IfOk result (SameAnswer T.cmp (quantile T.cmp (bag_of s) s.least s.greatest fraction.weight fraction.total criteria)) }
         ensures there { IfOk result (λ found. IsSome found ↔ (0 < self.now.n)) }
         ensures bad { IsErrOf result InvalidArgument ↔ ¬ (IsFraction fraction) }
         ensures memory { IfErr result (λ e. IsFraction fraction → (e ≡ OutOfMemory) × (0 < self.now.n)) }
@@ -70,7 +71,8 @@ impl<T: Clone + Ord> KllSketch<T> {
         criteria: SearchCriteria,
     ) -> Result<Option<Vec<T>>, Error>
         requires clones { (x y : T) → T.is_clone x y → T.cmp x y ≡ Equal }
-        ensures found { IfOk result (λ found. IfSome found (λ xs. AreQuantiles T.cmp (expanded_view T.cmp self.now) criteria fractions.now xs.items)) }
+        ensures found { IfOk result (λ found. IfSome found (λ xs.
+            AreQuantiles T.cmp (expanded_view T.cmp self.now) criteria fractions.now xs.items)) }
         ensures there { IfOk result (λ found. IsSome found ↔ (0 < self.now.n)) }
         ensures bad { IsErrOf result InvalidArgument ↔ ¬ (All IsFraction fractions.now) }
         ensures memory { IfErr result (λ e. All IsFraction fractions.now → (e ≡ OutOfMemory) × (0 < self.now.n)) }
@@ -85,8 +87,11 @@ impl<T: Clone + Ord> KllSketch<T> {
     /// The rank of each split point, and last the whole; None for an empty sketch.
     pub fn cdf(&self, points: &[T], criteria: SearchCriteria) -> Result<Option<Vec<Rank>>, Error>
         requires clones { (x y : T) → T.is_clone x y → T.cmp x y ≡ Equal }
-        ensures found { let s = self.now in IfOk result (λ found. IfSome found (λ ranks. ranks.items ≡ ranks_of s.n (cdf_of T.cmp criteria (expanded T.cmp (bag_of s)) points.now))) }
-        ensures rises { IfOk result (λ found. IfSome found (λ ranks. IsNonDecreasing (map (λ (r : Rank). r.weight) ranks.items))) }
+        ensures found { let s = self.now in IfOk result (λ found. IfSome found (λ ranks.
+            ranks.items ≡
+            ranks_of s.n (cdf_of T.cmp criteria (expanded T.cmp (bag_of s)) points.now))) }
+        ensures rises { IfOk result (λ found. IfSome found (λ ranks. IsNonDecreasing (map (λ (r : Rank).
+            r.weight) ranks.items))) }
         ensures there { IfOk result (λ found. IsSome found ↔ (0 < self.now.n)) }
         ensures bad { IsErrOf result InvalidArgument ↔ ¬ (IsIncreasing T.cmp points.now) }
         ensures memory { IfErr result (λ e. IsIncreasing T.cmp points.now → (e ≡ OutOfMemory) × (0 < self.now.n)) }
@@ -101,8 +106,11 @@ impl<T: Clone + Ord> KllSketch<T> {
     /// How much lies between the split points; None for an empty sketch.
     pub fn pmf(&self, points: &[T], criteria: SearchCriteria) -> Result<Option<Vec<Rank>>, Error>
         requires clones { (x y : T) → T.is_clone x y → T.cmp x y ≡ Equal }
-        ensures found { let s = self.now in IfOk result (λ found. IfSome found (λ ranks. ranks.items ≡ ranks_of s.n (pmf_of T.cmp criteria (expanded T.cmp (bag_of s)) points.now))) }
-        ensures sums { IfOk result (λ found. IfSome found (λ ranks. sum_by (λ (r : Rank). r.weight) ranks.items ≡ self.now.n)) }
+        ensures found { let s = self.now in IfOk result (λ found. IfSome found (λ ranks.
+            ranks.items ≡
+            ranks_of s.n (pmf_of T.cmp criteria (expanded T.cmp (bag_of s)) points.now))) }
+        ensures sums { IfOk result (λ found. IfSome found (λ ranks. sum_by (λ (r : Rank).
+            r.weight) ranks.items ≡ self.now.n)) }
         ensures there { IfOk result (λ found. IsSome found ↔ (0 < self.now.n)) }
         ensures bad { IsErrOf result InvalidArgument ↔ ¬ (IsIncreasing T.cmp points.now) }
         ensures memory { IfErr result (λ e. IsIncreasing T.cmp points.now → (e ≡ OutOfMemory) × (0 < self.now.n)) }

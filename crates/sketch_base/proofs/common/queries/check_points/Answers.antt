@@ -11,7 +11,7 @@ loop-i-preserved g c =
     let less = c.is_below.ensures.0 c.if-not-is_below.false in (
       omega arith,
       all_adjacent_more c.args.points.now (λ x y. g.T.Ord.cmp x y ≡ Less) c.loop-i.i (omega arith) c.loop-i.invariant.1
-      (pair_read c.args.points.now (λ x y. g.T.Ord.cmp x y ≡ Less) (c.loop-i.i - 1) c.loop-i.i c.index-points-i.result c.index-points-i-in-loop-i.result (omega arith) (omega arith) c.index-points-i.is c.index-points-i-in-loop-i.is less),
+          (pair_read c.args.points.now (λ x y. g.T.Ord.cmp x y ≡ Less) (c.loop-i.i - 1) c.loop-i.i c.index-points-i.result c.index-points-i-in-loop-i.result (omega arith) (omega arith) c.index-points-i.is c.index-points-i-in-loop-i.is less),
     )
 
 pub returns-clause-good : goal.returns-clause-good
