@@ -1,8 +1,9 @@
 //! What views of both families share: tests of arguments, and the entries that items in order with cumulated weights
 //! stand for.
-ghost use Rattle.std.specs.Prelude.{◌≡◌, ◌+◌, ◌-◌, ◌*◌, ◌/◌, ◌<◌, ◌≤◌, ◌^◌, nat_le, length, map, sum_by, OnOk, OnErr, IfOk, IfErr, IsSorted, slice_get, option_copied};
+ghost use Rattle.std.specs.Prelude.{◌≡◌, ◌+◌, ◌-◌, ◌*◌, ◌/◌, ◌<◌, ◌≤◌, ◌↔◌, ◌^◌, nat_le, length, IsTrue, map, sum_by, OnOk, OnErr, IfOk, IfErr, IsSorted, slice_get, option_copied};
 ghost use Rattle.std.specs.List.{All};
 ghost use Rattle.std.specs.List.Sorted.{IsNonDecreasing};
+ghost use Rattle.std.specs.declared.cmp.Ordering.TheVariants.{Less};
 ghost use Rattle.sketch_base.specs.declared.error.ErrorKind.TheVariants.{InvalidArgument};
 ghost use Rattle.sketch_base.specs.Query.{counted, true_rank};
 ghost use Rattle.sketch_base.specs.Queries.{AreCumulated, IsFraction, IsIncreasing, Parts, cdf_of, pmf_of, quantile_in, quantile_place, rank_differences, ranks_of, spread_out, weight_before};
@@ -35,6 +36,13 @@ pub fn check_fractions(fractions: &[Rank]) -> Result<(), Error>
     Ok(())
 }
 
+// Whether an item is below another.
+fn is_below<T: Ord>(item: &T, other: &T) -> bool
+    ensures { IsTrue result ↔ (T.cmp item.now other.now ≡ Less) }
+{
+    item.cmp(other).is_lt()
+}
+
 /// Refuses split points that do not strictly increase.
 pub fn check_points<T: Ord>(points: &[T]) -> Result<(), Error>
     ensures good { OnOk result (IsIncreasing T.cmp points.now) }
@@ -42,7 +50,7 @@ pub fn check_points<T: Ord>(points: &[T]) -> Result<(), Error>
     ensures kind { IfErr result (λ e. e ≡ InvalidArgument) }
 {
     for i in 1..points.len() {
-        if !points[i - 1].cmp(&points[i]).is_lt() {
+        if !is_below(&points[i - 1], &points[i]) {
             return Err(Error::new(ErrorKind::InvalidArgument));
         }
     }
@@ -95,7 +103,12 @@ pub fn entries_of<T>(items: &[T], cumulated: &[u64]) -> u64
 }
 
 /// How many entries a query counts.
-pub fn rank_among<T: Ord>(items: &[T], cumulated: &[u64], query: &T, criteria: SearchCriteria) -> u64
+pub fn rank_among<T: Ord>(
+    items: &[T],
+    cumulated: &[u64],
+    query: &T,
+    criteria: SearchCriteria,
+) -> u64
     requires cumulated { AreCumulated items.now cumulated.now }
     requires sorted { IsSorted T.cmp items.now }
     ensures { result ≡ true_rank T.cmp query.now criteria (spread_out items.now cumulated.now) }
@@ -131,7 +144,8 @@ pub fn quantile_among<'a, T>(
 ) -> Option<&'a T>
     requires cumulated { AreCumulated items.now cumulated.now }
     requires fraction { IsFraction fraction }
-    ensures { option_copied result ≡ quantile_in (spread_out items.now cumulated.now) least.now greatest.now fraction.weight fraction.total criteria }
+    ensures { option_copied result ≡
+        quantile_in (spread_out items.now cumulated.now) least.now greatest.now fraction.weight fraction.total criteria }
 {
     if fraction.weight == 0 {
         return least.as_ref();
@@ -157,7 +171,8 @@ pub fn cdf_among<T: Ord>(
     requires cumulated { AreCumulated items.now cumulated.now }
     requires sorted { IsSorted T.cmp items.now }
     requires increasing { IsIncreasing T.cmp points.now }
-    ensures ranks { let entries = spread_out items.now cumulated.now in IfOk result (λ ranks. ranks.items ≡ ranks_of (length entries) (cdf_of T.cmp criteria entries points.now)) }
+    ensures ranks { let entries = spread_out items.now cumulated.now in IfOk result (λ ranks.
+        ranks.items ≡ ranks_of (length entries) (cdf_of T.cmp criteria entries points.now)) }
     ensures rises { IfOk result (λ ranks. IsNonDecreasing (map (λ (r : Rank). r.weight) ranks.items)) }
 {
     let total = entries_of(items, cumulated);
@@ -166,10 +181,11 @@ pub fn cdf_among<T: Ord>(
         let weight = rank_among(items, cumulated, point, criteria);
         ranks.push(Rank { weight, total })?;
     }
-    ranks.push(Rank {
+    let whole = Rank {
         weight: total,
         total,
-    })?;
+    };
+    ranks.push(whole)?;
     Ok(ranks)
 }
 
@@ -197,8 +213,10 @@ pub fn pmf_among<T: Ord>(
     requires cumulated { AreCumulated items.now cumulated.now }
     requires sorted { IsSorted T.cmp items.now }
     requires increasing { IsIncreasing T.cmp points.now }
-    ensures ranks { let entries = spread_out items.now cumulated.now in IfOk result (λ ranks. ranks.items ≡ ranks_of (length entries) (pmf_of T.cmp criteria entries points.now)) }
-    ensures sums { IfOk result (λ ranks. sum_by (λ (r : Rank). r.weight) ranks.items ≡ length (spread_out items.now cumulated.now)) }
+    ensures ranks { let entries = spread_out items.now cumulated.now in IfOk result (λ ranks.
+        ranks.items ≡ ranks_of (length entries) (pmf_of T.cmp criteria entries points.now)) }
+    ensures sums { IfOk result (λ ranks. sum_by (λ (r : Rank).
+        r.weight) ranks.items ≡ length (spread_out items.now cumulated.now)) }
 {
     let mut ranks = cdf_among(alloc, items, cumulated, points, criteria)?;
     take_differences(ranks.as_mut_slice());
