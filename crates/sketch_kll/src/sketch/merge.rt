@@ -231,3 +231,6 @@ fn merge_levels<T: Ord + Drop, B: RandomBits>(
     *total = total_capacity(k, MINIMUM_CAPACITY, bounds.len() - 1);
     still_sorted
 }
+
+#[cfg(test)]
+mod tests;
