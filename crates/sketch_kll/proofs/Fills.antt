@@ -26,7 +26,8 @@ use Rattle.sketch_kll.specs.Capacity.{total_of}
 use Rattle.sketch_kll.specs.Fill.{IsFilled}
 use Rattle.sketch_kll.proofs.Capacities.{total_bound}
 use Rattle.sketch_kll.proofs.Ranks.{weight_is, retained_is, rank_is, counted_weight-le}
-use Rattle.sketch_kll.proofs.Bridges.{update_full, update_spare, SameItems-trans}
+use Rattle.sketch_kll.proofs.Bridges.{update_full, update_spare}
+use Rattle.sketch_base.proofs.Items.{SameItems-trans}
 use Rattle.sketch_kll.proofs.Schedules.{Fine, work_of, fine-updates, update_is, update_lengths, updates_legal, updates_more, lengths_more}
 
 -- the true rank

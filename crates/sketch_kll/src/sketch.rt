@@ -26,8 +26,8 @@ use sketch_base::error::{Error, ErrorKind};
 use std::alloc::{AllocError, Global};
 use std::marker::Model;
 
-/// A KLL sketch of items of one type, after Karnin, Lang and Liberty, "Optimal quantile approximation
-/// in streams" (2016).
+/// A KLL sketch of items of one type, after Karnin, Lang and Liberty, "Optimal quantile
+/// approximation in streams" (2016).
 ///
 /// Levels of items, where an item of level h stands for `2^h` items of the stream. A contract sees
 /// it as the record `Kll` of specs/Sketch. The levels lie in one vector, the highest first: level h
@@ -50,9 +50,12 @@ impl<T: Clone + Ord> Model for KllSketch<T> {
 
     ghost Value = { Kll T };
 
-    ghost view = { λ s. sketch_of s.k s.min_k s.n s.is_level_zero_sorted s.items.items s.bounds.items s.min_item s.max_item };
+    ghost view = { λ s. sketch_of s.k s.min_k s.n s.is_level_zero_sorted s.items.items
+        s.bounds.items s.min_item s.max_item };
 
-    ghost invariant = { λ s. IsSketch T.cmp s.items.items s.bounds.items s.total_capacity (sketch_of s.k s.min_k s.n s.is_level_zero_sorted s.items.items s.bounds.items s.min_item s.max_item) };
+    ghost invariant = { λ s. IsSketch T.cmp s.items.items s.bounds.items s.total_capacity
+        (sketch_of s.k s.min_k s.n s.is_level_zero_sorted s.items.items
+        s.bounds.items s.min_item s.max_item) };
 }
 
 impl<T: Clone + Ord> KllSketch<T> {
@@ -180,7 +183,8 @@ impl<T: Clone + Ord> KllSketch<T> {
         requires clones { (x y : T) → T.is_clone x y → T.cmp x y ≡ Equal }
         ensures ok { OnOk result (IsUpdated T.cmp self.old item
             (bits_from B.bit B.next coins.old (coins_of_update self.old item)) self.new) }
-        ensures coins { OnOk result (coins.new ≡ after_draws B.next coins.old (coins_of_update self.old item)) }
+        ensures coins { OnOk result (coins.new ≡ after_draws B.next coins.old
+            (coins_of_update self.old item)) }
         ensures err { OnErr result ((self.new ≡ self.old) × (coins.new ≡ coins.old)) }
         ensures full { IsErrOf result InvalidArgument ↔ (self.old.n ≡ 2 ^ 64 - 1) }
         ensures memory { IfErr result (λ e. self.old.n < 2 ^ 64 - 1 → e ≡ OutOfMemory) }
@@ -290,7 +294,8 @@ fn run_between<T>(items: &[T], start: usize, end: usize) -> &[T]
 fn weight_counted<T: Ord>(items: &[T], bounds: &[usize], query: &T, criteria: SearchCriteria) -> u64
     requires flat { IsFlat items.now bounds.now }
     requires fits { weight_in (levels_in items.now bounds.now) < 2 ^ 64 }
-    ensures { result ≡ counted_weight (counted T.cmp query.now criteria) (levels_in items.now bounds.now) }
+    ensures { result ≡ counted_weight (counted T.cmp query.now criteria)
+        (levels_in items.now bounds.now) }
 {
     let mut weight = 0;
     let mut level = bounds.len() - 1;
@@ -305,7 +310,8 @@ fn weight_counted<T: Ord>(items: &[T], bounds: &[usize], query: &T, criteria: Se
 // The item's clone, where it is below the least item so far.
 fn clone_if_least<T: Clone + Ord>(item: &T, least: &Option<T>) -> Result<Option<T>, AllocError>
     requires clones { (x y : T) → T.is_clone x y → T.cmp x y ≡ Equal }
-    ensures { IfOk result (λ new. Ties T.cmp (least_with T.cmp item.now least.now) (newer_or new least.now)) }
+    ensures { IfOk result (λ new.
+        Ties T.cmp (least_with T.cmp item.now least.now) (newer_or new least.now)) }
 {
     match least {
         None => Ok(Some(item.clone()?)),
@@ -325,7 +331,8 @@ fn clone_if_greatest<T: Clone + Ord>(
     greatest: &Option<T>,
 ) -> Result<Option<T>, AllocError>
     requires clones { (x y : T) → T.is_clone x y → T.cmp x y ≡ Equal }
-    ensures { IfOk result (λ new. Ties T.cmp (greatest_with T.cmp item.now greatest.now) (newer_or new greatest.now)) }
+    ensures { IfOk result (λ new.
+        Ties T.cmp (greatest_with T.cmp item.now greatest.now) (newer_or new greatest.now)) }
 {
     match greatest {
         None => Ok(Some(item.clone()?)),
@@ -381,19 +388,24 @@ fn make_room<T: Ord + Drop, B: RandomBits>(
     coins: &mut B,
 )
     requires k { 8 ≤ k }
-    requires total { total.old ≡ total_of k 8 (length (levels_in items.old.items bounds.old.items)) }
+    requires total { total.old
+        ≡ total_of k 8 (length (levels_in items.old.items bounds.old.items)) }
     requires flat { IsFlat items.old.items bounds.old.items }
     requires some_level { 0 < length (levels_in items.old.items bounds.old.items) }
     requires few_levels { length (levels_in items.old.items bounds.old.items) ≤ 61 }
     requires weight { weight_in (levels_in items.old.items bounds.old.items) < 2 ^ 64 }
     requires spare { vec_len bounds.old < vec_capacity bounds.old }
     ensures flat { IsFlat items.new.items bounds.new.items }
-    ensures levels { SameLevels T.cmp (with_room T.cmp k is_sorted (B.bit coins.old) (levels_in items.old.items bounds.old.items)) (levels_in items.new.items bounds.new.items) }
-    ensures sorted { UpperSorted T.cmp (levels_in items.old.items bounds.old.items) → UpperSorted T.cmp (levels_in items.new.items bounds.new.items) }
+    ensures levels { SameLevels T.cmp
+        (with_room T.cmp k is_sorted (B.bit coins.old) (levels_in items.old.items bounds.old.items))
+        (levels_in items.new.items bounds.new.items) }
+    ensures sorted { UpperSorted T.cmp (levels_in items.old.items bounds.old.items)
+        → UpperSorted T.cmp (levels_in items.new.items bounds.new.items) }
     ensures capacity { vec_capacity items.new ≡ vec_capacity items.old }
     ensures shorter { vec_len items.new ≤ vec_len items.old }
     ensures total { total.new ≡ total_of k 8 (length (levels_in items.new.items bounds.new.items)) }
-    ensures coins { coins.new ≡ (if is_full k (levels_in items.old.items bounds.old.items) then B.next coins.old else coins.old) }
+    ensures coins { coins.new ≡ (if is_full k (levels_in items.old.items bounds.old.items)
+        then B.next coins.old else coins.old) }
 {
     if let Some(level) = level_to_compact(k, *total, items.as_slice(), bounds.as_slice()) {
         raise(bounds, level);
@@ -415,7 +427,8 @@ pub(crate) fn keeps_last_item(is_sorted: bool, level: usize) -> bool
 pub(crate) fn raise(bounds: &mut Vec<usize>, level: usize)
     requires spare { vec_len bounds.old < vec_capacity bounds.old }
     requires within { level + 2 < 2 ^ 64 }
-    ensures items { bounds.new.items ≡ (if level + 2 == length bounds.old.items then bounds.old.items ++ 0 ∷ [] else bounds.old.items) }
+    ensures items { bounds.new.items ≡ (if level + 2 == length bounds.old.items
+        then bounds.old.items ++ 0 ∷ [] else bounds.old.items) }
     ensures capacity { vec_capacity bounds.old ≤ vec_capacity bounds.new }
 {
     if level + 2 == bounds.len() {
@@ -434,8 +447,11 @@ pub(crate) fn compact<T: Ord + Drop>(
     requires flat { IsFlat items.old.items bounds.old.items }
     requires within { level + 2 < length bounds.old.items }
     ensures flat { IsFlat items.new.items bounds.new.items }
-    ensures alike { SameLevels T.cmp (compacted T.cmp keeps_last coin level (levels_in items.old.items bounds.old.items)) (levels_in items.new.items bounds.new.items) }
-    ensures sorted { UpperSorted T.cmp (levels_in items.old.items bounds.old.items) → UpperSorted T.cmp (levels_in items.new.items bounds.new.items) }
+    ensures alike { SameLevels T.cmp
+        (compacted T.cmp keeps_last coin level (levels_in items.old.items bounds.old.items))
+        (levels_in items.new.items bounds.new.items) }
+    ensures sorted { UpperSorted T.cmp (levels_in items.old.items bounds.old.items)
+        → UpperSorted T.cmp (levels_in items.new.items bounds.new.items) }
     ensures capacity { vec_capacity items.new ≡ vec_capacity items.old }
     ensures bounds_capacity { vec_capacity bounds.new ≡ vec_capacity bounds.old }
     ensures shorter { vec_len items.new ≤ vec_len items.old }
@@ -457,85 +473,12 @@ fn push_last<T: Drop>(items: &mut Vec<T>, bounds: &mut Vec<usize>, item: T)
     requires some_level { 0 < length (levels_in items.old.items bounds.old.items) }
     requires spare { vec_len items.old < vec_capacity items.old }
     ensures flat { IsFlat items.new.items bounds.new.items }
-    ensures levels { levels_in items.new.items bounds.new.items ≡ put item (levels_in items.old.items bounds.old.items) }
+    ensures levels { levels_in items.new.items bounds.new.items
+        ≡ put item (levels_in items.old.items bounds.old.items) }
 {
     items.push(item).unwrap();
     bounds[0] = items.len();
 }
 
 #[cfg(test)]
-mod tests {
-    use super::*;
-    use crate::capacity;
-    use sketch_base::common::random::WordBits;
-    use std::test::Fail;
-
-    fn filled(alloc: Global, word: &[bool]) -> Result<KllSketch<i64>, Error> {
-        let mut sketch = KllSketch::new(alloc, 8)?;
-        let mut coins = WordBits::new(word);
-        for item in 1..10 {
-            sketch.update(item, &mut coins)?;
-        }
-        Ok(sketch)
-    }
-
-    #[test]
-    fn capacities(rt: HostRuntime) -> Result<(), Fail> {
-        assert_eq!(rt; capacity::level_capacity(200, 2, 0, 8), 133);
-        assert_eq!(rt; capacity::total_capacity(200, 8, 2), 333);
-        assert_eq!(rt; capacity::total_capacity(200, 8, 3), 422);
-        assert_eq!(rt; capacity::total_capacity(8, 8, 2), 16);
-        Ok(())
-    }
-
-    #[test]
-    fn compacts_at_the_ninth_item(rt: HostRuntime) -> Result<(), Fail> {
-        let low = filled(rt.alloc(), &[false])?;
-        assert_eq!(rt; low.items.as_slice(), [2, 4, 6, 8, 9].as_slice());
-        assert_eq!(rt; low.bounds.as_slice(), [5, 4, 0].as_slice());
-        let high = filled(rt.alloc(), &[true])?;
-        assert_eq!(rt; high.items.as_slice(), [1, 3, 5, 7, 9].as_slice());
-        assert_eq!(rt; high.n(), 9);
-        assert_eq!(rt; high.num_retained(), 5);
-        assert_eq!(rt; high.min_item(), Some(&1));
-        assert_eq!(rt; high.max_item, Some(9));
-        Ok(())
-    }
-
-    #[test]
-    fn keeps_the_last_of_an_unsorted_level(rt: HostRuntime) -> Result<(), Fail> {
-        let mut sketch = KllSketch::new(rt.alloc(), 9)?;
-        let mut coins = WordBits::new(&[false]);
-        for item in [9i64, 8, 7, 6, 5, 4, 3, 2, 1, 10] {
-            sketch.update(item, &mut coins)?;
-        }
-        assert_eq!(rt; sketch.items.as_slice(), [3, 5, 7, 9, 1, 10].as_slice());
-        assert_eq!(rt; sketch.bounds.as_slice(), [6, 4, 0].as_slice());
-        assert_eq!(rt; coins.drawn(), 1);
-        Ok(())
-    }
-
-    #[test]
-    fn ranks_sum_to_twice_the_true_rank(rt: HostRuntime) -> Result<(), Fail> {
-        let low = filled(rt.alloc(), &[false])?;
-        let high = filled(rt.alloc(), &[true])?;
-        let four = low.rank(&5, SearchCriteria::Inclusive).ok_or("empty")?;
-        let six = high.rank(&5, SearchCriteria::Inclusive).ok_or("empty")?;
-        assert_eq!(rt; four.weight, 4);
-        assert_eq!(rt; six.weight, 6);
-        assert_eq!(rt; six.total, 9);
-        Ok(())
-    }
-
-    #[test]
-    fn takes_text(rt: HostRuntime) -> Result<(), Fail> {
-        let mut sketch = KllSketch::new(rt.alloc(), 8)?;
-        let mut coins = WordBits::new(&[]);
-        sketch.update(String::from_str(rt.alloc(), "b")?, &mut coins)?;
-        sketch.update(String::from_str(rt.alloc(), "a")?, &mut coins)?;
-        assert_eq!(rt; sketch.n(), 2);
-        let least = sketch.min_item().ok_or("empty")?;
-        assert_eq!(rt; least.as_str(), "a");
-        Ok(())
-    }
-}
+mod tests;
