@@ -275,7 +275,7 @@ fn count_up_to<T: Ord>(items: &[T], query: &T) -> usize
 }
 
 // The items of one level.
-fn level_slice<'a, T>(items: &'a [T], bounds: &[usize], level: usize) -> &'a [T]
+pub(crate) fn level_slice<'a, T>(items: &'a [T], bounds: &[usize], level: usize) -> &'a [T]
     requires flat { IsFlat items.now bounds.now }
     requires within { level + 1 < length bounds.now }
     ensures { result.now ≡ first_level (drop level (levels_in items.now bounds.now)) }
