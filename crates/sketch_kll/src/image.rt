@@ -4,6 +4,7 @@ pub(crate) mod arranging;
 pub(crate) mod header;
 pub(crate) mod legality;
 pub(crate) mod reading;
+pub(crate) mod writing;
 
 /// What was read of an image of two items or more, the items with the highest level first.
 #[derive(Drop)]

@@ -1,8 +1,10 @@
-use Rattle.std.proofs.Common.{arith, ap, ◌∙◌, sym, ◌≡◌, ◌<◌, ◌^◌, length, rules, List, ℕ, ◌++◌}
+use Rattle.std.proofs.Common.{arith, ◌+◌, ◌-◌, ap, ◌∙◌, sym, ◌≡◌, ◌<◌, ◌^◌, length, rules, List, ℕ, ◌++◌}
 use Rattle.std.specs.List.{flat_map}
 use Rattle.std.specs.Int.{w32, to_le_bytes}
 use Rattle.std.proofs.lemmas.Result.{err_from_is_err_and}
 use Rattle.sketch_kll.proofs.Places.{levels_count, levels_short, levels_found, levels_hidden, fits_all}
+use Rattle.sketch_kll.specs.Capacity.{total_of}
+use Rattle.sketch_kll.proofs.Turns.{bounds_length}
 use Rattle.sketch_kll.proofs.image.reading.read_levels.Goals as goal
 use Rattle.sketch_kll.proofs.image.reading.read_levels.Goals.{then-num_levels-eq0-via-then-num_levels-eq0, then-num_levels-eq0-via-else-num_levels-eq0+then-num_levels-gt-MAX_LEVELS}
 
@@ -56,3 +58,13 @@ returns-clause-refused c = λ k n m ns r b.
     let none = rw c.in-None.is at c.in_ok-bounds.ensures.none in
     none ns (levels_hidden c.args.k c.args.input.now n m ns r x.n x.min_k x.num_levels x.unused c.total_capacity-capacity.result c.read_numbers.new.input c.deref.result.now c.read_offsets.new.input fits b p q
     c.in_ok-numbers.ensures.found mid many c.total_capacity-capacity.ensures.value (fits_all c.deref.result.now c.bounds_from.ensures.fit))
+
+pub returns-in-Some-clause-capacity : goal.returns-in-Some-clause-capacity
+returns-in-Some-clause-capacity c =
+    let h = rw c.in-Some.is at c.in_ok-bounds.ensures.found in
+    let many : length c.deref.result.now ≡ c.in_ok-numbers.numbers.num_levels = c.deref.ensures.len ∙ c.in_ok-offsets.ensures.as_many in
+    let k = h.2.as_many in
+    let l = bounds_length h.0 in
+    let e : length c.in-Some.bounds.items ≡ length h.0 + 1 = ap length h.1 ∙ l in
+    let count : c.in_ok-numbers.numbers.num_levels ≡ length c.in-Some.bounds.items - 1 = omega (arith, e, k, many) in
+    c.total_capacity-capacity.ensures.value ∙ ap (total_of c.args.k 8) count
