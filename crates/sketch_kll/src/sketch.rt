@@ -26,6 +26,8 @@ use sketch_base::error::{Error, ErrorKind};
 use std::alloc::{AllocError, Global};
 use std::marker::Model;
 
+mod image;
+
 /// A KLL sketch of items of one type, after Karnin, Lang and Liberty, "Optimal quantile
 /// approximation in streams" (2016).
 ///

@@ -1,7 +1,8 @@
 //! The parts of an image, written one after the other.
-ghost use Rattle.std.specs.Prelude.{◌≡◌, ◌≢◌, ℕ, ◌-◌, ◌<◌, ◌≤◌, List, ◌++◌, length, reverse, slice_index, IfErr, OnOk};
+ghost use Rattle.std.specs.Prelude.{◌≡◌, ◌≢◌, ℕ, ◌+◌, ◌-◌, ◌^◌, ◌<◌, ◌≤◌, List, ◌++◌, length, reverse, slice_index, IfErr, OnOk};
 ghost use Rattle.std.specs.Int.{w32, to_le_bytes};
 ghost use Rattle.std.specs.List.{flat_map};
+ghost use Rattle.std.specs.Option.{SomeIff, option_to_list};
 ghost use Rattle.sketch_base.specs.declared.error.ErrorKind.TheVariants.{InvalidArgument, InvalidData, OutOfMemory};
 ghost use Rattle.sketch_kll.specs.Flat.{levels_in, IsFlat};
 ghost use Rattle.sketch_kll.specs.Image.{header_text, offsets, stored, total};
@@ -96,4 +97,48 @@ pub(crate) fn write_levels<T: KllValue>(
         write_items(bytes, level_slice(items, bounds, level))?;
     }
     Ok(())
+}
+
+/// The item, if there is one.
+pub(crate) fn write_option<T: KllValue>(
+    bytes: &mut SketchBytes,
+    item: &Option<T>,
+) -> Result<(), Error>
+    ensures ok { OnOk result (bytes.new ≡ bytes.old ++ items_text T.spelling (option_to_list item.now)) }
+    ensures spelled { OnOk result (AllSpelled T.spelling (option_to_list item.now)) }
+    ensures refused { IfErr result (λ e. e ≡ InvalidArgument → AllSpelled T.spelling (option_to_list item.now) → ⊥) }
+    ensures kind { IfErr result (λ e. e ≢ InvalidData) }
+{
+    if let Some(item) = item {
+        T::serialize(item, bytes)?;
+    }
+    Ok(())
+}
+
+/// So many bytes and those of the items together, if that fits.
+pub(crate) fn add_sizes<T: KllValue>(size: usize, items: &[T]) -> Option<usize>
+    ensures { AllSpelled T.spelling items.now →
+        SomeIff result (size + length (items_text T.spelling items.now) < 2 ^ 64)
+        (size + length (items_text T.spelling items.now)) }
+{
+    let mut total = size;
+    for item in items {
+        total = match total.checked_add(T::serialized_size(item)) {
+            Some(total) => total,
+            None => return None,
+        };
+    }
+    Some(total)
+}
+
+/// So many bytes and those of the item together, if that fits.
+pub(crate) fn add_size<T: KllValue>(size: usize, item: &Option<T>) -> Option<usize>
+    ensures { AllSpelled T.spelling (option_to_list item.now) →
+        SomeIff result (size + length (items_text T.spelling (option_to_list item.now)) < 2 ^ 64)
+        (size + length (items_text T.spelling (option_to_list item.now))) }
+{
+    match item {
+        Some(item) => size.checked_add(T::serialized_size(item)),
+        None => Some(size),
+    }
 }
