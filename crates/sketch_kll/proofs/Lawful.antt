@@ -18,7 +18,7 @@ use Rattle.sketch_kll.specs.ImageLaws.{SpellingsTie, SameSketch, OneSketch, Writ
 use Rattle.sketch_kll.proofs.SpelledItems.{IsPrefixFree}
 use Rattle.sketch_kll.proofs.Turns.{retained_total}
 use Rattle.sketch_kll.proofs.Sames.{same_layouts, cmp_same}
-use Rattle.sketch_kll.proofs.Wholes.{body_of_image, same_itself, head_fits}
+use Rattle.sketch_kll.proofs.Wholes.{body_of_image, same_itself, head_fits, length_lengths}
 
 -- ---- one sketch
 
@@ -203,10 +203,6 @@ above_two n le = (n - 2, omega arith)
 
 pair_text : (p q r : List ℕ) → (p ++ (q ++ [])) ++ r ≡ (p ++ (q ++ r)) ++ []
 pair_text p q r = append_assoc p (q ++ []) r ∙ ap (λ (z : List ℕ). p ++ (z ++ r)) (append-nil q) ∙ sym (append-nil (p ++ (q ++ r)))
-
-length_lengths : {A : Type 0} (ls : List (List A)) → length (map length ls) ≡ length ls
-length_lengths [] = refl
-length_lengths (l ∷ ls) = let h = length_lengths ls in omega (arith, h)
 
 written_full : {A : Type 0} (cmp : A → A → Ordering) (spelling : A → Option (List ℕ)) (s : Kll A) (n : ℕ) → IsSound cmp s → s.n < 2 ^ 64 → s.n ≡ suc (suc n) → AllSpelled spelling (items_by_count s (suc (suc n))) → IsImage cmp spelling (text_by_count spelling s (suc (suc n))) s
 written_full {A} cmp spelling s n h n_fits e spelled =

@@ -1,5 +1,5 @@
 -- Whole images: the header decides the case.
-use Rattle.std.proofs.Common.{◌≡◌, ℕ, ◌^◌, ◌<◌, ◌≤◌, Bool, true, false, List, [], ◌∷◌, ◌++◌, length, eqb, Option, Some, None, Ordering, Equal, refl, sym, ap, subst, ◌∙◌, arith, inl, inr}
+use Rattle.std.proofs.Common.{◌≡◌, ℕ, ◌^◌, ◌<◌, ◌≤◌, Bool, true, false, List, [], ◌∷◌, ◌++◌, length, map, eqb, Option, Some, None, Ordering, Equal, refl, sym, ap, subst, ◌∙◌, arith, inl, inr}
 use Rattle.std.specs.Prelude.{◌⊎◌}
 use Rattle.std.specs.Cmp.{IsTotalOrder}
 use Rattle.std.specs.Int.{w16, to_le_bytes}
@@ -88,3 +88,7 @@ pub no_body : {A : Type 0} (cmp : A → A → Ordering) (spelling : A → Option
 no_body cmp spelling h rest s x y z (inl b) = x b.head
 no_body cmp spelling h rest s x y z (inr (inl b)) = y b.head
 no_body cmp spelling h rest s x y z (inr (inr b)) = z b.head
+
+pub length_lengths : {A : Type 0} (ls : List (List A)) → length (map length ls) ≡ length ls
+length_lengths [] = refl
+length_lengths (l ∷ ls) = let h = length_lengths ls in omega (arith, h)
