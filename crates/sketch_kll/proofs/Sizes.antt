@@ -1,14 +1,21 @@
 -- How long the spellings of items are together.
-use Rattle.std.proofs.Common.{◌≡◌, ℕ, zero, suc, ◌+◌, ◌^◌, ◌<◌, ◌≤◌, Bool, true, false, List, [], ◌∷◌, ◌++◌, length, take, Option, Some, None, unwrap_or, refl, sym, ap, subst, ◌∙◌, arith, length-append}
+use Rattle.std.proofs.Common.{◌≡◌, ℕ, zero, suc, ◌+◌, ◌-◌, ◌*◌, ◌^◌, ◌<◌, ◌≤◌, Bool, true, false, List, [], ◌∷◌, ◌++◌, length, map, take, Option, Some, None, unwrap_or, refl, sym, ap, subst, ◌∙◌, arith, length-append}
 use Rattle.std.specs.Prelude.{IsSome, IfSome, reverse}
 use Rattle.std.specs.List.{flat_map, AllByRecursion}
 use Rattle.std.proofs.lemmas.List.{take_more, reverse-append}
 use Rattle.std.proofs.lemmas.List.Concat.{flat_map-append}
 use Rattle.sketch_kll.specs.Flat.{flat}
-use Rattle.sketch_kll.specs.Image.{stored}
+use Rattle.std.specs.Int.{w32, to_le_bytes}
+use Rattle.std.specs.Option.{SomeIff, option_to_list}
+use Rattle.sketch_kll.specs.Capacity.{total_of}
+use Rattle.sketch_kll.specs.Image.{places, stored, total}
+use Rattle.sketch_kll.specs.Sketch.{Kll}
 use Rattle.sketch_kll.specs.Spelling.{bytes_of}
-use Rattle.sketch_kll.specs.Written.{AllSpelled, items_text}
+use Rattle.sketch_kll.specs.Written.{AllSpelled, items_text, image_text, text_by_count, full_text, items_by_count, written_items, ends_of}
+use Rattle.sketch_kll.proofs.Lawful.{above_two}
 use Rattle.sketch_kll.proofs.Legals.{all_append, all_front}
+use Rattle.sketch_kll.proofs.Places.{length_places, length-offsets}
+use Rattle.sketch_kll.proofs.Wholes.{length_lengths}
 
 sized : (o : Option (List ℕ)) (n : ℕ) → IsSome o → IfSome o (λ b. n ≡ length b) → n ≡ length (unwrap_or o [])
 sized None n p q = absurd cc
@@ -91,3 +98,49 @@ all_stored P true (l ∷ ls) h = all_joined P (l ∷ ls) h
 all_stored P false (l ∷ ls) h =
     let q = all_front P (reverse l) (flat_map (λ l. l) ls) h in
     all_append P (flat ls) l (all_joined P ls q.1) (all_reverse P l q.0)
+
+-- ---- whole images
+
+pub record SpelledParts {A : Type 0} (spelling : A → Option (List ℕ)) (s : Kll A) (items : List A) : Type 0 where
+  pub least : AllSpelled spelling (option_to_list s.least)
+  pub greatest : AllSpelled spelling (option_to_list s.greatest)
+  pub retained : AllSpelled spelling items
+
+pub spelled_full : {A : Type 0} (spelling : A → Option (List ℕ)) (s : Kll A) (items : List A) → 2 ≤ s.n → flat s.levels ≡ items → AllSpelled spelling (written_items s) → SpelledParts spelling s items
+spelled_full {A} spelling s items two e h =
+    let P : A → Type 0 = λ x. IsSome (spelling x) in
+    let n = above_two s.n two in
+    let w : AllSpelled spelling (items_by_count s (suc (suc n.0))) = subst (λ (i : ℕ). AllSpelled spelling (items_by_count s i)) n.1 h in
+    let q = all_front P (ends_of s) (stored s.is_sorted s.levels) w in
+    let r = all_front P (option_to_list s.least) (option_to_list s.greatest) q.0 in
+    record { least = r.0; greatest = r.1; retained = subst (AllSpelled spelling) e (all_stored P s.is_sorted s.levels q.1) }
+
+pub length_full : {A : Type 0} (spelling : A → Option (List ℕ)) (s : Kll A) (items : List A) → 2 ≤ s.n → flat s.levels ≡ items → length (image_text spelling s) ≡ 20 + 4 * length s.levels + length (items_text spelling (option_to_list s.least)) + length (items_text spelling (option_to_list s.greatest)) + length (items_text spelling items)
+length_full {A} spelling s items two e =
+    let n = above_two s.n two in
+    let lengths : List ℕ = map length s.levels in
+    let begins : List ℕ = flat_map (to_le_bytes w32) (places s.k lengths) in
+    let ends : List ℕ = items_text spelling (ends_of s) in
+    let its : List ℕ = items_text spelling (stored s.is_sorted s.levels) in
+    let whole : length (image_text spelling s) ≡ length (full_text spelling s) = ap (λ (i : ℕ). length (text_by_count spelling s i)) n.1 in
+    let a : length (full_text spelling s) ≡ 20 + length (begins ++ (ends ++ its)) = omega arith in
+    let b = length-append begins (ends ++ its) in
+    let c = length-append ends its in
+    let d = length_places (places s.k lengths) in
+    let f = length-offsets (total_of s.k 8 (length lengths) - total lengths) lengths in
+    let l = length_lengths s.levels in
+    let x = text_append spelling (option_to_list s.least) (option_to_list s.greatest) in
+    let y = text_stored spelling s.is_sorted s.levels in
+    let z = ap (λ (xs : List A). length (items_text spelling xs)) e in
+    omega (arith, whole, a, b, c, d, f, l, x, y, z)
+
+pub size_item : {A : Type 0} (spelling : A → Option (List ℕ)) (s : Kll A) (items : List A) (r : Option ℕ) → s.n ≡ 1 → flat s.levels ≡ items → (AllSpelled spelling items → SomeIff r (8 + length (items_text spelling items) < 2 ^ 64) (8 + length (items_text spelling items))) → AllSpelled spelling (written_items s) → SomeIff r (length (image_text spelling s) < 2 ^ 64) (length (image_text spelling s))
+size_item {A} spelling s items r one e h spelled =
+    let P : A → Type 0 = λ x. IsSome (spelling x) in
+    let w : AllSpelled spelling (stored s.is_sorted s.levels) = subst (λ (i : ℕ). AllSpelled spelling (items_by_count s i)) one spelled in
+    let whole : length (image_text spelling s) ≡ length (text_by_count spelling s 1) = ap (λ (i : ℕ). length (text_by_count spelling s i)) one in
+    let a : length (text_by_count spelling s 1) ≡ 8 + length (items_text spelling (stored s.is_sorted s.levels)) = omega arith in
+    let y = text_stored spelling s.is_sorted s.levels in
+    let z = ap (λ (xs : List A). length (items_text spelling xs)) e in
+    let same : 8 + length (items_text spelling items) ≡ length (image_text spelling s) = omega (arith, whole, a, y, z) in
+    subst (λ (n : ℕ). SomeIff r (n < 2 ^ 64) n) same (h (subst (AllSpelled spelling) e (all_stored P s.is_sorted s.levels w)))

@@ -63,7 +63,11 @@ pub(crate) struct Levels {
     pub(crate) bounds: Vec<usize>,
 }
 
-pub(crate) fn read_levels(alloc: Global, k: u16, input: &mut SketchSlice<'_>) -> Result<Levels, Error>
+pub(crate) fn read_levels(
+    alloc: Global,
+    k: u16,
+    input: &mut SketchSlice<'_>,
+) -> Result<Levels, Error>
     requires { 8 ≤ k }
     ensures found { IfOk result (λ x. ReadsLevels k input.old x.n x.min_k x.bounds.items input.new) }
     ensures capacity { IfOk result (λ x. x.capacity ≡ total_of k 8 (length x.bounds.items - 1)) }

@@ -108,7 +108,11 @@ impl<T: KllValue + Ord> KllSketch<T> {
             preamble,
             version,
             family: Family::KLL.id,
-            flags: if self.is_level_zero_sorted { kind + 2 } else { kind },
+            flags: if self.is_level_zero_sorted {
+                kind + 2
+            } else {
+                kind
+            },
             k: self.k,
             m: MINIMUM_CAPACITY,
             unused: 0,
