@@ -30,6 +30,7 @@ use std::alloc::{AllocError, Global};
 use std::marker::Model;
 
 mod merge;
+mod image;
 
 /// A KLL sketch of items of one type, after Karnin, Lang and Liberty, "Optimal quantile
 /// approximation in streams" (2016).
