@@ -22,6 +22,7 @@ impl<T: Clone + Ord> KllSketch<T> {
             is_level_zero_sorted: self.is_level_zero_sorted,
             items: self.items.clone()?,
             bounds: self.bounds.clone()?,
+            total_capacity: self.total_capacity,
             min_item: clone_found(self.min_item.as_ref())?,
             max_item: clone_found(self.max_item.as_ref())?,
         })
