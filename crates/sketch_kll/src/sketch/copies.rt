@@ -92,9 +92,6 @@ mod tests {
         }
         let mut copy = sketch.clone()?;
         assert!(rt; copy == sketch);
-        copy.is_level_zero_sorted = true;
-        assert!(rt; copy != sketch);
-        copy.is_level_zero_sorted = false;
         copy.update(3, &mut coins)?;
         assert!(rt; copy != sketch);
         Ok(())
