@@ -1,7 +1,6 @@
 -- clones of levels that lie in one list: level 0, and the levels above it
-use Rattle.std.proofs.Common.{◌≡◌, ℕ, zero, suc, ◌+◌, ◌-◌, ◌<◌, ◌≤◌, List, [], ◌∷◌, ◌++◌, length, get_or, take, drop, refl, sym, ap, ap₂, ◌∙◌, subst, arith, take_at, take-append-drop, length-append, Ordering, Equal}
+use Rattle.std.proofs.Common.{◌≡◌, ℕ, ◌+◌, ◌<◌, List, [], ◌∷◌, ◌++◌, length, get_or, take, drop, refl, sym, ap, ap₂, ◌∙◌, subst, arith, take_at, take-append-drop, length-append, Ordering, Equal}
 use Rattle.std.specs.List.{AllZip}
-use Rattle.std.specs.Cmp.{IsTotalOrder}
 use Rattle.sketch_base.specs.Bag.{SameItems}
 use Rattle.sketch_base.proofs.Items.{SameItems-take, SameItems-drop}
 use Rattle.sketch_kll.specs.Flat.{flat, marks, cut, levels_in, IsFlat}

@@ -1,8 +1,8 @@
 -- what comes of levels that others are merged into
-use Rattle.std.proofs.Common.{◌≡◌, ℕ, zero, suc, ◌+◌, ◌-◌, ◌*◌, ◌<◌, ◌≤◌, Bool, true, false, nat_lt, if◌then◌else◌, List, [], ◌∷◌, ◌++◌, length, get_or, map, Option, refl, sym, ap, ap₂, ◌∙◌, subst, arith, inl, inr, append-nil, length-append, lt-ltb, IsSorted, IsTrue, Ordering, Equal, is_lt}
+use Rattle.std.proofs.Common.{◌≡◌, ℕ, zero, suc, ◌+◌, ◌-◌, ◌*◌, ◌<◌, ◌≤◌, Bool, true, false, nat_lt, if◌then◌else◌, List, [], ◌∷◌, ◌++◌, length, get_or, map, refl, sym, ap, ◌∙◌, subst, arith, inl, inr, append-nil, length-append, lt-ltb, IsSorted, IsTrue, Ordering, Equal, is_lt}
 use Rattle.std.specs.List.{AllByRecursion}
 use Rattle.std.specs.Cmp.{IsTotalOrder}
-use Rattle.std.proofs.lemmas.Bool.{cases_Bool, cases_lt, false≢true}
+use Rattle.std.proofs.lemmas.Bool.{cases_lt, false≢true}
 use Rattle.std.proofs.lemmas.Cmp.{alike_right}
 use Rattle.sketch_base.specs.Bag.{Bag, AlikeKll, SameItems, sort, empty_bag}
 use Rattle.sketch_base.specs.Random.{bits_from, after_draws}
@@ -11,18 +11,17 @@ use Rattle.sketch_base.specs.Lengths.{acts_on_lengths}
 use Rattle.sketch_base.proofs.Alikes.{acts-kll}
 use Rattle.sketch_base.proofs.Calls.{calls-compose, source-composes, draws-append}
 use Rattle.sketch_base.proofs.Fixed.{lengths-acts, length-sort}
-use Rattle.sketch_base.proofs.Items.{SameItems-refl}
 use Rattle.sketch_kll.specs.Capacity.{total_of}
 use Rattle.sketch_kll.specs.Compress.{passes, stepped, walked, compress_of, IsCompressed}
 use Rattle.sketch_kll.specs.Join.{joined_upper, joined}
 use Rattle.sketch_kll.specs.Levels.{retained, weight, first_level, compacted, leftover_of, SameLevels, UpperSorted, AllItems}
-use Rattle.sketch_kll.specs.Merge.{pulls_actions, joins_actions, taking_actions, merge_actions}
+use Rattle.sketch_kll.specs.Merge.{pulls_actions, joins_actions, taking_actions}
 use Rattle.sketch_kll.specs.Merged.{merge_on, bag_beside, HaveMerged}
-use Rattle.sketch_kll.specs.Schedule.{updates_actions, compress_actions}
-use Rattle.sketch_kll.specs.Sketch.{bag_in, AllBetween, AllTie, IsFrom, IsUpTo, Ties}
+use Rattle.sketch_kll.specs.Schedule.{compress_actions}
+use Rattle.sketch_kll.specs.Sketch.{bag_in, IsFrom, IsUpTo, Ties}
 use Rattle.sketch_kll.specs.Steps.{keeps_last}
-use Rattle.sketch_kll.specs.Take.{AreKept, HaveTaken, updates_of}
-use Rattle.sketch_kll.proofs.Bridges.{LikeLevels, like-refl, like_same, length-lengths}
+use Rattle.sketch_kll.specs.Take.{HaveTaken, updates_of}
+use Rattle.sketch_kll.proofs.Bridges.{like-refl, like_same, length-lengths}
 use Rattle.sketch_kll.proofs.Compresses.{fine-walk}
 use Rattle.sketch_kll.proofs.Everywhere.{AllItems-compacted, AllItems-same, all-append, all-sort}
 use Rattle.sketch_kll.proofs.Extremes.{from-same, up_to-same, ties-same}

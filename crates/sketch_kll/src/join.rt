@@ -11,8 +11,11 @@ fn join_run<T: Ord>(items: &mut [T], from: usize, middle: usize, to: usize, coun
     requires above { from ≤ middle }
     requires below { middle ≤ to }
     requires within { to + count ≤ length items.old }
-    ensures parts { items.new ≡ take from items.old ++ (between from (middle + count) items.new ++ (between middle to items.old ++ drop (to + count) items.old)) }
-    ensures run { SameItems T.cmp (sort T.cmp (between from middle items.old ++ take count (drop to items.old))) (between from (middle + count) items.new) }
+    ensures parts { items.new ≡ take from items.old ++ (between from (middle + count) items.new
+        ++ (between middle to items.old ++ drop (to + count) items.old)) }
+    ensures run { SameItems T.cmp
+        (sort T.cmp (between from middle items.old ++ take count (drop to items.old)))
+        (between from (middle + count) items.new) }
     ensures sorted { IsSorted T.cmp (between from (middle + count) items.new) }
 {
     items[middle..to + count].rotate_right(count);
@@ -37,8 +40,12 @@ fn join_level<T: Ord>(items: &mut [T], bounds: &mut [usize], level: usize, count
     requires upper { 0 < level }
     requires some { slice_index bounds.old 0 + count ≤ length items.old }
     ensures flat { IsFlat (held items.new bounds.new) bounds.new }
-    ensures levels { SameLevels T.cmp (with_run T.cmp level (take count (waiting items.old bounds.old)) (levels_in (held items.old bounds.old) bounds.old)) (levels_in (held items.new bounds.new) bounds.new) }
-    ensures sorted { UpperSorted T.cmp (levels_in (held items.old bounds.old) bounds.old) → UpperSorted T.cmp (levels_in (held items.new bounds.new) bounds.new) }
+    ensures levels { SameLevels T.cmp
+        (with_run T.cmp level (take count (waiting items.old bounds.old))
+        (levels_in (held items.old bounds.old) bounds.old))
+        (levels_in (held items.new bounds.new) bounds.new) }
+    ensures sorted { UpperSorted T.cmp (levels_in (held items.old bounds.old) bounds.old)
+        → UpperSorted T.cmp (levels_in (held items.new bounds.new) bounds.new) }
     ensures rest { waiting items.new bounds.new ≡ drop count (waiting items.old bounds.old) }
 {
     let from = bounds[level + 1];
@@ -56,8 +63,12 @@ fn join_runs<T: Ord>(items: &mut [T], bounds: &mut [usize], runs: &[usize])
     requires some { 2 ≤ length runs.now }
     requires fewer { length runs.now ≤ length bounds.old }
     ensures flat { IsFlat items.new bounds.new }
-    ensures levels { SameLevels T.cmp (joined T.cmp (levels_in (held items.old bounds.old) bounds.old) (levels_in (waiting items.old bounds.old) (drop 1 runs.now))) (levels_in items.new bounds.new) }
-    ensures sorted { UpperSorted T.cmp (levels_in (held items.old bounds.old) bounds.old) → UpperSorted T.cmp (levels_in items.new bounds.new) }
+    ensures levels { SameLevels T.cmp
+        (joined T.cmp (levels_in (held items.old bounds.old) bounds.old)
+        (levels_in (waiting items.old bounds.old) (drop 1 runs.now)))
+        (levels_in items.new bounds.new) }
+    ensures sorted { UpperSorted T.cmp (levels_in (held items.old bounds.old) bounds.old)
+        → UpperSorted T.cmp (levels_in items.new bounds.new) }
 {
     let mut level = runs.len() - 2;
     while level > 0 {
@@ -93,8 +104,12 @@ pub(crate) fn join_levels<T: Ord + Drop>(
     requires room { vec_len items.old + vec_len upper ≤ vec_capacity items.old }
     requires spare { length runs.now ≤ vec_capacity bounds.old }
     ensures flat { IsFlat items.new.items bounds.new.items }
-    ensures levels { SameLevels T.cmp (joined T.cmp (levels_in items.old.items bounds.old.items) (levels_in upper.items (drop 1 runs.now))) (levels_in items.new.items bounds.new.items) }
-    ensures sorted { UpperSorted T.cmp (levels_in items.old.items bounds.old.items) → UpperSorted T.cmp (levels_in items.new.items bounds.new.items) }
+    ensures levels { SameLevels T.cmp
+        (joined T.cmp (levels_in items.old.items bounds.old.items)
+        (levels_in upper.items (drop 1 runs.now)))
+        (levels_in items.new.items bounds.new.items) }
+    ensures sorted { UpperSorted T.cmp (levels_in items.old.items bounds.old.items)
+        → UpperSorted T.cmp (levels_in items.new.items bounds.new.items) }
     ensures capacity { vec_capacity bounds.new ≡ vec_capacity bounds.old }
 {
     add_levels(bounds, runs.len());
