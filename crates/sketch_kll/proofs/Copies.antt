@@ -1,5 +1,5 @@
 -- Copies of a sketch: levels of clones, and equality of levels by items and bounds.
-use Rattle.std.proofs.Common.{◌≡◌, ℕ, suc, ◌+◌, ◌<◌, ◌≤◌, Bool, true, false, ◌&&◌, List, [], ◌∷◌, ◌++◌, length, take, drop, refl, sym, ap, ap₂, ◌∙◌, subst, arith, take-append-drop, Ordering, IsSorted}
+use Rattle.std.proofs.Common.{◌≡◌, ℕ, suc, ◌+◌, ◌<◌, ◌≤◌, Bool, true, false, ◌&&◌, List, [], ◌∷◌, ◌++◌, length, take, drop, refl, sym, ap, ap₂, ◌∙◌, subst, arith, take-append-drop, Ordering, IsSorted, is_gt}
 use Rattle.std.specs.Prelude.{Option, None, Some, IsTrue, MatchOption, nat_eq}
 use Rattle.std.specs.Cmp.{IsTotalOrder, both_ways, nat_eq_equiv, bool_eq_equiv}
 use Rattle.std.specs.Option.{option_eq}
@@ -15,7 +15,10 @@ use Rattle.sketch_base.specs.Queries.{SameAnswer}
 use Rattle.sketch_base.proofs.Entries.{sorted-same}
 use Rattle.sketch_kll.specs.Flat.{IsFlat, flat, levels_in, marks}
 use Rattle.sketch_kll.specs.Levels.{AllSorted, SameLevels, UpperSorted, first_level, retained, weight}
-use Rattle.sketch_kll.specs.Sketch.{Kll, IsSketch, IsSound, sketch_of}
+use Rattle.sketch_kll.specs.Sketch.{Kll, IsSketch, IsSound, sketch_of, IsFrom, IsUpTo, Ties, AreInOrder, AllBetween, AllTie}
+use Rattle.sketch_kll.proofs.Everywhere.{AllItems-same, AllItems-map}
+use Rattle.sketch_kll.proofs.Extremes.{from-same, up_to-same, ties-same}
+use Rattle.std.proofs.lemmas.Cmp.{alike_right}
 use Rattle.sketch_kll.specs.Capacity.{total_of}
 use Rattle.sketch_kll.proofs.Alikes.{SameItems-take, SameItems-drop}
 use Rattle.sketch_kll.proofs.Flats.{is_flat, length-flat, levels_of_flat, marks_head}
@@ -157,6 +160,45 @@ module _ {A : Type 0} {cmp : A → A → Ordering} (order : IsTotalOrder cmp) wh
   there-same (Some x) None n h k = absurd h
   there-same (Some x) (Some y) n h k = k
 
+  -- an extreme that compares equal bounds and ties with the same items
+  from-other : (l m : Option A) (x : A) → SameAnswer cmp l m → IsFrom cmp l x → IsFrom cmp m x
+  from-other None None x e h = h
+  from-other None (Some m) x e h = absurd e
+  from-other (Some l) None x e h = absurd e
+  from-other (Some l) (Some m) x e h = ap is_gt (sym (order.congr l m x e)) ∙ h
+
+  up_to-other : (g m : Option A) (x : A) → SameAnswer cmp g m → IsUpTo cmp g x → IsUpTo cmp m x
+  up_to-other None None x e h = h
+  up_to-other None (Some m) x e h = absurd e
+  up_to-other (Some g) None x e h = absurd e
+  up_to-other (Some g) (Some m) x e h = ap is_gt (sym (alike_right order g m x e)) ∙ h
+
+  ties-other : (y m : Option A) (x : A) → SameAnswer cmp y m → Ties cmp x y → Ties cmp x m
+  ties-other None None x e h = h
+  ties-other None (Some m) x e h = absurd e
+  ties-other (Some y) None x e h = absurd e
+  ties-other (Some y) (Some m) x e h = sym (alike_right order y m x e) ∙ h
+
+  in_order-same : (l l' g g' : Option A) → SameAnswer cmp l l' → SameAnswer cmp g g' → AreInOrder cmp l g → AreInOrder cmp l' g'
+  in_order-same None None g g' e f h = h
+  in_order-same None (Some l') g g' e f h = absurd e
+  in_order-same (Some l) None g g' e f h = absurd e
+  in_order-same (Some l) (Some l') g g' e f h = up_to-other g g' l' f (up_to-same order g l l' e h)
+
+  between-same : (l l' g g' : Option A) (ls ms : List (List A)) → SameAnswer cmp l l' → SameAnswer cmp g g' → SameLevels cmp ls ms → AllBetween cmp l g ls → AllBetween cmp l' g' ms
+  between-same l l' g g' ls ms e f same h =
+      let P : A → Type 0 = λ x. IsFrom cmp l x × IsUpTo cmp g x in
+      let Q : A → Type 0 = λ x. IsFrom cmp l' x × IsUpTo cmp g' x in
+      AllItems-same Q cmp (λ a b t q. (from-same order l' a b t q.0, up_to-same order g' a b t q.1)) ls ms same
+      (AllItems-map P Q (λ x q. (from-other l l' x e q.0, up_to-other g g' x f q.1)) ls h)
+
+  tie-same : (l l' g g' : Option A) (ls ms : List (List A)) → SameAnswer cmp l l' → SameAnswer cmp g g' → SameLevels cmp ls ms → AllTie cmp l g ls → AllTie cmp l' g' ms
+  tie-same l l' g g' ls ms e f same h =
+      let P : A → Type 0 = λ x. Ties cmp x l × Ties cmp x g in
+      let Q : A → Type 0 = λ x. Ties cmp x l' × Ties cmp x g' in
+      AllItems-same Q cmp (λ a b t q. (ties-same order l' a b t q.0, ties-same order g' a b t q.1)) ls ms same
+      (AllItems-map P Q (λ x q. (ties-other l l' x e q.0, ties-other g g' x f q.1)) ls h)
+
   pub sound-same : (s : Kll A) (ms : List (List A)) (least greatest : Option A) → IsSound cmp s → SameLevels cmp s.levels ms → SameAnswer cmp s.least least → SameAnswer cmp s.greatest greatest → IsSound cmp (record s { levels = ms; least = least; greatest = greatest })
   sound-same s ms least greatest sound h l g =
       let size = alike_size cmp s.levels ms h in
@@ -175,10 +217,15 @@ module _ {A : Type 0} {cmp : A → A → Ordering} (order : IsTotalOrder cmp) wh
         flag_holds = λ t. first-sorted-same s.levels ms h (sound.flag_holds t);
         least_there = there-same s.least least s.n l sound.least_there;
         greatest_there = there-same s.greatest greatest s.n g sound.greatest_there;
+        extremes_in_order = in_order-same s.least least s.greatest greatest l g sound.extremes_in_order;
+        items_between = between-same s.least least s.greatest greatest s.levels ms l g h sound.items_between;
+        one_level_at_first = λ few. sym size.counts ∙ sound.one_level_at_first few;
+        min_k_at_first = sound.min_k_at_first;
+        one_item_ties = λ one. tie-same s.least least s.greatest greatest s.levels ms l g h (sound.one_item_ties one);
       }
 
-  pub copied-sketch : (k min_k n : ℕ) (flag : Bool) (items items' : List A) (bounds bounds' : List ℕ) (least least' greatest greatest' : Option A) → IsSketch cmp items bounds (sketch_of k min_k n flag items bounds least greatest) → SameItems cmp items items' → bounds' ≡ bounds → SameAnswer cmp least least' → SameAnswer cmp greatest greatest' → IsSketch cmp items' bounds' (sketch_of k min_k n flag items' bounds' least' greatest')
-  copied-sketch k min_k n flag items items' bounds bounds' least least' greatest greatest' sketch h e l g =
+  pub copied-sketch : (k min_k n total : ℕ) (flag : Bool) (items items' : List A) (bounds bounds' : List ℕ) (least least' greatest greatest' : Option A) → IsSketch cmp items bounds total (sketch_of k min_k n flag items bounds least greatest) → SameItems cmp items items' → bounds' ≡ bounds → SameAnswer cmp least least' → SameAnswer cmp greatest greatest' → IsSketch cmp items' bounds' total (sketch_of k min_k n flag items' bounds' least' greatest')
+  copied-sketch k min_k n total flag items items' bounds bounds' least least' greatest greatest' sketch h e l g =
       let ls : List (List A) = levels_in items bounds in
       let made = same_flat cmp ls items' (subst (λ xs. SameItems cmp xs items') (sym sketch.flat.items_are) h) in
       let bounded : bounds' ≡ marks made.levels = e ∙ (sym sketch.flat.bounds_are ∙ marks-same cmp ls made.levels made.same) in
@@ -186,6 +233,7 @@ module _ {A : Type 0} {cmp : A → A → Ordering} (order : IsTotalOrder cmp) wh
       let sound = sound-same (sketch_of k min_k n flag items bounds least greatest) made.levels least' greatest' sketch.sound made.same l g in
       record {
         flat = is_flat items' bounds' made.levels made.items_are bounded;
+        total_is = sketch.total_is ∙ (ap (total_of k 8) (alike_size cmp ls made.levels made.same).counts ∙ ap (λ (ms : List (List A)). total_of k 8 (length ms)) levels);
         sound = subst (λ (ms : List (List A)). IsSound cmp (record { k = k; min_k = min_k; n = n; is_sorted = flag; levels = ms; least = least'; greatest = greatest' })) levels sound;
       }
 
@@ -202,9 +250,9 @@ module _ {A : Type 0} {cmp : A → A → Ordering} (order : IsTotalOrder cmp) wh
   extremes-equal eq ties (Some x) (Some y) h = ties x y ∙ ap is_eq h
 
   -- a copy of clones is equal
-  pub copy-equal : (eq : A → A → Bool) → ((x y : A) → eq x y ≡ is_eq (cmp x y)) → (k min_k n : ℕ) (flag : Bool) (items items' : List A) (bounds bounds' : List ℕ) (least least' greatest greatest' : Option A) → IsSketch cmp items bounds (sketch_of k min_k n flag items bounds least greatest) → SameItems cmp items items' → bounds' ≡ bounds → SameAnswer cmp least least' → SameAnswer cmp greatest greatest' → same_sketch eq (sketch_of k min_k n flag items bounds least greatest) (sketch_of k min_k n flag items' bounds' least' greatest') ≡ true
-  copy-equal eq ties k min_k n flag items items' bounds bounds' least least' greatest greatest' sketch h e l g =
-      let copy = copied-sketch k min_k n flag items items' bounds bounds' least least' greatest greatest' sketch h e l g in
+  pub copy-equal : (eq : A → A → Bool) → ((x y : A) → eq x y ≡ is_eq (cmp x y)) → (k min_k n total : ℕ) (flag : Bool) (items items' : List A) (bounds bounds' : List ℕ) (least least' greatest greatest' : Option A) → IsSketch cmp items bounds total (sketch_of k min_k n flag items bounds least greatest) → SameItems cmp items items' → bounds' ≡ bounds → SameAnswer cmp least least' → SameAnswer cmp greatest greatest' → same_sketch eq (sketch_of k min_k n flag items bounds least greatest) (sketch_of k min_k n flag items' bounds' least' greatest') ≡ true
+  copy-equal eq ties k min_k n total flag items items' bounds bounds' least least' greatest greatest' sketch h e l g =
+      let copy = copied-sketch k min_k n total flag items items' bounds bounds' least least' greatest greatest' sketch h e l g in
       let same_bounds : pointwise nat_eq bounds bounds' ≡ true = subst (λ bs. pointwise nat_eq bounds bs ≡ true) (sym e) (nat_list_eq_equiv.refl bounds) in
       let levels = sym (levels-equal eq items items' bounds bounds' sketch.flat copy.flat) ∙ both-true (pointwise nat_eq bounds bounds') (pointwise eq items items') same_bounds (items-equal eq ties items items' h) in
       both-true _ _ (both-true _ _ (both-true _ _ (both-true _ _ (both-true _ _ (both-true _ _ (nat_eq_equiv.refl k) (nat_eq_equiv.refl min_k)) (nat_eq_equiv.refl n)) (bool_eq_equiv.refl flag)) levels) (extremes-equal eq ties least least' l)) (extremes-equal eq ties greatest greatest' g)

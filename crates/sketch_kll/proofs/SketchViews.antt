@@ -91,9 +91,9 @@ module _ {A : Type 0} {cmp : A → A → Ordering} (order : IsTotalOrder cmp) wh
       e ∙ ap₂ (λ n ws. ranks_of n (differences 0 ws)) h.weighs_n (sym (cdf-same order criteria (expanded cmp (bag_of s)) v.entries points h.entries))
 
   -- a built view is one of the sketch
-  pub sketch-view : {E : Type 0} (k min_k n : ℕ) (flag : Bool) (items lent : List A) (bounds lent' : List ℕ) (least least' greatest greatest' : Option A) (r : Result (View A) E) → IsSketch cmp items bounds (sketch_of k min_k n flag items bounds least greatest) → lent ≡ items → lent' ≡ bounds → SameAnswer cmp least least' → SameAnswer cmp greatest greatest' → IfOk r (λ v. SameItems cmp (expanded cmp (bag_in flag (levels_in lent lent'))) v.entries) → IfOk r (λ v. v.held ≡ length lent) → IfOk r (λ v. v.least ≡ least') → IfOk r (λ v. v.greatest ≡ greatest') → IfOk r (IsViewOf cmp (sketch_of k min_k n flag items bounds least greatest))
-  sketch-view k min_k n flag items lent bounds lent' least least' greatest greatest' (Err e) sketch same same' l g entries held le ge = tt
-  sketch-view k min_k n flag items lent bounds lent' least least' greatest greatest' (Ok v) sketch same same' l g entries held le ge =
+  pub sketch-view : {E : Type 0} (k min_k n total : ℕ) (flag : Bool) (items lent : List A) (bounds lent' : List ℕ) (least least' greatest greatest' : Option A) (r : Result (View A) E) → IsSketch cmp items bounds total (sketch_of k min_k n flag items bounds least greatest) → lent ≡ items → lent' ≡ bounds → SameAnswer cmp least least' → SameAnswer cmp greatest greatest' → IfOk r (λ v. SameItems cmp (expanded cmp (bag_in flag (levels_in lent lent'))) v.entries) → IfOk r (λ v. v.held ≡ length lent) → IfOk r (λ v. v.least ≡ least') → IfOk r (λ v. v.greatest ≡ greatest') → IfOk r (IsViewOf cmp (sketch_of k min_k n flag items bounds least greatest))
+  sketch-view k min_k n total flag items lent bounds lent' least least' greatest greatest' (Err e) sketch same same' l g entries held le ge = tt
+  sketch-view k min_k n total flag items lent bounds lent' least least' greatest greatest' (Ok v) sketch same same' l g entries held le ge =
       is-view_of (sketch_of k min_k n flag items bounds least greatest) v
       (subst (λ ls. SameItems cmp (expanded cmp (bag_in flag ls)) v.entries) (ap₂ levels_in same same') entries)
       sketch.sound.weighs_n

@@ -28,5 +28,5 @@ returns-clause-view g c =
     let greatest = subst (λ (x : Option g.row.T.Denot). SameAnswer g.T.Ord.cmp x c.in_ok-greatest.greatest) c.as_ref-2.ensures.value c.in_ok-greatest.ensures.same in
     let e = c.build_sorted_view.ensures in
     rw (← c.self.view_is)
-    (sketch-view g.met.T.Ord.total i.k i.min_k i.n i.is_level_zero_sorted i.items.items c.as_slice.result.now i.bounds.items c.as_slice-2.result.now i.min_item c.in_ok-least.least i.max_item c.in_ok-greatest.greatest
+    (sketch-view g.met.T.Ord.total i.k i.min_k i.n i.total_capacity i.is_level_zero_sorted i.items.items c.as_slice.result.now i.bounds.items c.as_slice-2.result.now i.min_item c.in_ok-least.least i.max_item c.in_ok-greatest.greatest
     c.build_sorted_view.result c.self.invariant c.as_slice.ensures.value c.as_slice-2.ensures.value least greatest e.entries e.held e.least e.greatest)
