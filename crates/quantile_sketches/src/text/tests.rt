@@ -231,7 +231,7 @@ fn uses_forged_images(rt: HostRuntime) -> Result<(), Fail> {
     sketch.update(1, &mut coins)?;
     assert_eq!(rt; coins.drawn(), 1);
     let again = sketch.serialize()?;
-    assert_eq!(rt; again[18], 61);
+    assert_eq!(rt; again.as_slice().get(18), Some(&61));
     Ok(())
 }
 

@@ -50,14 +50,8 @@ fn weight_between(bounds: &[usize]) -> Option<u64>
     while level > 0 {
         level -= 1;
         let count = bounds[level] - bounds[level + 1];
-        let doubled = match weight.checked_mul(2) {
-            Some(doubled) => doubled,
-            None => return None,
-        };
-        weight = match doubled.checked_add(count as u64) {
-            Some(sum) => sum,
-            None => return None,
-        };
+        let doubled = weight.checked_mul(2)?;
+        weight = doubled.checked_add(count as u64)?;
     }
     Some(weight)
 }
