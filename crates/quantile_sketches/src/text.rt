@@ -30,8 +30,10 @@ pub fn image_bytes(alloc: Global, text: &str) -> Result<Option<Vec<u8>>, Error>
 {
     match hex::decode(alloc, text) {
         Ok(bytes) => Ok(Some(bytes)),
-        Err(FromHexError::OutOfMemory) => Err(Error::new(ErrorKind::OutOfMemory)),
-        Err(_) => Ok(None),
+        Err(error) => match error {
+            FromHexError::OutOfMemory => Err(Error::new(ErrorKind::OutOfMemory)),
+            _ => Ok(None),
+        },
     }
 }
 

@@ -1,5 +1,5 @@
-//! What an image lays out, over plain parts: its header, its levels, its items. The calls of a sketch
-//! that read and write a whole image stand with the sketch.
+//! What an image lays out, over plain parts: its header, its levels, its items. The calls of a
+//! sketch that read and write a whole image stand with the sketch.
 ghost use Rattle.std.specs.Prelude.{◌≡◌, ◌≢◌, ◌-◌, ◌<◌, ◌≤◌, length, IfOk, IfErr};
 ghost use Rattle.sketch_base.specs.declared.error.ErrorKind.TheVariants.{InvalidArgument, InvalidData};
 ghost use Rattle.sketch_kll.specs.Capacity.{total_of};
@@ -46,9 +46,10 @@ pub(crate) fn read_layout<T: KllValue + Drop>(
     ensures some_level { IfOk result (λ x. 1 < length x.bounds.items) }
     ensures capacity { IfOk result (λ x. x.capacity ≡ total_of k 8 (length x.bounds.items - 1)) }
     ensures flag { IfOk result (λ x. x.is_sorted ≡ is_sorted) }
-    ensures found { IfOk result (λ x. IsLayout T.spelling input.old (laid_out k x) x.least x.greatest) }
+    ensures found { IfOk result (λ x.
+        IsLayout T.spelling input.old (laid_out k x) x.least x.greatest) }
     ensures refused { IfErr result (λ e. e ≡ InvalidData →
-        (s : Kll T) (x y : T) → s.k ≡ k → IsLayout T.spelling input.old s x y → ⊥) }
+        (s : Kll T) (x y : T) → s.k ≡ k → ¬ IsLayout T.spelling input.old s x y) }
     ensures kind { IfErr result (λ e. e ≢ InvalidArgument) }
 {
     let Levels {

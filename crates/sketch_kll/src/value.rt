@@ -33,13 +33,16 @@ pub trait KllValue: Clone {
     /// Reads a value that the input begins with.
     fn deserialize(alloc: Global, input: &mut SketchSlice<'_>) -> Result<Self, Error>
         ensures found { IfOk result (λ x. Begins spelling input.old x input.new) }
-        ensures refused { IfErr result (λ e. e ≡ InvalidData → (x : Self) (rest : List ℕ) → Begins spelling input.old x rest → ⊥) }
+        ensures refused { IfErr result (λ e. e ≡ InvalidData →
+            (x : Self) (rest : List ℕ) → ¬ Begins spelling input.old x rest) }
         ensures kind { IfErr result (λ e. e ≢ InvalidArgument) };
 
     /// A text begins with one spelling.
-    ghost is_prefix_free: { (x y : Self) (text rest others : List ℕ) → Begins spelling text x rest → Begins spelling text y others → spelling x ≡ spelling y };
+    ghost is_prefix_free: { (x y : Self) (text rest others : List ℕ) →
+        Begins spelling text x rest → Begins spelling text y others → spelling x ≡ spelling y };
 
-    ghost is_long: { (x : Self) → IsSome (spelling x) → MIN_SERIALIZED_SIZE ≤ length (bytes_of spelling x) };
+    ghost is_long: { (x : Self) → IsSome (spelling x) →
+        MIN_SERIALIZED_SIZE ≤ length (bytes_of spelling x) };
 }
 
 impl KllValue for i64 {

@@ -10,7 +10,8 @@ fn reverse_level<T>(items: &mut [T], bounds: &[usize], level: usize)
     requires flat { IsFlat items.old bounds.now }
     requires within { level + 1 < length bounds.now }
     ensures flat { IsFlat items.new bounds.now }
-    ensures levels { levels_in items.new bounds.now ≡ turned_at level (levels_in items.old bounds.now) }
+    ensures levels { levels_in items.new bounds.now ≡
+        turned_at level (levels_in items.old bounds.now) }
 {
     let start = bounds[level + 1];
     let end = bounds[level];
@@ -20,7 +21,8 @@ fn reverse_level<T>(items: &mut [T], bounds: &[usize], level: usize)
 fn reverse_run<T>(items: &mut [T], start: usize, end: usize)
     requires ordered { start ≤ end }
     requires within { end ≤ length items.old }
-    ensures { items.new ≡ take start items.old ++ (reverse (between start end items.old) ++ drop end items.old) }
+    ensures { items.new ≡
+        take start items.old ++ (reverse (between start end items.old) ++ drop end items.old) }
 {
     items[start..end].reverse();
 }

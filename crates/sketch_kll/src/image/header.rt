@@ -50,7 +50,8 @@ pub(crate) fn read_header(input: &mut SketchSlice<'_>) -> Result<Header, Error>
 }
 
 pub(crate) fn read_numbers(input: &mut SketchSlice<'_>) -> Result<Numbers, Error>
-    ensures found { IfOk result (λ x. input.old ≡ numbers_text x.n x.min_k x.num_levels x.unused ++ input.new) }
+    ensures found { IfOk result (λ x.
+        input.old ≡ numbers_text x.n x.min_k x.num_levels x.unused ++ input.new) }
     ensures short { IfErr result (λ e. (e ≡ InvalidData) × (length input.old < 12)) }
 {
     let n = input.read_u64_le()?;

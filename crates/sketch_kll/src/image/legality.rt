@@ -42,21 +42,16 @@ fn are_between<T: Ord>(items: &[T], least: &T, greatest: &T) -> bool
 // What the levels between these bounds weigh, if it fits.
 fn weight_between(bounds: &[usize]) -> Option<u64>
     requires { (lengths : List ℕ) × (bounds.now ≡ bounds_of lengths) }
-    ensures { (lengths : List ℕ) → bounds.now ≡ bounds_of lengths → SomeIff result (weight_of lengths < 2 ^ 64) (weight_of lengths) }
+    ensures { (lengths : List ℕ) → bounds.now ≡ bounds_of lengths →
+        SomeIff result (weight_of lengths < 2 ^ 64) (weight_of lengths) }
 {
     let mut weight: u64 = 0;
     let mut level = bounds.len() - 1;
     while level > 0 {
         level -= 1;
         let count = bounds[level] - bounds[level + 1];
-        let doubled = match weight.checked_mul(2) {
-            Some(doubled) => doubled,
-            None => return None,
-        };
-        weight = match doubled.checked_add(count as u64) {
-            Some(sum) => sum,
-            None => return None,
-        };
+        let doubled = weight.checked_mul(2)?;
+        weight = doubled.checked_add(count as u64)?;
     }
     Some(weight)
 }
@@ -65,7 +60,8 @@ fn weight_between(bounds: &[usize]) -> Option<u64>
 pub(crate) fn is_legal<T: Ord>(k: u16, layout: &Layout<T>) -> bool
     requires flat { IsFlat layout.now.items.items layout.now.bounds.items }
     requires some_level { 1 < length layout.now.bounds.items }
-    ensures { IsTrue result ↔ IsLegal T.cmp (laid_out k layout.now) layout.now.least layout.now.greatest }
+    ensures { IsTrue result ↔
+        IsLegal T.cmp (laid_out k layout.now) layout.now.least layout.now.greatest }
 {
     if layout.min_k < 8 {
         return false;

@@ -31,15 +31,18 @@ fn read_offsets(alloc: Global, input: &mut SketchSlice<'_>, count: usize) -> Res
     Ok(offsets)
 }
 
-// Where each level ends in a list that has the highest level first, if the levels fit between these places.
+// Where each level ends in a list that has the highest level first, if levels begin at these places
+// and end at the capacity.
 fn bounds_from(
     alloc: Global,
     offsets: &[u32],
     capacity: u32,
 ) -> Result<Option<Vec<usize>>, AllocError>
-    ensures found { IfOk result (λ o. IfSome o (λ b. (lengths : List ℕ) × (b.items ≡ bounds_of lengths) × AreLengths capacity offsets.now lengths)) }
+    ensures found { IfOk result (λ o. IfSome o (λ b. (lengths : List ℕ) ×
+        (b.items ≡ bounds_of lengths) × AreLengths capacity offsets.now lengths)) }
     ensures fit { (i : ℕ) → slice_index offsets.now i < 2 ^ 32 }
-    ensures none { IfOk result (λ o. IfNone o ((lengths : List ℕ) → AreLengths capacity offsets.now lengths → ⊥)) }
+    ensures none { IfOk result (λ o. IfNone o ((lengths : List ℕ) →
+        ¬ AreLengths capacity offsets.now lengths)) }
 {
     let mut bounds = Vec::with_capacity(alloc, offsets.len())?;
     let mut low = 0;
@@ -69,7 +72,8 @@ pub(crate) fn read_levels(
     input: &mut SketchSlice<'_>,
 ) -> Result<Levels, Error>
     requires { 8 ≤ k }
-    ensures found { IfOk result (λ x. ReadsLevels k input.old x.n x.min_k x.bounds.items input.new) }
+    ensures found { IfOk result (λ x.
+        ReadsLevels k input.old x.n x.min_k x.bounds.items input.new) }
     ensures capacity { IfOk result (λ x. x.capacity ≡ total_of k 8 (length x.bounds.items - 1)) }
     ensures refused { IfErr result (λ e. e ≡ InvalidData → NoLevels k input.old) }
     ensures kind { IfErr result (λ e. e ≢ InvalidArgument) }
@@ -132,9 +136,11 @@ pub(crate) fn read_contents<T: KllValue + Drop>(
     input: &mut SketchSlice<'_>,
     count: usize,
 ) -> Result<Contents<T>, Error>
-    ensures found { IfOk result (λ x. BeginsAll T.spelling input.old (x.least ∷ x.greatest ∷ x.items.items) []) }
+    ensures found { IfOk result (λ x.
+        BeginsAll T.spelling input.old (x.least ∷ x.greatest ∷ x.items.items) []) }
     ensures as_many { IfOk result (λ x. length x.items.items ≡ count) }
-    ensures refused { IfErr result (λ e. e ≡ InvalidData → (x y : T) (zs : List T) → length zs ≡ count → BeginsAll T.spelling input.old (x ∷ y ∷ zs) [] → ⊥) }
+    ensures refused { IfErr result (λ e. e ≡ InvalidData → (x y : T) (zs : List T) →
+        length zs ≡ count → ¬ BeginsAll T.spelling input.old (x ∷ y ∷ zs) []) }
     ensures kind { IfErr result (λ e. e ≢ InvalidArgument) }
 {
     let least = T::deserialize(alloc, input)?;

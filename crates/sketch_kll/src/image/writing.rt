@@ -38,7 +38,8 @@ pub(crate) fn write_offsets(
     requires bounds { (lengths : List ℕ) × (bounds.now ≡ bounds_of lengths) }
     requires within { slice_index bounds.now 0 ≤ capacity }
     ensures ok { OnOk result ((lengths : List ℕ) → bounds.now ≡ bounds_of lengths →
-        bytes.new ≡ bytes.old ++ flat_map (to_le_bytes w32) (offsets (capacity - total lengths) lengths)) }
+        bytes.new ≡ bytes.old ++
+        flat_map (to_le_bytes w32) (offsets (capacity - total lengths) lengths)) }
     ensures memory { IfErr result (λ e. e ≡ OutOfMemory) }
 {
     for level in 0..bounds.len() - 1 {
@@ -51,7 +52,7 @@ pub(crate) fn write_offsets(
 pub(crate) fn write_items<T: KllValue>(bytes: &mut SketchBytes, items: &[T]) -> Result<(), Error>
     ensures ok { OnOk result (bytes.new ≡ bytes.old ++ items_text T.spelling items.now) }
     ensures spelled { OnOk result (AllSpelled T.spelling items.now) }
-    ensures refused { IfErr result (λ e. e ≡ InvalidArgument → AllSpelled T.spelling items.now → ⊥) }
+    ensures refused { IfErr result (λ e. e ≡ InvalidArgument → ¬ AllSpelled T.spelling items.now) }
     ensures kind { IfErr result (λ e. e ≢ InvalidData) }
 {
     for item in items {
@@ -64,7 +65,8 @@ pub(crate) fn write_items<T: KllValue>(bytes: &mut SketchBytes, items: &[T]) -> 
 fn write_items_turned<T: KllValue>(bytes: &mut SketchBytes, items: &[T]) -> Result<(), Error>
     ensures ok { OnOk result (bytes.new ≡ bytes.old ++ items_text T.spelling (reverse items.now)) }
     ensures spelled { OnOk result (AllSpelled T.spelling (reverse items.now)) }
-    ensures refused { IfErr result (λ e. e ≡ InvalidArgument → AllSpelled T.spelling (reverse items.now) → ⊥) }
+    ensures refused { IfErr result (λ e. e ≡ InvalidArgument →
+        ¬ AllSpelled T.spelling (reverse items.now)) }
     ensures kind { IfErr result (λ e. e ≢ InvalidData) }
 {
     for i in 0..items.len() {
@@ -82,9 +84,12 @@ pub(crate) fn write_levels<T: KllValue>(
 ) -> Result<(), Error>
     requires flat { IsFlat items.now bounds.now }
     requires some_level { 1 < length bounds.now }
-    ensures ok { OnOk result (bytes.new ≡ bytes.old ++ items_text T.spelling (stored is_sorted (levels_in items.now bounds.now))) }
-    ensures spelled { OnOk result (AllSpelled T.spelling (stored is_sorted (levels_in items.now bounds.now))) }
-    ensures refused { IfErr result (λ e. e ≡ InvalidArgument → AllSpelled T.spelling (stored is_sorted (levels_in items.now bounds.now)) → ⊥) }
+    ensures ok { OnOk result (bytes.new ≡ bytes.old ++
+        items_text T.spelling (stored is_sorted (levels_in items.now bounds.now))) }
+    ensures spelled { OnOk result
+        (AllSpelled T.spelling (stored is_sorted (levels_in items.now bounds.now))) }
+    ensures refused { IfErr result (λ e. e ≡ InvalidArgument →
+        ¬ AllSpelled T.spelling (stored is_sorted (levels_in items.now bounds.now))) }
     ensures kind { IfErr result (λ e. e ≢ InvalidData) }
 {
     let lowest = level_slice(items, bounds, 0);
@@ -104,9 +109,11 @@ pub(crate) fn write_option<T: KllValue>(
     bytes: &mut SketchBytes,
     item: &Option<T>,
 ) -> Result<(), Error>
-    ensures ok { OnOk result (bytes.new ≡ bytes.old ++ items_text T.spelling (option_to_list item.now)) }
+    ensures ok { OnOk result (bytes.new ≡ bytes.old ++
+        items_text T.spelling (option_to_list item.now)) }
     ensures spelled { OnOk result (AllSpelled T.spelling (option_to_list item.now)) }
-    ensures refused { IfErr result (λ e. e ≡ InvalidArgument → AllSpelled T.spelling (option_to_list item.now) → ⊥) }
+    ensures refused { IfErr result (λ e. e ≡ InvalidArgument →
+        ¬ AllSpelled T.spelling (option_to_list item.now)) }
     ensures kind { IfErr result (λ e. e ≢ InvalidData) }
 {
     if let Some(item) = item {

@@ -59,7 +59,7 @@ impl<T: KllValue + Ord> KllSketch<T> {
         requires clones { (x y : T) → T.is_clone x y → T.cmp x y ≡ Equal }
         ensures found { IfOk result (λ s. IsImage T.cmp T.spelling bytes.now s) }
         ensures refused { IfErr result (λ e. e ≡ InvalidData →
-            (s : Kll T) → IsImage T.cmp T.spelling bytes.now s → ⊥) }
+            (s : Kll T) → ¬ IsImage T.cmp T.spelling bytes.now s) }
         ensures kind { IfErr result (λ e. e ≢ InvalidArgument) }
     {
         let mut input = SketchSlice::new(bytes);
@@ -123,7 +123,8 @@ impl<T: KllValue + Ord> KllSketch<T> {
         requires { self.now.n ≡ 1 }
         ensures ok { OnOk result (bytes.new ≡ bytes.old ++ image_text T.spelling self.now) }
         ensures spelled { OnOk result (AllSpelled T.spelling (written_items self.now)) }
-        ensures refused { IfErr result (λ e. e ≡ InvalidArgument → AllSpelled T.spelling (written_items self.now) → ⊥) }
+        ensures refused { IfErr result (λ e. e ≡ InvalidArgument →
+            ¬ AllSpelled T.spelling (written_items self.now)) }
         ensures kind { IfErr result (λ e. e ≢ InvalidData) }
     {
         write_header(bytes, &self.header(2, 2))?;
@@ -140,7 +141,8 @@ impl<T: KllValue + Ord> KllSketch<T> {
         requires { 2 ≤ self.now.n }
         ensures ok { OnOk result (bytes.new ≡ bytes.old ++ image_text T.spelling self.now) }
         ensures spelled { OnOk result (AllSpelled T.spelling (written_items self.now)) }
-        ensures refused { IfErr result (λ e. e ≡ InvalidArgument → AllSpelled T.spelling (written_items self.now) → ⊥) }
+        ensures refused { IfErr result (λ e. e ≡ InvalidArgument →
+            ¬ AllSpelled T.spelling (written_items self.now)) }
         ensures kind { IfErr result (λ e. e ≢ InvalidData) }
     {
         let bounds = self.bounds.as_slice();
@@ -180,7 +182,8 @@ fn read_empty<T: KllValue + Ord>(
 ) -> Result<KllSketch<T>, Error>
     requires { IsHead header.now 2 1 true false }
     ensures found { IfOk result (λ s. IsEmptyBody header.now input.old s) }
-    ensures refused { IfErr result (λ e. e ≡ InvalidData → (s : Kll T) → IsEmptyBody header.now input.old s → ⊥) }
+    ensures refused { IfErr result (λ e. e ≡ InvalidData →
+        (s : Kll T) → ¬ IsEmptyBody header.now input.old s) }
     ensures kind { IfErr result (λ e. e ≢ InvalidArgument) }
 {
     if !input.remaining().is_empty() {
@@ -208,7 +211,8 @@ fn read_item<T: KllValue + Ord>(
     requires clones { (x y : T) → T.is_clone x y → T.cmp x y ≡ Equal }
     requires head { IsHead header.now 2 2 false true }
     ensures found { IfOk result (λ s. IsItemBody T.cmp T.spelling header.now input.old s) }
-    ensures refused { IfErr result (λ e. e ≡ InvalidData → (s : Kll T) → IsItemBody T.cmp T.spelling header.now input.old s → ⊥) }
+    ensures refused { IfErr result (λ e. e ≡ InvalidData →
+        (s : Kll T) → ¬ IsItemBody T.cmp T.spelling header.now input.old s) }
     ensures kind { IfErr result (λ e. e ≢ InvalidArgument) }
 {
     let item = T::deserialize(alloc, input)?;
@@ -241,7 +245,8 @@ fn read_full<T: KllValue + Ord>(
     requires codec { SpellingsTie T.cmp T.spelling }
     requires head { IsHead header.now 5 1 false false }
     ensures found { IfOk result (λ s. IsFullBody T.cmp T.spelling header.now input.old s) }
-    ensures refused { IfErr result (λ e. e ≡ InvalidData → (s : Kll T) → IsFullBody T.cmp T.spelling header.now input.old s → ⊥) }
+    ensures refused { IfErr result (λ e. e ≡ InvalidData →
+        (s : Kll T) → ¬ IsFullBody T.cmp T.spelling header.now input.old s) }
     ensures kind { IfErr result (λ e. e ≢ InvalidArgument) }
 {
     let layout = read_layout(alloc, header.k, header.flags & 2 != 0, input)?;
