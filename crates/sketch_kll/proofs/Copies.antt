@@ -20,7 +20,7 @@ use Rattle.sketch_kll.proofs.Everywhere.{AllItems-same, AllItems-map}
 use Rattle.sketch_kll.proofs.Extremes.{from-same, up_to-same, ties-same}
 use Rattle.std.proofs.lemmas.Cmp.{alike_right}
 use Rattle.sketch_kll.specs.Capacity.{total_of}
-use Rattle.sketch_kll.proofs.Alikes.{SameItems-take, SameItems-drop}
+use Rattle.sketch_base.proofs.Items.{SameItems-take, SameItems-drop}
 use Rattle.sketch_kll.proofs.Flats.{is_flat, length-flat, levels_of_flat, marks_head}
 use Rattle.sketch_kll.proofs.Sketches.{alike_size}
 
