@@ -13,7 +13,7 @@ use Rattle.sketch_req.specs.Level.{Level, IsLevel, IsCompacted, IsTakenIn, parte
 use Rattle.sketch_req.specs.Actions.{coins_of, bag_of, coin_kind, compact_action}
 use Rattle.sketch_req.specs.declared.RankAccuracy.{RankAccuracy}
 use Rattle.sketch_req.specs.declared.RankAccuracy.TheVariants.{HighRank, LowRank}
-use Rattle.sketch_req.proofs.Order.{SameItems-refl}
+use Rattle.sketch_base.proofs.Items.{SameItems-refl}
 use Rattle.sketch_req.proofs.Sections.{is_plan}
 
 abbrev items_of : {A : Type 0} → List (Level A) → List (List A)
@@ -71,18 +71,18 @@ module _ {A : Type 0} {cmp : A → A → Ordering} (order : IsTotalOrder cmp) wh
 
   same_rest : (levels : List (Level A)) → AllZip SameSorted (items_of levels) (items_of levels)
   same_rest [] = tt
-  same_rest (level ∷ levels) = (SameItems-refl order (sort cmp level.items), same_rest levels)
+  same_rest (level ∷ levels) = (SameItems-refl cmp order (sort cmp level.items), same_rest levels)
 
   -- the levels, place by place
   same_levels : (below above : List (Level A)) (old new upper upper' : Level A) (left up : List A) → SameSorted new.items left → SameSorted upper'.items (upper.items ++ up) →
       AllZip SameSorted (items_of (below ++ new ∷ upper' ∷ above)) (with_level [] (suc (length below)) (λ level. level ++ up) (with_level [] (length below) (λ level. left) (items_of (below ++ old ∷ upper ∷ above))))
   same_levels [] above old new upper upper' left up s t = (s, (t, same_rest above))
-  same_levels (b ∷ below) above old new upper upper' left up s t = (SameItems-refl order (sort cmp b.items), same_levels below above old new upper upper' left up s t)
+  same_levels (b ∷ below) above old new upper upper' left up s t = (SameItems-refl cmp order (sort cmp b.items), same_levels below above old new upper upper' left up s t)
 
   same_top_levels : (below : List (Level A)) (old new upper' : Level A) (left up : List A) → SameSorted new.items left → SameSorted upper'.items up →
       AllZip SameSorted (items_of (below ++ new ∷ upper' ∷ [])) (with_level [] (suc (length below)) (λ level. level ++ up) (with_level [] (length below) (λ level. left) (items_of (below ++ old ∷ []))))
   same_top_levels [] old new upper' left up s t = (s, (t, tt))
-  same_top_levels (b ∷ below) old new upper' left up s t = (SameItems-refl order (sort cmp b.items), same_top_levels below old new upper' left up s t)
+  same_top_levels (b ∷ below) old new upper' left up s t = (SameItems-refl cmp order (sort cmp b.items), same_top_levels below old new upper' left up s t)
 
   -- what stays and what is taken in
   same_kept : (old new : Level A) (coin : Bool) (up : List A) → IsCompacted cmp old coin up new → SameSorted new.items (parted cmp old).0
