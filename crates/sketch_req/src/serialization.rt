@@ -1,30 +1,39 @@
-//! The layout of a REQ level: section sizes, section counts, and the checks of images.
+//! The layout of a REQ level: section sizes and counts, the constants of images, and the checks of what an image says.
 ghost use Rattle.std.specs.Prelude.{true, ◌≡◌, ◌≢◌, ℕ, suc, ◌+◌, ◌-◌, ◌*◌, ◌/◌, ◌%◌, ◌^◌, ◌<◌, ◌≤◌, ◌↔◌, nat_lt, IsOk, IfErr, IfSome, IfNone, if◌then◌else◌};
 ghost use Rattle.sketch_base.specs.declared.error.ErrorKind.TheVariants.{InvalidData};
 ghost use Rattle.sketch_req.specs.Sections.{IsLegalK, size_of, nearest_even, sections_of, growth_threshold, grows, grown_once, grown, IsLegalLayout, IsLegalState};
 
 use sketch_base::error::{Error, ErrorKind};
 
+/// The version of the format of images.
 pub const SERIAL_VERSION: u8 = 1;
 
+/// The length of the preamble in words of 4 bytes, of an image with at most one level.
 pub const PREAMBLE_INTS_EXACT: u8 = 2;
 
+/// The length of the preamble in words of 4 bytes, of an image with several levels.
 pub const PREAMBLE_INTS_ESTIMATION: u8 = 4;
 
+/// A sketch of one level with so many items or fewer is written as its items alone.
 pub const RAW_ITEMS_THRESHOLD: u64 = 4;
 
+/// The flag of an empty sketch.
 pub const FLAG_IS_EMPTY: u8 = 4;
 
+/// The flag of a sketch with exact high ranks.
 pub const FLAG_IS_HIGH_RANK: u8 = 8;
 
+/// The flag of an image that holds items alone.
 pub const FLAG_RAW_ITEMS: u8 = 16;
 
+/// The flag of a level 0 that counts as sorted.
 pub const FLAG_IS_LEVEL_ZERO_SORTED: u8 = 32;
 
-/// The least k and the least section size.
-pub(crate) const MIN_K: u16 = 4;
+/// The least k.
+const MIN_K: u16 = 4;
 
-pub(crate) const MAX_K: u16 = 1024;
+/// The greatest k.
+const MAX_K: u16 = 1024;
 
 /// The number, or the next where it is odd.
 pub fn nearest_even_section_size(value: u32) -> u32
@@ -34,7 +43,8 @@ pub fn nearest_even_section_size(value: u32) -> u32
     value + value % 2
 }
 
-/// The section size after some doublings of the section count, or 0 where there is none.
+/// The section size after some doublings of the section count: `2s` for the greatest `s` of at least 1 with
+/// `(2s-1)^2 * 2^doublings <= k^2`, and 0 where there is none. It is the even number nearest to `k / sqrt(2^doublings)`.
 pub fn section_size(k: u16, doublings: u8) -> u32
     requires legal { IsLegalK k }
     requires few { doublings ≤ 5 }
@@ -50,7 +60,7 @@ pub fn section_size(k: u16, doublings: u8) -> u32
 }
 
 /// Whether k is one of a REQ sketch.
-pub fn is_legal_k(k: u16) -> bool
+pub(crate) fn is_legal_k(k: u16) -> bool
     ensures legal { result ≡ true → IsLegalK k }
     ensures illegal { IsLegalK k → result ≡ true }
 {
@@ -108,8 +118,10 @@ fn doublings_of(num_sections: u8) -> Option<u8>
 /// Whether each smaller section count could double in this state.
 fn is_reached(state: u64, doublings: u8) -> bool
     requires { doublings ≤ 5 }
-    ensures reached { result ≡ true → (fewer : ℕ) → fewer < doublings → growth_threshold fewer ≤ state }
-    ensures missed { ((fewer : ℕ) → fewer < doublings → growth_threshold fewer ≤ state) → result ≡ true }
+    ensures reached { result ≡ true
+        → (fewer : ℕ) → fewer < doublings → growth_threshold fewer ≤ state }
+    ensures missed { ((fewer : ℕ) → fewer < doublings → growth_threshold fewer ≤ state)
+        → result ≡ true }
 {
     for fewer in 0..doublings {
         if state < growth_threshold_of(fewer) {
@@ -119,7 +131,8 @@ fn is_reached(state: u64, doublings: u8) -> bool
     true
 }
 
-/// Whether a level in an image has a legal layout.
+/// Whether a level in an image goes with the sketch's k and its place: `InvalidData` if k or the weight is another, or if
+/// state, section size and section count don't go together.
 pub fn validate_compactor_state(
     k: u16,
     expected_lg_weight: u8,
@@ -128,7 +141,8 @@ pub fn validate_compactor_state(
     lg_weight: u8,
     num_sections: u8,
 ) -> Result<(), Error>
-    ensures ok { IsOk result ↔ IsLegalState k expected_lg_weight state section_size lg_weight num_sections }
+    ensures ok { IsOk result
+        ↔ IsLegalState k expected_lg_weight state section_size lg_weight num_sections }
     ensures err { IfErr result (λ e. e ≡ InvalidData) }
 {
     if is_legal_k(k)
@@ -141,6 +155,7 @@ pub fn validate_compactor_state(
     }
 }
 
+/// Whether state, section size and section count go together.
 fn is_legal_layout(k: u16, state: u64, section_size: u32, num_sections: u8) -> bool
     requires { IsLegalK k }
     ensures legal { result ≡ true → IsLegalLayout k state section_size num_sections }
@@ -160,6 +175,7 @@ fn is_legal_layout(k: u16, state: u64, section_size: u32, num_sections: u8) -> b
     }
 }
 
+/// `InvalidData` for a version that isn't this one.
 pub fn check_serial_version(actual: u8) -> Result<(), Error>
     ensures ok { IsOk result ↔ (actual ≡ 1) }
     ensures err { IfErr result (λ e. e ≡ InvalidData) }
@@ -171,6 +187,7 @@ pub fn check_serial_version(actual: u8) -> Result<(), Error>
     }
 }
 
+/// `InvalidData` for a preamble of another length than that of so many levels.
 pub fn check_preamble_ints(actual: u8, num_levels: u8) -> Result<(), Error>
     ensures ok { IsOk result ↔ (actual ≡ (if nat_lt 1 num_levels then 4 else 2)) }
     ensures err { IfErr result (λ e. e ≡ InvalidData) }
@@ -188,25 +205,4 @@ pub fn check_preamble_ints(actual: u8, num_levels: u8) -> Result<(), Error>
 }
 
 #[cfg(test)]
-mod tests {
-    use super::*;
-    use std::test::Fail;
-
-    #[test]
-    fn section_sizes(rt: HostRuntime) -> Result<(), Fail> {
-        assert_eq!(rt; section_size(12, 0), 12);
-        assert_eq!(rt; section_size(12, 1), 8);
-        assert_eq!(rt; section_size(12, 2), 6);
-        assert_eq!(rt; section_size(12, 3), 4);
-        assert_eq!(rt; section_size(12, 4), 4);
-        assert_eq!(rt; section_size(12, 5), 2);
-        assert_eq!(rt; section_size(4, 5), 0);
-        assert_eq!(rt; nearest_even_section_size(0), 0);
-        assert_eq!(rt; nearest_even_section_size(1), 2);
-        assert_eq!(rt; nearest_even_section_size(2), 2);
-        assert_eq!(rt; nearest_even_section_size(3), 4);
-        assert_eq!(rt; nearest_even_section_size(4), 4);
-        assert_eq!(rt; nearest_even_section_size(13), 14);
-        Ok(())
-    }
-}
+mod tests;
