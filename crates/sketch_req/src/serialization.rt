@@ -1,4 +1,5 @@
-//! The layout of a REQ level: section sizes and counts, the constants of images, and the checks of what an image says.
+//! The layout of a REQ level: section sizes and counts, the constants of images, and the checks of
+//! what an image says.
 ghost use Rattle.std.specs.Prelude.{true, ◌≡◌, ◌≢◌, ℕ, suc, ◌+◌, ◌-◌, ◌*◌, ◌/◌, ◌%◌, ◌^◌, ◌<◌, ◌≤◌, ◌↔◌, nat_lt, IsOk, IfErr, IfSome, IfNone, if◌then◌else◌};
 ghost use Rattle.sketch_base.specs.declared.error.ErrorKind.TheVariants.{InvalidData};
 ghost use Rattle.sketch_req.specs.Sections.{IsLegalK, size_of, nearest_even, sections_of, growth_threshold, grows, grown_once, grown, IsLegalLayout, IsLegalState};
@@ -43,8 +44,9 @@ pub fn nearest_even_section_size(value: u32) -> u32
     value + value % 2
 }
 
-/// The section size after some doublings of the section count: `2s` for the greatest `s` of at least 1 with
-/// `(2s-1)^2 * 2^doublings <= k^2`, and 0 where there is none. It is the even number nearest to `k / sqrt(2^doublings)`.
+/// The section size after some doublings of the section count: `2s` for the greatest `s` of at
+/// least 1 with `(2s-1)^2 * 2^doublings <= k^2`, and 0 where there is none. It is the even number
+/// nearest to `k / sqrt(2^doublings)`.
 pub fn section_size(k: u16, doublings: u8) -> u32
     requires legal { IsLegalK k }
     requires few { doublings ≤ 5 }
@@ -131,8 +133,8 @@ fn is_reached(state: u64, doublings: u8) -> bool
     true
 }
 
-/// Whether a level in an image goes with the sketch's k and its place: `InvalidData` if k or the weight is another, or if
-/// state, section size and section count don't go together.
+/// Whether a level in an image goes with the sketch's k and its place: `InvalidData` if k or the
+/// weight is another, or if state, section size and section count don't go together.
 pub fn validate_compactor_state(
     k: u16,
     expected_lg_weight: u8,
