@@ -10,6 +10,7 @@ use Rattle.sketch_base.specs.declared.common.SearchCriteria.{SearchCriteria}
 use Rattle.sketch_base.specs.declared.error.ErrorKind.{ErrorKind}
 use Rattle.sketch_base.specs.declared.error.ErrorKind.TheVariants.{InvalidArgument}
 use Rattle.quantile_sketches.specs.declared.table.TheConstants.{SLOTS}
+use Rattle.quantile_sketches.specs.Behaviour.{Behaviour}
 use Rattle.quantile_sketches.specs.Lines.{lines, Serves}
 use Rattle.quantile_sketches.specs.Reader.{size_of}
 use Rattle.sketch_kll.specs.Sketch.{Kll, bag_of, update_of, IsUpdated}
@@ -38,6 +39,20 @@ IsRank s x criteria r =
     × IfSome r (λ w. w.weight ≡ weighted_rank int_cmp (counted int_cmp x criteria) (bag_of s))
     × IfSome r (λ w. w.total ≡ s.n)
 
+-- how KLL sketches behave
+abbrev pub kll : Behaviour (Kll ℤ) ℕ
+kll = record {
+  made = IsMade;
+  copied = λ s r. Unit {0};
+  emptied = λ s t. Unit {0};
+  taken = λ x s coins r t rest. TakesIn s x coins r t rest;
+  joined = λ o s coins r t rest. Unit {0};
+  rank = IsRank;
+  quantile = λ s fraction criteria r. Unit {0};
+  cdf = λ s points criteria r. Unit {0};
+  pmf = λ s points criteria r. Unit {0}
+}
+
 -- what is written for a text of commands on KLL sketches, from empty slots on
 abbrev pub ServesKll : ℕ → List ℕ → List ℕ → Type 0
-ServesKll seed text out = Serves size_of IsMade TakesIn IsRank (replicate SLOTS None) seed (lines text) out
+ServesKll seed text out = Serves size_of kll (replicate SLOTS None) seed (lines text) out
