@@ -85,7 +85,7 @@ module _ {A : Type 0} {cmp : A → A → Ordering} (o : IsTotalOrder cmp) where
       go (x ∷ xs) [] l = absurd l
 
   -- updates leave the scratch
-  scratch-stays : (actions : List (Action A)) (lengths : Work (List ℕ)) (word : List Bool) (work : Work (Bag A)) → Fine actions lengths → (acts cmp actions word work).scratch ≡ work.scratch
+  pub scratch-stays : (actions : List (Action A)) (lengths : Work (List ℕ)) (word : List Bool) (work : Work (Bag A)) → Fine actions lengths → (acts cmp actions word work).scratch ≡ work.scratch
   scratch-stays [] lengths word work f = refl
   scratch-stays (Put h x ∷ rest) lengths word work f = scratch-stays rest _ word (act cmp (Put h x) (next_bit word) work) f
   scratch-stays (Compact h Fresh AllButLeftover ∷ rest) lengths word work f = scratch-stays rest _ _ (act cmp (Compact h Fresh AllButLeftover) (next_bit word) work) f.1
@@ -189,6 +189,8 @@ filled cmp bit next source after k items s sound f =
       weighs = weight_is s.levels ∙ (sound.weighs_n ∙ f.counts);
       least = f.least;
       greatest = f.greatest;
+      few_levels = sound.has_few_levels;
+      upper_sorted = sound.upper_sorted;
       within = omega (arith, sound.within_capacity, retained_is s.levels, t);
       bound = omega (arith, sound.within_capacity, retained_is s.levels, b, f.k_is);
       bag = filled_bag cmp bit next source after k items s f;

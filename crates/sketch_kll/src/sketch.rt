@@ -26,6 +26,8 @@ use sketch_base::error::{Error, ErrorKind};
 use std::alloc::{AllocError, Global};
 use std::marker::Model;
 
+mod merge;
+
 /// A KLL sketch of items of one type, after Karnin, Lang and Liberty, "Optimal quantile
 /// approximation in streams" (2016).
 ///
@@ -403,17 +405,33 @@ fn make_room<T: Ord + Drop, B: RandomBits>(
     ensures sorted { UpperSorted T.cmp (levels_in items.old.items bounds.old.items)
         → UpperSorted T.cmp (levels_in items.new.items bounds.new.items) }
     ensures capacity { vec_capacity items.new ≡ vec_capacity items.old }
+    ensures bounds_capacity { vec_capacity bounds.old ≤ vec_capacity bounds.new }
     ensures shorter { vec_len items.new ≤ vec_len items.old }
     ensures total { total.new ≡ total_of k 8 (length (levels_in items.new.items bounds.new.items)) }
     ensures coins { coins.new ≡ (if is_full k (levels_in items.old.items bounds.old.items)
         then B.next coins.old else coins.old) }
 {
+    let num_levels = bounds.len() - 1;
     if let Some(level) = level_to_compact(k, *total, items.as_slice(), bounds.as_slice()) {
         raise(bounds, level);
         let keeps_last = keeps_last_item(is_sorted, level);
         let coin = coins.random_bit();
         compact(items, bounds, level, keeps_last, coin);
-        *total = total_capacity(k, MINIMUM_CAPACITY, bounds.len() - 1);
+        *total = total_at(k, *total, num_levels, bounds.len() - 1);
+    }
+}
+
+// The total capacity at so many levels, from that at another number of them.
+fn total_at(k: u16, total: u32, known: usize, num_levels: usize) -> u32
+    requires k { 8 ≤ k }
+    requires total { total ≡ total_of k 8 known }
+    requires few_levels { num_levels ≤ 61 }
+    ensures { result ≡ total_of k 8 num_levels }
+{
+    if num_levels == known {
+        total
+    } else {
+        total_capacity(k, MINIMUM_CAPACITY, num_levels)
     }
 }
 
@@ -477,6 +495,9 @@ fn push_last<T: Drop>(items: &mut Vec<T>, bounds: &mut Vec<usize>, item: T)
     ensures flat { IsFlat items.new.items bounds.new.items }
     ensures levels { levels_in items.new.items bounds.new.items
         ≡ put item (levels_in items.old.items bounds.old.items) }
+    ensures len { vec_len items.new ≡ vec_len items.old + 1 }
+    ensures capacity { vec_capacity items.old ≤ vec_capacity items.new }
+    ensures bounds_capacity { vec_capacity bounds.new ≡ vec_capacity bounds.old }
 {
     items.push(item).unwrap();
     bounds[0] = items.len();
