@@ -2,7 +2,7 @@
 //! Nothing here knows of slots or of sketches: those lie in `table` and `family`.
 ghost use Rattle.std.specs.Prelude.{◌≡◌, ◌++◌, [], ◌∷◌, OnOk};
 ghost use Rattle.std.specs.Io.KnownBytes.{Appends};
-ghost use Rattle.quantile_sketches.specs.Answer.{answer_text, ranks_text, refusal_text};
+ghost use Rattle.quantile_sketches.specs.Answer.{answer_text, rank_text, ranks_text, refusal_text};
 
 use sketch_base::common::Rank;
 use sketch_base::error::{Error, ErrorKind};
@@ -61,7 +61,7 @@ pub fn write_answer<W: Write>(output: &mut W, answer: Result<Answer, Refusal>) -
 {
     match answer {
         Ok(Answer::Done) => output.write_all(b"ok\n"),
-        Ok(Answer::Rank(Some(rank))) => writeln!(output, "{}/{}", rank.weight, rank.total),
+        Ok(Answer::Rank(Some(rank))) => write_ranks(output, &[rank]),
         Ok(Answer::Item(Some(item))) => writeln!(output, "{item}"),
         Ok(Answer::Ranks(Some(ranks))) => write_ranks(output, ranks.as_slice()),
         Ok(Answer::Rank(None) | Answer::Item(None) | Answer::Ranks(None)) => {
@@ -76,12 +76,20 @@ fn write_ranks<W: Write>(output: &mut W, ranks: &[Rank]) -> io::Result<()>
         (Appends (W.contents output.old) (W.contents output.new) (ranks_text ranks.now ++ 10 ∷ [])) }
 {
     if let [first, others @ ..] = ranks {
-        write!(output, "{}/{}", first.weight, first.total)?;
+        write_rank(output, *first)?;
         for i in 0..others.len() {
-            write!(output, " {}/{}", others[i].weight, others[i].total)?;
+            output.write_all(b" ")?;
+            write_rank(output, others[i])?;
         }
     }
     output.write_all(b"\n")
+}
+
+fn write_rank<W: Write>(output: &mut W, rank: Rank) -> io::Result<()>
+    ensures { OnOk result
+        (Appends (W.contents output.old) (W.contents output.new) (rank_text rank)) }
+{
+    write!(output, "{}/{}", rank.weight, rank.total)
 }
 
 fn refusal_line(refusal: Refusal) -> &'static [u8]
