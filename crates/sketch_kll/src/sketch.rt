@@ -18,6 +18,8 @@ ghost use Rattle.sketch_kll.specs.Schedule.{updates_trace};
 ghost use Rattle.sketch_kll.specs.Sketch.{bag_of, coins_of_update, newer_or, Ties, least_with, greatest_with, IsUpdated};
 ghost use Rattle.sketch_kll.specs.Steps.{full_level, is_full, with_room, keeps_last, put};
 
+mod queries;
+
 use crate::capacity::{MINIMUM_CAPACITY, level_capacity, total_capacity};
 use crate::compaction::compact_level;
 use sketch_base::common::random::RandomBits;
@@ -277,7 +279,7 @@ fn count_up_to<T: Ord>(items: &[T], query: &T) -> usize
 }
 
 // The items of one level.
-fn level_slice<'a, T>(items: &'a [T], bounds: &[usize], level: usize) -> &'a [T]
+pub(crate) fn level_slice<'a, T>(items: &'a [T], bounds: &[usize], level: usize) -> &'a [T]
     requires flat { IsFlat items.now bounds.now }
     requires within { level + 1 < length bounds.now }
     ensures { result.now ≡ first_level (drop level (levels_in items.now bounds.now)) }

@@ -1,0 +1,123 @@
+//! Queries of a sketch that go by a view, and copies of a sketch.
+ghost use Rattle.std.specs.Prelude.{◌≡◌, ℕ, ◌<◌, ◌↔◌, IsSome, IsErrOf, IfOk, IfErr, IfSome, None, length, map, sum_by};
+ghost use Rattle.std.specs.declared.cmp.Ordering.TheVariants.{Equal};
+ghost use Rattle.std.specs.List.{All};
+ghost use Rattle.std.specs.List.Sorted.{IsNonDecreasing};
+ghost use Rattle.sketch_base.specs.declared.error.ErrorKind.TheVariants.{InvalidArgument, OutOfMemory};
+ghost use Rattle.sketch_base.specs.Bag.{empty_bag, expanded, quantile};
+ghost use Rattle.sketch_base.specs.Queries.{IsFraction, IsIncreasing, SameAnswer, cdf_of, pmf_of, ranks_of};
+ghost use Rattle.sketch_base.specs.Views.{AreQuantiles};
+ghost use Rattle.sketch_kll.specs.Copy.{IsViewOf, expanded_view};
+ghost use Rattle.sketch_kll.specs.Sketch.{bag_of};
+
+use crate::sketch::KllSketch;
+use crate::sorted_view::{SortedView, build_sorted_view, clone_found};
+use sketch_base::common::{Rank, SearchCriteria};
+use sketch_base::common::queries::{check_fraction, check_fractions, check_points};
+use sketch_base::error::Error;
+use std::alloc::{AllocError, Global};
+
+impl<T: Clone + Ord> KllSketch<T> {
+    /// An empty sketch with k 200.
+    pub fn default(alloc: Global) -> Result<Self, Error>
+        ensures k { IfOk result (λ s. (s.k ≡ 200) × (s.min_k ≡ 200)) }
+        ensures n { IfOk result (λ s. s.n ≡ 0) }
+        ensures bag { IfOk result (λ s. bag_of s ≡ empty_bag) }
+        ensures extremes { IfOk result (λ s. (s.least ≡ None) × (s.greatest ≡ None)) }
+        ensures large { ¬ (IsErrOf result InvalidArgument) }
+    {
+        KllSketch::new(alloc, 200)
+    }
+
+    /// A snapshot of the items in order, for many queries.
+    pub fn sorted_view(&self) -> Result<SortedView<T>, Error>
+        requires clones { (x y : T) → T.is_clone x y → T.cmp x y ≡ Equal }
+        ensures view { IfOk result (IsViewOf T.cmp self.now) }
+        ensures memory { IfErr result (λ e. e ≡ OutOfMemory) }
+    {
+        let least = clone_found(self.min_item.as_ref())?;
+        let greatest = clone_found(self.max_item.as_ref())?;
+        build_sorted_view(
+            *self.items.allocator(),
+            self.items.as_slice(),
+            self.bounds.as_slice(),
+            self.is_level_zero_sorted,
+            least,
+            greatest,
+        )
+    }
+
+    /// The item that a fraction names; None for an empty sketch.
+    pub fn quantile(&self, fraction: Rank, criteria: SearchCriteria) -> Result<Option<T>, Error>
+        requires clones { (x y : T) → T.is_clone x y → T.cmp x y ≡ Equal }
+        ensures found { let s = self.now in IfOk result (SameAnswer T.cmp (quantile T.cmp (bag_of s) s.least s.greatest fraction.weight fraction.total criteria)) }
+        ensures there { IfOk result (λ found. IsSome found ↔ (0 < self.now.n)) }
+        ensures bad { IsErrOf result InvalidArgument ↔ ¬ (IsFraction fraction) }
+        ensures memory { IfErr result (λ e. IsFraction fraction → (e ≡ OutOfMemory) × (0 < self.now.n)) }
+    {
+        check_fraction(fraction)?;
+        if self.n == 0 {
+            return Ok(None);
+        }
+        self.sorted_view()?.quantile(fraction, criteria)
+    }
+
+    /// The items that fractions name, one for each; None for an empty sketch.
+    pub fn quantiles(
+        &self,
+        fractions: &[Rank],
+        criteria: SearchCriteria,
+    ) -> Result<Option<Vec<T>>, Error>
+        requires clones { (x y : T) → T.is_clone x y → T.cmp x y ≡ Equal }
+        ensures found { IfOk result (λ found. IfSome found (λ xs. AreQuantiles T.cmp (expanded_view T.cmp self.now) criteria fractions.now xs.items)) }
+        ensures there { IfOk result (λ found. IsSome found ↔ (0 < self.now.n)) }
+        ensures bad { IsErrOf result InvalidArgument ↔ ¬ (All IsFraction fractions.now) }
+        ensures memory { IfErr result (λ e. All IsFraction fractions.now → (e ≡ OutOfMemory) × (0 < self.now.n)) }
+    {
+        check_fractions(fractions)?;
+        if self.n == 0 {
+            return Ok(None);
+        }
+        self.sorted_view()?.quantiles(fractions, criteria)
+    }
+
+    /// The rank of each split point, and last the whole; None for an empty sketch.
+    pub fn cdf(
+        &self,
+        points: &[T],
+        criteria: SearchCriteria,
+    ) -> Result<Option<Vec<Rank>>, Error>
+        requires clones { (x y : T) → T.is_clone x y → T.cmp x y ≡ Equal }
+        ensures found { let s = self.now in IfOk result (λ found. IfSome found (λ ranks. ranks.items ≡ ranks_of s.n (cdf_of T.cmp criteria (expanded T.cmp (bag_of s)) points.now))) }
+        ensures rises { IfOk result (λ found. IfSome found (λ ranks. IsNonDecreasing (map (λ (r : Rank). r.weight) ranks.items))) }
+        ensures there { IfOk result (λ found. IsSome found ↔ (0 < self.now.n)) }
+        ensures bad { IsErrOf result InvalidArgument ↔ ¬ (IsIncreasing T.cmp points.now) }
+        ensures memory { IfErr result (λ e. IsIncreasing T.cmp points.now → (e ≡ OutOfMemory) × (0 < self.now.n)) }
+    {
+        check_points(points)?;
+        if self.n == 0 {
+            return Ok(None);
+        }
+        self.sorted_view()?.cdf(points, criteria)
+    }
+
+    /// How much lies between the split points; None for an empty sketch.
+    pub fn pmf(
+        &self,
+        points: &[T],
+        criteria: SearchCriteria,
+    ) -> Result<Option<Vec<Rank>>, Error>
+        requires clones { (x y : T) → T.is_clone x y → T.cmp x y ≡ Equal }
+        ensures found { let s = self.now in IfOk result (λ found. IfSome found (λ ranks. ranks.items ≡ ranks_of s.n (pmf_of T.cmp criteria (expanded T.cmp (bag_of s)) points.now))) }
+        ensures sums { IfOk result (λ found. IfSome found (λ ranks. sum_by (λ (r : Rank). r.weight) ranks.items ≡ self.now.n)) }
+        ensures there { IfOk result (λ found. IsSome found ↔ (0 < self.now.n)) }
+        ensures bad { IsErrOf result InvalidArgument ↔ ¬ (IsIncreasing T.cmp points.now) }
+        ensures memory { IfErr result (λ e. IsIncreasing T.cmp points.now → (e ≡ OutOfMemory) × (0 < self.now.n)) }
+    {
+        check_points(points)?;
+        if self.n == 0 {
+            return Ok(None);
+        }
+        self.sorted_view()?.pmf(points, criteria)
+    }
+}
