@@ -1,7 +1,10 @@
 -- Copies of a sketch: levels of clones, and equality of levels by items and bounds.
 use Rattle.std.proofs.Common.{◌≡◌, ℕ, suc, ◌+◌, ◌<◌, ◌≤◌, Bool, true, false, ◌&&◌, List, [], ◌∷◌, ◌++◌, length, take, drop, refl, sym, ap, ap₂, ◌∙◌, subst, arith, take-append-drop, Ordering, IsSorted}
 use Rattle.std.specs.Prelude.{Option, None, Some, IsTrue, MatchOption, nat_eq}
-use Rattle.std.specs.Cmp.{IsTotalOrder, both_ways}
+use Rattle.std.specs.Cmp.{IsTotalOrder, both_ways, nat_eq_equiv, bool_eq_equiv}
+use Rattle.std.specs.Option.{option_eq}
+use Rattle.std.specs.Ordering.{is_eq}
+use Rattle.sketch_kll.specs.Copy.{same_sketch}
 use Rattle.std.specs.Cmp.Lexicographic.{pointwise, same_text, nat_list_eq_equiv}
 use Rattle.std.specs.declared.cmp.Ordering.TheVariants.{Equal}
 use Rattle.std.proofs.lemmas.Bool.{false≢true}
@@ -118,15 +121,15 @@ module _ {A : Type 0} (E : A → A → Bool) where
   levels-equal items items' bounds bounds' f f' =
       both_ways (pointwise nat_eq bounds bounds' && pointwise E items items') (pointwise (pointwise E) (levels_in items bounds) (levels_in items' bounds'))
       (λ h.
-          let parts = and_parts (pointwise nat_eq bounds bounds') (pointwise E items items') h in
-          to-levels (levels_in items bounds) (levels_in items' bounds') (f.bounds_are ∙ (same_text bounds bounds' (sym parts.0) ∙ sym f'.bounds_are))
-          (ap₂ (λ xs ys. pointwise E xs ys) f.items_are f'.items_are ∙ parts.1))
+      let parts = and_parts (pointwise nat_eq bounds bounds') (pointwise E items items') h in
+      to-levels (levels_in items bounds) (levels_in items' bounds') (f.bounds_are ∙ (same_text bounds bounds' (sym parts.0) ∙ sym f'.bounds_are))
+      (ap₂ (λ xs ys. pointwise E xs ys) f.items_are f'.items_are ∙ parts.1))
       (λ h.
-          let parts = from-levels (levels_in items bounds) (levels_in items' bounds') h in
-          let same : bounds ≡ bounds' = sym f.bounds_are ∙ (parts.0 ∙ f'.bounds_are) in
-          both-true (pointwise nat_eq bounds bounds') (pointwise E items items')
-          (subst (λ bs. pointwise nat_eq bounds bs ≡ true) same (nat_list_eq_equiv.refl' bounds))
-          (sym (ap₂ (λ xs ys. pointwise E xs ys) f.items_are f'.items_are) ∙ parts.1))
+      let parts = from-levels (levels_in items bounds) (levels_in items' bounds') h in
+      let same : bounds ≡ bounds' = sym f.bounds_are ∙ (parts.0 ∙ f'.bounds_are) in
+      both-true (pointwise nat_eq bounds bounds') (pointwise E items items')
+      (subst (λ bs. pointwise nat_eq bounds bs ≡ true) same (nat_list_eq_equiv.refl bounds))
+      (sym (ap₂ (λ xs ys. pointwise E xs ys) f.items_are f'.items_are) ∙ parts.1))
 
 -- what every sketch keeps, kept by a copy of clones
 module _ {A : Type 0} {cmp : A → A → Ordering} (order : IsTotalOrder cmp) where
@@ -185,3 +188,23 @@ module _ {A : Type 0} {cmp : A → A → Ordering} (order : IsTotalOrder cmp) wh
         flat = is_flat items' bounds' made.levels made.items_are bounded;
         sound = subst (λ (ms : List (List A)). IsSound cmp (record { k = k; min_k = min_k; n = n; is_sorted = flag; levels = ms; least = least'; greatest = greatest' })) levels sound;
       }
+
+  items-equal : (eq : A → A → Bool) → ((x y : A) → eq x y ≡ is_eq (cmp x y)) → (xs ys : List A) → SameItems cmp xs ys → pointwise eq xs ys ≡ true
+  items-equal eq ties [] [] h = refl
+  items-equal eq ties [] (y ∷ ys) h = absurd h
+  items-equal eq ties (x ∷ xs) [] h = absurd h
+  items-equal eq ties (x ∷ xs) (y ∷ ys) h = both-true (eq x y) (pointwise eq xs ys) (ties x y ∙ ap is_eq h.0) (items-equal eq ties xs ys h.1)
+
+  extremes-equal : (eq : A → A → Bool) → ((x y : A) → eq x y ≡ is_eq (cmp x y)) → (x y : Option A) → SameAnswer cmp x y → option_eq eq x y ≡ true
+  extremes-equal eq ties None None h = refl
+  extremes-equal eq ties None (Some y) h = absurd h
+  extremes-equal eq ties (Some x) None h = absurd h
+  extremes-equal eq ties (Some x) (Some y) h = ties x y ∙ ap is_eq h
+
+  -- a copy of clones is equal
+  pub copy-equal : (eq : A → A → Bool) → ((x y : A) → eq x y ≡ is_eq (cmp x y)) → (k min_k n : ℕ) (flag : Bool) (items items' : List A) (bounds bounds' : List ℕ) (least least' greatest greatest' : Option A) → IsSketch cmp items bounds (sketch_of k min_k n flag items bounds least greatest) → SameItems cmp items items' → bounds' ≡ bounds → SameAnswer cmp least least' → SameAnswer cmp greatest greatest' → same_sketch eq (sketch_of k min_k n flag items bounds least greatest) (sketch_of k min_k n flag items' bounds' least' greatest') ≡ true
+  copy-equal eq ties k min_k n flag items items' bounds bounds' least least' greatest greatest' sketch h e l g =
+      let copy = copied-sketch k min_k n flag items items' bounds bounds' least least' greatest greatest' sketch h e l g in
+      let same_bounds : pointwise nat_eq bounds bounds' ≡ true = subst (λ bs. pointwise nat_eq bounds bs ≡ true) (sym e) (nat_list_eq_equiv.refl bounds) in
+      let levels = sym (levels-equal eq items items' bounds bounds' sketch.flat copy.flat) ∙ both-true (pointwise nat_eq bounds bounds') (pointwise eq items items') same_bounds (items-equal eq ties items items' h) in
+      both-true _ _ (both-true _ _ (both-true _ _ (both-true _ _ (both-true _ _ (both-true _ _ (nat_eq_equiv.refl k) (nat_eq_equiv.refl min_k)) (nat_eq_equiv.refl n)) (bool_eq_equiv.refl flag)) levels) (extremes-equal eq ties least least' l)) (extremes-equal eq ties greatest greatest' g)

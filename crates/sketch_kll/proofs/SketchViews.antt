@@ -17,7 +17,10 @@ use Rattle.sketch_base.proofs.Entries.{SameAnswer-trans, cdf-same, quantile-same
 use Rattle.sketch_base.proofs.Sums.{sum_by-expanded}
 use Rattle.sketch_kll.specs.Copy.{IsViewOf, expanded_view}
 use Rattle.sketch_kll.specs.Levels.{retained, weight}
-use Rattle.sketch_kll.specs.Sketch.{Kll, IsSound, bag_of}
+use Rattle.sketch_kll.specs.Flat.{levels_in}
+use Rattle.sketch_kll.specs.Sketch.{Kll, IsSketch, IsSound, bag_in, bag_of, sketch_of}
+use Rattle.sketch_kll.proofs.Flats.{length-items}
+use Rattle.std.specs.declared.vec.Vec.{Vec}
 use Rattle.sketch_kll.proofs.Ranks.{retained_is, weight_is}
 
 pub ok-weaker : {T E : Type 0} (r : Result T E) (P Q : T → Type 0) → ((x : T) → P x → Q x) → IfOk r P → IfOk r Q
@@ -86,3 +89,32 @@ module _ {A : Type 0} {cmp : A → A → Ordering} (order : IsTotalOrder cmp) wh
   pub pmf-of_view : (s : Kll A) (v : View A) (criteria : SearchCriteria) (points : List A) (ranks : List Rank) → IsViewOf cmp s v → ranks ≡ ranks_of (length v.entries) (pmf_of cmp criteria v.entries points) → ranks ≡ ranks_of s.n (pmf_of cmp criteria (expanded cmp (bag_of s)) points)
   pmf-of_view s v criteria points ranks h e =
       e ∙ ap₂ (λ n ws. ranks_of n (differences 0 ws)) h.weighs_n (sym (cdf-same order criteria (expanded cmp (bag_of s)) v.entries points h.entries))
+
+  -- a built view is one of the sketch
+  pub sketch-view : {E : Type 0} (k min_k n : ℕ) (flag : Bool) (items lent : List A) (bounds lent' : List ℕ) (least least' greatest greatest' : Option A) (r : Result (View A) E) → IsSketch cmp items bounds (sketch_of k min_k n flag items bounds least greatest) → lent ≡ items → lent' ≡ bounds → SameAnswer cmp least least' → SameAnswer cmp greatest greatest' → IfOk r (λ v. SameItems cmp (expanded cmp (bag_in flag (levels_in lent lent'))) v.entries) → IfOk r (λ v. v.held ≡ length lent) → IfOk r (λ v. v.least ≡ least') → IfOk r (λ v. v.greatest ≡ greatest') → IfOk r (IsViewOf cmp (sketch_of k min_k n flag items bounds least greatest))
+  sketch-view k min_k n flag items lent bounds lent' least least' greatest greatest' (Err e) sketch same same' l g entries held le ge = tt
+  sketch-view k min_k n flag items lent bounds lent' least least' greatest greatest' (Ok v) sketch same same' l g entries held le ge =
+      is-view_of (sketch_of k min_k n flag items bounds least greatest) v
+      (subst (λ ls. SameItems cmp (expanded cmp (bag_in flag ls)) v.entries) (ap₂ levels_in same same') entries)
+      sketch.sound.weighs_n
+      (held ∙ (ap length same ∙ length-items items bounds sketch.flat))
+      (subst (λ x. SameAnswer cmp least x) (sym le) l)
+      (subst (λ x. SameAnswer cmp greatest x) (sym ge) g)
+
+  pub quantile-result : {E : Type 0} (s : Kll A) (v : View A) (fraction : Rank) (criteria : SearchCriteria) (r : Result (Option A) E) → IsViewOf cmp s v → IfOk r (SameAnswer cmp (quantile_of v fraction criteria)) → IfOk r (SameAnswer cmp (quantile cmp (bag_of s) s.least s.greatest fraction.weight fraction.total criteria))
+  quantile-result s v fraction criteria r h = ok-weaker r (SameAnswer cmp (quantile_of v fraction criteria)) (SameAnswer cmp (quantile cmp (bag_of s) s.least s.greatest fraction.weight fraction.total criteria)) (λ found k. quantile-of_view s v fraction.weight fraction.total criteria found h k)
+
+  pub quantiles-result : {E Z : Type 0} (s : Kll A) (v : View A) (criteria : SearchCriteria) (fractions : List Rank) (r : Result (Option (Vec A Z)) E) → IsViewOf cmp s v → IfOk r (λ found. IfSome found (λ xs. AreQuantiles cmp v criteria fractions xs.items)) → IfOk r (λ found. IfSome found (λ xs. AreQuantiles cmp (expanded_view cmp s) criteria fractions xs.items))
+  quantiles-result s v criteria fractions r h =
+      ok-weaker r (λ found. IfSome found (λ xs. AreQuantiles cmp v criteria fractions xs.items)) (λ found. IfSome found (λ xs. AreQuantiles cmp (expanded_view cmp s) criteria fractions xs.items))
+      (λ found. some-weaker found (λ xs. AreQuantiles cmp v criteria fractions xs.items) (λ xs. AreQuantiles cmp (expanded_view cmp s) criteria fractions xs.items) (λ xs. quantiles-of_view s v criteria fractions xs.items h))
+
+  pub cdf-result : {E Z : Type 0} (s : Kll A) (v : View A) (criteria : SearchCriteria) (points : List A) (r : Result (Option (Vec Rank Z)) E) → IsViewOf cmp s v → IfOk r (λ found. IfSome found (λ ranks. ranks.items ≡ ranks_of (length v.entries) (cdf_of cmp criteria v.entries points))) → IfOk r (λ found. IfSome found (λ ranks. ranks.items ≡ ranks_of s.n (cdf_of cmp criteria (expanded cmp (bag_of s)) points)))
+  cdf-result s v criteria points r h =
+      ok-weaker r (λ found. IfSome found (λ ranks. ranks.items ≡ ranks_of (length v.entries) (cdf_of cmp criteria v.entries points))) (λ found. IfSome found (λ ranks. ranks.items ≡ ranks_of s.n (cdf_of cmp criteria (expanded cmp (bag_of s)) points)))
+      (λ found. some-weaker found (λ ranks. ranks.items ≡ ranks_of (length v.entries) (cdf_of cmp criteria v.entries points)) (λ ranks. ranks.items ≡ ranks_of s.n (cdf_of cmp criteria (expanded cmp (bag_of s)) points)) (λ ranks. cdf-of_view s v criteria points ranks.items h))
+
+  pub pmf-result : {E Z : Type 0} (s : Kll A) (v : View A) (criteria : SearchCriteria) (points : List A) (r : Result (Option (Vec Rank Z)) E) → IsViewOf cmp s v → IfOk r (λ found. IfSome found (λ ranks. ranks.items ≡ ranks_of (length v.entries) (pmf_of cmp criteria v.entries points))) → IfOk r (λ found. IfSome found (λ ranks. ranks.items ≡ ranks_of s.n (pmf_of cmp criteria (expanded cmp (bag_of s)) points)))
+  pmf-result s v criteria points r h =
+      ok-weaker r (λ found. IfSome found (λ ranks. ranks.items ≡ ranks_of (length v.entries) (pmf_of cmp criteria v.entries points))) (λ found. IfSome found (λ ranks. ranks.items ≡ ranks_of s.n (pmf_of cmp criteria (expanded cmp (bag_of s)) points)))
+      (λ found. some-weaker found (λ ranks. ranks.items ≡ ranks_of (length v.entries) (pmf_of cmp criteria v.entries points)) (λ ranks. ranks.items ≡ ranks_of s.n (pmf_of cmp criteria (expanded cmp (bag_of s)) points)) (λ ranks. pmf-of_view s v criteria points ranks.items h))

@@ -1,5 +1,9 @@
 -- views and copies of a sketch
-use Rattle.std.specs.Prelude.{◌≡◌, ℕ, List, length}
+use Rattle.std.specs.Prelude.{◌≡◌, ℕ, Bool, ◌&&◌, nat_eq, List, length}
+use Rattle.std.specs.Cmp.{IsEquivalence, and_equiv, on_equiv, nat_eq_equiv, bool_eq_equiv}
+use Rattle.std.specs.Cmp.Lexicographic.{pointwise, lists_equiv, options_equiv}
+use Rattle.std.specs.Option.{option_eq}
+use mathlib.Core.Bool.{beq}
 use Rattle.std.specs.declared.cmp.Ordering.{Ordering}
 use Rattle.sketch_base.specs.declared.common.SearchCriteria.{SearchCriteria}
 use Rattle.sketch_base.specs.Bag.{SameItems, expanded, retained, weighted_rank}
@@ -21,3 +25,20 @@ pub record IsViewOf {A : Type 0} (cmp : A → A → Ordering) (s : Kll A) (v : V
   pub least : SameAnswer cmp s.least v.least
   pub greatest : SameAnswer cmp s.greatest v.greatest
   pub ranks : (y : A) (criteria : SearchCriteria) → true_rank cmp y criteria v.entries ≡ weighted_rank cmp (counted cmp y criteria) (bag_of s)
+
+-- whether two sketches are equal, by a test of items: numbers, flag, levels in list order, and extremes
+abbrev pub same_sketch : {A : Type 0} → (A → A → Bool) → Kll A → Kll A → Bool
+same_sketch eq s t =
+    nat_eq s.k t.k && nat_eq s.min_k t.min_k && nat_eq s.n t.n && beq s.is_sorted t.is_sorted
+    && pointwise (pointwise eq) s.levels t.levels && option_eq eq s.least t.least && option_eq eq s.greatest t.greatest
+
+pub same_sketch_equiv : {A : Type 0} {eq : A → A → Bool} → IsEquivalence eq → IsEquivalence (same_sketch eq)
+same_sketch_equiv e =
+    and_equiv (and_equiv (and_equiv (and_equiv (and_equiv (and_equiv
+    (on_equiv (λ s. s.k) nat_eq_equiv)
+    (on_equiv (λ s. s.min_k) nat_eq_equiv))
+    (on_equiv (λ s. s.n) nat_eq_equiv))
+    (on_equiv (λ s. s.is_sorted) bool_eq_equiv))
+    (on_equiv (λ s. s.levels) (lists_equiv (lists_equiv e))))
+    (on_equiv (λ s. s.least) (options_equiv e)))
+    (on_equiv (λ s. s.greatest) (options_equiv e))

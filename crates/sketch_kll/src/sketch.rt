@@ -18,6 +18,7 @@ ghost use Rattle.sketch_kll.specs.Schedule.{updates_trace};
 ghost use Rattle.sketch_kll.specs.Sketch.{bag_of, coins_of_update, newer_or, Ties, least_with, greatest_with, IsUpdated};
 ghost use Rattle.sketch_kll.specs.Steps.{full_level, is_full, with_room, keeps_last, put};
 
+mod copies;
 mod queries;
 
 use crate::capacity::{MINIMUM_CAPACITY, level_capacity, total_capacity};
@@ -29,6 +30,7 @@ use std::alloc::{AllocError, Global};
 use std::marker::Model;
 
 mod merge;
+mod image;
 
 /// A KLL sketch of items of one type, after Karnin, Lang and Liberty, "Optimal quantile
 /// approximation in streams" (2016).
