@@ -47,19 +47,11 @@ pub trait Family: Sized + Drop {
         ensures { behaviour.quantile self.now fraction criteria result };
 
     /// The rank of each split point, and last the whole. None of an empty sketch.
-    fn cdf_of(
-        &self,
-        points: &[i64],
-        criteria: SearchCriteria,
-    ) -> Result<Option<Vec<Rank>>, Error>
+    fn cdf_of(&self, points: &[i64], criteria: SearchCriteria) -> Result<Option<Vec<Rank>>, Error>
         ensures { behaviour.cdf self.now points.now criteria result };
 
     /// How much of the weight lies between split points. None of an empty sketch.
-    fn pmf_of(
-        &self,
-        points: &[i64],
-        criteria: SearchCriteria,
-    ) -> Result<Option<Vec<Rank>>, Error>
+    fn pmf_of(&self, points: &[i64], criteria: SearchCriteria) -> Result<Option<Vec<Rank>>, Error>
         ensures { behaviour.pmf self.now points.now criteria result };
 }
 
@@ -73,40 +65,34 @@ impl Family for KllSketch<i64> {
     }
 
     fn copy(&self) -> Result<Self, Error> {
-        Err(Error::new(sketch_base::error::ErrorKind::OutOfMemory))
+        Ok(self.clone()?)
     }
 
-    fn empty(&mut self) {}
+    fn empty(&mut self) {
+        self.reset();
+    }
 
     fn take(&mut self, item: i64, coins: &mut SplitMix64) -> Result<(), Error> {
         self.update(item, coins)
     }
 
-    fn join(&mut self, _other: &Self, _coins: &mut SplitMix64) -> Result<(), Error> {
-        Err(Error::new(sketch_base::error::ErrorKind::OutOfMemory))
+    fn join(&mut self, other: &Self, coins: &mut SplitMix64) -> Result<(), Error> {
+        self.merge(other, coins)
     }
 
     fn rank_of(&self, item: i64, criteria: SearchCriteria) -> Option<Rank> {
         self.rank(&item, criteria)
     }
 
-    fn quantile_of(&self, _fraction: Rank, _criteria: SearchCriteria) -> Result<Option<i64>, Error> {
-        Err(Error::new(sketch_base::error::ErrorKind::OutOfMemory))
+    fn quantile_of(&self, fraction: Rank, criteria: SearchCriteria) -> Result<Option<i64>, Error> {
+        self.quantile(fraction, criteria)
     }
 
-    fn cdf_of(
-        &self,
-        _points: &[i64],
-        _criteria: SearchCriteria,
-    ) -> Result<Option<Vec<Rank>>, Error> {
-        Err(Error::new(sketch_base::error::ErrorKind::OutOfMemory))
+    fn cdf_of(&self, points: &[i64], criteria: SearchCriteria) -> Result<Option<Vec<Rank>>, Error> {
+        self.cdf(points, criteria)
     }
 
-    fn pmf_of(
-        &self,
-        _points: &[i64],
-        _criteria: SearchCriteria,
-    ) -> Result<Option<Vec<Rank>>, Error> {
-        Err(Error::new(sketch_base::error::ErrorKind::OutOfMemory))
+    fn pmf_of(&self, points: &[i64], criteria: SearchCriteria) -> Result<Option<Vec<Rank>>, Error> {
+        self.pmf(points, criteria)
     }
 }

@@ -100,12 +100,7 @@ impl<S: Family> Table<S> {
         Ok(Answer::Done)
     }
 
-    fn update(
-        &mut self,
-        slot: u8,
-        item: i64,
-        coins: &mut SplitMix64,
-    ) -> Result<Answer, Refusal>
+    fn update(&mut self, slot: u8, item: i64, coins: &mut SplitMix64) -> Result<Answer, Refusal>
         ensures { Changes (Turns (S.behaviour.taken item))
             slot self.old coins.old result self.new coins.new }
     {
@@ -119,12 +114,7 @@ impl<S: Family> Table<S> {
         empty(&mut self.slots[slot as usize])
     }
 
-    fn merge(
-        &mut self,
-        into: u8,
-        source: u8,
-        coins: &mut SplitMix64,
-    ) -> Result<Answer, Refusal>
+    fn merge(&mut self, into: u8, source: u8, coins: &mut SplitMix64) -> Result<Answer, Refusal>
         ensures { Merges S.behaviour (into == source) into source
             self.old coins.old result self.new coins.new }
     {
@@ -246,10 +236,7 @@ fn empty<S: Family>(slot: &mut Option<S>) -> Result<Answer, Refusal>
     Ok(Answer::Done)
 }
 
-fn join_copy<S: Family>(
-    slot: &mut Option<S>,
-    coins: &mut SplitMix64,
-) -> Result<Answer, Refusal>
+fn join_copy<S: Family>(slot: &mut Option<S>, coins: &mut SplitMix64) -> Result<Answer, Refusal>
     ensures { Turns (JoinsCopy S.behaviour) slot.old coins.old result slot.new coins.new }
 {
     let Some(sketch) = slot else {
