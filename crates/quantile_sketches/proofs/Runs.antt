@@ -4,9 +4,7 @@ use Rattle.std.specs.Io.BufRead.{take_through, drop_through, ends_with_byte, str
 use Rattle.std.specs.Io.KnownBytes.{Appends, IsAtEnd}
 use Rattle.std.proofs.lemmas.Bool.{cases_Bool, cond-true, cond-false, lt-ltb}
 use Rattle.std.proofs.lemmas.List.{append_assoc, append-nil}
-use Rattle.sketch_base.specs.declared.common.Rank.{Rank}
-use Rattle.sketch_base.specs.declared.common.SearchCriteria.{SearchCriteria}
-use Rattle.sketch_base.specs.declared.error.ErrorKind.{ErrorKind}
+use Rattle.quantile_sketches.specs.Behaviour.{Behaviour}
 use Rattle.quantile_sketches.specs.declared.answer.Answer.{Answer}
 use Rattle.quantile_sketches.specs.declared.answer.Refusal.{Refusal}
 use Rattle.quantile_sketches.specs.Answer.{answer_text}
@@ -14,7 +12,7 @@ use Rattle.quantile_sketches.specs.Command.{command_of}
 use Rattle.quantile_sketches.specs.Lines.{lines, onto_first_line, Serves}
 use Rattle.quantile_sketches.specs.Reader.{Reader}
 use Rattle.quantile_sketches.specs.Step.{Answers}
-use Rattle.quantile_sketches.specs.Words.{words}
+use Rattle.quantile_sketches.specs.Words.{words, points_of}
 
 ends-cons : (b x z : ℕ) (zs : List ℕ) → ends_with_byte b (x ∷ z ∷ zs) ≡ ends_with_byte b (z ∷ zs)
 ends-cons b x z zs =
@@ -80,40 +78,40 @@ pub lines-first : (x : ℕ) (xs : List ℕ) → lines (x ∷ xs) ≡ strip_last 
 lines-first x [] = first_from x [] refl
 lines-first x (y ∷ ys) = first_from x (y ∷ ys) (ap (onto_first_line x) (lines-first y ys))
 
-appends_none : (w : Option (List ℕ)) → Appends w w []
+pub appends_none : (w : Option (List ℕ)) → Appends w w []
 appends_none None = tt
 appends_none (Some xs) = sym (append-nil xs)
 
-appends_on : (w0 w w' : Option (List ℕ)) (a b : List ℕ) → Appends w0 w a → Appends w w' b → Appends w0 w' (a ++ b)
+pub appends_on : (w0 w w' : Option (List ℕ)) (a b : List ℕ) → Appends w0 w a → Appends w w' b → Appends w0 w' (a ++ b)
 appends_on None w w' a b h k = tt
 appends_on (Some xs) None w' a b h k = absurd h
 appends_on (Some xs) (Some ys) None a b h k = absurd k
 appends_on (Some xs) (Some ys) (Some zs) a b h k = k ∙ (ap (λ (t : List ℕ). t ++ b) h ∙ append_assoc xs a b)
 
-module _ {S C : Type 0} (read : Reader C) (made : C → Result S ErrorKind → Type 0) (taken : S → ℤ → ℕ → Result Unit ErrorKind → S → ℕ → Type 0) (rank : S → ℤ → SearchCriteria → Option Rank → Type 0) where
+module _ {S C : Type 0} (read : Reader C) (kind : Behaviour S C) where
   -- what is written from here on ends a run over the whole text
   abbrev pub Goes : List (Option S) → ℕ → List ℕ → List ℕ → List (Option S) → ℕ → List ℕ → Type 0
   Goes slots coins text done slots' coins' left =
-      (out : List ℕ) → Serves read made taken rank slots' coins' (lines left) out → Serves read made taken rank slots coins (lines text) (done ++ out)
+      (out : List ℕ) → Serves read kind slots' coins' (lines left) out → Serves read kind slots coins (lines text) (done ++ out)
 
   pub goes-start : (slots : List (Option S)) (coins : ℕ) (text : List ℕ) → Goes slots coins text [] slots coins text
   goes-start slots coins text out h = h
 
   pub goes-end : (slots : List (Option S)) (coins : ℕ) (text done : List ℕ) (slots' : List (Option S)) (coins' : ℕ) →
-      Goes slots coins text done slots' coins' [] → Serves read made taken rank slots coins (lines text) done
+      Goes slots coins text done slots' coins' [] → Serves read kind slots coins (lines text) done
   goes-end slots coins text done slots' coins' h =
-      let P : List ℕ → Type 0 = λ out. Serves read made taken rank slots coins (lines text) out in
+      let P : List ℕ → Type 0 = λ out. Serves read kind slots coins (lines text) out in
       subst P (append-nil done) (h [] refl)
 
   pub goes-on : (slots : List (Option S)) (coins : ℕ) (text done : List ℕ) (slots' : List (Option S)) (coins' x : ℕ) (xs : List ℕ) (r : Result Answer Refusal) (slots'' : List (Option S)) (coins'' : ℕ) →
       Goes slots coins text done slots' coins' (x ∷ xs) →
-      Answers made taken rank (command_of read (words (strip_last 10 (take_through 10 (x ∷ xs))))) slots' coins' r slots'' coins'' →
+      Answers kind (command_of read (words (strip_last 10 (take_through 10 (x ∷ xs))))) (points_of (words (strip_last 10 (take_through 10 (x ∷ xs))))) slots' coins' r slots'' coins'' →
       Goes slots coins text (done ++ (answer_text r ++ (10 ∷ []))) slots'' coins'' (drop_through 10 (x ∷ xs))
   goes-on slots coins text done slots' coins' x xs r slots'' coins'' h a out k =
       let e : (done ++ (answer_text r ++ (10 ∷ []))) ++ out ≡ done ++ (answer_text r ++ (10 ∷ out)) =
       append_assoc done (answer_text r ++ (10 ∷ [])) out ∙ ap (λ (t : List ℕ). done ++ t) (append_assoc (answer_text r) (10 ∷ []) out) in
-      let P : List ℕ → Type 0 = λ o. Serves read made taken rank slots coins (lines text) o in
-      let Q : List (List ℕ) → Type 0 = λ ls. Serves read made taken rank slots' coins' ls (answer_text r ++ (10 ∷ out)) in
+      let P : List ℕ → Type 0 = λ o. Serves read kind slots coins (lines text) o in
+      let Q : List (List ℕ) → Type 0 = λ ls. Serves read kind slots' coins' ls (answer_text r ++ (10 ∷ out)) in
       subst P (sym e) (h (answer_text r ++ (10 ∷ out)) (subst Q (sym (lines-first x xs)) (r, slots'', coins'', out, a, k, refl)))
 
   -- where the text was known, what was sent and what waits is written for the lines read so far
@@ -152,14 +150,14 @@ module _ {S C : Type 0} (read : Reader C) (made : C → Result S ErrorKind → T
   pub running-line : {t left left' w0 w : Option (List ℕ)} {waiting waiting' : List ℕ} {slots slots' slots'' : List (Option S)} {coins coins' coins'' : ℕ} (line bare : List ℕ) (r : Result Answer Refusal) →
       Running t left w0 w waiting slots coins slots' coins' →
       0 < length line → IfSome left (λ xs. line ≡ take_through 10 xs) → IfSome left (λ xs. left' ≡ Some (drop_through 10 xs)) → bare ≡ strip_last 10 line →
-      Answers made taken rank (command_of read (words bare)) slots' coins' r slots'' coins'' → waiting' ≡ waiting ++ (answer_text r ++ (10 ∷ [])) →
+      Answers kind (command_of read (words bare)) (points_of (words bare)) slots' coins' r slots'' coins'' → waiting' ≡ waiting ++ (answer_text r ++ (10 ∷ [])) →
       Running t left' w0 w waiting' slots coins slots'' coins''
   running-line {t} {left} {left'} {w0} {w} {waiting} {waiting'} {slots} {slots'} {slots''} {coins} {coins'} {coins''} line bare r run some taken_line dropped b answered e = record { holds = go t run.holds }
     where
       step : (text sent rest : List ℕ) → line ≡ take_through 10 rest → Goes slots coins text (sent ++ waiting) slots' coins' rest → Goes slots coins text (sent ++ waiting') slots'' coins'' (drop_through 10 rest)
       step text sent [] l g = absurd (let m : length line ≡ 0 = ap (λ (xs : List ℕ). length xs) l in omega (arith, m, some))
       step text sent (x ∷ xs) l g =
-          let A : List ℕ → Type 0 = λ ws. Answers made taken rank (command_of read (words ws)) slots' coins' r slots'' coins'' in
+          let A : List ℕ → Type 0 = λ ws. Answers kind (command_of read (words ws)) (points_of (words ws)) slots' coins' r slots'' coins'' in
           let P : List ℕ → Type 0 = λ done. Goes slots coins text done slots'' coins'' (drop_through 10 (x ∷ xs)) in
           subst P (append_assoc sent waiting (answer_text r ++ (10 ∷ [])) ∙ sym (ap (λ (ws : List ℕ). sent ++ ws) e))
           (goes-on slots coins text (sent ++ waiting) slots' coins' x xs r slots'' coins'' g (subst A (b ∙ ap (strip_last 10) l) answered))
@@ -175,13 +173,13 @@ module _ {S C : Type 0} (read : Reader C) (made : C → Result S ErrorKind → T
 
   pub running-end : {T E : Type 0} {t left w0 w : Option (List ℕ)} {waiting : List ℕ} {slots slots' : List (Option S)} {coins coins' : ℕ} (w' : Option (List ℕ)) (waiting' : List ℕ) (written : Result T E) →
       Running t left w0 w waiting slots coins slots' coins' → IsAtEnd left → OnOk written ((waiting' ≡ []) × Appends w w' waiting) →
-      OnOk written (IfSome t (λ text. (out : List ℕ) × Serves read made taken rank slots coins (lines text) out × Appends w0 w' out))
+      OnOk written (IfSome t (λ text. (out : List ℕ) × Serves read kind slots coins (lines text) out × Appends w0 w' out))
   running-end w' waiting' (Err e) run end a = tt
   running-end {T} {E} {t} {left} {w0} {w} {waiting} {slots} {slots'} {coins} {coins'} w' waiting' (Ok u) run end a = go t run.holds
     where
       go : (o : Option (List ℕ)) →
           IfSome o (λ text. (sent : List ℕ) × (rest : List ℕ) × (left ≡ Some rest) × Appends w0 w sent × Goes slots coins text (sent ++ waiting) slots' coins' rest) →
-          IfSome o (λ text. (out : List ℕ) × Serves read made taken rank slots coins (lines text) out × Appends w0 w' out)
+          IfSome o (λ text. (out : List ℕ) × Serves read kind slots coins (lines text) out × Appends w0 w' out)
       go None h = tt
       go (Some text) (sent, rest, l, b, g) =
           let z : rest ≡ [] = subst IsAtEnd l end in

@@ -1,13 +1,11 @@
 -- the lines of a text, and what is written for them
-use Rattle.std.specs.Prelude.{◌≡◌, ℕ, ℤ, List, [], ◌∷◌, ◌++◌, ◌==◌, Option, Result, if◌then◌else◌}
-use Rattle.sketch_base.specs.declared.common.Rank.{Rank}
-use Rattle.sketch_base.specs.declared.common.SearchCriteria.{SearchCriteria}
-use Rattle.sketch_base.specs.declared.error.ErrorKind.{ErrorKind}
+use Rattle.std.specs.Prelude.{◌≡◌, ℕ, List, [], ◌∷◌, ◌++◌, ◌==◌, if◌then◌else◌}
+use Rattle.quantile_sketches.specs.Behaviour.{Behaviour}
 use Rattle.quantile_sketches.specs.Answer.{answer_text}
 use Rattle.quantile_sketches.specs.Command.{command_of}
 use Rattle.quantile_sketches.specs.Reader.{Reader}
 use Rattle.quantile_sketches.specs.Step.{Slots, Answers}
-use Rattle.quantile_sketches.specs.Words.{words}
+use Rattle.quantile_sketches.specs.Words.{words, points_of}
 
 -- a byte before the first line
 abbrev pub onto_first_line : ℕ → List (List ℕ) → List (List ℕ)
@@ -20,15 +18,11 @@ lines [] = []
 lines (c ∷ cs) = if c == 10 then [] ∷ lines cs else onto_first_line c (lines cs)
 
 -- the text written for lines that come one after another: for each line an answer and a line feed
-module _ {S C : Type 0}
-    (read : Reader C)
-    (made : C → Result S ErrorKind → Type 0)
-    (taken : S → ℤ → ℕ → Result Unit ErrorKind → S → ℕ → Type 0)
-    (rank : S → ℤ → SearchCriteria → Option Rank → Type 0) where
+module _ {S C : Type 0} (read : Reader C) (kind : Behaviour S C) where
   abbrev pub Serves : Slots S → ℕ → List (List ℕ) → List ℕ → Type 0
   Serves slots coins [] out = out ≡ []
   Serves slots coins (l ∷ ls) out =
       (r : _) × (slots' : _) × (coins' : _) × (rest : _)
-      × Answers made taken rank (command_of read (words l)) slots coins r slots' coins'
+      × Answers kind (command_of read (words l)) (points_of (words l)) slots coins r slots' coins'
       × Serves slots' coins' ls rest
       × (out ≡ answer_text r ++ (10 ∷ rest))

@@ -83,7 +83,7 @@ fn answer_lines<S: Family, R: Read, W: Write>(
     output: &mut W,
 ) -> io::Result<()>
     ensures { OnOk result (IfSome (⟦<BufReader<R> as Read>⟧.remaining input.old)
-        (λ text. (out : _) × Serves S.Config.reader S.create_gives S.take_gives S.rank_gives
+        (λ text. (out : _) × Serves S.Config.reader S.behaviour
         (replicate SLOTS None) seed (lines text) out
         × Appends (W.contents output.old) (W.contents output.new) out)) }
 {

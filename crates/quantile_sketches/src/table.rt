@@ -1,16 +1,16 @@
 //! The slots of a run of the program, and what each command does to them.
 //! Lines are read in `command` and answers are written in `answer`; what a sketch does lies in its own crate.
-ghost use Rattle.std.specs.Prelude.{◌≡◌, IfOk, None, replicate};
+ghost use Rattle.std.specs.Prelude.{◌≡◌, ◌≢◌, ◌==◌, ℕ, IfOk, None, replicate, false};
 ghost use Rattle.quantile_sketches.specs.Command.{command_of};
-ghost use Rattle.quantile_sketches.specs.Step.{Makes, Reads, Turns, Changes, Executes, Answers};
-ghost use Rattle.quantile_sketches.specs.Words.{words};
+ghost use Rattle.quantile_sketches.specs.Step.{Makes, Reads, Replies, Turns, Joins, Changes, Empties, JoinsCopy, Spreads, Merges, Executes, Answers};
+ghost use Rattle.quantile_sketches.specs.Words.{words, points_of};
 
 use crate::answer::{Answer, Refusal};
 use crate::command::Command;
 use crate::family::Family;
 use crate::words::Words;
-use sketch_base::common::SearchCriteria;
 use sketch_base::common::random::SplitMix64;
+use sketch_base::common::{Rank, SearchCriteria};
 use std::alloc::{AllocError, Global};
 use std::marker::Model;
 
@@ -52,58 +52,164 @@ impl<S: Family> Table<S> {
         coins: &mut SplitMix64,
         line: &[u8],
     ) -> Result<Answer, Refusal>
-        ensures { Answers S.create_gives S.take_gives S.rank_gives
-            (command_of S.Config.reader (words line.now))
+        ensures { Answers S.behaviour
+            (command_of S.Config.reader (words line.now)) (points_of (words line.now))
             self.old coins.old result self.new coins.new }
     {
         let mut words = Words::new(line);
         let command = Command::parse(&mut words).ok_or(Refusal::BadLine)?;
-        self.execute(alloc, coins, command)
+        self.execute(alloc, coins, command, line)
     }
 
+    // The command is that of the line.
     fn execute(
         &mut self,
         alloc: Global,
         coins: &mut SplitMix64,
         command: Command<S::Config>,
+        line: &[u8],
     ) -> Result<Answer, Refusal>
-        ensures { Executes S.create_gives S.take_gives S.rank_gives command
+        ensures { Executes S.behaviour command (points_of (words line.now))
             self.old coins.old result self.new coins.new }
     {
         match command {
             Command::New { slot, config } => self.create(alloc, slot, config),
             Command::Update { slot, item } => self.update(slot, item, coins),
+            Command::Merge { into, source } => self.merge(into, source, coins),
+            Command::Reset { slot } => self.reset(slot),
             Command::Rank {
                 slot,
                 item,
                 criteria,
             } => self.rank(slot, item, criteria),
+            Command::Quantile {
+                slot,
+                weight,
+                total,
+                criteria,
+            } => self.quantile(slot, Rank { weight, total }, criteria),
+            Command::Cdf { slot, criteria } => self.cdf(alloc, slot, criteria, line),
+            Command::Pmf { slot, criteria } => self.pmf(alloc, slot, criteria, line),
         }
     }
 
     fn create(&mut self, alloc: Global, slot: u8, config: S::Config) -> Result<Answer, Refusal>
-        ensures { Makes (S.create_gives config) slot self.old result self.new }
+        ensures { Makes (S.behaviour.made config) slot self.old result self.new }
     {
         self.slots[slot as usize] = Some(S::create(alloc, config)?);
         Ok(Answer::Done)
     }
 
     fn update(&mut self, slot: u8, item: i64, coins: &mut SplitMix64) -> Result<Answer, Refusal>
-        ensures { Changes (λ s. S.take_gives s item)
+        ensures { Changes (Turns (S.behaviour.taken item))
             slot self.old coins.old result self.new coins.new }
     {
         take_in(&mut self.slots[slot as usize], item, coins)
     }
 
+    fn reset(&mut self, slot: u8) -> Result<Answer, Refusal>
+        ensures { (coins : ℕ) → Changes (Turns (Empties S.behaviour))
+            slot self.old coins result self.new coins }
+    {
+        empty(&mut self.slots[slot as usize])
+    }
+
+    fn merge(&mut self, into: u8, source: u8, coins: &mut SplitMix64) -> Result<Answer, Refusal>
+        ensures { Merges S.behaviour (into == source) into source
+            self.old coins.old result self.new coins.new }
+    {
+        if into == source {
+            return join_copy(&mut self.slots[into as usize], coins);
+        }
+        self.merge_from(into, source, coins)
+    }
+
+    // The sketch is taken out for the while, so that the other slot can be read.
+    fn merge_from(
+        &mut self,
+        into: u8,
+        source: u8,
+        coins: &mut SplitMix64,
+    ) -> Result<Answer, Refusal>
+        requires { into ≢ source }
+        ensures { Merges S.behaviour false into source
+            self.old coins.old result self.new coins.new }
+    {
+        let mut sketch = self.slots[into as usize].take();
+        let answer = join_in(&mut sketch, &self.slots[source as usize], coins);
+        self.slots[into as usize] = sketch;
+        answer
+    }
+
     fn rank(&self, slot: u8, item: i64, criteria: SearchCriteria) -> Result<Answer, Refusal>
-        ensures { Reads (λ s a. (r : _) × S.rank_gives s item criteria r × (a ≡ Answer.Rank r))
-            slot self.now result }
+        ensures { Reads (λ s r. (w : _) × S.behaviour.rank s item criteria w
+            × (r ≡ Ok (Answer.Rank w))) slot self.now result }
     {
         let Some(sketch) = &self.slots[slot as usize] else {
             return Err(Refusal::AbsentSlot);
         };
         Ok(Answer::Rank(sketch.rank_of(item, criteria)))
     }
+
+    fn quantile(
+        &self,
+        slot: u8,
+        fraction: Rank,
+        criteria: SearchCriteria,
+    ) -> Result<Answer, Refusal>
+        ensures { Reads (λ s. Replies Answer.Item (S.behaviour.quantile s fraction criteria))
+            slot self.now result }
+    {
+        let Some(sketch) = &self.slots[slot as usize] else {
+            return Err(Refusal::AbsentSlot);
+        };
+        Ok(Answer::Item(sketch.quantile_of(fraction, criteria)?))
+    }
+
+    fn cdf(
+        &self,
+        alloc: Global,
+        slot: u8,
+        criteria: SearchCriteria,
+        line: &[u8],
+    ) -> Result<Answer, Refusal>
+        ensures { Reads (λ s. Spreads S.behaviour
+            (S.behaviour.cdf s (points_of (words line.now)) criteria)) slot self.now result }
+    {
+        let Some(sketch) = &self.slots[slot as usize] else {
+            return Err(Refusal::AbsentSlot);
+        };
+        let points = points(alloc, line)?;
+        Ok(Answer::Ranks(sketch.cdf_of(points.as_slice(), criteria)?))
+    }
+
+    fn pmf(
+        &self,
+        alloc: Global,
+        slot: u8,
+        criteria: SearchCriteria,
+        line: &[u8],
+    ) -> Result<Answer, Refusal>
+        ensures { Reads (λ s. Spreads S.behaviour
+            (S.behaviour.pmf s (points_of (words line.now)) criteria)) slot self.now result }
+    {
+        let Some(sketch) = &self.slots[slot as usize] else {
+            return Err(Refusal::AbsentSlot);
+        };
+        let points = points(alloc, line)?;
+        Ok(Answer::Ranks(sketch.pmf_of(points.as_slice(), criteria)?))
+    }
+}
+
+// The split points of a line, which are its words from the fourth on.
+fn points(alloc: Global, line: &[u8]) -> Result<Vec<i64>, AllocError>
+    ensures { IfOk result (λ points. points.items ≡ points_of (words line.now)) }
+{
+    let mut words = Words::new(line);
+    for _i in 0..3u8 {
+        words.word();
+    }
+    words.items(alloc)
 }
 
 fn take_in<S: Family>(
@@ -111,11 +217,49 @@ fn take_in<S: Family>(
     item: i64,
     coins: &mut SplitMix64,
 ) -> Result<Answer, Refusal>
-    ensures { Turns (λ s. S.take_gives s item) slot.old coins.old result slot.new coins.new }
+    ensures { Turns (S.behaviour.taken item) slot.old coins.old result slot.new coins.new }
 {
     let Some(sketch) = slot else {
         return Err(Refusal::AbsentSlot);
     };
     sketch.take(item, coins)?;
+    Ok(Answer::Done)
+}
+
+fn empty<S: Family>(slot: &mut Option<S>) -> Result<Answer, Refusal>
+    ensures { (coins : ℕ) → Turns (Empties S.behaviour) slot.old coins result slot.new coins }
+{
+    let Some(sketch) = slot else {
+        return Err(Refusal::AbsentSlot);
+    };
+    sketch.empty();
+    Ok(Answer::Done)
+}
+
+fn join_copy<S: Family>(slot: &mut Option<S>, coins: &mut SplitMix64) -> Result<Answer, Refusal>
+    ensures { Turns (JoinsCopy S.behaviour) slot.old coins.old result slot.new coins.new }
+{
+    let Some(sketch) = slot else {
+        return Err(Refusal::AbsentSlot);
+    };
+    let copy = sketch.copy()?;
+    sketch.join(&copy, coins)?;
+    Ok(Answer::Done)
+}
+
+fn join_in<S: Family>(
+    slot: &mut Option<S>,
+    source: &Option<S>,
+    coins: &mut SplitMix64,
+) -> Result<Answer, Refusal>
+    ensures { Joins S.behaviour.joined source.now slot.old coins.old result slot.new coins.new }
+{
+    let Some(other) = source else {
+        return Err(Refusal::AbsentSlot);
+    };
+    let Some(sketch) = slot else {
+        return Err(Refusal::AbsentSlot);
+    };
+    sketch.join(other, coins)?;
     Ok(Answer::Done)
 }

@@ -77,8 +77,21 @@ fn refuses_bad_lines(rt: HostRuntime) -> Result<(), Fail> {
         b"update 0 \xd9\xa5",
         b"rank 0 5 incl\xc3",
         b"\xff\xfe",
-        b"quantile 0 1 2 incl",
-        b"merge 0 0",
+        b"merge 0",
+        b"merge 0 256",
+        b"merge 0 0 0",
+        b"reset",
+        b"reset 0 0",
+        b"quantile 0 1 2",
+        b"quantile 0 1 -2 incl",
+        b"quantile 0 1 18446744073709551616 incl",
+        b"quantile 0 incl 1 2",
+        b"cdf 0",
+        b"cdf 0 1 incl",
+        b"cdf 0 incl 1 2x",
+        b"pmf 0 excl 9223372036854775808",
+        b"image 0",
+        b"load 2 00",
     ] {
         let given = answers(rt.alloc(), line)?;
         let wanted = if line.is_empty() {
@@ -162,6 +175,76 @@ fn names_the_first_cause(rt: HostRuntime) -> Result<(), Fail> {
     ] {
         let given = answers(rt.alloc(), script.as_bytes())?;
         assert_eq!(rt; given.as_str(), wanted, "at {script:?}");
+    }
+    Ok(())
+}
+
+// Items 5, 5 and 7 below capacity, so that each answer is exact.
+#[test]
+fn answers_queries(rt: HostRuntime) -> Result<(), Fail> {
+    let setup = "new 0 200\nupdate 0 5\nupdate 0 5\nupdate 0 7\nnew 1 8\n";
+    for (line, wanted) in [
+        ("quantile 0 0 7 incl", "5"),
+        ("quantile 0 1 2 incl", "5"),
+        ("quantile 0 1 18446744073709551615 incl", "5"),
+        (
+            "quantile 0 18446744073709551614 18446744073709551615 excl",
+            "7",
+        ),
+        ("quantile 0 1 1 excl", "7"),
+        ("quantile 0 1 0 incl", "error: invalid argument"),
+        ("quantile 0 3 2 incl", "error: invalid argument"),
+        ("quantile 1 1 2 incl", "none"),
+        ("quantile 1 1 0 incl", "error: invalid argument"),
+        ("quantile 2 1 0 incl", "error: absent slot"),
+        ("cdf 0 incl 5", "2/3 3/3"),
+        ("cdf 0 excl 5 7 9", "0/3 2/3 3/3 3/3"),
+        ("cdf 0 incl", "3/3"),
+        ("cdf 0 incl 7 5", "error: invalid argument"),
+        ("cdf 1 incl 3 3", "error: invalid argument"),
+        ("cdf 1 incl 3 4", "none"),
+        ("cdf 2 incl 3 3", "error: absent slot"),
+        ("pmf 0 incl 5", "2/3 1/3"),
+        ("pmf 0 excl -1 5 7", "0/3 0/3 2/3 1/3"),
+        ("pmf 0 incl", "3/3"),
+        ("pmf 1 excl", "none"),
+    ] {
+        let script = format!(in rt.alloc(); "{setup}{line}")?;
+        let given = answers(rt.alloc(), script.as_bytes())?;
+        let wanted = format!(in rt.alloc(); "ok\nok\nok\nok\nok\n{wanted}\n")?;
+        assert_eq!(rt; given.as_str(), wanted.as_str(), "at {line}");
+    }
+    Ok(())
+}
+
+// Nine items at k 8 under the first coin of seed 0, which is true: an inclusive weight of 5 that is 6.
+const NINE: &str = "new 0 8\nupdate 0 1\nupdate 0 2\nupdate 0 3\nupdate 0 4\nupdate 0 5\nupdate 0 6
+update 0 7\nupdate 0 8\nupdate 0 9\n";
+
+#[test]
+fn merges_and_resets(rt: HostRuntime) -> Result<(), Fail> {
+    let before = "ok\nok\nok\nok\nok\nok\nok\nok\nok\nok\n";
+    for (lines, wanted) in [
+        ("merge 0 0\nrank 0 5 incl\n", "ok\n12/18\n"),
+        (
+            "new 1 200\nmerge 1 0\nrank 1 5 incl\nrank 0 5 incl\n",
+            "ok\nok\n6/9\n6/9\n",
+        ),
+        ("new 1 8\nmerge 0 1\nrank 0 5 incl\n", "ok\nok\n6/9\n"),
+        (
+            "merge 0 1\nmerge 1 0\nmerge 1 1\nmerge 1 2\n",
+            "error: absent slot\nerror: absent slot\nerror: absent slot\nerror: absent slot\n",
+        ),
+        (
+            "reset 0\nrank 0 5 incl\nupdate 0 4\nrank 0 5 incl\n",
+            "ok\nnone\nok\n1/1\n",
+        ),
+        ("reset 1\n", "error: absent slot\n"),
+    ] {
+        let script = format!(in rt.alloc(); "{NINE}{lines}")?;
+        let given = answers(rt.alloc(), script.as_bytes())?;
+        let wanted = format!(in rt.alloc(); "{before}{wanted}")?;
+        assert_eq!(rt; given.as_str(), wanted.as_str(), "at {lines}");
     }
     Ok(())
 }
