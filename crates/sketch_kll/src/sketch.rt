@@ -29,8 +29,8 @@ use sketch_base::error::{Error, ErrorKind};
 use std::alloc::{AllocError, Global};
 use std::marker::Model;
 
-mod merge;
 mod image;
+mod merge;
 
 /// A KLL sketch of items of one type, after Karnin, Lang and Liberty, "Optimal quantile
 /// approximation in streams" (2016).
