@@ -1,8 +1,7 @@
 -- a fresh sketch that takes the items of a list: its bag is that of the play, and its ranks are unbiased
-use Rattle.std.proofs.Common.{◌≡◌, ℕ, zero, suc, ◌+◌, ◌*◌, ◌^◌, ◌<◌, ◌≤◌, Bool, true, false, cond, if◌then◌else◌, List, [], ◌∷◌, ◌++◌, length, map, fold, count_by, Option, None, Some, refl, sym, ap, ap₂, ◌∙◌, subst, arith, inl, inr, is_lt, is_gt, length-append, Ordering, Equal, take}
+use Rattle.std.proofs.Common.{◌≡◌, ℕ, zero, suc, ◌+◌, ◌*◌, ◌^◌, ◌<◌, ◌≤◌, Bool, cond, if◌then◌else◌, List, [], ◌∷◌, ◌++◌, length, map, count_by, Option, None, Some, refl, sym, ap, ap₂, ◌∙◌, subst, arith, inl, inr, length-append, Ordering, Equal, take}
 use Rattle.std.specs.List.{AllZip}
 use Rattle.std.specs.Cmp.{IsTotalOrder}
-use Rattle.std.specs.Ordering.{ordering_reverse}
 use Rattle.std.proofs.lemmas.Bool.{cases_Bool, eq-eqb}
 use Rattle.std.proofs.lemmas.List.Sums.{sum_by-cons}
 use Rattle.std.proofs.lemmas.List.Elements.{length_all_zip}
@@ -17,20 +16,19 @@ use Rattle.sketch_base.specs.Words.{sum_over_words}
 use Rattle.sketch_base.proofs.Alikes.{acts-kll, rank-alike}
 use Rattle.sketch_base.proofs.Average.{unbiased}
 use Rattle.sketch_base.proofs.Calls.{acts-enough, calls-compose, source-composes, coins-at}
+use Rattle.sketch_base.specs.Extremes.{IsLeastOf, IsGreatestOf}
+use Rattle.sketch_base.proofs.Extremes.{least-parts, greatest-parts, least-one, greatest-one}
 use Rattle.sketch_base.proofs.Fixed.{length-sort}
 use Rattle.sketch_base.proofs.Runs.{play-at}
 use Rattle.sketch_kll.specs.Schedule.{are_full, update_actions, updated_lengths, updates_actions, updates_lengths, updates_trace}
-use Rattle.sketch_kll.specs.Sketch.{Kll, IsSound, IsUpdated, Ties, bag_of, update_of, least_with, greatest_with}
+use Rattle.sketch_kll.specs.Sketch.{Kll, IsSound, IsUpdated, bag_of, update_of}
 use Rattle.sketch_kll.specs.Capacity.{total_of}
-use Rattle.sketch_kll.specs.Fill.{IsFilled, least_of, greatest_of, SameExtreme}
+use Rattle.sketch_kll.specs.Fill.{IsFilled}
 use Rattle.sketch_kll.proofs.Capacities.{total_bound}
 use Rattle.sketch_kll.proofs.Ranks.{weight_is, retained_is, rank_is, counted_weight-le}
-use Rattle.sketch_kll.proofs.Bridges.{update_full, update_spare, SameItems-trans}
+use Rattle.sketch_kll.proofs.Bridges.{update_full, update_spare}
+use Rattle.sketch_base.proofs.Items.{SameItems-trans}
 use Rattle.sketch_kll.proofs.Schedules.{Fine, work_of, fine-updates, update_is, update_lengths, updates_legal, updates_more, lengths_more}
-
-fold-push : {A B : Type 0} (f : B → A → B) (a : B) (xs : List A) (x : A) → fold f a (xs ++ x ∷ []) ≡ f (fold f a xs) x
-fold-push f a [] x = refl
-fold-push f a (y ∷ ys) x = fold-push f (f a y) ys x
 
 -- the true rank
 module _ {A : Type 0} (test : A → Bool) (s k : ℕ) where
@@ -59,33 +57,7 @@ updates_unbiased cmp test slot k words items enough =
     unbiased cmp test (updates_trace slot k items) words slot legal.kll legal.scratch enough
     ∙ ap (λ n. 2 ^ words * n) (ranks-updates test slot k (0 ∷ []) items (λ s. 0) ∙ (let e : 0 + count_by test items ≡ count_by test items = omega arith in e))
 
--- the extremes
 module _ {A : Type 0} {cmp : A → A → Ordering} (o : IsTotalOrder cmp) where
-  congr-right : (x a b : A) → cmp a b ≡ Equal → cmp x a ≡ cmp x b
-  congr-right x a b e = o.antisymm x a ∙ (ap ordering_reverse (o.congr a b x e) ∙ sym (o.antisymm x b))
-
-  least-step : (x : A) (p q r : Option A) → SameExtreme cmp p q → Ties cmp (least_with cmp x q) r → SameExtreme cmp (Some (least_with cmp x p)) r
-  least-step x p q None e t = absurd t
-  least-step x None None (Some z) e t = t
-  least-step x (Some a) (Some b) (Some z) e t = go (is_lt (cmp x b)) (ap is_lt (congr-right x a b e)) t
-    where
-      go : (v : Bool) → is_lt (cmp x a) ≡ v → cmp (if v then x else b) z ≡ Equal → cmp (if is_lt (cmp x a) then x else a) z ≡ Equal
-      go true h t = rw h t
-      go false h t = rw h (o.congr a b z e ∙ t)
-  least-step x None (Some b) (Some z) e t = absurd e
-  least-step x (Some a) None (Some z) e t = absurd e
-
-  greatest-step : (x : A) (p q r : Option A) → SameExtreme cmp p q → Ties cmp (greatest_with cmp x q) r → SameExtreme cmp (Some (greatest_with cmp x p)) r
-  greatest-step x p q None e t = absurd t
-  greatest-step x None None (Some z) e t = t
-  greatest-step x (Some a) (Some b) (Some z) e t = go (is_gt (cmp x b)) (ap is_gt (congr-right x a b e)) t
-    where
-      go : (v : Bool) → is_gt (cmp x a) ≡ v → cmp (if v then x else b) z ≡ Equal → cmp (if is_gt (cmp x a) then x else a) z ≡ Equal
-      go true h t = rw h t
-      go false h t = rw h (o.congr a b z e ∙ t)
-  greatest-step x None (Some b) (Some z) e t = absurd e
-  greatest-step x (Some a) None (Some z) e t = absurd e
-
   -- alike bags
   pub alike-trans : (a b c : Bag A) → AlikeKll cmp a b → AlikeKll cmp b c → AlikeKll cmp a c
   alike-trans a b c h k = record {
@@ -134,8 +106,8 @@ pub record Filling {A S : Type 0} (cmp : A → A → Ordering) (bit : S → Bool
   pub lengths : bag_lengths (bag_of s) ≡ updates_lengths k (0 ∷ []) done
   pub bag : AlikeKll cmp (bag_after cmp (updates_actions k (0 ∷ []) done) (bits_from bit next source (draws_of (updates_actions k (0 ∷ []) done))) empty_bag) (bag_of s)
   pub source_is : after ≡ after_draws next source (draws_of (updates_actions k (0 ∷ []) done))
-  pub least : SameExtreme cmp (least_of cmp done) s.least
-  pub greatest : SameExtreme cmp (greatest_of cmp done) s.greatest
+  pub least : IsLeastOf cmp done s.least
+  pub greatest : IsGreatestOf cmp done s.greatest
 
 pub filling_none : {A S : Type 0} (cmp : A → A → Ordering) (bit : S → Bool) (next : S → S) (source : S) (k : ℕ) (s : Kll A) → s.k ≡ k → s.min_k ≡ k → s.n ≡ 0 → bag_of s ≡ empty_bag → s.least ≡ None → s.greatest ≡ None → Filling cmp bit next source source k [] s
 filling_none {A} {S} cmp bit next source k s a b c d e f = record {
@@ -146,8 +118,8 @@ filling_none {A} {S} cmp bit next source k s a b c d e f = record {
   lengths = ap bag_lengths d;
   bag = subst (λ (bag : Bag A). AlikeKll cmp empty_bag bag) (sym d) (record { levels = (tt, tt); level_zero = tt; flag = refl });
   source_is = refl;
-  least = subst (λ (m : Option A). SameExtreme cmp None m) (sym e) tt;
-  greatest = subst (λ (m : Option A). SameExtreme cmp None m) (sym f) tt;
+  least = subst (λ (m : Option A). IsLeastOf cmp [] m) (sym e) refl;
+  greatest = subst (λ (m : Option A). IsGreatestOf cmp [] m) (sym f) refl;
 }
 
 pub filling_more : {A S : Type 0} (cmp : A → A → Ordering) → IsTotalOrder cmp → (bit : S → Bool) (next : S → S) (source after final : S) (k : ℕ) (done : List A) (x : A) (s t : Kll A) →
@@ -187,8 +159,8 @@ filling_more {A} {S} cmp o bit next source after final k done x s t f u c =
       source_is =
           c ∙ (ap₂ (λ (y : S) (actions : List (Action A)). after_draws next y (draws_of actions)) f.source_is same
           ∙ (sym (source-composes next source first second) ∙ ap (λ (actions : List (Action A)). after_draws next source (draws_of actions)) (sym all)));
-      least = subst (λ (m : Option A). SameExtreme cmp m t.least) (sym (fold-push (λ (least : Option A) (x : A). Some (least_with cmp x least)) None done x)) (least-step o x (least_of cmp done) s.least t.least f.least u.least);
-      greatest = subst (λ (m : Option A). SameExtreme cmp m t.greatest) (sym (fold-push (λ (greatest : Option A) (x : A). Some (greatest_with cmp x greatest)) None done x)) (greatest-step o x (greatest_of cmp done) s.greatest t.greatest f.greatest u.greatest);
+      least = least-parts o done (x ∷ []) s.least (Some x) t.least f.least (least-one o x) u.least;
+      greatest = greatest-parts o done (x ∷ []) s.greatest (Some x) t.greatest f.greatest (greatest-one o x) u.greatest;
     }
 
 -- so it is the sketch of the play
