@@ -1,9 +1,9 @@
 //! What the program asks of a family of sketches.
 
 use crate::command::Config;
+use sketch_base::common::random::SplitMix64;
 use sketch_base::common::{Rank, SearchCriteria};
 use sketch_base::error::Error;
-use sketch_base::common::random::SplitMix64;
 use sketch_kll::sketch::KllSketch;
 use std::alloc::Global;
 
