@@ -113,7 +113,7 @@ module _ {A : Type 0} where
 
   pub events-legal : (plan : Plan) → IsSteady plan → (command : Command A ℕ) → IsLegalFrom (events_of plan command) plan.lengths
   events-legal plan st command =
-      elim (is_refused plan command) as (λ b. IsLegalFrom {A = A} (if b then [] else accepted_events plan command) plan.lengths) [
+      elim (is_refused plan.shapes command) as (λ b. IsLegalFrom {A = A} (if b then [] else accepted_events plan command) plan.lengths) [
         | true ↦ none-legal plan.lengths st.settled
         | false ↦ accepted-legal plan st command
       ]

@@ -18,7 +18,7 @@ use Rattle.sketch_kll.proofs.Merges.{Goes, merge_is}
 use Rattle.std.specs.Cmp.{IsTotalOrder}
 use Rattle.quantile_sketches.specs.declared.audit.Command.{Command}
 use Rattle.quantile_sketches.specs.declared.audit.Command.TheVariants.{New, Update, Merge, Reset}
-use Rattle.quantile_sketches.specs.Plan.{Shape, Plan, start_plan, k_of, count_of, with_count, is_absent, is_too_many, is_refused, accepted_shapes, accepted_events, events_of, plan_after, plan_from, trace_from, trace_of, plan_of}
+use Rattle.quantile_sketches.specs.Plan.{Shape, Plan, start_plan, k_of, count_of, with_count, is_absent, is_refused, accepted_shapes, accepted_events, events_of, plan_after, plan_from, trace_from, trace_of, plan_of}
 use Rattle.quantile_sketches.specs.Run.{accepted_streams, streams_after, streams_from, stream_of}
 use Rattle.quantile_sketches.proofs.Plans.{IsSteady, steady-start, steady-after, changed-both, run-legal}
 
@@ -42,7 +42,7 @@ module _ {A : Type 0} where
   abbrev pub Measures : Option Shape → List A → Type 0
   Measures shape stream = count_of shape ≡ length stream
 
-  accepted-counts : (plan : Plan) (streams : ℕ → List A) → AreCounted plan streams → (command : Command A ℕ) → is_refused plan command ≡ false → (j : ℕ) → count_of (accepted_shapes plan.shapes command j) ≡ length (accepted_streams streams command j)
+  accepted-counts : (plan : Plan) (streams : ℕ → List A) → AreCounted plan streams → (command : Command A ℕ) → is_refused plan.shapes command ≡ false → (j : ℕ) → count_of (accepted_shapes plan.shapes command j) ≡ length (accepted_streams streams command j)
   accepted-counts plan streams h (New slot k) e = changed-both Measures plan.shapes streams slot _ [] h refl
   accepted-counts plan streams h (Update slot x) e =
       changed-both Measures plan.shapes streams slot _ (streams slot ++ x ∷ []) h
@@ -54,7 +54,7 @@ module _ {A : Type 0} where
 
   pub counts-after : (plan : Plan) (streams : ℕ → List A) → AreCounted plan streams → (command : Command A ℕ) → AreCounted (plan_after plan command) (streams_after plan streams command)
   counts-after plan streams h command j =
-      elim (cases_Bool (is_refused plan command)) [
+      elim (cases_Bool (is_refused plan.shapes command)) [
         | inl e ↦
             subst (λ (b : Bool). count_of ((if b then plan.shapes else accepted_shapes plan.shapes command) j) ≡ length ((if b then streams else accepted_streams streams command) j)) (sym e) (h j)
         | inr e ↦
@@ -151,7 +151,7 @@ module _ {A : Type 0} (test : A → Bool) where
 
   events-ranks : (plan : Plan) → IsSteady plan → (streams : ℕ → List A) → AreCounted plan streams → (ranks : ℕ → ℕ) → AreRanked ranks streams → (command : Command A ℕ) → AreRanked (true_ranks test (events_of plan command) ranks) (streams_after plan streams command)
   events-ranks plan st streams h ranks r command =
-      elim (is_refused plan command) as (λ b. AreRanked (true_ranks test (if b then [] else accepted_events plan command) ranks) (if b then streams else accepted_streams streams command)) [
+      elim (is_refused plan.shapes command) as (λ b. AreRanked (true_ranks test (if b then [] else accepted_events plan command) ranks) (if b then streams else accepted_streams streams command)) [
         | true ↦ r
         | false ↦ accepted-ranks plan st streams h ranks r command
       ]

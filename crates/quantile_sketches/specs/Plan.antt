@@ -1,5 +1,5 @@
 -- What is known of a run's slots without items and bits, which commands are refused, and the trace of the accepted ones.
-use Rattle.std.specs.Prelude.{ℕ, ◌+◌, ◌^◌, nat_lt, nat_le, ◌==◌, ◌||◌, not, Bool, if◌then◌else◌, List, [], ◌∷◌, ◌++◌, map, fold, Option, None, Some, is_some}
+use Rattle.std.specs.Prelude.{ℕ, ◌+◌, ◌^◌, ◌-◌, nat_lt, ◌==◌, ◌||◌, not, Bool, if◌then◌else◌, List, [], ◌∷◌, ◌++◌, map, fold, Option, None, Some, is_some}
 use Rattle.sketch_base.specs.Lengths.{lengths_after, start_lengths}
 use Rattle.sketch_base.specs.Trace.{Event, At, Clear, World, changed}
 use Rattle.sketch_kll.specs.Merge.{merge_events}
@@ -39,18 +39,14 @@ with_count n (Some shape) = Some (record { k = shape.k; n = n })
 abbrev pub is_absent : Option Shape → Bool
 is_absent shape = not (is_some shape)
 
--- the count does not fit 64 bits
-abbrev pub is_too_many : ℕ → Bool
-is_too_many n = nat_le (2 ^ 64) n
-
 -- a command is refused: k is below 8, a sketch is absent, or the count would pass 2^64 - 1
-abbrev pub is_refused : {A : Type 0} → Plan → Command A ℕ → Bool
-is_refused plan (New slot k) = nat_lt k 8
-is_refused plan (Update slot x) = is_absent (plan.shapes slot) || is_too_many (count_of (plan.shapes slot) + 1)
-is_refused plan (Merge into source) =
-    is_absent (plan.shapes into) || is_absent (plan.shapes source)
-    || is_too_many (count_of (plan.shapes into) + count_of (plan.shapes source))
-is_refused plan (Reset slot) = is_absent (plan.shapes slot)
+abbrev pub is_refused : {A : Type 0} → (ℕ → Option Shape) → Command A ℕ → Bool
+is_refused shapes (New slot k) = nat_lt k 8
+is_refused shapes (Update slot x) = is_absent (shapes slot) || count_of (shapes slot) == 2 ^ 64 - 1
+is_refused shapes (Merge into source) =
+    is_absent (shapes into) || is_absent (shapes source)
+    || nat_lt (2 ^ 64 - 1) (count_of (shapes into) + count_of (shapes source))
+is_refused shapes (Reset slot) = is_absent (shapes slot)
 
 -- the events of an accepted command
 abbrev pub accepted_events : {A : Type 0} → Plan → Command A ℕ → List (Event A)
@@ -71,12 +67,12 @@ accepted_shapes shapes (Reset slot) = changed shapes slot (with_count 0 (shapes 
 
 -- the events of a command; a refused one gives none
 abbrev pub events_of : {A : Type 0} → Plan → Command A ℕ → List (Event A)
-events_of plan command = if is_refused plan command then [] else accepted_events plan command
+events_of plan command = if is_refused plan.shapes command then [] else accepted_events plan command
 
 -- the plan after a command; a refused one leaves it
 abbrev pub plan_after : {A : Type 0} → Plan → Command A ℕ → Plan
 plan_after plan command = record {
-  shapes = if is_refused plan command then plan.shapes else accepted_shapes plan.shapes command;
+  shapes = if is_refused plan.shapes command then plan.shapes else accepted_shapes plan.shapes command;
   lengths = fold (λ world e. lengths_after e world) plan.lengths (events_of plan command);
 }
 
@@ -94,7 +90,7 @@ trace_from plan (command ∷ rest) = events_of plan command ++ trace_from (plan_
 abbrev pub refused_from : {A : Type 0} → ℕ → Plan → List (Command A ℕ) → List ℕ
 refused_from i plan [] = []
 refused_from i plan (command ∷ rest) =
-    (if is_refused plan command then i ∷ [] else []) ++ refused_from (i + 1) (plan_after plan command) rest
+    (if is_refused plan.shapes command then i ∷ [] else []) ++ refused_from (i + 1) (plan_after plan command) rest
 
 -- all from a run's start
 abbrev pub plan_of : {A : Type 0} → List (Command A ℕ) → Plan

@@ -21,7 +21,7 @@ accepted_streams streams (Reset slot) = changed streams slot []
 
 -- after any command: a refused one leaves them
 abbrev pub streams_after : {A : Type 0} → Plan → (ℕ → List A) → Command A ℕ → ℕ → List A
-streams_after plan streams command = if is_refused plan command then streams else accepted_streams streams command
+streams_after plan streams command = if is_refused plan.shapes command then streams else accepted_streams streams command
 
 abbrev pub streams_from : {A : Type 0} → Plan → (ℕ → List A) → List (Command A ℕ) → ℕ → List A
 streams_from plan streams [] = streams

@@ -2,6 +2,7 @@
 //! What a run has to give stands in specs/Plan and specs/Run; what follows of every list, in `laws`.
 
 pub mod laws;
+mod steps;
 
 /// A command on one of up to 256 slots. A new sketch is made as `C` says, for KLL by its `k`.
 #[derive(Clone, Copy, Debug, PartialEq, Eq)]
