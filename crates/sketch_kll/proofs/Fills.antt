@@ -85,7 +85,7 @@ module _ {A : Type 0} {cmp : A → A → Ordering} (o : IsTotalOrder cmp) where
       go (x ∷ xs) [] l = absurd l
 
   -- updates leave the scratch
-  scratch-stays : (actions : List (Action A)) (lengths : Work (List ℕ)) (word : List Bool) (work : Work (Bag A)) → Fine actions lengths → (acts cmp actions word work).scratch ≡ work.scratch
+  pub scratch-stays : (actions : List (Action A)) (lengths : Work (List ℕ)) (word : List Bool) (work : Work (Bag A)) → Fine actions lengths → (acts cmp actions word work).scratch ≡ work.scratch
   scratch-stays [] lengths word work f = refl
   scratch-stays (Put h x ∷ rest) lengths word work f = scratch-stays rest _ word (act cmp (Put h x) (next_bit word) work) f
   scratch-stays (Compact h Fresh AllButLeftover ∷ rest) lengths word work f = scratch-stays rest _ _ (act cmp (Compact h Fresh AllButLeftover) (next_bit word) work) f.1

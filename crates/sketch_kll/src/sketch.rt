@@ -26,6 +26,8 @@ use sketch_base::error::{Error, ErrorKind};
 use std::alloc::{AllocError, Global};
 use std::marker::Model;
 
+mod merge;
+
 /// A KLL sketch of items of one type, after Karnin, Lang and Liberty, "Optimal quantile
 /// approximation in streams" (2016).
 ///
@@ -402,6 +404,7 @@ fn make_room<T: Ord + Drop, B: RandomBits>(
     ensures sorted { UpperSorted T.cmp (levels_in items.old.items bounds.old.items)
         → UpperSorted T.cmp (levels_in items.new.items bounds.new.items) }
     ensures capacity { vec_capacity items.new ≡ vec_capacity items.old }
+    ensures bounds_capacity { vec_capacity bounds.old ≤ vec_capacity bounds.new }
     ensures shorter { vec_len items.new ≤ vec_len items.old }
     ensures total { total.new ≡ total_of k 8 (length (levels_in items.new.items bounds.new.items)) }
     ensures coins { coins.new ≡ (if is_full k (levels_in items.old.items bounds.old.items)
@@ -475,6 +478,9 @@ fn push_last<T: Drop>(items: &mut Vec<T>, bounds: &mut Vec<usize>, item: T)
     ensures flat { IsFlat items.new.items bounds.new.items }
     ensures levels { levels_in items.new.items bounds.new.items
         ≡ put item (levels_in items.old.items bounds.old.items) }
+    ensures len { vec_len items.new ≡ vec_len items.old + 1 }
+    ensures capacity { vec_capacity items.old ≤ vec_capacity items.new }
+    ensures bounds_capacity { vec_capacity bounds.new ≡ vec_capacity bounds.old }
 {
     items.push(item).unwrap();
     bounds[0] = items.len();
