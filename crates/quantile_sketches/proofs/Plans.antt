@@ -10,8 +10,8 @@ use Rattle.sketch_kll.specs.Schedule.{are_full, lowest_full, update_actions}
 use Rattle.sketch_kll.proofs.Bridges.{update_full, update_spare}
 use Rattle.sketch_kll.proofs.Merges.{merges_legal}
 use Rattle.sketch_kll.proofs.Schedules.{lowest_full_at, length-with_level}
-use Rattle.quantile_sketches.specs.declared.audit.Command.{Command}
-use Rattle.quantile_sketches.specs.declared.audit.Command.TheVariants.{New, Update, Merge, Reset}
+use Rattle.quantile_sketches.specs.declared.audit.commands.Command.{Command}
+use Rattle.quantile_sketches.specs.declared.audit.commands.Command.TheVariants.{New, Update, Merge, Reset}
 use Rattle.quantile_sketches.specs.Plan.{Plan, start_plan, k_of, count_of, is_refused, accepted_events, events_of, plan_after, plan_from, trace_from, trace_of, plan_of}
 
 -- what holds of two functions place by place holds after both are changed at one place

@@ -16,8 +16,8 @@ use Rattle.sketch_kll.specs.Schedule.{are_full, update_actions}
 use Rattle.sketch_kll.proofs.Bridges.{update_full, update_spare}
 use Rattle.sketch_kll.proofs.Merges.{Goes, merge_is}
 use Rattle.std.specs.Cmp.{IsTotalOrder}
-use Rattle.quantile_sketches.specs.declared.audit.Command.{Command}
-use Rattle.quantile_sketches.specs.declared.audit.Command.TheVariants.{New, Update, Merge, Reset}
+use Rattle.quantile_sketches.specs.declared.audit.commands.Command.{Command}
+use Rattle.quantile_sketches.specs.declared.audit.commands.Command.TheVariants.{New, Update, Merge, Reset}
 use Rattle.quantile_sketches.specs.Plan.{Shape, Plan, start_plan, k_of, count_of, with_count, is_absent, is_refused, accepted_shapes, accepted_events, events_of, plan_after, plan_from, trace_from, trace_of, plan_of}
 use Rattle.quantile_sketches.specs.Run.{accepted_streams, streams_after, streams_from, stream_of}
 use Rattle.quantile_sketches.proofs.Plans.{IsSteady, steady-start, steady-after, changed-both, run-legal}

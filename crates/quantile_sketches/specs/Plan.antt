@@ -4,8 +4,8 @@ use Rattle.sketch_base.specs.Lengths.{lengths_after, start_lengths}
 use Rattle.sketch_base.specs.Trace.{Event, At, Clear, World, changed}
 use Rattle.sketch_kll.specs.Merge.{merge_events}
 use Rattle.sketch_kll.specs.Schedule.{update_actions}
-use Rattle.quantile_sketches.specs.declared.audit.Command.{Command}
-use Rattle.quantile_sketches.specs.declared.audit.Command.TheVariants.{New, Update, Merge, Reset}
+use Rattle.quantile_sketches.specs.declared.audit.commands.Command.{Command}
+use Rattle.quantile_sketches.specs.declared.audit.commands.Command.TheVariants.{New, Update, Merge, Reset}
 
 -- a sketch's k, and how many items it took
 pub record Shape : Type 0 where

@@ -8,8 +8,8 @@ use Rattle.sketch_base.specs.Query.{counted, true_rank}
 use Rattle.sketch_base.specs.Ranks.{rank_of_trace}
 use Rattle.sketch_base.specs.Trace.{changed, play, start, coins}
 use Rattle.sketch_base.specs.Words.{sum_over_words, distance}
-use Rattle.quantile_sketches.specs.declared.audit.Command.{Command}
-use Rattle.quantile_sketches.specs.declared.audit.Command.TheVariants.{New, Update, Merge, Reset}
+use Rattle.quantile_sketches.specs.declared.audit.commands.Command.{Command}
+use Rattle.quantile_sketches.specs.declared.audit.commands.Command.TheVariants.{New, Update, Merge, Reset}
 use Rattle.quantile_sketches.specs.Plan.{Plan, start_plan, is_refused, plan_after, plan_of, trace_of, count_of}
 
 -- the streams of all slots after an accepted command: an update appends its item, a merge the other's stream as it stood, and New and Reset empty one

@@ -1,0 +1,59 @@
+//! A run of commands.
+ghost use Rattle.std.specs.Prelude.{◌≡◌, ◌<◌, ◌≤◌, ◌⊎◌, length, IfOk, IfErr};
+ghost use Rattle.std.specs.declared.cmp.Ordering.TheVariants.{Equal};
+ghost use Rattle.sketch_base.specs.declared.error.ErrorKind.TheVariants.{InvalidArgument, OutOfMemory};
+ghost use Rattle.sketch_base.specs.Trace.{coins};
+ghost use Rattle.quantile_sketches.specs.Plan.{trace_of, refused_of};
+ghost use Rattle.quantile_sketches.specs.Outcome.{ArePlanned, ArePlayed, WeighStreams, HaveExtremes, AreOrdered, AreSmall, AreClose, AreUnbiased};
+
+use super::commands::{Command, Run};
+use super::steps::execute;
+use sketch_base::common::random::WordBits;
+use sketch_base::error::{Error, ErrorKind};
+use sketch_kll::sketch::KllSketch;
+use std::alloc::Global;
+use std::collections::BTreeMap;
+
+/// Runs commands on KLL sketches under a word of coins. `n` items are the most that a sketch takes,
+/// `n` being `u64::MAX`, and a command on an absent slot is refused; a refused command changes
+/// nothing.
+///
+/// Item clones have to compare equal to the item. `InvalidArgument` exactly where a command needs
+/// more coins than the word has left; any other error is `OutOfMemory`.
+pub fn run<T: Clone + Ord>(
+    alloc: Global,
+    commands: &[Command<T, u16>],
+    word: &[bool],
+) -> Result<Run<KllSketch<T>>, Error>
+    requires clones { (x y : T) → T.is_clone x y → T.cmp x y ≡ Equal }
+    ensures enough { IfOk result (λ run. coins (trace_of commands.now) ≤ length word.now) }
+    ensures errors { IfErr result (λ e. (e ≡ OutOfMemory)
+        ⊎ ((e ≡ InvalidArgument) × (length word.now < coins (trace_of commands.now)))) }
+    ensures refused { IfOk result (λ run. run.refused.items ≡ refused_of commands.now) }
+    ensures coins { IfOk result (λ run. run.coins ≡ coins (trace_of commands.now)) }
+    ensures planned { IfOk result (λ run. ArePlanned commands.now run.slots) }
+    ensures played { IfOk result (λ run. ArePlayed T.cmp commands.now word.now run.slots) }
+    ensures weight { IfOk result (λ run. WeighStreams commands.now run.slots) }
+    ensures extremes { IfOk result (λ run. HaveExtremes T.cmp commands.now run.slots) }
+    ensures ordered { IfOk result (λ run. AreOrdered T.cmp run.slots) }
+    ensures small { IfOk result (λ run. AreSmall run.slots) }
+    ensures close { IfOk result (λ run. AreClose T.cmp commands.now run.slots) }
+    ensures unbiased { IfOk result (λ run. AreUnbiased T.cmp commands.now (length word.now)) }
+{
+    let mut slots = BTreeMap::new(alloc);
+    let mut refused = Vec::new(alloc);
+    let mut source = WordBits::new(word);
+    for (number, command) in commands.iter().enumerate() {
+        if !execute(alloc, &mut slots, command, &mut source)? {
+            refused.push(number)?;
+        }
+        if source.drawn() > word.len() {
+            return Err(Error::new(ErrorKind::InvalidArgument));
+        }
+    }
+    Ok(Run {
+        slots,
+        refused,
+        coins: source.drawn(),
+    })
+}
