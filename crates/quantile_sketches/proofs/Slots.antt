@@ -25,19 +25,21 @@ use Rattle.sketch_base.proofs.Extremes.{least-parts, greatest-parts}
 use Rattle.sketch_base.proofs.Fixed.{lengths-play, along-kll}
 use Rattle.sketch_base.proofs.Items.{SameItems-refl, SameItems-append}
 use Rattle.sketch_base.proofs.Runs.{in_turn-append, play-at}
+use Rattle.sketch_kll.specs.Copy.{IsCopy}
 use Rattle.sketch_kll.specs.Merge.{IsLegalFrom, merge_actions, merge_events, lengths_of_slots}
 use Rattle.sketch_kll.specs.Merged.{merge_of, coins_of_merge, IsMerged}
 use Rattle.sketch_kll.specs.Schedule.{are_full, room_actions, update_actions}
-use Rattle.sketch_kll.specs.Sketch.{Kll, bag_of, update_of, coins_of_update, IsSound, IsUpdated}
+use Rattle.sketch_kll.specs.Sketch.{Kll, bag_in, bag_of, update_of, coins_of_update, IsSound, IsUpdated}
 use Rattle.sketch_kll.proofs.Bridges.{update_full, update_spare, draws_of_update}
 use Rattle.sketch_kll.proofs.Fills.{alike-trans, alike-lengths}
 use Rattle.sketch_kll.proofs.Merges.{merge_is, goes-kll}
+use Rattle.sketch_kll.proofs.Merged.{alike-same}
 use Rattle.sketch_kll.proofs.Schedules.{update_is}
 use Rattle.quantile_sketches.specs.declared.audit.commands.Command.{Command}
 use Rattle.quantile_sketches.specs.declared.audit.commands.Command.TheVariants.{New, Update, Merge, Reset}
 use Rattle.quantile_sketches.specs.Plan.{Shape, Plan, k_of, count_of, with_count, is_refused, accepted_shapes, accepted_events, events_of, plan_after}
 use Rattle.quantile_sketches.specs.Run.{accepted_streams, streams_after}
-use Rattle.quantile_sketches.specs.Steps.{Slots, sketch_at, shape_of, shapes_in, Puts, AreSame, IsFresh, IsMadeIn, IsUpdatedIn, IsResetIn, IsCopy, IsMergedBy, IsMergedIn, IsDone, IsExecuted}
+use Rattle.quantile_sketches.specs.Steps.{Slots, sketch_at, shape_of, shapes_in, Puts, AreSame, IsFresh, IsMadeIn, IsUpdatedIn, IsResetIn, IsMergedBy, IsMergedIn, IsDone, IsExecuted}
 use Rattle.quantile_sketches.proofs.Plans.{IsSteady, lengths_by, events-legal}
 
 -- an equal place is the place
@@ -329,7 +331,7 @@ module _ {A : Type 0} {cmp : A → A → Ordering} (o : IsTotalOrder cmp) where
         let other = matches plan streams world slots stand from m.other m.held_other in
         let was = stand.sketches into m.old m.held in
         let its = stand.sketches from m.other m.held_other in
-        let none = m.merged.empty (m.copied.n_is ∙ (sym other.n ∙ z)) in
+        let none = m.merged.empty (m.copied.n ∙ (sym other.n ∙ z)) in
         let nothing : streams from ≡ [] = empty-stream m.other.n (streams from) m.other.least its.least its.sound.least_there (sym other.n ∙ z) in
         let stream : streams into ≡ streams into ++ streams from = sym (append-nil (streams into)) ∙ ap (λ l. streams into ++ l) (sym nothing) in
         let count : count_of (plan.shapes into) + count_of (plan.shapes from) ≡ m.old.n = omega (arith, z, same.n) in
@@ -347,6 +349,9 @@ module _ {A : Type 0} {cmp : A → A → Ordering} (o : IsTotalOrder cmp) where
               (put-sketches cmp slots slots' into m.made world.slots streams (world.slots into) (streams into ++ streams from) m.puts stand.sketches new q s held);
         }
 
+    copied-alike : (s t : Kll A) → IsCopy cmp s t → AlikeKll cmp (bag_of s) (bag_of t)
+    copied-alike s t c = subst (λ (b : Bool). AlikeKll cmp (bag_of s) (bag_in b t.levels)) (sym c.is_sorted) (alike-same cmp o s.is_sorted s.levels t.levels c.levels)
+
     -- a merge of one that is not
     merge-full : (plan : Plan) → IsSteady plan → (streams : ℕ → List A) (world : World (Bag A)) (slots : Slots A) → Stand cmp plan streams world slots →
         (into from : ℕ) → 0 < count_of (plan.shapes from) → (source : S) (slots' : Slots A) (source' : S) →
@@ -356,19 +361,20 @@ module _ {A : Type 0} {cmp : A → A → Ordering} (o : IsTotalOrder cmp) where
         let other = matches plan streams world slots stand from m.other m.held_other in
         let was = stand.sketches into m.old m.held in
         let its = stand.sketches from m.other m.held_other in
-        let positive : 0 < m.copy.n = omega (arith, m.copied.n_is, other.n, some) in
+        let positive : 0 < m.copy.n = omega (arith, m.copied.n, other.n, some) in
         let after = m.merged.after positive in
         let k = k_of (plan.shapes into) in
         let lengths : Work (List ℕ) = lengths_of_slots plan.lengths from into in
         let actions : List (Action A) = merge_actions k lengths in
-        let its_lengths : plan.lengths.slots from ≡ bag_lengths (bag_of m.copy) = other.lengths ∙ alike-lengths o (bag_of m.other) (bag_of m.copy) m.copied.bag in
+        let sides' : AlikeKll cmp (bag_of m.other) (bag_of m.copy) = copied-alike m.other m.copy m.copied in
+        let its_lengths : plan.lengths.slots from ≡ bag_lengths (bag_of m.copy) = other.lengths ∙ alike-lengths o (bag_of m.other) (bag_of m.copy) sides' in
         let own_lengths : lengths ≡ record { bag = bag_lengths (bag_of m.old); scratch = bag_lengths (bag_of m.copy) } =
         ap₂ (λ (x y : List ℕ). let w : Work (List ℕ) = record { bag = x; scratch = y } in w) same.lengths its_lengths in
         let own : actions ≡ merge_of m.old m.copy = ap₂ (λ (k : ℕ) (w : Work (List ℕ)). merge_actions {A = A} k w) same.k own_lengths in
         let count : coins (merge_events {A = A} k from into plan.lengths) ≡ coins_of_merge m.old m.copy =
         sum_by-cons (λ (e : Event A). cond (event_draws e) 1 0) (Snap from into) (map (λ action. At into action) actions) ∙ (zero-add _ ∙ (coins-at into actions ∙ ap draws_of own)) in
         let shape : Some (shape_of m.old) ≡ plan.shapes into = sym (ap (option_map shape_of) m.held) ∙ stand.shapes into in
-        let total : m.made.n ≡ count_of (plan.shapes into) + count_of (plan.shapes from) = omega (arith, after.n, same.n, other.n, m.copied.n_is) in
+        let total : m.made.n ≡ count_of (plan.shapes into) + count_of (plan.shapes from) = omega (arith, after.n, same.n, other.n, m.copied.n) in
         record {
           source_goes = m.merged.source_goes positive ∙ ap (after_draws next source) (sym count);
           shapes =
@@ -378,7 +384,7 @@ module _ {A : Type 0} {cmp : A → A → Ordering} (o : IsTotalOrder cmp) where
           sketches = λ word agree.
               let work : Work (Bag A) = record { bag = world.slots into; scratch = world.slots from } in
               let bits : List Bool = bits_from bit next source (coins_of_merge m.old m.copy) in
-              let sides : AlikeKll cmp (world.slots from) (bag_of m.copy) = alike-trans o (world.slots from) (bag_of m.other) (bag_of m.copy) its.alike m.copied.bag in
+              let sides : AlikeKll cmp (world.slots from) (bag_of m.copy) = alike-trans o (world.slots from) (bag_of m.other) (bag_of m.copy) its.alike sides' in
               let word' : take (draws_of actions) word ≡ take (draws_of actions) bits =
               subst (λ (n : ℕ). take n word ≡ take n bits) (ap draws_of (sym own)) (taken-bits (coins_of_merge m.old m.copy) word bits (subst (λ (n : ℕ). take n word ≡ bits_from bit next source n) count agree)) in
               let e : (acts cmp actions word work).bag ≡ (acts cmp (merge_of m.old m.copy) bits work).bag =

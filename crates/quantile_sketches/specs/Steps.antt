@@ -5,9 +5,9 @@ use Rattle.std.specs.Option.{option_map}
 use Rattle.std.specs.Ordering.{nat_cmp}
 use Rattle.std.specs.declared.cmp.Ordering.{Ordering}
 use Rattle.std.specs.declared.cmp.Ordering.TheVariants.{Equal}
-use Rattle.sketch_base.specs.Bag.{empty_bag, AlikeKll}
-use Rattle.sketch_base.specs.Queries.{SameAnswer}
+use Rattle.sketch_base.specs.Bag.{empty_bag}
 use Rattle.sketch_base.specs.Random.{bits_from, after_draws}
+use Rattle.sketch_kll.specs.Copy.{IsCopy}
 use Rattle.sketch_kll.specs.Merged.{coins_of_merge, IsMerged}
 use Rattle.sketch_kll.specs.Sketch.{Kll, bag_of, coins_of_update, IsSound, IsUpdated}
 use Rattle.quantile_sketches.specs.declared.audit.commands.Command.{Command}
@@ -70,13 +70,6 @@ pub record IsResetIn {A : Type 0} (cmp : A → A → Ordering) (slot : ℕ) (slo
   pub fresh : IsFresh old.k made
   pub sound : IsSound cmp made
   pub puts : Puts slots slot made slots'
-
--- a sketch that compares equal to another
-pub record IsCopy {A : Type 0} (cmp : A → A → Ordering) (s t : Kll A) : Type 0 where
-  pub n_is : t.n ≡ s.n
-  pub bag : AlikeKll cmp (bag_of s) (bag_of t)
-  pub least : SameAnswer cmp s.least t.least
-  pub greatest : SameAnswer cmp s.greatest t.greatest
 
 -- one sketch after it took a copy of another one in: an empty one leaves it
 pub record IsMergedBy {A S : Type 0} (cmp : A → A → Ordering) (bit : S → Bool) (next : S → S) (old copy : Kll A) (source : S) (made : Kll A) (source' : S) : Type 0 where

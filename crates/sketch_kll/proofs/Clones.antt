@@ -16,7 +16,7 @@ same_clones cmp is_clone equal (x ∷ xs) (y ∷ ys) z = (equal x y z.0, same_cl
 same_clones cmp is_clone equal [] (y ∷ ys) z = absurd z
 same_clones cmp is_clone equal (x ∷ xs) [] z = absurd z
 
-same_cut : {A : Type 0} (cmp : A → A → Ordering) (xs ys : List A) (bs : List ℕ) → SameItems cmp xs ys → SameLevels cmp (cut xs bs) (cut ys bs)
+pub same_cut : {A : Type 0} (cmp : A → A → Ordering) (xs ys : List A) (bs : List ℕ) → SameItems cmp xs ys → SameLevels cmp (cut xs bs) (cut ys bs)
 same_cut cmp xs ys [] s = tt
 same_cut cmp xs ys (b ∷ bs) s = (SameItems-drop cmp b xs ys s, same_cut cmp (take b xs) (take b ys) bs (SameItems-take cmp b xs ys s))
 
@@ -34,7 +34,7 @@ empty : {A : Type 0} (zs : List A) → length zs ≡ 0 → [] ≡ zs
 empty [] e = refl
 empty (z ∷ zs) e = absurd (omega arith)
 
-flat-cut : {A : Type 0} (zs : List A) (bs : List ℕ) → length (flat (cut zs bs)) ≡ length zs → flat (cut zs bs) ≡ zs
+pub flat-cut : {A : Type 0} (zs : List A) (bs : List ℕ) → length (flat (cut zs bs)) ≡ length zs → flat (cut zs bs) ≡ zs
 flat-cut zs [] e = empty zs (sym e)
 flat-cut zs (b ∷ bs) e =
     let whole : take b zs ++ drop b zs ≡ zs = take-append-drop b zs in

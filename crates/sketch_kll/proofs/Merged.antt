@@ -125,7 +125,7 @@ module _ {A : Type 0} (cmp : A → A → Ordering) (o : IsTotalOrder cmp) where
   get-same (x ∷ xs) (y ∷ ys) zero d s h = s.0
   get-same (x ∷ xs) (y ∷ ys) (suc k) d s h = get-same xs ys k d s.1 (omega arith)
 
-  IsSorted-same : (xs ys : List A) → SameItems cmp xs ys → IsSorted cmp xs → IsSorted cmp ys
+  pub IsSorted-same : (xs ys : List A) → SameItems cmp xs ys → IsSorted cmp xs → IsSorted cmp ys
   IsSorted-same xs ys s h = λ k d l b.
       let n = length-same cmp xs ys s in
       let p = get-same xs ys (k + 1) d s (omega (arith, n)) in

@@ -26,6 +26,7 @@ use sketch_base::error::{Error, ErrorKind};
 use std::alloc::{AllocError, Global};
 use std::marker::Model;
 
+mod copy;
 mod merge;
 
 /// A KLL sketch of items of one type, after Karnin, Lang and Liberty, "Optimal quantile

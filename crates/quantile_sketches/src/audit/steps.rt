@@ -89,20 +89,35 @@ fn merge_in<T: Clone + Ord, B: RandomBits>(
         slots.old coins.old accepted slots.new coins.new) }
     ensures memory { IfErr result (λ e. e ≡ OutOfMemory) }
 {
-    let _ = slots; let _ = coins;
-    Ok(into == source)
+    let Some(other) = slots.get(&source) else {
+        return Ok(false);
+    };
+    let other = other.clone()?;
+    let Some(sketch) = slots.get_mut(&into) else {
+        return Ok(false);
+    };
+    if sketch.n() > u64::MAX - other.n() {
+        return Ok(false);
+    }
+    sketch.merge(&other, coins)?;
+    sketch.is_sound();
+    Ok(true)
 }
 
 // The slot's sketch starts anew.
 fn reset_in<T: Clone + Ord, B: RandomBits>(
     slots: &mut BTreeMap<u8, KllSketch<T>>,
     slot: u8,
-    coins: &mut B,
+    _coins: &mut B,
 ) -> Result<bool, Error>
     ensures done { IfOk result (λ accepted. IsExecuted T.cmp B.bit B.next (Reset slot)
-        slots.old coins.old accepted slots.new coins.new) }
+        slots.old _coins.old accepted slots.new _coins.new) }
     ensures memory { IfErr result (λ e. e ≡ OutOfMemory) }
 {
-    let _ = slots; let _ = coins;
-    Ok(slot == 0)
+    let Some(sketch) = slots.get_mut(&slot) else {
+        return Ok(false);
+    };
+    sketch.reset();
+    sketch.is_sound();
+    Ok(true)
 }
