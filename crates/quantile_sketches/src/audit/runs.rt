@@ -1,5 +1,5 @@
 //! A run of commands.
-ghost use Rattle.std.specs.Prelude.{◌≡◌, ◌<◌, ◌≤◌, ◌⊎◌, length, IfOk, IfErr};
+ghost use Rattle.std.specs.Prelude.{◌≡◌, ◌<◌, ◌≤◌, ◌⊎◌, ◌++◌, ◌∷◌, [], if◌then◌else◌, length, IfOk, IfErr, OnOk};
 ghost use Rattle.std.specs.declared.cmp.Ordering.TheVariants.{Equal};
 ghost use Rattle.sketch_base.specs.declared.error.ErrorKind.TheVariants.{InvalidArgument, OutOfMemory};
 ghost use Rattle.sketch_base.specs.Trace.{coins};
@@ -11,12 +11,11 @@ use super::steps::execute;
 use sketch_base::common::random::WordBits;
 use sketch_base::error::{Error, ErrorKind};
 use sketch_kll::sketch::KllSketch;
-use std::alloc::Global;
+use std::alloc::{AllocError, Global};
 use std::collections::BTreeMap;
 
-/// Runs commands on KLL sketches under a word of coins. `n` items are the most that a sketch takes,
-/// `n` being `u64::MAX`, and a command on an absent slot is refused; a refused command changes
-/// nothing.
+/// Runs commands on KLL sketches under a word of coins. A command on an absent slot is refused, and
+/// so is one that a sketch refuses; a refused command changes nothing.
 ///
 /// Item clones have to compare equal to the item. `InvalidArgument` exactly where a command needs
 /// more coins than the word has left; any other error is `OutOfMemory`.
@@ -44,9 +43,11 @@ pub fn run<T: Clone + Ord>(
     let mut refused = Vec::new(alloc);
     let mut source = WordBits::new(word);
     for (number, command) in commands.iter().enumerate() {
-        if !execute(alloc, &mut slots, command, &mut source)? {
-            refused.push(number)?;
-        }
+        note_refused(
+            &mut refused,
+            number,
+            execute(alloc, &mut slots, command, &mut source)?,
+        )?;
         if source.drawn() > word.len() {
             return Err(Error::new(ErrorKind::InvalidArgument));
         }
@@ -56,4 +57,15 @@ pub fn run<T: Clone + Ord>(
         refused,
         coins: source.drawn(),
     })
+}
+
+// Adds a command's number where it was not accepted.
+fn note_refused(refused: &mut Vec<usize>, number: usize, accepted: bool) -> Result<(), AllocError>
+    ensures { OnOk result (refused.new.items ≡ (if accepted then refused.old.items
+        else refused.old.items ++ number ∷ [])) }
+{
+    if !accepted {
+        refused.push(number)?;
+    }
+    Ok(())
 }
