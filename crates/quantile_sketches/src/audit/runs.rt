@@ -69,3 +69,60 @@ fn note_refused(refused: &mut Vec<usize>, number: usize, accepted: bool) -> Resu
     }
     Ok(())
 }
+
+#[cfg(test)]
+mod tests {
+    use super::*;
+    use sketch_base::common::SearchCriteria;
+    use std::test::Fail;
+
+    fn updates(alloc: Global, count: i64) -> Result<Vec<Command<i64, u16>>, AllocError> {
+        let mut commands = Vec::new(alloc);
+        commands.push(Command::New { slot: 0, config: 8 })?;
+        for item in 0..count {
+            commands.push(Command::Update {
+                slot: 0,
+                item: item + 1,
+            })?;
+        }
+        Ok(commands)
+    }
+
+    fn weight_of(run: &Run<KllSketch<i64>>, item: i64) -> Result<u64, Fail> {
+        let sketch = run.slots.get(&0).ok_or("absent")?;
+        let rank = sketch
+            .rank(&item, SearchCriteria::Inclusive)
+            .ok_or("empty")?;
+        Ok(rank.weight)
+    }
+
+    #[test]
+    fn refuses_what_no_sketch_takes(rt: HostRuntime) -> Result<(), Fail> {
+        let mut commands = updates(rt.alloc(), 9)?;
+        let short = run(rt.alloc(), commands.as_slice(), &[]);
+        assert!(rt; short.is_err_and(|e| e.kind() == ErrorKind::InvalidArgument));
+        commands.push(Command::New { slot: 1, config: 7 })?;
+        commands.push(Command::Merge { into: 0, source: 1 })?;
+        let done = run(rt.alloc(), commands.as_slice(), &[false])?;
+        assert_eq!(rt; done.refused.as_slice(), [10, 11].as_slice());
+        assert_eq!(rt; done.coins, 1);
+        assert_eq!(rt; weight_of(&done, 5)?, 4);
+        Ok(())
+    }
+
+    #[test]
+    fn merges_a_copy_into_itself(rt: HostRuntime) -> Result<(), Fail> {
+        let mut commands = updates(rt.alloc(), 9)?;
+        commands.push(Command::Merge { into: 0, source: 0 })?;
+        let low = run(rt.alloc(), commands.as_slice(), &[false])?;
+        let high = run(rt.alloc(), commands.as_slice(), &[true])?;
+        assert_eq!(rt; low.coins, 1);
+        assert_eq!(rt; weight_of(&low, 5)?, 8);
+        assert_eq!(rt; weight_of(&high, 5)?, 12);
+        commands.push(Command::Reset { slot: 0 })?;
+        let emptied = run(rt.alloc(), commands.as_slice(), &[true])?;
+        let sketch = emptied.slots.get(&0).ok_or("absent")?;
+        assert!(rt; sketch.is_empty());
+        Ok(())
+    }
+}
