@@ -1,6 +1,5 @@
 -- The sketches in the slots are those of the play, command by command.
 use Rattle.std.proofs.Common.{◌≡◌, ◌≢◌, ℕ, zero, suc, ◌+◌, ◌<◌, ◌≤◌, Bool, true, false, cond, ◌||◌, ◌==◌, not, eqb-true, if◌then◌else◌, List, [], ◌∷◌, ◌++◌, length, map, take, drop, Option, None, Some, refl, sym, ap, ap₂, ◌∙◌, subst, arith, inl, inr, IsTrue, append-nil, zero-add, Ordering}
-
 use Rattle.std.proofs.lemmas.Bool.Decides.{nat_tests}
 use Rattle.std.proofs.lemmas.Bool.{cases_Bool, cases_eq, false≢true, eqb-false}
 use mathlib.Core.Path.{fun_ext}

@@ -100,8 +100,7 @@ module _ {A : Type 0} {cmp : A → A → Ordering} (o : IsTotalOrder cmp) where
         one_item_ties = λ h.
             AllItems-map (λ x. Ties cmp x least × Ties cmp x greatest) (λ x. Ties cmp x least' × Ties cmp x greatest') (λ x h. (ties_other least least' x l h.0, ties_other greatest greatest' x g h.1)) ms
             (AllItems-same (λ x. Ties cmp x least × Ties cmp x greatest) cmp (λ x y t q. (ties-same o least x y t q.0, ties-same o greatest x y t q.1)) ls ms levels (s.one_item_ties h));
-      } in
-      (
+      } in (
         record {
           flat = record { items_are = flat-cut copy (drop 1 bounds) whole; bounds_are = sym marked.0 ∙ i.flat.bounds_are };
           total_is = i.total_is ∙ ap (λ (m : ℕ). total_of k 8 m) size.counts;

@@ -19,8 +19,8 @@ returns-then-drawn-word-clause-errors g c =
     inr (
       c.new.ensures,
       subst (λ l. length c.args.word.now < coins (trace_of l)) whole
-      (going-short g.met.T.Ord.total c.args.word.now (take i commands) (drop (i + 1) commands) c.loop-number.slots c.loop-number.refused.items c.loop-number.source c.loop-number.invariant
-      command c.in_ok-execute.field-0 c.execute.new.slots c.execute.new.coins c.in_ok-execute.ensures.done few beyond),
+          (going-short g.met.T.Ord.total c.args.word.now (take i commands) (drop (i + 1) commands) c.loop-number.slots c.loop-number.refused.items c.loop-number.source c.loop-number.invariant
+          command c.in_ok-execute.field-0 c.execute.new.slots c.execute.new.coins c.in_ok-execute.ensures.done few beyond),
     )
 
 pub loop-number-preserved : goal.loop-number-preserved
