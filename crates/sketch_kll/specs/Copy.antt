@@ -1,4 +1,5 @@
 -- views and copies of a sketch
+use Rattle.sketch_kll.specs.Levels.{SameLevels}
 use Rattle.std.specs.Prelude.{◌≡◌, ℕ, Bool, ◌&&◌, nat_eq, List, length}
 use Rattle.std.specs.Cmp.{IsEquivalence, and_equiv, on_equiv, nat_eq_equiv, bool_eq_equiv}
 use Rattle.std.specs.Cmp.Lexicographic.{pointwise, lists_equiv, options_equiv}
@@ -42,3 +43,13 @@ same_sketch_equiv e =
     (on_equiv (λ s. s.levels) (lists_equiv (lists_equiv e))))
     (on_equiv (λ s. s.least) (options_equiv e)))
     (on_equiv (λ s. s.greatest) (options_equiv e))
+
+-- equal numbers and flag, and items that compare equal place by place
+pub record IsCopy {A : Type 0} (cmp : A → A → Ordering) (s t : Kll A) : Type 0 where
+  pub k : t.k ≡ s.k
+  pub min_k : t.min_k ≡ s.min_k
+  pub n : t.n ≡ s.n
+  pub is_sorted : t.is_sorted ≡ s.is_sorted
+  pub levels : SameLevels cmp s.levels t.levels
+  pub least : SameAnswer cmp s.least t.least
+  pub greatest : SameAnswer cmp s.greatest t.greatest

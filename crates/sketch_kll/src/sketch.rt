@@ -15,7 +15,7 @@ ghost use Rattle.sketch_kll.specs.Flat.{levels_in, IsFlat};
 ghost use Rattle.sketch_kll.specs.Levels.{weight as weight_in, first_level, compacted, SameLevels, UpperSorted};
 ghost use Rattle.sketch_kll.specs.Rank.{counted_weight};
 ghost use Rattle.sketch_kll.specs.Schedule.{updates_trace};
-ghost use Rattle.sketch_kll.specs.Sketch.{bag_of, coins_of_update, newer_or, Ties, least_with, greatest_with, IsUpdated};
+ghost use Rattle.sketch_kll.specs.Sketch.{bag_of, coins_of_update, newer_or, Ties, least_with, greatest_with, IsSound, IsUpdated};
 ghost use Rattle.sketch_kll.specs.Steps.{full_level, is_full, with_room, keeps_last, put};
 
 mod copies;
@@ -94,6 +94,13 @@ impl<T: Clone + Ord> KllSketch<T> {
             min_item: None,
             max_item: None,
         })
+    }
+
+    /// What every sketch keeps. A proof calls it; it does nothing.
+    pub fn is_sound(&self)
+        ensures { IsSound T.cmp self.now }
+    {
+        let _k = &self.k;
     }
 
     /// The parameter that the sketch was made with.

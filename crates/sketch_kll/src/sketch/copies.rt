@@ -2,7 +2,7 @@
 ghost use Rattle.std.specs.Prelude.{◌≡◌, true, IfOk};
 ghost use Rattle.std.specs.declared.cmp.Ordering.TheVariants.{Equal};
 ghost use Rattle.std.specs.Cmp.Lexicographic.{pointwise};
-ghost use Rattle.sketch_kll.specs.Copy.{same_sketch};
+ghost use Rattle.sketch_kll.specs.Copy.{IsCopy, same_sketch};
 ghost use Rattle.sketch_kll.specs.Flat.{levels_in, IsFlat};
 
 use crate::sketch::KllSketch;
@@ -14,6 +14,7 @@ impl<T: Clone + Ord> KllSketch<T> {
     pub fn clone(&self) -> Result<Self, AllocError>
         requires clones { (x y : T) → T.is_clone x y → T.cmp x y ≡ Equal }
         ensures equal { IfOk result (λ copy. same_sketch T.eq self.now copy ≡ true) }
+        ensures copied { IfOk result (λ copy. IsCopy T.cmp self.now copy) }
     {
         Ok(KllSketch {
             k: self.k,

@@ -1,0 +1,27 @@
+//! Commands, and what running them gives.
+
+use std::collections::BTreeMap;
+
+/// A command on one of up to 256 slots. A new sketch is made as `C` says, for KLL by its `k`.
+#[derive(Clone, Copy, Debug, PartialEq, Eq)]
+pub enum Command<T, C> {
+    /// A new sketch in the slot, in place of what it held.
+    New { slot: u8, config: C },
+    /// The slot's sketch takes an item.
+    Update { slot: u8, item: T },
+    /// The sketch of one slot is merged into that of another. A sketch merged into itself takes a copy.
+    Merge { into: u8, source: u8 },
+    /// The slot's sketch is emptied.
+    Reset { slot: u8 },
+}
+
+/// What a run gives.
+#[derive(Drop)]
+pub struct Run<S> {
+    /// The sketches, by slot.
+    pub slots: BTreeMap<u8, S>,
+    /// The numbers of the refused commands, from 0.
+    pub refused: Vec<usize>,
+    /// How many coins were spent.
+    pub coins: usize,
+}
