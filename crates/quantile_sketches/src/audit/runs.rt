@@ -5,6 +5,7 @@ ghost use Rattle.sketch_base.specs.declared.error.ErrorKind.TheVariants.{Invalid
 ghost use Rattle.sketch_base.specs.Trace.{coins};
 ghost use Rattle.quantile_sketches.specs.Plan.{trace_of, refused_of};
 ghost use Rattle.quantile_sketches.specs.Outcome.{ArePlanned, ArePlayed, WeighStreams, HaveExtremes, AreOrdered, AreSmall, AreClose, AreUnbiased};
+ghost use Rattle.quantile_sketches.specs.Scatter.{AreScattered, SpreadLittle};
 
 use super::commands::{Command, Run};
 use super::steps::execute;
@@ -38,6 +39,8 @@ pub fn run<T: Clone + Ord>(
     ensures small { IfOk result (λ run. AreSmall run.slots) }
     ensures close { IfOk result (λ run. AreClose T.cmp commands.now run.slots) }
     ensures unbiased { IfOk result (λ run. AreUnbiased T.cmp commands.now (length word.now)) }
+    ensures scatter { IfOk result (λ run. AreScattered T.cmp commands.now (length word.now)) }
+    ensures spread { IfOk result (λ run. SpreadLittle commands.now run.slots) }
 {
     let mut slots = BTreeMap::new(alloc);
     let mut refused = Vec::new(alloc);

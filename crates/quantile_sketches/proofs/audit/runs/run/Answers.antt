@@ -4,6 +4,7 @@ use Rattle.sketch_base.specs.Trace.{coins}
 use Rattle.quantile_sketches.specs.declared.audit.commands.Command.{Command}
 use Rattle.quantile_sketches.specs.Plan.{trace_of}
 use Rattle.quantile_sketches.proofs.Courses.{Going, going-more, going-short, gone-played, gone-weight, gone-extremes, gone-ordered, gone-small, gone-close, gone-unbiased}
+use Rattle.quantile_sketches.proofs.Scatters.{gone-scattered, gone-spread}
 use Rattle.quantile_sketches.proofs.audit.runs.run.Goals as goal
 
 pub returns-then-drawn-word-clause-errors : goal.returns-then-drawn-word-clause-errors
@@ -80,3 +81,15 @@ returns-clause-unbiased g c =
     let all : take c.loop-number.number c.args.commands.now ≡ c.args.commands.now = take_all c.loop-number.number c.args.commands.now (omega arith) in
     let gone = subst (λ l. Going g.T.Ord.cmp c.args.word.now l c.loop-number.slots c.loop-number.refused.items c.loop-number.source) all c.loop-number.invariant in
     gone-unbiased g.met.T.Ord.total c.args.word.now c.args.commands.now c.loop-number.slots c.loop-number.refused.items c.loop-number.source gone
+
+pub returns-clause-scatter : goal.returns-clause-scatter
+returns-clause-scatter g c =
+    let all : take c.loop-number.number c.args.commands.now ≡ c.args.commands.now = take_all c.loop-number.number c.args.commands.now (omega arith) in
+    let gone = subst (λ l. Going g.T.Ord.cmp c.args.word.now l c.loop-number.slots c.loop-number.refused.items c.loop-number.source) all c.loop-number.invariant in
+    gone-scattered g.met.T.Ord.total c.args.word.now c.args.commands.now c.loop-number.slots c.loop-number.refused.items c.loop-number.source gone
+
+pub returns-clause-spread : goal.returns-clause-spread
+returns-clause-spread g c =
+    let all : take c.loop-number.number c.args.commands.now ≡ c.args.commands.now = take_all c.loop-number.number c.args.commands.now (omega arith) in
+    let gone = subst (λ l. Going g.T.Ord.cmp c.args.word.now l c.loop-number.slots c.loop-number.refused.items c.loop-number.source) all c.loop-number.invariant in
+    gone-spread g.met.T.Ord.total c.args.word.now c.args.commands.now c.loop-number.slots c.loop-number.refused.items c.loop-number.source gone
