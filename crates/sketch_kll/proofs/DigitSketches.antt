@@ -103,7 +103,7 @@ record DigitSize {A : Type 0} (count n : ℕ) (ls : List (List A)) : Type 0 wher
   weighs : n < 2 ^ count → weight ls ≡ n
   retains : retained ls ≤ count
 
-at-length : {A : Type 0} (n : ℕ) (x : A) → length (at_digit n x) ≡ n % 2
+pub at-length : {A : Type 0} (n : ℕ) (x : A) → length (at_digit n x) ≡ n % 2
 at-length n x = go (n % 2 == 1) refl
   where
     go : (b : Bool) → (n % 2 == 1) ≡ b → length (if b then x ∷ [] else []) ≡ n % 2
