@@ -7,7 +7,7 @@ use Rattle.sketch_base.specs.Bag.{AllButLeftover, with_level}
 use Rattle.sketch_base.specs.Trace.{Action, Compact, Fresh, Clear, Event, Snap, At, World, changed}
 use Rattle.sketch_base.specs.Lengths.{act_on_lengths, acts_on_lengths, lengths_after}
 use Rattle.sketch_base.proofs.Changes.{changed-there}
-use Rattle.sketch_kll.specs.Merge.{merge_actions, merge_events, lengths_of_slots}
+use Rattle.sketch_kll.specs.Merge.{merge_actions, lengths_of_slots}
 use Rattle.sketch_kll.specs.Schedule.{are_full, lowest_full, update_actions, updated_lengths}
 use Rattle.sketch_kll.proofs.Bridges.{update_full, update_spare}
 use Rattle.sketch_kll.proofs.SpreadOfUpdates.{IsSparing, sparing-none, sparing-update, sparing-bound, added, squared, squared-cleared, all_shares-append, update-shares, shares-elsewhere}
@@ -32,17 +32,15 @@ spares-fresh None = tt
 spares-fresh (Some shape) = sparing-none shape.k
 
 -- a sketch that took in nothing
-spares-still : (shape : Option Shape) (b c : Bool) (ns : List ℕ) (s n : ℕ) → n ≡ count_of shape → Spares shape b ns s → Spares (with_count n shape) (b && c) ns s
-spares-still None b c ns s n e i = tt
-spares-still (Some shape) false c ns s n e i = tt
-spares-still (Some shape) true false ns s n e i = tt
-spares-still (Some shape) true true ns s n e i = subst (λ (m : ℕ). IsSparing shape.k ns m s) (sym e) i
+spares-still : (shape : Option Shape) (b : Bool) (ns : List ℕ) (s n : ℕ) → n ≡ count_of shape → Spares shape b ns s → Spares (with_count n shape) b ns s
+spares-still None b ns s n e i = tt
+spares-still (Some shape) false ns s n e i = tt
+spares-still (Some shape) true ns s n e i = subst (λ (m : ℕ). IsSparing shape.k ns m s) (sym e) i
 
--- nothing is said after a merge
-spares-ended : (shape : Option Shape) (b : Bool) (ns : List ℕ) (s : ℕ) → Spares shape (b && false) ns s
-spares-ended None b ns s = tt
-spares-ended (Some shape) false ns s = tt
-spares-ended (Some shape) true ns s = tt
+-- nothing is said of others
+spares-others : (shape : Option Shape) (ns : List ℕ) (s : ℕ) → Spares shape false ns s
+spares-others None ns s = tt
+spares-others (Some shape) ns s = tt
 
 spares-update : {A : Type 0} (shape : Option Shape) (b : Bool) (ns : List ℕ) (s : ℕ) (x : A) → Spares shape b ns s → Spares (with_count (count_of shape + 1) shape) b (updated_lengths (k_of shape) ns x) (s + added (k_of shape) ns)
 spares-update None b ns s x i = tt
@@ -97,21 +95,17 @@ module _ (A : Type 0) where
       (spares-same _ _ _ _ _ _ _ _ (changed-there shapes s shape) (changed-there alone s true) (changed-there world.slots s (0 ∷ [])) (ap squared (changed-there shares s (map (λ share. 0) (shares s))) ∙ squared-cleared (shares s)) new)
       (λ j e. spares-same _ _ _ _ _ _ _ _ (changed-away shapes s shape j e) (changed-away alone s true j e) (lengths-elsewhere s j e clear world) (shares-elsewhere s j e clear shares) (i j))
 
-  -- a slot that takes a merge in
-  spared-merge : (plan : Plan) (alone : ℕ → Bool) (shares : ℕ → List ℕ) → AreSpared plan.shapes alone plan.lengths shares → (into source : ℕ) (shape : Option Shape) →
-      let events : List (Event A) = merge_events (k_of (plan.shapes into)) source into plan.lengths in
-      AreSpared (changed plan.shapes into shape) (changed alone into (alone into && false)) (lengths_by plan.lengths events) (all_shares events shares)
-  spared-merge plan alone shares i into source shape =
-      let shapes = plan.shapes in
-      let events : List (Event A) = merge_events (k_of (shapes into)) source into plan.lengths in
-      let actions : List (Action A) = merge_actions (k_of (shapes into)) (lengths_of_slots plan.lengths source into) in
-      let snap : Event A = Snap source into in
-      at_slot into (λ j. Spares (changed shapes into shape j) (changed alone into (alone into && false) j) ((lengths_by plan.lengths events).slots j) (squared (all_shares events shares j)))
-      (spares-same _ _ _ _ _ _ _ _ (changed-there shapes into shape) (changed-there alone into (alone into && false)) refl refl (spares-ended shape (alone into) _ _))
-      (λ j e. spares-same _ _ _ _ _ _ _ _ (changed-away shapes into shape j e) (changed-away alone into (alone into && false) j e) (lengths-elsewhere into j e actions (lengths_after snap plan.lengths))
-      (shares-elsewhere into j e actions (shares_after snap shares) ∙ ap squared (changed-away shares into _ j e)) (i j))
-
 module _ {A : Type 0} where
+  -- a slot that takes more than updates
+  spared-ended : (shapes : ℕ → Option Shape) (alone : ℕ → Bool) (world : World (List ℕ)) (shares : ℕ → List ℕ) (s : ℕ) (shape : Option Shape) (actions : List (Action A)) →
+      ((j : ℕ) → (j == s) ≡ false → Spares (shapes j) (alone j) (world.slots j) (squared (shares j))) →
+      AreSpared (changed shapes s shape) (changed alone s false) (lengths_by world (map (λ action. At s action) actions)) (all_shares (map (λ action. At s action) actions) shares)
+  spared-ended shapes alone world shares s shape actions i =
+      let events : List (Event A) = map (λ action. At s action) actions in
+      at_slot s (λ j. Spares (changed shapes s shape j) (changed alone s false j) ((lengths_by world events).slots j) (squared (all_shares events shares j)))
+      (spares-same _ _ _ _ _ _ _ _ (changed-there shapes s shape) (changed-there alone s false) refl refl (spares-others shape _ _))
+      (λ j e. spares-same _ _ _ _ _ _ _ _ (changed-away shapes s shape j e) (changed-away alone s false j e) (lengths-elsewhere s j e actions world) (shares-elsewhere s j e actions shares) (i j e))
+
   accepted-spared : (plan : Plan) (alone : ℕ → Bool) (shares : ℕ → List ℕ) → AreSpared plan.shapes alone plan.lengths shares → (command : Command A ℕ) →
       AreSpared (accepted_shapes plan.shapes command) (accepted_alone plan.shapes alone command) (lengths_by plan.lengths (accepted_events plan command)) (all_shares (accepted_events plan command) shares)
   accepted-spared plan alone shares i (New slot k) = spared-clear A plan.shapes alone plan.lengths shares slot _ i (sparing-none k)
@@ -127,15 +121,19 @@ module _ {A : Type 0} where
   accepted-spared plan alone shares i (Merge into source) =
       let shapes = plan.shapes in
       let n = count_of (shapes into) + count_of (shapes source) in
-      let events : List (Event A) = merge_events (k_of (shapes into)) source into plan.lengths in
-      let R : Bool → Type 0 = λ (b : Bool). AreSpared (changed shapes into (with_count n (shapes into))) (changed alone into (alone into && b)) (lengths_by plan.lengths (if b then [] else events)) (all_shares (if b then [] else events) shares) in
+      let shape = with_count n (shapes into) in
+      let actions : List (Action A) = merge_actions (k_of (shapes into)) (lengths_of_slots plan.lengths source into) in
+      let snap : Event A = Snap source into in
+      let R : Bool → Type 0 = λ (b : Bool). AreSpared (changed shapes into shape) (changed alone into (b && alone into)) (lengths_by plan.lengths (if b then [] else snap ∷ map (λ action. At into action) actions)) (all_shares (if b then [] else snap ∷ map (λ action. At into action) actions) shares) in
       elim (cases_Bool (count_of (shapes source) == 0)) [
         | inl e ↦
-            subst R (sym e) (at_slot into (λ j. Spares (changed shapes into (with_count n (shapes into)) j) (changed alone into (alone into && true) j) (plan.lengths.slots j) (squared (shares j)))
-            (spares-same _ _ _ _ _ _ _ _ (changed-there shapes into _) (changed-there alone into _) refl refl
-            (spares-still (shapes into) (alone into) true _ _ n (omega (arith, eqb-true _ 0 e)) (i into)))
-            (λ j f. spares-same _ _ _ _ _ _ _ _ (changed-away shapes into _ j f) (changed-away alone into _ j f) refl refl (i j)))
-        | inr e ↦ subst R (sym e) (spared-merge A plan alone shares i into source (with_count n (shapes into)))
+            subst R (sym e) (at_slot into (λ j. Spares (changed shapes into shape j) (changed alone into (alone into) j) (plan.lengths.slots j) (squared (shares j)))
+            (spares-same _ _ _ _ _ _ _ _ (changed-there shapes into shape) (changed-there alone into (alone into)) refl refl
+            (spares-still (shapes into) (alone into) _ _ n (omega (arith, eqb-true _ 0 e)) (i into)))
+            (λ j f. spares-same _ _ _ _ _ _ _ _ (changed-away shapes into shape j f) (changed-away alone into (alone into) j f) refl refl (i j)))
+        | inr e ↦
+            subst R (sym e) (spared-ended shapes alone (lengths_after snap plan.lengths) (shares_after snap shares) into shape actions
+            (λ j f. spares-same _ _ _ _ _ _ _ _ refl refl refl (ap squared (changed-away shares into _ j f)) (i j)))
       ]
 
   events-spared : (plan : Plan) (alone : ℕ → Bool) (shares : ℕ → List ℕ) → AreSpared plan.shapes alone plan.lengths shares → (command : Command A ℕ) →

@@ -18,7 +18,7 @@ use Rattle.quantile_sketches.specs.Steps.{Slots}
 abbrev pub accepted_alone : {A : Type 0} → (ℕ → Option Shape) → (ℕ → Bool) → Command A ℕ → ℕ → Bool
 accepted_alone shapes alone (New slot k) = changed alone slot true
 accepted_alone shapes alone (Update slot x) = alone
-accepted_alone shapes alone (Merge into source) = changed alone into (alone into && count_of (shapes source) == 0)
+accepted_alone shapes alone (Merge into source) = changed alone into (count_of (shapes source) == 0 && alone into)
 accepted_alone shapes alone (Reset slot) = changed alone slot true
 
 -- after any command: a refused one leaves them
