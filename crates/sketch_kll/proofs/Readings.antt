@@ -1,10 +1,10 @@
 -- What was read holds what every sketch keeps.
-use Rattle.std.proofs.Common.{◌≡◌, ℕ, ◌+◌, ◌*◌, ◌^◌, ◌<◌, ◌≤◌, Bool, true, false, List, [], ◌∷◌, length, map, Option, Some, None, Ordering, Equal, is_gt, refl, sym, ap, subst, ◌∙◌, arith}
+use Rattle.std.proofs.Common.{◌≡◌, ℕ, ◌^◌, ◌<◌, ◌≤◌, Bool, false, List, [], ◌∷◌, length, map, Some, None, Ordering, Equal, is_gt, refl, sym, ap, subst, ◌∙◌, arith}
 use Rattle.std.specs.Cmp.{IsTotalOrder}
 use Rattle.std.proofs.lemmas.Cmp.{tied_itself, tied_back}
 use Rattle.sketch_kll.specs.Capacity.{total_of}
 use Rattle.sketch_kll.specs.Image.{BeginsLevels, IsLegal}
-use Rattle.sketch_kll.specs.Sketch.{Kll, IsSound, IsSketch, sketch_of}
+use Rattle.sketch_kll.specs.Sketch.{IsSound, IsSketch, sketch_of}
 use Rattle.sketch_kll.proofs.Sames.{cmp_same}
 use Rattle.sketch_kll.proofs.Sketches.{capacity_eight}
 use Rattle.sketch_kll.proofs.Turns.{retained_total}

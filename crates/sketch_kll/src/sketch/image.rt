@@ -1,10 +1,10 @@
 //! Images of a sketch: the bytes that hold it whole, written and read.
-ghost use Rattle.std.specs.Prelude.{◌≡◌, ◌≢◌, ℕ, ◌+◌, ◌*◌, ◌^◌, ◌<◌, ◌≤◌, [], ◌∷◌, ◌++◌, length, IfOk, IfErr, OnOk, true, false};
+ghost use Rattle.std.specs.Prelude.{◌≡◌, ◌≢◌, ℕ, ◌+◌, ◌*◌, ◌^◌, ◌<◌, ◌≤◌, [], ◌∷◌, ◌++◌, length, IsErrOf, IfOk, IfErr, OnOk, true, false};
 ghost use Rattle.std.specs.Option.{SomeIff, option_to_list};
 ghost use Rattle.std.specs.declared.cmp.Ordering.TheVariants.{Equal};
 ghost use Rattle.sketch_base.specs.declared.error.ErrorKind.TheVariants.{InvalidArgument, InvalidData, OutOfMemory};
 ghost use Rattle.sketch_kll.specs.Image.{IsImage, IsHead, IsEmptyBody, IsItemBody, IsFullBody};
-ghost use Rattle.sketch_kll.specs.ImageLaws.{SpellingsTie};
+ghost use Rattle.sketch_kll.specs.ImageLaws.{HasImage, SpellingsTie};
 ghost use Rattle.sketch_kll.specs.Sketch.{Kll};
 ghost use Rattle.sketch_kll.specs.Written.{AllSpelled, items_text, image_text, full_text, ends_of, written_items, items_by_count, header_of as header_of_lem};
 
@@ -28,11 +28,9 @@ impl<T: KllValue + Ord> KllSketch<T> {
     /// `usize::MAX`; any other error is `OutOfMemory`.
     pub fn serialize(&self) -> Result<Vec<u8>, Error>
         ensures written { IfOk result (λ v. v.items ≡ image_text T.spelling self.now) }
-        ensures spelled { OnOk result (AllSpelled T.spelling (written_items self.now)) }
         ensures image { IfOk result (λ v. IsImage T.cmp T.spelling v.items self.now) }
-        ensures refused { IfErr result (λ e. e ≡ InvalidArgument →
-            AllSpelled T.spelling (written_items self.now) →
-            2 ^ 64 ≤ length (image_text T.spelling self.now)) }
+        ensures fits { OnOk result (HasImage T.spelling self.now) }
+        ensures refused { IsErrOf result InvalidArgument → ¬ HasImage T.spelling self.now }
         ensures kind { IfErr result (λ e. e ≢ InvalidData) }
     {
         let size = match self.image_size() {

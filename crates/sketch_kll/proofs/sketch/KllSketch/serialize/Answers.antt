@@ -14,3 +14,11 @@ returns-clause-image g c =
     let e : c.into_bytes.result.items ≡ image_text g.T.KllValue.spelling s = search rules in
     let p : AllSpelled g.T.KllValue.spelling (written_items s) = search rules in
     subst (λ (t : List ℕ). IsImage g.T.Ord.cmp g.T.KllValue.spelling t s) (sym e) (written_lem g.T.Ord.cmp g.T.KllValue.spelling s sound fits p)
+
+pub returns-clause-fits : goal.returns-clause-fits
+returns-clause-fits g c =
+    let p : AllSpelled g.T.KllValue.spelling (written_items c.args.self.now) = search rules in
+    record { spelled = p; fits = (c.in-Some.ensures p).0 }
+
+pub returns-in-None-clause-refused : goal.returns-in-None-clause-refused
+returns-in-None-clause-refused g c = λ k h. c.in-None.ensures h.spelled h.fits

@@ -1,4 +1,3 @@
-use Rattle.std.proofs.Common.{◌<◌, ◌^◌, rules, refl}
 use Rattle.sketch_kll.specs.Image.{has_flag}
 use Rattle.sketch_kll.proofs.Wholes.{flat_empty, sketch_empty, ends_of}
 use Rattle.sketch_kll.proofs.Readings.{empty_holds}
