@@ -17,7 +17,7 @@ use Rattle.sketch_kll.proofs.Bridges.{update_full, update_spare}
 use Rattle.sketch_kll.proofs.Merges.{Goes, merge_is}
 use Rattle.std.specs.Cmp.{IsTotalOrder}
 use Rattle.quantile_sketches.specs.declared.audit.commands.Command.{Command}
-use Rattle.quantile_sketches.specs.declared.audit.commands.Command.TheVariants.{New, Update, Merge, Reset}
+use Rattle.quantile_sketches.specs.declared.audit.commands.Command.TheVariants.{New, Update, Merge, Reset, RoundTrip}
 use Rattle.quantile_sketches.specs.Plan.{Shape, Plan, start_plan, k_of, count_of, with_count, is_absent, is_refused, accepted_shapes, accepted_events, events_of, plan_after, plan_from, trace_from, trace_of, plan_of}
 use Rattle.quantile_sketches.specs.Run.{accepted_streams, streams_after, streams_from, stream_of}
 use Rattle.quantile_sketches.proofs.Plans.{IsSteady, steady-start, steady-after, changed-both, run-legal}
@@ -51,6 +51,7 @@ module _ {A : Type 0} where
       changed-both Measures plan.shapes streams into _ (streams into ++ streams source) h
       (count-with _ (plan.shapes into) (or-left _ _ (or-left _ _ e)) ∙ omega (arith, h into, h source, length-append (streams into) (streams source)))
   accepted-counts plan streams h (Reset slot) e = changed-both Measures plan.shapes streams slot _ [] h (count-with 0 (plan.shapes slot) e)
+  accepted-counts plan streams h (RoundTrip slot) e = h
 
   pub counts-after : (plan : Plan) (streams : ℕ → List A) → AreCounted plan streams → (command : Command A ℕ) → AreCounted (plan_after plan command) (streams_after plan streams command)
   counts-after plan streams h command j =
@@ -148,6 +149,7 @@ module _ {A : Type 0} (test : A → Bool) where
             | inr e ↦ subst (λ (b : Bool). ranks j ≡ count_by test (if b then streams into ++ streams source else streams j)) (sym e) (r j)
           ]
   accepted-ranks plan st streams h ranks r (Reset slot) = changed-both Ranks ranks streams slot 0 [] r refl
+  accepted-ranks plan st streams h ranks r (RoundTrip slot) = r
 
   events-ranks : (plan : Plan) → IsSteady plan → (streams : ℕ → List A) → AreCounted plan streams → (ranks : ℕ → ℕ) → AreRanked ranks streams → (command : Command A ℕ) → AreRanked (true_ranks test (events_of plan command) ranks) (streams_after plan streams command)
   events-ranks plan st streams h ranks r command =

@@ -4,7 +4,7 @@ use Rattle.sketch_base.specs.Trace.{coins}
 use Rattle.quantile_sketches.specs.declared.audit.commands.Command.{Command}
 use Rattle.quantile_sketches.specs.Plan.{trace_of}
 use Rattle.quantile_sketches.proofs.Courses.{Going, going-more, going-short, gone-played, gone-weight, gone-extremes, gone-ordered, gone-small, gone-close, gone-unbiased}
-use Rattle.quantile_sketches.proofs.Scatters.{gone-scattered, gone-spread}
+use Rattle.quantile_sketches.proofs.Scatters.{run-scattered, run-spread}
 use Rattle.quantile_sketches.proofs.audit.runs.run.Goals as goal
 
 pub returns-then-drawn-word-clause-errors : goal.returns-then-drawn-word-clause-errors
@@ -20,7 +20,7 @@ returns-then-drawn-word-clause-errors g c =
     inr (
       c.new.ensures,
       subst (λ l. length c.args.word.now < coins (trace_of l)) whole
-          (going-short g.met.T.Ord.total c.args.word.now (take i commands) (drop (i + 1) commands) c.loop-number.slots c.loop-number.refused.items c.loop-number.source c.loop-number.invariant
+          (going-short g.met.T.Ord.total g.T.KllValue.spelling c.args.word.now (take i commands) (drop (i + 1) commands) c.loop-number.slots c.loop-number.refused.items c.loop-number.source c.loop-number.invariant
           command c.in_ok-execute.field-0 c.execute.new.slots c.execute.new.coins c.in_ok-execute.ensures.done few beyond),
     )
 
@@ -36,60 +36,60 @@ loop-number-preserved g c =
     let count : length (take i commands) ≡ i = length-take-le i commands (omega arith) in
     let noted : c.note_refused.new.refused.items ≡ (if c.in_ok-execute.field-0 then c.loop-number.refused.items else c.loop-number.refused.items ++ length (take i commands) ∷ []) =
     subst (λ (n : ℕ). c.note_refused.new.refused.items ≡ (if c.in_ok-execute.field-0 then c.loop-number.refused.items else c.loop-number.refused.items ++ n ∷ [])) (sym count) c.in_ok-note_refused.ensures in
-    subst (λ l. Going g.T.Ord.cmp c.args.word.now l c.execute.new.slots c.note_refused.new.refused.items c.execute.new.coins) (sym more)
-    (going-more g.met.T.Ord.total c.args.word.now (take i commands) c.loop-number.slots c.loop-number.refused.items c.loop-number.source c.loop-number.invariant
+    subst (λ l. Going g.T.Ord.cmp g.T.KllValue.spelling c.args.word.now l c.execute.new.slots c.note_refused.new.refused.items c.execute.new.coins) (sym more)
+    (going-more g.met.T.Ord.total g.T.KllValue.spelling c.args.word.now (take i commands) c.loop-number.slots c.loop-number.refused.items c.loop-number.source c.loop-number.invariant
     command c.in_ok-execute.field-0 c.execute.new.slots c.note_refused.new.refused.items c.execute.new.coins c.in_ok-execute.ensures.done noted few within)
 
 pub returns-clause-played : goal.returns-clause-played
 returns-clause-played g c =
     let all : take c.loop-number.number c.args.commands.now ≡ c.args.commands.now = take_all c.loop-number.number c.args.commands.now (omega arith) in
-    let gone = subst (λ l. Going g.T.Ord.cmp c.args.word.now l c.loop-number.slots c.loop-number.refused.items c.loop-number.source) all c.loop-number.invariant in
-    gone-played g.met.T.Ord.total c.args.word.now c.args.commands.now c.loop-number.slots c.loop-number.refused.items c.loop-number.source gone
+    let gone = subst (λ l. Going g.T.Ord.cmp g.T.KllValue.spelling c.args.word.now l c.loop-number.slots c.loop-number.refused.items c.loop-number.source) all c.loop-number.invariant in
+    gone-played g.met.T.Ord.total g.T.KllValue.spelling c.args.word.now c.args.commands.now c.loop-number.slots c.loop-number.refused.items c.loop-number.source gone
 
 pub returns-clause-weight : goal.returns-clause-weight
 returns-clause-weight g c =
     let all : take c.loop-number.number c.args.commands.now ≡ c.args.commands.now = take_all c.loop-number.number c.args.commands.now (omega arith) in
-    let gone = subst (λ l. Going g.T.Ord.cmp c.args.word.now l c.loop-number.slots c.loop-number.refused.items c.loop-number.source) all c.loop-number.invariant in
-    gone-weight g.met.T.Ord.total c.args.word.now c.args.commands.now c.loop-number.slots c.loop-number.refused.items c.loop-number.source gone
+    let gone = subst (λ l. Going g.T.Ord.cmp g.T.KllValue.spelling c.args.word.now l c.loop-number.slots c.loop-number.refused.items c.loop-number.source) all c.loop-number.invariant in
+    gone-weight g.met.T.Ord.total g.T.KllValue.spelling c.args.word.now c.args.commands.now c.loop-number.slots c.loop-number.refused.items c.loop-number.source gone
 
 pub returns-clause-extremes : goal.returns-clause-extremes
 returns-clause-extremes g c =
     let all : take c.loop-number.number c.args.commands.now ≡ c.args.commands.now = take_all c.loop-number.number c.args.commands.now (omega arith) in
-    let gone = subst (λ l. Going g.T.Ord.cmp c.args.word.now l c.loop-number.slots c.loop-number.refused.items c.loop-number.source) all c.loop-number.invariant in
-    gone-extremes g.met.T.Ord.total c.args.word.now c.args.commands.now c.loop-number.slots c.loop-number.refused.items c.loop-number.source gone
+    let gone = subst (λ l. Going g.T.Ord.cmp g.T.KllValue.spelling c.args.word.now l c.loop-number.slots c.loop-number.refused.items c.loop-number.source) all c.loop-number.invariant in
+    gone-extremes g.met.T.Ord.total g.T.KllValue.spelling c.args.word.now c.args.commands.now c.loop-number.slots c.loop-number.refused.items c.loop-number.source gone
 
 pub returns-clause-ordered : goal.returns-clause-ordered
 returns-clause-ordered g c =
     let all : take c.loop-number.number c.args.commands.now ≡ c.args.commands.now = take_all c.loop-number.number c.args.commands.now (omega arith) in
-    let gone = subst (λ l. Going g.T.Ord.cmp c.args.word.now l c.loop-number.slots c.loop-number.refused.items c.loop-number.source) all c.loop-number.invariant in
-    gone-ordered g.met.T.Ord.total c.args.word.now c.args.commands.now c.loop-number.slots c.loop-number.refused.items c.loop-number.source gone
+    let gone = subst (λ l. Going g.T.Ord.cmp g.T.KllValue.spelling c.args.word.now l c.loop-number.slots c.loop-number.refused.items c.loop-number.source) all c.loop-number.invariant in
+    gone-ordered g.met.T.Ord.total g.T.KllValue.spelling c.args.word.now c.args.commands.now c.loop-number.slots c.loop-number.refused.items c.loop-number.source gone
 
 pub returns-clause-small : goal.returns-clause-small
 returns-clause-small g c =
     let all : take c.loop-number.number c.args.commands.now ≡ c.args.commands.now = take_all c.loop-number.number c.args.commands.now (omega arith) in
-    let gone = subst (λ l. Going g.T.Ord.cmp c.args.word.now l c.loop-number.slots c.loop-number.refused.items c.loop-number.source) all c.loop-number.invariant in
-    gone-small g.met.T.Ord.total c.args.word.now c.args.commands.now c.loop-number.slots c.loop-number.refused.items c.loop-number.source gone
+    let gone = subst (λ l. Going g.T.Ord.cmp g.T.KllValue.spelling c.args.word.now l c.loop-number.slots c.loop-number.refused.items c.loop-number.source) all c.loop-number.invariant in
+    gone-small g.met.T.Ord.total g.T.KllValue.spelling c.args.word.now c.args.commands.now c.loop-number.slots c.loop-number.refused.items c.loop-number.source gone
 
 pub returns-clause-close : goal.returns-clause-close
 returns-clause-close g c =
     let all : take c.loop-number.number c.args.commands.now ≡ c.args.commands.now = take_all c.loop-number.number c.args.commands.now (omega arith) in
-    let gone = subst (λ l. Going g.T.Ord.cmp c.args.word.now l c.loop-number.slots c.loop-number.refused.items c.loop-number.source) all c.loop-number.invariant in
-    gone-close g.met.T.Ord.total c.args.word.now c.args.commands.now c.loop-number.slots c.loop-number.refused.items c.loop-number.source gone
+    let gone = subst (λ l. Going g.T.Ord.cmp g.T.KllValue.spelling c.args.word.now l c.loop-number.slots c.loop-number.refused.items c.loop-number.source) all c.loop-number.invariant in
+    gone-close g.met.T.Ord.total g.T.KllValue.spelling c.args.word.now c.args.commands.now c.loop-number.slots c.loop-number.refused.items c.loop-number.source gone
 
 pub returns-clause-unbiased : goal.returns-clause-unbiased
 returns-clause-unbiased g c =
     let all : take c.loop-number.number c.args.commands.now ≡ c.args.commands.now = take_all c.loop-number.number c.args.commands.now (omega arith) in
-    let gone = subst (λ l. Going g.T.Ord.cmp c.args.word.now l c.loop-number.slots c.loop-number.refused.items c.loop-number.source) all c.loop-number.invariant in
-    gone-unbiased g.met.T.Ord.total c.args.word.now c.args.commands.now c.loop-number.slots c.loop-number.refused.items c.loop-number.source gone
+    let gone = subst (λ l. Going g.T.Ord.cmp g.T.KllValue.spelling c.args.word.now l c.loop-number.slots c.loop-number.refused.items c.loop-number.source) all c.loop-number.invariant in
+    gone-unbiased g.met.T.Ord.total g.T.KllValue.spelling c.args.word.now c.args.commands.now c.loop-number.slots c.loop-number.refused.items c.loop-number.source gone
 
 pub returns-clause-scatter : goal.returns-clause-scatter
 returns-clause-scatter g c =
     let all : take c.loop-number.number c.args.commands.now ≡ c.args.commands.now = take_all c.loop-number.number c.args.commands.now (omega arith) in
-    let gone = subst (λ l. Going g.T.Ord.cmp c.args.word.now l c.loop-number.slots c.loop-number.refused.items c.loop-number.source) all c.loop-number.invariant in
-    gone-scattered g.met.T.Ord.total c.args.word.now c.args.commands.now c.loop-number.slots c.loop-number.refused.items c.loop-number.source gone
+    let gone = subst (λ l. Going g.T.Ord.cmp g.T.KllValue.spelling c.args.word.now l c.loop-number.slots c.loop-number.refused.items c.loop-number.source) all c.loop-number.invariant in
+    run-scattered g.met.T.Ord.total c.args.commands.now (length c.args.word.now) gone.enough
 
 pub returns-clause-spread : goal.returns-clause-spread
 returns-clause-spread g c =
     let all : take c.loop-number.number c.args.commands.now ≡ c.args.commands.now = take_all c.loop-number.number c.args.commands.now (omega arith) in
-    let gone = subst (λ l. Going g.T.Ord.cmp c.args.word.now l c.loop-number.slots c.loop-number.refused.items c.loop-number.source) all c.loop-number.invariant in
-    gone-spread g.met.T.Ord.total c.args.word.now c.args.commands.now c.loop-number.slots c.loop-number.refused.items c.loop-number.source gone
+    let gone = subst (λ l. Going g.T.Ord.cmp g.T.KllValue.spelling c.args.word.now l c.loop-number.slots c.loop-number.refused.items c.loop-number.source) all c.loop-number.invariant in
+    run-spread c.args.commands.now c.loop-number.slots gone.stand.shapes
