@@ -1,5 +1,5 @@
 -- What a run gives: the sketches in the slots after a list of commands under a word.
-use Rattle.std.specs.Prelude.{◌≡◌, ℕ, ◌+◌, ◌*◌, ◌^◌, ◌≤◌, Bool, List, length, count_by, Some}
+use Rattle.std.specs.Prelude.{◌≡◌, ℕ, ◌+◌, ◌*◌, ◌^◌, ◌≤◌, Bool, List, length, Some}
 use Rattle.std.specs.declared.cmp.Ordering.{Ordering}
 use Rattle.sketch_base.specs.declared.common.SearchCriteria.{SearchCriteria}
 use Rattle.sketch_base.specs.Bag.{AlikeKll, weight, retained, weighted_rank, load}

@@ -59,7 +59,7 @@ pub record IsWeighted {A : Type 0} (cmp : A → A → Ordering) (s : Kll A) (x :
   pub bag : AlikeKll cmp (bag_after cmp (weighted_of s x weight) word (bag_of s)) (bag_of t)
   pub least : IsLeastOf cmp (option_to_list s.least ++ x ∷ []) t.least
   pub greatest : IsGreatestOf cmp (option_to_list s.greatest ++ x ∷ []) t.greatest
-  pub few_levels : length t.levels ≤ 61
+  pub few_levels : 2 ≤ weight → length t.levels ≤ 61
   pub below_capacity : 2 ≤ weight → retained t.levels < total_of t.k 8 (length t.levels)
 
 -- the number has so many binary digits
