@@ -1,5 +1,5 @@
 -- What a run gives: the sketches in the slots after a list of commands under a word.
-use Rattle.std.specs.Prelude.{◌≡◌, ℕ, ◌+◌, ◌*◌, ◌^◌, ◌≤◌, Bool, List, length, count_by, Some}
+use Rattle.std.specs.Prelude.{◌≡◌, ℕ, ◌+◌, ◌*◌, ◌^◌, ◌≤◌, Bool, List, length, count_by, Option, Some}
 use Rattle.std.specs.declared.cmp.Ordering.{Ordering}
 use Rattle.sketch_base.specs.declared.common.SearchCriteria.{SearchCriteria}
 use Rattle.sketch_base.specs.Bag.{AlikeKll, weight, retained, weighted_rank, load}
@@ -8,6 +8,7 @@ use Rattle.sketch_base.specs.Query.{counted, true_rank}
 use Rattle.sketch_base.specs.Trace.{play, start}
 use Rattle.sketch_base.specs.Words.{sum_over_words, distance}
 use Rattle.sketch_kll.specs.Capacity.{total_of}
+use Rattle.sketch_kll.specs.ImageLaws.{HasImage, ReadsBack}
 use Rattle.sketch_kll.specs.Levels.{UpperSorted}
 use Rattle.sketch_kll.specs.Sketch.{Kll, bag_of}
 use Rattle.quantile_sketches.specs.declared.audit.commands.Command.{Command}
@@ -57,3 +58,7 @@ abbrev pub AreUnbiased : {A : Type 0} → (A → A → Ordering) → List (Comma
 AreUnbiased {A} cmp commands length = (y : A) (criteria : SearchCriteria) (slot : ℕ) →
     sum_over_words length (λ word. weighted_rank cmp (counted cmp y criteria) ((play cmp (trace_of commands) word start).slots slot)) ≡
     2 ^ length * true_rank cmp y criteria (stream_of commands slot)
+
+-- each sketch that has an image reads back from it: what is written is an image, and what is read of it is equal by ==
+abbrev pub AreReadBack : {A : Type 0} → (A → A → Ordering) → (A → A → Bool) → (A → Option (List ℕ)) → Slots A → Type 0
+AreReadBack cmp eq spelling = EachSketch (λ slot s. HasImage spelling s → ReadsBack cmp eq spelling s)

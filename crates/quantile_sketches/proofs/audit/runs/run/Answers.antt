@@ -1,9 +1,13 @@
-use Rattle.std.proofs.Common.{◌≡◌, ◌<◌, ◌≤◌, ◌-◌, ◌+◌, ◌^◌, ℕ, List, [], ◌∷◌, ◌++◌, length, take, drop, inl, inr, sym, ap, ◌∙◌, subst, arith, take_all, take-append-drop, length-take-le, if◌then◌else◌}
+use Rattle.std.proofs.Common.{◌≡◌, ◌<◌, ◌≤◌, ◌-◌, ◌+◌, ◌^◌, ℕ, List, [], ◌∷◌, ◌++◌, length, take, drop, None, inl, inr, sym, ap, ◌∙◌, subst, arith, take_all, take-append-drop, length-take-le, if◌then◌else◌}
 use Rattle.std.proofs.lemmas.List.{take_more}
 use Rattle.sketch_base.specs.Trace.{coins}
 use Rattle.quantile_sketches.specs.declared.audit.commands.Command.{Command}
+use Rattle.std.specs.BTreeMap.{is_at}
+use Rattle.std.specs.Map.{lookup}
+use Rattle.std.specs.Ordering.{nat_cmp}
 use Rattle.quantile_sketches.specs.Plan.{trace_of}
-use Rattle.quantile_sketches.proofs.Courses.{Going, going-more, going-short, gone-played, gone-weight, gone-extremes, gone-ordered, gone-small, gone-close, gone-unbiased}
+use Rattle.quantile_sketches.specs.Steps.{sketch_at}
+use Rattle.quantile_sketches.proofs.Courses.{Going, going-none, going-more, going-short, gone-played, gone-weight, gone-extremes, gone-ordered, gone-small, gone-close, gone-unbiased, gone-images}
 use Rattle.quantile_sketches.proofs.audit.runs.run.Goals as goal
 
 pub returns-then-drawn-word-clause-errors : goal.returns-then-drawn-word-clause-errors
@@ -80,3 +84,22 @@ returns-clause-unbiased g c =
     let all : take c.loop-number.number c.args.commands.now ≡ c.args.commands.now = take_all c.loop-number.number c.args.commands.now (omega arith) in
     let gone = subst (λ l. Going g.T.Ord.cmp g.T.KllValue.spelling c.args.word.now l c.loop-number.slots c.loop-number.refused.items c.loop-number.source) all c.loop-number.invariant in
     gone-unbiased g.met.T.Ord.total g.T.KllValue.spelling c.args.word.now c.args.commands.now c.loop-number.slots c.loop-number.refused.items c.loop-number.source gone
+
+pub returns-clause-images : goal.returns-clause-images
+returns-clause-images g c =
+    let all : take c.loop-number.number c.args.commands.now ≡ c.args.commands.now = take_all c.loop-number.number c.args.commands.now (omega arith) in
+    let gone = subst (λ l. Going g.T.Ord.cmp g.T.KllValue.spelling c.args.word.now l c.loop-number.slots c.loop-number.refused.items c.loop-number.source) all c.loop-number.invariant in
+    gone-images g.met.T.Ord.total g.T.KllValue.spelling c.args.word.now c.args.commands.now c.loop-number.slots c.loop-number.refused.items c.loop-number.source gone
+    g.T.PartialEq.eq g.met.T.Ord.matches_eq g.met.T.KllValue.is_prefix_free c.requires.codec
+
+pub returns-clause-refused : goal.returns-clause-refused
+returns-clause-refused g c =
+    let all : take c.loop-number.number c.args.commands.now ≡ c.args.commands.now = take_all c.loop-number.number c.args.commands.now (omega arith) in
+    let gone = subst (λ l. Going g.T.Ord.cmp g.T.KllValue.spelling c.args.word.now l c.loop-number.slots c.loop-number.refused.items c.loop-number.source) all c.loop-number.invariant in
+    gone.refused_are
+
+pub loop-number-init : goal.loop-number-init
+loop-number-init g c =
+    let none : (q : ℕ) → sketch_at c.new-slots.result q ≡ None = λ q. ap (λ es. lookup (is_at (nat_cmp q)) es) c.new-slots.ensures.empty in
+    subst (λ (l : List ℕ). Going g.T.Ord.cmp g.T.KllValue.spelling c.args.word.now [] c.new-slots.result l c.new-source.result) (sym c.new-refused.ensures.items)
+    (going-none g.T.Ord.cmp g.T.KllValue.spelling c.args.word.now c.new-slots.result c.new-source.result none c.new-source.ensures.word c.new-source.ensures.none_drawn)
