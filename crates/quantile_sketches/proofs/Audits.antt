@@ -1,12 +1,16 @@
 -- What an audit counts, from the commands and from the plays.
 use Rattle.std.proofs.Common.{◌≡◌, ℕ, zero, suc, ◌+◌, ◌-◌, ◌*◌, ◌^◌, ◌<◌, ◌≤◌, Bool, true, false, ◌==◌, cond, if◌then◌else◌, List, [], ◌∷◌, ◌++◌, length, get_or, take, drop, count_by, sum, slice_get, Option, None, Some, Result, Ok, Err, refl, sym, ap, ap₂, ◌∙◌, subst, arith, inl, inr, length-append, Ordering}
 use Rattle.std.specs.Prelude.{Contains, MatchOption, ◌↔◌, slice_index}
-use Rattle.std.proofs.lemmas.Bool.{cases_Bool, false≢true, eqb-false, cases_lt, ltb-false}
-use Rattle.std.proofs.lemmas.List.{nil_from_length}
+use Rattle.std.proofs.lemmas.Bool.{cases_lt, eq-eqb, false≢true}
+use Rattle.std.proofs.lemmas.Grind.{get_or_default_zero}
+use Rattle.std.proofs.lemmas.List.{nil_from_length, get_or_past}
 use Rattle.std.proofs.lemmas.List.Kept.{AllPairs-from_increasing}
 use Rattle.std.proofs.lemmas.List.Sums.{sum_by-append, count_by-le-length}
 use Rattle.std.specs.Cmp.{IsTotalOrder}
-use Rattle.std.specs.List.Sorted.{IsStrictlyIncreasing}
+use Rattle.std.proofs.lemmas.List.Sorted.{searched}
+use Rattle.std.specs.List.Sorted.{IsStrictlyIncreasing, IsBinarySearchResult}
+use Rattle.std.specs.Ordering.{nat_cmp}
+use Rattle.std.specs.Result.{is_err}
 use Rattle.std.specs.Option.{option_map}
 use Rattle.sketch_base.specs.declared.common.SearchCriteria.{SearchCriteria}
 use Rattle.sketch_base.specs.Bag.{Bag, weighted_rank}
@@ -18,66 +22,12 @@ use Rattle.quantile_sketches.specs.declared.audit.commands.Command.{Command}
 use Rattle.quantile_sketches.specs.declared.audit.commands.Command.TheVariants.{New, Update, Merge, Reset, RoundTrip}
 use Rattle.quantile_sketches.specs.Audit.{word_of, rank_under, AreWeights, counts_after, HasFewSlots}
 use Rattle.quantile_sketches.specs.Outcome.{ArePlanned, ArePlayed}
-use Rattle.quantile_sketches.specs.Plan.{Shape, Plan, start_plan, count_of, with_count, is_refused, accepted_shapes, plan_after, plan_from, plan_of, trace_of}
+use Rattle.quantile_sketches.specs.Plan.{start_plan, count_of, is_refused, plan_of, trace_of}
 use Rattle.quantile_sketches.specs.Refused.{IsRefusedExactly, AreRefused}
 use Rattle.quantile_sketches.specs.Run.{accepted_streams, streams_after, stream_of}
 use Rattle.quantile_sketches.specs.Steps.{Slots, sketch_at, shape_of, shapes_in}
-use Rattle.quantile_sketches.proofs.Streams.{or-right, stream-append, run-counts, run-unbiased}
+use Rattle.quantile_sketches.proofs.Streams.{changed-at, stream-append, run-counts, streams-fit, run-unbiased}
 use Rattle.quantile_sketches.proofs.WordSums.{sum_up, sum-entries, sum-words, no-sum, length-word}
-
--- two functions changed at one place
-changed-at : {B C : Type 0} (R : B → C → Type 0) (f : ℕ → B) (g : ℕ → C) (s : ℕ) (u : B) (v : C) (j : ℕ) → R (f j) (g j) → R u v → R (changed f s u j) (changed g s v j)
-changed-at R f g s u v j h r =
-    elim (j == s) as (λ b. R (if b then u else f j) (if b then v else g j)) [
-      | true ↦ r
-      | false ↦ h
-    ]
-
--- ---- counts of plans fit
-
-counted-at-most : (n : ℕ) (shape : Option Shape) → count_of (with_count n shape) ≤ n
-counted-at-most n None = omega arith
-counted-at-most n (Some shape) = omega arith
-
-module _ {A : Type 0} where
-  abbrev pub Fits : ℕ → Type 0
-  Fits n = n < 2 ^ 64
-
-  abbrev pub ShapesFit : (ℕ → Option Shape) → Type 0
-  ShapesFit shapes = (q : ℕ) → count_of (shapes q) < 2 ^ 64
-
-  accepted-fit : (shapes : ℕ → Option Shape) → ShapesFit shapes → (command : Command A ℕ) → is_refused shapes command ≡ false → ShapesFit (accepted_shapes shapes command)
-  accepted-fit shapes h (New slot k) e q = changed-at (λ (o : Option Shape) (n : ℕ). count_of o < 2 ^ 64) shapes (λ j. j) slot (Some (record { k = k; n = 0 })) 0 q (h q) (omega arith)
-  accepted-fit shapes h (Update slot x) e q =
-      changed-at (λ (o : Option Shape) (n : ℕ). count_of o < 2 ^ 64) shapes (λ j. j) slot (with_count (count_of (shapes slot) + 1) (shapes slot)) 0 q (h q)
-      (let most = counted-at-most (count_of (shapes slot) + 1) (shapes slot) in
-      let other = eqb-false (count_of (shapes slot)) (2 ^ 64 - 1) (or-right _ _ e) in
-      omega (arith, most, other, h slot))
-  accepted-fit shapes h (Merge into source) e q =
-      changed-at (λ (o : Option Shape) (n : ℕ). count_of o < 2 ^ 64) shapes (λ j. j) into (with_count (count_of (shapes into) + count_of (shapes source)) (shapes into)) 0 q (h q)
-      (let most = counted-at-most (count_of (shapes into) + count_of (shapes source)) (shapes into) in
-      let few = ltb-false (2 ^ 64 - 1) (count_of (shapes into) + count_of (shapes source)) (or-right _ _ e) in
-      omega (arith, most, few))
-  accepted-fit shapes h (Reset slot) e q =
-      changed-at (λ (o : Option Shape) (n : ℕ). count_of o < 2 ^ 64) shapes (λ j. j) slot (with_count 0 (shapes slot)) 0 q (h q)
-      (let most = counted-at-most 0 (shapes slot) in omega (arith, most))
-  accepted-fit shapes h (RoundTrip slot) e q = h q
-
-  after-fit : (plan : Plan) → ShapesFit plan.shapes → (command : Command A ℕ) → ShapesFit (plan_after plan command).shapes
-  after-fit plan h command = go (is_refused plan.shapes command) refl
-    where
-      go : (b : Bool) → is_refused plan.shapes command ≡ b → ShapesFit (if b then plan.shapes else accepted_shapes plan.shapes command)
-      go true e = h
-      go false e = accepted-fit plan.shapes h command e
-
-  from-fit : (plan : Plan) → ShapesFit plan.shapes → (commands : List (Command A ℕ)) → ShapesFit (plan_from plan commands).shapes
-  from-fit plan h [] = h
-  from-fit plan h (command ∷ rest) = from-fit (plan_after plan command) (after-fit plan h command) rest
-
-  pub streams-fit : (commands : List (Command A ℕ)) (slot : ℕ) → length (stream_of commands slot) < 2 ^ 64
-  streams-fit commands slot =
-      let h : count_of ((plan_of commands).shapes slot) < 2 ^ 64 = from-fit start_plan (λ q. omega arith) commands slot in
-      omega (arith, h, run-counts commands slot)
 
 -- ---- counting along the commands
 
@@ -158,6 +108,89 @@ module _ {A : Type 0} (test : A → Bool) where
         ¬ Contains refused (length before) → stream_of (before ++ command ∷ []) ≡ accepted_streams (stream_of before) command
     counting-accepted commands before after command refused r at n =
         stream-append start_plan (λ q. []) before command ∙ streams-taken before (stream_of before) command (Contains refused (length before)) (r.exact before after command at) n
+
+-- what has to fit where a command is counted
+changed-here : (f : ℕ → ℕ) (s v : ℕ) → changed f s v s ≡ v
+changed-here f s v = ap (λ (b : Bool). if b then v else f s) (eq-eqb s s refl)
+
+pub update-fits : {A : Type 0} (test : A → Bool) (command : Command A ℕ) (slot : ℕ) (x : A) (counts : ℕ → ℕ) → command ≡ Update slot x →
+    ((q : ℕ) → counts_after test command counts q < 2 ^ 64) → counts slot + (if test x then 1 else 0) < 2 ^ 64
+update-fits test command slot x counts e h =
+    let fits = h slot in
+    let is = ap (λ c. counts_after test c counts slot) e in
+    omega (arith, fits, is, changed-here counts slot (counts slot + (if test x then 1 else 0)))
+
+pub merge-fits : {A : Type 0} (test : A → Bool) (command : Command A ℕ) (into source : ℕ) (counts : ℕ → ℕ) → command ≡ Merge into source →
+    ((q : ℕ) → counts_after test command counts q < 2 ^ 64) → counts into + counts source < 2 ^ 64
+merge-fits test command into source counts e h =
+    let fits = h into in
+    let is = ap (λ c. counts_after test c counts into) e in
+    omega (arith, fits, is, changed-here counts into (counts into + counts source))
+
+-- the counts after some commands
+pub record IsCounted {A : Type 0} (test : A → Bool) (before : List (Command A ℕ)) (counts : List ℕ) : Type 0 where
+  pub slots : length counts ≡ 256
+  pub exact : Counts test (slice_index counts) (stream_of before)
+
+pub counted-none : {A : Type 0} (test : A → Bool) (counts : List ℕ) → length counts ≡ 256 → ((q : ℕ) → q < 256 → slice_index counts q ≡ 0) → IsCounted test [] counts
+counted-none test counts l h = record { slots = l; exact = h }
+
+below : {A : Type 0} (test : A → Bool) (before : List (Command A ℕ)) (counts : List ℕ) → IsCounted test before counts → (q : ℕ) → slice_index counts q ≤ count_by test (stream_of before q)
+below test before counts h q =
+    elim (cases_lt q 256) [
+      | inl inside ↦ omega (arith, h.exact q inside)
+      | inr beyond ↦ omega (arith, get_or_past counts q 0 (omega (arith, h.slots, beyond)))
+    ]
+
+pub accepted-fits : {A : Type 0} (cmp : A → A → Ordering) (spelling : A → Option (List ℕ)) (word : List Bool) (test : A → Bool) (commands before after : List (Command A ℕ)) (command : Command A ℕ) (refused : List ℕ) (counts : List ℕ) →
+    AreRefused cmp spelling word commands refused → commands ≡ before ++ command ∷ after → ¬ Contains refused (length before) → IsCounted test before counts → (q : ℕ) → counts_after test command (slice_index counts) q < 2 ^ 64
+accepted-fits cmp spelling word test commands before after command refused counts r at n h q =
+    let e = counting-accepted test cmp spelling word commands before after command refused r at n in
+    let most = counts-within test (stream_of before) (slice_index counts) (below test before counts h) command q in
+    let whole = ap (λ (f : ℕ → List _). length (f q)) e in
+    omega (arith, most, count_by-le-length test (accepted_streams (stream_of before) command q), whole, streams-fit (before ++ command ∷ []) q)
+
+pub counted-accepted : {A : Type 0} (cmp : A → A → Ordering) (spelling : A → Option (List ℕ)) (word : List Bool) (test : A → Bool) (commands before after : List (Command A ℕ)) (command : Command A ℕ) (refused : List ℕ) (counts counts' : List ℕ) →
+    AreRefused cmp spelling word commands refused → commands ≡ before ++ command ∷ after → ¬ Contains refused (length before) → IsCounted test before counts → HasFewSlots command → length counts' ≡ 256 →
+    ((q : ℕ) → q < 256 → slice_index counts' q ≡ counts_after test command (slice_index counts) q) → IsCounted test (before ++ command ∷ []) counts'
+counted-accepted cmp spelling word test commands before after command refused counts counts' r at n h few l goes =
+    let e = counting-accepted test cmp spelling word commands before after command refused r at n in
+    record {
+      slots = l;
+      exact = subst (Counts test (slice_index counts')) (sym e)
+          (λ q inside. goes q inside ∙ counts-exact test (stream_of before) (slice_index counts) h.exact command few q inside);
+    }
+
+pub counted-refused : {A : Type 0} (cmp : A → A → Ordering) (spelling : A → Option (List ℕ)) (word : List Bool) (test : A → Bool) (commands before after : List (Command A ℕ)) (command : Command A ℕ) (refused : List ℕ) (counts : List ℕ) →
+    AreRefused cmp spelling word commands refused → commands ≡ before ++ command ∷ after → Contains refused (length before) → IsCounted test before counts → IsCounted test (before ++ command ∷ []) counts
+counted-refused cmp spelling word test commands before after command refused counts r at p h = record {
+  slots = h.slots;
+  exact = counting-refused test cmp spelling word commands before after command refused r at p (slice_index counts) h.exact;
+}
+
+rises : (xs : List ℕ) → IsStrictlyIncreasing xs → (i j : ℕ) → i ≤ j → j < length xs → get_or xs i 0 ≤ get_or xs j 0
+rises xs h i j le inside =
+    elim (cases_lt i j) [
+      | inl less ↦ let l = AllPairs-from_increasing xs h i j 0 less inside in omega (arith, l)
+      | inr more ↦ let e : i ≡ j = omega (arith, le, more) in let l = ap (λ (k : ℕ). get_or xs k 0) e in omega (arith, l)
+    ]
+
+-- what a search of the refused numbers says
+pub found : (refused : List ℕ) (n : ℕ) (r : Result ℕ ℕ) → IsBinarySearchResult (λ y. nat_cmp y n) refused r → IsStrictlyIncreasing refused → is_err r ≡ false → Contains refused n
+found refused n (Ok i) h rising e =
+    let at = searched refused n (Ok i) h (rises refused rising) in
+    (i, at.0, get_or_default_zero refused i n at.0 ∙ at.1)
+found refused n (Err i) h rising e = absurd (false≢true (sym e))
+
+pub not-found : (refused : List ℕ) (n : ℕ) (r : Result ℕ ℕ) → IsBinarySearchResult (λ y. nat_cmp y n) refused r → IsStrictlyIncreasing refused → is_err r ≡ true → ¬ Contains refused n
+not-found refused n (Ok i) h rising e p = false≢true e
+not-found refused n (Err i) h rising e p =
+    let at = searched refused n (Err i) h (rises refused rising) in
+    let is : get_or refused p.0 0 ≡ n = sym (get_or_default_zero refused p.0 n p.1) ∙ p.2 in
+    elim (cases_lt p.0 i) [
+      | inl less ↦ let l = at.1 p.0 less in omega (arith, l, is)
+      | inr more ↦ let l = at.2 p.0 more p.1 in omega (arith, l, is)
+    ]
 
 -- ---- ranks in the plays
 

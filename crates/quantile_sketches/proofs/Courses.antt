@@ -3,6 +3,7 @@ use Rattle.std.proofs.Common.{◌≡◌, ℕ, zero, suc, ◌+◌, ◌-◌, ◌*�
 use Rattle.std.proofs.lemmas.List.Sums.{sum_by-append}
 use Rattle.std.specs.Cmp.{IsTotalOrder}
 use Rattle.std.specs.Option.{option_map}
+use Rattle.std.specs.Ordering.{is_eq}
 use Rattle.sketch_base.specs.declared.common.SearchCriteria.{SearchCriteria}
 use Rattle.sketch_base.specs.Bag.{Bag, AlikeKll, weight, retained, weighted_rank, load, load_from}
 use Rattle.sketch_base.specs.Extremes.{IsLeastOf, IsGreatestOf}
@@ -19,17 +20,20 @@ use Rattle.sketch_kll.specs.Levels.{UpperSorted}
 use Rattle.sketch_kll.specs.Sketch.{Kll, bag_of, IsSound}
 use Rattle.sketch_kll.proofs.Capacities.{total_bound}
 use Rattle.sketch_kll.proofs.Fills.{alike-lengths}
+use Rattle.sketch_kll.specs.ImageLaws.{SpellingsTie}
+use Rattle.sketch_kll.proofs.Lawful.{reads_back}
+use Rattle.sketch_kll.proofs.SpelledItems.{IsPrefixFree}
 use Rattle.sketch_kll.proofs.Ranks.{weight_is, retained_is}
 use Rattle.quantile_sketches.specs.declared.audit.commands.Command.{Command}
 use Rattle.quantile_sketches.specs.Plan.{Plan, start_plan, count_of, is_refused, events_of, plan_after, plan_from, trace_from, plan_of, trace_of}
 use Rattle.quantile_sketches.specs.Refused.{AreRefused}
 use Rattle.quantile_sketches.specs.Run.{streams_after, streams_from, stream_of}
 use Rattle.quantile_sketches.specs.Steps.{Slots, sketch_at, shape_of, shapes_in, IsExecuted}
-use Rattle.quantile_sketches.specs.Outcome.{EachSketch, ArePlanned, ArePlayed, WeighStreams, HaveExtremes, AreOrdered, AreSmall, AreClose, AreUnbiased}
+use Rattle.quantile_sketches.specs.Outcome.{EachSketch, ArePlanned, ArePlayed, WeighStreams, HaveExtremes, AreOrdered, AreSmall, AreClose, AreUnbiased, AreReadBack}
 use Rattle.quantile_sketches.proofs.Plans.{IsSteady, steady-start, steady-from, plan-append}
 use Rattle.quantile_sketches.proofs.Refusals.{refused-none, refused-more, decided-exactly}
 use Rattle.quantile_sketches.proofs.SlotSteps.{IsOf, Stand, Steps, steps}
-use Rattle.quantile_sketches.proofs.Streams.{stream-append, run-counts, run-load, run-unbiased}
+use Rattle.quantile_sketches.proofs.Streams.{stream-append, run-counts, streams-fit, run-load, run-unbiased}
 
 -- a source that goes along a word
 abbrev pub word_bit : WordSource → Bool
@@ -184,3 +188,7 @@ module _ {A : Type 0} {cmp : A → A → Ordering} (o : IsTotalOrder cmp) (spell
 
     pub gone-unbiased : AreUnbiased cmp commands (length word)
     gone-unbiased y criteria slot = run-unbiased cmp (counted cmp y criteria) commands (length word) slot g.enough
+
+    pub gone-images : (eq : A → A → Bool) → ((x y : A) → eq x y ≡ is_eq (cmp x y)) → IsPrefixFree spelling → SpellingsTie cmp spelling → AreReadBack cmp eq spelling slots
+    gone-images eq same free ties slot s held has =
+        reads_back o eq same spelling free ties s (g.stand.sketches slot s held).sound (omega (arith, gone-count slot s held, streams-fit commands slot)) has

@@ -8,11 +8,12 @@ use Rattle.std.proofs.lemmas.List.Elements.{All-push, All-contains, Contains-pus
 use Rattle.std.specs.List.Sorted.{IsStrictlyIncreasing}
 use mathlib.Core.Path.{fun_ext}
 use Rattle.sketch_base.specs.Trace.{play, start}
+use Rattle.sketch_kll.specs.ImageLaws.{HasImage}
 use Rattle.sketch_kll.specs.Sketch.{Kll}
 use Rattle.quantile_sketches.specs.declared.audit.commands.Command.{Command}
 use Rattle.quantile_sketches.specs.declared.audit.commands.Command.TheVariants.{New, Update, Merge, Reset, RoundTrip}
 use Rattle.quantile_sketches.specs.Plan.{Shape, is_refused, plan_of, trace_of}
-use Rattle.quantile_sketches.specs.Refused.{HasImage, StandsAfter, IsRefusedExactly, AreRefused}
+use Rattle.quantile_sketches.specs.Refused.{StandsAfter, IsRefusedExactly, AreRefused}
 use Rattle.quantile_sketches.specs.Run.{stream_of}
 use Rattle.quantile_sketches.specs.Steps.{Slots, sketch_at, shape_of, shapes_in, IsDecided}
 use Rattle.quantile_sketches.proofs.SlotSteps.{Stand}
@@ -57,7 +58,7 @@ module _ {A : Type 0} (cmp : A → A → Ordering) (spelling : A → Option (Lis
       go : (o : Option Shape) → MatchOption o P (λ shape. (s : Kll A) × StandsAfter cmp before word slot s × (P ↔ ¬ HasImage spelling s)) →
           MatchOption o Q (λ shape. (s : Kll A) × StandsAfter cmp before word slot s × (Q ↔ ¬ HasImage spelling s))
       go None h = e.0 h
-      go (Some shape) h = (h.0, (h.1.0, (λ q. h.1.1.0 (e.1 q), λ r. e.0 (h.1.1.1 r))))
+      go (Some shape) h = (h.0, h.1, (λ q. h.2.0 (e.1 q), λ r. e.0 (h.2.1 r)))
 
   -- no command
   pub refused-none : AreRefused cmp spelling word [] []
@@ -124,8 +125,11 @@ module _ {A : Type 0} (cmp : A → A → Ordering) (spelling : A → Option (Lis
       trip slot None held d = d
       trip slot (Some s) held d =
           let is = stand.sketches slot s held in
-          (s, (record { k_and_count = sym (stand.shapes slot) ∙ ap (option_map shape_of) held; alike = is.alike; least = is.least; greatest = is.greatest },
-            (λ f h. false≢true (sym f ∙ d.1 h), λ none. refuses accepted d none)))
+          (
+            s,
+            record { k_and_count = sym (stand.shapes slot) ∙ ap (option_map shape_of) held; alike = is.alike; least = is.least; greatest = is.greatest },
+            (λ f h. false≢true (sym f ∙ d.1 h), λ none. refuses accepted d none),
+          )
         where
           refuses : (accepted : Bool) → IsTrue accepted ↔ HasImage spelling s → ¬ HasImage spelling s → accepted ≡ false
           refuses true d none = absurd (none (d.0 refl))

@@ -1,5 +1,6 @@
 -- How far the ranks of a run and of an audit scatter.
-use Rattle.std.proofs.Common.{◌≡◌, ℕ, zero, suc, ◌*◌, ◌^◌, ◌≤◌, Bool, List, [], ◌∷◌, length, map, sum, slice_get, Option, None, Some, ap, sym, ◌∙◌, subst, arith, length-map, Ordering}
+use Rattle.std.proofs.Common.{◌≡◌, ℕ, ◌*◌, ◌^◌, ◌≤◌, Bool, List, length, map, sum, Some, ap, sym, ◌∙◌, subst, arith, length-map, Ordering}
+use Rattle.std.proofs.lemmas.Option.{slice_get-map}
 use Rattle.std.specs.Cmp.{IsTotalOrder}
 use Rattle.std.specs.Option.{option_map}
 use Rattle.sketch_base.specs.declared.common.SearchCriteria.{SearchCriteria}
@@ -28,14 +29,6 @@ module _ {A : Type 0} {cmp : A → A → Ordering} (o : IsTotalOrder cmp) where
       subst (λ (m : ℕ). sum_over_words n (λ word. square (distance (rank word) m)) ≤ 2 ^ n * spread (trace_of commands) slot) (run-ranks (counted cmp y criteria) commands slot)
       (within_spread o y criteria (trace_of commands) n slot (run-legal commands).kll (run-legal commands).scratch enough)
 
-entry-mapped : (f : ℕ → ℕ) (ws : List ℕ) (k x : ℕ) → slice_get ws k ≡ Some x → slice_get (map f ws) k ≡ Some (f x)
-entry-mapped f [] k x e = absurd (none_is_some e)
-  where
-    none_is_some : None ≡ Some x → ⊥
-    none_is_some e = cc
-entry-mapped f (w ∷ ws) zero x e = let same : w ≡ x = cc in ap (λ (v : ℕ). Some (f v)) same
-entry-mapped f (w ∷ ws) (suc k) x e = entry-mapped f ws k x e
-
 -- the weights of an audit, under all words
 pub weights-scatter : {A : Type 0} {cmp : A → A → Ordering} → IsTotalOrder cmp → (y : A) (criteria : SearchCriteria) (commands : List (Command A ℕ)) (slot : ℕ) (weights : List ℕ) (rank : ℕ) →
     length weights ≡ 2 ^ coins (trace_of commands) → AreWeights cmp y criteria commands slot weights → rank ≡ true_rank cmp y criteria (stream_of commands slot) → ScatterWithin weights rank (spread (trace_of commands) slot)
@@ -45,7 +38,7 @@ weights-scatter {A} {cmp} o y criteria commands slot weights rank words are is =
     let f : List Bool → ℕ = λ word. error (rank_under cmp y criteria commands slot word) in
     let long : length (map error weights) ≡ 2 ^ n = length-map error weights ∙ words in
     let whole : sum (map error weights) ≡ sum_over_words n f =
-    sum-entries (map error weights) (λ k. f (word_of n k)) (λ k inside. entry-mapped error weights k _ (are k (omega (arith, inside, long))))
+    sum-entries (map error weights) (λ k. f (word_of n k)) (λ k inside. slice_get-map error weights k ∙ ap (option_map error) (are k (omega (arith, inside, long))))
     ∙ (ap (λ (m : ℕ). sum_up m (λ k. f (word_of n k))) long ∙ sum-words n f) in
     let scattered : sum_over_words n f ≤ 2 ^ n * spread (trace_of commands) slot =
     subst (λ (m : ℕ). sum_over_words n (λ word. square (distance (rank_under cmp y criteria commands slot word) m)) ≤ 2 ^ n * spread (trace_of commands) slot) (sym is)

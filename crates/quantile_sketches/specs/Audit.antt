@@ -1,5 +1,5 @@
 -- What an audit gives.
-use Rattle.std.specs.Prelude.{◌≡◌, ℕ, zero, suc, ◌+◌, ◌<◌, ◌^◌, ◌/◌, Bool, if◌then◌else◌, List, [], ◌∷◌, Some, slice_get}
+use Rattle.std.specs.Prelude.{◌≡◌, ℕ, zero, suc, ◌+◌, ◌<◌, ◌^◌, ◌/◌, Bool, ⊤, if◌then◌else◌, List, [], ◌∷◌, Some, slice_get}
 use Rattle.std.specs.declared.cmp.Ordering.{Ordering}
 use Rattle.sketch_base.specs.declared.common.SearchCriteria.{SearchCriteria}
 use Rattle.sketch_base.specs.Bag.{weighted_rank}
@@ -34,10 +34,10 @@ counts_after test (Merge into source) counts = changed counts into (counts into 
 counts_after test (Reset slot) counts = changed counts slot 0
 counts_after test (RoundTrip slot) counts = counts
 
--- a command names slots below 256
+-- a command that changes streams names slots below 256
 abbrev pub HasFewSlots : {A : Type 0} → Command A ℕ → Type 0
 HasFewSlots (New slot k) = slot < 256
 HasFewSlots (Update slot x) = slot < 256
 HasFewSlots (Merge into source) = (into < 256) × (source < 256)
 HasFewSlots (Reset slot) = slot < 256
-HasFewSlots (RoundTrip slot) = slot < 256
+HasFewSlots (RoundTrip slot) = ⊤

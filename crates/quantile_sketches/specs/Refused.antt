@@ -1,21 +1,16 @@
 -- Which commands of a run are refused.
-use Rattle.std.specs.Prelude.{◌≡◌, ℕ, ◌^◌, ◌<◌, ◌↔◌, Bool, IsTrue, List, ◌∷◌, ◌++◌, length, All, Contains, Option, Some, MatchOption}
+use Rattle.std.specs.Prelude.{◌≡◌, ℕ, ◌<◌, ◌↔◌, Bool, IsTrue, List, ◌∷◌, ◌++◌, length, All, Contains, Option, Some, MatchOption}
 use Rattle.std.specs.List.Sorted.{IsStrictlyIncreasing}
 use Rattle.std.specs.declared.cmp.Ordering.{Ordering}
 use Rattle.sketch_base.specs.Bag.{AlikeKll}
 use Rattle.sketch_base.specs.Extremes.{IsLeastOf, IsGreatestOf}
 use Rattle.sketch_base.specs.Trace.{play, start}
 use Rattle.sketch_kll.specs.Sketch.{Kll, bag_of}
-use Rattle.sketch_kll.specs.Written.{AllSpelled, written_items, image_text}
+use Rattle.sketch_kll.specs.ImageLaws.{HasImage}
 use Rattle.quantile_sketches.specs.declared.audit.commands.Command.{Command}
 use Rattle.quantile_sketches.specs.declared.audit.commands.Command.TheVariants.{New, Update, Merge, Reset, RoundTrip}
 use Rattle.quantile_sketches.specs.Plan.{Shape, is_refused, plan_of, trace_of}
 use Rattle.quantile_sketches.specs.Run.{stream_of}
-
--- each item of a sketch has a spelling, and the image is no longer than a machine's memory
-pub record HasImage {A : Type 0} (spelling : A → Option (List ℕ)) (s : Kll A) : Type 0 where
-  pub spelled : AllSpelled spelling (written_items s)
-  pub fits : length (image_text spelling s) < 2 ^ 64
 
 -- a sketch that stands in a slot after some commands under a word: it has the k and the count of the plan, is alike to the slot's bag in the play, and has the extremes of the stream
 pub record StandsAfter {A : Type 0} (cmp : A → A → Ordering) (before : List (Command A ℕ)) (word : List Bool) (slot : ℕ) (s : Kll A) : Type 0 where

@@ -8,9 +8,9 @@ use Rattle.std.specs.declared.cmp.Ordering.TheVariants.{Equal}
 use Rattle.sketch_base.specs.Bag.{empty_bag}
 use Rattle.sketch_base.specs.Random.{bits_from, after_draws}
 use Rattle.sketch_kll.specs.Copy.{IsCopy}
+use Rattle.sketch_kll.specs.ImageLaws.{HasImage}
 use Rattle.sketch_kll.specs.Merged.{coins_of_merge, IsMerged}
 use Rattle.sketch_kll.specs.Sketch.{Kll, bag_of, coins_of_update, IsSound, IsUpdated}
-use Rattle.quantile_sketches.specs.Refused.{HasImage}
 use Rattle.quantile_sketches.specs.declared.audit.commands.Command.{Command}
 use Rattle.quantile_sketches.specs.declared.audit.commands.Command.TheVariants.{New, Update, Merge, Reset, RoundTrip}
 use Rattle.quantile_sketches.specs.Plan.{Shape, is_refused}

@@ -6,7 +6,7 @@ ghost use Rattle.sketch_base.specs.Trace.{coins};
 ghost use Rattle.sketch_kll.specs.ImageLaws.{SpellingsTie};
 ghost use Rattle.quantile_sketches.specs.Plan.{trace_of};
 ghost use Rattle.quantile_sketches.specs.Refused.{AreRefused};
-ghost use Rattle.quantile_sketches.specs.Outcome.{ArePlanned, ArePlayed, WeighStreams, HaveExtremes, AreOrdered, AreSmall, AreClose, AreUnbiased};
+ghost use Rattle.quantile_sketches.specs.Outcome.{ArePlanned, ArePlayed, WeighStreams, HaveExtremes, AreOrdered, AreSmall, AreClose, AreUnbiased, AreReadBack};
 ghost use Rattle.quantile_sketches.specs.Scatter.{AreScattered, SpreadLittle};
 
 use super::commands::{Command, Run};
@@ -47,6 +47,7 @@ pub fn run<T: KllValue + Ord>(
     ensures unbiased { IfOk result (λ run. AreUnbiased T.cmp commands.now (length word.now)) }
     ensures scatter { IfOk result (λ run. AreScattered T.cmp commands.now (length word.now)) }
     ensures spread { IfOk result (λ run. SpreadLittle commands.now run.slots) }
+    ensures images { IfOk result (λ run. AreReadBack T.cmp T.eq T.spelling run.slots) }
 {
     let mut slots = BTreeMap::new(alloc);
     let mut refused = Vec::new(alloc);

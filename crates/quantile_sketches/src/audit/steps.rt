@@ -4,9 +4,9 @@ ghost use Rattle.std.specs.Prelude.{◌≡◌, IfOk, IfErr, MatchOption};
 ghost use Rattle.std.specs.declared.cmp.Ordering.TheVariants.{Equal};
 ghost use Rattle.sketch_base.specs.declared.error.ErrorKind.TheVariants.{OutOfMemory};
 ghost use Rattle.quantile_sketches.specs.declared.audit.commands.Command.TheVariants.{New, Update, Merge, Reset, RoundTrip};
+ghost use Rattle.sketch_kll.specs.Copy.{IsCopy};
 ghost use Rattle.sketch_kll.specs.Image.{IsImage};
-ghost use Rattle.sketch_kll.specs.ImageLaws.{SpellingsTie};
-ghost use Rattle.quantile_sketches.specs.Refused.{HasImage};
+ghost use Rattle.sketch_kll.specs.ImageLaws.{SpellingsTie, HasImage};
 ghost use Rattle.quantile_sketches.specs.Steps.{IsExecuted};
 
 use super::commands::Command;
@@ -128,7 +128,7 @@ fn reset_in<T: KllValue + Ord, B: RandomBits>(
     Ok(true)
 }
 
-// The slot's sketch is written and read back.
+// What is read of the slot's sketch as it was written takes its place.
 fn round_trip_in<T: KllValue + Ord, B: RandomBits>(
     alloc: Global,
     slots: &mut BTreeMap<u8, KllSketch<T>>,
@@ -144,13 +144,29 @@ fn round_trip_in<T: KllValue + Ord, B: RandomBits>(
     let Some(sketch) = slots.get(&slot) else {
         return Ok(false);
     };
-    let Some(image) = image_of(sketch)? else {
+    let Some(made) = read_back(alloc, sketch)? else {
         return Ok(false);
     };
-    let made = KllSketch::deserialize(alloc, image.as_slice())?;
     made.is_sound();
     slots.insert(slot, made)?;
     Ok(true)
+}
+
+// The sketch that is read of the image of another; None where that has no image.
+fn read_back<T: KllValue + Ord>(
+    alloc: Global,
+    sketch: &KllSketch<T>,
+) -> Result<Option<KllSketch<T>>, Error>
+    requires codec { SpellingsTie T.cmp T.spelling }
+    requires clones { (x y : T) → T.is_clone x y → T.cmp x y ≡ Equal }
+    ensures made { IfOk result (λ made. MatchOption made (¬ HasImage T.spelling sketch.now)
+        (λ t. HasImage T.spelling sketch.now × IsCopy T.cmp sketch.now t)) }
+    ensures memory { IfErr result (λ e. e ≡ OutOfMemory) }
+{
+    let Some(image) = image_of(sketch)? else {
+        return Ok(None);
+    };
+    Ok(Some(KllSketch::deserialize(alloc, image.as_slice())?))
 }
 
 // The image of a sketch; None where it has none.
