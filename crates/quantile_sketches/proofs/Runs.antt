@@ -1,82 +1,18 @@
--- lines one after another: how a text gives its first line, and how a run goes on by one
-use Rattle.std.proofs.Common.{◌≡◌, ℕ, ℤ, suc, ◌-◌, ◌<◌, ◌==◌, ◌&&◌, nat_lt, Bool, true, false, List, [], ◌∷◌, ◌++◌, length, take, refl, sym, ap, subst, ◌∙◌, arith, inl, inr, slice_index, Option, Some, None, IfSome, Result, Ok, Err, OnOk}
-use Rattle.std.specs.Io.BufRead.{take_through, drop_through, ends_with_byte, strip_last}
+-- lines one after another: how a run goes on by one
+use Rattle.std.proofs.Common.{◌≡◌, ℕ, ◌<◌, List, [], ◌∷◌, ◌++◌, length, refl, sym, ap, subst, ◌∙◌, arith, Option, Some, None, IfSome, Result, Ok, Err, OnOk}
+use Rattle.std.specs.Io.BufRead.{take_through, drop_through, strip_last}
 use Rattle.std.specs.Io.KnownBytes.{Appends, IsAtEnd}
-use Rattle.std.proofs.lemmas.Bool.{cases_Bool, cond-true, cond-false, lt-ltb}
 use Rattle.std.proofs.lemmas.List.{append_assoc, append-nil}
 use Rattle.quantile_sketches.specs.Behaviour.{Behaviour}
 use Rattle.quantile_sketches.specs.declared.answer.Answer.{Answer}
 use Rattle.quantile_sketches.specs.declared.answer.Refusal.{Refusal}
 use Rattle.quantile_sketches.specs.Answer.{answer_text}
 use Rattle.quantile_sketches.specs.Command.{command_of}
-use Rattle.quantile_sketches.specs.Lines.{lines, onto_first_line, Serves}
+use Rattle.quantile_sketches.specs.Lines.{lines, Serves, TakesLine}
 use Rattle.quantile_sketches.specs.Reader.{Reader}
 use Rattle.quantile_sketches.specs.Step.{Answers}
+use Rattle.quantile_sketches.proofs.FirstLine.{lines-first}
 use Rattle.quantile_sketches.specs.Words.{words, points_of}
-
-ends-cons : (b x z : ℕ) (zs : List ℕ) → ends_with_byte b (x ∷ z ∷ zs) ≡ ends_with_byte b (z ∷ zs)
-ends-cons b x z zs =
-    let two : nat_lt 0 (length (x ∷ z ∷ zs)) ≡ true = lt-ltb 0 (length (x ∷ z ∷ zs)) (omega arith) in
-    let one : nat_lt 0 (length (z ∷ zs)) ≡ true = lt-ltb 0 (length (z ∷ zs)) (omega arith) in
-    let last_of_two : length (x ∷ z ∷ zs) - 1 ≡ suc (length zs) = omega arith in
-    let last_of_one : length (z ∷ zs) - 1 ≡ length zs = omega arith in
-    let byte : slice_index (x ∷ z ∷ zs) (length (x ∷ z ∷ zs) - 1) ≡ slice_index (z ∷ zs) (length (z ∷ zs) - 1) =
-    ap (λ (i : ℕ). slice_index (x ∷ z ∷ zs) i) last_of_two ∙ sym (ap (λ (i : ℕ). slice_index (z ∷ zs) i) last_of_one) in
-    ap (λ (t : Bool). t && (slice_index (x ∷ z ∷ zs) (length (x ∷ z ∷ zs) - 1) == b)) two
-    ∙ (ap (λ (c : ℕ). c == b) byte
-    ∙ sym (ap (λ (t : Bool). t && (slice_index (z ∷ zs) (length (z ∷ zs) - 1) == b)) one))
-
-strip-cons : (b x z : ℕ) (zs : List ℕ) → strip_last b (x ∷ z ∷ zs) ≡ x ∷ strip_last b (z ∷ zs)
-strip-cons b x z zs =
-    let last_of_two : length (x ∷ z ∷ zs) - 1 ≡ suc (length zs) = omega arith in
-    let last_of_one : length (z ∷ zs) - 1 ≡ length zs = omega arith in
-    elim (cases_Bool (ends_with_byte b (z ∷ zs))) [
-      | inl h ↦
-          cond-true (ends_with_byte b (x ∷ z ∷ zs)) (take (length (x ∷ z ∷ zs) - 1) (x ∷ z ∷ zs)) (x ∷ z ∷ zs) (ends-cons b x z zs ∙ h)
-          ∙ (ap (λ (n : ℕ). take n (x ∷ z ∷ zs)) last_of_two
-          ∙ sym (ap (λ (t : List ℕ). x ∷ t) (cond-true (ends_with_byte b (z ∷ zs)) (take (length (z ∷ zs) - 1) (z ∷ zs)) (z ∷ zs) h ∙ ap (λ (n : ℕ). take n (z ∷ zs)) last_of_one)))
-      | inr h ↦
-          cond-false (ends_with_byte b (x ∷ z ∷ zs)) (take (length (x ∷ z ∷ zs) - 1) (x ∷ z ∷ zs)) (x ∷ z ∷ zs) (ends-cons b x z zs ∙ h)
-          ∙ sym (ap (λ (t : List ℕ). x ∷ t) (cond-false (ends_with_byte b (z ∷ zs)) (take (length (z ∷ zs) - 1) (z ∷ zs)) (z ∷ zs) h))
-    ]
-
--- a byte that ends no line stands before the first line
-piece-cons : (x : ℕ) (ys : List ℕ) → (x == 10) ≡ false → strip_last 10 (x ∷ take_through 10 ys) ≡ x ∷ strip_last 10 (take_through 10 ys)
-piece-cons x [] e = cond-false (ends_with_byte 10 (x ∷ [])) (take (length (x ∷ []) - 1) (x ∷ [])) (x ∷ []) e
-piece-cons x (y ∷ ys) e = elim (cases_Bool (y == 10)) [
-  | inl h ↦
-      let t = cond-true (y == 10) (y ∷ []) (y ∷ take_through 10 ys) h in
-      ap (λ (ts : List ℕ). strip_last 10 (x ∷ ts)) t ∙ (strip-cons 10 x y [] ∙ sym (ap (λ (ts : List ℕ). x ∷ strip_last 10 ts) t))
-  | inr h ↦
-      let t = cond-false (y == 10) (y ∷ []) (y ∷ take_through 10 ys) h in
-      ap (λ (ts : List ℕ). strip_last 10 (x ∷ ts)) t ∙ (strip-cons 10 x y (take_through 10 ys) ∙ sym (ap (λ (ts : List ℕ). x ∷ strip_last 10 ts) t))
-]
-
--- a line feed alone
-line_feed : (x : ℕ) → (x == 10) ≡ true → strip_last 10 (x ∷ []) ≡ []
-line_feed x e = cond-true (ends_with_byte 10 (x ∷ [])) (take (length (x ∷ []) - 1) (x ∷ [])) (x ∷ []) e
-
--- from what holds of the bytes behind
-first_from : (x : ℕ) (xs : List ℕ) →
-    onto_first_line x (lines xs) ≡ (x ∷ strip_last 10 (take_through 10 xs)) ∷ lines (drop_through 10 xs) →
-    lines (x ∷ xs) ≡ strip_last 10 (take_through 10 (x ∷ xs)) ∷ lines (drop_through 10 (x ∷ xs))
-first_from x xs behind = elim (cases_Bool (x == 10)) [
-  | inl h ↦
-      cond-true (x == 10) ([] ∷ lines xs) (onto_first_line x (lines xs)) h
-      ∙ sym (ap (λ (t : List ℕ). strip_last 10 t ∷ lines (drop_through 10 (x ∷ xs))) (cond-true (x == 10) (x ∷ []) (x ∷ take_through 10 xs) h)
-      ∙ (ap (λ (t : List ℕ). t ∷ lines (drop_through 10 (x ∷ xs))) (line_feed x h)
-      ∙ ap (λ (t : List ℕ). [] ∷ lines t) (cond-true (x == 10) xs (drop_through 10 xs) h)))
-  | inr h ↦
-      cond-false (x == 10) ([] ∷ lines xs) (onto_first_line x (lines xs)) h
-      ∙ (behind
-      ∙ sym (ap (λ (t : List ℕ). strip_last 10 t ∷ lines (drop_through 10 (x ∷ xs))) (cond-false (x == 10) (x ∷ []) (x ∷ take_through 10 xs) h)
-      ∙ (ap (λ (t : List ℕ). t ∷ lines (drop_through 10 (x ∷ xs))) (piece-cons x xs h)
-      ∙ ap (λ (t : List ℕ). (x ∷ strip_last 10 (take_through 10 xs)) ∷ lines t) (cond-false (x == 10) xs (drop_through 10 xs) h))))
-]
-
-pub lines-first : (x : ℕ) (xs : List ℕ) → lines (x ∷ xs) ≡ strip_last 10 (take_through 10 (x ∷ xs)) ∷ lines (drop_through 10 (x ∷ xs))
-lines-first x [] = first_from x [] refl
-lines-first x (y ∷ ys) = first_from x (y ∷ ys) (ap (onto_first_line x) (lines-first y ys))
 
 pub appends_none : (w : Option (List ℕ)) → Appends w w []
 appends_none None = tt
@@ -147,29 +83,33 @@ module _ {S C : Type 0} (read : Reader C) (kind : Behaviour S C) where
           let P : List ℕ → Type 0 = λ done. Goes slots coins text done slots' coins' rest in
           (sent ++ more, rest, l, appends_on w0 w w' sent more b a, subst P (ap (λ (ws : List ℕ). sent ++ ws) e ∙ sym (append_assoc sent more waiting')) g)
 
-  pub running-line : {t left left' w0 w : Option (List ℕ)} {waiting waiting' : List ℕ} {slots slots' slots'' : List (Option S)} {coins coins' coins'' : ℕ} (line bare : List ℕ) (r : Result Answer Refusal) →
-      Running t left w0 w waiting slots coins slots' coins' →
-      0 < length line → IfSome left (λ xs. line ≡ take_through 10 xs) → IfSome left (λ xs. left' ≡ Some (drop_through 10 xs)) → bare ≡ strip_last 10 line →
-      Answers kind (command_of read (words bare)) (points_of (words bare)) slots' coins' r slots'' coins'' → waiting' ≡ waiting ++ (answer_text r ++ (10 ∷ [])) →
+  pub running-kept : {t left left' w0 w : Option (List ℕ)} {waiting : List ℕ} {slots slots' slots'' : List (Option S)} {coins coins' coins'' : ℕ} →
+      Running t left w0 w waiting slots coins slots' coins' → left' ≡ left → slots'' ≡ slots' → coins'' ≡ coins' →
+      Running t left' w0 w waiting slots coins slots'' coins''
+  running-kept run same_left same_slots same_coins = rw same_left (rw same_slots (rw same_coins run))
+
+  pub running-line : {t left left' w0 w : Option (List ℕ)} {waiting waiting' : List ℕ} {slots slots' slots'' : List (Option S)} {coins coins' coins'' : ℕ} (line : List ℕ) (r : Result Answer Refusal) →
+      Running t left w0 w waiting slots coins slots' coins' → TakesLine left line left' →
+      Answers kind (command_of read (words line)) (points_of (words line)) slots' coins' r slots'' coins'' → waiting' ≡ waiting ++ (answer_text r ++ (10 ∷ [])) →
       Running t left' w0 w waiting' slots coins slots'' coins''
-  running-line {t} {left} {left'} {w0} {w} {waiting} {waiting'} {slots} {slots'} {slots''} {coins} {coins'} {coins''} line bare r run some taken_line dropped b answered e = record { holds = go t run.holds }
+  running-line {t} {left} {left'} {w0} {w} {waiting} {waiting'} {slots} {slots'} {slots''} {coins} {coins'} {coins''} line r run taken answered e = record { holds = go t run.holds }
     where
-      step : (text sent rest : List ℕ) → line ≡ take_through 10 rest → Goes slots coins text (sent ++ waiting) slots' coins' rest → Goes slots coins text (sent ++ waiting') slots'' coins'' (drop_through 10 rest)
-      step text sent [] l g = absurd (let m : length line ≡ 0 = ap (λ (xs : List ℕ). length xs) l in omega (arith, m, some))
-      step text sent (x ∷ xs) l g =
+      step : (text sent rest : List ℕ) → 0 < length rest → line ≡ strip_last 10 (take_through 10 rest) → Goes slots coins text (sent ++ waiting) slots' coins' rest → Goes slots coins text (sent ++ waiting') slots'' coins'' (drop_through 10 rest)
+      step text sent [] some l g = absurd (omega (arith, some))
+      step text sent (x ∷ xs) some l g =
           let A : List ℕ → Type 0 = λ ws. Answers kind (command_of read (words ws)) (points_of (words ws)) slots' coins' r slots'' coins'' in
           let P : List ℕ → Type 0 = λ done. Goes slots coins text done slots'' coins'' (drop_through 10 (x ∷ xs)) in
           subst P (append_assoc sent waiting (answer_text r ++ (10 ∷ [])) ∙ sym (ap (λ (ws : List ℕ). sent ++ ws) e))
-          (goes-on slots coins text (sent ++ waiting) slots' coins' x xs r slots'' coins'' g (subst A (b ∙ ap (strip_last 10) l) answered))
+          (goes-on slots coins text (sent ++ waiting) slots' coins' x xs r slots'' coins'' g (subst A l answered))
 
       go : (o : Option (List ℕ)) →
           IfSome o (λ text. (sent : List ℕ) × (rest : List ℕ) × (left ≡ Some rest) × Appends w0 w sent × Goes slots coins text (sent ++ waiting) slots' coins' rest) →
           IfSome o (λ text. (sent : List ℕ) × (rest : List ℕ) × (left' ≡ Some rest) × Appends w0 w sent × Goes slots coins text (sent ++ waiting') slots'' coins'' rest)
       go None h = tt
       go (Some text) (sent, rest, l, a, g) =
-          let I : Option (List ℕ) → Type 0 = λ o. IfSome o (λ xs. line ≡ take_through 10 xs) in
-          let J : Option (List ℕ) → Type 0 = λ o. IfSome o (λ xs. left' ≡ Some (drop_through 10 xs)) in
-          (sent, drop_through 10 rest, subst J l dropped, a, step text sent rest (subst I l taken_line) g)
+          let T : Option (List ℕ) → Type 0 = λ o. TakesLine o line left' in
+          let (some, is, dropped) = subst T l taken in
+          (sent, drop_through 10 rest, dropped, a, step text sent rest some is g)
 
   pub running-end : {T E : Type 0} {t left w0 w : Option (List ℕ)} {waiting : List ℕ} {slots slots' : List (Option S)} {coins coins' : ℕ} (w' : Option (List ℕ)) (waiting' : List ℕ) (written : Result T E) →
       Running t left w0 w waiting slots coins slots' coins' → IsAtEnd left → OnOk written ((waiting' ≡ []) × Appends w w' waiting) →

@@ -1,5 +1,6 @@
 -- the lines of a text, and what is written for them
-use Rattle.std.specs.Prelude.{◌≡◌, ℕ, List, [], ◌∷◌, ◌++◌, ◌==◌, if◌then◌else◌}
+use Rattle.std.specs.Prelude.{◌≡◌, ℕ, ◌<◌, List, [], ◌∷◌, ◌++◌, length, ◌==◌, if◌then◌else◌, Option, Some, IfSome}
+use Rattle.std.specs.Io.BufRead.{strip_last, take_through, drop_through}
 use Rattle.quantile_sketches.specs.Behaviour.{Behaviour}
 use Rattle.quantile_sketches.specs.Answer.{answer_text}
 use Rattle.quantile_sketches.specs.Command.{command_of}
@@ -16,6 +17,11 @@ onto_first_line c (l ∷ ls) = (c ∷ l) ∷ ls
 abbrev pub lines : List ℕ → List (List ℕ)
 lines [] = []
 lines (c ∷ cs) = if c == 10 then [] ∷ lines cs else onto_first_line c (lines cs)
+
+-- the first line goes from a text, where that is known, and its line feed with it
+abbrev pub TakesLine : Option (List ℕ) → List ℕ → Option (List ℕ) → Type 0
+TakesLine left line left' = IfSome left (λ text.
+    (0 < length text) × (line ≡ strip_last 10 (take_through 10 text)) × (left' ≡ Some (drop_through 10 text)))
 
 -- the text written for lines that come one after another: for each line an answer and a line feed
 module _ {S C : Type 0} (read : Reader C) (kind : Behaviour S C) where

@@ -1,17 +1,19 @@
 //! The line program: an input line holds a command, and an output line its answer.
 //! How a line is read lies in `command`, what a command does in `table`, how an answer reads in `answer`.
-ghost use Rattle.std.specs.Prelude.{◌≡◌, [], ◌∷◌, ◌++◌, map, string_bytes, None, OnOk, IfSome, IfErr, IsErr, IsTrue, replicate};
+ghost use Rattle.std.specs.Prelude.{◌≡◌, ℕ, List, [], ◌∷◌, ◌++◌, map, string_bytes, None, OnOk, IfSome, IfErr, IsErr, IsTrue, replicate};
 ghost use Rattle.std.specs.Io.BufRead.{strip_last};
 ghost use Rattle.std.specs.Io.KnownBytes.{Appends, Keeps};
 ghost use Rattle.std.specs.IoError.{error_kind};
-ghost use Rattle.quantile_sketches.specs.Command.{arguments_of};
+ghost use Rattle.quantile_sketches.specs.Command.{arguments_of, command_of};
 ghost use Rattle.quantile_sketches.specs.Kll.{ServesKll};
-ghost use Rattle.quantile_sketches.specs.Lines.{lines, Serves};
-ghost use Rattle.quantile_sketches.specs.Words.{unsigned_of};
+ghost use Rattle.quantile_sketches.specs.Lines.{lines, Serves, TakesLine};
+ghost use Rattle.quantile_sketches.specs.Step.{Answers};
+ghost use Rattle.quantile_sketches.specs.Words.{unsigned_of, words, points_of};
 
-use crate::answer::write_answer;
+use crate::answer::{Answer, Refusal, write_answer};
 use crate::family::Family;
 use crate::table::{SLOTS, Table};
+use crate::words::len_before;
 use sketch_base::common::random::SplitMix64;
 use sketch_kll::sketch::KllSketch;
 use std::alloc::Global;
@@ -94,6 +96,10 @@ fn answer_lines<S: Family, R: Read, W: Write>(
     for _ in 0..u64::MAX {
         let is_due = input.buffer().is_empty() || MANY <= answers.len();
         write_out_if(is_due, output, &mut answers)?;
+        if let Some(answer) = answer_buffered(alloc, &mut table, &mut coins, input) {
+            write_answer(&mut answers, answer)?;
+            continue;
+        }
         line.clear();
         match input.read_until(b'\n', &mut line) {
             Ok(0) => return write_out(output, &mut answers),
@@ -107,6 +113,30 @@ fn answer_lines<S: Family, R: Read, W: Write>(
         write_answer(&mut answers, answer)?;
     }
     Err(io::Error::from(ErrorKind::Other))
+}
+
+// Answers the next line where it lies whole in the buffer, and copies and reads nothing.
+fn answer_buffered<S: Family, R: Read>(
+    alloc: Global,
+    table: &mut Table<S>,
+    coins: &mut SplitMix64,
+    input: &mut BufReader<R>,
+) -> Option<Result<Answer, Refusal>>
+    ensures answered { IfSome result (λ answer. (line : List ℕ)
+        × TakesLine (⟦<BufReader<R> as Read>⟧.remaining input.old) line
+        (⟦<BufReader<R> as Read>⟧.remaining input.new)
+        × Answers S.behaviour (command_of S.Config.reader (words line)) (points_of (words line))
+        table.old coins.old answer table.new coins.new) }
+    ensures kept { result ≡ None
+        → (table.new ≡ table.old) × (coins.new ≡ coins.old) × (input.new ≡ input.old) }
+{
+    let len = len_before(input.buffer(), b'\n');
+    if len == input.buffer().len() {
+        return None;
+    }
+    let answer = table.answer(alloc, coins, &input.buffer()[..len]);
+    input.consume(len + 1);
+    Some(answer)
 }
 
 fn write_out_if<W: Write>(is_due: bool, output: &mut W, answers: &mut Vec<u8>) -> io::Result<()>

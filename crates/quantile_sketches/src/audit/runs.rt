@@ -7,6 +7,7 @@ ghost use Rattle.sketch_kll.specs.ImageLaws.{SpellingsTie};
 ghost use Rattle.quantile_sketches.specs.Plan.{trace_of};
 ghost use Rattle.quantile_sketches.specs.Refused.{AreRefused};
 ghost use Rattle.quantile_sketches.specs.Outcome.{ArePlanned, ArePlayed, WeighStreams, HaveExtremes, AreOrdered, AreSmall, AreClose, AreUnbiased, AreReadBack};
+ghost use Rattle.quantile_sketches.specs.Scatter.{AreScattered, SpreadLittle};
 
 use super::commands::{Command, Run};
 use super::steps::execute;
@@ -45,6 +46,8 @@ pub fn run<T: KllValue + Ord>(
     ensures close { IfOk result (λ run. AreClose T.cmp commands.now run.slots) }
     ensures unbiased { IfOk result (λ run. AreUnbiased T.cmp commands.now (length word.now)) }
     ensures images { IfOk result (λ run. AreReadBack T.cmp T.eq T.spelling run.slots) }
+    ensures scatter { IfOk result (λ run. AreScattered T.cmp commands.now (length word.now)) }
+    ensures spread { IfOk result (λ run. SpreadLittle commands.now run.slots) }
 {
     let mut slots = BTreeMap::new(alloc);
     let mut refused = Vec::new(alloc);

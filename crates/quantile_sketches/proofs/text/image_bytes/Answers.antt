@@ -1,4 +1,4 @@
-use Rattle.std.proofs.Common.{◌≡◌, ◌%◌, ℕ, List, length, refl, sym, ◌∙◌, inl, inr, Ok, Err, Result}
+use Rattle.std.proofs.Common.{◌≡◌, ◌%◌, ℕ, List, length, refl, sym, ◌∙◌, inl, inr, Ok, Err}
 use Rattle.std.specs.Prelude.{◌⊎◌}
 use Rattle.std.specs.List.{AllPass}
 use Rattle.hex.specs.Hex.{decode_of, is_hex_digit}
