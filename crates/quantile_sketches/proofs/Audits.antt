@@ -1,9 +1,9 @@
 -- What an audit counts, from the commands and from the plays.
-use Rattle.std.proofs.Common.{◌≡◌, ℕ, zero, suc, ◌+◌, ◌-◌, ◌*◌, ◌^◌, ◌<◌, ◌≤◌, Bool, true, false, ◌==◌, cond, if◌then◌else◌, List, [], ◌∷◌, ◌++◌, length, get_or, take, drop, count_by, sum, slice_get, Option, None, Some, Result, Ok, Err, refl, sym, ap, ap₂, ◌∙◌, subst, arith, inl, inr, length-append, Ordering}
+use Rattle.std.proofs.Common.{◌≡◌, ℕ, zero, suc, ◌+◌, ◌-◌, ◌*◌, ◌^◌, ◌<◌, ◌≤◌, Bool, true, false, ◌==◌, cond, if◌then◌else◌, List, [], ◌∷◌, ◌++◌, length, get_or, replicate, take, drop, count_by, sum, slice_get, Option, None, Some, Result, Ok, Err, refl, sym, ap, ap₂, ◌∙◌, subst, arith, inl, inr, length-append, Ordering}
 use Rattle.std.specs.Prelude.{Contains, MatchOption, ◌↔◌, slice_index}
 use Rattle.std.proofs.lemmas.Bool.{cases_lt, eq-eqb, false≢true}
 use Rattle.std.proofs.lemmas.Grind.{get_or_default_zero}
-use Rattle.std.proofs.lemmas.List.{nil_from_length, get_or_past}
+use Rattle.std.proofs.lemmas.List.{nil_from_length, get_or_past, length-replicate}
 use Rattle.std.proofs.lemmas.List.Kept.{AllPairs-from_increasing}
 use Rattle.std.proofs.lemmas.List.Sums.{sum_by-append, count_by-le-length}
 use Rattle.std.specs.Cmp.{IsTotalOrder}
@@ -132,8 +132,16 @@ pub record IsCounted {A : Type 0} (test : A → Bool) (before : List (Command A 
   pub slots : length counts ≡ 256
   pub exact : Counts test (slice_index counts) (stream_of before)
 
-pub counted-none : {A : Type 0} (test : A → Bool) (counts : List ℕ) → length counts ≡ 256 → ((q : ℕ) → q < 256 → slice_index counts q ≡ 0) → IsCounted test [] counts
-counted-none test counts l h = record { slots = l; exact = h }
+pub counted-none : {A : Type 0} (test : A → Bool) (counts : List ℕ) → counts ≡ replicate 256 0 → IsCounted test [] counts
+counted-none test counts e = record {
+  slots = ap length e ∙ length-replicate {A = ℕ} 256 0;
+  exact = λ q inside. ap (λ (l : List ℕ). slice_index l q) e ∙ nothing 256 q;
+}
+  where
+    nothing : (n q : ℕ) → slice_index (replicate n 0) q ≡ 0
+    nothing zero q = refl
+    nothing (suc n) zero = refl
+    nothing (suc n) (suc q) = nothing n q
 
 below : {A : Type 0} (test : A → Bool) (before : List (Command A ℕ)) (counts : List ℕ) → IsCounted test before counts → (q : ℕ) → slice_index counts q ≤ count_by test (stream_of before q)
 below test before counts h q =

@@ -1,5 +1,5 @@
 //! True ranks, counted from the commands without any sketch.
-ghost use Rattle.std.specs.Prelude.{◌≡◌, ℕ, ◌<◌, ◌^◌, Bool, List, length, slice_index};
+ghost use Rattle.std.specs.Prelude.{◌≡◌, ℕ, ◌<◌, ◌^◌, Bool, List, length, replicate, slice_index};
 ghost use Rattle.sketch_base.specs.Query.{counted, true_rank as rank_in};
 ghost use Rattle.quantile_sketches.specs.Audit.{counts_after, HasFewSlots};
 ghost use Rattle.quantile_sketches.specs.Refused.{AreRefused};
@@ -20,13 +20,20 @@ pub(crate) fn true_rank<T: KllValue + Ord>(
     requires refused { (word : List Bool) × AreRefused T.cmp T.spelling word commands.now refused.now }
     ensures { result ≡ rank_in T.cmp item.now criteria (stream_of commands.now slot) }
 {
-    let mut counts = [0; 256];
+    let mut counts = no_counts();
     for (number, command) in commands.iter().enumerate() {
         if refused.binary_search(&number).is_err() {
             count_command(&mut counts, command, item, criteria);
         }
     }
     counts[usize::from(slot)]
+}
+
+// Nothing is counted yet.
+fn no_counts() -> [u64; 256]
+    ensures { result ≡ replicate 256 0 }
+{
+    [0; 256]
 }
 
 // What an accepted command makes of the counts of all slots.

@@ -45,9 +45,9 @@ pub fn run<T: KllValue + Ord>(
     ensures small { IfOk result (λ run. AreSmall run.slots) }
     ensures close { IfOk result (λ run. AreClose T.cmp commands.now run.slots) }
     ensures unbiased { IfOk result (λ run. AreUnbiased T.cmp commands.now (length word.now)) }
+    ensures images { IfOk result (λ run. AreReadBack T.cmp T.eq T.spelling run.slots) }
     ensures scatter { IfOk result (λ run. AreScattered T.cmp commands.now (length word.now)) }
     ensures spread { IfOk result (λ run. SpreadLittle commands.now run.slots) }
-    ensures images { IfOk result (λ run. AreReadBack T.cmp T.eq T.spelling run.slots) }
 {
     let mut slots = BTreeMap::new(alloc);
     let mut refused = Vec::new(alloc);
