@@ -12,7 +12,7 @@ use Rattle.sketch_kll.specs.Schedule.{are_full, lowest_full, update_actions, upd
 use Rattle.sketch_kll.proofs.Bridges.{update_full, update_spare}
 use Rattle.sketch_kll.proofs.SpreadOfUpdates.{IsSparing, sparing-none, sparing-update, sparing-bound, added, squared, squared-cleared, all_shares-append, update-shares, shares-elsewhere}
 use Rattle.quantile_sketches.specs.declared.audit.commands.Command.{Command}
-use Rattle.quantile_sketches.specs.declared.audit.commands.Command.TheVariants.{New, Update, Merge, Reset}
+use Rattle.quantile_sketches.specs.declared.audit.commands.Command.TheVariants.{New, Update, Merge, Reset, RoundTrip}
 use Rattle.quantile_sketches.specs.Plan.{Shape, Plan, start_plan, k_of, count_of, with_count, is_refused, accepted_shapes, accepted_events, events_of, plan_after, plan_from, trace_from, trace_of, plan_of}
 use Rattle.quantile_sketches.specs.Scatter.{accepted_alone, alone_after, alone_from, took_updates_alone, SlotSpreadsLittle}
 use Rattle.quantile_sketches.proofs.Plans.{lengths_by}
@@ -110,6 +110,7 @@ module _ {A : Type 0} where
       AreSpared (accepted_shapes plan.shapes command) (accepted_alone plan.shapes alone command) (lengths_by plan.lengths (accepted_events plan command)) (all_shares (accepted_events plan command) shares)
   accepted-spared plan alone shares i (New slot k) = spared-clear A plan.shapes alone plan.lengths shares slot _ i (sparing-none k)
   accepted-spared plan alone shares i (Reset slot) = spared-clear A plan.shapes alone plan.lengths shares slot _ i (spares-fresh (plan.shapes slot))
+  accepted-spared plan alone shares i (RoundTrip slot) = i
   accepted-spared plan alone shares i (Update slot x) =
       let shapes = plan.shapes in
       let k = k_of (shapes slot) in

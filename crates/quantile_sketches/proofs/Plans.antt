@@ -11,7 +11,7 @@ use Rattle.sketch_kll.proofs.Bridges.{update_full, update_spare}
 use Rattle.sketch_kll.proofs.Merges.{merges_legal}
 use Rattle.sketch_kll.proofs.Schedules.{lowest_full_at, length-with_level}
 use Rattle.quantile_sketches.specs.declared.audit.commands.Command.{Command}
-use Rattle.quantile_sketches.specs.declared.audit.commands.Command.TheVariants.{New, Update, Merge, Reset}
+use Rattle.quantile_sketches.specs.declared.audit.commands.Command.TheVariants.{New, Update, Merge, Reset, RoundTrip}
 use Rattle.quantile_sketches.specs.Plan.{Plan, start_plan, k_of, count_of, is_refused, accepted_events, events_of, plan_after, plan_from, trace_from, trace_of, plan_of}
 
 -- what holds of two functions place by place holds after both are changed at one place
@@ -110,6 +110,7 @@ module _ {A : Type 0} where
         | false ↦ merges_legal (k_of (plan.shapes into)) source into plan.lengths (st.levels into) st.settled
       ]
   accepted-legal plan st (Reset slot) = clear-legal slot plan.lengths st.settled
+  accepted-legal plan st (RoundTrip slot) = none-legal plan.lengths st.settled
 
   pub events-legal : (plan : Plan) → IsSteady plan → (command : Command A ℕ) → IsLegalFrom (events_of plan command) plan.lengths
   events-legal plan st command =

@@ -35,10 +35,10 @@ use Rattle.sketch_kll.proofs.Merges.{merge_is, goes-kll}
 use Rattle.sketch_kll.proofs.Merged.{alike-same}
 use Rattle.sketch_kll.proofs.Schedules.{update_is}
 use Rattle.quantile_sketches.specs.declared.audit.commands.Command.{Command}
-use Rattle.quantile_sketches.specs.declared.audit.commands.Command.TheVariants.{New, Update, Merge, Reset}
+use Rattle.quantile_sketches.specs.declared.audit.commands.Command.TheVariants.{New, Update, Merge, Reset, RoundTrip}
 use Rattle.quantile_sketches.specs.Plan.{Shape, Plan, k_of, count_of, with_count, is_refused, accepted_shapes, accepted_events, events_of, plan_after}
 use Rattle.quantile_sketches.specs.Run.{accepted_streams, streams_after}
-use Rattle.quantile_sketches.specs.Steps.{Slots, sketch_at, shape_of, shapes_in, Puts, AreSame, IsFresh, IsMadeIn, IsUpdatedIn, IsResetIn, IsMergedBy, IsMergedIn, IsDone, IsExecuted}
+use Rattle.quantile_sketches.specs.Steps.{Slots, sketch_at, shape_of, shapes_in, Puts, AreSame, IsFresh, IsMadeIn, IsUpdatedIn, IsResetIn, IsMergedBy, IsMergedIn, IsReadBackIn, IsDone, IsDecided, IsExecuted}
 use Rattle.quantile_sketches.proofs.Plans.{IsSteady, lengths_by, events-legal}
 
 -- an equal place is the place
@@ -413,29 +413,95 @@ module _ {A : Type 0} {cmp : A → A → Ordering} (o : IsTotalOrder cmp) where
         go true z = merge-empty plan streams world slots stand into from (eqb-true _ 0 z) source slots' source' m
         go false z = merge-full plan st streams world slots stand into from (omega (arith, eqb-false (count_of (plan.shapes from)) 0 z)) source slots' source' m
 
-    -- any command
-    steps-done : (plan : Plan) → IsSteady plan → (streams : ℕ → List A) (world : World (Bag A)) (slots : Slots A) → Stand cmp plan streams world slots →
-        (command : Command A ℕ) → is_refused plan.shapes command ≡ false → (source : S) (slots' : Slots A) (source' : S) →
-        IsDone cmp bit next command slots source slots' source' → Steps plan streams world command source slots' source'
-    steps-done plan st streams world slots stand (New slot k) e source slots' source' d = steps-new plan st streams world slots stand slot k e source slots' source' d.0 d.1
-    steps-done plan st streams world slots stand (Update slot x) e source slots' source' d = steps-update plan st streams world slots stand slot x e source slots' source' d
-    steps-done plan st streams world slots stand (Merge into from) e source slots' source' d = steps-merge plan st streams world slots stand into from e source slots' source' d
-    steps-done plan st streams world slots stand (Reset slot) e source slots' source' d = steps-reset plan st streams world slots stand slot e source slots' source' d.0 d.1
+    -- a command that has no events and leaves shapes and streams
+    steps-still : (plan : Plan) (streams : ℕ → List A) (world : World (Bag A)) (command : Command A ℕ) (source : S) (slots' : Slots A) (source' : S) →
+        events_of plan command ≡ [] → (plan_after plan command).shapes ≡ plan.shapes → streams_after plan streams command ≡ streams →
+        Stand cmp plan streams world slots' → source' ≡ source → Steps plan streams world command source slots' source'
+    steps-still plan streams world command source slots' source' none shapes same stand stays = record {
+      source_goes = stays ∙ ap (λ (events : List (Event A)). after_draws next source (coins events)) (sym none);
+      stands = λ word agree. record {
+        lengths = subst (λ (events : List (Event A)). world_lengths (play cmp events word world) ≡ lengths_by plan.lengths events) (sym none) stand.lengths;
+        shapes = λ q. stand.shapes q ∙ sym (ap (λ (f : ℕ → Option Shape). f q) shapes);
+        sketches = λ q s held.
+            subst (λ (f : ℕ → List A). IsOf cmp ((play cmp (events_of plan command) word world).slots q) (f q) s) (sym same)
+            (subst (λ (events : List (Event A)). IsOf cmp ((play cmp events word world).slots q) (streams q) s) (sym none) (stand.sketches q s held));
+      };
+    }
 
-    pub accepts : (plan : Plan) (streams : ℕ → List A) (world : World (Bag A)) (slots : Slots A) → Stand cmp plan streams world slots →
-        (command : Command A ℕ) (source : S) (accepted : Bool) (slots' : Slots A) (source' : S) →
-        IsExecuted cmp bit next command slots source accepted slots' source' → accepted ≡ not (is_refused plan.shapes command)
-    accepts plan streams world slots stand command source accepted slots' source' x =
-        x.decided ∙ ap (λ (f : ℕ → Option Shape). not (is_refused f command)) (fun_ext stand.shapes)
+    same-stand : (plan : Plan) (streams : ℕ → List A) (world : World (Bag A)) (slots slots' : Slots A) → Stand cmp plan streams world slots → AreSame slots slots' → Stand cmp plan streams world slots'
+    same-stand plan streams world slots slots' stand same = record {
+      lengths = stand.lengths;
+      shapes = λ q. ap (option_map shape_of) (same q) ∙ stand.shapes q;
+      sketches = λ q s held. stand.sketches q s (sym (same q) ∙ held);
+    }
 
-    pub steps : (plan : Plan) → IsSteady plan → (streams : ℕ → List A) (world : World (Bag A)) (slots : Slots A) → Stand cmp plan streams world slots →
-        (command : Command A ℕ) (source : S) (accepted : Bool) (slots' : Slots A) (source' : S) →
-        IsExecuted cmp bit next command slots source accepted slots' source' → Steps plan streams world command source slots' source'
-    steps plan st streams world slots stand command source accepted slots' source' x =
-        let e = accepts plan streams world slots stand command source accepted slots' source' x in
+    -- what is read back stands as what was written did
+    read-stand : (plan : Plan) (streams : ℕ → List A) (world : World (Bag A)) (slots slots' : Slots A) → Stand cmp plan streams world slots → (slot : ℕ) → IsReadBackIn cmp slot slots slots' → Stand cmp plan streams world slots'
+    read-stand plan streams world slots slots' stand slot m =
+        let was = stand.sketches slot m.old m.held in
+        let shape : Some (shape_of m.made) ≡ plan.shapes slot =
+        ap₂ (λ (k n : ℕ). let shape : Shape = record { k = k; n = n } in Some shape) m.copied.k m.copied.n ∙ (sym (ap (option_map shape_of) m.held) ∙ stand.shapes slot) in
+        let new : IsOf cmp (world.slots slot) (streams slot) m.made = record {
+          alike = alike-trans o (world.slots slot) (bag_of m.old) (bag_of m.made) was.alike (copied-alike m.old m.made m.copied);
+          least = copied-least (streams slot) m.old.least m.made.least was.least m.copied.least;
+          greatest = copied-greatest (streams slot) m.old.greatest m.made.greatest was.greatest m.copied.greatest;
+          sound = m.sound;
+        } in
+        record {
+          lengths = stand.lengths;
+          shapes = λ q. put-shapes slots slots' slot m.made plan.shapes m.puts stand.shapes (plan.shapes slot) shape q ∙ changed-own plan.shapes slot q;
+          sketches = λ q s held.
+              subst (λ (b : Bag A). IsOf cmp b (streams q) s) (changed-own world.slots slot q)
+              (subst (λ (l : List A). IsOf cmp (changed world.slots slot (world.slots slot) q) l s) (changed-own streams slot q)
+              (put-sketches cmp slots slots' slot m.made world.slots streams (world.slots slot) (streams slot) m.puts stand.sketches new q s held));
+        }
+
+    -- a round trip has no events and leaves shapes and streams, accepted or refused
+    steps-trip : (plan : Plan) (streams : ℕ → List A) (world : World (Bag A)) (slots : Slots A) → Stand cmp plan streams world slots →
+        (slot : ℕ) (source : S) (accepted : Bool) (slots' : Slots A) (source' : S) →
+        (IsTrue accepted → IsReadBackIn cmp slot slots slots' × (source' ≡ source)) → (accepted ≡ false → AreSame slots slots' × (source' ≡ source)) →
+        Steps plan streams world (RoundTrip slot) source slots' source'
+    steps-trip plan streams world slots stand slot source accepted slots' source' done left = go accepted done left
+      where
+        one : {X : Type 0} (b : Bool) (x : X) → (if b then x else x) ≡ x
+        one true x = refl
+        one false x = refl
+
+        still : Stand cmp plan streams world slots' → source' ≡ source → Steps plan streams world (RoundTrip slot) source slots' source'
+        still stands stays =
+            let b = is_refused {A = A} plan.shapes (RoundTrip slot) in
+            steps-still plan streams world (RoundTrip slot) source slots' source' (one b []) (one b plan.shapes) (one b streams) stands stays
+
+        go : (accepted : Bool) → (IsTrue accepted → IsReadBackIn cmp slot slots slots' × (source' ≡ source)) → (accepted ≡ false → AreSame slots slots' × (source' ≡ source)) →
+            Steps plan streams world (RoundTrip slot) source slots' source'
+        go true done left = let d = done refl in still (read-stand plan streams world slots slots' stand slot d.0) d.1
+        go false done left = let l = left refl in still (same-stand plan streams world slots slots' stand l.0) l.1
+
+    -- a command that the plan alone decides
+    steps-planned : (plan : Plan) → IsSteady plan → (streams : ℕ → List A) (world : World (Bag A)) (slots : Slots A) → Stand cmp plan streams world slots →
+        (command : Command A ℕ) (source : S) (accepted : Bool) (slots' : Slots A) (source' : S) → accepted ≡ not (is_refused (shapes_in slots) command) →
+        (is_refused plan.shapes command ≡ false → IsTrue accepted → Steps plan streams world command source slots' source') → (accepted ≡ false → AreSame slots slots' × (source' ≡ source)) →
+        Steps plan streams world command source slots' source'
+    steps-planned plan st streams world slots stand command source accepted slots' source' decided done left =
+        let e : accepted ≡ not (is_refused plan.shapes command) = decided ∙ ap (λ (f : ℕ → Option Shape). not (is_refused f command)) (fun_ext stand.shapes) in
         elim (cases_Bool (is_refused plan.shapes command)) [
           | inl r ↦
-              let l = x.left (e ∙ ap not r) in
+              let l = left (e ∙ ap not r) in
               steps-refused plan streams world slots stand command r source slots' source' l.0 l.1
-          | inr r ↦ steps-done plan st streams world slots stand command r source slots' source' (x.done (e ∙ ap not r))
+          | inr r ↦ done r (e ∙ ap not r)
         ]
+
+    -- any command
+    pub steps : (spelling : A → Option (List ℕ)) (plan : Plan) → IsSteady plan → (streams : ℕ → List A) (world : World (Bag A)) (slots : Slots A) → Stand cmp plan streams world slots →
+        (command : Command A ℕ) (source : S) (accepted : Bool) (slots' : Slots A) (source' : S) →
+        IsExecuted cmp spelling bit next command slots source accepted slots' source' → Steps plan streams world command source slots' source'
+    steps spelling plan st streams world slots stand (New slot k) source accepted slots' source' x =
+        steps-planned plan st streams world slots stand (New slot k) source accepted slots' source' x.decided (λ e t. let d = x.done t in steps-new plan st streams world slots stand slot k e source slots' source' d.0 d.1) x.left
+    steps spelling plan st streams world slots stand (Update slot y) source accepted slots' source' x =
+        steps-planned plan st streams world slots stand (Update slot y) source accepted slots' source' x.decided (λ e t. steps-update plan st streams world slots stand slot y e source slots' source' (x.done t)) x.left
+    steps spelling plan st streams world slots stand (Merge into from) source accepted slots' source' x =
+        steps-planned plan st streams world slots stand (Merge into from) source accepted slots' source' x.decided (λ e t. steps-merge plan st streams world slots stand into from e source slots' source' (x.done t)) x.left
+    steps spelling plan st streams world slots stand (Reset slot) source accepted slots' source' x =
+        steps-planned plan st streams world slots stand (Reset slot) source accepted slots' source' x.decided (λ e t. let d = x.done t in steps-reset plan st streams world slots stand slot e source slots' source' d.0 d.1) x.left
+    steps spelling plan st streams world slots stand (RoundTrip slot) source accepted slots' source' x =
+        steps-trip plan streams world slots stand slot source accepted slots' source' x.done x.left

@@ -1,6 +1,6 @@
--- Counts and true ranks of a run are those of the streams.
-use Rattle.std.proofs.Common.{◌≡◌, ℕ, zero, suc, ◌+◌, ◌*◌, ◌^◌, ◌≤◌, Bool, true, false, ◌||◌, ◌==◌, cond, if◌then◌else◌, List, [], ◌∷◌, ◌++◌, length, length-append, map, count_by, Option, None, Some, is_some, not, refl, sym, ap, ◌∙◌, subst, arith, eqb-true, inl, inr, append-nil, Ordering}
-use Rattle.std.proofs.lemmas.Bool.{cases_Bool, false≢true}
+-- Counts and true ranks of a run are those of the streams, and fit.
+use Rattle.std.proofs.Common.{◌≡◌, ℕ, zero, suc, ◌+◌, ◌-◌, ◌*◌, ◌^◌, ◌<◌, ◌≤◌, Bool, true, false, ◌||◌, ◌==◌, cond, if◌then◌else◌, List, [], ◌∷◌, ◌++◌, length, length-append, map, count_by, Option, None, Some, is_some, not, refl, sym, ap, ◌∙◌, subst, arith, eqb-true, inl, inr, append-nil, Ordering}
+use Rattle.std.proofs.lemmas.Bool.{cases_Bool, false≢true, eqb-false, ltb-false}
 use Rattle.std.proofs.lemmas.List.Sums.{sum_by-append}
 use Rattle.sketch_base.specs.declared.common.SearchCriteria.{SearchCriteria}
 use Rattle.sketch_base.specs.Bag.{AllButLeftover, Lowest, Greatest, weighted_rank, load}
@@ -17,7 +17,7 @@ use Rattle.sketch_kll.proofs.Bridges.{update_full, update_spare}
 use Rattle.sketch_kll.proofs.Merges.{Goes, merge_is}
 use Rattle.std.specs.Cmp.{IsTotalOrder}
 use Rattle.quantile_sketches.specs.declared.audit.commands.Command.{Command}
-use Rattle.quantile_sketches.specs.declared.audit.commands.Command.TheVariants.{New, Update, Merge, Reset}
+use Rattle.quantile_sketches.specs.declared.audit.commands.Command.TheVariants.{New, Update, Merge, Reset, RoundTrip}
 use Rattle.quantile_sketches.specs.Plan.{Shape, Plan, start_plan, k_of, count_of, with_count, is_absent, is_refused, accepted_shapes, accepted_events, events_of, plan_after, plan_from, trace_from, trace_of, plan_of}
 use Rattle.quantile_sketches.specs.Run.{accepted_streams, streams_after, streams_from, stream_of}
 use Rattle.quantile_sketches.proofs.Plans.{IsSteady, steady-start, steady-after, changed-both, run-legal}
@@ -51,6 +51,7 @@ module _ {A : Type 0} where
       changed-both Measures plan.shapes streams into _ (streams into ++ streams source) h
       (count-with _ (plan.shapes into) (or-left _ _ (or-left _ _ e)) ∙ omega (arith, h into, h source, length-append (streams into) (streams source)))
   accepted-counts plan streams h (Reset slot) e = changed-both Measures plan.shapes streams slot _ [] h (count-with 0 (plan.shapes slot) e)
+  accepted-counts plan streams h (RoundTrip slot) e = h
 
   pub counts-after : (plan : Plan) (streams : ℕ → List A) → AreCounted plan streams → (command : Command A ℕ) → AreCounted (plan_after plan command) (streams_after plan streams command)
   counts-after plan streams h command j =
@@ -148,6 +149,7 @@ module _ {A : Type 0} (test : A → Bool) where
             | inr e ↦ subst (λ (b : Bool). ranks j ≡ count_by test (if b then streams into ++ streams source else streams j)) (sym e) (r j)
           ]
   accepted-ranks plan st streams h ranks r (Reset slot) = changed-both Ranks ranks streams slot 0 [] r refl
+  accepted-ranks plan st streams h ranks r (RoundTrip slot) = r
 
   events-ranks : (plan : Plan) → IsSteady plan → (streams : ℕ → List A) → AreCounted plan streams → (ranks : ℕ → ℕ) → AreRanked ranks streams → (command : Command A ℕ) → AreRanked (true_ranks test (events_of plan command) ranks) (streams_after plan streams command)
   events-ranks plan st streams h ranks r command =
@@ -175,3 +177,52 @@ pub run-load : {A : Type 0} {cmp : A → A → Ordering} → IsTotalOrder cmp �
 run-load {A} {cmp} o y criteria commands word slot =
     subst (λ (m : ℕ). 8 * distance (weighted_rank cmp (counted cmp y criteria) ((play cmp (trace_of commands) word start).slots slot)) m ≤ load ((play cmp (trace_of commands) word start).slots slot)) (run-ranks (counted cmp y criteria) commands slot)
     (kll_within_load o y criteria (trace_of commands) word slot (run-legal commands))
+
+-- two functions changed at one place
+pub changed-at : {B C : Type 0} (R : B → C → Type 0) (f : ℕ → B) (g : ℕ → C) (s : ℕ) (u : B) (v : C) (j : ℕ) → R (f j) (g j) → R u v → R (changed f s u j) (changed g s v j)
+changed-at R f g s u v j h r =
+    elim (j == s) as (λ b. R (if b then u else f j) (if b then v else g j)) [
+      | true ↦ r
+      | false ↦ h
+    ]
+
+counted-at-most : (n : ℕ) (shape : Option Shape) → count_of (with_count n shape) ≤ n
+counted-at-most n None = omega arith
+counted-at-most n (Some shape) = omega arith
+
+abbrev pub ShapesFit : (ℕ → Option Shape) → Type 0
+ShapesFit shapes = (q : ℕ) → count_of (shapes q) < 2 ^ 64
+
+module _ {A : Type 0} where
+  accepted-fit : (shapes : ℕ → Option Shape) → ShapesFit shapes → (command : Command A ℕ) → is_refused shapes command ≡ false → ShapesFit (accepted_shapes shapes command)
+  accepted-fit shapes h (New slot k) e q = changed-at (λ (o : Option Shape) (n : ℕ). count_of o < 2 ^ 64) shapes (λ j. j) slot (Some (record { k = k; n = 0 })) 0 q (h q) (omega arith)
+  accepted-fit shapes h (Update slot x) e q =
+      changed-at (λ (o : Option Shape) (n : ℕ). count_of o < 2 ^ 64) shapes (λ j. j) slot (with_count (count_of (shapes slot) + 1) (shapes slot)) 0 q (h q)
+      (let most = counted-at-most (count_of (shapes slot) + 1) (shapes slot) in
+      let other = eqb-false (count_of (shapes slot)) (2 ^ 64 - 1) (or-right _ _ e) in
+      omega (arith, most, other, h slot))
+  accepted-fit shapes h (Merge into source) e q =
+      changed-at (λ (o : Option Shape) (n : ℕ). count_of o < 2 ^ 64) shapes (λ j. j) into (with_count (count_of (shapes into) + count_of (shapes source)) (shapes into)) 0 q (h q)
+      (let most = counted-at-most (count_of (shapes into) + count_of (shapes source)) (shapes into) in
+      let few = ltb-false (2 ^ 64 - 1) (count_of (shapes into) + count_of (shapes source)) (or-right _ _ e) in
+      omega (arith, most, few))
+  accepted-fit shapes h (Reset slot) e q =
+      changed-at (λ (o : Option Shape) (n : ℕ). count_of o < 2 ^ 64) shapes (λ j. j) slot (with_count 0 (shapes slot)) 0 q (h q)
+      (let most = counted-at-most 0 (shapes slot) in omega (arith, most))
+  accepted-fit shapes h (RoundTrip slot) e q = h q
+
+  after-fit : (plan : Plan) → ShapesFit plan.shapes → (command : Command A ℕ) → ShapesFit (plan_after plan command).shapes
+  after-fit plan h command = go (is_refused plan.shapes command) refl
+    where
+      go : (b : Bool) → is_refused plan.shapes command ≡ b → ShapesFit (if b then plan.shapes else accepted_shapes plan.shapes command)
+      go true e = h
+      go false e = accepted-fit plan.shapes h command e
+
+  from-fit : (plan : Plan) → ShapesFit plan.shapes → (commands : List (Command A ℕ)) → ShapesFit (plan_from plan commands).shapes
+  from-fit plan h [] = h
+  from-fit plan h (command ∷ rest) = from-fit (plan_after plan command) (after-fit plan h command) rest
+
+  pub streams-fit : (commands : List (Command A ℕ)) (slot : ℕ) → length (stream_of commands slot) < 2 ^ 64
+  streams-fit commands slot =
+      let h : count_of ((plan_of commands).shapes slot) < 2 ^ 64 = from-fit start_plan (λ q. omega arith) commands slot in
+      omega (arith, h, run-counts commands slot)

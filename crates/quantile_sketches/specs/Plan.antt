@@ -1,11 +1,11 @@
--- What is known of a run's slots without items and bits, which commands are refused, and the trace of the accepted ones.
+-- What is known of a run's slots without items and bits, and the trace of the accepted commands.
 use Rattle.std.specs.Prelude.{ℕ, ◌+◌, ◌^◌, ◌-◌, nat_lt, ◌==◌, ◌||◌, not, Bool, if◌then◌else◌, List, [], ◌∷◌, ◌++◌, map, fold, Option, None, Some, is_some}
 use Rattle.sketch_base.specs.Lengths.{lengths_after, start_lengths}
 use Rattle.sketch_base.specs.Trace.{Event, At, Clear, World, changed}
 use Rattle.sketch_kll.specs.Merge.{merge_events}
 use Rattle.sketch_kll.specs.Schedule.{update_actions}
 use Rattle.quantile_sketches.specs.declared.audit.commands.Command.{Command}
-use Rattle.quantile_sketches.specs.declared.audit.commands.Command.TheVariants.{New, Update, Merge, Reset}
+use Rattle.quantile_sketches.specs.declared.audit.commands.Command.TheVariants.{New, Update, Merge, Reset, RoundTrip}
 
 -- a sketch's k, and how many items it took
 pub record Shape : Type 0 where
@@ -39,7 +39,7 @@ with_count n (Some shape) = Some (record { k = shape.k; n = n })
 abbrev pub is_absent : Option Shape → Bool
 is_absent shape = not (is_some shape)
 
--- a command is refused: k is below 8, a sketch is absent, or the count would pass 2^64 - 1
+-- a command is refused, whatever items the sketches hold: k is below 8, a sketch is absent, or the count would pass 2^64 - 1
 abbrev pub is_refused : {A : Type 0} → (ℕ → Option Shape) → Command A ℕ → Bool
 is_refused shapes (New slot k) = nat_lt k 8
 is_refused shapes (Update slot x) = is_absent (shapes slot) || count_of (shapes slot) == 2 ^ 64 - 1
@@ -47,8 +47,9 @@ is_refused shapes (Merge into source) =
     is_absent (shapes into) || is_absent (shapes source)
     || nat_lt (2 ^ 64 - 1) (count_of (shapes into) + count_of (shapes source))
 is_refused shapes (Reset slot) = is_absent (shapes slot)
+is_refused shapes (RoundTrip slot) = is_absent (shapes slot)
 
--- the events of an accepted command
+-- the events of an accepted command; a round trip gives none
 abbrev pub accepted_events : {A : Type 0} → Plan → Command A ℕ → List (Event A)
 accepted_events plan (New slot k) = At slot Clear ∷ []
 accepted_events plan (Update slot x) =
@@ -56,6 +57,7 @@ accepted_events plan (Update slot x) =
 accepted_events plan (Merge into source) =
     if count_of (plan.shapes source) == 0 then [] else merge_events (k_of (plan.shapes into)) source into plan.lengths
 accepted_events plan (Reset slot) = At slot Clear ∷ []
+accepted_events plan (RoundTrip slot) = []
 
 -- the sketches after an accepted command
 abbrev pub accepted_shapes : {A : Type 0} → (ℕ → Option Shape) → Command A ℕ → ℕ → Option Shape
@@ -64,6 +66,7 @@ accepted_shapes shapes (Update slot x) = changed shapes slot (with_count (count_
 accepted_shapes shapes (Merge into source) =
     changed shapes into (with_count (count_of (shapes into) + count_of (shapes source)) (shapes into))
 accepted_shapes shapes (Reset slot) = changed shapes slot (with_count 0 (shapes slot))
+accepted_shapes shapes (RoundTrip slot) = shapes
 
 -- the events of a command; a refused one gives none
 abbrev pub events_of : {A : Type 0} → Plan → Command A ℕ → List (Event A)
@@ -86,18 +89,9 @@ abbrev pub trace_from : {A : Type 0} → Plan → List (Command A ℕ) → List 
 trace_from plan [] = []
 trace_from plan (command ∷ rest) = events_of plan command ++ trace_from (plan_after plan command) rest
 
--- the numbers of the refused ones, counted from i
-abbrev pub refused_from : {A : Type 0} → ℕ → Plan → List (Command A ℕ) → List ℕ
-refused_from i plan [] = []
-refused_from i plan (command ∷ rest) =
-    (if is_refused plan.shapes command then i ∷ [] else []) ++ refused_from (i + 1) (plan_after plan command) rest
-
 -- all from a run's start
 abbrev pub plan_of : {A : Type 0} → List (Command A ℕ) → Plan
 plan_of = plan_from start_plan
 
 abbrev pub trace_of : {A : Type 0} → List (Command A ℕ) → List (Event A)
 trace_of = trace_from start_plan
-
-abbrev pub refused_of : {A : Type 0} → List (Command A ℕ) → List ℕ
-refused_of = refused_from 0 start_plan

@@ -9,15 +9,16 @@ use Rattle.sketch_base.specs.Ranks.{rank_of_trace}
 use Rattle.sketch_base.specs.Trace.{changed, play, start, coins}
 use Rattle.sketch_base.specs.Words.{sum_over_words, distance}
 use Rattle.quantile_sketches.specs.declared.audit.commands.Command.{Command}
-use Rattle.quantile_sketches.specs.declared.audit.commands.Command.TheVariants.{New, Update, Merge, Reset}
+use Rattle.quantile_sketches.specs.declared.audit.commands.Command.TheVariants.{New, Update, Merge, Reset, RoundTrip}
 use Rattle.quantile_sketches.specs.Plan.{Plan, start_plan, is_refused, plan_after, plan_of, trace_of, count_of}
 
--- the streams of all slots after an accepted command: an update appends its item, a merge the other's stream as it stood, and New and Reset empty one
+-- the streams of all slots after an accepted command: an update appends its item, a merge the other's stream as it stood, New and Reset empty one, and a round trip leaves them
 abbrev pub accepted_streams : {A : Type 0} → (ℕ → List A) → Command A ℕ → ℕ → List A
 accepted_streams streams (New slot k) = changed streams slot []
 accepted_streams streams (Update slot x) = changed streams slot (streams slot ++ x ∷ [])
 accepted_streams streams (Merge into source) = changed streams into (streams into ++ streams source)
 accepted_streams streams (Reset slot) = changed streams slot []
+accepted_streams streams (RoundTrip slot) = streams
 
 -- after any command: a refused one leaves them
 abbrev pub streams_after : {A : Type 0} → Plan → (ℕ → List A) → Command A ℕ → ℕ → List A

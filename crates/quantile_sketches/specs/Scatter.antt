@@ -1,5 +1,5 @@
 -- How far the ranks of a run scatter over all words, and which slots took updates alone.
-use Rattle.std.specs.Prelude.{◌≡◌, ℕ, ◌*◌, ◌^◌, ◌≤◌, ◌==◌, ◌&&◌, Bool, true, IsTrue, if◌then◌else◌, List, [], ◌∷◌, Option, Some}
+use Rattle.std.specs.Prelude.{◌≡◌, ℕ, ◌*◌, ◌^◌, ◌≤◌, ◌==◌, ◌&&◌, Bool, true, IsTrue, if◌then◌else◌, List, [], ◌∷◌, length, map, sum, Option, Some}
 use Rattle.std.specs.declared.cmp.Ordering.{Ordering}
 use Rattle.sketch_base.specs.declared.common.SearchCriteria.{SearchCriteria}
 use Rattle.sketch_base.specs.Bag.{weighted_rank}
@@ -8,7 +8,7 @@ use Rattle.sketch_base.specs.Shares.{spread}
 use Rattle.sketch_base.specs.Trace.{changed, play, start, coins}
 use Rattle.sketch_base.specs.Words.{sum_over_words, distance, square}
 use Rattle.quantile_sketches.specs.declared.audit.commands.Command.{Command}
-use Rattle.quantile_sketches.specs.declared.audit.commands.Command.TheVariants.{New, Update, Merge, Reset}
+use Rattle.quantile_sketches.specs.declared.audit.commands.Command.TheVariants.{New, Update, Merge, Reset, RoundTrip}
 use Rattle.quantile_sketches.specs.Plan.{Shape, Plan, start_plan, is_refused, plan_after, plan_of, trace_of, count_of}
 use Rattle.quantile_sketches.specs.Run.{stream_of}
 use Rattle.quantile_sketches.specs.Outcome.{EachSketch}
@@ -20,6 +20,7 @@ accepted_alone shapes alone (New slot k) = changed alone slot true
 accepted_alone shapes alone (Update slot x) = alone
 accepted_alone shapes alone (Merge into source) = changed alone into (count_of (shapes source) == 0 && alone into)
 accepted_alone shapes alone (Reset slot) = changed alone slot true
+accepted_alone shapes alone (RoundTrip slot) = alone
 
 -- after any command: a refused one leaves them
 abbrev pub alone_after : {A : Type 0} → Plan → (ℕ → Bool) → Command A ℕ → ℕ → Bool
@@ -40,6 +41,11 @@ AreScattered {A} cmp commands length = (y : A) (criteria : SearchCriteria) (slot
     (weighted_rank cmp (counted cmp y criteria) ((play cmp (trace_of commands) word start).slots slot))
     (true_rank cmp y criteria (stream_of commands slot)))) ≤
     2 ^ length * spread (trace_of commands) slot
+
+-- the squares of how far weights lie from a true rank sum to at most their number times a spread
+abbrev pub ScatterWithin : List ℕ → (rank spread : ℕ) → Type 0
+ScatterWithin weights rank spread =
+    sum (map (λ weight. square (distance weight rank)) weights) ≤ length weights * spread
 
 -- 4k times the spread of each sketch that took updates alone is at most the square of its count
 abbrev pub SpreadLittle : {A : Type 0} → List (Command A ℕ) → Slots A → Type 0

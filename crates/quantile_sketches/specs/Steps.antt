@@ -1,5 +1,5 @@
 -- What single commands do to the sketches in the slots.
-use Rattle.std.specs.Prelude.{◌≡◌, ℕ, ◌<◌, Bool, false, not, IsTrue, Option, None, Some}
+use Rattle.std.specs.Prelude.{◌≡◌, ℕ, ◌<◌, ◌↔◌, Bool, false, not, IsTrue, List, Option, None, Some, MatchOption}
 use Rattle.std.specs.BTreeMap.{BTreeMap, get, Updates}
 use Rattle.std.specs.Option.{option_map}
 use Rattle.std.specs.Ordering.{nat_cmp}
@@ -8,10 +8,11 @@ use Rattle.std.specs.declared.cmp.Ordering.TheVariants.{Equal}
 use Rattle.sketch_base.specs.Bag.{empty_bag}
 use Rattle.sketch_base.specs.Random.{bits_from, after_draws}
 use Rattle.sketch_kll.specs.Copy.{IsCopy}
+use Rattle.sketch_kll.specs.ImageLaws.{HasImage}
 use Rattle.sketch_kll.specs.Merged.{coins_of_merge, IsMerged}
 use Rattle.sketch_kll.specs.Sketch.{Kll, bag_of, coins_of_update, IsSound, IsUpdated}
 use Rattle.quantile_sketches.specs.declared.audit.commands.Command.{Command}
-use Rattle.quantile_sketches.specs.declared.audit.commands.Command.TheVariants.{New, Update, Merge, Reset}
+use Rattle.quantile_sketches.specs.declared.audit.commands.Command.TheVariants.{New, Update, Merge, Reset, RoundTrip}
 use Rattle.quantile_sketches.specs.Plan.{Shape, is_refused}
 
 -- the sketches in the slots
@@ -90,15 +91,38 @@ pub record IsMergedIn {A S : Type 0} (cmp : A → A → Ordering) (bit : S → B
   pub sound : IsSound cmp made
   pub puts : Puts slots into made slots'
 
+-- an equal sketch, read from what was written, stands in the slot
+pub record IsReadBackIn {A : Type 0} (cmp : A → A → Ordering) (slot : ℕ) (slots slots' : Slots A) : Type 0 where
+  pub old : Kll A
+  pub made : Kll A
+  pub held : sketch_at slots slot ≡ Some old
+  pub copied : IsCopy cmp old made
+  pub sound : IsSound cmp made
+  pub puts : Puts slots slot made slots'
+
 -- an accepted command did what it says
 abbrev pub IsDone : {A S : Type 0} → (A → A → Ordering) → (S → Bool) → (S → S) → Command A ℕ → Slots A → S → Slots A → S → Type 0
 IsDone cmp bit next (New slot k) slots source slots' source' = IsMadeIn cmp slot k slots slots' × (source' ≡ source)
 IsDone cmp bit next (Update slot x) slots source slots' source' = IsUpdatedIn cmp bit next slot x slots source slots' source'
 IsDone cmp bit next (Merge into from) slots source slots' source' = IsMergedIn cmp bit next into from slots source slots' source'
 IsDone cmp bit next (Reset slot) slots source slots' source' = IsResetIn cmp slot slots slots' × (source' ≡ source)
+IsDone cmp bit next (RoundTrip slot) slots source slots' source' = IsReadBackIn cmp slot slots slots' × (source' ≡ source)
+
+-- whether a command is accepted, by the sketches in the slots
+abbrev pub IsAcceptedIn : {A : Type 0} → Slots A → Command A ℕ → Bool → Type 0
+IsAcceptedIn slots command accepted = accepted ≡ not (is_refused (shapes_in slots) command)
+
+-- a round trip is accepted where the slot's sketch has an image
+abbrev pub IsDecided : {A : Type 0} → (A → Option (List ℕ)) → Command A ℕ → Slots A → Bool → Type 0
+IsDecided spelling (New slot k) slots accepted = IsAcceptedIn slots (New slot k) accepted
+IsDecided spelling (Update slot x) slots accepted = IsAcceptedIn slots (Update slot x) accepted
+IsDecided spelling (Merge into from) slots accepted = IsAcceptedIn slots (Merge into from) accepted
+IsDecided spelling (Reset slot) slots accepted = IsAcceptedIn slots (Reset slot) accepted
+IsDecided spelling (RoundTrip slot) slots accepted =
+    MatchOption (sketch_at slots slot) (accepted ≡ false) (λ s. IsTrue accepted ↔ HasImage spelling s)
 
 -- what comes of a command, accepted or refused
-pub record IsExecuted {A S : Type 0} (cmp : A → A → Ordering) (bit : S → Bool) (next : S → S) (command : Command A ℕ) (slots : Slots A) (source : S) (accepted : Bool) (slots' : Slots A) (source' : S) : Type 0 where
-  pub decided : accepted ≡ not (is_refused (shapes_in slots) command)
+pub record IsExecuted {A S : Type 0} (cmp : A → A → Ordering) (spelling : A → Option (List ℕ)) (bit : S → Bool) (next : S → S) (command : Command A ℕ) (slots : Slots A) (source : S) (accepted : Bool) (slots' : Slots A) (source' : S) : Type 0 where
+  pub decided : IsDecided spelling command slots accepted
   pub done : IsTrue accepted → IsDone cmp bit next command slots source slots' source'
   pub left : accepted ≡ false → AreSame slots slots' × (source' ≡ source)

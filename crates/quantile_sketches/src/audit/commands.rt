@@ -13,6 +13,8 @@ pub enum Command<T, C> {
     Merge { into: u8, source: u8 },
     /// The slot's sketch is emptied.
     Reset { slot: u8 },
+    /// The slot's sketch is written as an image, and what is read of that takes its place.
+    RoundTrip { slot: u8 },
 }
 
 /// What a run gives.
@@ -24,4 +26,16 @@ pub struct Run<S> {
     pub refused: Vec<usize>,
     /// How many coins were spent.
     pub coins: usize,
+}
+
+/// How a slot ranks an item under every word of coins, beside its true rank.
+#[derive(Drop)]
+pub struct Audit {
+    /// How many coins the commands take.
+    pub coins: usize,
+    /// The slot's weighted rank under each word of so many coins, 0 where the slot is absent. Coin j
+    /// of the word of entry i is bit j of i, lowest first.
+    pub weights: Vec<u64>,
+    /// How many items of the slot's stream the query counts.
+    pub true_rank: u64,
 }
