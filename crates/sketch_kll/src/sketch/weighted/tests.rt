@@ -28,10 +28,11 @@ fn puts_the_item_into_the_level_of_each_digit(rt: HostRuntime) -> Result<(), Fai
         (5, 2, 0)
     );
     let image = sketch.serialize()?;
-    assert_eq!(rt;
-        (image.len(), image[20], image[24], image[28]),
-        (64, 22, 23, 23)
-    );
+    let bytes = image.as_slice();
+    assert_eq!(rt; bytes.len(), 64);
+    for (place, want) in [(20, 22), (24, 23), (28, 23)] {
+        assert_eq!(rt; bytes.get(place), Some(&want), "at {place}");
+    }
     Ok(())
 }
 
