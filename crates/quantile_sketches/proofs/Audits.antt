@@ -1,5 +1,5 @@
 -- What an audit counts, from the commands and from the plays.
-use Rattle.std.proofs.Common.{◌≡◌, ℕ, zero, suc, ◌+◌, ◌-◌, ◌*◌, ◌^◌, ◌<◌, ◌≤◌, Bool, true, false, ◌==◌, cond, if◌then◌else◌, List, [], ◌∷◌, ◌++◌, length, get_or, replicate, take, drop, count_by, sum, slice_get, Option, None, Some, Result, Ok, Err, refl, sym, ap, ap₂, ◌∙◌, subst, arith, inl, inr, length-append, Ordering}
+use Rattle.std.proofs.Common.{◌≡◌, ℕ, zero, suc, ◌+◌, ◌-◌, ◌*◌, ◌^◌, ◌<◌, ◌≤◌, Bool, true, false, ◌==◌, cond, if◌then◌else◌, List, [], ◌∷◌, ◌++◌, length, get_or, replicate, take, drop, count_by, sum, sum_by, slice_get, Option, None, Some, Result, Ok, Err, refl, sym, ap, ap₂, ◌∙◌, subst, arith, inl, inr, length-append, Ordering}
 use Rattle.std.specs.Prelude.{Contains, MatchOption, ◌↔◌, slice_index}
 use Rattle.std.proofs.lemmas.Bool.{cases_lt, eq-eqb, false≢true}
 use Rattle.std.proofs.lemmas.Grind.{get_or_default_zero}
@@ -15,18 +15,21 @@ use Rattle.std.specs.Option.{option_map}
 use Rattle.sketch_base.specs.declared.common.SearchCriteria.{SearchCriteria}
 use Rattle.sketch_base.specs.Bag.{Bag, weighted_rank}
 use Rattle.sketch_base.specs.Query.{counted, true_rank}
+use Rattle.sketch_base.specs.Shares.{spread}
 use Rattle.sketch_base.specs.Trace.{changed, play, start, coins}
+use Rattle.sketch_base.specs.Words.{sum_over_words, distance, square}
 use Rattle.sketch_base.proofs.Alikes.{rank-alike}
 use Rattle.sketch_kll.specs.Sketch.{Kll, bag_of}
 use Rattle.quantile_sketches.specs.declared.audit.commands.Command.{Command}
-use Rattle.quantile_sketches.specs.declared.audit.commands.Command.TheVariants.{New, Update, Merge, Reset, RoundTrip}
+use Rattle.quantile_sketches.specs.declared.audit.commands.Command.TheVariants.{New, Update, UpdateWeighted, Merge, Reset, RoundTrip}
 use Rattle.quantile_sketches.specs.Audit.{word_of, rank_under, AreWeights, counts_after, HasFewSlots}
 use Rattle.quantile_sketches.specs.Outcome.{ArePlanned, ArePlayed}
 use Rattle.quantile_sketches.specs.Plan.{start_plan, count_of, is_refused, plan_of, trace_of}
 use Rattle.quantile_sketches.specs.Refused.{IsRefusedExactly, AreRefused}
 use Rattle.quantile_sketches.specs.Run.{accepted_streams, streams_after, stream_of}
 use Rattle.quantile_sketches.specs.Steps.{Slots, sketch_at, shape_of, shapes_in}
-use Rattle.quantile_sketches.proofs.Streams.{changed-at, stream-append, run-counts, streams-fit, run-unbiased}
+use Rattle.quantile_sketches.proofs.Scatters.{run-scattered}
+use Rattle.quantile_sketches.proofs.Streams.{changed-at, many_items, stream-append, run-counts, streams-fit, run-unbiased}
 use Rattle.quantile_sketches.proofs.WordSums.{sum_up, sum-entries, sum-words, no-sum, length-word}
 
 -- ---- counting along the commands
@@ -51,6 +54,9 @@ module _ {A : Type 0} (test : A → Bool) where
   counts-exact streams counts h (Update slot x) few q inside =
       changed-at (λ (n : ℕ) (l : List A). n ≡ count_by test l) counts streams slot (counts slot + (if test x then 1 else 0)) (streams slot ++ x ∷ []) q (h q inside)
       (omega (arith, h slot few, one_item x, count-append (streams slot) (x ∷ [])))
+  counts-exact streams counts h (UpdateWeighted slot x weight) few q inside =
+      changed-at (λ (n : ℕ) (l : List A). n ≡ count_by test l) counts streams slot (counts slot + (if test x then weight else 0)) (streams slot ++ replicate weight x) q (h q inside)
+      (omega (arith, h slot few, many_items test weight x, count-append (streams slot) (replicate weight x)))
   counts-exact streams counts h (Merge into source) few q inside =
       changed-at (λ (n : ℕ) (l : List A). n ≡ count_by test l) counts streams into (counts into + counts source) (streams into ++ streams source) q (h q inside)
       (omega (arith, h into few.0, h source few.1, count-append (streams into) (streams source)))
@@ -62,6 +68,9 @@ module _ {A : Type 0} (test : A → Bool) where
   counts-within streams counts h (Update slot x) q =
       changed-at (λ (n : ℕ) (l : List A). n ≤ count_by test l) counts streams slot (counts slot + (if test x then 1 else 0)) (streams slot ++ x ∷ []) q (h q)
       (omega (arith, h slot, one_item x, count-append (streams slot) (x ∷ [])))
+  counts-within streams counts h (UpdateWeighted slot x weight) q =
+      changed-at (λ (n : ℕ) (l : List A). n ≤ count_by test l) counts streams slot (counts slot + (if test x then weight else 0)) (streams slot ++ replicate weight x) q (h q)
+      (omega (arith, h slot, many_items test weight x, count-append (streams slot) (replicate weight x)))
   counts-within streams counts h (Merge into source) q =
       changed-at (λ (n : ℕ) (l : List A). n ≤ count_by test l) counts streams into (counts into + counts source) (streams into ++ streams source) q (h q)
       (omega (arith, h into, h source, count-append (streams into) (streams source)))
@@ -73,6 +82,7 @@ module _ {A : Type 0} (test : A → Bool) where
     streams-left : (before : List (Command A ℕ)) (streams : ℕ → List A) (command : Command A ℕ) (P : Type 0) → IsRefusedExactly cmp spelling word before command P → P → streams_after (plan_of before) streams command ≡ streams
     streams-left before streams (New slot k) P h p = ap (λ (b : Bool). if b then streams else accepted_streams streams (New slot k)) (h.0 p)
     streams-left before streams (Update slot x) P h p = ap (λ (b : Bool). if b then streams else accepted_streams streams (Update slot x)) (h.0 p)
+    streams-left before streams (UpdateWeighted slot x weight) P h p = ap (λ (b : Bool). if b then streams else accepted_streams streams (UpdateWeighted slot x weight)) (h.0 p)
     streams-left before streams (Merge into source) P h p = ap (λ (b : Bool). if b then streams else accepted_streams streams (Merge into source)) (h.0 p)
     streams-left before streams (Reset slot) P h p = ap (λ (b : Bool). if b then streams else accepted_streams streams (Reset slot)) (h.0 p)
     streams-left before streams (RoundTrip slot) P h p = either (is_refused {A = A} (plan_of before).shapes (RoundTrip slot))
@@ -88,6 +98,7 @@ module _ {A : Type 0} (test : A → Bool) where
     streams-taken : (before : List (Command A ℕ)) (streams : ℕ → List A) (command : Command A ℕ) (P : Type 0) → IsRefusedExactly cmp spelling word before command P → ¬ P → streams_after (plan_of before) streams command ≡ accepted_streams streams command
     streams-taken before streams (New slot k) P h n = ap (λ (b : Bool). if b then streams else accepted_streams streams (New slot k)) (taken _ P h n)
     streams-taken before streams (Update slot x) P h n = ap (λ (b : Bool). if b then streams else accepted_streams streams (Update slot x)) (taken _ P h n)
+    streams-taken before streams (UpdateWeighted slot x weight) P h n = ap (λ (b : Bool). if b then streams else accepted_streams streams (UpdateWeighted slot x weight)) (taken _ P h n)
     streams-taken before streams (Merge into source) P h n = ap (λ (b : Bool). if b then streams else accepted_streams streams (Merge into source)) (taken _ P h n)
     streams-taken before streams (Reset slot) P h n = ap (λ (b : Bool). if b then streams else accepted_streams streams (Reset slot)) (taken _ P h n)
     streams-taken before streams (RoundTrip slot) P h n = either (is_refused {A = A} (plan_of before).shapes (RoundTrip slot))
@@ -119,6 +130,13 @@ update-fits test command slot x counts e h =
     let fits = h slot in
     let is = ap (λ c. counts_after test c counts slot) e in
     omega (arith, fits, is, changed-here counts slot (counts slot + (if test x then 1 else 0)))
+
+pub weighted-fits : {A : Type 0} (test : A → Bool) (command : Command A ℕ) (slot : ℕ) (x : A) (weight : ℕ) (counts : ℕ → ℕ) → command ≡ UpdateWeighted slot x weight →
+    ((q : ℕ) → counts_after test command counts q < 2 ^ 64) → counts slot + (if test x then weight else 0) < 2 ^ 64
+weighted-fits test command slot x weight counts e h =
+    let fits = h slot in
+    let is = ap (λ c. counts_after test c counts slot) e in
+    omega (arith, fits, is, changed-here counts slot (counts slot + (if test x then weight else 0)))
 
 pub merge-fits : {A : Type 0} (test : A → Bool) (command : Command A ℕ) (into source : ℕ) (counts : ℕ → ℕ) → command ≡ Merge into source →
     ((q : ℕ) → counts_after test command counts q < 2 ^ 64) → counts into + counts source < 2 ^ 64
@@ -224,8 +242,23 @@ pub weights-sum : {A : Type 0} (cmp : A → A → Ordering) (y : A) (criteria : 
 weights-sum cmp y criteria commands slot weights words are =
     let n = coins (trace_of commands) in
     let f : List Bool → ℕ = rank_under cmp y criteria commands slot in
-    sum-entries weights (λ k. f (word_of n k)) (λ k inside. are k (omega (arith, inside, words)))
+    sum-entries (λ w. w) weights (λ k. f (word_of n k)) (λ k inside. are k (omega (arith, inside, words)))
     ∙ (ap (λ (m : ℕ). sum_up m (λ k. f (word_of n k))) words
     ∙ (sum-words n f
     ∙ (run-unbiased cmp (counted cmp y criteria) commands n slot (omega arith)
     ∙ ap (λ (m : ℕ). m * true_rank cmp y criteria (stream_of commands slot)) (sym words))))
+
+-- and the squares of their errors sum to at most their number times the spread
+pub weights-scatter : {A : Type 0} {cmp : A → A → Ordering} → IsTotalOrder cmp → (y : A) (criteria : SearchCriteria) (commands : List (Command A ℕ)) (slot : ℕ) (weights : List ℕ) →
+    length weights ≡ 2 ^ coins (trace_of commands) → AreWeights cmp y criteria commands slot weights →
+    sum_by (λ w. square (distance w (true_rank cmp y criteria (stream_of commands slot)))) weights ≤ length weights * spread (trace_of commands) slot
+weights-scatter {A} {cmp} o y criteria commands slot weights words are =
+    let n = coins (trace_of commands) in
+    let f : List Bool → ℕ = rank_under cmp y criteria commands slot in
+    let error : ℕ → ℕ = λ (w : ℕ). square (distance w (true_rank cmp y criteria (stream_of commands slot))) in
+    let total : sum_by error weights ≡ sum_over_words n (λ word. error (f word)) =
+    sum-entries error weights (λ k. f (word_of n k)) (λ k inside. are k (omega (arith, inside, words)))
+    ∙ (ap (λ (m : ℕ). sum_up m (λ k. error (f (word_of n k)))) words ∙ sum-words n (λ word. error (f word))) in
+    let small : sum_over_words n (λ word. error (f word)) ≤ 2 ^ n * spread (trace_of commands) slot = run-scattered o commands n (omega arith) y criteria slot in
+    let same : length weights * spread (trace_of commands) slot ≡ 2 ^ n * spread (trace_of commands) slot = ap (λ (m : ℕ). m * spread (trace_of commands) slot) words in
+    omega (arith, total, small, same)

@@ -10,8 +10,11 @@ use Rattle.sketch_kll.specs.Schedule.{are_full, lowest_full, update_actions}
 use Rattle.sketch_kll.proofs.Bridges.{update_full, update_spare}
 use Rattle.sketch_kll.proofs.Merges.{merges_legal}
 use Rattle.sketch_kll.proofs.Schedules.{lowest_full_at, length-with_level}
+use Rattle.sketch_kll.proofs.Weighted.{weighted_legal}
+use Rattle.std.specs.Cmp.{IsTotalOrder}
+use Rattle.std.specs.declared.cmp.Ordering.TheVariants.{Equal}
 use Rattle.quantile_sketches.specs.declared.audit.commands.Command.{Command}
-use Rattle.quantile_sketches.specs.declared.audit.commands.Command.TheVariants.{New, Update, Merge, Reset, RoundTrip}
+use Rattle.quantile_sketches.specs.declared.audit.commands.Command.TheVariants.{New, Update, UpdateWeighted, Merge, Reset, RoundTrip}
 use Rattle.quantile_sketches.specs.Plan.{Plan, start_plan, k_of, count_of, is_refused, accepted_events, events_of, plan_after, plan_from, trace_from, trace_of, plan_of}
 
 -- what holds of two functions place by place holds after both are changed at one place
@@ -40,6 +43,10 @@ steady-start = record { levels = λ i. omega arith; settled = refl }
 -- the level lengths after some events
 abbrev pub lengths_by : {A : Type 0} → World (List ℕ) → List (Event A) → World (List ℕ)
 lengths_by world trace = fold (λ w e. lengths_after e w) world trace
+
+-- every item compares equal to every other
+no-order : {A : Type 0} → IsTotalOrder (λ (x y : A). Equal)
+no-order = record { antisymm = λ x y. refl; trans = λ x y z e f. absurd cc; congr = λ x y z e. refl }
 
 module _ {A : Type 0} where
   act-levels : (action : Action A) (work : Work (List ℕ)) → 0 < length work.bag → 0 < length (act_on_lengths action work).bag
@@ -104,6 +111,8 @@ module _ {A : Type 0} where
   accepted-legal : (plan : Plan) → IsSteady plan → (command : Command A ℕ) → IsLegalFrom (accepted_events plan command) plan.lengths
   accepted-legal plan st (New slot k) = clear-legal slot plan.lengths st.settled
   accepted-legal plan st (Update slot x) = update-legal slot (k_of (plan.shapes slot)) x plan.lengths (st.levels slot) st.settled
+  accepted-legal plan st (UpdateWeighted slot x weight) =
+      weighted_legal (λ x y. Equal) no-order slot (k_of (plan.shapes slot)) weight x plan.lengths (st.levels slot) st.settled
   accepted-legal plan st (Merge into source) =
       elim (count_of (plan.shapes source) == 0) as (λ b. IsLegalFrom {A = A} (if b then [] else merge_events (k_of (plan.shapes into)) source into plan.lengths) plan.lengths) [
         | true ↦ none-legal plan.lengths st.settled

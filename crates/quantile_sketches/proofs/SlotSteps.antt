@@ -1,5 +1,5 @@
 -- The sketches in the slots are those of the play, command by command.
-use Rattle.std.proofs.Common.{◌≡◌, ◌≢◌, ℕ, zero, suc, ◌+◌, ◌<◌, ◌≤◌, Bool, true, false, cond, ◌||◌, ◌==◌, not, eqb-true, if◌then◌else◌, List, [], ◌∷◌, ◌++◌, length, map, take, drop, Option, None, Some, refl, sym, ap, ap₂, ◌∙◌, subst, arith, inl, inr, IsTrue, append-nil, zero-add, Ordering}
+use Rattle.std.proofs.Common.{◌≡◌, ◌≢◌, ℕ, zero, suc, ◌+◌, ◌<◌, ◌≤◌, Bool, true, false, cond, ◌||◌, ◌==◌, not, eqb-true, if◌then◌else◌, List, [], ◌∷◌, ◌++◌, length, replicate, map, take, drop, Option, None, Some, refl, sym, ap, ap₂, ◌∙◌, subst, arith, inl, inr, IsTrue, append-nil, zero-add, Ordering}
 use Rattle.std.proofs.lemmas.Bool.Decides.{nat_tests}
 use Rattle.std.proofs.lemmas.Bool.{cases_Bool, cases_eq, false≢true, eqb-false}
 use mathlib.Core.Path.{fun_ext}
@@ -11,7 +11,7 @@ use Rattle.std.specs.List.{AllZip, AllByRecursion}
 use Rattle.std.specs.Option.{option_to_list, option_map, MatchOption}
 use Rattle.std.proofs.lemmas.List.Sums.{sum_by-cons}
 use Rattle.sketch_base.specs.Bag.{Bag, Alike, AlikeKll, SameItems, sort, level_at, with_level, empty_bag}
-use Rattle.sketch_base.specs.Extremes.{IsLeastOf, IsGreatestOf}
+use Rattle.sketch_base.specs.Extremes.{IsAtMost, IsLeastOf, IsGreatestOf}
 use Rattle.sketch_base.specs.Lengths.{world_lengths, bag_lengths, IsLegalKll}
 use Rattle.sketch_base.specs.Queries.{SameAnswer}
 use Rattle.sketch_base.specs.Random.{bits_from, after_draws}
@@ -29,17 +29,21 @@ use Rattle.sketch_kll.specs.Merge.{IsLegalFrom, merge_actions, merge_events, len
 use Rattle.sketch_kll.specs.Merged.{merge_of, coins_of_merge, IsMerged}
 use Rattle.sketch_kll.specs.Schedule.{are_full, room_actions, update_actions}
 use Rattle.sketch_kll.specs.Sketch.{Kll, bag_in, bag_of, update_of, coins_of_update, IsSound, IsUpdated}
-use Rattle.sketch_kll.proofs.Bridges.{update_full, update_spare, draws_of_update}
 use Rattle.sketch_kll.proofs.Fills.{alike-trans, alike-lengths}
 use Rattle.sketch_kll.proofs.Merges.{merge_is, goes-kll}
 use Rattle.sketch_kll.proofs.Merged.{alike-same}
-use Rattle.sketch_kll.proofs.Schedules.{update_is}
+use Rattle.sketch_kll.proofs.Mergings.{bag_alone}
+use Rattle.sketch_kll.proofs.Schedules.{Fine, work_of, update_is}
+use Rattle.sketch_kll.specs.Weighted.{weighted_actions, weighted_of, coins_of_weighted}
+use Rattle.sketch_kll.proofs.Weighted.{IsKllActions, fine_is, fine-weighted}
 use Rattle.quantile_sketches.specs.declared.audit.commands.Command.{Command}
-use Rattle.quantile_sketches.specs.declared.audit.commands.Command.TheVariants.{New, Update, Merge, Reset, RoundTrip}
+use Rattle.quantile_sketches.specs.declared.audit.commands.Command.TheVariants.{New, Update, UpdateWeighted, Merge, Reset, RoundTrip}
 use Rattle.quantile_sketches.specs.Plan.{Shape, Plan, k_of, count_of, with_count, is_refused, accepted_shapes, accepted_events, events_of, plan_after}
 use Rattle.quantile_sketches.specs.Run.{accepted_streams, streams_after}
-use Rattle.quantile_sketches.specs.Steps.{Slots, sketch_at, shape_of, shapes_in, Puts, AreSame, IsFresh, IsMadeIn, IsUpdatedIn, IsResetIn, IsMergedBy, IsMergedIn, IsReadBackIn, IsDone, IsDecided, IsExecuted}
+use Rattle.quantile_sketches.specs.Steps.{Slots, sketch_at, shape_of, shapes_in, Puts, AreSame, IsFresh, IsMadeIn, IsUpdatedIn, IsWeightedIn, IsResetIn, IsMergedBy, IsMergedIn, IsReadBackIn, IsDone, IsDecided, IsExecuted}
 use Rattle.quantile_sketches.proofs.Plans.{IsSteady, lengths_by, events-legal}
+use Rattle.quantile_sketches.proofs.Streams.{or-left, or-right}
+use Rattle.quantile_sketches.proofs.Ties.{AreTied, tied-draws, tied-update, tied-weighted, alike-itself, tied-acts}
 
 -- an equal place is the place
 at-place : (slot q : ℕ) → is_eq (nat_cmp slot q) ≡ (q == slot)
@@ -91,53 +95,24 @@ put-sketches cmp slots slots' slot made bags streams bag stream p h new q s e = 
     go false e = h q s e
 
 module _ {A : Type 0} {cmp : A → A → Ordering} (o : IsTotalOrder cmp) where
-  alike-refl : (a : Bag A) → AlikeKll cmp a a
-  alike-refl a = record { levels = go a.levels; level_zero = SameItems-refl cmp o (level_at a.levels 0); flag = refl }
-    where
-      go : (levels : List (List A)) → AllZip (λ xs ys. SameItems cmp (sort cmp xs) (sort cmp ys)) levels levels
-      go [] = tt
-      go (level ∷ above) = (SameItems-refl cmp o (sort cmp level), go above)
-
-  -- an item that compares equal in place of another
-  put-alike : (x y : A) → cmp x y ≡ Equal → (next : Bool) (work : Work (Bag A)) → AlikeKll cmp (act cmp (Put 0 x) next work).bag (act cmp (Put 0 y) next work).bag
-  put-alike x y e next work = record { levels = go work.bag.levels; level_zero = zeroth work.bag.levels; flag = refl }
-    where
-      same : (level : List A) → SameItems cmp (level ++ x ∷ []) (level ++ y ∷ [])
-      same level = SameItems-append cmp level level (x ∷ []) (y ∷ []) (SameItems-refl cmp o level) (e, tt)
-
-      sorted : (level : List A) → SameItems cmp (sort cmp (level ++ x ∷ [])) (sort cmp (level ++ y ∷ []))
-      sorted level = sorted_items o (level ++ x ∷ []) (level ++ y ∷ []) (SameCounts-from_items o (level ++ x ∷ []) (level ++ y ∷ []) (same level))
-
-      rest : (levels : List (List A)) → AllZip (λ xs ys. SameItems cmp (sort cmp xs) (sort cmp ys)) levels levels
-      rest [] = tt
-      rest (level ∷ above) = (SameItems-refl cmp o (sort cmp level), rest above)
-
-      go : (levels : List (List A)) → AllZip (λ xs ys. SameItems cmp (sort cmp xs) (sort cmp ys)) (with_level [] 0 (λ level. level ++ x ∷ []) levels) (with_level [] 0 (λ level. level ++ y ∷ []) levels)
-      go [] = (sorted [], tt)
-      go (level ∷ above) = (sorted level, rest above)
-
-      zeroth : (levels : List (List A)) → SameItems cmp (level_at (with_level [] 0 (λ level. level ++ x ∷ []) levels) 0) (level_at (with_level [] 0 (λ level. level ++ y ∷ []) levels) 0)
-      zeroth [] = same []
-      zeroth (level ∷ above) = same level
-
-  update-alike : (k : ℕ) (lengths : List ℕ) (x y : A) → cmp x y ≡ Equal → (word : List Bool) (work : Work (Bag A)) → AlikeKll cmp (acts cmp (update_actions k lengths x) word work).bag (acts cmp (update_actions k lengths y) word work).bag
-  update-alike k lengths x y e word work =
-      let room : List (Action A) = room_actions k lengths in
-      let roomy : Work (Bag A) = acts cmp room word work in
-      let rest : List Bool = drop (draws_of room) word in
-      let split : (z : A) → (acts cmp (update_actions k lengths z) word work ≡ act cmp (Put 0 z) (next_bit rest) roomy) = λ z. in_turn-append draws (act cmp) room (Put 0 z ∷ []) word work in
-      let goal : AlikeKll cmp (act cmp (Put 0 x) (next_bit rest) roomy).bag (act cmp (Put 0 y) (next_bit rest) roomy).bag = put-alike x y e (next_bit rest) roomy in
-      subst (λ (w : Work (Bag A)). AlikeKll cmp w.bag (acts cmp (update_actions k lengths y) word work).bag) (sym (split x))
-      (subst (λ (w : Work (Bag A)). AlikeKll cmp (act cmp (Put 0 x) (next_bit rest) roomy).bag w.bag) (sym (split y)) goal)
-
-  -- the scratch does not matter to an update
-  update-alone : (k : ℕ) (lengths : List ℕ) (x : A) (word : List Bool) (work : Work (Bag A)) → (acts cmp (update_actions k lengths x) word work).bag ≡ bag_after cmp (update_actions k lengths x) word work.bag
-  update-alone k lengths x word work =
-      let P : List (Action A) → Type 0 = λ (xs : List (Action A)). (acts cmp xs word work).bag ≡ bag_after cmp xs word work.bag in
-      elim (cases_Bool (are_full k lengths)) [
-        | inl f ↦ subst P (sym (update_full k lengths x f)) refl
-        | inr f ↦ subst P (sym (update_spare k lengths x f)) refl
-      ]
+  -- what the play makes of a bag that is alike to a sketch's, where the sketch took an item that compares equal
+  alike-taken : (actions mine theirs : List (Action A)) (work : Work (Bag A)) (word bits : List Bool) (old made : Kll A) → AlikeKll cmp work.bag (bag_of old) →
+      actions ≡ mine → AreTied cmp mine theirs → Fine theirs (work_of (bag_lengths (bag_of old))) → take (draws_of theirs) word ≡ bits →
+      AlikeKll cmp (bag_after cmp theirs bits (bag_of old)) (bag_of made) → AlikeKll cmp (acts cmp actions word work).bag (bag_of made)
+  alike-taken actions mine theirs work word bits old made was own tied fine agree after =
+      let lengths : Work (List ℕ) = work_of (bag_lengths (bag_of old)) in
+      let draws : draws_of theirs ≡ draws_of actions = sym (ap draws_of own ∙ tied-draws cmp mine theirs tied) in
+      let word' : take (draws_of actions) word ≡ take (draws_of actions) bits =
+      subst (λ (n : ℕ). take n word ≡ take n bits) draws (taken-bits (draws_of theirs) word bits agree) in
+      let e : (acts cmp actions word work).bag ≡ (acts cmp mine bits work).bag =
+      ap (λ w. w.bag) (acts-enough cmp actions word bits work word') ∙ ap (λ (l : List (Action A)). (acts cmp l bits work).bag) own in
+      let kll : IsKllActions theirs = (fine_is theirs lengths fine).kll in
+      let other : AlikeKll cmp (acts cmp mine bits work).bag (acts cmp theirs bits work).bag = tied-acts o mine theirs tied kll bits work in
+      let still : (acts cmp theirs bits work).bag ≡ bag_after cmp theirs bits work.bag = bag_alone cmp theirs lengths bits work.bag work.scratch empty_bag fine in
+      let kept : AlikeKll cmp (bag_after cmp theirs bits work.bag) (bag_after cmp theirs bits (bag_of old)) =
+      acts-kll o theirs bits (alone work.bag) (alone (bag_of old)) kll was (alike-itself o empty_bag) in
+      subst (λ (b : Bag A). AlikeKll cmp b (bag_of made)) (sym e)
+      (alike-trans o _ _ _ other (subst (λ (b : Bag A). AlikeKll cmp b (bag_of made)) (sym still) (alike-trans o _ _ _ kept after)))
 
   -- the actions that a sketch gives are those that the plan gives
   record Matches (plan : Plan) (world : World (Bag A)) (slots : Slots A) (slot : ℕ) (s : Kll A) : Type 0 where
@@ -155,11 +130,21 @@ module _ {A : Type 0} {cmp : A → A → Ordering} (o : IsTotalOrder cmp) where
       }
 
   -- one item that ties with another has it as its extremes
-  tied-least : (x y : A) → cmp x y ≡ Equal → IsLeastOf cmp (x ∷ []) (Some y)
-  tied-least x y e = record { ties = inl (tied_back o x y e); bounds = (ap is_gt (tied_back o x y e), tt) }
+  tied-least : (n : ℕ) (x y : A) → cmp x y ≡ Equal → 0 < n → IsLeastOf cmp (replicate n x) (Some y)
+  tied-least zero x y e some = absurd (omega (arith, some))
+  tied-least (suc n) x y e some = record { ties = inl (tied_back o x y e); bounds = go (suc n) }
+    where
+      go : (n : ℕ) → AllByRecursion (IsAtMost cmp y) (replicate n x)
+      go zero = tt
+      go (suc n) = (ap is_gt (tied_back o x y e), go n)
 
-  tied-greatest : (x y : A) → cmp x y ≡ Equal → IsGreatestOf cmp (x ∷ []) (Some y)
-  tied-greatest x y e = record { ties = inl (tied_back o x y e); bounds = (ap is_gt e, tt) }
+  tied-greatest : (n : ℕ) (x y : A) → cmp x y ≡ Equal → 0 < n → IsGreatestOf cmp (replicate n x) (Some y)
+  tied-greatest zero x y e some = absurd (omega (arith, some))
+  tied-greatest (suc n) x y e some = record { ties = inl (tied_back o x y e); bounds = go (suc n) }
+    where
+      go : (n : ℕ) → AllByRecursion (λ z. IsAtMost cmp z y) (replicate n x)
+      go zero = tt
+      go (suc n) = (ap is_gt e, go n)
 
   module _ {S : Type 0} (bit : S → Bool) (next : S → S) where
     -- what a step owes: the source goes on by the coins of its events, and under those bits the sketches stand
@@ -217,7 +202,7 @@ module _ {A : Type 0} {cmp : A → A → Ordering} (o : IsTotalOrder cmp) where
     fresh-is : (k : ℕ) (s : Kll A) → IsFresh k s → IsSound cmp s → IsOf cmp empty_bag [] s
     fresh-is k s f sound = record {
       sound = sound;
-      alike = subst (AlikeKll cmp empty_bag) (sym f.bag_is) (alike-refl empty_bag);
+      alike = subst (AlikeKll cmp empty_bag) (sym f.bag_is) (alike-itself o empty_bag);
       least = subst (IsLeastOf cmp []) (sym f.least_is) refl;
       greatest = subst (IsGreatestOf cmp []) (sym f.greatest_is) refl;
     }
@@ -235,6 +220,13 @@ module _ {A : Type 0} {cmp : A → A → Ordering} (o : IsTotalOrder cmp) where
           sketches = λ word agree. put-sketches cmp slots slots' slot m.made world.slots streams empty_bag [] m.puts stand.sketches (fresh-is k m.made m.fresh m.sound);
         })
 
+    -- the shape of a sketch whose count grew
+    grown : (plan : Plan) (slots : Slots A) (slot : ℕ) (old : Kll A) (count : ℕ) → sketch_at slots slot ≡ Some old → shapes_in slots slot ≡ plan.shapes slot →
+        Some (record { k = old.k; n = count }) ≡ with_count count (plan.shapes slot)
+    grown plan slots slot old count held same =
+        let shape : Some (shape_of old) ≡ plan.shapes slot = sym (ap (option_map shape_of) held) ∙ same in
+        ap (with_count count) shape
+
     -- an update
     pub steps-update : (plan : Plan) → IsSteady plan → (streams : ℕ → List A) (world : World (Bag A)) (slots : Slots A) → Stand cmp plan streams world slots →
         (slot : ℕ) (x : A) → is_refused plan.shapes (Update slot x) ≡ false → (source : S) (slots' : Slots A) (source' : S) →
@@ -244,52 +236,67 @@ module _ {A : Type 0} {cmp : A → A → Ordering} (o : IsTotalOrder cmp) where
         let same = matches plan streams world slots stand slot old m.held in
         let actions : List (Action A) = update_actions (k_of (plan.shapes slot)) (plan.lengths.slots slot) x in
         let own : actions ≡ update_of old x = ap₂ (λ (k : ℕ) (lengths : List ℕ). update_actions k lengths x) same.k same.lengths in
-        let draws : draws_of actions ≡ coins_of_update old m.taken =
-        ap draws_of own ∙ (draws_of_update old.k (bag_lengths (bag_of old)) x ∙ sym (draws_of_update old.k (bag_lengths (bag_of old)) m.taken)) in
+        let tied = tied-update cmp old.k (bag_lengths (bag_of old)) x m.taken m.ties in
+        let draws : draws_of actions ≡ coins_of_update old m.taken = ap draws_of own ∙ tied-draws cmp (update_of old x) (update_of old m.taken) tied in
         let count : coins (map (λ action. At slot action) actions) ≡ coins_of_update old m.taken = coins-at slot actions ∙ draws in
+        let some : 0 < length (bag_lengths (bag_of old)) = subst (λ (ns : List ℕ). 0 < length ns) same.lengths (st.levels slot) in
         let was = stand.sketches slot old m.held in
         steps-accepted plan st streams world slots stand (Update slot x) e source slots' source' (record {
           source_goes = m.source_goes ∙ ap (after_draws next source) (sym count);
           shapes =
               put-shapes slots slots' slot m.made plan.shapes m.puts stand.shapes _
               (ap₂ (λ (k n : ℕ). let shape : Shape = record { k = k; n = n } in Some shape) (m.after.k) (m.after.n ∙ ap (λ (n : ℕ). n + 1) (sym same.n))
-              ∙ grown plan slot old m.held (stand.shapes slot));
+              ∙ grown plan slots slot old (count_of (plan.shapes slot) + 1) m.held (stand.shapes slot));
           sketches = λ word agree.
               let work : Work (Bag A) = record { bag = world.slots slot; scratch = world.scratch } in
               let bits : List Bool = bits_from bit next source (coins_of_update old m.taken) in
-              let made : AlikeKll cmp (acts cmp actions word work).bag (bag_of m.made) =
-              alike-update (k_of (plan.shapes slot)) (plan.lengths.slots slot) work word old m.taken m.made was.alike bits own m.ties (subst (λ (ns : List ℕ). 0 < length ns) same.lengths (st.levels slot)) draws (subst (λ (n : ℕ). take n word ≡ bits_from bit next source n) count agree) m.after.bag in
               let new : IsOf cmp (acts cmp actions word work).bag (streams slot ++ x ∷ []) m.made = record {
-                alike = made;
+                alike = alike-taken actions (update_of old x) (update_of old m.taken) work word bits old m.made was.alike own tied
+                    (update_is old.k (bag_lengths (bag_of old)) m.taken some).fine (subst (λ (n : ℕ). take n word ≡ bits_from bit next source n) count agree) m.after.bag;
                 sound = m.sound;
-                least = least-parts o (streams slot) (x ∷ []) old.least (Some m.taken) m.made.least was.least (tied-least x m.taken m.ties) m.after.least;
-                greatest = greatest-parts o (streams slot) (x ∷ []) old.greatest (Some m.taken) m.made.greatest was.greatest (tied-greatest x m.taken m.ties) m.after.greatest;
+                least = least-parts o (streams slot) (x ∷ []) old.least (Some m.taken) m.made.least was.least (tied-least 1 x m.taken m.ties (omega arith)) m.after.least;
+                greatest = greatest-parts o (streams slot) (x ∷ []) old.greatest (Some m.taken) m.made.greatest was.greatest (tied-greatest 1 x m.taken m.ties (omega arith)) m.after.greatest;
               } in
               subst (λ (w : World (Bag A)). (q : ℕ) (s : Kll A) → sketch_at slots' q ≡ Some s → IsOf cmp (w.slots q) (changed streams slot (streams slot ++ x ∷ []) q) s)
               (sym (play-at cmp actions word world slot))
               (put-sketches cmp slots slots' slot m.made world.slots streams _ (streams slot ++ x ∷ []) m.puts stand.sketches new);
         })
-      where
-        grown : (plan : Plan) (slot : ℕ) (old : Kll A) → sketch_at slots slot ≡ Some old → shapes_in slots slot ≡ plan.shapes slot →
-            Some (record { k = old.k; n = count_of (plan.shapes slot) + 1 }) ≡ with_count (count_of (plan.shapes slot) + 1) (plan.shapes slot)
-        grown plan slot old held same =
-            let shape : Some (shape_of old) ≡ plan.shapes slot = sym (ap (option_map shape_of) held) ∙ same in
-            ap (with_count (count_of (plan.shapes slot) + 1)) shape
 
-        alike-update : (k : ℕ) (lengths : List ℕ) (work : Work (Bag A)) (word : List Bool) (old : Kll A) (y : A) (made : Kll A) → AlikeKll cmp work.bag (bag_of old) → (bits : List Bool) →
-            update_actions k lengths x ≡ update_of old x → cmp x y ≡ Equal → 0 < length (bag_lengths (bag_of old)) → draws_of (update_actions k lengths x) ≡ coins_of_update old y → take (coins_of_update old y) word ≡ bits →
-            AlikeKll cmp (bag_after cmp (update_of old y) bits (bag_of old)) (bag_of made) → AlikeKll cmp (acts cmp (update_actions k lengths x) word work).bag (bag_of made)
-        alike-update k lengths work word old y made was bits own tie some draws agree after =
-            let word' : take (draws_of (update_actions k lengths x)) word ≡ take (draws_of (update_actions k lengths x)) bits =
-            subst (λ (n : ℕ). take n word ≡ take n bits) (sym draws) (subst (λ (l : List Bool). take (coins_of_update old y) word ≡ take (coins_of_update old y) l) agree (sym (take-take (coins_of_update old y) word))) in
-            let e : (acts cmp (update_actions k lengths x) word work).bag ≡ bag_after cmp (update_of old x) bits work.bag =
-            ap (λ w. w.bag) (acts-enough cmp (update_actions k lengths x) word bits work word')
-            ∙ (update-alone k lengths x bits work ∙ ap (λ (l : List (Action A)). bag_after cmp l bits work.bag) own) in
-            let kept : AlikeKll cmp (bag_after cmp (update_of old x) bits work.bag) (bag_after cmp (update_of old x) bits (bag_of old)) =
-            acts-kll o (update_of old x) bits (alone work.bag) (alone (bag_of old)) (update_is old.k (bag_lengths (bag_of old)) x some).kll was (alike-refl empty_bag) in
-            let other : AlikeKll cmp (bag_after cmp (update_of old x) bits (bag_of old)) (bag_after cmp (update_of old y) bits (bag_of old)) =
-            update-alike old.k (bag_lengths (bag_of old)) x y tie bits (alone (bag_of old)) in
-            subst (λ (b : Bag A). AlikeKll cmp b (bag_of made)) (sym e) (alike-trans o _ _ _ kept (alike-trans o _ _ _ other after))
+    -- an update with a weight
+    pub steps-weighted : (plan : Plan) → IsSteady plan → (streams : ℕ → List A) (world : World (Bag A)) (slots : Slots A) → Stand cmp plan streams world slots →
+        (slot : ℕ) (x : A) (weight : ℕ) → is_refused plan.shapes (UpdateWeighted slot x weight) ≡ false → (source : S) (slots' : Slots A) (source' : S) →
+        IsWeightedIn cmp bit next slot x weight slots source slots' source' → Steps plan streams world (UpdateWeighted slot x weight) source slots' source'
+    steps-weighted plan st streams world slots stand slot x weight e source slots' source' m =
+        let old = m.old in
+        let same = matches plan streams world slots stand slot old m.held in
+        let actions : List (Action A) = weighted_actions (k_of (plan.shapes slot)) (plan.lengths.slots slot) x weight in
+        let own : actions ≡ weighted_of old x weight = ap₂ (λ (k : ℕ) (lengths : List ℕ). weighted_actions k lengths x weight) same.k same.lengths in
+        let tied = tied-weighted cmp old.k (bag_lengths (bag_of old)) x m.taken weight m.ties in
+        let draws : draws_of actions ≡ coins_of_weighted old m.taken weight = ap draws_of own ∙ tied-draws cmp (weighted_of old x weight) (weighted_of old m.taken weight) tied in
+        let count : coins (map (λ action. At slot action) actions) ≡ coins_of_weighted old m.taken weight = coins-at slot actions ∙ draws in
+        let some : 0 < length (bag_lengths (bag_of old)) = subst (λ (ns : List ℕ). 0 < length ns) same.lengths (st.levels slot) in
+        let positive : 0 < weight = omega (arith, eqb-false weight 0 (or-right _ _ (or-left _ _ (or-left _ _ e)))) in
+        let was = stand.sketches slot old m.held in
+        steps-accepted plan st streams world slots stand (UpdateWeighted slot x weight) e source slots' source' (record {
+          source_goes = m.source_goes ∙ ap (after_draws next source) (sym count);
+          shapes =
+              put-shapes slots slots' slot m.made plan.shapes m.puts stand.shapes _
+              (ap₂ (λ (k n : ℕ). let shape : Shape = record { k = k; n = n } in Some shape) (m.after.k) (m.after.n ∙ ap (λ (n : ℕ). n + weight) (sym same.n))
+              ∙ grown plan slots slot old (count_of (plan.shapes slot) + weight) m.held (stand.shapes slot));
+          sketches = λ word agree.
+              let work : Work (Bag A) = record { bag = world.slots slot; scratch = world.scratch } in
+              let bits : List Bool = bits_from bit next source (coins_of_weighted old m.taken weight) in
+              let new : IsOf cmp (acts cmp actions word work).bag (streams slot ++ replicate weight x) m.made = record {
+                alike = alike-taken actions (weighted_of old x weight) (weighted_of old m.taken weight) work word bits old m.made was.alike own tied
+                    (fine-weighted cmp o old.k (bag_lengths (bag_of old)) m.taken weight some) (subst (λ (n : ℕ). take n word ≡ bits_from bit next source n) count agree) m.after.bag;
+                sound = m.sound;
+                least = least-parts o (streams slot) (replicate weight x) old.least (Some m.taken) m.made.least was.least (tied-least weight x m.taken m.ties positive) m.after.least;
+                greatest = greatest-parts o (streams slot) (replicate weight x) old.greatest (Some m.taken) m.made.greatest was.greatest (tied-greatest weight x m.taken m.ties positive) m.after.greatest;
+              } in
+              subst (λ (w : World (Bag A)). (q : ℕ) (s : Kll A) → sketch_at slots' q ≡ Some s → IsOf cmp (w.slots q) (changed streams slot (streams slot ++ replicate weight x) q) s)
+              (sym (play-at cmp actions word world slot))
+              (put-sketches cmp slots slots' slot m.made world.slots streams _ (streams slot ++ replicate weight x) m.puts stand.sketches new);
+        })
 
     -- a sketch that starts anew
     pub steps-reset : (plan : Plan) → IsSteady plan → (streams : ℕ → List A) (world : World (Bag A)) (slots : Slots A) → Stand cmp plan streams world slots →
@@ -308,13 +315,13 @@ module _ {A : Type 0} {cmp : A → A → Ordering} (o : IsTotalOrder cmp) where
     copied-least items None None h t = h
     copied-least items None (Some y) h t = absurd t
     copied-least items (Some x) None h t = absurd t
-    copied-least items (Some x) (Some y) h t = least-parts o [] items None (Some x) (Some y) refl h (tied-least x y t)
+    copied-least items (Some x) (Some y) h t = least-parts o [] items None (Some x) (Some y) refl h (tied-least 1 x y t (omega arith))
 
     copied-greatest : (items : List A) (a b : Option A) → IsGreatestOf cmp items a → SameAnswer cmp a b → IsGreatestOf cmp items b
     copied-greatest items None None h t = h
     copied-greatest items None (Some y) h t = absurd t
     copied-greatest items (Some x) None h t = absurd t
-    copied-greatest items (Some x) (Some y) h t = greatest-parts o [] items None (Some x) (Some y) refl h (tied-greatest x y t)
+    copied-greatest items (Some x) (Some y) h t = greatest-parts o [] items None (Some x) (Some y) refl h (tied-greatest 1 x y t (omega arith))
 
     -- the stream of an empty sketch is empty
     empty-stream : (n : ℕ) (items : List A) (least : Option A) → IsLeastOf cmp items least → MatchOption least (n ≡ 0) (λ _. 0 < n) → n ≡ 0 → items ≡ []
@@ -499,6 +506,8 @@ module _ {A : Type 0} {cmp : A → A → Ordering} (o : IsTotalOrder cmp) where
         steps-planned plan st streams world slots stand (New slot k) source accepted slots' source' x.decided (λ e t. let d = x.done t in steps-new plan st streams world slots stand slot k e source slots' source' d.0 d.1) x.left
     steps spelling plan st streams world slots stand (Update slot y) source accepted slots' source' x =
         steps-planned plan st streams world slots stand (Update slot y) source accepted slots' source' x.decided (λ e t. steps-update plan st streams world slots stand slot y e source slots' source' (x.done t)) x.left
+    steps spelling plan st streams world slots stand (UpdateWeighted slot y weight) source accepted slots' source' x =
+        steps-planned plan st streams world slots stand (UpdateWeighted slot y weight) source accepted slots' source' x.decided (λ e t. steps-weighted plan st streams world slots stand slot y weight e source slots' source' (x.done t)) x.left
     steps spelling plan st streams world slots stand (Merge into from) source accepted slots' source' x =
         steps-planned plan st streams world slots stand (Merge into from) source accepted slots' source' x.decided (λ e t. steps-merge plan st streams world slots stand into from e source slots' source' (x.done t)) x.left
     steps spelling plan st streams world slots stand (Reset slot) source accepted slots' source' x =

@@ -1,5 +1,5 @@
 -- How far the ranks of a run scatter over all words, and which slots took updates alone.
-use Rattle.std.specs.Prelude.{◌≡◌, ℕ, ◌*◌, ◌^◌, ◌≤◌, ◌==◌, ◌&&◌, Bool, true, IsTrue, if◌then◌else◌, List, [], ◌∷◌, Option, Some}
+use Rattle.std.specs.Prelude.{◌≡◌, ℕ, ◌*◌, ◌^◌, ◌≤◌, ◌==◌, ◌&&◌, Bool, true, false, IsTrue, if◌then◌else◌, List, [], ◌∷◌, Option, Some}
 use Rattle.std.specs.declared.cmp.Ordering.{Ordering}
 use Rattle.sketch_base.specs.declared.common.SearchCriteria.{SearchCriteria}
 use Rattle.sketch_base.specs.Bag.{weighted_rank}
@@ -8,16 +8,17 @@ use Rattle.sketch_base.specs.Shares.{spread}
 use Rattle.sketch_base.specs.Trace.{changed, play, start, coins}
 use Rattle.sketch_base.specs.Words.{sum_over_words, distance, square}
 use Rattle.quantile_sketches.specs.declared.audit.commands.Command.{Command}
-use Rattle.quantile_sketches.specs.declared.audit.commands.Command.TheVariants.{New, Update, Merge, Reset, RoundTrip}
+use Rattle.quantile_sketches.specs.declared.audit.commands.Command.TheVariants.{New, Update, UpdateWeighted, Merge, Reset, RoundTrip}
 use Rattle.quantile_sketches.specs.Plan.{Shape, Plan, start_plan, is_refused, plan_after, plan_of, trace_of, count_of}
 use Rattle.quantile_sketches.specs.Run.{stream_of}
 use Rattle.quantile_sketches.specs.Outcome.{EachSketch}
 use Rattle.quantile_sketches.specs.Steps.{Slots}
 
--- which slots took updates alone since their New or Reset, after an accepted command: a merge of a sketch that holds items ends it
+-- which slots took updates alone since their New or Reset, after an accepted command: an update with a weight and a merge of a sketch that holds items end it
 abbrev pub accepted_alone : {A : Type 0} → (ℕ → Option Shape) → (ℕ → Bool) → Command A ℕ → ℕ → Bool
 accepted_alone shapes alone (New slot k) = changed alone slot true
 accepted_alone shapes alone (Update slot x) = alone
+accepted_alone shapes alone (UpdateWeighted slot x weight) = changed alone slot false
 accepted_alone shapes alone (Merge into source) = changed alone into (count_of (shapes source) == 0 && alone into)
 accepted_alone shapes alone (Reset slot) = changed alone slot true
 accepted_alone shapes alone (RoundTrip slot) = alone
