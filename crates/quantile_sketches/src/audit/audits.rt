@@ -1,16 +1,15 @@
 //! An audit: what a slot answers under every word of coins, beside the true rank.
-ghost use Rattle.std.specs.Prelude.{◌≡◌, ◌≤◌, ◌<◌, ◌*◌, ◌^◌, ◌⊎◌, IfOk, IfErr, OnOk, length, sum, sum_by};
+ghost use Rattle.std.specs.Prelude.{◌≡◌, ◌≤◌, ◌<◌, ◌*◌, ◌^◌, ◌⊎◌, IfOk, IfErr, OnOk, length, sum};
 ghost use Rattle.std.specs.declared.cmp.Ordering.TheVariants.{Equal};
 ghost use Rattle.sketch_base.specs.declared.error.ErrorKind.TheVariants.{InvalidArgument, OutOfMemory};
 ghost use Rattle.sketch_base.specs.Query.{true_rank as rank_in};
 ghost use Rattle.sketch_base.specs.Shares.{spread};
 ghost use Rattle.sketch_base.specs.Trace.{coins as taken};
-ghost use Rattle.sketch_base.specs.Words.{distance, square};
 ghost use Rattle.sketch_kll.specs.ImageLaws.{SpellingsTie};
 ghost use Rattle.quantile_sketches.specs.Audit.{word_of, rank_under, AreWeights};
 ghost use Rattle.quantile_sketches.specs.Plan.{trace_of};
 ghost use Rattle.quantile_sketches.specs.Run.{stream_of};
-ghost use Rattle.quantile_sketches.specs.Scatter.{SlotSpreadsLittle};
+ghost use Rattle.quantile_sketches.specs.Scatter.{ScatterWithin, SlotSpreadsLittle};
 
 use super::commands::{Audit, Command};
 use super::counts::true_rank;
@@ -46,9 +45,8 @@ pub fn audit<T: KllValue + Ord>(
         audit.true_rank ≡ rank_in T.cmp item.now criteria (stream_of commands.now slot)) }
     ensures sum { IfOk result (λ audit.
         sum audit.weights.items ≡ length audit.weights.items * audit.true_rank) }
-    ensures scatter { IfOk result (λ audit.
-        sum_by (λ weight. square (distance weight audit.true_rank)) audit.weights.items
-        ≤ length audit.weights.items * spread (trace_of commands.now) slot) }
+    ensures scatter { IfOk result (λ audit. ScatterWithin audit.weights.items audit.true_rank
+        (spread (trace_of commands.now) slot)) }
     ensures spread { IfOk result (λ audit. SlotSpreadsLittle commands.now slot) }
 {
     let first = run(alloc, commands, &[false; 16])?;

@@ -1,4 +1,4 @@
-use super::{Command, Run, audit, run};
+use super::{Audit, Command, Run, audit, run};
 use sketch_base::codec::{SketchBytes, SketchSlice};
 use sketch_base::common::SearchCriteria;
 use sketch_base::error::{Error, ErrorKind};
@@ -26,6 +26,16 @@ fn weight_of(run: &Run<KllSketch<i64>>, item: i64) -> Result<u64, Fail> {
         .rank(&item, SearchCriteria::Inclusive)
         .ok_or("empty")?;
     Ok(rank.weight)
+}
+
+// The squares of how far the weights lie from the true rank, summed.
+fn scatter(audit: &Audit) -> u64 {
+    let mut sum = 0u64;
+    for weight in audit.weights.iter() {
+        let error = weight.abs_diff(audit.true_rank);
+        sum = sum.wrapping_add(error.wrapping_mul(error));
+    }
+    sum
 }
 
 #[test]
@@ -84,6 +94,7 @@ fn audits_every_word(rt: HostRuntime) -> Result<(), Fail> {
     assert_eq!(rt; twice.coins, 1);
     assert_eq!(rt; twice.weights.as_slice(), [8, 12].as_slice());
     assert_eq!(rt; twice.true_rank, 10);
+    assert_eq!(rt; scatter(&twice), 8);
     let absent = audit(rt.alloc(), commands.as_slice(), 7, &5, SearchCriteria::Inclusive)?;
     assert_eq!(rt; absent.weights.as_slice(), [0, 0].as_slice());
     assert_eq!(rt; absent.true_rank, 0);
@@ -97,9 +108,11 @@ fn audits_three_coins(rt: HostRuntime) -> Result<(), Fail> {
     assert_eq!(rt; three.coins, 3);
     assert_eq!(rt; three.weights.as_slice(), [0, 4, 0, 4, 4, 4, 4, 4].as_slice());
     assert_eq!(rt; three.true_rank, 3);
+    assert_eq!(rt; scatter(&three), 24);
     let nine = audit(rt.alloc(), commands.as_slice(), 0, &9, SearchCriteria::Inclusive)?;
     assert_eq!(rt; nine.weights.as_slice(), [8, 8, 8, 8, 12, 12, 8, 8].as_slice());
     assert_eq!(rt; nine.true_rank, 9);
+    assert_eq!(rt; scatter(&nine), 24);
     for item in 0..29 {
         for criteria in [SearchCriteria::Inclusive, SearchCriteria::Exclusive] {
             let each = audit(rt.alloc(), commands.as_slice(), 0, &item, criteria)?;
