@@ -11,7 +11,7 @@ use Rattle.sketch_base.specs.Trace.{play, start}
 use Rattle.sketch_kll.specs.ImageLaws.{HasImage}
 use Rattle.sketch_kll.specs.Sketch.{Kll}
 use Rattle.quantile_sketches.specs.declared.audit.commands.Command.{Command}
-use Rattle.quantile_sketches.specs.declared.audit.commands.Command.TheVariants.{New, Update, Merge, Reset, RoundTrip}
+use Rattle.quantile_sketches.specs.declared.audit.commands.Command.TheVariants.{New, Update, UpdateWeighted, Merge, Reset, RoundTrip}
 use Rattle.quantile_sketches.specs.Plan.{Shape, is_refused, plan_of, trace_of}
 use Rattle.quantile_sketches.specs.Refused.{StandsAfter, IsRefusedExactly, AreRefused}
 use Rattle.quantile_sketches.specs.Run.{stream_of}
@@ -51,6 +51,7 @@ module _ {A : Type 0} (cmp : A → A → Ordering) (spelling : A → Option (Lis
   refused-same : (before : List (Command A ℕ)) (command : Command A ℕ) (P Q : Type 0) → P ↔ Q → IsRefusedExactly cmp spelling word before command P → IsRefusedExactly cmp spelling word before command Q
   refused-same before (New slot k) P Q e h = (λ q. h.0 (e.1 q), λ r. e.0 (h.1 r))
   refused-same before (Update slot x) P Q e h = (λ q. h.0 (e.1 q), λ r. e.0 (h.1 r))
+  refused-same before (UpdateWeighted slot x weight) P Q e h = (λ q. h.0 (e.1 q), λ r. e.0 (h.1 r))
   refused-same before (Merge into source) P Q e h = (λ q. h.0 (e.1 q), λ r. e.0 (h.1 r))
   refused-same before (Reset slot) P Q e h = (λ q. h.0 (e.1 q), λ r. e.0 (h.1 r))
   refused-same before (RoundTrip slot) P Q e h = go ((plan_of before).shapes slot) h
@@ -138,6 +139,7 @@ module _ {A : Type 0} (cmp : A → A → Ordering) (spelling : A → Option (Lis
       go : (c : Command A ℕ) → IsDecided spelling c slots accepted → IsRefusedExactly cmp spelling word done c (accepted ≡ false)
       go (New slot k) e = planned (New slot k) e
       go (Update slot x) e = planned (Update slot x) e
+      go (UpdateWeighted slot x weight) e = planned (UpdateWeighted slot x weight) e
       go (Merge into source) e = planned (Merge into source) e
       go (Reset slot) e = planned (Reset slot) e
       go (RoundTrip slot) e =

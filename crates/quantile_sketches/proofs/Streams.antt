@@ -1,7 +1,8 @@
 -- Counts and true ranks of a run are those of the streams, and fit.
-use Rattle.std.proofs.Common.{◌≡◌, ℕ, zero, suc, ◌+◌, ◌-◌, ◌*◌, ◌^◌, ◌<◌, ◌≤◌, Bool, true, false, ◌||◌, ◌==◌, cond, if◌then◌else◌, List, [], ◌∷◌, ◌++◌, length, length-append, map, count_by, Option, None, Some, is_some, not, refl, sym, ap, ◌∙◌, subst, arith, eqb-true, inl, inr, append-nil, Ordering}
+use Rattle.std.proofs.Common.{◌≡◌, ℕ, zero, suc, ◌+◌, ◌-◌, ◌*◌, ◌^◌, ◌<◌, ◌≤◌, Bool, true, false, ◌||◌, ◌==◌, cond, if◌then◌else◌, List, [], ◌∷◌, ◌++◌, length, length-append, replicate, map, count_by, Option, None, Some, is_some, not, refl, sym, ap, ◌∙◌, subst, arith, eqb-true, inl, inr, append-nil, Ordering}
 use Rattle.std.proofs.lemmas.Bool.{cases_Bool, false≢true, eqb-false, ltb-false}
-use Rattle.std.proofs.lemmas.List.Sums.{sum_by-append}
+use Rattle.std.proofs.lemmas.List.{length-replicate}
+use Rattle.std.proofs.lemmas.List.Sums.{sum_by-append, sum_by-cons}
 use Rattle.sketch_base.specs.declared.common.SearchCriteria.{SearchCriteria}
 use Rattle.sketch_base.specs.Bag.{AllButLeftover, Lowest, Greatest, weighted_rank, load}
 use Rattle.sketch_base.specs.Query.{counted}
@@ -15,14 +16,16 @@ use Rattle.sketch_kll.specs.Merge.{merge_actions, merge_events, lengths_of_slots
 use Rattle.sketch_kll.specs.Schedule.{are_full, update_actions}
 use Rattle.sketch_kll.proofs.Bridges.{update_full, update_spare}
 use Rattle.sketch_kll.proofs.Merges.{Goes, merge_is}
+use Rattle.sketch_kll.specs.Weighted.{weighted_actions}
+use Rattle.sketch_kll.proofs.WeightedCounts.{weights_count}
 use Rattle.std.specs.Cmp.{IsTotalOrder}
 use Rattle.quantile_sketches.specs.declared.audit.commands.Command.{Command}
-use Rattle.quantile_sketches.specs.declared.audit.commands.Command.TheVariants.{New, Update, Merge, Reset, RoundTrip}
+use Rattle.quantile_sketches.specs.declared.audit.commands.Command.TheVariants.{New, Update, UpdateWeighted, Merge, Reset, RoundTrip}
 use Rattle.quantile_sketches.specs.Plan.{Shape, Plan, start_plan, k_of, count_of, with_count, is_absent, is_refused, accepted_shapes, accepted_events, events_of, plan_after, plan_from, trace_from, trace_of, plan_of}
 use Rattle.quantile_sketches.specs.Run.{accepted_streams, streams_after, streams_from, stream_of}
 use Rattle.quantile_sketches.proofs.Plans.{IsSteady, steady-start, steady-after, changed-both, run-legal}
 
-or-left : (a b : Bool) → (a || b) ≡ false → a ≡ false
+pub or-left : (a b : Bool) → (a || b) ≡ false → a ≡ false
 or-left true b e = e
 or-left false b e = refl
 
@@ -47,6 +50,9 @@ module _ {A : Type 0} where
   accepted-counts plan streams h (Update slot x) e =
       changed-both Measures plan.shapes streams slot _ (streams slot ++ x ∷ []) h
       (count-with _ (plan.shapes slot) (or-left _ _ e) ∙ omega (arith, h slot, length-append (streams slot) (x ∷ [])))
+  accepted-counts plan streams h (UpdateWeighted slot x weight) e =
+      changed-both Measures plan.shapes streams slot _ (streams slot ++ replicate weight x) h
+      (count-with _ (plan.shapes slot) (or-left _ _ (or-left _ _ (or-left _ _ e))) ∙ omega (arith, h slot, length-append (streams slot) (replicate weight x), length-replicate weight x))
   accepted-counts plan streams h (Merge into source) e =
       changed-both Measures plan.shapes streams into _ (streams into ++ streams source) h
       (count-with _ (plan.shapes into) (or-left _ _ (or-left _ _ e)) ∙ omega (arith, h into, h source, length-append (streams into) (streams source)))
@@ -116,17 +122,55 @@ module _ {A : Type 0} (test : A → Bool) where
         | false ↦ refl
       ]
 
+  -- an item so many times
+  pub many_items : (n : ℕ) (x : A) → count_by test (replicate n x) ≡ (if test x then n else 0)
+  many_items zero x =
+      elim (test x) as (λ b. 0 ≡ (if b then 0 else 0)) [
+        | true ↦ refl
+        | false ↦ refl
+      ]
+  many_items (suc n) x =
+      let ih = many_items n x in
+      let more = sum_by-cons (λ y. cond (test y) 1 0) x (replicate n x) in
+      elim (cases_Bool (test x)) [
+        | inl e ↦ let a = ap (λ (b : Bool). cond b 1 0) e in let b = ap (λ (b : Bool). if b then n else 0) e in let c = ap (λ (b : Bool). if b then suc n else 0) e in omega (arith, ih, more, a, b, c)
+        | inr e ↦ let a = ap (λ (b : Bool). cond b 1 0) e in let b = ap (λ (b : Bool). if b then n else 0) e in let c = ap (λ (b : Bool). if b then suc n else 0) e in omega (arith, ih, more, a, b, c)
+      ]
+
+  -- what is done to one slot leaves the others
+  ranks-elsewhere : (s j : ℕ) → (j == s) ≡ false → (actions : List (Action A)) (ranks : ℕ → ℕ) → true_ranks test (map (λ action. At s action) actions) ranks j ≡ ranks j
+  ranks-elsewhere s j e [] ranks = refl
+  ranks-elsewhere s j e (Put h x ∷ rest) ranks = ranks-elsewhere s j e rest _ ∙ ap (λ (b : Bool). if b then ranks s + (if test x then 2 ^ h else 0) else ranks j) e
+  ranks-elsewhere s j e (Clear ∷ rest) ranks = ranks-elsewhere s j e rest _ ∙ ap (λ (b : Bool). if b then 0 else ranks j) e
+  ranks-elsewhere s j e (Pull ∷ rest) ranks = ranks-elsewhere s j e rest ranks
+  ranks-elsewhere s j e (Join h ∷ rest) ranks = ranks-elsewhere s j e rest ranks
+  ranks-elsewhere s j e (Compact h coin taken ∷ rest) ranks = ranks-elsewhere s j e rest ranks
+  ranks-elsewhere s j e (Forget ∷ rest) ranks = ranks-elsewhere s j e rest ranks
+
   no_items : (xs : List A) → length xs ≡ 0 → xs ≡ []
   no_items [] e = refl
   no_items (x ∷ xs) e = absurd (omega (arith, e))
 
-  accepted-ranks : (plan : Plan) → IsSteady plan → (streams : ℕ → List A) → AreCounted plan streams → (ranks : ℕ → ℕ) → AreRanked ranks streams → (command : Command A ℕ) → AreRanked (true_ranks test (accepted_events plan command) ranks) (accepted_streams streams command)
-  accepted-ranks plan st streams h ranks r (New slot k) = changed-both Ranks ranks streams slot 0 [] r refl
-  accepted-ranks plan st streams h ranks r (Update slot x) =
+  accepted-ranks : (plan : Plan) → IsSteady plan → (streams : ℕ → List A) → AreCounted plan streams → (ranks : ℕ → ℕ) → AreRanked ranks streams → (command : Command A ℕ) → is_refused plan.shapes command ≡ false → AreRanked (true_ranks test (accepted_events plan command) ranks) (accepted_streams streams command)
+  accepted-ranks plan st streams h ranks r (New slot k) few = changed-both Ranks ranks streams slot 0 [] r refl
+  accepted-ranks plan st streams h ranks r (Update slot x) few =
       subst (λ (f : ℕ → ℕ). AreRanked f (accepted_streams streams (Update slot x))) (sym (ranks-update slot (k_of (plan.shapes slot)) (plan.lengths.slots slot) x ranks))
       (changed-both Ranks ranks streams slot _ (streams slot ++ x ∷ []) r
       (omega (arith, r slot, one_item x, count-append (streams slot) (x ∷ []))))
-  accepted-ranks plan st streams h ranks r (Merge into source) =
+  accepted-ranks plan st streams h ranks r (UpdateWeighted slot x weight) few =
+      let actions : List (Action A) = weighted_actions (k_of (plan.shapes slot)) (plan.lengths.slots slot) x weight in
+      let light : weight < 2 ^ 61 = let l = ltb-false (2 ^ 61 - 1) weight (or-right _ _ (or-left _ _ few)) in omega (arith, l) in
+      let here = weights_count test slot (k_of (plan.shapes slot)) weight (plan.lengths.slots slot) x ranks light in
+      λ j. elim (cases_Bool (j == slot)) [
+        | inl e ↦
+            subst (λ (b : Bool). true_ranks test (map (λ action. At slot action) actions) ranks j ≡ count_by test (if b then streams slot ++ replicate weight x else streams j)) (sym e)
+            (ap (λ (i : ℕ). true_ranks test (map (λ action. At slot action) actions) ranks i) (eqb-true j slot e)
+            ∙ omega (arith, here, r slot, many_items weight x, count-append (streams slot) (replicate weight x)))
+        | inr e ↦
+            subst (λ (b : Bool). true_ranks test (map (λ action. At slot action) actions) ranks j ≡ count_by test (if b then streams slot ++ replicate weight x else streams j)) (sym e)
+            (ranks-elsewhere slot j e actions ranks ∙ r j)
+      ]
+  accepted-ranks plan st streams h ranks r (Merge into source) few =
       elim (cases_Bool (count_of (plan.shapes source) == 0)) [
         | inl e ↦
             let none : streams source ≡ [] = no_items (streams source) (sym (h source) ∙ eqb-true _ 0 e) in
@@ -148,15 +192,15 @@ module _ {A : Type 0} (test : A → Bool) where
                 (r j ∙ (ap (λ i. count_by test (streams i)) (eqb-true j into e) ∙ ap (count_by test) (sym (append-nil (streams into)) ∙ ap (λ l. streams into ++ l) (sym none))))
             | inr e ↦ subst (λ (b : Bool). ranks j ≡ count_by test (if b then streams into ++ streams source else streams j)) (sym e) (r j)
           ]
-  accepted-ranks plan st streams h ranks r (Reset slot) = changed-both Ranks ranks streams slot 0 [] r refl
-  accepted-ranks plan st streams h ranks r (RoundTrip slot) = r
+  accepted-ranks plan st streams h ranks r (Reset slot) few = changed-both Ranks ranks streams slot 0 [] r refl
+  accepted-ranks plan st streams h ranks r (RoundTrip slot) few = r
 
   events-ranks : (plan : Plan) → IsSteady plan → (streams : ℕ → List A) → AreCounted plan streams → (ranks : ℕ → ℕ) → AreRanked ranks streams → (command : Command A ℕ) → AreRanked (true_ranks test (events_of plan command) ranks) (streams_after plan streams command)
-  events-ranks plan st streams h ranks r command =
-      elim (is_refused plan.shapes command) as (λ b. AreRanked (true_ranks test (if b then [] else accepted_events plan command) ranks) (if b then streams else accepted_streams streams command)) [
-        | true ↦ r
-        | false ↦ accepted-ranks plan st streams h ranks r command
-      ]
+  events-ranks plan st streams h ranks r command = go (is_refused plan.shapes command) refl
+    where
+      go : (b : Bool) → is_refused plan.shapes command ≡ b → AreRanked (true_ranks test (if b then [] else accepted_events plan command) ranks) (if b then streams else accepted_streams streams command)
+      go true e = r
+      go false e = accepted-ranks plan st streams h ranks r command e
 
   ranks-from : (plan : Plan) → IsSteady plan → (streams : ℕ → List A) → AreCounted plan streams → (ranks : ℕ → ℕ) → AreRanked ranks streams → (commands : List (Command A ℕ)) → AreRanked (true_ranks test (trace_from plan commands) ranks) (streams_from plan streams commands)
   ranks-from plan st streams h ranks r [] = r
@@ -201,6 +245,11 @@ module _ {A : Type 0} where
       (let most = counted-at-most (count_of (shapes slot) + 1) (shapes slot) in
       let other = eqb-false (count_of (shapes slot)) (2 ^ 64 - 1) (or-right _ _ e) in
       omega (arith, most, other, h slot))
+  accepted-fit shapes h (UpdateWeighted slot x weight) e q =
+      changed-at (λ (o : Option Shape) (n : ℕ). count_of o < 2 ^ 64) shapes (λ j. j) slot (with_count (count_of (shapes slot) + weight) (shapes slot)) 0 q (h q)
+      (let most = counted-at-most (count_of (shapes slot) + weight) (shapes slot) in
+      let few = ltb-false (2 ^ 64 - 1) (count_of (shapes slot) + weight) (or-right _ _ e) in
+      omega (arith, most, few))
   accepted-fit shapes h (Merge into source) e q =
       changed-at (λ (o : Option Shape) (n : ℕ). count_of o < 2 ^ 64) shapes (λ j. j) into (with_count (count_of (shapes into) + count_of (shapes source)) (shapes into)) 0 q (h q)
       (let most = counted-at-most (count_of (shapes into) + count_of (shapes source)) (shapes into) in

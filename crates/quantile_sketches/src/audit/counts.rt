@@ -56,6 +56,11 @@ fn count_command<T: Ord>(
         Command::Update { slot, item: taken } => {
             counts[usize::from(*slot)] += u64::from(is_counted(taken, item, criteria));
         }
+        Command::UpdateWeighted { slot, item: taken, weight } => {
+            if is_counted(taken, item, criteria) {
+                counts[usize::from(*slot)] += *weight;
+            }
+        }
         Command::Merge { into, source } => {
             counts[usize::from(*into)] += counts[usize::from(*source)];
         }

@@ -12,3 +12,6 @@ pub overflow_add-counts-in-Merge : goal.overflow_add-counts-in-Merge
 overflow_add-counts-in-Merge g c =
     let fits = merge-fits (counted g.T.Ord.cmp c.args.item.now c.args.criteria) c.args.command.now c.in-Merge.into c.in-Merge.source (slice_index c.args.counts.now) c.in-Merge.is c.requires.fits in
     search (rules, fits)
+
+pub overflow_add-counts-in-UpdateWeighted : goal.overflow_add-counts-in-UpdateWeighted
+overflow_add-counts-in-UpdateWeighted g c = ?
