@@ -1,18 +1,17 @@
 -- The laws of images: a text is an image of one sketch, and what is written is an image.
-use Rattle.std.proofs.Common.{◌≡◌, ℕ, zero, suc, ◌+◌, ◌*◌, ◌-◌, ◌^◌, ◌<◌, ◌≤◌, Bool, true, false, List, [], ◌∷◌, ◌++◌, length, map, Option, Some, None, Ordering, Equal, is_gt, refl, sym, ap, ap₂, subst, ◌∙◌, arith, inl, inr, append-nil, append_assoc}
-use Rattle.std.specs.Prelude.{IsSome, MatchOption}
+use Rattle.std.proofs.Common.{◌≡◌, ℕ, zero, suc, ◌-◌, ◌^◌, ◌<◌, ◌≤◌, Bool, true, false, List, [], ◌∷◌, ◌++◌, length, map, Option, Some, None, Ordering, Equal, refl, sym, ap, ap₂, subst, ◌∙◌, arith, inl, inr, append-nil, append_assoc}
+use Rattle.std.specs.Prelude.{MatchOption}
 use Rattle.std.specs.Option.{option_to_list}
 use Rattle.std.specs.Cmp.{IsTotalOrder}
 use Rattle.std.specs.Int.{w32, to_le_bytes}
-use Rattle.std.specs.List.{flat_map, AllByRecursion}
-use Rattle.std.proofs.lemmas.Cmp.{tied_itself, alike_right}
+use Rattle.std.specs.List.{flat_map}
 use Rattle.sketch_base.specs.Queries.{SameAnswer}
 use Rattle.sketch_kll.specs.declared.image.header.Header.{Header}
 use Rattle.sketch_kll.specs.Capacity.{total_of}
-use Rattle.sketch_kll.specs.Levels.{weight, retained, AllItems, SameLevels}
-use Rattle.sketch_kll.specs.Spelling.{bytes_of, Begins}
-use Rattle.sketch_kll.specs.Sketch.{Kll, Ties, IsSound, IsFrom, IsUpTo, AllTie, AllBetween, AreInOrder}
-use Rattle.sketch_kll.specs.Image.{has_flag, numbers_text, offsets, places, total, stored, IsHead, IsBody, IsBetween, IsItemSketch, IsItemBody, IsEmptyBody, IsLegal, IsImage}
+use Rattle.sketch_kll.specs.Levels.{weight, SameLevels}
+use Rattle.sketch_kll.specs.Spelling.{bytes_of}
+use Rattle.sketch_kll.specs.Sketch.{Kll, Ties, IsSound, IsUpTo, AllTie, AllBetween, AreInOrder}
+use Rattle.sketch_kll.specs.Image.{has_flag, numbers_text, places, stored, IsHead, IsBody, IsItemSketch, IsLegal, IsImage}
 use Rattle.sketch_kll.specs.Written.{AllSpelled, header_of, flags_of, items_text, ends_of, text_by_count, items_by_count}
 use Rattle.sketch_kll.specs.ImageLaws.{SpellingsTie, SameSketch, OneSketch, WrittenIsImage}
 use Rattle.sketch_kll.proofs.SpelledItems.{IsPrefixFree}

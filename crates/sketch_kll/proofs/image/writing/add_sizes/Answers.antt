@@ -1,4 +1,4 @@
-use Rattle.std.proofs.Common.{◌≡◌, ◌+◌, ◌<◌, ◌^◌, ◌++◌, ◌∷◌, [], ◌∙◌, arith, ap, sym, subst, take, length}
+use Rattle.std.proofs.Common.{◌≡◌, ◌+◌, ◌++◌, ◌∷◌, [], ◌∙◌, arith, ap, sym, subst, take, length}
 use Rattle.std.proofs.lemmas.List.{take_more, take_all}
 use Rattle.sketch_kll.specs.Written.{AllSpelled, items_text}
 use Rattle.sketch_kll.proofs.Sizes.{size_step, spelled_front, text_front}

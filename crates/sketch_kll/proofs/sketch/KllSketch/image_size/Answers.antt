@@ -1,6 +1,5 @@
-use Rattle.std.proofs.Common.{◌≡◌, ◌+◌, ◌-◌, ◌*◌, ◌<◌, ◌≤◌, ◌^◌, ◌∙◌, ap, sym, subst, ℕ, List, length, arith, rules, None, Option}
-use Rattle.std.specs.Option.{SomeIff, option_to_list}
-use Rattle.sketch_kll.specs.Flat.{levels_in}
+use Rattle.std.proofs.Common.{◌≡◌, ◌+◌, ◌<◌, ◌≤◌, ◌^◌, ◌∙◌, ap, sym, subst, ℕ, length, arith, rules, None, Option}
+use Rattle.std.specs.Option.{SomeIff}
 use Rattle.sketch_kll.specs.Sketch.{Kll, sketch_of}
 use Rattle.sketch_kll.specs.Written.{AllSpelled, items_text, image_text, written_items}
 use Rattle.sketch_kll.proofs.Flats.{length-bounds}

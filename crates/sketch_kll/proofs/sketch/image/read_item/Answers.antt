@@ -1,4 +1,4 @@
-use Rattle.std.proofs.Common.{ap, ◌∙◌, sym, subst, ◌≡◌, List, ℕ, [], ◌∷◌, ◌++◌, refl, length, eqb, true, false}
+use Rattle.std.proofs.Common.{ap, ◌∙◌, sym, subst, ◌≡◌, ℕ, [], ◌∷◌, ◌++◌, refl, length, eqb, true, false}
 use Rattle.std.proofs.lemmas.Result.{err_from_is_err_and}
 use Rattle.sketch_kll.specs.Spelling.{Begins}
 use Rattle.sketch_kll.specs.Image.{has_flag}
