@@ -55,7 +55,20 @@ impl From<AllocError> for Refusal {
 }
 
 /// Writes the line of an answer.
+#[inline]
 pub fn write_answer<W: Write>(output: &mut W, answer: Result<Answer, Refusal>) -> io::Result<()>
+    ensures { OnOk result
+        (Appends (W.contents output.old) (W.contents output.new) (answer_text answer ++ 10 ∷ [])) }
+{
+    match answer {
+        Ok(Answer::Done) => output.write_all(b"ok\n"),
+        other => write_other(output, other),
+    }
+}
+
+// Most answers are `ok`: this is kept out of the loop over the lines.
+#[inline(never)]
+fn write_other<W: Write>(output: &mut W, answer: Result<Answer, Refusal>) -> io::Result<()>
     ensures { OnOk result
         (Appends (W.contents output.old) (W.contents output.new) (answer_text answer ++ 10 ∷ [])) }
 {

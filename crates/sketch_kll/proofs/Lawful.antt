@@ -95,7 +95,7 @@ none_of : {A : Type 0} (o : Option A) (n : ℕ) → MatchOption o (n ≡ 0) (λ 
 none_of None n m e = refl
 none_of (Some x) n m e = absurd (omega (arith, m, e))
 
-no_items : {A : Type 0} (ls : List (List A)) → length ls ≡ 1 → weight ls ≡ 0 → ls ≡ [] ∷ []
+pub no_items : {A : Type 0} (ls : List (List A)) → length ls ≡ 1 → weight ls ≡ 0 → ls ≡ [] ∷ []
 no_items [] l w = absurd (omega (arith, l))
 no_items ([] ∷ []) l w = refl
 no_items ((x ∷ xs) ∷ []) l w = absurd (omega (arith, w))

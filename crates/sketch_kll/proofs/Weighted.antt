@@ -1,9 +1,8 @@
 -- an update with a weight by its actions: it is legal, and it is the merge of a sketch of the weight's digits
-use Rattle.std.proofs.Common.{◌≡◌, ℕ, zero, suc, ◌+◌, ◌-◌, ◌*◌, ◌/◌, ◌%◌, ◌^◌, ◌<◌, ◌≤◌, ◌==◌, Bool, true, false, nat_lt, if◌then◌else◌, List, [], ◌∷◌, ◌++◌, length, drop, map, sum, refl, sym, ap, ap₂, ◌∙◌, subst, arith, append-nil, lt-ltb, IsTrue, Ordering, eqb-true}
+use Rattle.std.proofs.Common.{◌≡◌, ℕ, zero, suc, ◌+◌, ◌-◌, ◌*◌, ◌/◌, ◌%◌, ◌^◌, ◌<◌, ◌≤◌, ◌==◌, Bool, true, false, nat_lt, if◌then◌else◌, List, [], ◌∷◌, ◌++◌, length, drop, map, sum, refl, sym, ap, ap₂, ◌∙◌, subst, arith, append-nil, inl, inr, lt-ltb, ltb-false, slice_index, ◌||◌, IsTrue, Ordering}
 use Rattle.std.specs.List.{AllByRecursion}
 use Rattle.std.specs.Cmp.{IsTotalOrder}
-use Rattle.std.proofs.lemmas.Bool.{eqb-false}
-use Rattle.std.proofs.Math.Nat.{pow-succ'}
+use Rattle.std.proofs.lemmas.Bool.{cases_Bool, false≢true}
 use Rattle.sketch_base.specs.Bag.{Bag, AlikeKll, AllButLeftover, Lowest, Greatest, empty_bag}
 use Rattle.sketch_base.specs.Lengths.{acts_on_lengths, act_on_lengths, bag_lengths}
 use Rattle.sketch_base.specs.Ranks.{true_ranks}
@@ -12,19 +11,25 @@ use Rattle.sketch_base.proofs.Alikes.{acts-kll}
 use Rattle.sketch_base.proofs.Calls.{draws-append}
 use Rattle.sketch_base.proofs.Fixed.{lengths-acts}
 use Rattle.sketch_base.proofs.Runs.{in_turn-append}
+use Rattle.sketch_kll.specs.Capacity.{capacity_at}
 use Rattle.sketch_kll.specs.Merge.{merge_actions, pulls_actions, joins_actions, taking_actions, IsLegalFrom}
 use Rattle.sketch_kll.specs.Merged.{merge_on, bag_beside}
-use Rattle.sketch_kll.specs.Schedule.{update_actions, updates_actions, compress_actions, lengths_after_actions}
+use Rattle.sketch_kll.specs.Schedule.{update_actions, updates_actions, compress_actions, walk_actions, passes_at, lengths_after_actions}
 use Rattle.sketch_kll.specs.Sketch.{bag_in}
 use Rattle.sketch_kll.specs.Weighted.{at_digit, digit_levels, puts_actions, entering_actions, weighted_actions, weighted_lengths, HasDigits}
 use Rattle.sketch_kll.proofs.Bridges.{length-lengths}
-use Rattle.sketch_kll.proofs.Compresses.{fine-walk}
+use Rattle.sketch_kll.proofs.Compresses.{step_passed, step_compacted}
+use Rattle.sketch_kll.proofs.Sketches.{capacity_eight}
 use Rattle.sketch_kll.proofs.Digits.{putting, putting-above, putting_is, puts_act, puts_draw, digits-half}
 use Rattle.sketch_kll.proofs.Fills.{alike-trans, alike-lengths}
 use Rattle.sketch_kll.proofs.Merged.{alike-refl}
 use Rattle.sketch_kll.proofs.Merges.{goes-kll, taking_is}
 use Rattle.sketch_kll.proofs.Mergings.{PullsAct, pulls_act, joins_act, joins_draw, raw_upper, bag_alone}
 use Rattle.sketch_kll.proofs.Schedules.{Fine, work_of, fine-append, fine-legal, fine-updates, update_is}
+
+or-right : (x y : Bool) → (x || y) ≡ false → y ≡ false
+or-right true y e = absurd (false≢true (sym e))
+or-right false y e = e
 
 module _ {A : Type 0} where
   abbrev pub IsKllActions : List (Action A) → Type 0
@@ -60,36 +65,54 @@ module _ {A : Type 0} where
       go true ih = ih (act_on_lengths (Put h x) work)
       go false ih = ih work
 
-  fine-entering : (k : ℕ) (lengths : List ℕ) (x : A) (weight : ℕ) → 0 < length lengths → Fine (entering_actions k lengths x weight) (work_of lengths)
+  pub fine-entering : (k : ℕ) (lengths : List ℕ) (x : A) (weight : ℕ) → 0 < length lengths → Fine (entering_actions k lengths x weight) (work_of lengths)
   fine-entering k lengths x weight h =
       fine-append (updates_actions k lengths (at_digit weight x)) (puts_actions 60 1 (weight / 2) x) (work_of lengths)
       (fine-updates k lengths (at_digit weight x) h) (fine-puts 60 1 (weight / 2) x _)
 
-module _ {A : Type 0} (cmp : A → A → Ordering) (o : IsTotalOrder cmp) where
+module _ (A : Type 0) where
+  -- general compress
+  pub fine-squeeze : (k more level : ℕ) (lengths : List ℕ) → Fine {A = A} (walk_actions k more level lengths) (work_of lengths)
+  unfolding walk_actions
+  fine-squeeze k zero level lengths = tt
+  fine-squeeze k (suc more) level lengths =
+      let R : List (Action A) → Type 0 = λ (step : List (Action A)). Fine (step ++ walk_actions {A = A} k more (suc level) (lengths_after_actions {A = A} step lengths)) (work_of lengths) in
+      elim (cases_Bool (passes_at k lengths level)) [
+        | inl e ↦ subst R (sym (step_passed k level lengths e)) (fine-squeeze k more (suc level) lengths)
+        | inr e ↦
+            let c = ltb-false (slice_index lengths level) (capacity_at k 8 (length lengths - 1 - level)) (or-right _ _ e) in
+            let d : 8 ≤ slice_index lengths level = omega (arith, c, capacity_eight k (length lengths - 1 - level)) in
+            subst R (sym (step_compacted k level lengths e)) (d, fine-squeeze k more (suc level) _)
+      ]
+
+module _ {A : Type 0} where
   pub fine-weighted : (k : ℕ) (lengths : List ℕ) (x : A) (weight : ℕ) → 0 < length lengths → Fine (weighted_actions k lengths x weight) (work_of lengths)
   fine-weighted k lengths x weight h =
       let enter : List (Action A) = entering_actions k lengths x weight in
       let f = fine-entering k lengths x weight h in
       let after : Work (List ℕ) = acts_on_lengths enter (work_of lengths) in
       let e : after ≡ work_of after.bag = ap (λ (s : List ℕ). let w : Work (List ℕ) = record { bag = after.bag; scratch = s } in w) (fine_is enter (work_of lengths) f).scratch in
-      let squeeze : Fine {A = A} (compress_actions k after.bag) after = subst (Fine {A = A} (compress_actions k after.bag)) (sym e) (fine-walk cmp o k 61 0 after.bag) in
+      let squeeze : Fine {A = A} (compress_actions k after.bag) after = subst (Fine {A = A} (compress_actions k after.bag)) (sym e) (fine-squeeze A k 61 0 after.bag) in
       fine-append enter (if nat_lt 1 weight then compress_actions k after.bag else []) (work_of lengths) f (go (nat_lt 1 weight) after squeeze)
     where
       go : (b : Bool) (after : Work (List ℕ)) → Fine {A = A} (compress_actions k after.bag) after → Fine {A = A} (if b then compress_actions k after.bag else []) after
       go true after f = f
       go false after f = tt
 
+  -- an update with a weight in any world with nothing in the scratch
   pub weighted_legal : (slot k weight : ℕ) (x : A) (world : World (List ℕ)) → 0 < length (world.slots slot) → sum world.scratch ≡ 0 →
       IsLegalFrom (map (λ action. At slot action) (weighted_actions k (world.slots slot) x weight)) world
   weighted_legal slot k weight x world h z =
       let r = fine-legal (weighted_actions k (world.slots slot) x weight) slot (work_of (world.slots slot)) world (fine-weighted k (world.slots slot) x weight h) refl z in
       record { kll = r.kll; scratch = r.scratch; sizes = r.sizes }
 
+  pub weighted_kll : (k : ℕ) (lengths : List ℕ) (x : A) (weight : ℕ) → 0 < length lengths → IsKllActions (weighted_actions k lengths x weight)
+  weighted_kll k lengths x weight h = (fine_is _ _ (fine-weighted k lengths x weight h)).kll
+
+module _ {A : Type 0} (cmp : A → A → Ordering) (o : IsTotalOrder cmp) where
   pub weighted_lengths_are : (k weight : ℕ) (bag : Bag A) (x : A) (word : List Bool) → 0 < length (bag_lengths bag) →
       bag_lengths (bag_after cmp (weighted_actions k (bag_lengths bag) x weight) word bag) ≡ weighted_lengths k (bag_lengths bag) x weight
-  weighted_lengths_are k weight bag x word h =
-      let f = fine-weighted k (bag_lengths bag) x weight h in
-      lengths-acts cmp (weighted_actions k (bag_lengths bag) x weight) word (alone bag) (fine_is _ _ f).kll
+  weighted_lengths_are k weight bag x word h = lengths-acts cmp (weighted_actions k (bag_lengths bag) x weight) word (alone bag) (weighted_kll k (bag_lengths bag) x weight h)
 
   -- a bag without its kept bits
   plain : (b : Bag A) → AlikeKll cmp b (bag_in b.is_sorted b.levels)
@@ -203,7 +226,7 @@ module _ {A : Type 0} (cmp : A → A → Ordering) (o : IsTotalOrder cmp) where
       let theirs : (if nat_lt 1 (suc (length (map length (digit_levels count (weight / 2) x)))) then compress_actions {A = A} k (acts_on_lengths taking work).bag else []) ≡ squeeze =
       ap (λ (b : Bool). if b then compress_actions {A = A} k (acts_on_lengths taking work).bag else []) (lt-ltb 1 _ upper) ∙ ap (λ (l : List ℕ). compress_actions {A = A} k l) sizes in
       let R : List (Action A) → List (Action A) → Type 0 = λ (p q : List (Action A)). ActsAsMerge k weight (suc count) x flag other_flag ls (enter ++ p) (taking ++ q) in
-      let fine : Fine squeeze (work_of (lengths_after_actions enter (map length ls))) = fine-walk cmp o k 61 0 (lengths_after_actions enter (map length ls)) in
+      let fine : Fine squeeze (work_of (lengths_after_actions enter (map length ls))) = fine-squeeze A k 61 0 (lengths_after_actions enter (map length ls)) in
       subst (λ (p : List (Action A)). R p (if nat_lt 1 (suc (length (map length (digit_levels count (weight / 2) x)))) then compress_actions {A = A} k (acts_on_lengths taking work).bag else [])) (sym mine)
       (subst (λ (q : List (Action A)). R squeeze q) (sym theirs) (record {
         alike = λ word.

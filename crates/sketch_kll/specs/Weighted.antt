@@ -2,6 +2,7 @@
 use Rattle.std.specs.Prelude.{◌≡◌, ℕ, zero, suc, ◌+◌, ◌*◌, ◌/◌, ◌%◌, ◌^◌, ◌<◌, ◌≤◌, ◌==◌, ◌&&◌, nat_lt, Bool, if◌then◌else◌, List, [], ◌∷◌, ◌++◌, length, map, sum}
 use Rattle.std.specs.Option.{option_to_list}
 use Rattle.std.specs.declared.cmp.Ordering.{Ordering}
+use Rattle.std.specs.declared.cmp.Ordering.TheVariants.{Equal}
 use Rattle.sketch_base.specs.Bag.{Bag, AlikeKll}
 use Rattle.sketch_base.specs.Extremes.{IsLeastOf, IsGreatestOf}
 use Rattle.sketch_base.specs.Lengths.{bag_lengths}
@@ -96,6 +97,12 @@ WeightsAreLegal A = (slot k weight : ℕ) (x : A) (world : World (List ℕ)) →
 abbrev pub WeightedLengths : {A : Type 0} → (A → A → Ordering) → Type 0
 WeightedLengths {A} cmp = (k weight : ℕ) (bag : Bag A) (x : A) (word : List Bool) → 0 < length bag.levels →
     bag_lengths (bag_after cmp (weighted_actions k (bag_lengths bag) x weight) word bag) ≡ weighted_lengths k (bag_lengths bag) x weight
+
+-- items that compare equal give alike bags, by as many coins
+abbrev pub WeightsTie : {A : Type 0} → (A → A → Ordering) → Type 0
+WeightsTie {A} cmp = (k weight : ℕ) (bag : Bag A) (x y : A) (word : List Bool) → 0 < length bag.levels → cmp x y ≡ Equal →
+    AlikeKll cmp (bag_after cmp (weighted_actions k (bag_lengths bag) x weight) word bag) (bag_after cmp (weighted_actions k (bag_lengths bag) y weight) word bag)
+    × (draws_of (weighted_actions k (bag_lengths bag) x weight) ≡ draws_of (weighted_actions k (bag_lengths bag) y weight))
 
 -- the item counts as often as its weight says
 abbrev pub WeightsCount : Type 0 → Type 0

@@ -3,7 +3,7 @@
 ghost use Rattle.std.specs.Prelude.{◌≡◌, IfOk, IfErr, MatchOption};
 ghost use Rattle.std.specs.declared.cmp.Ordering.TheVariants.{Equal};
 ghost use Rattle.sketch_base.specs.declared.error.ErrorKind.TheVariants.{OutOfMemory};
-ghost use Rattle.quantile_sketches.specs.declared.audit.commands.Command.TheVariants.{New, Update, Merge, Reset, RoundTrip};
+ghost use Rattle.quantile_sketches.specs.declared.audit.commands.Command.TheVariants.{New, Update, UpdateWeighted, Merge, Reset, RoundTrip};
 ghost use Rattle.sketch_kll.specs.Copy.{IsCopy};
 ghost use Rattle.sketch_kll.specs.Image.{IsImage};
 ghost use Rattle.sketch_kll.specs.ImageLaws.{SpellingsTie, HasImage};
@@ -33,6 +33,9 @@ pub(crate) fn execute<T: KllValue + Ord, B: RandomBits>(
     match command {
         Command::New { slot, config } => make_in(alloc, slots, *slot, *config, coins),
         Command::Update { slot, item } => update_in(slots, *slot, item, coins),
+        Command::UpdateWeighted { slot, item, weight } => {
+            update_weighted_in(slots, *slot, item, *weight, coins)
+        }
         Command::Merge { into, source } => merge_in(slots, *into, *source, coins),
         Command::Reset { slot } => reset_in(slots, *slot, coins),
         Command::RoundTrip { slot } => round_trip_in(alloc, slots, *slot, coins),
@@ -79,6 +82,30 @@ fn update_in<T: KllValue + Ord, B: RandomBits>(
         return Ok(false);
     }
     sketch.update(item.clone()?, coins)?;
+    sketch.is_sound();
+    Ok(true)
+}
+
+// The slot's sketch takes a clone of the item that stands for several equal ones.
+fn update_weighted_in<T: KllValue + Ord, B: RandomBits>(
+    slots: &mut BTreeMap<u8, KllSketch<T>>,
+    slot: u8,
+    item: &T,
+    weight: u64,
+    coins: &mut B,
+) -> Result<bool, Error>
+    requires clones { (x y : T) → T.is_clone x y → T.cmp x y ≡ Equal }
+    ensures done { IfOk result (λ accepted. IsExecuted T.cmp T.spelling B.bit B.next
+        (UpdateWeighted slot item.now weight) slots.old coins.old accepted slots.new coins.new) }
+    ensures memory { IfErr result (λ e. e ≡ OutOfMemory) }
+{
+    let Some(sketch) = slots.get_mut(&slot) else {
+        return Ok(false);
+    };
+    if weight == 0 || weight >= 1 << 61 || sketch.n() > u64::MAX - weight {
+        return Ok(false);
+    }
+    sketch.update_weighted(item.clone()?, weight, coins)?;
     sketch.is_sound();
     Ok(true)
 }

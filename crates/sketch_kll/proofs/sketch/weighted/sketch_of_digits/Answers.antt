@@ -1,4 +1,3 @@
-use Rattle.std.proofs.Common.{refl}
 use Rattle.std.proofs.lemmas.Cmp.{tied_itself}
 use Rattle.sketch_kll.proofs.DigitSketches.{digits_of_leading, digit_sketch}
 use Rattle.sketch_kll.proofs.sketch.weighted.sketch_of_digits.Goals as goal
