@@ -3,6 +3,7 @@ use Rattle.std.proofs.Common.{◌≡◌, ℕ, zero, suc, ◌+◌, ◌-◌, ◌*�
 use Rattle.std.proofs.lemmas.List.Sums.{sum_by-append}
 use Rattle.std.specs.Cmp.{IsTotalOrder}
 use Rattle.std.specs.Option.{option_map}
+use Rattle.std.specs.Ordering.{is_eq}
 use Rattle.sketch_base.specs.declared.common.SearchCriteria.{SearchCriteria}
 use Rattle.sketch_base.specs.Bag.{Bag, AlikeKll, weight, retained, weighted_rank, load, load_from}
 use Rattle.sketch_base.specs.Extremes.{IsLeastOf, IsGreatestOf}
@@ -19,15 +20,20 @@ use Rattle.sketch_kll.specs.Levels.{UpperSorted}
 use Rattle.sketch_kll.specs.Sketch.{Kll, bag_of, IsSound}
 use Rattle.sketch_kll.proofs.Capacities.{total_bound}
 use Rattle.sketch_kll.proofs.Fills.{alike-lengths}
+use Rattle.sketch_kll.specs.ImageLaws.{SpellingsTie}
+use Rattle.sketch_kll.proofs.Lawful.{reads_back}
+use Rattle.sketch_kll.proofs.SpelledItems.{IsPrefixFree}
 use Rattle.sketch_kll.proofs.Ranks.{weight_is, retained_is}
 use Rattle.quantile_sketches.specs.declared.audit.commands.Command.{Command}
-use Rattle.quantile_sketches.specs.Plan.{Plan, start_plan, count_of, is_refused, events_of, plan_after, plan_from, trace_from, refused_from, plan_of, trace_of, refused_of}
+use Rattle.quantile_sketches.specs.Plan.{Plan, start_plan, count_of, is_refused, events_of, plan_after, plan_from, trace_from, plan_of, trace_of}
+use Rattle.quantile_sketches.specs.Refused.{AreRefused}
 use Rattle.quantile_sketches.specs.Run.{streams_after, streams_from, stream_of}
 use Rattle.quantile_sketches.specs.Steps.{Slots, sketch_at, shape_of, shapes_in, IsExecuted}
-use Rattle.quantile_sketches.specs.Outcome.{EachSketch, ArePlanned, ArePlayed, WeighStreams, HaveExtremes, AreOrdered, AreSmall, AreClose, AreUnbiased}
+use Rattle.quantile_sketches.specs.Outcome.{EachSketch, ArePlanned, ArePlayed, WeighStreams, HaveExtremes, AreOrdered, AreSmall, AreClose, AreUnbiased, AreReadBack}
 use Rattle.quantile_sketches.proofs.Plans.{IsSteady, steady-start, steady-from, plan-append}
-use Rattle.quantile_sketches.proofs.SlotSteps.{IsOf, Stand, Steps, steps, accepts}
-use Rattle.quantile_sketches.proofs.Streams.{stream-append, run-counts, run-load, run-unbiased}
+use Rattle.quantile_sketches.proofs.Refusals.{refused-none, refused-more, decided-exactly}
+use Rattle.quantile_sketches.proofs.SlotSteps.{IsOf, Stand, Steps, steps}
+use Rattle.quantile_sketches.proofs.Streams.{stream-append, run-counts, streams-fit, run-load, run-unbiased}
 
 -- a source that goes along a word
 abbrev pub word_bit : WordSource → Bool
@@ -60,33 +66,22 @@ module _ {A : Type 0} where
   coins-within : (xs ys : List (Command A ℕ)) → coins (trace_of xs) ≤ coins (trace_of (xs ++ ys))
   coins-within xs ys = omega (arith, ap coins (trace-append start_plan xs ys), coins-append (trace_of xs) (trace_from (plan_of xs) ys))
 
-  refused-append : (i : ℕ) (plan : Plan) (xs : List (Command A ℕ)) (c : Command A ℕ) → refused_from i plan (xs ++ c ∷ []) ≡ refused_from i plan xs ++ (if is_refused (plan_from plan xs).shapes c then (i + length xs) ∷ [] else [])
-  refused-append i plan [] c = last (is_refused plan.shapes c) i
-    where
-      last : (b : Bool) (i : ℕ) → (if b then i ∷ [] else []) ++ [] ≡ [] ++ (if b then (i + 0) ∷ [] else [])
-      last true i = let e : i ≡ i + 0 = omega arith in ap (λ (n : ℕ). n ∷ []) e
-      last false i = refl
-  refused-append i plan (x ∷ xs) c =
-      let e : i + 1 + length xs ≡ i + length (x ∷ xs) = omega arith in
-      ap (λ l. (if is_refused plan.shapes x then i ∷ [] else []) ++ l) (refused-append (i + 1) (plan_after plan x) xs c ∙ ap (λ (n : ℕ). refused_from (i + 1) (plan_after plan x) xs ++ (if is_refused (plan_from plan (x ∷ xs)).shapes c then n ∷ [] else [])) e)
-      ∙ sym (append_assoc (if is_refused plan.shapes x then i ∷ [] else []) (refused_from (i + 1) (plan_after plan x) xs) (if is_refused (plan_from plan (x ∷ xs)).shapes c then (i + length (x ∷ xs)) ∷ [] else []))
-
 -- what holds after some commands
-pub record Going {A : Type 0} (cmp : A → A → Ordering) (word : List Bool) (done : List (Command A ℕ)) (slots : Slots A) (refused : List ℕ) (source : WordSource) : Type 0 where
+pub record Going {A : Type 0} (cmp : A → A → Ordering) (spelling : A → Option (List ℕ)) (word : List Bool) (done : List (Command A ℕ)) (slots : Slots A) (refused : List ℕ) (source : WordSource) : Type 0 where
   pub stand : Stand cmp (plan_of done) (stream_of done) (play cmp (trace_of done) word start) slots
-  pub refused_is : refused ≡ refused_of done
+  pub refused_are : AreRefused cmp spelling word done refused
   pub word_is : source.word ≡ word
   pub drawn_is : source.drawn ≡ coins (trace_of done)
   pub enough : coins (trace_of done) ≤ length word
 
-pub going-none : {A : Type 0} (cmp : A → A → Ordering) (word : List Bool) (slots : Slots A) (source : WordSource) → ((q : ℕ) → sketch_at slots q ≡ None) → source.word ≡ word → source.drawn ≡ 0 → Going cmp word [] slots [] source
-going-none cmp word slots source none w d = record {
+pub going-none : {A : Type 0} (cmp : A → A → Ordering) (spelling : A → Option (List ℕ)) (word : List Bool) (slots : Slots A) (source : WordSource) → ((q : ℕ) → sketch_at slots q ≡ None) → source.word ≡ word → source.drawn ≡ 0 → Going cmp spelling word [] slots [] source
+going-none cmp spelling word slots source none w d = record {
   stand = record {
     lengths = refl;
     shapes = λ q. ap (option_map shape_of) (none q);
     sketches = λ q s held. absurd (absent (sym (none q) ∙ held));
   };
-  refused_is = refl;
+  refused_are = refused-none cmp spelling word;
   word_is = w;
   drawn_is = d;
   enough = omega arith;
@@ -95,9 +90,9 @@ going-none cmp word slots source none w d = record {
     absent : {X : Type 0} {x : X} → None ≡ Some x → ⊥
     absent e = cc
 
-module _ {A : Type 0} {cmp : A → A → Ordering} (o : IsTotalOrder cmp) where
+module _ {A : Type 0} {cmp : A → A → Ordering} (o : IsTotalOrder cmp) (spelling : A → Option (List ℕ)) where
   -- where the source stands after one more command
-  drawn-more : (word : List Bool) (done : List (Command A ℕ)) (slots : Slots A) (refused : List ℕ) (source : WordSource) → Going cmp word done slots refused source → (c : Command A ℕ) (source' : WordSource) →
+  drawn-more : (word : List Bool) (done : List (Command A ℕ)) (slots : Slots A) (refused : List ℕ) (source : WordSource) → Going cmp spelling word done slots refused source → (c : Command A ℕ) (source' : WordSource) →
       source' ≡ after_draws word_next source (coins (events_of (plan_of done) c)) → length word < 2 ^ 64 - 1 → source'.drawn ≡ min (coins (trace_of (done ++ c ∷ []))) (2 ^ 64 - 1)
   drawn-more word done slots refused source g c source' goes few =
       ap (λ s. s.drawn) goes
@@ -105,13 +100,13 @@ module _ {A : Type 0} {cmp : A → A → Ordering} (o : IsTotalOrder cmp) where
       ∙ ap (λ (n : ℕ). min n (2 ^ 64 - 1)) (omega (arith, g.drawn_is, coins-more done c)))
 
   -- one command more, which the word has bits for
-  pub going-more : (word : List Bool) (done : List (Command A ℕ)) (slots : Slots A) (refused : List ℕ) (source : WordSource) → Going cmp word done slots refused source →
-      (c : Command A ℕ) (accepted : Bool) (slots' : Slots A) (refused' : List ℕ) (source' : WordSource) → IsExecuted cmp word_bit word_next c slots source accepted slots' source' →
-      refused' ≡ (if accepted then refused else refused ++ length done ∷ []) → length word < 2 ^ 64 - 1 → source'.drawn ≤ length word → Going cmp word (done ++ c ∷ []) slots' refused' source'
+  pub going-more : (word : List Bool) (done : List (Command A ℕ)) (slots : Slots A) (refused : List ℕ) (source : WordSource) → Going cmp spelling word done slots refused source →
+      (c : Command A ℕ) (accepted : Bool) (slots' : Slots A) (refused' : List ℕ) (source' : WordSource) → IsExecuted cmp spelling word_bit word_next c slots source accepted slots' source' →
+      refused' ≡ (if accepted then refused else refused ++ length done ∷ []) → length word < 2 ^ 64 - 1 → source'.drawn ≤ length word → Going cmp spelling word (done ++ c ∷ []) slots' refused' source'
   going-more word done slots refused source g c accepted slots' refused' source' x r few within =
       let plan = plan_of done in
       let world = play cmp (trace_of done) word start in
-      let s = steps o word_bit word_next plan (steady-from start_plan steady-start done) (stream_of done) world slots g.stand c source accepted slots' source' x in
+      let s = steps o word_bit word_next spelling plan (steady-from start_plan steady-start done) (stream_of done) world slots g.stand c source accepted slots' source' x in
       let m = coins (events_of plan c) in
       let more = coins-more done c in
       let drawn = drawn-more word done slots refused source g c source' s.source_goes few in
@@ -122,32 +117,24 @@ module _ {A : Type 0} {cmp : A → A → Ordering} (o : IsTotalOrder cmp) where
       let stands = s.stands (drop (coins (trace_of done)) word) agree in
       let played : play cmp (trace_of (done ++ c ∷ [])) word start ≡ play cmp (events_of plan c) (drop (coins (trace_of done)) word) world =
       ap (λ (t : List (Event A)). play cmp t word start) (trace-more done c) ∙ in_turn-append event_draws (happens (act cmp)) (trace_of done) (events_of plan c) word start in
-      let decided = accepts o word_bit word_next plan (stream_of done) world slots g.stand c source accepted slots' source' x in
+      let decided = decided-exactly cmp spelling word done slots g.stand c accepted x.decided in
       record {
         stand =
             subst (λ (p : Plan). Stand cmp p (stream_of (done ++ c ∷ [])) (play cmp (trace_of (done ++ c ∷ [])) word start) slots') (sym (plan-append start_plan done c))
             (subst (λ (f : ℕ → List A). Stand cmp (plan_after plan c) f (play cmp (trace_of (done ++ c ∷ [])) word start) slots') (sym (stream-append start_plan (λ q. []) done c))
             (subst (λ (w : World (Bag A)). Stand cmp (plan_after plan c) (streams_after plan (stream_of done) c) w slots') (sym played) stands));
-        refused_is = r ∙ (listed (is_refused plan.shapes c) accepted decided refused (refused_of done) (length done) g.refused_is ∙ sym (refused-append 0 start_plan done c));
+        refused_are = refused-more cmp spelling word done refused g.refused_are c accepted refused' decided r;
         word_is = ap (λ s. s.word) s.source_goes ∙ (same-word m source ∙ g.word_is);
         drawn_is = omega (arith, drawn, total, few);
         enough = total;
       }
-    where
-      listed : (b accepted : Bool) → accepted ≡ not b → (refused done : List ℕ) (n : ℕ) → refused ≡ done → (if accepted then refused else refused ++ n ∷ []) ≡ done ++ (if b then (0 + n) ∷ [] else [])
-      listed b accepted e refused done n same =
-          subst (λ (a : Bool). (if a then refused else refused ++ n ∷ []) ≡ done ++ (if b then (0 + n) ∷ [] else [])) (sym e) (go b)
-        where
-          go : (b : Bool) → (if not b then refused else refused ++ n ∷ []) ≡ done ++ (if b then (0 + n) ∷ [] else [])
-          go true = let z : n ≡ 0 + n = omega arith in ap₂ (λ (l : List ℕ) (i : ℕ). l ++ i ∷ []) same z
-          go false = same ∙ sym (append-nil done)
 
   -- one that the word is too short for
-  pub going-short : (word : List Bool) (done rest : List (Command A ℕ)) (slots : Slots A) (refused : List ℕ) (source : WordSource) → Going cmp word done slots refused source →
-      (c : Command A ℕ) (accepted : Bool) (slots' : Slots A) (source' : WordSource) → IsExecuted cmp word_bit word_next c slots source accepted slots' source' →
+  pub going-short : (word : List Bool) (done rest : List (Command A ℕ)) (slots : Slots A) (refused : List ℕ) (source : WordSource) → Going cmp spelling word done slots refused source →
+      (c : Command A ℕ) (accepted : Bool) (slots' : Slots A) (source' : WordSource) → IsExecuted cmp spelling word_bit word_next c slots source accepted slots' source' →
       length word < 2 ^ 64 - 1 → length word < source'.drawn → length word < coins (trace_of ((done ++ c ∷ []) ++ rest))
   going-short word done rest slots refused source g c accepted slots' source' x few beyond =
-      let s = steps o word_bit word_next (plan_of done) (steady-from start_plan steady-start done) (stream_of done) (play cmp (trace_of done) word start) slots g.stand c source accepted slots' source' x in
+      let s = steps o word_bit word_next spelling (plan_of done) (steady-from start_plan steady-start done) (stream_of done) (play cmp (trace_of done) word start) slots g.stand c source accepted slots' source' x in
       let drawn = drawn-more word done slots refused source g c source' s.source_goes few in
       omega (arith, drawn, beyond, few, coins-within (done ++ c ∷ []) rest)
 
@@ -161,7 +148,7 @@ module _ {A : Type 0} {cmp : A → A → Ordering} (o : IsTotalOrder cmp) where
       let rest : map length xs ≡ map length ys = cc in
       ap₂ (λ (n m : ℕ). h * (2 ^ h * n) + m) first (load-lengths (suc h) xs ys rest)
 
-  module _ (word : List Bool) (commands : List (Command A ℕ)) (slots : Slots A) (refused : List ℕ) (source : WordSource) (g : Going cmp word commands slots refused source) where
+  module _ (word : List Bool) (commands : List (Command A ℕ)) (slots : Slots A) (refused : List ℕ) (source : WordSource) (g : Going cmp spelling word commands slots refused source) where
     pub gone-planned : ArePlanned commands slots
     gone-planned = g.stand.shapes
 
@@ -201,3 +188,7 @@ module _ {A : Type 0} {cmp : A → A → Ordering} (o : IsTotalOrder cmp) where
 
     pub gone-unbiased : AreUnbiased cmp commands (length word)
     gone-unbiased y criteria slot = run-unbiased cmp (counted cmp y criteria) commands (length word) slot g.enough
+
+    pub gone-images : (eq : A → A → Bool) → ((x y : A) → eq x y ≡ is_eq (cmp x y)) → IsPrefixFree spelling → SpellingsTie cmp spelling → AreReadBack cmp eq spelling slots
+    gone-images eq same free ties slot s held has =
+        reads_back o eq same spelling free ties s (g.stand.sketches slot s held).sound (omega (arith, gone-count slot s held, streams-fit commands slot)) has

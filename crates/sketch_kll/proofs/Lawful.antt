@@ -1,23 +1,27 @@
 -- The laws of images: a text is an image of one sketch, and what is written is an image.
-use Rattle.std.proofs.Common.{◌≡◌, ℕ, zero, suc, ◌+◌, ◌*◌, ◌-◌, ◌^◌, ◌<◌, ◌≤◌, Bool, true, false, List, [], ◌∷◌, ◌++◌, length, map, Option, Some, None, Ordering, Equal, is_gt, refl, sym, ap, ap₂, subst, ◌∙◌, arith, inl, inr, append-nil, append_assoc}
-use Rattle.std.specs.Prelude.{IsSome, MatchOption}
+use Rattle.std.proofs.Common.{◌≡◌, ℕ, zero, suc, ◌-◌, ◌^◌, ◌<◌, ◌≤◌, Bool, true, false, List, [], ◌∷◌, ◌++◌, length, map, Option, Some, None, Ordering, Equal, refl, sym, ap, ap₂, subst, ◌∙◌, arith, inl, inr, append-nil, append_assoc}
+use Rattle.std.specs.Prelude.{MatchOption}
 use Rattle.std.specs.Option.{option_to_list}
 use Rattle.std.specs.Cmp.{IsTotalOrder}
 use Rattle.std.specs.Int.{w32, to_le_bytes}
-use Rattle.std.specs.List.{flat_map, AllByRecursion}
-use Rattle.std.proofs.lemmas.Cmp.{tied_itself, alike_right}
+use Rattle.std.specs.List.{flat_map}
+use Rattle.std.specs.Ordering.{is_eq}
+use Rattle.sketch_base.specs.Bag.{AlikeKll}
 use Rattle.sketch_base.specs.Queries.{SameAnswer}
 use Rattle.sketch_kll.specs.declared.image.header.Header.{Header}
 use Rattle.sketch_kll.specs.Capacity.{total_of}
-use Rattle.sketch_kll.specs.Levels.{weight, retained, AllItems, SameLevels}
-use Rattle.sketch_kll.specs.Spelling.{bytes_of, Begins}
-use Rattle.sketch_kll.specs.Sketch.{Kll, Ties, IsSound, IsFrom, IsUpTo, AllTie, AllBetween, AreInOrder}
-use Rattle.sketch_kll.specs.Image.{has_flag, numbers_text, offsets, places, total, stored, IsHead, IsBody, IsBetween, IsItemSketch, IsItemBody, IsEmptyBody, IsLegal, IsImage}
-use Rattle.sketch_kll.specs.Written.{AllSpelled, header_of, flags_of, items_text, ends_of, text_by_count, items_by_count}
-use Rattle.sketch_kll.specs.ImageLaws.{SpellingsTie, SameSketch, OneSketch, WrittenIsImage}
+use Rattle.sketch_kll.specs.Levels.{weight, SameLevels}
+use Rattle.sketch_kll.specs.Spelling.{bytes_of}
+use Rattle.sketch_kll.specs.Copy.{IsCopy}
+use Rattle.sketch_kll.specs.Sketch.{Kll, bag_of, bag_in, Ties, IsSound, IsUpTo, AllTie, AllBetween, AreInOrder}
+use Rattle.sketch_kll.specs.Image.{has_flag, numbers_text, places, stored, IsHead, IsBody, IsItemSketch, IsLegal, IsImage}
+use Rattle.sketch_kll.specs.Written.{AllSpelled, image_text, written_items, header_of, flags_of, items_text, ends_of, text_by_count, items_by_count}
+use Rattle.sketch_kll.specs.ImageLaws.{SpellingsTie, OneSketch, AllReadBack}
 use Rattle.sketch_kll.proofs.SpelledItems.{IsPrefixFree}
 use Rattle.sketch_kll.proofs.Turns.{retained_total}
 use Rattle.sketch_kll.proofs.Sames.{same_layouts, cmp_same}
+use Rattle.sketch_kll.proofs.Copies.{copy_is_equal}
+use Rattle.sketch_kll.proofs.Merged.{alike-same}
 use Rattle.sketch_kll.proofs.Wholes.{body_of_image, same_itself, head_fits, length_lengths}
 
 -- ---- one sketch
@@ -31,19 +35,19 @@ tied_ends o None t x y e p q = absurd p
 tied_ends o (Some a) None x y e p q = absurd q
 tied_ends o (Some a) (Some b) x y e p q = sym (cmp_same o x a y b p q) ∙ e
 
-same_items_sketch : {A : Type 0} {cmp : A → A → Ordering} → IsTotalOrder cmp → (k : ℕ) (flag : Bool) (x y : A) (s t : Kll A) → cmp x y ≡ Equal → IsItemSketch cmp k flag x s → IsItemSketch cmp k flag y t → SameSketch cmp s t
+same_items_sketch : {A : Type 0} {cmp : A → A → Ordering} → IsTotalOrder cmp → (k : ℕ) (flag : Bool) (x y : A) (s t : Kll A) → cmp x y ≡ Equal → IsItemSketch cmp k flag x s → IsItemSketch cmp k flag y t → IsCopy cmp s t
 same_items_sketch {A} {cmp} o k flag x y s t e a b = record {
-  k = a.k_is ∙ sym b.k_is;
-  min_k = a.min_k_is ∙ sym b.min_k_is;
-  n = a.n_is ∙ sym b.n_is;
-  is_sorted = a.flag_is ∙ sym b.flag_is;
+  k = b.k_is ∙ sym a.k_is;
+  min_k = b.min_k_is ∙ sym a.min_k_is;
+  n = b.n_is ∙ sym a.n_is;
+  is_sorted = b.flag_is ∙ sym a.flag_is;
   levels = subst (λ (ls : List (List A)). SameLevels cmp ls t.levels) (sym a.levels_are) (subst (λ (ls : List (List A)). SameLevels cmp ((x ∷ []) ∷ []) ls) (sym b.levels_are) ((e, tt), tt));
   least = tied_ends o s.least t.least x y e a.least_is b.least_is;
   greatest = tied_ends o s.greatest t.greatest x y e a.greatest_is b.greatest_is;
 }
 
-same_bodies : {A : Type 0} {cmp : A → A → Ordering} → IsTotalOrder cmp → (spelling : A → Option (List ℕ)) → IsPrefixFree spelling → SpellingsTie cmp spelling → (h : Header) (rest : List ℕ) (s t : Kll A) → IsBody cmp spelling h rest s → IsBody cmp spelling h rest t → SameSketch cmp s t
-same_bodies {A} {cmp} o spelling free ties h rest s t (inl a) (inl b) = subst (λ (u : Kll A). SameSketch cmp s u) (a.sketch ∙ sym b.sketch) (same_itself o s)
+same_bodies : {A : Type 0} {cmp : A → A → Ordering} → IsTotalOrder cmp → (spelling : A → Option (List ℕ)) → IsPrefixFree spelling → SpellingsTie cmp spelling → (h : Header) (rest : List ℕ) (s t : Kll A) → IsBody cmp spelling h rest s → IsBody cmp spelling h rest t → IsCopy cmp s t
+same_bodies {A} {cmp} o spelling free ties h rest s t (inl a) (inl b) = subst (λ (u : Kll A). IsCopy cmp s u) (a.sketch ∙ sym b.sketch) (same_itself o s)
 same_bodies o spelling free ties h rest s t (inl a) (inr (inl b)) = let z : true ≡ false = sym a.head.empty_is ∙ b.head.empty_is in absurd cc
 same_bodies o spelling free ties h rest s t (inl a) (inr (inr b)) = let z : true ≡ false = sym a.head.empty_is ∙ b.head.empty_is in absurd cc
 same_bodies o spelling free ties h rest s t (inr (inl a)) (inl b) = let z : false ≡ true = sym a.head.empty_is ∙ b.head.empty_is in absurd cc
@@ -59,18 +63,27 @@ same_bodies {A} {cmp} o spelling free ties h rest s t (inr (inr a)) (inr (inr b)
     let fits : t.k < 2 ^ 16 = subst (λ (i : ℕ). i < 2 ^ 16) (sym b.k_is) b.head.k_fits in
     let l = same_layouts cmp spelling free ties rest s t a.least b.least a.greatest b.greatest fits e f a.layout b.layout in
     record {
-      k = e;
-      min_k = l.min_k;
-      n = l.n;
-      is_sorted = f;
+      k = sym e;
+      min_k = sym l.min_k;
+      n = sym l.n;
+      is_sorted = sym f;
       levels = l.levels;
       least = tied_option cmp s.least t.least a.least b.least a.layout.least_is b.layout.least_is l.least;
       greatest = tied_option cmp s.greatest t.greatest a.greatest b.greatest a.layout.greatest_is b.layout.greatest_is l.greatest;
     }
 
-pub one_sketch_lem : {A : Type 0} {cmp : A → A → Ordering} → IsTotalOrder cmp → (spelling : A → Option (List ℕ)) → IsPrefixFree spelling → SpellingsTie cmp spelling → OneSketch cmp spelling
-one_sketch_lem {A} {cmp} o spelling free ties text s t a b =
+copied_in : {A : Type 0} {cmp : A → A → Ordering} → IsTotalOrder cmp → (spelling : A → Option (List ℕ)) → IsPrefixFree spelling → SpellingsTie cmp spelling → (text : List ℕ) (s t : Kll A) → IsImage cmp spelling text s → IsImage cmp spelling text t → IsCopy cmp s t
+copied_in {A} {cmp} o spelling free ties text s t a b =
     same_bodies o spelling free ties a.head a.rest s t a.body (body_of_image cmp spelling text t a.head a.rest (head_fits cmp spelling a.head a.rest s a.body) a.parts b)
+
+pub one_sketch_lem : {A : Type 0} {cmp : A → A → Ordering} → IsTotalOrder cmp → (eq : A → A → Bool) → ((x y : A) → eq x y ≡ is_eq (cmp x y)) → (spelling : A → Option (List ℕ)) → IsPrefixFree spelling → SpellingsTie cmp spelling → OneSketch cmp eq spelling
+one_sketch_lem {A} {cmp} o eq ties_eq spelling free ties text s t a b =
+    let c = copied_in o spelling free ties text s t a b in
+    record {
+      equal = copy_is_equal o eq ties_eq s t c;
+      copied = c;
+      alike = subst (λ (flag : Bool). AlikeKll cmp (bag_of s) (bag_in flag t.levels)) (sym c.is_sorted) (alike-same cmp o s.is_sorted s.levels t.levels c.levels);
+    }
 
 -- ---- what a sound sketch holds
 
@@ -82,7 +95,7 @@ none_of : {A : Type 0} (o : Option A) (n : ℕ) → MatchOption o (n ≡ 0) (λ 
 none_of None n m e = refl
 none_of (Some x) n m e = absurd (omega (arith, m, e))
 
-no_items : {A : Type 0} (ls : List (List A)) → length ls ≡ 1 → weight ls ≡ 0 → ls ≡ [] ∷ []
+pub no_items : {A : Type 0} (ls : List (List A)) → length ls ≡ 1 → weight ls ≡ 0 → ls ≡ [] ∷ []
 no_items [] l w = absurd (omega (arith, l))
 no_items ([] ∷ []) l w = refl
 no_items ((x ∷ xs) ∷ []) l w = absurd (omega (arith, w))
@@ -254,10 +267,18 @@ written_full {A} cmp spelling s n h n_fits e spelled =
       }));
     }
 
-pub written_lem : {A : Type 0} (cmp : A → A → Ordering) (spelling : A → Option (List ℕ)) → WrittenIsImage cmp spelling
+pub written_lem : {A : Type 0} (cmp : A → A → Ordering) (spelling : A → Option (List ℕ)) (s : Kll A) → IsSound cmp s → s.n < 2 ^ 64 → AllSpelled spelling (written_items s) → IsImage cmp spelling (image_text spelling s) s
 written_lem {A} cmp spelling s h n_fits spelled = go s.n refl spelled
   where
     go : (n : ℕ) → s.n ≡ n → AllSpelled spelling (items_by_count s n) → IsImage cmp spelling (text_by_count spelling s n) s
     go zero e p = written_empty cmp spelling s h e
     go (suc zero) e p = written_item cmp spelling s h e p
     go (suc (suc n)) e p = written_full cmp spelling s n h n_fits e p
+
+pub reads_back : {A : Type 0} {cmp : A → A → Ordering} → IsTotalOrder cmp → (eq : A → A → Bool) → ((x y : A) → eq x y ≡ is_eq (cmp x y)) → (spelling : A → Option (List ℕ)) → IsPrefixFree spelling → SpellingsTie cmp spelling → AllReadBack cmp eq spelling
+reads_back {A} {cmp} o eq ties_eq spelling free ties s sound fits has =
+    let image = written_lem cmp spelling s sound fits has.spelled in
+    record {
+      image = image;
+      equal = λ t other. (one_sketch_lem o eq ties_eq spelling free ties (image_text spelling s) s t image other).equal;
+    }

@@ -211,3 +211,7 @@ levels_hidden k text n m ns r n' m' count u end mid places rest fits b p q e f l
     let d = same_places (offsets (total_of k 8 (length ns) - total ns) ns) places r rest (length-offsets (total_of k 8 (length ns) - total ns) ns ∙ many)
     (offsets_below (total_of k 8 (length ns) - total ns) (total_of k 8 (length ns)) ns (omega arith) (capacity_below k (length ns) fits b.few_levels)) below (s.1 ∙ f) in
     record { as_many = many; within = omega (arith, here, w); begin = sym d.0 ∙ ap (λ (c : ℕ). offsets (c - total ns) ns) here }
+
+-- the numbers, read one after the other
+pub numbers_read : (text a b c d : List ℕ) (n m l u : ℕ) → text ≡ to_le_bytes w64 n ++ a → a ≡ to_le_bytes w16 m ++ b → b ≡ l ∷ c → c ≡ u ∷ d → text ≡ numbers_text n m l u ++ d
+numbers_read text a b c d n m l u p q r s = p ∙ ap (λ (x : List ℕ). to_le_bytes w64 n ++ x) (q ∙ ap (λ (x : List ℕ). to_le_bytes w16 m ++ x) (r ∙ ap (λ (x : List ℕ). l ∷ x) s))

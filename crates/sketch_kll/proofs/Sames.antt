@@ -1,6 +1,6 @@
 -- Two layouts of one text are one, up to items that compare equal.
 use Rattle.std.proofs.Common.{◌≡◌, ℕ, zero, suc, ◌+◌, ◌^◌, ◌<◌, Bool, true, false, List, [], ◌∷◌, ◌++◌, length, map, get_or, Option, Some, Ordering, Equal, is_lt, is_gt, refl, sym, ap, subst, ◌∙◌, arith, IsSorted}
-use Rattle.std.specs.Prelude.{IsSome, reverse}
+use Rattle.std.specs.Prelude.{reverse}
 use Rattle.std.specs.Cmp.{IsTotalOrder}
 use Rattle.std.specs.List.{flat_map, AllByRecursion, AllZip}
 use Rattle.std.proofs.lemmas.Cmp.{alike_right}

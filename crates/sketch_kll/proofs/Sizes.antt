@@ -1,18 +1,18 @@
 -- How long the spellings of items are together.
-use Rattle.std.proofs.Common.{◌≡◌, ℕ, zero, suc, ◌+◌, ◌-◌, ◌*◌, ◌^◌, ◌<◌, ◌≤◌, Bool, true, false, List, [], ◌∷◌, ◌++◌, length, map, take, Option, Some, None, unwrap_or, refl, sym, ap, subst, ◌∙◌, arith, length-append}
+use Rattle.std.proofs.Common.{◌≡◌, ℕ, zero, suc, ◌+◌, ◌-◌, ◌*◌, ◌<◌, ◌≤◌, Bool, true, false, List, [], ◌∷◌, ◌++◌, length, map, Option, Some, None, Ordering, unwrap_or, refl, sym, ap, subst, ◌∙◌, arith, length-append, append-nil, append_assoc}
 use Rattle.std.specs.Prelude.{IsSome, IfSome, reverse}
 use Rattle.std.specs.List.{flat_map, AllByRecursion}
-use Rattle.std.proofs.lemmas.List.{take_more, reverse-append}
+use Rattle.std.proofs.lemmas.List.{reverse-append}
 use Rattle.std.proofs.lemmas.List.Concat.{flat_map-append}
 use Rattle.sketch_kll.specs.Flat.{flat}
 use Rattle.std.specs.Int.{w32, to_le_bytes}
-use Rattle.std.specs.Option.{SomeIff, option_to_list}
+use Rattle.std.specs.Option.{option_to_list}
 use Rattle.sketch_kll.specs.Capacity.{total_of}
-use Rattle.sketch_kll.specs.Image.{places, stored, total}
-use Rattle.sketch_kll.specs.Sketch.{Kll}
+use Rattle.sketch_kll.specs.Image.{header_text, numbers_text, places, stored, total}
+use Rattle.sketch_kll.specs.Sketch.{Kll, IsSound}
 use Rattle.sketch_kll.specs.Spelling.{bytes_of}
-use Rattle.sketch_kll.specs.Written.{AllSpelled, items_text, image_text, text_by_count, full_text, items_by_count, written_items, ends_of}
-use Rattle.sketch_kll.proofs.Lawful.{above_two}
+use Rattle.sketch_kll.specs.Written.{AllSpelled, header_of, header_by_count, numbers_part, items_text, image_text, text_by_count, full_text, items_by_count, written_items, ends_of}
+use Rattle.sketch_kll.proofs.Lawful.{above_two, no_items}
 use Rattle.sketch_kll.proofs.Legals.{all_append, all_front}
 use Rattle.sketch_kll.proofs.Places.{length_places, length-offsets}
 use Rattle.sketch_kll.proofs.Wholes.{length_lengths}
@@ -27,28 +27,14 @@ text_append spelling xs ys = ap length (flat_map-append (bytes_of spelling) xs y
 text_one : {A : Type 0} (spelling : A → Option (List ℕ)) (x : A) → length (items_text spelling (x ∷ [])) ≡ length (bytes_of spelling x)
 text_one spelling x = let h = length-append (bytes_of spelling x) [] in omega (arith, h)
 
-pub size_step : {A : Type 0} (spelling : A → Option (List ℕ)) (front : List A) (x : A) (size total n : ℕ) → (AllSpelled spelling front → total ≡ size + length (items_text spelling front)) → IfSome (spelling x) (λ b. n ≡ length b) → AllSpelled spelling (front ++ x ∷ []) → total + n ≡ size + length (items_text spelling (front ++ x ∷ []))
-size_step spelling front x size total n so_far is spelled =
+pub size_step : {A : Type 0} (spelling : A → Option (List ℕ)) (front : List A) (x : A) (total n : ℕ) → (AllSpelled spelling front → total ≡ length (items_text spelling front)) → IfSome (spelling x) (λ b. n ≡ length b) → AllSpelled spelling (front ++ x ∷ []) → total + n ≡ length (items_text spelling (front ++ x ∷ []))
+size_step spelling front x total n so_far is spelled =
     let h = all_front (λ y. IsSome (spelling y)) front (x ∷ []) spelled in
     let a = so_far h.0 in
     let b = sized (spelling x) n h.1.0 is in
     let c = text_append spelling front (x ∷ []) in
     let d = text_one spelling x in
     omega (arith, a, b, c, d)
-
-pub spelled_front : {A : Type 0} (spelling : A → Option (List ℕ)) (n : ℕ) (xs : List A) → AllSpelled spelling xs → AllSpelled spelling (take n xs)
-spelled_front spelling zero xs h = tt
-spelled_front spelling (suc n) [] h = tt
-spelled_front spelling (suc n) (x ∷ xs) h = (h.0, spelled_front spelling n xs h.1)
-
-pub text_front : {A : Type 0} (spelling : A → Option (List ℕ)) (n : ℕ) (xs : List A) → length (items_text spelling (take n xs)) ≤ length (items_text spelling xs)
-text_front spelling zero xs = omega arith
-text_front spelling (suc n) [] = omega arith
-text_front spelling (suc n) (x ∷ xs) =
-    let h = text_front spelling n xs in
-    let a = length-append (bytes_of spelling x) (items_text spelling (take n xs)) in
-    let b = length-append (bytes_of spelling x) (items_text spelling xs) in
-    omega (arith, h, a, b)
 
 -- ---- the order of the text does not matter
 
@@ -134,13 +120,88 @@ length_full {A} spelling s items two e =
     let z = ap (λ (xs : List A). length (items_text spelling xs)) e in
     omega (arith, whole, a, b, c, d, f, l, x, y, z)
 
-pub size_item : {A : Type 0} (spelling : A → Option (List ℕ)) (s : Kll A) (items : List A) (r : Option ℕ) → s.n ≡ 1 → flat s.levels ≡ items → (AllSpelled spelling items → SomeIff r (8 + length (items_text spelling items) < 2 ^ 64) (8 + length (items_text spelling items))) → AllSpelled spelling (written_items s) → SomeIff r (length (image_text spelling s) < 2 ^ 64) (length (image_text spelling s))
-size_item {A} spelling s items r one e h spelled =
-    let P : A → Type 0 = λ x. IsSome (spelling x) in
-    let w : AllSpelled spelling (stored s.is_sorted s.levels) = subst (λ (i : ℕ). AllSpelled spelling (items_by_count s i)) one spelled in
-    let whole : length (image_text spelling s) ≡ length (text_by_count spelling s 1) = ap (λ (i : ℕ). length (text_by_count spelling s i)) one in
-    let a : length (text_by_count spelling s 1) ≡ 8 + length (items_text spelling (stored s.is_sorted s.levels)) = omega arith in
-    let y = text_stored spelling s.is_sorted s.levels in
-    let z = ap (λ (xs : List A). length (items_text spelling xs)) e in
-    let same : 8 + length (items_text spelling items) ≡ length (image_text spelling s) = omega (arith, whole, a, y, z) in
-    subst (λ (n : ℕ). SomeIff r (n < 2 ^ 64) n) same (h (subst (AllSpelled spelling) e (all_stored P s.is_sorted s.levels w)))
+-- how long an image of at most one item is
+pub length_small : {A : Type 0} (cmp : A → A → Ordering) (spelling : A → Option (List ℕ)) (s : Kll A) (items : List A) → IsSound cmp s → s.n < 2 → flat s.levels ≡ items → length (image_text spelling s) ≡ 8 + length (items_text spelling items)
+length_small {A} cmp spelling s items h few e = go s.n refl few
+  where
+    go : (n : ℕ) → s.n ≡ n → n < 2 → length (text_by_count spelling s n) ≡ 8 + length (items_text spelling items)
+    go zero is lt =
+        let none = no_items s.levels (h.one_level_at_first (omega (arith, is))) (h.weighs_n ∙ is) in
+        let z : items ≡ [] = sym e ∙ ap flat none in
+        ap (λ (xs : List A). 8 + length (items_text spelling xs)) (sym z)
+    go (suc zero) is lt =
+        let a : length (text_by_count spelling s 1) ≡ 8 + length (items_text spelling (stored s.is_sorted s.levels)) = omega arith in
+        let y = text_stored spelling s.is_sorted s.levels in
+        let z = ap (λ (xs : List A). length (items_text spelling xs)) e in
+        omega (arith, a, y, z)
+    go (suc (suc n)) is lt = absurd (omega (arith, lt))
+
+-- the items of an image of at most one item are all that are retained
+pub spelled_small : {A : Type 0} (cmp : A → A → Ordering) (spelling : A → Option (List ℕ)) (s : Kll A) (items : List A) → IsSound cmp s → s.n < 2 → flat s.levels ≡ items → AllSpelled spelling (written_items s) → AllSpelled spelling items
+spelled_small {A} cmp spelling s items h few e spelled = go s.n refl few spelled
+  where
+    go : (n : ℕ) → s.n ≡ n → n < 2 → AllSpelled spelling (items_by_count s n) → AllSpelled spelling items
+    go zero is lt w =
+        let none = no_items s.levels (h.one_level_at_first (omega (arith, is))) (h.weighs_n ∙ is) in
+        subst (AllSpelled spelling) (sym (ap flat none) ∙ e) tt
+    go (suc zero) is lt w = subst (AllSpelled spelling) e (all_stored (λ (x : A). IsSome (spelling x)) s.is_sorted s.levels w)
+    go (suc (suc n)) is lt w = absurd (omega (arith, lt))
+
+-- ---- the parts of an image, one after the other
+
+pub text_small : {A : Type 0} (cmp : A → A → Ordering) (spelling : A → Option (List ℕ)) (s : Kll A) → IsSound cmp s → s.n ≤ 1 → image_text spelling s ≡ header_text (header_by_count s s.n) ++ items_text spelling (stored s.is_sorted s.levels)
+text_small {A} cmp spelling s h few = go s.n refl few
+  where
+    none_stored : (flag : Bool) → stored {A = A} flag ([] ∷ []) ≡ []
+    none_stored true = refl
+    none_stored false = refl
+
+    go : (n : ℕ) → s.n ≡ n → n ≤ 1 → text_by_count spelling s n ≡ header_text (header_by_count s n) ++ items_text spelling (stored s.is_sorted s.levels)
+    go zero is lt =
+        let none = no_items s.levels (h.one_level_at_first (omega (arith, is))) (h.weighs_n ∙ is) in
+        let z : stored s.is_sorted s.levels ≡ [] = ap (stored s.is_sorted) none ∙ none_stored s.is_sorted in
+        sym (append-nil _) ∙ ap (λ (xs : List A). header_text (header_by_count s zero) ++ items_text spelling xs) (sym z)
+    go (suc zero) is lt = refl
+    go (suc (suc n)) is lt = absurd (omega (arith, lt))
+
+pub text_large : {A : Type 0} (spelling : A → Option (List ℕ)) (s : Kll A) → 2 ≤ s.n → image_text spelling s ≡ (header_text (header_by_count s s.n) ++ numbers_part spelling s) ++ items_text spelling (stored s.is_sorted s.levels)
+text_large {A} spelling s two =
+    let m = above_two s.n two in
+    ap (text_by_count spelling s) m.1 ∙ parts (header_text (header_of s 5 1)) (numbers_text s.n s.min_k (length s.levels) 0) (flat_map (to_le_bytes w32) (places s.k (map length s.levels))) (items_text spelling (ends_of s)) (items_text spelling (stored s.is_sorted s.levels))
+    ∙ ap (λ (n : ℕ). (header_text (header_by_count s n) ++ numbers_part spelling s) ++ items_text spelling (stored s.is_sorted s.levels)) (sym m.1)
+  where
+    parts : (a b c d e : List ℕ) → a ++ (b ++ (c ++ (d ++ e))) ≡ (a ++ (b ++ (c ++ d))) ++ e
+    parts a b c d e = sym (simp append_assoc)
+
+-- the items of the levels and, where there are more, the extremes are those that are written
+pub record Spelled {A : Type 0} (spelling : A → Option (List ℕ)) (s : Kll A) : Type 0 where
+  pub stored_too : AllSpelled spelling (stored s.is_sorted s.levels)
+  pub ends_too : 2 ≤ s.n → AllSpelled spelling (ends_of s)
+
+pub spelled_parts : {A : Type 0} (cmp : A → A → Ordering) (spelling : A → Option (List ℕ)) (s : Kll A) → IsSound cmp s → AllSpelled spelling (written_items s) → Spelled spelling s
+spelled_parts {A} cmp spelling s h w = go s.n refl w
+  where
+    P : A → Type 0
+    P x = IsSome (spelling x)
+
+    none_stored : (flag : Bool) → stored {A = A} flag ([] ∷ []) ≡ []
+    none_stored true = refl
+    none_stored false = refl
+
+    go : (n : ℕ) → s.n ≡ n → AllSpelled spelling (items_by_count s n) → Spelled spelling s
+    go zero is w =
+        let none = no_items s.levels (h.one_level_at_first (omega (arith, is))) (h.weighs_n ∙ is) in
+        let z : stored s.is_sorted s.levels ≡ [] = ap (stored s.is_sorted) none ∙ none_stored s.is_sorted in
+        record { stored_too = subst (AllSpelled spelling) (sym z) tt; ends_too = λ two. absurd (omega (arith, is, two)) }
+    go (suc zero) is w = record { stored_too = w; ends_too = λ two. absurd (omega (arith, is, two)) }
+    go (suc (suc n)) is w =
+        let q = all_front (λ (x : A). IsSome (spelling x)) (ends_of s) (stored s.is_sorted s.levels) w in
+        record { stored_too = q.1; ends_too = λ two. q.0 }
+
+pub spelled_whole : {A : Type 0} (spelling : A → Option (List ℕ)) (s : Kll A) → Spelled spelling s → AllSpelled spelling (written_items s)
+spelled_whole {A} spelling s p = go s.n refl
+  where
+    go : (n : ℕ) → s.n ≡ n → AllSpelled spelling (items_by_count s n)
+    go zero is = tt
+    go (suc zero) is = p.stored_too
+    go (suc (suc n)) is = all_append (λ (x : A). IsSome (spelling x)) (ends_of s) (stored s.is_sorted s.levels) (p.ends_too (omega (arith, is))) p.stored_too

@@ -1,6 +1,5 @@
 -- Whole images: the header decides the case.
-use Rattle.std.proofs.Common.{◌≡◌, ℕ, ◌^◌, ◌<◌, ◌≤◌, Bool, true, false, List, [], ◌∷◌, ◌++◌, length, map, eqb, Option, Some, None, Ordering, Equal, refl, sym, ap, subst, ◌∙◌, arith, inl, inr}
-use Rattle.std.specs.Prelude.{◌⊎◌}
+use Rattle.std.proofs.Common.{◌≡◌, ℕ, ◌^◌, ◌<◌, ◌≤◌, Bool, true, false, List, [], ◌∷◌, ◌++◌, length, map, eqb, Option, Some, None, Ordering, refl, sym, ap, subst, ◌∙◌, arith, inl, inr}
 use Rattle.std.specs.Cmp.{IsTotalOrder}
 use Rattle.std.specs.Int.{w16, to_le_bytes}
 use Rattle.std.proofs.lemmas.Cmp.{tied_itself}
@@ -8,9 +7,9 @@ use Rattle.std.proofs.lemmas.List.{nil_from_length}
 use Rattle.std.proofs.lemmas.Bool.{eqb-true}
 use Rattle.sketch_kll.specs.declared.image.header.Header.{Header}
 use Rattle.sketch_kll.specs.Flat.{levels_in, IsFlat}
-use Rattle.sketch_kll.specs.Image.{header_text, IsHead, IsEmptyBody, IsItemBody, IsItemSketch, IsFullBody, IsBody, IsImage, empty_sketch}
-use Rattle.sketch_kll.specs.Sketch.{Kll, Ties}
-use Rattle.sketch_kll.specs.ImageLaws.{SameSketch}
+use Rattle.sketch_kll.specs.Image.{header_text, IsHead, IsEmptyBody, IsItemBody, IsFullBody, IsBody, IsImage, empty_sketch}
+use Rattle.sketch_kll.specs.Sketch.{Kll}
+use Rattle.sketch_kll.specs.Copy.{IsCopy}
 use Rattle.sketch_base.specs.Queries.{SameAnswer}
 use Rattle.sketch_kll.proofs.Flats.{SameLevels-refl, levels_of_flat, is_flat}
 use Rattle.sketch_kll.proofs.Places.{same_16}
@@ -50,7 +49,7 @@ same_option : {A : Type 0} {cmp : A → A → Ordering} → IsTotalOrder cmp →
 same_option o None = tt
 same_option o (Some x) = tied_itself o x
 
-pub same_itself : {A : Type 0} {cmp : A → A → Ordering} → IsTotalOrder cmp → (s : Kll A) → SameSketch cmp s s
+pub same_itself : {A : Type 0} {cmp : A → A → Ordering} → IsTotalOrder cmp → (s : Kll A) → IsCopy cmp s s
 same_itself {A} {cmp} o s = record { k = refl; min_k = refl; n = refl; is_sorted = refl; levels = SameLevels-refl cmp o s.levels; least = same_option o s.least; greatest = same_option o s.greatest }
 
 -- ---- no item, and one

@@ -1,7 +1,9 @@
 -- What the parts of the reader say.
-use Rattle.std.specs.Prelude.{◌≡◌, ℕ, zero, suc, ◌+◌, ◌-◌, ◌*◌, ◌≤◌, nat_le, ◌&&◌, Bool, true, List, [], ◌∷◌, length, Option, Some, reverse}
-use Rattle.sketch_kll.specs.declared.image.Layout.{Layout}
-use Rattle.sketch_kll.specs.Image.{total, offsets, BeginsLevels}
+use Rattle.std.specs.Prelude.{◌≡◌, ℕ, zero, suc, ◌+◌, ◌-◌, ◌*◌, ◌≤◌, nat_le, ◌&&◌, Bool, true, List, [], ◌∷◌, length, Option, Some, reverse, IsTrue, IsSorted, All}
+use Rattle.std.specs.declared.cmp.Ordering.{Ordering}
+use Rattle.sketch_kll.specs.declared.image.reading.Levels.{Levels}
+use Rattle.sketch_kll.specs.Levels.{first_level, UpperSorted, AllItems}
+use Rattle.sketch_kll.specs.Image.{total, offsets, BeginsLevels, IsBetween}
 use Rattle.sketch_kll.specs.Sketch.{Kll, sketch_of}
 use Rattle.sketch_kll.specs.Spelling.{BeginsAll}
 
@@ -64,6 +66,17 @@ abbrev pub weight_of : List ℕ → ℕ
 weight_of [] = 0
 weight_of (n ∷ ns) = n + 2 * weight_of ns
 
+-- items that lie between two, and in order where they have to
+pub record IsLegalRun {A : Type 0} (cmp : A → A → Ordering) (in_order : Bool) (least greatest : A) (run : List A) : Type 0 where
+  pub sorted : IsTrue in_order → IsSorted cmp run
+  pub between : All (IsBetween cmp least greatest) run
+
+-- so it is of each level; from level 1 up the items have to be in order
+pub record AreLegalRuns {A : Type 0} (cmp : A → A → Ordering) (is_sorted : Bool) (least greatest : A) (levels : List (List A)) : Type 0 where
+  pub upper_sorted : UpperSorted cmp levels
+  pub flag_holds : IsTrue is_sorted → IsSorted cmp (first_level levels)
+  pub between : AllItems (IsBetween cmp least greatest) levels
+
 -- what was laid out in a text, as a sketch
-abbrev pub laid_out : {A : Type 0} → ℕ → Layout A → Kll A
-laid_out k x = sketch_of k x.min_k x.n x.is_sorted x.items.items x.bounds.items (Some x.least) (Some x.greatest)
+abbrev pub laid_out : {A : Type 0} → ℕ → Levels → Bool → List A → A → A → Kll A
+laid_out k x is_sorted items least greatest = sketch_of k x.min_k x.n is_sorted items x.bounds.items (Some least) (Some greatest)

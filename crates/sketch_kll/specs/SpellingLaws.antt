@@ -1,5 +1,5 @@
 -- The laws of the spellings of items.
-use Rattle.std.proofs.Common.{◌≡◌, ℕ, ◌+◌, ◌^◌, ◌<◌, ◌≤◌, Bool, true, false, cond, ltb, List, [], ◌++◌, length, take, drop, Option, Some, None, unwrap_or, Result, Ok, Err, refl, sym, ap, ◌∙◌, append_assoc, arith, length-append}
+use Rattle.std.proofs.Common.{◌≡◌, ℕ, ◌+◌, ◌^◌, ◌<◌, ◌≤◌, Bool, true, false, cond, ltb, eqb, List, [], ◌∷◌, ◌++◌, length, take, drop, Option, Some, None, unwrap_or, Result, Ok, Err, refl, sym, ap, ◌∙◌, append_assoc, arith, length-append}
 use Rattle.std.specs.Prelude.{IsSome, IfSome, is_some, ℤ, pos, negsuc, FitsSigned, IsErrOf, ◌↔◌}
 use Rattle.sketch_base.specs.declared.error.ErrorKind.{ErrorKind}
 use Rattle.sketch_base.specs.declared.error.ErrorKind.TheVariants.{InvalidArgument, OutOfMemory}
@@ -12,7 +12,7 @@ use Rattle.std.proofs.lemmas.Cmp.{tied_itself, int_cmp_total, nat_list_cmp_total
 use Rattle.std.specs.Ordering.{int_cmp, nat_cmp}
 use Rattle.std.specs.Cmp.Lexicographic.{slice_cmp}
 use Rattle.std.specs.declared.cmp.Ordering.TheVariants.{Equal}
-use Rattle.sketch_kll.specs.Spelling.{bytes_of, Begins, fits_i64, i64_spelling, text_spelling}
+use Rattle.sketch_kll.specs.Spelling.{bytes_of, Begins, fits_i64, i64_spelling, text_spelling, byte_spelling}
 
 -- two fronts of one length of one text are one
 pub one_front : (a b rest others : List ℕ) → length a ≡ length b → a ++ rest ≡ b ++ others → a ≡ b
@@ -38,6 +38,25 @@ i64_prefix_free x y text rest others p q =
 
 pub i64_long : (x : ℤ) → IsSome (i64_spelling x) → 8 ≤ length (bytes_of i64_spelling x)
 i64_long x p = let h = i64_length x p in omega (arith, h)
+
+-- ---- bytes
+
+byte_length : (n : ℕ) → IsSome (byte_spelling n) → length (bytes_of byte_spelling n) ≡ 1
+unfolding byte_spelling
+byte_length n = elim (eqb n 0) as (λ b. IsSome (cond b None (Some (n ∷ []))) → length (unwrap_or (cond b None (Some (n ∷ []))) []) ≡ 1) [
+  | true ↦ λ p. absurd cc
+  | false ↦ λ p. refl
+]
+
+pub byte_prefix_free : (x y : ℕ) (text rest others : List ℕ) → Begins byte_spelling text x rest → Begins byte_spelling text y others → byte_spelling x ≡ byte_spelling y
+byte_prefix_free x y text rest others p q =
+    one_spelling (byte_spelling x) (byte_spelling y) p.spelled q.spelled
+    (one_front _ _ rest others (byte_length x p.spelled ∙ sym (byte_length y q.spelled)) (sym p.parts ∙ q.parts))
+
+pub byte_long : (x : ℕ) → IsSome (byte_spelling x) → 1 ≤ length (bytes_of byte_spelling x)
+byte_long x p = let h = byte_length x p in omega (arith, h)
+
+-- ---- texts
 
 -- a text that has a spelling
 pub spelled_text : (t : List ℕ) → IsSome (text_spelling t) → (length t < 2 ^ 32) × (unwrap_or (text_spelling t) [] ≡ to_le_bytes w32 (length t) ++ t)

@@ -23,9 +23,21 @@ flags_of (suc (suc n)) is_sorted = if is_sorted then 2 else 0
 abbrev pub header_of : {A : Type 0} → Kll A → ℕ → ℕ → Header
 header_of s preamble version = record { preamble = preamble; version = version; family = 15; flags = flags_of s.n s.is_sorted; k = s.k; m = 8; unused = 0 }
 
--- the extremes and then the levels
+-- the header that the number of items asks for
+abbrev pub header_by_count : {A : Type 0} → Kll A → ℕ → Header
+header_by_count s zero = header_of s 2 1
+header_by_count s (suc zero) = header_of s 2 2
+header_by_count s (suc (suc n)) = header_of s 5 1
+
+-- the extremes
 abbrev pub ends_of : {A : Type 0} → Kll A → List A
 ends_of s = option_to_list s.least ++ option_to_list s.greatest
+
+-- what stands between the header and the items of the levels: numbers, offsets and extremes
+abbrev pub numbers_part : {A : Type 0} → (A → Option (List ℕ)) → Kll A → List ℕ
+numbers_part spelling s =
+    numbers_text s.n s.min_k (length s.levels) 0
+    ++ (flat_map (to_le_bytes w32) (places s.k (map length s.levels)) ++ items_text spelling (ends_of s))
 
 -- header, numbers, offsets, extremes and items
 abbrev pub full_text : {A : Type 0} → (A → Option (List ℕ)) → Kll A → List ℕ

@@ -31,6 +31,7 @@ use std::marker::Model;
 
 mod image;
 mod merge;
+mod weighted;
 
 /// A KLL sketch of items of one type, after Karnin, Lang and Liberty, "Optimal quantile
 /// approximation in streams" (2016).

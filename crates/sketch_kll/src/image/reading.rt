@@ -8,7 +8,6 @@ ghost use Rattle.sketch_kll.specs.Spelling.{Begins, BeginsAll};
 ghost use Rattle.sketch_kll.specs.Reading.{bounds_of, AreLengths, ReadsLevels, NoLevels, ReadsItems, NoItems};
 
 use crate::capacity::{MINIMUM_CAPACITY, total_capacity};
-use crate::image::header::read_numbers;
 use crate::value::KllValue;
 use sketch_base::codec::SketchSlice;
 use sketch_base::error::{Error, ErrorKind};
@@ -78,17 +77,20 @@ pub(crate) fn read_levels(
     ensures refused { IfErr result (λ e. e ≡ InvalidData → NoLevels k input.old) }
     ensures kind { IfErr result (λ e. e ≢ InvalidArgument) }
 {
-    let numbers = read_numbers(input)?;
-    let num_levels = numbers.num_levels as usize;
+    let n = input.read_u64_le()?;
+    let min_k = input.read_u16_le()?;
+    let num_levels = input.read_u8()? as usize;
+    let _unused = input.read_u8()?;
     if num_levels == 0 || num_levels > MAX_LEVELS {
         return Err(Error::new(ErrorKind::InvalidData));
     }
     let capacity = total_capacity(k, MINIMUM_CAPACITY, num_levels);
     let offsets = read_offsets(alloc, input, num_levels)?;
-    match bounds_from(alloc, &offsets, capacity)? {
+    let bounds = bounds_from(alloc, &offsets, capacity)?;
+    match bounds {
         Some(bounds) => Ok(Levels {
-            n: numbers.n,
-            min_k: numbers.min_k,
+            n,
+            min_k,
             capacity,
             bounds,
         }),
@@ -107,38 +109,25 @@ fn read_items<T: KllValue + Drop>(
     ensures kind { IfErr result (λ e. e ≢ InvalidArgument) }
 {
     let left = input.remaining().len();
-    let least = match count.checked_mul(T::MIN_SERIALIZED_SIZE) {
-        Some(least) => least,
-        None => return Err(Error::new(ErrorKind::InvalidData)),
-    };
-    if left < least {
+    if left < count.saturating_mul(T::MIN_SERIALIZED_SIZE) {
         return Err(Error::new(ErrorKind::InvalidData));
     }
     let mut items = Vec::with_capacity(alloc, count)?;
     for _ in 0..count {
-        let item = T::deserialize(alloc, input)?;
-        items.push(item)?;
+        items.push_reserved(T::deserialize(alloc, input)?);
     }
     Ok(items)
 }
 
-/// The extremes and the items in the order of the text.
-#[derive(Drop)]
-pub(crate) struct Contents<T> {
-    pub(crate) least: T,
-    pub(crate) greatest: T,
-    pub(crate) items: Vec<T>,
-}
-
-// The extremes and so many items, and nothing after them.
+/// The least item, the greatest and so many items in the order of the text, and nothing after them.
 pub(crate) fn read_contents<T: KllValue + Drop>(
     alloc: Global,
     input: &mut SketchSlice<'_>,
     count: usize,
-) -> Result<Contents<T>, Error>
+) -> Result<(T, T, Vec<T>), Error>
     ensures found { IfOk result (λ x.
-        BeginsAll T.spelling input.old (x.least ∷ x.greatest ∷ x.items.items) []) }
-    ensures as_many { IfOk result (λ x. length x.items.items ≡ count) }
+        BeginsAll T.spelling input.old (x.0 ∷ x.1 ∷ x.2.items) []) }
+    ensures as_many { IfOk result (λ x. length x.2.items ≡ count) }
     ensures refused { IfErr result (λ e. e ≡ InvalidData → (x y : T) (zs : List T) →
         length zs ≡ count → ¬ BeginsAll T.spelling input.old (x ∷ y ∷ zs) []) }
     ensures kind { IfErr result (λ e. e ≢ InvalidArgument) }
@@ -149,9 +138,5 @@ pub(crate) fn read_contents<T: KllValue + Drop>(
     if !input.remaining().is_empty() {
         return Err(Error::new(ErrorKind::InvalidData));
     }
-    Ok(Contents {
-        least,
-        greatest,
-        items,
-    })
+    Ok((least, greatest, items))
 }

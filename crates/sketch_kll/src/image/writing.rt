@@ -1,33 +1,18 @@
 //! The parts of an image, written one after the other.
-ghost use Rattle.std.specs.Prelude.{◌≡◌, ◌≢◌, ℕ, ◌+◌, ◌-◌, ◌^◌, ◌<◌, ◌≤◌, List, ◌++◌, length, reverse, slice_index, IfErr, OnOk};
+ghost use Rattle.std.specs.Prelude.{◌≡◌, ◌≢◌, ℕ, ◌-◌, ◌*◌, ◌^◌, ◌<◌, ◌≤◌, List, ◌++◌, length, reverse, slice_index, if◌then◌else◌, IfErr, OnOk};
 ghost use Rattle.std.specs.Int.{w32, to_le_bytes};
 ghost use Rattle.std.specs.List.{flat_map};
-ghost use Rattle.std.specs.Option.{SomeIff, option_to_list};
+ghost use Rattle.std.specs.Option.{option_to_list};
 ghost use Rattle.sketch_base.specs.declared.error.ErrorKind.TheVariants.{InvalidArgument, InvalidData, OutOfMemory};
 ghost use Rattle.sketch_kll.specs.Flat.{levels_in, IsFlat};
-ghost use Rattle.sketch_kll.specs.Image.{header_text, offsets, stored, total};
+ghost use Rattle.sketch_kll.specs.Image.{offsets, stored, total};
 ghost use Rattle.sketch_kll.specs.Reading.{bounds_of};
 ghost use Rattle.sketch_kll.specs.Written.{AllSpelled, items_text};
 
-use crate::image::header::Header;
 use crate::sketch::level_slice;
 use crate::value::KllValue;
 use sketch_base::codec::SketchBytes;
 use sketch_base::error::Error;
-
-pub(crate) fn write_header(bytes: &mut SketchBytes, header: &Header) -> Result<(), Error>
-    ensures ok { OnOk result (bytes.new ≡ bytes.old ++ header_text header.now) }
-    ensures memory { IfErr result (λ e. e ≡ OutOfMemory) }
-{
-    bytes.write_u8(header.preamble)?;
-    bytes.write_u8(header.version)?;
-    bytes.write_u8(header.family)?;
-    bytes.write_u8(header.flags)?;
-    bytes.write_u16_le(header.k)?;
-    bytes.write_u8(header.m)?;
-    bytes.write_u8(header.unused)?;
-    Ok(())
-}
 
 /// The offsets of levels with these bounds, which end at the total capacity.
 pub(crate) fn write_offsets(
@@ -48,29 +33,23 @@ pub(crate) fn write_offsets(
     Ok(())
 }
 
-/// The items in list order.
-pub(crate) fn write_items<T: KllValue>(bytes: &mut SketchBytes, items: &[T]) -> Result<(), Error>
-    ensures ok { OnOk result (bytes.new ≡ bytes.old ++ items_text T.spelling items.now) }
-    ensures spelled { OnOk result (AllSpelled T.spelling items.now) }
-    ensures refused { IfErr result (λ e. e ≡ InvalidArgument → ¬ AllSpelled T.spelling items.now) }
-    ensures kind { IfErr result (λ e. e ≢ InvalidData) }
-{
-    for item in items {
-        T::serialize(item, bytes)?;
-    }
-    Ok(())
-}
-
-// The items from the last to the first.
-fn write_items_turned<T: KllValue>(bytes: &mut SketchBytes, items: &[T]) -> Result<(), Error>
-    ensures ok { OnOk result (bytes.new ≡ bytes.old ++ items_text T.spelling (reverse items.now)) }
-    ensures spelled { OnOk result (AllSpelled T.spelling (reverse items.now)) }
+// The items in list order, or from the last to the first.
+fn write_items<T: KllValue>(
+    bytes: &mut SketchBytes,
+    items: &[T],
+    is_turned: bool,
+) -> Result<(), Error>
+    ensures ok { OnOk result (bytes.new ≡
+        bytes.old ++ items_text T.spelling (if is_turned then reverse items.now else items.now)) }
+    ensures spelled { OnOk result
+        (AllSpelled T.spelling (if is_turned then reverse items.now else items.now)) }
     ensures refused { IfErr result (λ e. e ≡ InvalidArgument →
-        ¬ AllSpelled T.spelling (reverse items.now)) }
+        ¬ AllSpelled T.spelling (if is_turned then reverse items.now else items.now)) }
     ensures kind { IfErr result (λ e. e ≢ InvalidData) }
 {
     for i in 0..items.len() {
-        T::serialize(&items[items.len() - 1 - i], bytes)?;
+        let place = if is_turned { items.len() - 1 - i } else { i };
+        T::serialize(&items[place], bytes)?;
     }
     Ok(())
 }
@@ -92,14 +71,12 @@ pub(crate) fn write_levels<T: KllValue>(
         ¬ AllSpelled T.spelling (stored is_sorted (levels_in items.now bounds.now))) }
     ensures kind { IfErr result (λ e. e ≢ InvalidData) }
 {
-    let lowest = level_slice(items, bounds, 0);
-    if is_sorted {
-        write_items(bytes, lowest)?;
-    } else {
-        write_items_turned(bytes, lowest)?;
-    }
-    for level in 1..bounds.len() - 1 {
-        write_items(bytes, level_slice(items, bounds, level))?;
+    for level in 0..bounds.len() - 1 {
+        write_items(
+            bytes,
+            level_slice(items, bounds, level),
+            level == 0 && !is_sorted,
+        )?;
     }
     Ok(())
 }
@@ -122,30 +99,27 @@ pub(crate) fn write_option<T: KllValue>(
     Ok(())
 }
 
-/// So many bytes and those of the items together, if that fits.
-pub(crate) fn add_sizes<T: KllValue>(size: usize, items: &[T]) -> Option<usize>
-    ensures { AllSpelled T.spelling items.now →
-        SomeIff result (size + length (items_text T.spelling items.now) < 2 ^ 64)
-        (size + length (items_text T.spelling items.now)) }
+/// How many bytes the items take.
+pub(crate) fn items_size<T: KllValue>(items: &[T]) -> u128
+    ensures size { AllSpelled T.spelling items.now →
+        result ≡ length (items_text T.spelling items.now) }
+    ensures fits { result ≤ length items.now * 2 ^ 64 }
 {
-    let mut total = size;
+    let mut size = 0;
     for item in items {
-        total = match total.checked_add(T::serialized_size(item)) {
-            Some(total) => total,
-            None => return None,
-        };
+        size += T::serialized_size(item) as u128;
     }
-    Some(total)
+    size
 }
 
-/// So many bytes and those of the item together, if that fits.
-pub(crate) fn add_size<T: KllValue>(size: usize, item: &Option<T>) -> Option<usize>
-    ensures { AllSpelled T.spelling (option_to_list item.now) →
-        SomeIff result (size + length (items_text T.spelling (option_to_list item.now)) < 2 ^ 64)
-        (size + length (items_text T.spelling (option_to_list item.now))) }
+/// How many bytes the item takes, if there is one.
+pub(crate) fn option_size<T: KllValue>(item: &Option<T>) -> u128
+    ensures size { AllSpelled T.spelling (option_to_list item.now) →
+        result ≡ length (items_text T.spelling (option_to_list item.now)) }
+    ensures fits { result < 2 ^ 64 }
 {
     match item {
-        Some(item) => size.checked_add(T::serialized_size(item)),
-        None => Some(size),
+        Some(item) => T::serialized_size(item) as u128,
+        None => 0,
     }
 }

@@ -1,4 +1,4 @@
-use Rattle.std.proofs.Common.{◌≡◌, ◌<◌, ◌^◌, ap, ap₂, sym, ◌∙◌, subst, length, arith}
+use Rattle.std.proofs.Common.{◌≡◌, ◌<◌, ◌^◌, ap, ap₂, ◌∙◌, subst, length, arith}
 use Rattle.std.specs.Prelude.{Option}
 use Rattle.sketch_base.specs.Queries.{SameAnswer}
 use Rattle.sketch_kll.specs.Flat.{levels_in}
