@@ -25,3 +25,5 @@ pub record Behaviour (S C : Type 0) : Type 1 where
   pub quantile : S → Rank → SearchCriteria → Result (Option ℤ) ErrorKind → Type 0
   pub cdf : S → List ℤ → SearchCriteria → Spread → Type 0
   pub pmf : S → List ℤ → SearchCriteria → Spread → Type 0
+  pub imaged : S → Result (Vec ℕ Global) ErrorKind → Type 0
+  pub loaded : List ℕ → Result S ErrorKind → Type 0

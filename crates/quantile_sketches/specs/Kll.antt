@@ -1,5 +1,7 @@
 -- what a KLL sketch of 64-bit integers gives where a command calls it
-use Rattle.std.specs.Prelude.{◌≡◌, ◌≢◌, ◌^◌, ◌+◌, ◌-◌, ◌<◌, ◌≤◌, ◌↔◌, ℕ, ℤ, Bool, true, List, Option, None, Result, IsErrOf, IsOk, IsSome, IfOk, IfErr, IfSome, OnOk, OnErr, replicate}
+use Rattle.std.specs.Prelude.{◌≡◌, ◌≢◌, ◌^◌, ◌+◌, ◌-◌, ◌<◌, ◌≤◌, ◌↔◌, ℕ, ℤ, Bool, true, List, Option, None, Result, IsErrOf, IsOk, IsSome, IfOk, IfErr, IfSome, OnOk, OnErr, length, replicate}
+use Rattle.std.specs.declared.alloc.Global.{Global}
+use Rattle.std.specs.declared.vec.Vec.{Vec}
 use Rattle.std.specs.Ordering.{int_cmp, int_eq}
 use Rattle.sketch_base.specs.Bag.{empty_bag, expanded, quantile, weighted_rank}
 use Rattle.sketch_base.specs.Queries.{IsFraction, IsIncreasing, SameAnswer, cdf_of, pmf_of, ranks_of}
@@ -9,14 +11,17 @@ use Rattle.sketch_base.specs.Trace.{draws_of}
 use Rattle.sketch_base.specs.declared.common.Rank.{Rank}
 use Rattle.sketch_base.specs.declared.common.SearchCriteria.{SearchCriteria}
 use Rattle.sketch_base.specs.declared.error.ErrorKind.{ErrorKind}
-use Rattle.sketch_base.specs.declared.error.ErrorKind.TheVariants.{InvalidArgument, OutOfMemory}
+use Rattle.sketch_base.specs.declared.error.ErrorKind.TheVariants.{InvalidArgument, InvalidData, OutOfMemory}
 use Rattle.quantile_sketches.specs.declared.table.TheConstants.{SLOTS}
 use Rattle.quantile_sketches.specs.Behaviour.{Behaviour, Spread}
 use Rattle.quantile_sketches.specs.Lines.{lines, Serves}
 use Rattle.quantile_sketches.specs.Reader.{size_of}
 use Rattle.sketch_kll.specs.Copy.{same_sketch}
+use Rattle.sketch_kll.specs.Image.{IsImage}
 use Rattle.sketch_kll.specs.Merged.{IsMerged, coins_of_merge}
 use Rattle.sketch_kll.specs.Sketch.{Kll, bag_of, update_of, IsUpdated}
+use Rattle.sketch_kll.specs.Spelling.{i64_spelling}
+use Rattle.sketch_kll.specs.Written.{AllSpelled, image_text, written_items}
 
 -- an empty sketch of this k, refused exactly below 8 or for memory
 abbrev pub IsMade : ℕ → Result (Kll ℤ) ErrorKind → Type 0
@@ -76,6 +81,20 @@ AreRanks s points weights r =
     × IfOk r (λ found. IsSome found ↔ (0 < s.n))
     × IfOk r (λ found. IfSome found (λ ranks. ranks.items ≡ ranks_of s.n weights))
 
+-- the image of the sketch, refused where it is too long, or for memory
+abbrev pub IsImaged : Kll ℤ → Result (Vec ℕ Global) ErrorKind → Type 0
+IsImaged s r =
+    IfOk r (λ v. v.items ≡ image_text i64_spelling s)
+    × IfErr r (λ e. e ≢ InvalidData)
+    × IfErr r (λ e. e ≡ InvalidArgument → AllSpelled i64_spelling (written_items s) → 2 ^ 64 ≤ length (image_text i64_spelling s))
+
+-- the sketch of an image, refused where there is none, or for memory
+abbrev pub IsLoaded : List ℕ → Result (Kll ℤ) ErrorKind → Type 0
+IsLoaded bytes r =
+    IfOk r (λ s. IsImage int_cmp i64_spelling bytes s)
+    × IfErr r (λ e. e ≢ InvalidArgument)
+    × IfErr r (λ e. e ≡ InvalidData → (s : Kll ℤ) → ¬ IsImage int_cmp i64_spelling bytes s)
+
 -- how KLL sketches behave
 abbrev pub kll : Behaviour (Kll ℤ) ℕ
 kll = record {
@@ -88,6 +107,8 @@ kll = record {
   quantile = IsQuantile;
   cdf = λ s points criteria. AreRanks s points (cdf_of int_cmp criteria (expanded int_cmp (bag_of s)) points);
   pmf = λ s points criteria. AreRanks s points (pmf_of int_cmp criteria (expanded int_cmp (bag_of s)) points);
+  imaged = IsImaged;
+  loaded = IsLoaded;
 }
 
 -- what is written for a text of commands on KLL sketches, from empty slots on

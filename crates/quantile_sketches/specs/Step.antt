@@ -1,14 +1,17 @@
 -- what comes of a command, from the sketches by their slots and the state of the coins
 use Rattle.std.specs.Prelude.{◌≡◌, ◌⊎◌, ◌==◌, Bool, true, false, ℕ, ℤ, List, Option, Some, None, Result, Ok, Err, slice_get, slice_set}
+use Rattle.std.specs.String.{string_bytes}
+use Rattle.hex.specs.Hex.{encode_lower}
 use Rattle.sketch_base.specs.declared.error.ErrorKind.{ErrorKind}
 use Rattle.sketch_base.specs.declared.error.ErrorKind.TheVariants.{OutOfMemory}
 use Rattle.quantile_sketches.specs.Behaviour.{Behaviour, Change, Spread}
 use Rattle.quantile_sketches.specs.declared.command.Command.{Command}
-use Rattle.quantile_sketches.specs.declared.command.Command.TheVariants.{New, Update, Merge, Reset, Rank as RankOf, Quantile, Cdf, Pmf}
+use Rattle.quantile_sketches.specs.declared.command.Command.TheVariants.{New, Update, Merge, Reset, Rank as RankOf, Quantile, Cdf, Pmf, Image as ImageOf, Load, RoundTrip}
 use Rattle.quantile_sketches.specs.declared.answer.Answer.{Answer}
-use Rattle.quantile_sketches.specs.declared.answer.Answer.TheVariants.{Done, Rank, Item, Ranks}
+use Rattle.quantile_sketches.specs.declared.answer.Answer.TheVariants.{Done, Rank, Item, Ranks, Image}
 use Rattle.quantile_sketches.specs.declared.answer.Refusal.{Refusal}
 use Rattle.quantile_sketches.specs.declared.answer.Refusal.TheVariants.{BadLine, AbsentSlot, Sketch}
+use Rattle.quantile_sketches.specs.Words.{points_of, image_in}
 
 -- the sketches by their slots
 abbrev pub Slots : Type 0 → Type 0
@@ -76,6 +79,29 @@ module _ {S C : Type 0} (kind : Behaviour S C) where
   abbrev pub Spreads : (Spread → Type 0) → Reply → Type 0
   Spreads gives r = Replies Ranks gives r ⊎ (r ≡ Err (Sketch OutOfMemory))
 
+  -- an image as hex text, or want of memory for it
+  abbrev pub Shows : S → Reply → Type 0
+  Shows s r =
+      ((bytes text : _) × kind.imaged s (Ok bytes) × (string_bytes text ≡ encode_lower bytes.items) × (r ≡ Ok (Image text)))
+      ⊎ (((e : _) × kind.imaged s (Err e) × (r ≡ Err (Sketch e)))
+      ⊎ (r ≡ Err (Sketch OutOfMemory)))
+
+  -- what is read from an image, or want of memory for its bytes
+  abbrev pub Loads : List ℕ → Result S ErrorKind → Type 0
+  Loads bytes r = kind.loaded bytes r ⊎ (r ≡ Err OutOfMemory)
+
+  -- what is read stands in a sketch's place, or the sketch stays
+  abbrev pub Replaces : (Result S ErrorKind → Type 0) → S → Result Unit ErrorKind → S → Type 0
+  Replaces loaded s (Ok u) t = loaded (Ok t)
+  Replaces loaded s (Err e) t = loaded (Err e) × (t ≡ s)
+
+  -- a sketch's own image is read
+  abbrev pub RoundTrips : Change S
+  RoundTrips s coins r t coins' =
+      (((bytes : _) × kind.imaged s (Ok bytes) × Replaces (kind.loaded bytes.items) s r t)
+      ⊎ ((e : _) × kind.imaged s (Err e) × (r ≡ Err e) × (t ≡ s)))
+      × (coins' ≡ coins)
+
   -- what another slot holds joins, or a copy where the slots are the same
   abbrev pub Merges : Bool → ℕ → ℕ → Slots S → ℕ → Reply → Slots S → ℕ → Type 0
   Merges true into source slots coins r slots' coins' =
@@ -83,28 +109,32 @@ module _ {S C : Type 0} (kind : Behaviour S C) where
   Merges false into source slots coins r slots' coins' =
       (o : _) × Holds slots source o × Changes (Joins kind.joined o) into slots coins r slots' coins'
 
-  -- what comes of a command whose line has these split points
-  abbrev pub Executes : Command C → List ℤ → Slots S → ℕ → Reply → Slots S → ℕ → Type 0
-  Executes (New slot config) points slots coins r slots' coins' =
+  -- what comes of a command whose line has these words
+  abbrev pub Executes : Command C → List (List ℕ) → Slots S → ℕ → Reply → Slots S → ℕ → Type 0
+  Executes (New slot config) line slots coins r slots' coins' =
       Makes (kind.made config) slot slots r slots' × (coins' ≡ coins)
-  Executes (Update slot item) points slots coins r slots' coins' =
+  Executes (Update slot item) line slots coins r slots' coins' =
       Changes (Turns (kind.taken item)) slot slots coins r slots' coins'
-  Executes (Merge into source) points slots coins r slots' coins' =
+  Executes (Merge into source) line slots coins r slots' coins' =
       Merges (into == source) into source slots coins r slots' coins'
-  Executes (Reset slot) points slots coins r slots' coins' =
+  Executes (Reset slot) line slots coins r slots' coins' =
       Changes (Turns Empties) slot slots coins r slots' coins'
-  Executes (RankOf slot item criteria) points slots coins r slots' coins' =
+  Executes (RankOf slot item criteria) line slots coins r slots' coins' =
       Reads (λ s r. (w : _) × kind.rank s item criteria w × (r ≡ Ok (Rank w))) slot slots r
       × (slots' ≡ slots) × (coins' ≡ coins)
-  Executes (Quantile slot weight total criteria) points slots coins r slots' coins' =
+  Executes (Quantile slot weight total criteria) line slots coins r slots' coins' =
       Reads (λ s. Replies Item (kind.quantile s (record { weight = weight; total = total }) criteria)) slot slots r
       × (slots' ≡ slots) × (coins' ≡ coins)
-  Executes (Cdf slot criteria) points slots coins r slots' coins' =
-      Reads (λ s. Spreads (kind.cdf s points criteria)) slot slots r × (slots' ≡ slots) × (coins' ≡ coins)
-  Executes (Pmf slot criteria) points slots coins r slots' coins' =
-      Reads (λ s. Spreads (kind.pmf s points criteria)) slot slots r × (slots' ≡ slots) × (coins' ≡ coins)
+  Executes (Cdf slot criteria) line slots coins r slots' coins' =
+      Reads (λ s. Spreads (kind.cdf s (points_of line) criteria)) slot slots r × (slots' ≡ slots) × (coins' ≡ coins)
+  Executes (Pmf slot criteria) line slots coins r slots' coins' =
+      Reads (λ s. Spreads (kind.pmf s (points_of line) criteria)) slot slots r × (slots' ≡ slots) × (coins' ≡ coins)
+  Executes (ImageOf slot) line slots coins r slots' coins' = Reads Shows slot slots r × (slots' ≡ slots) × (coins' ≡ coins)
+  Executes (Load slot) line slots coins r slots' coins' = Makes (Loads (image_in line)) slot slots r slots' × (coins' ≡ coins)
+  Executes (RoundTrip slot) line slots coins r slots' coins' =
+      Changes (Turns RoundTrips) slot slots coins r slots' coins'
 
-  -- what comes of a line that reads as a command, or as none
-  abbrev pub Answers : Option (Command C) → List ℤ → Slots S → ℕ → Reply → Slots S → ℕ → Type 0
-  Answers None points slots coins r slots' coins' = (r ≡ Err BadLine) × (slots' ≡ slots) × (coins' ≡ coins)
-  Answers (Some command) points slots coins r slots' coins' = Executes command points slots coins r slots' coins'
+  -- what comes of a line of these words, which reads as a command or as none
+  abbrev pub Answers : Option (Command C) → List (List ℕ) → Slots S → ℕ → Reply → Slots S → ℕ → Type 0
+  Answers None line slots coins r slots' coins' = (r ≡ Err BadLine) × (slots' ≡ slots) × (coins' ≡ coins)
+  Answers (Some command) line slots coins r slots' coins' = Executes command line slots coins r slots' coins'

@@ -53,6 +53,14 @@ pub trait Family: Sized + Drop {
     /// How much of the weight lies between split points. None of an empty sketch.
     fn pmf_of(&self, points: &[i64], criteria: SearchCriteria) -> Result<Option<Vec<Rank>>, Error>
         ensures { behaviour.pmf self.now points.now criteria result };
+
+    /// The bytes of the sketch.
+    fn image(&self) -> Result<Vec<u8>, Error>
+        ensures { behaviour.imaged self.now result };
+
+    /// The sketch of some bytes.
+    fn load(alloc: Global, bytes: &[u8]) -> Result<Self, Error>
+        ensures { behaviour.loaded bytes.now result };
 }
 
 impl Family for KllSketch<i64> {
@@ -94,5 +102,13 @@ impl Family for KllSketch<i64> {
 
     fn pmf_of(&self, points: &[i64], criteria: SearchCriteria) -> Result<Option<Vec<Rank>>, Error> {
         self.pmf(points, criteria)
+    }
+
+    fn image(&self) -> Result<Vec<u8>, Error> {
+        self.serialize()
+    }
+
+    fn load(alloc: Global, bytes: &[u8]) -> Result<Self, Error> {
+        KllSketch::deserialize(alloc, bytes)
     }
 }

@@ -1,16 +1,19 @@
 //! The slots of a run of the program, and what each command does to them.
 //! Lines are read in `command` and answers are written in `answer`; what a sketch does lies in its own crate.
-ghost use Rattle.std.specs.Prelude.{◌≡◌, ◌≢◌, ◌==◌, ℕ, IfOk, None, replicate, false};
+ghost use Rattle.std.specs.Prelude.{◌≡◌, ◌≢◌, ◌==◌, ℕ, drop, IfOk, IfErr, None, replicate, false};
+ghost use Rattle.sketch_base.specs.declared.error.ErrorKind.TheVariants.{OutOfMemory};
 ghost use Rattle.quantile_sketches.specs.Command.{command_of};
-ghost use Rattle.quantile_sketches.specs.Step.{Makes, Reads, Replies, Turns, Joins, Changes, Empties, JoinsCopy, Spreads, Merges, Executes, Answers};
-ghost use Rattle.quantile_sketches.specs.Words.{words, points_of};
+ghost use Rattle.quantile_sketches.specs.Step.{Makes, Asks, Reads, Replies, Turns, Joins, Changes, Empties, JoinsCopy, Spreads, Shows, Loads, RoundTrips, Merges, Executes, Answers};
+ghost use Rattle.quantile_sketches.specs.Words.{words, points_of, image_in};
 
 use crate::answer::{Answer, Refusal};
 use crate::command::Command;
 use crate::family::Family;
+use crate::text::{digits_bytes, image_text};
 use crate::words::Words;
 use sketch_base::common::random::SplitMix64;
 use sketch_base::common::{Rank, SearchCriteria};
+use sketch_base::error::Error;
 use std::alloc::{AllocError, Global};
 use std::marker::Model;
 
@@ -53,7 +56,7 @@ impl<S: Family> Table<S> {
         line: &[u8],
     ) -> Result<Answer, Refusal>
         ensures { Answers S.behaviour
-            (command_of S.Config.reader (words line.now)) (points_of (words line.now))
+            (command_of S.Config.reader (words line.now)) (words line.now)
             self.old coins.old result self.new coins.new }
     {
         let mut words = Words::new(line);
@@ -69,7 +72,7 @@ impl<S: Family> Table<S> {
         command: Command<S::Config>,
         line: &[u8],
     ) -> Result<Answer, Refusal>
-        ensures { Executes S.behaviour command (points_of (words line.now))
+        ensures { Executes S.behaviour command (words line.now)
             self.old coins.old result self.new coins.new }
     {
         match command {
@@ -90,6 +93,9 @@ impl<S: Family> Table<S> {
             } => self.quantile(slot, Rank { weight, total }, criteria),
             Command::Cdf { slot, criteria } => self.cdf(alloc, slot, criteria, line),
             Command::Pmf { slot, criteria } => self.pmf(alloc, slot, criteria, line),
+            Command::Image { slot } => self.image(alloc, slot),
+            Command::Load { slot } => self.load(alloc, slot, line),
+            Command::RoundTrip { slot } => self.round_trip(alloc, slot),
         }
     }
 
@@ -199,17 +205,58 @@ impl<S: Family> Table<S> {
         let points = points(alloc, line)?;
         Ok(Answer::Ranks(sketch.pmf_of(points.as_slice(), criteria)?))
     }
+
+    fn image(&self, alloc: Global, slot: u8) -> Result<Answer, Refusal>
+        ensures { Reads (Shows S.behaviour) slot self.now result }
+    {
+        show(alloc, &self.slots[slot as usize])
+    }
+
+    fn load(&mut self, alloc: Global, slot: u8, line: &[u8]) -> Result<Answer, Refusal>
+        ensures { Makes (Loads S.behaviour (image_in (words line.now))) slot self.old result self.new }
+    {
+        let bytes = image(alloc, line)?;
+        self.slots[slot as usize] = Some(S::load(alloc, &bytes)?);
+        Ok(Answer::Done)
+    }
+
+    fn round_trip(&mut self, alloc: Global, slot: u8) -> Result<Answer, Refusal>
+        ensures { (coins : ℕ) → Changes (Turns (RoundTrips S.behaviour))
+            slot self.old coins result self.new coins }
+    {
+        read_back(alloc, &mut self.slots[slot as usize])
+    }
+}
+
+// The image of a line, which is its third word's bytes.
+fn image(alloc: Global, line: &[u8]) -> Result<Vec<u8>, Error>
+    ensures bytes { IfOk result (λ bytes. bytes.items ≡ image_in (words line.now)) }
+    ensures memory { IfErr result (λ e. e ≡ OutOfMemory) }
+{
+    let Some(word) = words_after(line, 2).word() else {
+        return Ok(Vec::new(alloc));
+    };
+    match digits_bytes(alloc, word)? {
+        Some(bytes) => Ok(bytes),
+        None => Ok(Vec::new(alloc)),
+    }
 }
 
 // The split points of a line, which are its words from the fourth on.
 fn points(alloc: Global, line: &[u8]) -> Result<Vec<i64>, AllocError>
     ensures { IfOk result (λ points. points.items ≡ points_of (words line.now)) }
 {
+    words_after(line, 3).items(alloc)
+}
+
+fn words_after(line: &[u8], count: u8) -> Words<'_>
+    ensures { result ≡ drop count (words line.now) }
+{
     let mut words = Words::new(line);
-    for _i in 0..3u8 {
+    for _i in 0..count {
         words.word();
     }
-    words.items(alloc)
+    words
 }
 
 fn take_in<S: Family>(
@@ -223,6 +270,26 @@ fn take_in<S: Family>(
         return Err(Refusal::AbsentSlot);
     };
     sketch.take(item, coins)?;
+    Ok(Answer::Done)
+}
+
+fn show<S: Family>(alloc: Global, slot: &Option<S>) -> Result<Answer, Refusal>
+    ensures { Asks (Shows S.behaviour) slot.now result }
+{
+    let Some(sketch) = slot else {
+        return Err(Refusal::AbsentSlot);
+    };
+    Ok(Answer::Image(image_text(alloc, &sketch.image()?)?))
+}
+
+fn read_back<S: Family>(alloc: Global, slot: &mut Option<S>) -> Result<Answer, Refusal>
+    ensures { (coins : ℕ) → Turns (RoundTrips S.behaviour) slot.old coins result slot.new coins }
+{
+    let Some(sketch) = slot else {
+        return Err(Refusal::AbsentSlot);
+    };
+    let bytes = sketch.image()?;
+    *sketch = S::load(alloc, &bytes)?;
     Ok(Answer::Done)
 }
 

@@ -13,9 +13,9 @@ fn answers(alloc: Global, script: &[u8]) -> io::Result<String> {
 #[test]
 fn answers_a_first_session(rt: HostRuntime) -> Result<(), Fail> {
     let script = b"new 0 8\nupdate 0 1\nupdate 0 2\nupdate 0 3\nupdate 0 4\nupdate 0 5\nupdate 0 6
-update 0 7\nupdate 0 8\nupdate 0 9\nrank 0 5 incl\nupdate 1 4\nnew 0 7\nrank 0\n";
+update 0 7\nupdate 0 8\nupdate 0 9\nrank 0 5 incl\nupdate 1 4\nnew 0 7\nrank 0\nload 2 00\n";
     let wanted = "ok\nok\nok\nok\nok\nok\nok\nok\nok\nok\n6/9
-error: absent slot\nerror: invalid argument\nerror: bad line\n";
+error: absent slot\nerror: invalid argument\nerror: bad line\nerror: invalid data\n";
     let given = answers(rt.alloc(), script)?;
     assert_eq!(rt; given.as_str(), wanted);
     Ok(())
@@ -90,8 +90,6 @@ fn refuses_bad_lines(rt: HostRuntime) -> Result<(), Fail> {
         b"cdf 0 1 incl",
         b"cdf 0 incl 1 2x",
         b"pmf 0 excl 9223372036854775808",
-        b"image 0",
-        b"load 2 00",
     ] {
         let given = answers(rt.alloc(), line)?;
         let wanted = if line.is_empty() {
@@ -245,6 +243,81 @@ fn merges_and_resets(rt: HostRuntime) -> Result<(), Fail> {
         let given = answers(rt.alloc(), script.as_bytes())?;
         let wanted = format!(in rt.alloc(); "{before}{wanted}")?;
         assert_eq!(rt; given.as_str(), wanted.as_str(), "at {lines}");
+    }
+    Ok(())
+}
+
+const EMPTY: &str = "02010f01c8000800";
+
+const ONE: &str = "02020f04c80008000700000000000000";
+
+const TWO: &str = "05010f00c80008000200000000000000c8000100c6000000\
+    0300000000000000050000000000000003000000000000000500000000000000";
+
+// Items 1 to 9 at k 8 under a coin that is false.
+const HALVED: &str = "05010f000800080009000000000000000800020\
+    00b0000000c00000001000000000000000900000000000000\
+    09000000000000000200000000000000040000000000000006000000000000000800000000000000";
+
+#[test]
+fn writes_and_reads_images(rt: HostRuntime) -> Result<(), Fail> {
+    for (lines, wanted) in [
+        ("new 1 200\nimage 1\n", EMPTY),
+        ("new 1 200\nupdate 1 7\nimage 1\n", ONE),
+        ("new 1 200\nupdate 1 5\nupdate 1 3\nimage 1\n", TWO),
+        // The second coin of seed 0 is false.
+        (
+            "new 0 8\nupdate 0 1\nupdate 0 2\nupdate 0 3\nupdate 0 4\nupdate 0 5
+update 0 6\nupdate 0 7\nupdate 0 8\nupdate 0 9\nimage 0\n",
+            HALVED,
+        ),
+    ] {
+        let script = format!(in rt.alloc(); "{NINE}{lines}load 7 {wanted}\nroundtrip 7\nimage 7")?;
+        let given = answers(rt.alloc(), script.as_bytes())?;
+        let tail = format!(in rt.alloc(); "{wanted}\nok\nok\n{wanted}\n")?;
+        assert!(rt; given.as_str().ends_with(tail.as_str()), "after {lines}");
+    }
+    Ok(())
+}
+
+#[test]
+fn answers_from_images(rt: HostRuntime) -> Result<(), Fail> {
+    let before = "ok\nok\nok\nok\nok\nok\nok\nok\nok\nok\n";
+    for (image, lines, wanted) in [
+        (
+            HALVED,
+            "rank 1 5 incl\nrank 0 5 incl\nmerge 0 1\nrank 0 5 incl",
+            "ok\n4/9\n6/9\nok\n10/18",
+        ),
+        (
+            TWO,
+            "roundtrip 1\nrank 1 3 incl\nupdate 1 4\nrank 1 4 incl",
+            "ok\nok\n1/2\nok\n2/3",
+        ),
+        (
+            "02010F01C8000800",
+            "rank 1 5 incl\nimage 1",
+            "ok\nnone\n02010f01c8000800",
+        ),
+        (
+            "00",
+            "image 1\nroundtrip 1",
+            "error: invalid data\nerror: absent slot\nerror: absent slot",
+        ),
+        (
+            "0",
+            "load 0 00\nrank 0 5 incl",
+            "error: bad line\nerror: invalid data\n6/9",
+        ),
+        ("", "image 256", "error: bad line\nerror: bad line"),
+        ("0g", "image 1 1", "error: bad line\nerror: bad line"),
+        ("00 00", "roundtrip", "error: bad line\nerror: bad line"),
+        ("\u{e9}", "load 256 00", "error: bad line\nerror: bad line"),
+    ] {
+        let script = format!(in rt.alloc(); "{NINE}load 1 {image}\n{lines}")?;
+        let given = answers(rt.alloc(), script.as_bytes())?;
+        let wanted = format!(in rt.alloc(); "{before}{wanted}\n")?;
+        assert_eq!(rt; given.as_str(), wanted.as_str(), "at {image} and {lines}");
     }
     Ok(())
 }
