@@ -176,12 +176,8 @@ impl<T: Clone + Ord> KllSketch<T> {
         if self.n == 0 {
             return None;
         }
-        let weight = weight_counted(
-            self.items.as_slice(),
-            self.bounds.as_slice(),
-            item,
-            criteria,
-        );
+        let (items, bounds) = (self.items.as_slice(), self.bounds.as_slice());
+        let weight = weight_counted(items, bounds, item, criteria);
         Some(Rank {
             weight,
             total: self.n,
@@ -328,14 +324,8 @@ fn clone_if_least<T: Clone + Ord>(item: &T, least: &Option<T>) -> Result<Option<
         Ties T.cmp (least_with T.cmp item.now least.now) (newer_or new least.now)) }
 {
     match least {
-        None => Ok(Some(item.clone()?)),
-        Some(least) => {
-            if item.cmp(least).is_lt() {
-                Ok(Some(item.clone()?))
-            } else {
-                Ok(None)
-            }
-        }
+        Some(least) if !item.cmp(least).is_lt() => Ok(None),
+        _ => Ok(Some(item.clone()?)),
     }
 }
 
@@ -349,14 +339,8 @@ fn clone_if_greatest<T: Clone + Ord>(
         Ties T.cmp (greatest_with T.cmp item.now greatest.now) (newer_or new greatest.now)) }
 {
     match greatest {
-        None => Ok(Some(item.clone()?)),
-        Some(greatest) => {
-            if item.cmp(greatest).is_gt() {
-                Ok(Some(item.clone()?))
-            } else {
-                Ok(None)
-            }
-        }
+        Some(greatest) if !item.cmp(greatest).is_gt() => Ok(None),
+        _ => Ok(Some(item.clone()?)),
     }
 }
 
@@ -489,13 +473,8 @@ pub(crate) fn compact<T: Ord + Drop>(
     ensures shorter { vec_len items.new ≤ vec_len items.old }
 {
     let len = items.len();
-    let count = compact_level(
-        items.as_mut_slice(),
-        bounds.as_mut_slice(),
-        level,
-        keeps_last,
-        coin,
-    );
+    let (row, marks) = (items.as_mut_slice(), bounds.as_mut_slice());
+    let count = compact_level(row, marks, level, keeps_last, coin);
     items.truncate(len - count);
 }
 

@@ -38,14 +38,9 @@ impl<T: Clone + Ord> KllSketch<T> {
         let _n = self.n;
         let least = clone_found(self.min_item.as_ref())?;
         let greatest = clone_found(self.max_item.as_ref())?;
-        build_sorted_view(
-            *self.items.allocator(),
-            self.items.as_slice(),
-            self.bounds.as_slice(),
-            self.is_level_zero_sorted,
-            least,
-            greatest,
-        )
+        let (alloc, sorted) = (*self.items.allocator(), self.is_level_zero_sorted);
+        let (items, bounds) = (self.items.as_slice(), self.bounds.as_slice());
+        build_sorted_view(alloc, items, bounds, sorted, least, greatest)
     }
 
     /// The item that a fraction names; None for an empty sketch.
