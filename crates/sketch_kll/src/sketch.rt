@@ -177,10 +177,8 @@ impl<T: Clone + Ord> KllSketch<T> {
         }
         let (items, bounds) = (self.items.as_slice(), self.bounds.as_slice());
         let weight = weight_counted(items, bounds, item, criteria);
-        Some(Rank {
-            weight,
-            total: self.n,
-        })
+        let total = self.n;
+        Some(Rank { weight, total })
     }
 
     /// Takes one item in, after at most one compaction, which takes one coin.
@@ -220,9 +218,7 @@ impl<T: Clone + Ord> KllSketch<T> {
         self.is_level_zero_sorted = false;
         Ok(())
     }
-}
 
-impl<T: Clone + Ord> KllSketch<T> {
     /// A fresh sketch that takes the items of a list, first to last.
     ///
     /// Item clones have to compare equal to the item. `InvalidArgument` exactly where `k` is below
