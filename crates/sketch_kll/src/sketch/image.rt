@@ -195,3 +195,6 @@ fn read_full<T: KllValue + Ord>(
         max_item: Some(greatest),
     })
 }
+
+#[cfg(test)]
+mod tests;
