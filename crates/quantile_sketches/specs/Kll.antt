@@ -1,5 +1,5 @@
 -- what a KLL sketch of 64-bit integers gives where a command calls it
-use Rattle.std.specs.Prelude.{◌≡◌, ◌≢◌, ◌^◌, ◌+◌, ◌-◌, ◌<◌, ◌≤◌, ◌↔◌, ℕ, ℤ, Bool, true, List, Option, None, Result, IsErrOf, IsOk, IsSome, IfOk, IfErr, IfSome, OnOk, OnErr, length, replicate}
+use Rattle.std.specs.Prelude.{◌≡◌, ◌≢◌, ◌⊎◌, ◌^◌, ◌+◌, ◌-◌, ◌<◌, ◌≤◌, ◌↔◌, ℕ, ℤ, Bool, true, List, Option, None, Result, IsErrOf, IsOk, IsSome, IfOk, IfErr, IfSome, OnOk, OnErr, replicate}
 use Rattle.std.specs.declared.alloc.Global.{Global}
 use Rattle.std.specs.declared.vec.Vec.{Vec}
 use Rattle.std.specs.Ordering.{int_cmp, int_eq}
@@ -18,10 +18,12 @@ use Rattle.quantile_sketches.specs.Lines.{lines, Serves}
 use Rattle.quantile_sketches.specs.Reader.{size_of}
 use Rattle.sketch_kll.specs.Copy.{same_sketch}
 use Rattle.sketch_kll.specs.Image.{IsImage}
+use Rattle.sketch_kll.specs.ImageLaws.{HasImage}
 use Rattle.sketch_kll.specs.Merged.{IsMerged, coins_of_merge}
 use Rattle.sketch_kll.specs.Sketch.{Kll, bag_of, update_of, IsUpdated}
 use Rattle.sketch_kll.specs.Spelling.{i64_spelling}
-use Rattle.sketch_kll.specs.Written.{AllSpelled, image_text, written_items}
+use Rattle.sketch_kll.specs.Weighted.{IsWeighted, coins_of_weighted}
+use Rattle.sketch_kll.specs.Written.{image_text}
 
 -- an empty sketch of this k, refused exactly below 8 or for memory
 abbrev pub IsMade : ℕ → Result (Kll ℤ) ErrorKind → Type 0
@@ -39,6 +41,14 @@ TakesIn s x coins r t rest =
     (IsErrOf r InvalidArgument ↔ (s.n ≡ 2 ^ 64 - 1))
     × OnOk r (IsUpdated int_cmp s x (tosses coins (draws_of (update_of s x))) t × (rest ≡ after_draws next_state coins (draws_of (update_of s x))))
     × OnErr r (t ≡ s)
+
+-- an item is taken in with a weight, which is refused where it is 0 or too great, or for memory
+abbrev pub TakesWeighted : Kll ℤ → ℤ → ℕ → ℕ → Result Unit ErrorKind → Kll ℤ → ℕ → Type 0
+TakesWeighted s x weight coins r t rest =
+    (IsErrOf r InvalidArgument ↔ ((weight ≡ 0) ⊎ (2 ^ 61 ≤ weight) ⊎ (2 ^ 64 ≤ s.n + weight)))
+    × OnOk r (IsWeighted int_cmp s x weight (tosses coins (coins_of_weighted s x weight)) t)
+    × OnOk r (rest ≡ after_draws next_state coins (coins_of_weighted s x weight))
+    × OnErr r ((t ≡ s) × (rest ≡ coins))
 
 -- the weight that the sketch holds up to or below an item, of all its weight; none where it is empty
 abbrev pub IsRank : Kll ℤ → ℤ → SearchCriteria → Option Rank → Type 0
@@ -81,12 +91,13 @@ AreRanks s points weights r =
     × IfOk r (λ found. IsSome found ↔ (0 < s.n))
     × IfOk r (λ found. IfSome found (λ ranks. ranks.items ≡ ranks_of s.n weights))
 
--- the image of the sketch, refused where it is too long, or for memory
+-- the bytes of the sketch, refused where it has no image, or for memory
 abbrev pub IsImaged : Kll ℤ → Result (Vec ℕ Global) ErrorKind → Type 0
 IsImaged s r =
     IfOk r (λ v. v.items ≡ image_text i64_spelling s)
+    × OnOk r (HasImage i64_spelling s)
+    × (IsErrOf r InvalidArgument → ¬ HasImage i64_spelling s)
     × IfErr r (λ e. e ≢ InvalidData)
-    × IfErr r (λ e. e ≡ InvalidArgument → AllSpelled i64_spelling (written_items s) → 2 ^ 64 ≤ length (image_text i64_spelling s))
 
 -- the sketch of an image, refused where there is none, or for memory
 abbrev pub IsLoaded : List ℕ → Result (Kll ℤ) ErrorKind → Type 0
@@ -102,6 +113,7 @@ kll = record {
   copied = IsCopy;
   emptied = IsEmptied;
   taken = λ x s. TakesIn s x;
+  taken_weighted = λ x weight s. TakesWeighted s x weight;
   joined = JoinsIn;
   rank = IsRank;
   quantile = IsQuantile;
