@@ -1,0 +1,222 @@
+//! A snapshot of a sketch's items in order, for many queries. Each family builds it from what its sketches hold.
+ghost use Rattle.std.specs.Prelude.{◌≡◌, ◌↔◌, ◌<◌, length, map, sum_by, IsTrue, IsSome, IfOk, IfSome, Some, option_copied};
+ghost use Rattle.std.specs.declared.cmp.Ordering.TheVariants.{Equal};
+ghost use Rattle.std.specs.List.{All};
+ghost use Rattle.std.specs.List.Sorted.{IsNonDecreasing};
+ghost use Rattle.sketch_base.specs.Answered.{FindsQuantiles, FindsRanks, IsFoundAmong, IsRefusedUnless};
+ghost use Rattle.sketch_base.specs.Query.{true_rank};
+ghost use Rattle.sketch_base.specs.Queries.{IsFraction, IsIncreasing, SameAnswer, cdf_of, pmf_of};
+ghost use Rattle.sketch_base.specs.Views.{AreQuantiles, IsView, SameView, quantile_of, view_of};
+
+use crate::common::extremes::clone_found;
+use crate::common::queries::{
+    cdf_among, check_fraction, check_fractions, check_points, entries_of, entry_at, place_of,
+    pmf_among, rank_among,
+};
+use crate::common::{Rank, SearchCriteria};
+use crate::error::Error;
+use std::alloc::AllocError;
+use std::marker::Model;
+
+/// The items of a sketch in order, with their weights. It stands for each item as often as it weighs.
+#[derive(Debug, Drop)]
+pub struct SortedView<T: Clone + Ord> {
+    items: Vec<T>,
+    cumulated: Vec<u64>,
+    min_item: Option<T>,
+    max_item: Option<T>,
+}
+
+impl<T: Clone + Ord> Model for SortedView<T> {
+    ghost use Rattle.sketch_base.specs.Views.{View, IsView, view_of};
+
+    ghost Value = { View T };
+
+    ghost view = { λ v. view_of v.items.items v.cumulated.items v.min_item v.max_item };
+
+    ghost invariant = { λ v. IsView T.cmp v.items.items v.cumulated.items v.min_item v.max_item };
+}
+
+impl<T: Clone + Ord> SortedView<T> {
+    /// The view of items in order with their cumulated weights, whose stream has these extremes.
+    pub fn from_cumulated(
+        items: Vec<T>,
+        cumulated: Vec<u64>,
+        min_item: Option<T>,
+        max_item: Option<T>,
+    ) -> Self
+        requires { IsView T.cmp items.items cumulated.items min_item max_item }
+        ensures { result ≡ view_of items.items cumulated.items min_item max_item }
+    {
+        SortedView {
+            items,
+            cumulated,
+            min_item,
+            max_item,
+        }
+    }
+
+    /// Whether the sketch had no items.
+    pub fn is_empty(&self) -> bool
+        ensures { IsTrue result ↔ (length self.now.entries ≡ 0) }
+    {
+        self.items.is_empty()
+    }
+
+    /// How many items the sketch retained, equal ones apart.
+    pub fn len(&self) -> usize
+        ensures { result ≡ self.now.held }
+    {
+        self.items.len()
+    }
+
+    /// How many items the sketch took in.
+    pub fn total_weight(&self) -> u64
+        ensures { result ≡ length self.now.entries }
+    {
+        entries_of(self.items.as_slice(), self.cumulated.as_slice())
+    }
+
+    /// How many entries a query counts, of them all; None where there are none.
+    pub fn rank(&self, item: &T, criteria: SearchCriteria) -> Option<Rank>
+        ensures there { IsSome result ↔ (0 < length self.now.entries) }
+        ensures weight { IfSome result (λ r. r.weight ≡ true_rank T.cmp item.now criteria self.now.entries) }
+        ensures total { IfSome result (λ r. r.total ≡ length self.now.entries) }
+    {
+        if self.items.is_empty() {
+            return None;
+        }
+        let (items, cumulated) = (self.items.as_slice(), self.cumulated.as_slice());
+        let weight = rank_among(items, cumulated, item, criteria);
+        let total = entries_of(items, cumulated);
+        Some(Rank { weight, total })
+    }
+
+    /// The entry that a fraction names; None where there are none.
+    pub fn quantile(&self, fraction: Rank, criteria: SearchCriteria) -> Result<Option<T>, Error>
+        requires clones { (x y : T) → T.is_clone x y → T.cmp x y ≡ Equal }
+        ensures found { IfOk result (SameAnswer T.cmp (quantile_of self.now fraction criteria)) }
+        ensures there { IfOk result (IsFoundAmong (length self.now.entries)) }
+        ensures refused { IsRefusedUnless (IsFraction fraction) (length self.now.entries) result }
+    {
+        check_fraction(fraction)?;
+        Ok(clone_found(self.entry_of(fraction, criteria))?)
+    }
+
+    /// The entries that fractions name, one for each; None where there are none.
+    pub fn quantiles(
+        &self,
+        fractions: &[Rank],
+        criteria: SearchCriteria,
+    ) -> Result<Option<Vec<T>>, Error>
+        requires clones { (x y : T) → T.is_clone x y → T.cmp x y ≡ Equal }
+        ensures found { IfOk result (FindsQuantiles T.cmp self.now criteria fractions.now) }
+        ensures there { IfOk result (IsFoundAmong (length self.now.entries)) }
+        ensures refused { IsRefusedUnless (All IsFraction fractions.now) (length self.now.entries) result }
+    {
+        check_fractions(fractions)?;
+        if self.items.is_empty() {
+            return Ok(None);
+        }
+        Ok(Some(self.entries_of_all(fractions, criteria)?))
+    }
+
+    /// The rank of each split point, and last the whole; None where there are no entries.
+    pub fn cdf(&self, points: &[T], criteria: SearchCriteria) -> Result<Option<Vec<Rank>>, Error>
+        ensures found { let entries = self.now.entries in
+            IfOk result (FindsRanks (length entries) (cdf_of T.cmp criteria entries points.now)) }
+        ensures rises { IfOk result (λ found. IfSome found (λ ranks. IsNonDecreasing (map (λ (r : Rank).
+            r.weight) ranks.items))) }
+        ensures there { IfOk result (IsFoundAmong (length self.now.entries)) }
+        ensures refused { IsRefusedUnless (IsIncreasing T.cmp points.now) (length self.now.entries) result }
+    {
+        check_points(points)?;
+        if self.items.is_empty() {
+            return Ok(None);
+        }
+        let alloc = *self.items.allocator();
+        let (items, cumulated) = (self.items.as_slice(), self.cumulated.as_slice());
+        Ok(Some(cdf_among(alloc, items, cumulated, points, criteria)?))
+    }
+
+    /// How many entries lie between the split points; None where there are no entries.
+    pub fn pmf(&self, points: &[T], criteria: SearchCriteria) -> Result<Option<Vec<Rank>>, Error>
+        ensures found { let entries = self.now.entries in
+            IfOk result (FindsRanks (length entries) (pmf_of T.cmp criteria entries points.now)) }
+        ensures sums { IfOk result (λ found. IfSome found (λ ranks. sum_by (λ (r : Rank).
+            r.weight) ranks.items ≡ length self.now.entries)) }
+        ensures there { IfOk result (IsFoundAmong (length self.now.entries)) }
+        ensures refused { IsRefusedUnless (IsIncreasing T.cmp points.now) (length self.now.entries) result }
+    {
+        check_points(points)?;
+        if self.items.is_empty() {
+            return Ok(None);
+        }
+        let alloc = *self.items.allocator();
+        let (items, cumulated) = (self.items.as_slice(), self.cumulated.as_slice());
+        Ok(Some(pmf_among(alloc, items, cumulated, points, criteria)?))
+    }
+
+    /// A view of clones of the items.
+    pub fn clone(&self) -> Result<Self, AllocError>
+        requires clones { (x y : T) → T.is_clone x y → T.cmp x y ≡ Equal }
+        ensures { IfOk result (SameView T.cmp self.now) }
+    {
+        Ok(SortedView {
+            items: self.items.clone()?,
+            cumulated: self.cumulated.clone()?,
+            min_item: clone_found(self.min_item.as_ref())?,
+            max_item: clone_found(self.max_item.as_ref())?,
+        })
+    }
+
+    // The entries that fractions name.
+    fn entries_of_all(
+        &self,
+        fractions: &[Rank],
+        criteria: SearchCriteria,
+    ) -> Result<Vec<T>, AllocError>
+        requires clones { (x y : T) → T.is_clone x y → T.cmp x y ≡ Equal }
+        requires fractions { All IsFraction fractions.now }
+        requires some { 0 < length self.now.entries }
+        ensures { IfOk result (λ xs. AreQuantiles T.cmp self.now criteria fractions.now xs.items) }
+    {
+        let mut found = Vec::with_capacity(*self.items.allocator(), fractions.len())?;
+        for fraction in fractions {
+            let item = self.clone_of_entry(fraction, criteria)?;
+            found.push(item)?;
+        }
+        Ok(found)
+    }
+
+    // A clone of the entry that a fraction names.
+    fn clone_of_entry(&self, fraction: &Rank, criteria: SearchCriteria) -> Result<T, AllocError>
+        requires clones { (x y : T) → T.is_clone x y → T.cmp x y ≡ Equal }
+        requires fraction { IsFraction fraction.now }
+        requires some { 0 < length self.now.entries }
+        ensures { IfOk result (λ x.
+            SameAnswer T.cmp (quantile_of self.now fraction.now criteria) (Some x)) }
+    {
+        self.entry_of(*fraction, criteria).unwrap().clone()
+    }
+
+    // The entry that a fraction names.
+    fn entry_of(&self, fraction: Rank, criteria: SearchCriteria) -> Option<&T>
+        requires { IsFraction fraction }
+        ensures entry { option_copied result ≡ quantile_of self.now fraction criteria }
+        ensures there { IsSome result ↔ (0 < length self.now.entries) }
+    {
+        if fraction.weight == 0 {
+            return self.min_item.as_ref();
+        }
+        if fraction.weight == fraction.total {
+            return self.max_item.as_ref();
+        }
+        let (items, cumulated) = (self.items.as_slice(), self.cumulated.as_slice());
+        let entries = entries_of(items, cumulated);
+        if entries == 0 {
+            return None;
+        }
+        entry_at(items, cumulated, place_of(fraction, entries, criteria))
+    }
+}
