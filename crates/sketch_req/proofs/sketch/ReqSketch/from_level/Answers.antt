@@ -18,7 +18,7 @@ from_levels-requires g c =
     let low = subst (λ (l : List g.row.T.Denot). IsExtreme cmp (λ x y. IsAtMost cmp x y) l c.least_of.result.now) c.items_slice.ensures c.least_of.ensures in
     let high = subst (λ (l : List g.row.T.Denot). IsExtreme cmp (λ x y. IsAtMost cmp y x) l c.greatest_of.result.now) c.items_slice-2.ensures c.greatest_of.ensures in
     let made = rebuilt o s level c.least_of.result.now c.in_ok-least.least c.greatest_of.result.now c.in_ok-greatest.greatest levels refl refl c.requires.legal c.requires.placed c.num_items-n.ensures c.requires.some c.requires.fresh
-        low (tied_back o _ _ (c.requires.clones _ _ c.in_ok-least.ensures.cases)) high (tied_back o _ _ (c.requires.clones _ _ c.in_ok-greatest.ensures.cases)) in
+    low (tied_back o _ _ (c.requires.clones _ _ c.in_ok-least.ensures.cases)) high (tied_back o _ _ (c.requires.clones _ _ c.in_ok-greatest.ensures.cases)) in
     record { sound = made.sound }
 
 pub returns-clause-levels : goal.returns-clause-levels
@@ -38,6 +38,6 @@ returns-clause-told g c =
     let low = subst (λ (l : List g.row.T.Denot). IsExtreme cmp (λ x y. IsAtMost cmp x y) l c.least_of.result.now) c.items_slice.ensures c.least_of.ensures in
     let high = subst (λ (l : List g.row.T.Denot). IsExtreme cmp (λ x y. IsAtMost cmp y x) l c.greatest_of.result.now) c.items_slice-2.ensures c.greatest_of.ensures in
     let made = rebuilt o s level c.least_of.result.now c.in_ok-least.least c.greatest_of.result.now c.in_ok-greatest.greatest levels refl refl c.requires.legal c.requires.placed c.num_items-n.ensures c.requires.some c.requires.fresh
-        low (tied_back o _ _ (c.requires.clones _ _ c.in_ok-least.ensures.cases)) high (tied_back o _ _ (c.requires.clones _ _ c.in_ok-greatest.ensures.cases)) in
+    low (tied_back o _ _ (c.requires.clones _ _ c.in_ok-least.ensures.cases)) high (tied_back o _ _ (c.requires.clones _ _ c.in_ok-greatest.ensures.cases)) in
     let told : IsTold cmp h s = record { k_is = refl; accuracy_is = refl; n_is = made.n_is; least_is = made.least_is; greatest_is = made.greatest_is } in
     subst (λ (t : Req g.row.T.Denot). IsTold cmp h t) (sym c.from_levels.ensures.value) told
