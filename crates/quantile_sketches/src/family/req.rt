@@ -1,0 +1,1 @@
+//! REQ sketches as a family.
