@@ -114,13 +114,13 @@ fits-by : (s : ReqShape) (lengths others : List ℕ) → others ≡ lengths → 
 fits-by s lengths others e h = subst (FitsReq s) (sym e) h
 
 -- a merge of a sketch that is not empty would be too much
-abbrev too_much : ReqShape → ReqShape → Bool
+abbrev pub too_much : ReqShape → ReqShape → Bool
 too_much s other = is_too_much (s.n + other.n) (retained_of s.layouts + retained_of other.layouts)
 
-abbrev no_merge : ReqShape → ReqShape → Bool
+abbrev pub no_merge : ReqShape → ReqShape → Bool
 no_merge s other = not (is_same s.accuracy other.accuracy) || (not (other.n == 0) && too_much s other)
 
-not-much : (s other : ReqShape) → no_merge s other ≡ false → (other.n == 0) ≡ false → too_much s other ≡ false
+pub not-much : (s other : ReqShape) → no_merge s other ≡ false → (other.n == 0) ≡ false → too_much s other ≡ false
 not-much s other e b = go (other.n == 0) (too_much s other) b (or-right (not (is_same s.accuracy other.accuracy)) (not (other.n == 0) && too_much s other) e)
   where
     go : (b c : Bool) → b ≡ false → (not b && c) ≡ false → c ≡ false
