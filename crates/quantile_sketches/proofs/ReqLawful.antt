@@ -13,7 +13,7 @@ use Rattle.sketch_req.specs.declared.RankAccuracy.{RankAccuracy}
 use Rattle.sketch_req.specs.declared.RankAccuracy.TheVariants.{HighRank, LowRank}
 use Rattle.sketch_req.proofs.Capacities.{update_weighs, merge_weighs, update_two, merge_two, update_few, merge_few, update_retains, merge_retains}
 use Rattle.sketch_req.proofs.LegalLayouts.{new_is, filled_are, joined_are}
-use Rattle.sketch_req.proofs.LegalTraces.{lengths_at, along-even, update_legal, update_lengths, merge_legal, merge_lengths}
+use Rattle.sketch_req.proofs.LegalTraces.{lengths_at, along-even, changed-itself, update_legal, update_lengths, merge_legal, merge_lengths}
 use Rattle.sketch_req.proofs.LegalWalks.{room_leads}
 use Rattle.sketch_req.proofs.Unbiased.{AreCompacts, room_compacts, ranks-update}
 use Rattle.quantile_sketches.specs.KllRules.{unless}
@@ -266,4 +266,6 @@ module _ {A : Type 0} where
       fits = fits-by s (world.slots slot) _ (changed-there world.slots slot (world.slots slot)) h;
       ranks = λ test ranks. omega arith;
     };
+    read_lengths = λ slot world. ap (λ (slots : ℕ → List ℕ). let w : World (List ℕ) = record { slots = slots; scratch = world.scratch; target = world.target } in w) (changed-itself world.slots slot);
+    read_draws = refl;
   }

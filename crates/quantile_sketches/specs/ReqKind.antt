@@ -3,13 +3,14 @@ use Rattle.std.specs.Prelude.{◌≡◌, ℕ, ◌^◌, ◌<◌, ◌≤◌, List,
 use Rattle.std.specs.declared.cmp.Ordering.{Ordering}
 use Rattle.sketch_base.specs.Bag.{AlikeReq}
 use Rattle.sketch_base.specs.Lengths.{LeavesTail}
+use Rattle.sketch_base.specs.Spelling.{AllSpelled}
 use Rattle.sketch_base.specs.Trace.{Event, World}
 use Rattle.sketch_req.specs.Actions.{bag_of}
 use Rattle.sketch_req.specs.Schedule.{counts_of, layouts_of, retained_of, weight_of}
 use Rattle.sketch_req.specs.ScheduleLaws.{AreLayouts, UpperHoldTwo}
 use Rattle.sketch_req.specs.Sections.{IsLegalK}
 use Rattle.sketch_req.specs.Sketch.{Req, IsSound}
-use Rattle.sketch_req.specs.Written.{image_text}
+use Rattle.sketch_req.specs.Written.{image_text, written_items}
 use Rattle.sketch_req.specs.declared.RankAccuracy.{RankAccuracy}
 use Rattle.quantile_sketches.specs.ReqRules.{ReqShape, req_rules}
 use Rattle.quantile_sketches.specs.Rules.{Kind}
@@ -32,9 +33,9 @@ pub record FitsReq (s : ReqShape) (lengths : List ℕ) : Type 0 where
 abbrev pub MeetsReq : {A : Type 0} → Event A → World (List ℕ) → Type 0
 MeetsReq = LeavesTail (λ slot. 0)
 
--- the sketch's image is short enough to be written
+-- the items that are written have spellings, and the image is short enough to be written
 abbrev pub HasImage : {A : Type 0} → (A → Option (List ℕ)) → Req A → Type 0
-HasImage spelling s = length (image_text spelling s) < 2 ^ 64
+HasImage spelling s = AllSpelled spelling (written_items s) × (length (image_text spelling s) < 2 ^ 64)
 
 -- a REQ sketch under an order and a codec of its items
 abbrev pub req_kind : {A : Type 0} → (A → A → Ordering) → (A → Option (List ℕ)) → Kind A (ℕ × RankAccuracy) ReqShape (Req A)

@@ -1,4 +1,4 @@
-use Rattle.quantile_sketches.proofs.ReqCalls.{copy_is}
+use Rattle.quantile_sketches.proofs.ReqCopies.{copy_is}
 use Rattle.quantile_sketches.proofs.family.req.ReqSketchFamily.copy.Goals as goal
 
 pub returns-clause-copied : goal.returns-clause-copied
