@@ -7,19 +7,20 @@ use Rattle.std.proofs.lemmas.Bool.{cases_Bool, false≢true}
 use Rattle.std.proofs.lemmas.Cmp.{upto, tied_itself, tied_back, alike_right}
 use Rattle.std.proofs.lemmas.List.Sums.{sum_by-cons}
 use Rattle.sketch_base.specs.Bag.{Bag, SameItems, AlikeReq, sort, with_level}
-use Rattle.sketch_base.specs.Extremes.{TiesWithOne, IsExtremeOf, IsAtMost, IsLeastOf, IsGreatestOf}
+use Rattle.sketch_base.specs.Extremes.{IsBetween, TiesWithOne, IsExtremeOf, IsAtMost, IsLeastOf, IsGreatestOf}
 use Rattle.sketch_base.specs.Queries.{SameAnswer}
 use Rattle.sketch_base.specs.Random.{bits_from}
 use Rattle.sketch_base.specs.Trace.{Action, Work, act, acts, alone, bit_of, draws, draws_of, next_bit}
+use Rattle.sketch_base.proofs.Entries.{SameAnswer-itself}
 use Rattle.sketch_base.proofs.Everywhere.{AllIn, all-same, all-alike, all-compaction, all-alike-levels, all-flat, all-by-level, all-map}
 use Rattle.sketch_req.specs.Actions.{bag_of, coin_kind}
 use Rattle.sketch_req.specs.Level.{Level, taken_side}
 use Rattle.sketch_req.specs.Schedule.{Layout, new_layout, layout_of, layouts_of, layout_at, nominal, nominal_sum, retained_of, is_full, are_full, taken, compacted, compact_level, compacted_at, step_layouts, steps_actions, steps_layouts, walk_layouts, room_layouts, filled}
-use Rattle.sketch_req.specs.Sketch.{Req, IsSound, IsBetween, HasEnds, IsSmall, items_in, sketch_of}
+use Rattle.sketch_req.specs.Sketch.{Req, IsSound, HasEnds, IsSmall, items_in, sketch_of}
 use Rattle.sketch_req.specs.Walk.{AreActed, room_of}
 use Rattle.sketch_req.specs.declared.RankAccuracy.{RankAccuracy}
 use Rattle.sketch_req.proofs.Bags.{alike-sym}
-use Rattle.sketch_req.proofs.Extremes.{IsFrom, IsUpTo}
+use Rattle.sketch_base.specs.Extremes.{IsFrom, IsUpTo}
 use Rattle.sketch_req.proofs.Joins.{length-layouts}
 
 -- ---- a walk over one level that is full adds another
@@ -240,10 +241,6 @@ module _ {A : Type 0} {cmp : A → A → Ordering} (order : IsTotalOrder cmp) wh
   pub greatest-moved : (xs ys : List A) → Moves xs ys → Moves ys xs → (x y : Option A) → SameAnswer cmp x y → IsGreatestOf cmp xs x → IsGreatestOf cmp ys y
   greatest-moved xs ys to from x y s i = extreme-tied (λ x y. IsAtMost cmp y x) up-same ys x y (λ a b c e h. from-same c a b e h) s (extreme-moved (λ x y. IsAtMost cmp y x) up-same xs ys to from x i)
 
-  pub same-answer : (x : Option A) → SameAnswer cmp x x
-  same-answer None = tt
-  same-answer (Some x) = tied_itself order x
-
   pub alike-moves : (xs ys : List A) → SameItems cmp (sort cmp xs) (sort cmp ys) → Moves xs ys
   alike-moves xs ys s P keeps a = all-alike P cmp keeps xs ys s a
 
@@ -282,7 +279,7 @@ module _ {A : Type 0} {cmp : A → A → Ordering} (order : IsTotalOrder cmp) wh
         let from : Moves (items_in ns) (items_in ms) = acted-back k accuracy ms ns room full in
         let same : layouts_of ns ≡ layouts_of ms = room.layouts_are ∙ ap (λ (b : Bool). if b then walk_layouts k (layouts_of ms) else layouts_of ms) full in
         record {
-          least_is = least-moved (items_in ms) (items_in ns) to from least least (same-answer least) l;
-          greatest_is = greatest-moved (items_in ms) (items_in ns) to from greatest greatest (same-answer greatest) g;
+          least_is = least-moved (items_in ms) (items_in ns) to from least least (SameAnswer-itself order least) l;
+          greatest_is = greatest-moved (items_in ms) (items_in ns) to from greatest greatest (SameAnswer-itself order greatest) g;
           fresh_if_few = λ few. news ms ns same (new few);
         }
