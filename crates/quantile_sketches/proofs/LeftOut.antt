@@ -1,5 +1,5 @@
 -- The accepted commands of a run give the plan, the streams and the coins of all its commands.
-use Rattle.std.proofs.Common.{◌≡◌, ℕ, zero, suc, ◌+◌, Bool, true, false, ◌==◌, if◌then◌else◌, List, [], ◌∷◌, ◌++◌, length, fold, Option, refl, sym, ap, ap₂, ◌∙◌, subst, arith, append_assoc, append-nil, zero-add, eqb-true}
+use Rattle.std.proofs.Common.{◌≡◌, ℕ, zero, suc, Bool, true, false, ◌==◌, if◌then◌else◌, List, [], ◌∷◌, ◌++◌, length, fold, Option, refl, sym, ap, ap₂, ◌∙◌, subst, arith, append_assoc, append-nil, zero-add, eqb-true}
 use Rattle.std.specs.Prelude.{Contains}
 use Rattle.std.proofs.lemmas.List.{length_push}
 use Rattle.std.proofs.lemmas.Map.Views.{Contains-from_any}
@@ -10,7 +10,7 @@ use Rattle.sketch_base.proofs.Calls.{coins-at}
 use Rattle.sketch_base.proofs.Changes.{changed-own}
 use Rattle.quantile_sketches.specs.declared.audit.commands.Command.{Command}
 use Rattle.quantile_sketches.specs.declared.audit.commands.Command.TheVariants.{New, Update, UpdateWeighted, Merge, Reset, RoundTrip}
-use Rattle.quantile_sketches.specs.Lawful.{AreLawful, IsLawful}
+use Rattle.quantile_sketches.specs.Lawful.{IsLawful}
 use Rattle.quantile_sketches.specs.Plan.{Plan, start_plan, events_at, is_refused, accepted_shapes, accepted_events, events_of, plan_after, plan_of, trace_of}
 use Rattle.quantile_sketches.specs.Refused.{is_among, accepted_of, IsRefusedExactly, AreRefused}
 use Rattle.quantile_sketches.specs.Rules.{Rules, Kind}
@@ -98,21 +98,22 @@ module _ {A C Shape S : Type 0} {kind : Kind A C Shape S} (lawful : IsLawful kin
   leaves word refused before (Reset slot) P h p = leaves-refused kind.rules (plan_of kind.rules before) (Reset slot) (h.0 p)
   leaves word refused before (RoundTrip slot) P h p = leaves-trip (plan_of kind.rules before) slot
 
-  -- refused commands may as well be left out
-  pub left-out : (word : List Bool) (commands : List (Command A C)) (refused : List ℕ) → AreRefused kind word commands refused → IsLeftOut kind.rules commands (accepted_of refused commands)
-  left-out word commands refused r = go (length commands) commands (ends commands) [] refl (sym (append-nil commands))
+  -- refused commands may as well be left out, among the first commands of a run and among all
+  pub left-front : (word : List Bool) (commands : List (Command A C)) (refused : List ℕ) → AreRefused kind word commands refused → (n : ℕ) (before : List (Command A C)) → Ends before → (after : List (Command A C)) → length before ≡ n → commands ≡ before ++ after →
+      IsLeftOut kind.rules before (accepted_of refused before)
+  left-front word commands refused r n _ empty after e at = record { plan = refl; streams = refl; drawn = refl; trace = λ z. refl }
+  left-front word commands refused r zero _ (last front c) after e at = absurd (omega (arith, e, length_push front c))
+  left-front word commands refused r (suc n) _ (last front c) after e at =
+      let whole : commands ≡ front ++ c ∷ after = at ∙ append_assoc front (c ∷ []) after in
+      let h = left-front word commands refused r n front (ends front) (c ∷ after) (omega (arith, e, length_push front c)) whole in
+      subst (IsLeftOut kind.rules (front ++ c ∷ [])) (sym (without-more refused 0 (length front) front c (zero-add (length front)))) (add (is_among (length front) refused) refl h)
     where
-      go : (n : ℕ) (before : List (Command A C)) → Ends before → (after : List (Command A C)) → length before ≡ n → commands ≡ before ++ after → IsLeftOut kind.rules before (accepted_of refused before)
-      go n _ empty after e at = record { plan = refl; streams = refl; drawn = refl; trace = λ z. refl }
-      go zero _ (last front c) after e at = absurd (omega (arith, e, length_push front c))
-      go (suc n) _ (last front c) after e at =
-          let whole : commands ≡ front ++ c ∷ after = at ∙ append_assoc front (c ∷ []) after in
-          let h = go n front (ends front) (c ∷ after) (omega (arith, e, length_push front c)) whole in
-          subst (IsLeftOut kind.rules (front ++ c ∷ [])) (sym (without-more refused 0 (length front) front c (zero-add (length front)))) (add (is_among (length front) refused) refl h)
-        where
-          add : (b : Bool) → is_among (length front) refused ≡ b → IsLeftOut kind.rules front (accepted_of refused front) → IsLeftOut kind.rules (front ++ c ∷ []) (accepted_of refused front ++ (if b then [] else c ∷ []))
-          add true among h =
-              let there : Contains refused (length front) = Contains-from_any {eq = λ (n m : ℕ). n == m} (λ n m same. eqb-true n m same) (length front) refused among in
-              subst (IsLeftOut kind.rules (front ++ c ∷ [])) (sym (append-nil (accepted_of refused front)))
-              (left-same kind.rules front (accepted_of refused front) h c (leaves word refused front c (Contains refused (length front)) (r.exact front after c (at ∙ append_assoc front (c ∷ []) after)) there))
-          add false among h = left-more kind.rules front (accepted_of refused front) h c
+      add : (b : Bool) → is_among (length front) refused ≡ b → IsLeftOut kind.rules front (accepted_of refused front) → IsLeftOut kind.rules (front ++ c ∷ []) (accepted_of refused front ++ (if b then [] else c ∷ []))
+      add true among h =
+          let there : Contains refused (length front) = Contains-from_any {eq = λ (n m : ℕ). n == m} (λ n m same. eqb-true n m same) (length front) refused among in
+          subst (IsLeftOut kind.rules (front ++ c ∷ [])) (sym (append-nil (accepted_of refused front)))
+          (left-same kind.rules front (accepted_of refused front) h c (leaves word refused front c (Contains refused (length front)) (r.exact front after c (at ∙ append_assoc front (c ∷ []) after)) there))
+      add false among h = left-more kind.rules front (accepted_of refused front) h c
+
+  pub left-out : (word : List Bool) (commands : List (Command A C)) (refused : List ℕ) → AreRefused kind word commands refused → IsLeftOut kind.rules commands (accepted_of refused commands)
+  left-out word commands refused r = left-front word commands refused r (length commands) commands (ends commands) [] refl (sym (append-nil commands))

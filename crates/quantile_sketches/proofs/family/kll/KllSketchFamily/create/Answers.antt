@@ -1,5 +1,5 @@
 use Rattle.quantile_sketches.proofs.KllKind.{new_is}
-use Rattle.quantile_sketches.proofs.family.KllSketchFamily.create.Goals as goal
+use Rattle.quantile_sketches.proofs.family.kll.KllSketchFamily.create.Goals as goal
 
 pub returns-clause-made : goal.returns-clause-made
 returns-clause-made g c =
