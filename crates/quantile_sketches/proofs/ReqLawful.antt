@@ -234,11 +234,13 @@ module _ (A : Type 0) where
   merge-counts : (s other t : ReqShape) → (req_rules {A = A}).merged s other ≡ Some t → (t.n ≡ s.n + other.n) × (s.n < 2 ^ 64 → t.n < 2 ^ 64)
   merge-counts s other t e =
       let u = unless-there _ _ t e in
-      let n : t.n ≡ s.n + other.n = ap (λ (shape : ReqShape). shape.n) (sym u.1) in
-      (n, λ few. elim (cases_Bool (other.n == 0)) [
-        | inl b ↦ omega (arith, n, few, eqb-true other.n 0 b)
-        | inr b ↦ omega (arith, n, (enough_room (s.n + other.n) (retained_of s.layouts + retained_of other.layouts) (not-much s other u.0 b)).0)
-      ])
+      let n : t.n ≡ s.n + other.n = ap (λ (shape : ReqShape). shape.n) (sym u.1) in (
+        n,
+        λ few. elim (cases_Bool (other.n == 0)) [
+          | inl b ↦ omega (arith, n, few, eqb-true other.n 0 b)
+          | inr b ↦ omega (arith, n, (enough_room (s.n + other.n) (retained_of s.layouts + retained_of other.layouts) (not-much s other u.0 b)).0)
+        ],
+      )
 
 module _ {A : Type 0} where
   pub req_lawful : AreLawful {A = A} req_rules MeetsReq FitsReq
