@@ -80,11 +80,11 @@ module _ {A : Type 0} where
 
   all-places : (pairs : List (A × ℕ)) → HaveWeight pairs → All (λ (pair : A × ℕ). 0 < pair.1) pairs
   all-places [] h = λ k d l. absurd (omega arith)
-  all-places (p ∷ ps) h = λ k. go k
+  all-places (p ∷ ps) h = at (all-places ps h.1)
     where
-      go : (k : ℕ) (d : A × ℕ) → k < length (p ∷ ps) → 0 < (get_or (p ∷ ps) k d).1
-      go zero d l = h.0
-      go (suc k) d l = all-places ps h.1 k d (omega arith)
+      at : All (λ (pair : A × ℕ). 0 < pair.1) ps → (k : ℕ) (d : A × ℕ) → k < length (p ∷ ps) → 0 < (get_or (p ∷ ps) k d).1
+      at rest zero d l = h.0
+      at rest (suc k) d l = rest k d (omega arith)
 
   weigh-enough : (pairs : List (A × ℕ)) → HaveWeight pairs → length pairs ≤ sum_by (λ (pair : A × ℕ). pair.1) pairs
   weigh-enough [] h = omega arith

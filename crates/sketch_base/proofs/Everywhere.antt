@@ -1,0 +1,121 @@
+-- What holds of each item of a list holds of each of its parts, and of each item of levels after a compaction.
+use Rattle.std.proofs.Common.{◌≡◌, ℕ, zero, suc, ◌-◌, ◌%◌, ◌<◌, Bool, true, false, not, ◌&&◌, ◌==◌, if◌then◌else◌, List, [], ◌∷◌, ◌++◌, length, take, drop, map, flat_map, arith, Ordering, Equal, is_gt}
+use Rattle.std.specs.List.{AllByRecursion, AllZip}
+use Rattle.sketch_base.specs.Bag.{Bag, Taken, AllButLeftover, Lowest, Greatest, SameItems, half, sort, cut, insert_in_order, level_at, with_level, parity_up, compaction}
+
+module _ {A : Type 0} (P : A → Type 0) where
+  pub all-append : (xs ys : List A) → AllByRecursion P xs → AllByRecursion P ys → AllByRecursion P (xs ++ ys)
+  all-append [] ys h k = k
+  all-append (x ∷ xs) ys h k = (h.0, all-append xs ys h.1 k)
+
+  pub all-parts : (xs ys : List A) → AllByRecursion P (xs ++ ys) → AllByRecursion P xs × AllByRecursion P ys
+  all-parts [] ys h = (tt, h)
+  all-parts (x ∷ xs) ys h = let r = all-parts xs ys h.1 in ((h.0, r.0), r.1)
+
+  pub all-take : (n : ℕ) (xs : List A) → AllByRecursion P xs → AllByRecursion P (take n xs)
+  all-take zero xs h = tt
+  all-take (suc n) [] h = tt
+  all-take (suc n) (x ∷ xs) h = (h.0, all-take n xs h.1)
+
+  pub all-drop : (n : ℕ) (xs : List A) → AllByRecursion P xs → AllByRecursion P (drop n xs)
+  all-drop zero xs h = h
+  all-drop (suc n) [] h = tt
+  all-drop (suc n) (x ∷ xs) h = all-drop n xs h.1
+
+  pub all-half : (odd : Bool) (xs : List A) → AllByRecursion P xs → AllByRecursion P (half odd xs)
+  all-half false [] h = tt
+  all-half true [] h = tt
+  all-half false (x ∷ xs) h = (h.0, all-half true xs h.1)
+  all-half true (x ∷ xs) h = all-half false xs h.1
+
+  module _ (cmp : A → A → Ordering) where
+    all-insert : (x : A) (xs : List A) → P x → AllByRecursion P xs → AllByRecursion P (insert_in_order cmp x xs)
+    all-insert x [] p h = (p, tt)
+    all-insert x (y ∷ ys) p h = go (is_gt (cmp x y)) (all-insert x ys p h.1)
+      where
+        go : (b : Bool) → AllByRecursion P (insert_in_order cmp x ys) → AllByRecursion P (if b then y ∷ insert_in_order cmp x ys else x ∷ y ∷ ys)
+        go true ih = (h.0, ih)
+        go false ih = (p, h)
+
+    pub all-sort : (xs : List A) → AllByRecursion P xs → AllByRecursion P (sort cmp xs)
+    all-sort [] h = tt
+    all-sort (x ∷ xs) h = all-insert x (sort cmp xs) h.0 (all-sort xs h.1)
+
+    all-inserted : (x : A) (xs : List A) → AllByRecursion P (insert_in_order cmp x xs) → P x × AllByRecursion P xs
+    all-inserted x [] h = (h.0, tt)
+    all-inserted x (y ∷ ys) h = go (is_gt (cmp x y)) h (λ k. all-inserted x ys k)
+      where
+        go : (b : Bool) → AllByRecursion P (if b then y ∷ insert_in_order cmp x ys else x ∷ y ∷ ys) → (AllByRecursion P (insert_in_order cmp x ys) → P x × AllByRecursion P ys) → P x × AllByRecursion P (y ∷ ys)
+        go true h ih = let r = ih h.1 in (r.0, (h.0, r.1))
+        go false h ih = (h.0, h.1)
+
+    pub all-sorted : (xs : List A) → AllByRecursion P (sort cmp xs) → AllByRecursion P xs
+    all-sorted [] h = tt
+    all-sorted (x ∷ xs) h = let r = all-inserted x (sort cmp xs) h in (r.0, all-sorted xs r.1)
+
+    -- what compares equal has it too, where equal items do
+    module _ (keeps : (x y : A) → cmp x y ≡ Equal → P x → P y) where
+      pub all-same : (xs ys : List A) → SameItems cmp xs ys → AllByRecursion P xs → AllByRecursion P ys
+      all-same [] [] s h = tt
+      all-same (x ∷ xs) (y ∷ ys) s h = (keeps x y s.0 h.0, all-same xs ys s.1 h.1)
+      all-same [] (y ∷ ys) s h = absurd s
+      all-same (x ∷ xs) [] s h = absurd s
+
+      pub all-alike : (xs ys : List A) → SameItems cmp (sort cmp xs) (sort cmp ys) → AllByRecursion P xs → AllByRecursion P ys
+      all-alike xs ys s h = all-sorted ys (all-same (sort cmp xs) (sort cmp ys) s (all-sort xs h))
+
+  -- so it is of levels
+  abbrev pub AllIn : List (List A) → Type 0
+  AllIn = AllByRecursion (AllByRecursion P)
+
+  pub all-level : (ls : List (List A)) (h : ℕ) → AllIn ls → AllByRecursion P (level_at ls h)
+  all-level [] zero a = tt
+  all-level [] (suc h) a = tt
+  all-level (l ∷ ls) zero a = a.0
+  all-level (l ∷ ls) (suc h) a = all-level ls h a.1
+
+  pub all-by-place : (ls : List (List A)) → ((h : ℕ) → h < length ls → AllByRecursion P (level_at ls h)) → AllIn ls
+  all-by-place [] a = tt
+  all-by-place (l ∷ ls) a = (a 0 (omega arith), all-by-place ls (λ h i. a (suc h) (omega arith)))
+
+  all-with_level : (h : ℕ) (change : List A → List A) (ls : List (List A)) → ((l : List A) → AllByRecursion P l → AllByRecursion P (change l)) → AllIn ls → AllIn (with_level [] h change ls)
+  all-with_level zero change [] c a = (c [] tt, tt)
+  all-with_level zero change (l ∷ ls) c a = (c l a.0, a.1)
+  all-with_level (suc h) change [] c a = (tt, all-with_level h change [] c tt)
+  all-with_level (suc h) change (l ∷ ls) c a = (a.0, all-with_level h change ls c a.1)
+
+  all-cut : (cmp : A → A → Ordering) (taken : Taken) (in_list_order : Bool) (l : List A) → AllByRecursion P l → AllByRecursion P (cut cmp taken in_list_order l).0 × AllByRecursion P (cut cmp taken in_list_order l).1
+  all-cut cmp AllButLeftover true l a = let n = length l - length l % 2 in (all-drop n l a, all-sort cmp (take n l) (all-take n l a))
+  all-cut cmp AllButLeftover false l a = let n = length l % 2 in let s = all-sort cmp l a in (all-take n (sort cmp l) s, all-drop n (sort cmp l) s)
+  all-cut cmp (Lowest n) b l a = let s = all-sort cmp l a in (all-drop n (sort cmp l) s, all-take n (sort cmp l) s)
+  all-cut cmp (Greatest n) b l a = let m = length l - n in let s = all-sort cmp l a in (all-take m (sort cmp l) s, all-drop m (sort cmp l) s)
+
+  pub all-compaction : (cmp : A → A → Ordering) (h : ℕ) (taken : Taken) (bit : Bool) (bag : Bag A) → AllIn bag.levels → AllIn (compaction cmp h taken bit bag).levels
+  all-compaction cmp h taken bit bag a =
+      let above = level_at bag.levels (suc h) in
+      let parts = cut cmp taken (h == 0 && not bag.is_sorted) (level_at bag.levels h) in
+      let c = all-cut cmp taken (h == 0 && not bag.is_sorted) (level_at bag.levels h) (all-level bag.levels h a) in
+      let up = half (parity_up taken bit above) parts.1 in
+      all-with_level (suc h) (λ l. l ++ up) (with_level [] h (λ l. parts.0) bag.levels)
+      (λ l k. all-append l up k (all-half (parity_up taken bit above) parts.1 c.1))
+      (all-with_level h (λ l. parts.0) bag.levels (λ l k. c.0) a)
+
+  -- the levels of two bags that are alike
+  pub all-alike-levels : (cmp : A → A → Ordering) → ((x y : A) → cmp x y ≡ Equal → P x → P y) → (ls ms : List (List A)) → AllZip (λ xs ys. SameItems cmp (sort cmp xs) (sort cmp ys)) ls ms → AllIn ls → AllIn ms
+  all-alike-levels cmp keeps [] [] s a = tt
+  all-alike-levels cmp keeps (l ∷ ls) (m ∷ ms) s a = (all-alike cmp keeps l m s.0 a.0, all-alike-levels cmp keeps ls ms s.1 a.1)
+  all-alike-levels cmp keeps [] (m ∷ ms) s a = absurd s
+  all-alike-levels cmp keeps (l ∷ ls) [] s a = absurd s
+
+  -- all levels one after another
+  pub all-flat : {B : Type 0} (items : B → List A) (ls : List B) → AllIn (map items ls) → AllByRecursion P (flat_map items ls)
+  all-flat items [] a = tt
+  all-flat items (l ∷ ls) a = all-append (items l) (flat_map items ls) a.0 (all-flat items ls a.1)
+
+  pub all-by-level : {B : Type 0} (items : B → List A) (ls : List B) → AllByRecursion P (flat_map items ls) → AllIn (map items ls)
+  all-by-level items [] a = tt
+  all-by-level items (l ∷ ls) a = let r = all-parts (items l) (flat_map items ls) a in (r.0, all-by-level items ls r.1)
+
+pub all-map : {A : Type 0} (P Q : A → Type 0) → ((x : A) → P x → Q x) → (xs : List A) → AllByRecursion P xs → AllByRecursion Q xs
+all-map P Q from [] h = tt
+all-map P Q from (x ∷ xs) h = (from x h.0, all-map P Q from xs h.1)

@@ -1,0 +1,285 @@
+-- The extremes of a sketch bound what it retains, and those of a sketch of one level are its items'.
+use Rattle.std.proofs.Common.{◌≡◌, ℕ, zero, suc, ◌+◌, ◌/◌, ◌<◌, ◌≤◌, ◌⊎◌, inl, inr, Bool, true, false, if◌then◌else◌, List, [], ◌∷◌, ◌++◌, length, map, drop, Option, None, Some, refl, sym, ap, ap₂, ◌∙◌, subst, arith, Ordering, Less, Equal, Greater, is_gt, nat_le, slice_index_or}
+use Rattle.std.specs.List.{AllByRecursion}
+use Rattle.std.specs.Cmp.{IsTotalOrder}
+use Rattle.std.specs.Option.{option_to_list}
+use Rattle.std.proofs.lemmas.Bool.{cases_Bool, false≢true}
+use Rattle.std.proofs.lemmas.Cmp.{upto, tied_itself, tied_back, alike_right}
+use Rattle.std.proofs.lemmas.List.Sums.{sum_by-cons}
+use Rattle.sketch_base.specs.Bag.{Bag, SameItems, AlikeReq, sort, with_level}
+use Rattle.sketch_base.specs.Extremes.{IsBetween, TiesWithOne, IsExtremeOf, IsAtMost, IsLeastOf, IsGreatestOf}
+use Rattle.sketch_base.specs.Queries.{SameAnswer}
+use Rattle.sketch_base.specs.Random.{bits_from}
+use Rattle.sketch_base.specs.Trace.{Action, Work, act, acts, alone, bit_of, draws, draws_of, next_bit}
+use Rattle.sketch_base.proofs.Entries.{SameAnswer-itself}
+use Rattle.sketch_base.proofs.Everywhere.{AllIn, all-same, all-alike, all-compaction, all-alike-levels, all-flat, all-by-level, all-map}
+use Rattle.sketch_req.specs.Actions.{bag_of, coin_kind}
+use Rattle.sketch_req.specs.Level.{Level, taken_side}
+use Rattle.sketch_req.specs.Schedule.{Layout, new_layout, layout_of, layouts_of, layout_at, nominal, nominal_sum, retained_of, is_full, are_full, taken, compacted, compact_level, compacted_at, step_layouts, steps_actions, steps_layouts, walk_layouts, room_layouts, filled}
+use Rattle.sketch_req.specs.Sketch.{Req, IsSound, HasEnds, IsSmall, items_in, sketch_of}
+use Rattle.sketch_req.specs.Walk.{AreActed, room_of}
+use Rattle.sketch_req.specs.declared.RankAccuracy.{RankAccuracy}
+use Rattle.sketch_req.proofs.Bags.{alike-sym}
+use Rattle.sketch_base.specs.Extremes.{IsFrom, IsUpTo}
+use Rattle.sketch_req.proofs.Joins.{length-layouts}
+
+-- ---- a walk over one level that is full adds another
+
+longer-with : (h : ℕ) (change : Layout → Layout) (ls : List Layout) → length ls ≤ length (with_level new_layout h change ls)
+longer-with h change [] = omega arith
+longer-with zero change (l ∷ ls) = omega arith
+longer-with (suc h) change (l ∷ ls) = let r = longer-with h change ls in omega (arith, r)
+
+longer-step : (k h : ℕ) (ls : List Layout) → length ls ≤ length (step_layouts k h ls)
+longer-step k h ls =
+    elim (is_full k (layout_at ls h)) as (λ b. length ls ≤ length (if b then compacted_at k h ls else ls)) [
+      | true ↦
+          let a = longer-with h (compacted k) ls in
+          let b = longer-with (suc h) (filled (taken k (layout_at ls h) / 2)) (with_level new_layout h (compacted k) ls) in
+          omega (arith, a, b)
+      | false ↦ omega arith
+    ]
+
+longer-steps : (k more h : ℕ) (ls : List Layout) → length ls ≤ length (steps_layouts k more h ls)
+longer-steps k zero h ls = omega arith
+longer-steps k (suc more) h ls =
+    let a = longer-step k h ls in
+    let b = longer-steps k more (suc h) (step_layouts k h ls) in
+    omega (arith, a, b)
+
+pub longer-room : (k : ℕ) (ls : List Layout) → length ls ≤ length (room_layouts k ls)
+longer-room k ls =
+    elim (are_full k ls) as (λ b. length ls ≤ length (if b then walk_layouts k ls else ls)) [
+      | true ↦ longer-steps k (length ls) 0 ls
+      | false ↦ omega arith
+    ]
+
+full-one : (k : ℕ) (l : Layout) → are_full k (l ∷ []) ≡ true → is_full k l ≡ true
+full-one k l e =
+    let cap : nominal_sum k (l ∷ []) ≡ nominal k l = omega (arith, sum_by-cons (nominal k) l []) in
+    let num : retained_of (l ∷ []) ≡ l.count = omega (arith, sum_by-cons (λ (y : Layout). y.count) l []) in
+    sym (ap₂ (λ (a b : ℕ). nat_le a b) cap num) ∙ e
+
+walk-adds : (k : ℕ) (ls : List Layout) → 0 < length ls → are_full k ls ≡ true → 1 < length (walk_layouts k ls)
+walk-adds k [] some e = absurd (omega arith)
+walk-adds k (l ∷ []) some e =
+    let two : length (step_layouts k 0 (l ∷ [])) ≡ 2 = ap (λ (b : Bool). length (if b then compacted_at k 0 (l ∷ []) else l ∷ [])) (full-one k l e) in
+    omega (arith, two)
+walk-adds k (l ∷ m ∷ ls) some e = let a = longer-steps k (length (l ∷ m ∷ ls)) 0 (l ∷ m ∷ ls) in omega (arith, a)
+
+-- so one level left means no walk
+pub one-left : (k : ℕ) (ls : List Layout) → 0 < length ls → length (room_layouts k ls) ≡ 1 → are_full k ls ≡ false
+one-left k ls some one =
+    elim (cases_Bool (are_full k ls)) [
+      | inl e ↦
+          let w = walk-adds k ls some e in
+          let n = ap (λ (b : Bool). length (if b then walk_layouts k ls else ls)) e in
+          absurd (omega (arith, w, n, one))
+      | inr e ↦ e
+    ]
+
+module _ {A : Type 0} {cmp : A → A → Ordering} (order : IsTotalOrder cmp) where
+  abbrev pub Keeps : (A → Type 0) → Type 0
+  Keeps P = (x y : A) → cmp x y ≡ Equal → P x → P y
+
+  -- ---- what holds of each item holds after a walk
+
+  steps-all : (P : A → Type 0) (k : ℕ) (accuracy : RankAccuracy) (more h : ℕ) (layouts : List Layout) (word : List Bool) (work : Work (Bag A)) → AllIn P work.bag.levels → AllIn P (acts cmp (steps_actions k accuracy more h layouts) word work).bag.levels
+  steps-all P k accuracy zero h layouts word work a = a
+  steps-all P k accuracy (suc more) h layouts word work a =
+      let c : Action A = compact_level k accuracy h layouts in
+      let l = layout_at layouts h in
+      let rest : List (Action A) = steps_actions k accuracy more (suc h) (step_layouts k h layouts) in
+      elim (is_full k l) as (λ b. AllIn P (acts cmp ((if b then c ∷ [] else []) ++ rest) word work).bag.levels) [
+        | true ↦
+            let bit = bit_of (coin_kind l.state) h (next_bit word) work.bag in
+            steps-all P k accuracy more (suc h) (step_layouts k h layouts) (if draws c then drop 1 word else word) (act cmp c (next_bit word) work) (all-compaction P cmp h (taken_side accuracy (taken k l)) bit work.bag a)
+        | false ↦ steps-all P k accuracy more (suc h) (step_layouts k h layouts) word work a
+      ]
+
+  room-all : (P : A → Type 0) (k : ℕ) (accuracy : RankAccuracy) (layouts : List Layout) (word : List Bool) (work : Work (Bag A)) → AllIn P work.bag.levels → AllIn P (acts cmp (if are_full k layouts then steps_actions k accuracy (length layouts) 0 layouts else []) word work).bag.levels
+  room-all P k accuracy layouts word work a =
+      elim (are_full k layouts) as (λ b. AllIn P (acts cmp (if b then steps_actions k accuracy (length layouts) 0 layouts else []) word work).bag.levels) [
+        | true ↦ steps-all P k accuracy (length layouts) 0 layouts word work a
+        | false ↦ a
+      ]
+
+  module _ {S : Type 0} {bit : S → Bool} {next : S → S} {source after : S} (k : ℕ) (accuracy : RankAccuracy) (ms ns : List (Level A)) (room : AreActed cmp bit next source after k accuracy (room_of k accuracy ms) (room_layouts k (layouts_of ms)) 0 ms ns) where
+    pub acted-all : (P : A → Type 0) → Keeps P → AllByRecursion P (items_in ms) → AllByRecursion P (items_in ns)
+    acted-all P keeps a =
+        let item : Level A → List A = λ level. level.items in
+        all-flat P item ns (all-alike-levels P cmp keeps _ (map item ns) room.bag.levels (room-all P k accuracy (layouts_of ms) _ (alone (bag_of ms)) (all-by-level P item ms a)))
+
+    none-acted : are_full k (layouts_of ms) ≡ false → AlikeReq cmp (bag_of ms) (bag_of ns)
+    none-acted e =
+        let word = bits_from bit next source (draws_of (room_of k accuracy ms)) in
+        subst (λ (b : Bool). AlikeReq cmp (acts cmp (if b then steps_actions k accuracy (length (layouts_of ms)) 0 (layouts_of ms) else []) word (alone (bag_of ms))).bag (bag_of ns)) e room.bag
+
+    acted-back : are_full k (layouts_of ms) ≡ false → (P : A → Type 0) → Keeps P → AllByRecursion P (items_in ns) → AllByRecursion P (items_in ms)
+    acted-back e P keeps a =
+        let item : Level A → List A = λ level. level.items in
+        all-flat P item ms (all-alike-levels P cmp keeps (map item ns) (map item ms) (alike-sym order (bag_of ms) (bag_of ns) (none-acted e)).levels (all-by-level P item ns a))
+
+  -- ---- extremes that bound
+
+  abbrev pub Holds : Option A → Option A → A → Type 0
+  Holds least greatest x = IsFrom cmp least x × IsUpTo cmp greatest x
+
+  pub holds-same : (least greatest : Option A) → Keeps (Holds least greatest)
+  holds-same None greatest x y e h = absurd h.0
+  holds-same (Some l) None x y e h = absurd h.1
+  holds-same (Some l) (Some g) x y e h = (ap is_gt (sym (alike_right order x y l e)) ∙ h.0, ap is_gt (sym (order.congr x y g e)) ∙ h.1)
+
+  from-left : (a b e : Option A) → IsLeastOf cmp (option_to_list a ++ option_to_list b) e → (x : A) → IsFrom cmp a x → IsFrom cmp e x
+  from-left None b e i x h = absurd h
+  from-left (Some l) b None i x h = let n = ap length i in absurd (omega (arith, n))
+  from-left (Some l) b (Some z) i x h = upto order z l x i.bounds.0 h
+
+  from-right : (a b e : Option A) → IsLeastOf cmp (option_to_list a ++ option_to_list b) e → (x : A) → IsFrom cmp b x → IsFrom cmp e x
+  from-right a None e i x h = absurd h
+  from-right None (Some l) e i x h = from-left (Some l) None e i x h
+  from-right (Some m) (Some l) None i x h = let n = ap length i in absurd (omega (arith, n))
+  from-right (Some m) (Some l) (Some z) i x h = upto order z l x i.bounds.1.0 h
+
+  up-left : (a b e : Option A) → IsGreatestOf cmp (option_to_list a ++ option_to_list b) e → (x : A) → IsUpTo cmp a x → IsUpTo cmp e x
+  up-left None b e i x h = absurd h
+  up-left (Some g) b None i x h = let n = ap length i in absurd (omega (arith, n))
+  up-left (Some g) b (Some z) i x h = upto order x g z h i.bounds.0
+
+  up-right : (a b e : Option A) → IsGreatestOf cmp (option_to_list a ++ option_to_list b) e → (x : A) → IsUpTo cmp b x → IsUpTo cmp e x
+  up-right a None e i x h = absurd h
+  up-right None (Some g) e i x h = up-left (Some g) None e i x h
+  up-right (Some m) (Some g) None i x h = let n = ap length i in absurd (omega (arith, n))
+  up-right (Some m) (Some g) (Some z) i x h = upto order x g z h i.bounds.1.0
+
+  -- the extremes of two sketches together bound what either's do
+  module _ (a b least c d greatest : Option A) (il : IsLeastOf cmp (option_to_list a ++ option_to_list b) least) (ig : IsGreatestOf cmp (option_to_list c ++ option_to_list d) greatest) where
+    pub held-left : (xs : List A) → AllByRecursion (Holds a c) xs → AllByRecursion (Holds least greatest) xs
+    held-left xs h = all-map (Holds a c) (Holds least greatest) (λ x p. (from-left a b least il x p.0, up-left c d greatest ig x p.1)) xs h
+
+    pub held-right : (xs : List A) → AllByRecursion (Holds b d) xs → AllByRecursion (Holds least greatest) xs
+    held-right xs h = all-map (Holds b d) (Holds least greatest) (λ x p. (from-right a b least il x p.0, up-right c d greatest ig x p.1)) xs h
+
+  pub held : (s : Req A) → IsSound cmp s → AllByRecursion (Holds s.least s.greatest) (items_in s.levels)
+  held s sound = go s.n refl
+    where
+      go : (n : ℕ) → s.n ≡ n → AllByRecursion (Holds s.least s.greatest) (items_in s.levels)
+      go zero e =
+          let none : items_in s.levels ≡ [] = ap (λ (t : Req A). items_in t.levels) (sound.empty_at_first e) in
+          subst (AllByRecursion (Holds s.least s.greatest)) (sym none) tt
+      go (suc n) e =
+          let h = sound.ends (omega (arith, e)) in
+          rw (h.least_is, h.greatest_is) h.ends.between
+
+  pub has-ends : (s : Req A) (x : A) → Holds s.least s.greatest x → AllByRecursion (Holds s.least s.greatest) (items_in s.levels) → HasEnds cmp s
+  has-ends s x h all = go s.least s.greatest refl refl h all
+    where
+      go : (a b : Option A) → s.least ≡ a → s.greatest ≡ b → Holds a b x → AllByRecursion (Holds a b) (items_in s.levels) → HasEnds cmp s
+      go None b e f h all = absurd h.0
+      go (Some l) None e f h all = absurd h.1
+      go (Some l) (Some g) e f h all = record { least = l; greatest = g; least_is = e; greatest_is = f; ends = record { in_order = upto order l x g h.0 h.1; between = all } }
+
+  -- ---- extremes of lists that hold the same items
+
+  missing : (x : A) (ys : List A) → TiesWithOne cmp ys x ⊎ AllByRecursion (λ y. cmp x y ≡ Equal → ⊥) ys
+  missing x [] = inr tt
+  missing x (y ∷ ys) = go (cmp x y) refl (missing x ys)
+    where
+      more : (cmp x y ≡ Equal → ⊥) → TiesWithOne cmp ys x ⊎ AllByRecursion (λ y. cmp x y ≡ Equal → ⊥) ys → TiesWithOne cmp (y ∷ ys) x ⊎ AllByRecursion (λ y. cmp x y ≡ Equal → ⊥) (y ∷ ys)
+      more n (inl t) = inl (inr t)
+      more n (inr m) = inr (n, m)
+
+      go : (r : Ordering) → cmp x y ≡ r → TiesWithOne cmp ys x ⊎ AllByRecursion (λ y. cmp x y ≡ Equal → ⊥) ys → TiesWithOne cmp (y ∷ ys) x ⊎ AllByRecursion (λ y. cmp x y ≡ Equal → ⊥) (y ∷ ys)
+      go Equal e r = inl (inl e)
+      go Less e r = more (λ q. let z : Less ≡ Equal = sym e ∙ q in absurd cc) r
+      go Greater e r = more (λ q. let z : Greater ≡ Equal = sym e ∙ q in absurd cc) r
+
+  not-both : (x : A) (ys : List A) → TiesWithOne cmp ys x → AllByRecursion (λ y. cmp x y ≡ Equal → ⊥) ys → ⊥
+  not-both x [] t n = t
+  not-both x (y ∷ ys) (inl t) n = n.0 t
+  not-both x (y ∷ ys) (inr t) n = not-both x ys t n.1
+
+  -- what holds of each item of the one holds of each of the other
+  abbrev pub Moves : List A → List A → Type 1
+  Moves xs ys = (P : A → Type 0) → Keeps P → AllByRecursion P xs → AllByRecursion P ys
+
+  module _ (Bounds : A → A → Type 0) (keeps : (x : A) → Keeps (Bounds x)) where
+    extreme-moved : (xs ys : List A) → Moves xs ys → Moves ys xs → (e : Option A) → IsExtremeOf cmp Bounds xs e → IsExtremeOf cmp Bounds ys e
+    extreme-moved xs ys to from None i = go ys (to (λ y. ⊥) (λ x y e h. h) (subst (AllByRecursion (λ y. ⊥)) (sym i) tt))
+      where
+        go : (zs : List A) → AllByRecursion (λ y. ⊥) zs → zs ≡ []
+        go [] n = refl
+        go (z ∷ zs) n = absurd n.0
+    extreme-moved xs ys to from (Some x) i = record {
+      ties = elim (missing x ys) [
+        | inl t ↦ t
+        | inr n ↦ absurd (not-both x xs i.ties (from (λ y. cmp x y ≡ Equal → ⊥) (λ y z e h q. h (alike_right order y z x e ∙ q)) n))
+      ];
+      bounds = to (Bounds x) (keeps x) i.bounds;
+    }
+
+    extreme-tied : (xs : List A) (x y : Option A) → ((a b c : A) → cmp a b ≡ Equal → Bounds a c → Bounds b c) → SameAnswer cmp x y → IsExtremeOf cmp Bounds xs x → IsExtremeOf cmp Bounds xs y
+    extreme-tied xs None None other s i = i
+    extreme-tied xs (Some x) (Some y) other s i = record { ties = tie xs i.ties; bounds = all-map (Bounds x) (Bounds y) (λ z b. other x y z s b) xs i.bounds }
+      where
+        tie : (zs : List A) → TiesWithOne cmp zs x → TiesWithOne cmp zs y
+        tie [] t = t
+        tie (z ∷ zs) (inl t) = inl (sym (order.congr x y z s) ∙ t)
+        tie (z ∷ zs) (inr t) = inr (tie zs t)
+    extreme-tied xs None (Some y) other s i = absurd s
+    extreme-tied xs (Some x) None other s i = absurd s
+
+  from-same : (x : A) → Keeps (λ y. IsAtMost cmp x y)
+  from-same x y z e h = ap is_gt (sym (alike_right order y z x e)) ∙ h
+
+  up-same : (x : A) → Keeps (λ y. IsAtMost cmp y x)
+  up-same x y z e h = ap is_gt (sym (order.congr y z x e)) ∙ h
+
+  pub least-moved : (xs ys : List A) → Moves xs ys → Moves ys xs → (x y : Option A) → SameAnswer cmp x y → IsLeastOf cmp xs x → IsLeastOf cmp ys y
+  least-moved xs ys to from x y s i = extreme-tied (λ x y. IsAtMost cmp x y) from-same ys x y (λ a b c e h. up-same c a b e h) s (extreme-moved (λ x y. IsAtMost cmp x y) from-same xs ys to from x i)
+
+  pub greatest-moved : (xs ys : List A) → Moves xs ys → Moves ys xs → (x y : Option A) → SameAnswer cmp x y → IsGreatestOf cmp xs x → IsGreatestOf cmp ys y
+  greatest-moved xs ys to from x y s i = extreme-tied (λ x y. IsAtMost cmp y x) up-same ys x y (λ a b c e h. from-same c a b e h) s (extreme-moved (λ x y. IsAtMost cmp y x) up-same xs ys to from x i)
+
+  pub alike-moves : (xs ys : List A) → SameItems cmp (sort cmp xs) (sort cmp ys) → Moves xs ys
+  alike-moves xs ys s P keeps a = all-alike P cmp keeps xs ys s a
+
+  pub holds-tied : (a b c d : Option A) → SameAnswer cmp a b → SameAnswer cmp c d → (x : A) → Holds a c x → Holds b d x
+  holds-tied None b c d s t x h = absurd h.0
+  holds-tied (Some l) None c d s t x h = absurd s
+  holds-tied (Some l) (Some m) None d s t x h = absurd h.1
+  holds-tied (Some l) (Some m) (Some g) None s t x h = absurd t
+  holds-tied (Some l) (Some m) (Some g) (Some i) s t x h = (up-same x l m s h.0, from-same x g i t h.1)
+
+  -- ---- one level left
+
+  abbrev pub IsNew : Level A → Type 0
+  IsNew level = (level.state ≡ 0) × (level.doublings ≡ 0)
+
+  pub news : (ls ms : List (Level A)) → layouts_of ms ≡ layouts_of ls → AllByRecursion IsNew ls → AllByRecursion IsNew ms
+  news [] [] e n = tt
+  news [] (m ∷ ms) e n = let z = ap length e in absurd (omega (arith, z))
+  news (l ∷ ls) [] e n = let z = ap length e in absurd (omega (arith, z))
+  news (l ∷ ls) (m ∷ ms) e n =
+      let first : Layout = layout_of l in
+      let head = ap (λ (xs : List Layout). layout_at xs 0) e in
+      ((ap (λ (x : Layout). x.state) head ∙ n.0.0, ap (λ (x : Layout). x.doublings) head ∙ n.0.1), news ls ms (ap (λ (xs : List Layout). drop 1 xs) e) n.1)
+
+  module _ {S : Type 0} {bit : S → Bool} {next : S → S} {source after : S} (k : ℕ) (accuracy : RankAccuracy) (ms ns : List (Level A)) (room : AreActed cmp bit next source after k accuracy (room_of k accuracy ms) (room_layouts k (layouts_of ms)) 0 ms ns) where
+    pub one-before : 0 < length ms → length ns ≡ 1 → length ms ≡ 1
+    one-before some one =
+        let a = longer-room k (layouts_of ms) in
+        let b = ap length room.layouts_are in
+        omega (arith, some, one, a, b, length-layouts ms, length-layouts ns)
+
+    pub small-acted : (n : ℕ) (least greatest : Option A) → 0 < length ms → length ns ≡ 1 → IsLeastOf cmp (items_in ms) least → IsGreatestOf cmp (items_in ms) greatest → (n ≤ 4 → AllByRecursion IsNew ms) → IsSmall cmp (sketch_of k accuracy n ns least greatest)
+    small-acted n least greatest some one l g new =
+        let full = one-left k (layouts_of ms) (omega (arith, some, length-layouts ms)) (sym (ap length room.layouts_are) ∙ (length-layouts ns ∙ one)) in
+        let to : Moves (items_in ms) (items_in ns) = acted-all k accuracy ms ns room in
+        let from : Moves (items_in ns) (items_in ms) = acted-back k accuracy ms ns room full in
+        let same : layouts_of ns ≡ layouts_of ms = room.layouts_are ∙ ap (λ (b : Bool). if b then walk_layouts k (layouts_of ms) else layouts_of ms) full in
+        record {
+          least_is = least-moved (items_in ms) (items_in ns) to from least least (SameAnswer-itself order least) l;
+          greatest_is = greatest-moved (items_in ms) (items_in ns) to from greatest greatest (SameAnswer-itself order greatest) g;
+          fresh_if_few = λ few. news ms ns same (new few);
+        }
