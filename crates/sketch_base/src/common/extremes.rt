@@ -1,6 +1,6 @@
-//! Clones of what was found, the extremes of a stream with one more item or with those of another stream, those of some
-//! items, and items between two.
-ghost use Rattle.std.specs.Prelude.{◌≡◌, ◌++◌, ◌<◌, length, IfOk, IsOk, IsTrue, None, Some, option_copied, if◌then◌else◌};
+//! The least and the greatest of some items, items between two, clones of what was found, and the extremes of a stream with
+//! one more item, or with those of another stream.
+ghost use Rattle.std.specs.Prelude.{◌≡◌, ◌<◌, ◌++◌, length, IfOk, IsOk, IsTrue, None, Some, option_copied, if◌then◌else◌};
 ghost use Rattle.std.specs.List.{AllByRecursion};
 ghost use Rattle.std.specs.Option.{option_to_list};
 ghost use Rattle.std.specs.Ordering.{is_gt, is_lt};
@@ -20,6 +20,47 @@ pub fn clone_found<T: Clone + Ord>(found: Option<&T>) -> Result<Option<T>, Alloc
         Some(item) => Ok(Some(item.clone()?)),
         None => Ok(None),
     }
+}
+
+/// An item that is at most each.
+pub fn least_of<T: Ord>(items: &[T]) -> &T
+    requires { 0 < length items.now }
+    ensures { IsExtreme T.cmp (λ x y. IsAtMost T.cmp x y) items.now result.now }
+{
+    let mut least = &items[0];
+    for item in items {
+        if item.cmp(least).is_lt() {
+            least = item;
+        }
+    }
+    least
+}
+
+/// An item that each is at most.
+pub fn greatest_of<T: Ord>(items: &[T]) -> &T
+    requires { 0 < length items.now }
+    ensures { IsExtreme T.cmp (λ x y. IsAtMost T.cmp y x) items.now result.now }
+{
+    let mut greatest = &items[0];
+    for item in items {
+        if item.cmp(greatest).is_gt() {
+            greatest = item;
+        }
+    }
+    greatest
+}
+
+/// Whether each item is at least the one and at most the other.
+pub fn are_between<T: Ord>(items: &[T], least: &T, greatest: &T) -> bool
+    ensures yes { IsTrue result → AllByRecursion (IsBetween T.cmp least.now greatest.now) items.now }
+    ensures no { AllByRecursion (IsBetween T.cmp least.now greatest.now) items.now → IsTrue result }
+{
+    for item in items {
+        if least.cmp(item).is_gt() || item.cmp(greatest).is_gt() {
+            return false;
+        }
+    }
+    true
 }
 
 // Whether an item is below the least item so far.
@@ -114,45 +155,4 @@ pub fn set_if_some<T: Drop>(place: &mut Option<T>, new: Option<T>)
     if let Some(value) = new {
         *place = Some(value);
     }
-}
-
-/// An item that is at most each.
-pub fn least_of<T: Ord>(items: &[T]) -> &T
-    requires { 0 < length items.now }
-    ensures { IsExtreme T.cmp (λ x y. IsAtMost T.cmp x y) items.now result.now }
-{
-    let mut least = &items[0];
-    for item in items {
-        if item.cmp(least).is_lt() {
-            least = item;
-        }
-    }
-    least
-}
-
-/// An item that each is at most.
-pub fn greatest_of<T: Ord>(items: &[T]) -> &T
-    requires { 0 < length items.now }
-    ensures { IsExtreme T.cmp (λ x y. IsAtMost T.cmp y x) items.now result.now }
-{
-    let mut greatest = &items[0];
-    for item in items {
-        if item.cmp(greatest).is_gt() {
-            greatest = item;
-        }
-    }
-    greatest
-}
-
-/// Whether each item is at least the one and at most the other.
-pub fn are_between<T: Ord>(items: &[T], least: &T, greatest: &T) -> bool
-    ensures yes { IsTrue result → AllByRecursion (IsBetween T.cmp least.now greatest.now) items.now }
-    ensures no { AllByRecursion (IsBetween T.cmp least.now greatest.now) items.now → IsTrue result }
-{
-    for item in items {
-        if least.cmp(item).is_gt() || item.cmp(greatest).is_gt() {
-            return false;
-        }
-    }
-    true
 }
