@@ -1,5 +1,5 @@
 -- The accepted commands of a run give the plan, the streams and the coins of all its commands.
-use Rattle.std.proofs.Common.{◌≡◌, ℕ, zero, suc, ◌+◌, Bool, true, false, ◌==◌, if◌then◌else◌, List, [], ◌∷◌, ◌++◌, length, fold, Option, refl, sym, ap, ap₂, ◌∙◌, subst, arith, append_assoc, append-nil, zero-add, eqb-true}
+use Rattle.std.proofs.Common.{◌≡◌, ℕ, zero, suc, Bool, true, false, ◌==◌, if◌then◌else◌, List, [], ◌∷◌, ◌++◌, length, fold, Option, refl, sym, ap, ap₂, ◌∙◌, subst, arith, append_assoc, append-nil, zero-add, eqb-true}
 use Rattle.std.specs.Prelude.{Contains}
 use Rattle.std.proofs.lemmas.List.{length_push}
 use Rattle.std.proofs.lemmas.Map.Views.{Contains-from_any}
@@ -10,7 +10,7 @@ use Rattle.sketch_base.proofs.Calls.{coins-at}
 use Rattle.sketch_base.proofs.Changes.{changed-own}
 use Rattle.quantile_sketches.specs.declared.audit.commands.Command.{Command}
 use Rattle.quantile_sketches.specs.declared.audit.commands.Command.TheVariants.{New, Update, UpdateWeighted, Merge, Reset, RoundTrip}
-use Rattle.quantile_sketches.specs.Lawful.{AreLawful, IsLawful}
+use Rattle.quantile_sketches.specs.Lawful.{IsLawful}
 use Rattle.quantile_sketches.specs.Plan.{Plan, start_plan, events_at, is_refused, accepted_shapes, accepted_events, events_of, plan_after, plan_of, trace_of}
 use Rattle.quantile_sketches.specs.Refused.{is_among, accepted_of, IsRefusedExactly, AreRefused}
 use Rattle.quantile_sketches.specs.Rules.{Rules, Kind}

@@ -1,12 +1,11 @@
 -- REQ sketches are a lawful kind.
-use Rattle.std.proofs.Common.{◌≡◌, ℕ, Bool, true, false, if◌then◌else◌, List, [], ◌∷◌, ◌++◌, length, map, drop, Option, refl, sym, ap, ap₂, ◌∙◌, subst, Ordering}
+use Rattle.std.proofs.Common.{◌≡◌, ℕ, Bool, List, [], ◌∷◌, ◌++◌, length, map, drop, Option, refl, sym, ap₂, ◌∙◌, subst, Ordering}
 use Rattle.std.proofs.lemmas.Bool.{false≢true}
 use Rattle.std.proofs.lemmas.List.Elements.{length_all_zip}
 use Rattle.std.specs.Cmp.{IsTotalOrder}
-use Rattle.std.specs.List.{AllZip, AllByRecursion}
+use Rattle.std.specs.List.{AllZip}
 use Rattle.std.specs.declared.cmp.Ordering.TheVariants.{Equal}
 use Rattle.sketch_base.specs.Bag.{Bag, AlikeReq, SameItems, sort, with_level, empty_bag}
-use Rattle.sketch_base.specs.Lengths.{bag_lengths}
 use Rattle.sketch_base.specs.Trace.{Action, Put, Pull, Join, Compact, Forget, Clear, Fresh, Turned, Work, act, acts, alone, bag_after, next_bit}
 use Rattle.sketch_base.proofs.Alikes.{acts-req}
 use Rattle.sketch_base.proofs.Counts.{sorted_items, SameCounts-from_items}

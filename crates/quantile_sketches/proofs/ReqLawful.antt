@@ -1,13 +1,13 @@
 -- REQ's rules are lawful.
-use Rattle.std.proofs.Common.{◌≡◌, ℕ, zero, suc, ◌+◌, ◌-◌, ◌*◌, ◌%◌, ◌^◌, ◌<◌, ◌≤◌, Bool, true, false, ◌||◌, ◌&&◌, ◌==◌, not, eqb, nat_le, nat_lt, if◌then◌else◌, List, [], ◌∷◌, ◌++◌, length, append-nil, sum, slice_index, None, Some, refl, sym, ap, ap₂, ◌∙◌, subst, arith, inl, inr, leb-true, eqb-true}
+use Rattle.std.proofs.Common.{◌≡◌, ℕ, zero, suc, ◌+◌, ◌-◌, ◌*◌, ◌%◌, ◌^◌, ◌<◌, ◌≤◌, Bool, true, false, ◌||◌, ◌&&◌, ◌==◌, not, eqb, nat_le, nat_lt, if◌then◌else◌, List, [], ◌∷◌, ◌++◌, length, append-nil, sum, slice_index, Some, refl, sym, ap, ap₂, ◌∙◌, subst, arith, inl, inr, leb-true, eqb-true}
 use Rattle.std.proofs.lemmas.Bool.{cases_Bool, false≢true, ltb-false, and_parts}
 use Rattle.sketch_base.specs.Bag.{Taken, AllButLeftover, Lowest, Greatest}
-use Rattle.sketch_base.specs.Lengths.{acts_on_lengths, lengths_after, Along, TakesFew, TakesEven, LeavesTail}
+use Rattle.sketch_base.specs.Lengths.{acts_on_lengths, lengths_after, Along, TakesFew, LeavesTail}
 use Rattle.sketch_base.specs.Ranks.{true_ranks}
-use Rattle.sketch_base.specs.Trace.{Action, Put, Pull, Join, Compact, Forget, Clear, Event, Snap, At, Work, World, changed}
+use Rattle.sketch_base.specs.Trace.{Action, Put, Pull, Join, Compact, Forget, Clear, Event, Snap, At, Work, World}
 use Rattle.sketch_base.proofs.Changes.{changed-there}
-use Rattle.sketch_req.specs.Schedule.{Layout, counts_of, retained_of, weight_of, update_actions, update_layouts, joined_layouts, joins_actions, merge_actions, merge_layouts, room_actions}
-use Rattle.sketch_req.specs.ScheduleLaws.{UpperHoldTwo, IsLegalFrom, merge_events}
+use Rattle.sketch_req.specs.Schedule.{Layout, counts_of, retained_of, update_actions, update_layouts, joined_layouts, joins_actions, merge_actions, merge_layouts, room_actions}
+use Rattle.sketch_req.specs.ScheduleLaws.{IsLegalFrom, merge_events}
 use Rattle.sketch_req.specs.Sections.{IsLegalK}
 use Rattle.sketch_req.specs.declared.RankAccuracy.{RankAccuracy}
 use Rattle.sketch_req.specs.declared.RankAccuracy.TheVariants.{HighRank, LowRank}
@@ -16,7 +16,6 @@ use Rattle.sketch_req.proofs.LegalLayouts.{new_is, filled_are, joined_are}
 use Rattle.sketch_req.proofs.LegalTraces.{lengths_at, along-even, changed-itself, update_legal, update_lengths, merge_legal, merge_lengths}
 use Rattle.sketch_req.proofs.LegalWalks.{room_leads}
 use Rattle.sketch_req.proofs.Unbiased.{AreCompacts, room_compacts, ranks-update}
-use Rattle.quantile_sketches.specs.KllRules.{unless}
 use Rattle.quantile_sketches.specs.Lawful.{lengths_by, IsLegalBy, DoWell, AreLawful}
 use Rattle.quantile_sketches.specs.Plan.{events_at}
 use Rattle.quantile_sketches.specs.ReqKind.{FitsReq, MeetsReq}
@@ -234,11 +233,13 @@ module _ (A : Type 0) where
   merge-counts : (s other t : ReqShape) → (req_rules {A = A}).merged s other ≡ Some t → (t.n ≡ s.n + other.n) × (s.n < 2 ^ 64 → t.n < 2 ^ 64)
   merge-counts s other t e =
       let u = unless-there _ _ t e in
-      let n : t.n ≡ s.n + other.n = ap (λ (shape : ReqShape). shape.n) (sym u.1) in
-      (n, λ few. elim (cases_Bool (other.n == 0)) [
-        | inl b ↦ omega (arith, n, few, eqb-true other.n 0 b)
-        | inr b ↦ omega (arith, n, (enough_room (s.n + other.n) (retained_of s.layouts + retained_of other.layouts) (not-much s other u.0 b)).0)
-      ])
+      let n : t.n ≡ s.n + other.n = ap (λ (shape : ReqShape). shape.n) (sym u.1) in (
+        n,
+        λ few. elim (cases_Bool (other.n == 0)) [
+          | inl b ↦ omega (arith, n, few, eqb-true other.n 0 b)
+          | inr b ↦ omega (arith, n, (enough_room (s.n + other.n) (retained_of s.layouts + retained_of other.layouts) (not-much s other u.0 b)).0)
+        ],
+      )
 
 module _ {A : Type 0} where
   pub req_lawful : AreLawful {A = A} req_rules MeetsReq FitsReq

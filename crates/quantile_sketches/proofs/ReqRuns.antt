@@ -1,5 +1,5 @@
 -- What a run on REQ sketches gives, from what every run gives.
-use Rattle.std.proofs.Common.{◌≡◌, ℕ, suc, ◌+◌, ◌*◌, ◌^◌, ◌<◌, ◌≤◌, Bool, true, not, IsTrue, List, [], ◌∷◌, ◌++◌, length, sum, count_by, Option, None, Some, refl, sym, ap, ◌∙◌, subst, arith, append-nil, Ordering}
+use Rattle.std.proofs.Common.{◌≡◌, ℕ, suc, ◌*◌, ◌^◌, ◌<◌, ◌≤◌, Bool, true, IsTrue, List, [], ◌∷◌, ◌++◌, length, sum, count_by, Option, Some, sym, ap, ◌∙◌, subst, arith, append-nil, Ordering}
 use Rattle.std.specs.Prelude.{IsSorted}
 use Rattle.std.specs.Cmp.{IsTotalOrder}
 use Rattle.std.specs.List.{AllByRecursion}
@@ -29,7 +29,7 @@ use Rattle.sketch_req.proofs.OneSketch.{one_sketch}
 use Rattle.sketch_req.proofs.Ranks.{retained_is}
 use Rattle.sketch_req.proofs.Writings.{written_lem}
 use Rattle.quantile_sketches.specs.Audit.{word_of, rank_under, AreWeights, AreRunWeights}
-use Rattle.quantile_sketches.specs.Outcome.{Slots, sketch_at, ArePlanned, ArePlayed, AreSound, AreUnbiased}
+use Rattle.quantile_sketches.specs.Outcome.{Slots, sketch_at, ArePlanned, ArePlayed, AreSound}
 use Rattle.quantile_sketches.specs.Plan.{Plan, start_plan, plan_of, trace_of}
 use Rattle.quantile_sketches.specs.Refused.{accepted_of, AreRefused}
 use Rattle.quantile_sketches.specs.ReqKind.{FitsReq, req_kind, req_shape}

@@ -78,13 +78,16 @@ module _ {A : Type 0} where
   pairs-weigh [] = tt
   pairs-weigh (l ∷ ls) = weighed-weigh (2 ^ l.lg_weight) l.items (pairs_of ls) (pow_pos l.lg_weight) (pairs-weigh ls)
 
+  all-with : (p : A × ℕ) (ps : List (A × ℕ)) → 0 < p.1 → All (λ (pair : A × ℕ). 0 < pair.1) ps → All (λ (pair : A × ℕ). 0 < pair.1) (p ∷ ps)
+  all-with p ps positive h = λ k. go k
+    where
+      go : (k : ℕ) (d : A × ℕ) → k < length (p ∷ ps) → 0 < (get_or (p ∷ ps) k d).1
+      go zero d l = positive
+      go (suc k) d l = h k d (omega arith)
+
   all-places : (pairs : List (A × ℕ)) → HaveWeight pairs → All (λ (pair : A × ℕ). 0 < pair.1) pairs
   all-places [] h = λ k d l. absurd (omega arith)
-  all-places (p ∷ ps) h = at (all-places ps h.1)
-    where
-      at : All (λ (pair : A × ℕ). 0 < pair.1) ps → (k : ℕ) (d : A × ℕ) → k < length (p ∷ ps) → 0 < (get_or (p ∷ ps) k d).1
-      at rest zero d l = h.0
-      at rest (suc k) d l = rest k d (omega arith)
+  all-places (p ∷ ps) h = all-with p ps h.0 (all-places ps h.1)
 
   weigh-enough : (pairs : List (A × ℕ)) → HaveWeight pairs → length pairs ≤ sum_by (λ (pair : A × ℕ). pair.1) pairs
   weigh-enough [] h = omega arith

@@ -1,5 +1,3 @@
-use Rattle.std.proofs.Common.{Result, Ok, Err, OnOk}
-use Rattle.sketch_base.specs.declared.error.ErrorKind.{ErrorKind}
 use Rattle.quantile_sketches.proofs.KllKind.{merged_by}
 use Rattle.quantile_sketches.proofs.family.kll.KllSketchFamily.join.Goals as goal
 
