@@ -11,11 +11,10 @@ use Rattle.std.proofs.lemmas.Cmp.{tied_itself}
 use Rattle.std.proofs.lemmas.List.Sums.{sum_by-cons, sum_by-append}
 use Rattle.std.proofs.lemmas.List.Folds.{sum_by-replicate}
 use Rattle.std.proofs.lemmas.List.Sorted.{All-permutation, length_permutation, sum_by-IsPermutation}
-use Rattle.sketch_base.specs.declared.common.SearchCriteria.{SearchCriteria}
 use Rattle.sketch_base.specs.Bag.{SameItems, sort}
 use Rattle.sketch_base.specs.Pairs.{begins_equal, copies, distinct, is_below_next, joined, joined_weights}
 use Rattle.sketch_base.specs.Query.{counted}
-use Rattle.sketch_base.specs.Queries.{AreCumulated, spread_out, spread_over}
+use Rattle.sketch_base.specs.Queries.{spread_out, spread_over}
 use Rattle.sketch_base.specs.Views.{IsThere, IsView}
 use Rattle.sketch_base.proofs.Counts.{Ordered, Ordered-sort, below, counted-equal, items-from_counts}
 use Rattle.sketch_base.proofs.Entries.{Ordered-spread_over}

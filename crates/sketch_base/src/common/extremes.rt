@@ -95,10 +95,7 @@ fn clone_if<T: Clone + Ord>(is_wanted: bool, item: &T) -> Result<Option<T>, Allo
 }
 
 /// The item's clone, where it is below the least item so far.
-pub fn clone_if_least<T: Clone + Ord>(
-    item: &T,
-    least: &Option<T>,
-) -> Result<Option<T>, AllocError>
+pub fn clone_if_least<T: Clone + Ord>(item: &T, least: &Option<T>) -> Result<Option<T>, AllocError>
     requires clones { (x y : T) → T.is_clone x y → T.cmp x y ≡ Equal }
     ensures { IfOk result (λ new.
         Ties T.cmp (least_with T.cmp item.now least.now) (newer_or new least.now)) }

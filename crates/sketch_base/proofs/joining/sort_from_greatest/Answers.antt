@@ -1,4 +1,4 @@
-use Rattle.std.proofs.Common.{ℕ, List, map, reverse, is_lt, ap, sym, ◌∙◌, subst, rules, of_calls, IsPermutation, IsSorted}
+use Rattle.std.proofs.Common.{ℕ, List, reverse, is_lt, ap, sym, ◌∙◌, subst, rules, of_calls, IsPermutation, IsSorted}
 use Rattle.std.proofs.lemmas.Fn.{always_returns_same}
 use Rattle.std.proofs.lemmas.List.{reverse-reverse}
 use Rattle.std.proofs.lemmas.List.Sorted.{ranks_by}

@@ -7,6 +7,7 @@ use sketch_base::error::ErrorKind;
 use std::test::Fail;
 
 const INCLUSIVE: SearchCriteria = SearchCriteria::Inclusive;
+
 const BOTH: [SearchCriteria; 2] = [SearchCriteria::Inclusive, SearchCriteria::Exclusive];
 
 fn sketch_of(alloc: Global, items: &[i32]) -> Result<ReqSketch<i32>, Error> {
@@ -102,7 +103,10 @@ fn a_view_answers_as_its_sketch(rt: HostRuntime) -> Result<(), Fail> {
             assert_eq!(rt; view.rank(&item, criteria), sketch.rank(&item, criteria));
         }
         let asked = fraction(1, 2);
-        assert_eq!(rt; view.quantile(asked, criteria)?, sketch.quantile(asked, criteria)?);
+        assert_eq!(rt;
+            view.quantile(asked, criteria)?,
+            sketch.quantile(asked, criteria)?
+        );
     }
     Ok(())
 }
