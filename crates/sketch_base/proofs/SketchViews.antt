@@ -14,15 +14,8 @@ use Rattle.sketch_base.specs.Queries.{SameAnswer, cdf_of, differences, pmf_of, q
 use Rattle.sketch_base.specs.Views.{AreQuantiles, IsThere, IsViewOf, View, expanded_view, quantile_of}
 use Rattle.sketch_base.proofs.Counts.{SameCounts-from_items}
 use Rattle.sketch_base.proofs.Entries.{SameAnswer-trans, cdf-same, quantile-same}
+use Rattle.sketch_base.proofs.Results.{ok-weaker, some-weaker}
 use Rattle.sketch_base.proofs.Sums.{sum_by-expanded}
-
-ok-weaker : {T E : Type 0} (r : Result T E) (P Q : T → Type 0) → ((x : T) → P x → Q x) → IfOk r P → IfOk r Q
-ok-weaker (Ok x) P Q f h = f x h
-ok-weaker (Err e) P Q f h = h
-
-some-weaker : {T : Type 0} (o : Option T) (P Q : T → Type 0) → ((x : T) → P x → Q x) → IfSome o P → IfSome o Q
-some-weaker None P Q f h = h
-some-weaker (Some x) P Q f h = f x h
 
 pub sum-ones : {A : Type 0} (xs : List A) → sum_by (λ x. 1) xs ≡ length xs
 sum-ones [] = refl

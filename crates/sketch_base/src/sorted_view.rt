@@ -1,9 +1,12 @@
 //! A snapshot of a sketch's items in order, for many queries. Each family builds it from what its sketches hold.
-ghost use Rattle.std.specs.Prelude.{◌≡◌, ◌↔◌, ◌<◌, length, map, sum_by, IsTrue, IsSome, IfOk, IfSome, Some, option_copied};
+ghost use Rattle.std.specs.Prelude.{◌≡◌, ◌↔◌, ◌<◌, ◌^◌, length, map, sum_by, IsTrue, IsSome, IfOk, IfErr, IfSome, Some, option_copied};
 ghost use Rattle.std.specs.declared.cmp.Ordering.TheVariants.{Equal};
 ghost use Rattle.std.specs.List.{All};
 ghost use Rattle.std.specs.List.Sorted.{IsNonDecreasing};
 ghost use Rattle.sketch_base.specs.Answered.{FindsQuantiles, FindsRanks, IsFoundAmong, IsRefusedUnless};
+ghost use Rattle.sketch_base.specs.declared.error.ErrorKind.TheVariants.{OutOfMemory};
+ghost use Rattle.sketch_base.specs.Bag.{SameItems, sort};
+ghost use Rattle.sketch_base.specs.Pairs.{copies, distinct, extreme_among};
 ghost use Rattle.sketch_base.specs.Query.{true_rank};
 ghost use Rattle.sketch_base.specs.Queries.{IsFraction, IsIncreasing, SameAnswer, cdf_of, pmf_of};
 ghost use Rattle.sketch_base.specs.Views.{AreQuantiles, IsView, SameView, quantile_of, view_of};
@@ -15,6 +18,7 @@ use crate::common::queries::{
 };
 use crate::common::{Rank, SearchCriteria};
 use crate::error::Error;
+use crate::joining::{join_equal, sort_from_greatest};
 use std::alloc::AllocError;
 use std::marker::Model;
 
@@ -38,6 +42,36 @@ impl<T: Clone + Ord> Model for SortedView<T> {
 }
 
 impl<T: Clone + Ord> SortedView<T> {
+    /// The view of items with their weights, in any order. Of items that compare equal one is kept, with the weight
+    /// of them all. The extremes are those of the stream; of no items there are none.
+    pub fn new(
+        weighted: Vec<(T, u64)>,
+        min_item: Option<T>,
+        max_item: Option<T>,
+    ) -> Result<Self, Error>
+        requires weights { All (λ pair. 0 < pair.1) weighted.items }
+        requires fits { sum_by (λ pair. pair.1) weighted.items < 2 ^ 64 }
+        requires least { 0 < length weighted.items → IsSome min_item }
+        requires greatest { 0 < length weighted.items → IsSome max_item }
+        ensures entries { IfOk result (λ v. SameItems T.cmp (sort T.cmp (copies weighted.items)) v.entries) }
+        ensures joined { IfOk result (λ v. v.held ≡ distinct T.cmp v.entries) }
+        ensures least { IfOk result (λ v. v.least ≡ extreme_among weighted.items min_item) }
+        ensures greatest { IfOk result (λ v. v.greatest ≡ extreme_among weighted.items max_item) }
+        ensures memory { IfErr result (λ e. e ≡ OutOfMemory) }
+    {
+        let alloc = *weighted.allocator();
+        let mut weighted = weighted;
+        let count = weighted.len();
+        let mut items = Vec::with_capacity(alloc, count)?;
+        let mut cumulated = Vec::with_capacity(alloc, count)?;
+        if count == 0 {
+            return Ok(SortedView::from_cumulated(items, cumulated, None, None));
+        }
+        sort_from_greatest(&mut weighted);
+        join_equal(&mut weighted, &mut items, &mut cumulated);
+        Ok(SortedView::from_cumulated(items, cumulated, min_item, max_item))
+    }
+
     /// The view of items in order with their cumulated weights, whose stream has these extremes.
     pub fn from_cumulated(
         items: Vec<T>,

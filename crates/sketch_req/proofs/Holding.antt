@@ -7,7 +7,7 @@ use Rattle.std.proofs.lemmas.Bool.{cases_Bool, false≢true}
 use Rattle.std.proofs.lemmas.Cmp.{upto, tied_itself, tied_back, alike_right}
 use Rattle.std.proofs.lemmas.List.Sums.{sum_by-cons}
 use Rattle.sketch_base.specs.Bag.{Bag, SameItems, AlikeReq, sort, with_level}
-use Rattle.sketch_base.specs.Extremes.{TiesWithOne, IsExtremeOf, IsAtMost, IsLeastOf, IsGreatestOf}
+use Rattle.sketch_base.specs.Extremes.{IsBetween, TiesWithOne, IsExtremeOf, IsAtMost, IsLeastOf, IsGreatestOf}
 use Rattle.sketch_base.specs.Queries.{SameAnswer}
 use Rattle.sketch_base.specs.Random.{bits_from}
 use Rattle.sketch_base.specs.Trace.{Action, Work, act, acts, alone, bit_of, draws, draws_of, next_bit}
@@ -16,11 +16,11 @@ use Rattle.sketch_base.proofs.Everywhere.{AllIn, all-same, all-alike, all-compac
 use Rattle.sketch_req.specs.Actions.{bag_of, coin_kind}
 use Rattle.sketch_req.specs.Level.{Level, taken_side}
 use Rattle.sketch_req.specs.Schedule.{Layout, new_layout, layout_of, layouts_of, layout_at, nominal, nominal_sum, retained_of, is_full, are_full, taken, compacted, compact_level, compacted_at, step_layouts, steps_actions, steps_layouts, walk_layouts, room_layouts, filled}
-use Rattle.sketch_req.specs.Sketch.{Req, IsSound, IsBetween, HasEnds, IsSmall, items_in, sketch_of}
+use Rattle.sketch_req.specs.Sketch.{Req, IsSound, HasEnds, IsSmall, items_in, sketch_of}
 use Rattle.sketch_req.specs.Walk.{AreActed, room_of}
 use Rattle.sketch_req.specs.declared.RankAccuracy.{RankAccuracy}
 use Rattle.sketch_req.proofs.Bags.{alike-sym}
-use Rattle.sketch_req.proofs.Extremes.{IsFrom, IsUpTo}
+use Rattle.sketch_base.specs.Extremes.{IsFrom, IsUpTo}
 use Rattle.sketch_req.proofs.Joins.{length-layouts}
 
 -- ---- a walk over one level that is full adds another

@@ -1,6 +1,11 @@
-//! Clones of what was found, and of extremes.
-ghost use Rattle.std.specs.Prelude.{◌≡◌, IfOk, IsOk, None, option_copied};
+//! The least and the greatest of some items, items between two, clones of what was found, and the extremes of a stream with
+//! one more item, or with those of another stream.
+ghost use Rattle.std.specs.Prelude.{◌≡◌, ◌<◌, ◌++◌, length, IfOk, IsOk, IsTrue, None, Some, option_copied, if◌then◌else◌};
+ghost use Rattle.std.specs.List.{AllByRecursion};
+ghost use Rattle.std.specs.Option.{option_to_list};
+ghost use Rattle.std.specs.Ordering.{is_gt, is_lt};
 ghost use Rattle.std.specs.declared.cmp.Ordering.TheVariants.{Equal};
+ghost use Rattle.sketch_base.specs.Extremes.{IsAtMost, IsBetween, IsExtreme, IsGreatestOf, IsLeastOf, Ties, greatest_with, is_new, least_with, newer_or};
 ghost use Rattle.sketch_base.specs.Queries.{SameAnswer};
 
 use std::alloc::AllocError;
@@ -14,5 +19,140 @@ pub fn clone_found<T: Clone + Ord>(found: Option<&T>) -> Result<Option<T>, Alloc
     match found {
         Some(item) => Ok(Some(item.clone()?)),
         None => Ok(None),
+    }
+}
+
+/// An item that is at most each.
+pub fn least_of<T: Ord>(items: &[T]) -> &T
+    requires { 0 < length items.now }
+    ensures { IsExtreme T.cmp (λ x y. IsAtMost T.cmp x y) items.now result.now }
+{
+    let mut least = &items[0];
+    for item in items {
+        if item.cmp(least).is_lt() {
+            least = item;
+        }
+    }
+    least
+}
+
+/// An item that each is at most.
+pub fn greatest_of<T: Ord>(items: &[T]) -> &T
+    requires { 0 < length items.now }
+    ensures { IsExtreme T.cmp (λ x y. IsAtMost T.cmp y x) items.now result.now }
+{
+    let mut greatest = &items[0];
+    for item in items {
+        if item.cmp(greatest).is_gt() {
+            greatest = item;
+        }
+    }
+    greatest
+}
+
+/// Whether each item is at least the one and at most the other.
+pub fn are_between<T: Ord>(items: &[T], least: &T, greatest: &T) -> bool
+    ensures yes { IsTrue result → AllByRecursion (IsBetween T.cmp least.now greatest.now) items.now }
+    ensures no { AllByRecursion (IsBetween T.cmp least.now greatest.now) items.now → IsTrue result }
+{
+    for item in items {
+        if least.cmp(item).is_gt() || item.cmp(greatest).is_gt() {
+            return false;
+        }
+    }
+    true
+}
+
+// Whether an item is below the least item so far.
+fn is_new_least<T: Ord>(item: &T, least: &Option<T>) -> bool
+    ensures { result ≡ is_new is_lt T.cmp item.now least.now }
+{
+    match least {
+        Some(least) => item.cmp(least).is_lt(),
+        None => true,
+    }
+}
+
+// Whether an item is above the greatest item so far.
+fn is_new_greatest<T: Ord>(item: &T, greatest: &Option<T>) -> bool
+    ensures { result ≡ is_new is_gt T.cmp item.now greatest.now }
+{
+    match greatest {
+        Some(greatest) => item.cmp(greatest).is_gt(),
+        None => true,
+    }
+}
+
+// The item's clone, where it is wanted.
+fn clone_if<T: Clone + Ord>(is_wanted: bool, item: &T) -> Result<Option<T>, AllocError>
+    requires clones { (x y : T) → T.is_clone x y → T.cmp x y ≡ Equal }
+    ensures { IfOk result (SameAnswer T.cmp (if is_wanted then Some item.now else None)) }
+{
+    if is_wanted {
+        return Ok(Some(item.clone()?));
+    }
+    Ok(None)
+}
+
+/// The item's clone, where it is below the least item so far.
+pub fn clone_if_least<T: Clone + Ord>(
+    item: &T,
+    least: &Option<T>,
+) -> Result<Option<T>, AllocError>
+    requires clones { (x y : T) → T.is_clone x y → T.cmp x y ≡ Equal }
+    ensures { IfOk result (λ new.
+        Ties T.cmp (least_with T.cmp item.now least.now) (newer_or new least.now)) }
+{
+    clone_if(is_new_least(item, least), item)
+}
+
+/// The item's clone, where it is above the greatest item so far.
+pub fn clone_if_greatest<T: Clone + Ord>(
+    item: &T,
+    greatest: &Option<T>,
+) -> Result<Option<T>, AllocError>
+    requires clones { (x y : T) → T.is_clone x y → T.cmp x y ≡ Equal }
+    ensures { IfOk result (λ new.
+        Ties T.cmp (greatest_with T.cmp item.now greatest.now) (newer_or new greatest.now)) }
+{
+    clone_if(is_new_greatest(item, greatest), item)
+}
+
+/// The clone of another stream's least item, where it is below the least item so far.
+pub fn clone_if_lesser<T: Clone + Ord>(
+    other: &Option<T>,
+    least: &Option<T>,
+) -> Result<Option<T>, AllocError>
+    requires clones { (x y : T) → T.is_clone x y → T.cmp x y ≡ Equal }
+    ensures { IfOk result (λ new. IsLeastOf T.cmp
+        (option_to_list least.now ++ option_to_list other.now) (newer_or new least.now)) }
+{
+    match other {
+        None => Ok(None),
+        Some(item) => clone_if_least(item, least),
+    }
+}
+
+/// The clone of another stream's greatest item, where it is above the greatest item so far.
+pub fn clone_if_greater<T: Clone + Ord>(
+    other: &Option<T>,
+    greatest: &Option<T>,
+) -> Result<Option<T>, AllocError>
+    requires clones { (x y : T) → T.is_clone x y → T.cmp x y ≡ Equal }
+    ensures { IfOk result (λ new. IsGreatestOf T.cmp
+        (option_to_list greatest.now ++ option_to_list other.now) (newer_or new greatest.now)) }
+{
+    match other {
+        None => Ok(None),
+        Some(item) => clone_if_greatest(item, greatest),
+    }
+}
+
+/// Puts a new extreme in its place, where there is one.
+pub fn set_if_some<T: Drop>(place: &mut Option<T>, new: Option<T>)
+    ensures { place.new ≡ newer_or new place.old }
+{
+    if let Some(value) = new {
+        *place = Some(value);
     }
 }

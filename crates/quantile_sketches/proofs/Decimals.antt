@@ -1,0 +1,37 @@
+-- digits that are put from the last one on
+use Rattle.std.proofs.Common.{◌≡◌, ℕ, ℤ, pos, zero, suc, negsuc, ◌+◌, ◌-◌, ◌*◌, ◌<◌, ◌≤◌, ◌^◌, ◌/◌, ◌%◌, true, false, List, [], ◌∷◌, ◌++◌, length, drop, set, sym, ap, ◌∙◌, arith}
+use Rattle.std.proofs.Math.IntN.{nat_abs}
+use Rattle.std.proofs.lemmas.Fmt.{decimal_digit, decimal_step}
+use Rattle.std.proofs.lemmas.Int.{ints}
+use Rattle.std.proofs.lemmas.Nat.{div_below, pow-add}
+use lib.Signed.{lt_z}
+use Rattle.std.proofs.lemmas.List.{append_assoc, drop-set}
+use Rattle.std.specs.Fmt.{decimal, signed_decimal}
+
+pub put_more : (n rest start : ℕ) (room : List ℕ) → 10 ≤ rest → rest < 2 ^ 64 → start < length room → decimal n ≡ decimal rest ++ drop (start + 1) room →
+    decimal n ≡ decimal (rest / 10) ++ drop start (set room start (48 + rest % 10))
+put_more n rest start room h l s e =
+    e ∙ (ap (λ (t : List ℕ). t ++ drop (start + 1) room) (decimal_step rest h l)
+    ∙ (append_assoc (decimal (rest / 10)) ((48 + rest % 10) ∷ []) (drop (start + 1) room)
+    ∙ ap (λ (t : List ℕ). decimal (rest / 10) ++ t) (sym (drop-set room start (48 + rest % 10) s))))
+
+pub put_last : (n rest start : ℕ) (room : List ℕ) → rest < 10 → start < length room → decimal n ≡ decimal rest ++ drop (start + 1) room →
+    decimal n ≡ drop start (set room start (48 + rest))
+put_last n rest start room h s e =
+    e ∙ (ap (λ (t : List ℕ). t ++ drop (start + 1) room) (decimal_digit rest h) ∙ sym (drop-set room start (48 + rest) s))
+
+-- a number's text is that of its size, after a minus where it is negative
+pub negative : (z : ℤ) (n : ℕ) → lt_z z (pos 0) ≡ true → n ≡ nat_abs z → signed_decimal z ≡ 45 ∷ decimal n
+negative (pos k) n l e = absurd (grind (arith, ints))
+negative (negsuc k) n l e = ap (λ (m : ℕ). 45 ∷ decimal m) (sym e)
+
+pub natural : (z : ℤ) (n : ℕ) → lt_z z (pos 0) ≡ false → n ≡ nat_abs z → signed_decimal z ≡ decimal n
+natural (pos k) n l e = ap (λ (m : ℕ). decimal m) (sym e)
+natural (negsuc k) n l e = absurd (grind (arith, ints))
+
+-- a tenth of a number of two digits or more has a digit less
+pub tenth : (n k : ℕ) → 10 ≤ n → n < 10 ^ (k + 1) → (k - 1 + 1 ≡ k) × (n / 10 < 10 ^ (k - 1 + 1))
+tenth n zero h l = absurd (omega (arith, h, l))
+tenth n (suc k) h l =
+    let more : suc k + 1 ≡ (suc k - 1 + 1) + 1 = omega arith in
+    (omega arith, div_below n 10 (10 ^ (suc k - 1 + 1)) (omega arith) (let e : 10 ^ (suc k + 1) ≡ 10 ^ (suc k - 1 + 1) * 10 = ap (λ (m : ℕ). 10 ^ m) more ∙ pow-add 10 (suc k - 1 + 1) 1 in omega (arith, l, e)))

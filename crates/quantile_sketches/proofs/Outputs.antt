@@ -1,0 +1,140 @@
+-- writes one after another: what is out, what waits and what is left of what was owed
+use Rattle.std.proofs.Common.{◌≡◌, ℕ, ◌+◌, ◌-◌, ◌≤◌, List, [], ◌++◌, length, take, drop, refl, sym, ap, subst, ◌∙◌, arith, Option, Some, None, Result, Ok, Err, IsOk, IsErr, OnOk}
+use Rattle.std.proofs.Math.Seq.{take-add}
+use Rattle.std.specs.Io.KnownBytes.{Appends, Keeps}
+use Rattle.std.proofs.lemmas.List.{append_assoc, append-nil, take-append-drop, take_rest, length-drop}
+use Rattle.quantile_sketches.specs.Output.{Writes}
+
+pub appends_none : (w : Option (List ℕ)) → Appends w w []
+appends_none None = tt
+appends_none (Some xs) = sym (append-nil xs)
+
+pub appends_on : (w0 w w' : Option (List ℕ)) (a b : List ℕ) → Appends w0 w a → Appends w w' b → Appends w0 w' (a ++ b)
+appends_on None w w' a b h k = tt
+appends_on (Some xs) None w' a b h k = absurd h
+appends_on (Some xs) (Some ys) None a b h k = absurd k
+appends_on (Some xs) (Some ys) (Some zs) a b h k = k ∙ (ap (λ (t : List ℕ). t ++ b) h ∙ append_assoc xs a b)
+
+pub appends_kept : (w0 w w' : Option (List ℕ)) (a : List ℕ) → Appends w0 w a → Keeps w w' → Appends w0 w' a
+appends_kept None w w' a h k = tt
+appends_kept (Some xs) None w' a h k = absurd h
+appends_kept (Some xs) (Some ys) None a h k = absurd k
+appends_kept (Some xs) (Some ys) (Some zs) a h k = k ∙ h
+
+pub keeps_same : (c : Option (List ℕ)) → Keeps c c
+keeps_same None = tt
+keeps_same (Some xs) = refl
+
+-- nothing is said of a call that fails
+no-ok : {T E : Type 0} (P : Type 0) (r : Result T E) → IsErr r → OnOk r P
+no-ok P (Ok done) e = absurd (cc)
+no-ok P (Err fault) e = tt
+
+-- some bytes of a text are out, and then more
+pub writes-some : (c c' c'' : Option (List ℕ)) (bytes : List ℕ) (written count : ℕ) → written ≤ length bytes → Appends c c' (take written bytes) →
+    count ≤ length (take (length bytes - written) (drop written bytes)) → Appends c' c'' (take count (take (length bytes - written) (drop written bytes))) →
+    (written + count ≤ length bytes) × Appends c c'' (take (written + count) bytes)
+writes-some c c' c'' bytes written count h a k b =
+    let l : length (take (length bytes - written) (drop written bytes)) ≡ length bytes - written = ap (λ (t : List ℕ). length t) (take_rest bytes written) ∙ length-drop written bytes in
+    let e : take written bytes ++ take count (take (length bytes - written) (drop written bytes)) ≡ take (written + count) bytes =
+    ap (λ (t : List ℕ). take written bytes ++ take count t) (take_rest bytes written) ∙ sym (take-add written count bytes) in
+    let P : List ℕ → Type 0 = λ t. Appends c c'' t in
+    (omega (arith, h, k, l), subst P e (appends_on c c' c'' (take written bytes) (take count (take (length bytes - written) (drop written bytes))) a b))
+
+-- some first bytes are out where a write fails
+pub writes-stop : {T E : Type 0} (c c' c'' : Option (List ℕ)) (waiting : List ℕ) (r : Result T E) (written : ℕ) (bytes : List ℕ) →
+    IsErr r → Appends c c' (take written bytes) → Keeps c' c'' → Writes r c c'' bytes waiting
+writes-stop c c' c'' waiting r written bytes fails a k = record {
+  sent = take written bytes;
+  left = drop written bytes;
+  parts = sym (take-append-drop written bytes);
+  out = appends_kept c c' c'' (take written bytes) a k;
+  waits = no-ok _ r fails;
+}
+
+-- all is out
+pub writes-all : {T E : Type 0} (c c' : Option (List ℕ)) (r : Result T E) (bytes : List ℕ) → Appends c c' bytes → Writes r c c' bytes []
+writes-all c c' r bytes a = record { sent = bytes; left = []; parts = sym (append-nil bytes); out = a; waits = done r }
+  where
+    none : List ℕ
+    none = []
+
+    done : {T E : Type 0} (r : Result T E) → OnOk r (none ≡ none)
+    done (Ok u) = refl
+    done (Err e) = tt
+
+-- nothing is out
+pub writes-none : {T E : Type 0} (c : Option (List ℕ)) (r : Result T E) (owed waiting : List ℕ) → owed ≡ waiting → Writes r c c owed waiting
+writes-none c r owed waiting e = record { sent = []; left = owed; parts = refl; out = appends_none c; waits = done r }
+  where
+    done : {T E : Type 0} (r : Result T E) → OnOk r (owed ≡ waiting)
+    done (Ok u) = e
+    done (Err f) = tt
+
+-- all that was owed is out, but for a flush
+pub writes-flushed : {T E T' E' : Type 0} {done : T} {c c' : Option (List ℕ)} {owed : List ℕ} (c'' : Option (List ℕ)) (text : List ℕ) (r' : Result T' E') →
+    text ≡ owed → Writes {T = T} {E = E} (Ok done) c c' owed [] → Keeps c' c'' → Writes r' c c'' text []
+writes-flushed {T} {E} {T'} {E'} {done} {c} {c'} c'' text r' e h k = record {
+  sent = h.sent;
+  left = h.left;
+  parts = e ∙ h.parts;
+  out = appends_kept c c' c'' h.sent h.out k;
+  waits = go r';
+}
+  where
+    go : (r' : Result T' E') → OnOk r' (h.left ≡ [])
+    go (Ok u) = h.waits
+    go (Err x) = tt
+
+-- another call fails, with more behind
+pub writes-early : {T E T' E' : Type 0} {r : Result T E} {c c' : Option (List ℕ)} {owed waiting : List ℕ} (text more waiting' : List ℕ) (r' : Result T' E') →
+    text ≡ owed ++ more → IsErr r' → Writes r c c' owed waiting → Writes r' c c' text waiting'
+writes-early text more waiting' r' e fails h = record {
+  sent = h.sent;
+  left = h.left ++ more;
+  parts = e ∙ (ap (λ (t : List ℕ). t ++ more) h.parts ∙ append_assoc h.sent h.left more);
+  out = h.out;
+  waits = no-ok _ r' fails;
+}
+
+-- what waits goes out, with more behind
+pub writes-on : {T E T' E' : Type 0} {r : Result T E} {r' : Result T' E'} {c c' c'' : Option (List ℕ)} {owed waiting owed' waiting' : List ℕ} (text more : List ℕ) →
+    text ≡ owed ++ more → Writes r c c' owed waiting → IsOk r → owed' ≡ waiting ++ more → Writes r' c' c'' owed' waiting' → Writes r' c c'' text waiting'
+writes-on {T} {E} {T'} {E'} {r} {r'} {c} {c'} {c''} {owed} {waiting} {owed'} {waiting'} text more e h ok f k =
+    let w : h.left ≡ waiting = left r ok h.waits in record {
+      sent = h.sent ++ k.sent;
+      left = k.left;
+      parts =
+          e ∙ (ap (λ (t : List ℕ). t ++ more) h.parts
+          ∙ (append_assoc h.sent h.left more
+          ∙ (ap (λ (t : List ℕ). h.sent ++ (t ++ more)) w
+          ∙ (ap (λ (t : List ℕ). h.sent ++ t) (sym f ∙ k.parts)
+          ∙ sym (append_assoc h.sent k.sent k.left)))));
+      out = appends_on c c' c'' h.sent k.sent h.out k.out;
+      waits = k.waits;
+    }
+  where
+    left : {P : Type 0} (r : Result T E) → IsOk r → OnOk r P → P
+    left (Ok u) ok p = p
+    left (Err x) ok p = absurd (cc)
+
+-- a first part of a text is written, and then the rest
+pub writes-then : {T E T' E' : Type 0} {r : Result T E} {r' : Result T' E'} {c c' c'' : Option (List ℕ)} {waiting waiting' : List ℕ} (w first rest text : List ℕ) →
+    text ≡ first ++ rest → Writes r c c' (w ++ first) waiting → IsOk r → Writes r' c' c'' (waiting ++ rest) waiting' → Writes r' c c'' (w ++ text) waiting'
+writes-then w first rest text e h ok k =
+    writes-on (w ++ text) rest (ap (λ (t : List ℕ). w ++ t) e ∙ sym (append_assoc w first rest)) h ok refl k
+
+-- a first part fails
+pub writes-fail : {T E T' E' : Type 0} {r : Result T E} {c c' : Option (List ℕ)} {waiting : List ℕ} (w first rest text waiting' : List ℕ) (r' : Result T' E') →
+    text ≡ first ++ rest → IsErr r' → Writes r c c' (w ++ first) waiting → Writes r' c c' (w ++ text) waiting'
+writes-fail w first rest text waiting' r' e fails h =
+    writes-early (w ++ text) rest waiting' r' (ap (λ (t : List ℕ). w ++ t) e ∙ sym (append_assoc w first rest)) fails h
+
+-- the same of another call that is done
+pub writes-as : {T E T' E' : Type 0} {r : Result T E} {c c' : Option (List ℕ)} {owed waiting : List ℕ} (r' : Result T' E') → Writes r c c' owed waiting → IsOk r → Writes r' c c' owed waiting
+writes-as {T} {E} {T'} {E'} {r} {c} {c'} {owed} {waiting} r' h ok = record { sent = h.sent; left = h.left; parts = h.parts; out = h.out; waits = go r r' ok h.waits }
+  where
+    go : (r : Result T E) (r' : Result T' E') → IsOk r → OnOk r (h.left ≡ waiting) → OnOk r' (h.left ≡ waiting)
+    go (Ok u) (Ok v) ok e = e
+    go (Ok u) (Err x) ok e = tt
+    go (Err x) r' ok e = absurd (cc)

@@ -1,0 +1,110 @@
+-- Copies of a REQ sketch, and what is read of its image, as a run asks of them.
+use Rattle.std.proofs.Common.{◌≡◌, ℕ, zero, suc, Bool, false, List, [], ◌∷◌, length, map, Option, refl, sym, ap, ap₂, ◌∙◌, subst, Ordering}
+use mathlib.Core.Path.{fun_ext}
+use Rattle.std.specs.Cmp.{IsTotalOrder}
+use Rattle.std.specs.List.{AllZip}
+use Rattle.std.specs.declared.cmp.Ordering.TheVariants.{Equal}
+use Rattle.std.proofs.lemmas.List.Elements.{length_all_zip}
+use Rattle.sketch_base.specs.Bag.{Bag, AlikeReq, SameItems, sort}
+use Rattle.sketch_base.proofs.Counts.{sorted_items, SameCounts-from_items}
+use Rattle.sketch_req.specs.Actions.{bag_of, coins_of}
+use Rattle.sketch_req.specs.Copy.{IsCopy, IsLevelCopy}
+use Rattle.sketch_req.specs.Imaged.{IsSameLevel, IsSameSketch}
+use Rattle.sketch_req.specs.ImageLaws.{without_coins}
+use Rattle.sketch_req.specs.Level.{Level}
+use Rattle.sketch_req.specs.LevelImage.{forgotten}
+use Rattle.sketch_req.specs.Schedule.{Layout, layout_of, layouts_of}
+use Rattle.sketch_req.specs.Sketch.{Req, IsSound}
+use Rattle.sketch_req.specs.declared.RankAccuracy.{RankAccuracy}
+use Rattle.quantile_sketches.specs.ReqKind.{req_kind}
+use Rattle.quantile_sketches.specs.ReqRules.{ReqShape}
+use Rattle.quantile_sketches.specs.Steps.{IsCopied, IsReadBack}
+
+-- shapes by their parts
+abbrev shape : ℕ → RankAccuracy → ℕ → List Layout → ReqShape
+shape k accuracy n layouts = record { k = k; accuracy = accuracy; n = n; layouts = layouts }
+
+same-shape : (k k' : ℕ) (a a' : RankAccuracy) (n n' : ℕ) (ls ls' : List Layout) → k ≡ k' → a ≡ a' → n ≡ n' → ls ≡ ls' → shape k a n ls ≡ shape k' a' n' ls'
+same-shape k k' a a' n n' ls ls' p q r l = λ i. shape (p i) (q i) (r i) (l i)
+
+-- a level in place of another
+module _ {A : Type 0} {cmp : A → A → Ordering} (o : IsTotalOrder cmp) where
+  abbrev AreSame : List (Level A) → List (Level A) → Type 0
+  AreSame = AllZip (IsSameLevel cmp)
+
+  same-layouts : (xs ys : List (Level A)) → AreSame xs ys → layouts_of ys ≡ layouts_of xs
+  same-layouts [] [] c = refl
+  same-layouts [] (y ∷ ys) c = absurd c
+  same-layouts (x ∷ xs) [] c = absurd c
+  same-layouts (x ∷ xs) (y ∷ ys) c =
+      ap₂ (λ (l : Layout) (ls : List Layout). l ∷ ls) (one c.0.items c.0.rest) (same-layouts xs ys c.1)
+    where
+      made : ℕ → ℕ → ℕ → Layout
+      made a b d = record { count = a; state = b; doublings = d }
+
+      one : SameItems cmp x.items y.items → y ≡ record x { items = y.items } → layout_of y ≡ layout_of x
+      one items rest =
+          let n : length y.items ≡ length x.items = sym (length_all_zip (λ x y. cmp x y ≡ Equal) x.items y.items items) in
+          let s : y.state ≡ x.state = ap (λ (l : Level A). l.state) rest in
+          let d : y.doublings ≡ x.doublings = ap (λ (l : Level A). l.doublings) rest in
+          λ i. made (n i) (s i) (d i)
+
+  same-levels : (xs ys : List (Level A)) → AreSame xs ys → AllZip (λ xs ys. SameItems cmp (sort cmp xs) (sort cmp ys)) (map (λ level. level.items) xs) (map (λ level. level.items) ys)
+  same-levels [] [] c = tt
+  same-levels [] (y ∷ ys) c = absurd c
+  same-levels (x ∷ xs) [] c = absurd c
+  same-levels (x ∷ xs) (y ∷ ys) c = (sorted_items o x.items y.items (SameCounts-from_items o x.items y.items c.0.items), same-levels xs ys c.1)
+
+  same-coins : (xs ys : List (Level A)) → AreSame xs ys → (h : ℕ) → coins_of xs h ≡ coins_of ys h
+  same-coins [] [] c h = refl
+  same-coins [] (y ∷ ys) c h = absurd c
+  same-coins (x ∷ xs) [] c h = absurd c
+  same-coins (x ∷ xs) (y ∷ ys) c zero = sym (ap (λ (l : Level A). l.coin) c.0.rest)
+  same-coins (x ∷ xs) (y ∷ ys) c (suc h) = same-coins xs ys c.1 h
+
+  same-bag : (xs ys : List (Level A)) → AreSame xs ys → AlikeReq cmp (bag_of xs) (bag_of ys)
+  same-bag xs ys c = record { levels = same-levels xs ys c; kept = same-coins xs ys c }
+
+  copied-levels : (xs ys : List (Level A)) → AllZip (IsLevelCopy cmp) xs ys → AreSame xs ys
+  copied-levels [] [] c = tt
+  copied-levels [] (y ∷ ys) c = absurd c
+  copied-levels (x ∷ xs) [] c = absurd c
+  copied-levels (x ∷ xs) (y ∷ ys) c = (record { items = c.0.items; rest = c.0.rest }, copied-levels xs ys c.1)
+
+  -- what a level keeps that forgets its coin
+  forgotten-bag : (xs : List (Level A)) → bag_of (map forgotten xs) ≡ record (bag_of xs) { kept = λ h. false }
+  forgotten-bag xs = λ i. let b : Bag A = record { levels = lists xs i; is_sorted = false; kept = fun_ext (none xs) i } in b
+    where
+      lists : (xs : List (Level A)) → map (λ (level : Level A). level.items) (map forgotten xs) ≡ map (λ level. level.items) xs
+      lists [] = refl
+      lists (x ∷ xs) = ap (λ ls. x.items ∷ ls) (lists xs)
+
+      none : (xs : List (Level A)) (h : ℕ) → coins_of (map forgotten xs) h ≡ false
+      none [] h = refl
+      none (x ∷ xs) zero = refl
+      none (x ∷ xs) (suc h) = none xs h
+
+  forgotten-layouts : (xs : List (Level A)) → layouts_of (map forgotten xs) ≡ layouts_of xs
+  forgotten-layouts [] = refl
+  forgotten-layouts (x ∷ xs) = ap (λ ls. layout_of x ∷ ls) (forgotten-layouts xs)
+
+  module _ (spelling : A → Option (List ℕ)) where
+    pub copy_is : (s t : Req A) → IsCopy cmp s t → IsSound cmp t → IsCopied (req_kind cmp spelling) s t
+    copy_is s t c sound =
+        let levels = copied-levels s.levels t.levels c.levels in
+        record {
+          shape_is = same-shape _ _ _ _ _ _ _ _ c.k c.accuracy c.n (same-layouts s.levels t.levels levels);
+          alike = same-bag s.levels t.levels levels;
+          least_is = c.least;
+          greatest_is = c.greatest;
+          sound = sound;
+        }
+
+    pub read_is : (s t : Req A) → IsSameSketch cmp (without_coins s) t → IsSound cmp t → IsReadBack (req_kind cmp spelling) s t
+    read_is s t c sound = record {
+      shape_is = same-shape _ _ _ _ _ _ _ _ c.k c.accuracy c.n (same-layouts (map forgotten s.levels) t.levels c.levels ∙ forgotten-layouts s.levels);
+      alike = subst (λ (b : Bag A). AlikeReq cmp b (bag_of t.levels)) (forgotten-bag s.levels) (same-bag (map forgotten s.levels) t.levels c.levels);
+      least_is = c.least;
+      greatest_is = c.greatest;
+      sound = sound;
+    }

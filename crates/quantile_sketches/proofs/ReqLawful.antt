@@ -1,0 +1,271 @@
+-- REQ's rules are lawful.
+use Rattle.std.proofs.Common.{◌≡◌, ℕ, zero, suc, ◌+◌, ◌-◌, ◌*◌, ◌%◌, ◌^◌, ◌<◌, ◌≤◌, Bool, true, false, ◌||◌, ◌&&◌, ◌==◌, not, eqb, nat_le, nat_lt, if◌then◌else◌, List, [], ◌∷◌, ◌++◌, length, append-nil, sum, slice_index, None, Some, refl, sym, ap, ap₂, ◌∙◌, subst, arith, inl, inr, leb-true, eqb-true}
+use Rattle.std.proofs.lemmas.Bool.{cases_Bool, false≢true, ltb-false, and_parts}
+use Rattle.sketch_base.specs.Bag.{Taken, AllButLeftover, Lowest, Greatest}
+use Rattle.sketch_base.specs.Lengths.{acts_on_lengths, lengths_after, Along, TakesFew, TakesEven, LeavesTail}
+use Rattle.sketch_base.specs.Ranks.{true_ranks}
+use Rattle.sketch_base.specs.Trace.{Action, Put, Pull, Join, Compact, Forget, Clear, Event, Snap, At, Work, World, changed}
+use Rattle.sketch_base.proofs.Changes.{changed-there}
+use Rattle.sketch_req.specs.Schedule.{Layout, counts_of, retained_of, weight_of, update_actions, update_layouts, joined_layouts, joins_actions, merge_actions, merge_layouts, room_actions}
+use Rattle.sketch_req.specs.ScheduleLaws.{UpperHoldTwo, IsLegalFrom, merge_events}
+use Rattle.sketch_req.specs.Sections.{IsLegalK}
+use Rattle.sketch_req.specs.declared.RankAccuracy.{RankAccuracy}
+use Rattle.sketch_req.specs.declared.RankAccuracy.TheVariants.{HighRank, LowRank}
+use Rattle.sketch_req.proofs.Capacities.{update_weighs, merge_weighs, update_two, merge_two, update_few, merge_few, update_retains, merge_retains}
+use Rattle.sketch_req.proofs.LegalLayouts.{new_is, filled_are, joined_are}
+use Rattle.sketch_req.proofs.LegalTraces.{lengths_at, along-even, changed-itself, update_legal, update_lengths, merge_legal, merge_lengths}
+use Rattle.sketch_req.proofs.LegalWalks.{room_leads}
+use Rattle.sketch_req.proofs.Unbiased.{AreCompacts, room_compacts, ranks-update}
+use Rattle.quantile_sketches.specs.KllRules.{unless}
+use Rattle.quantile_sketches.specs.Lawful.{lengths_by, IsLegalBy, DoWell, AreLawful}
+use Rattle.quantile_sketches.specs.Plan.{events_at}
+use Rattle.quantile_sketches.specs.ReqKind.{FitsReq, MeetsReq}
+use Rattle.quantile_sketches.specs.ReqRules.{ReqShape, new_shape, may_be_k, is_same, is_too_much, req_rules}
+use Rattle.quantile_sketches.proofs.KllLawful.{unless-there}
+use Rattle.quantile_sketches.proofs.Plans.{not-none, or-left, or-right}
+
+obeys : (n : ℕ) (b : Bool) → n ≡ 0 → (eqb n 0 || b) ≡ true
+obeys n b e = ap (λ m. eqb m 0 || b) e
+
+pub not-false : (b : Bool) → not b ≡ false → b ≡ true
+not-false true e = refl
+not-false false e = sym e
+
+pub same_accuracy : (a b : RankAccuracy) → is_same a b ≡ true → a ≡ b
+same_accuracy HighRank HighRank e = refl
+same_accuracy HighRank LowRank e = absurd (false≢true e)
+same_accuracy LowRank HighRank e = absurd (false≢true e)
+same_accuracy LowRank LowRank e = refl
+
+pub legal_k : (k : ℕ) → may_be_k k ≡ true → IsLegalK k
+legal_k k e =
+    let p = and_parts (nat_le 4 k && nat_le k 1024) (k % 2 == 0) e in
+    let q = and_parts (nat_le 4 k) (nat_le k 1024) p.0 in
+    record { at_least = leb-true 4 k q.0; at_most = leb-true k 1024 q.1; even = eqb-true (k % 2) 0 p.1 }
+
+enough_room : (n retained : ℕ) → is_too_much n retained ≡ false → (n < 2 ^ 64) × (retained ≤ 4294967295)
+enough_room n retained e =
+    let a = ltb-false (2 ^ 64 - 1) n (or-left (nat_lt (2 ^ 64 - 1) n) (nat_lt 4294967295 retained) e) in
+    let b = ltb-false 4294967295 retained (or-right (nat_lt (2 ^ 64 - 1) n) (nat_lt 4294967295 retained) e) in
+    (omega (arith, a), omega (arith, b))
+
+-- ---- what the shape of a sketch keeps
+
+pub new_fits : (k : ℕ) (accuracy : RankAccuracy) → IsLegalK k → FitsReq (new_shape k accuracy) (0 ∷ [])
+new_fits k accuracy l = record {
+  lengths_are = refl;
+  legal = l;
+  are = (new_is k 0 0 l, tt);
+  two = tt;
+  weighs = refl;
+  fits = omega arith;
+  few = omega arith;
+  retained = omega arith;
+}
+
+updated_fits : (s : ReqShape) (lengths : List ℕ) → FitsReq s lengths → is_too_much (s.n + 1) (retained_of s.layouts + 1) ≡ false →
+    FitsReq (record { k = s.k; accuracy = s.accuracy; n = s.n + 1; layouts = update_layouts s.k s.layouts }) (counts_of (update_layouts s.k s.layouts))
+updated_fits s lengths h e =
+    let r : (s.n + 1 < 2 ^ 64) × (retained_of s.layouts + 1 ≤ 4294967295) = enough_room (s.n + 1) (retained_of s.layouts + 1) e in
+    record {
+      lengths_are = refl;
+      legal = h.legal;
+      are = (room_leads {A = ℕ} s.k s.accuracy h.legal _ (filled_are s.k h.legal 0 1 s.layouts h.are)).legal;
+      two = update_two s.k h.legal s.layouts h.are h.two;
+      weighs = omega (arith, update_weighs s.k h.legal s.layouts h.are, h.weighs);
+      fits = r.0;
+      few = update_few s.k h.legal s.layouts h.are h.few (omega (arith, h.weighs, r.0));
+      retained = let t = update_retains s.k h.legal s.layouts h.are in omega (arith, t, r.1);
+    }
+
+-- a sketch that took another one in
+abbrev merged_as : ReqShape → ReqShape → List Layout → ReqShape
+merged_as s other layouts = record { k = s.k; accuracy = s.accuracy; n = s.n + other.n; layouts = layouts }
+
+none_fits : (s other : ReqShape) (lengths : List ℕ) → FitsReq s lengths → other.n ≡ 0 → FitsReq (merged_as s other s.layouts) lengths
+none_fits s other lengths h z = record {
+  lengths_are = h.lengths_are;
+  legal = h.legal;
+  are = h.are;
+  two = h.two;
+  weighs = omega (arith, h.weighs, z);
+  fits = omega (arith, h.fits, z);
+  few = h.few;
+  retained = h.retained;
+}
+
+merged_fits : (s other : ReqShape) (lengths others : List ℕ) → FitsReq s lengths → FitsReq other others → is_too_much (s.n + other.n) (retained_of s.layouts + retained_of other.layouts) ≡ false →
+    FitsReq (merged_as s other (merge_layouts s.k s.layouts other.layouts)) (counts_of (merge_layouts s.k s.layouts other.layouts))
+merged_fits s other lengths others h o e =
+    let r : (s.n + other.n < 2 ^ 64) × (retained_of s.layouts + retained_of other.layouts ≤ 4294967295) = enough_room (s.n + other.n) (retained_of s.layouts + retained_of other.layouts) e in
+    record {
+      lengths_are = refl;
+      legal = h.legal;
+      are = (room_leads {A = ℕ} s.k s.accuracy h.legal _ (joined_are s.k h.legal s.layouts other.layouts h.are)).legal;
+      two = merge_two s.k h.legal s.layouts other.layouts h.are h.two o.two;
+      weighs = omega (arith, merge_weighs s.k h.legal s.layouts other.layouts h.are, h.weighs, o.weighs);
+      fits = r.0;
+      few = merge_few s.k h.legal s.layouts other.layouts h.are h.few o.few (omega (arith, h.weighs, o.weighs, r.0));
+      retained = let t = merge_retains s.k h.legal s.layouts other.layouts h.are in omega (arith, t, r.1);
+    }
+
+-- the same of other lengths that are those
+fits-by : (s : ReqShape) (lengths others : List ℕ) → others ≡ lengths → FitsReq s lengths → FitsReq s others
+fits-by s lengths others e h = subst (FitsReq s) (sym e) h
+
+-- a merge of a sketch that is not empty would be too much
+abbrev pub too_much : ReqShape → ReqShape → Bool
+too_much s other = is_too_much (s.n + other.n) (retained_of s.layouts + retained_of other.layouts)
+
+abbrev pub no_merge : ReqShape → ReqShape → Bool
+no_merge s other = not (is_same s.accuracy other.accuracy) || (not (other.n == 0) && too_much s other)
+
+pub not-much : (s other : ReqShape) → no_merge s other ≡ false → (other.n == 0) ≡ false → too_much s other ≡ false
+not-much s other e b = go (other.n == 0) (too_much s other) b (or-right (not (is_same s.accuracy other.accuracy)) (not (other.n == 0) && too_much s other) e)
+  where
+    go : (b c : Bool) → b ≡ false → (not b && c) ≡ false → c ≡ false
+    go true c z f = absurd (false≢true (sym z))
+    go false c z f = f
+
+-- ---- legal traces
+
+takes-less : (stay : ℕ) (taken : Taken) (n : ℕ) → TakesFew stay taken n → TakesFew 0 taken n
+takes-less stay AllButLeftover n few = absurd few
+takes-less stay (Lowest count) n few = (few.0, few.1, omega (arith, few.2))
+takes-less stay (Greatest count) n few = (few.0, few.1, omega (arith, few.2))
+
+module _ {A : Type 0} where
+  -- what leaves 3k leaves 0
+  leaves-less : (k : ℕ → ℕ) (e : Event A) (world : World (List ℕ)) → LeavesTail k e world → MeetsReq e world
+  leaves-less k (At s (Compact h coin taken)) world f = takes-less (3 * k s) taken (slice_index (world.slots s) h) f
+  leaves-less k (At s (Put h x)) world f = tt
+  leaves-less k (At s Pull) world f = tt
+  leaves-less k (At s (Join h)) world f = tt
+  leaves-less k (At s Forget) world f = tt
+  leaves-less k (At s Clear) world f = tt
+  leaves-less k (Snap s t) world f = tt
+
+  along-less : (k : ℕ → ℕ) (trace : List (Event A)) (world : World (List ℕ)) → Along (LeavesTail k) trace world → Along MeetsReq trace world
+  along-less k [] world f = tt
+  along-less k (e ∷ es) world f = (leaves-less k e world f.0, along-less k es (lengths_after e world) f.1)
+
+  legal : (k : ℕ → ℕ) (trace : List (Event A)) (world : World (List ℕ)) → IsLegalFrom k trace world → IsLegalBy MeetsReq FitsReq trace world
+  legal k trace world f = record { scratch = f.scratch; meets = along-less k trace world f.sizes }
+
+  -- the lengths of the slot that is acted on
+  lengths-there : (actions : List (Action A)) (world : World (List ℕ)) (s : ℕ) (lengths : List ℕ) → (acts_on_lengths actions (record { bag = world.slots s; scratch = world.scratch })).bag ≡ lengths → (lengths_by world (events_at s actions)).slots s ≡ lengths
+  lengths-there actions world s lengths e = ap (λ (w : World (List ℕ)). w.slots s) (lengths_at actions world s) ∙ (changed-there world.slots s _ ∙ e)
+
+  -- compactions and Joins leave the true ranks
+  ranks-compacts : (test : A → Bool) (s : ℕ) (actions : List (Action A)) (ranks : ℕ → ℕ) → AreCompacts actions → true_ranks test (events_at s actions) ranks ≡ ranks
+  ranks-compacts test s [] ranks c = refl
+  ranks-compacts test s (Compact h coin taken ∷ more) ranks c = ranks-compacts test s more ranks c.1
+  ranks-compacts test s (Put h x ∷ more) ranks c = absurd c
+  ranks-compacts test s (Pull ∷ more) ranks c = absurd c
+  ranks-compacts test s (Join h ∷ more) ranks c = absurd c
+  ranks-compacts test s (Forget ∷ more) ranks c = absurd c
+  ranks-compacts test s (Clear ∷ more) ranks c = absurd c
+
+  ranks-joins : (test : A → Bool) (s more h : ℕ) (actions : List (Action A)) (ranks : ℕ → ℕ) → true_ranks test (events_at s (joins_actions more h ++ actions)) ranks ≡ true_ranks test (events_at s actions) ranks
+  ranks-joins test s zero h actions ranks = refl
+  ranks-joins test s (suc more) h actions ranks = ranks-joins test s more (suc h) actions ranks
+
+  ranks-merge : (test : A → Bool) (s k : ℕ) (accuracy : RankAccuracy) (ls others : List Layout) (ranks : ℕ → ℕ) → true_ranks test (events_at s (merge_actions k accuracy ls others)) ranks ≡ ranks
+  ranks-merge test s k accuracy ls others ranks =
+      let room : List (Action A) = room_actions k accuracy (joined_layouts k ls others) in
+      ranks-joins test s (length others) 0 room ranks ∙ ranks-compacts test s room ranks (room_compacts A k accuracy (joined_layouts k ls others))
+
+  ranks-one : (test : A → Bool) (s k : ℕ) (accuracy : RankAccuracy) (ls : List Layout) (x : A) (ranks : ℕ → ℕ) → true_ranks test (events_at s (update_actions k accuracy ls x)) ranks s ≡ ranks s + (if test x then 1 else 0)
+  ranks-one test s k accuracy ls x ranks =
+      let actions : List (Action A) = update_actions k accuracy ls x in
+      ap (λ (trace : List (Event A)). true_ranks test trace ranks s) (sym (append-nil (events_at s actions)))
+      ∙ (ap (λ (f : ℕ → ℕ). f s) (ranks-update test k accuracy s ls x [] ranks) ∙ changed-there ranks s _)
+
+  -- ---- the calls
+
+  abbrev UpdatesWell : ReqShape → ℕ → A → World (List ℕ) → ReqShape → Type 0
+  UpdatesWell s slot x world t = DoWell MeetsReq FitsReq slot (update_actions s.k s.accuracy s.layouts x) world t (λ test. if test x then 1 else 0)
+
+  update-well : (s t : ReqShape) → (req_rules {A = A}).updated s ≡ Some t → (slot : ℕ) (x : A) (world : World (List ℕ)) → FitsReq s (world.slots slot) → sum world.scratch ≡ 0 → UpdatesWell s slot x world t
+  update-well s t e slot x world h z =
+      let u = unless-there _ _ t e in
+      let actions : List (Action A) = update_actions s.k s.accuracy s.layouts x in
+      let lengths : (acts_on_lengths actions (record { bag = world.slots slot; scratch = world.scratch })).bag ≡ counts_of (update_layouts s.k s.layouts) =
+      ap (λ (ns : List ℕ). (acts_on_lengths actions (record { bag = ns; scratch = world.scratch })).bag) h.lengths_are
+      ∙ ap (λ (w : Work (List ℕ)). w.bag) (update_lengths A s.k s.accuracy s.layouts x world.scratch h.legal h.are) in
+      subst (UpdatesWell s slot x world) u.1 (record {
+        legal = legal (λ i. s.k) (events_at slot actions) world (update_legal A (λ i. s.k) s.accuracy slot s.layouts x world h.legal h.are h.lengths_are z);
+        fits = fits-by _ _ _ (lengths-there actions world slot _ lengths) (updated_fits s (world.slots slot) h u.0);
+        ranks = λ test ranks. ranks-one test slot s.k s.accuracy s.layouts x ranks;
+      })
+
+module _ (A : Type 0) where
+  abbrev MergesWell : ReqShape → ReqShape → (into source : ℕ) → World (List ℕ) → ReqShape → Type 0
+  MergesWell s other into source world t = DoWell {A = A} MeetsReq FitsReq into (merge_actions s.k s.accuracy s.layouts other.layouts) (lengths_after {A = A} (Snap source into) world) t (λ test. 0)
+
+  merge-well : (s other t : ReqShape) → (req_rules {A = A}).merged s other ≡ Some t → (into source : ℕ) (world : World (List ℕ)) → FitsReq s (world.slots into) → FitsReq other (world.slots source) → sum world.scratch ≡ 0 → 0 < other.n →
+      MergesWell s other into source world t
+  merge-well s other t e into source world h o z some =
+      let u = unless-there _ _ t e in
+      let some_n : (other.n == 0) ≡ false = go (other.n == 0) refl in
+      let actions : List (Action A) = merge_actions s.k s.accuracy s.layouts other.layouts in
+      let snapped : World (List ℕ) = lengths_after {A = A} (Snap source into) world in
+      let l = legal (λ i. s.k) (merge_events s.k s.accuracy source into s.layouts other.layouts) world (merge_legal A (λ i. s.k) s.accuracy source into s.layouts other.layouts world h.legal h.are h.lengths_are o.lengths_are z) in
+      let lengths : (acts_on_lengths actions (record { bag = world.slots into; scratch = world.slots source })).bag ≡ counts_of (merge_layouts s.k s.layouts other.layouts) =
+      ap₂ (λ (ns ms : List ℕ). (acts_on_lengths actions (record { bag = ns; scratch = ms })).bag) h.lengths_are o.lengths_are
+      ∙ (merge_lengths A s.k s.accuracy s.layouts other.layouts h.legal h.are).1 in
+      let is : merged_as s other (merge_layouts s.k s.layouts other.layouts) ≡ t = ap (λ (b : Bool). merged_as s other (if b then s.layouts else merge_layouts s.k s.layouts other.layouts)) (sym some_n) ∙ u.1 in
+      subst (MergesWell s other into source world) is (record {
+        legal = record { scratch = l.scratch.1; meets = l.meets.1 };
+        fits = fits-by _ _ _ (lengths-there actions snapped into _ lengths) (merged_fits s other (world.slots into) (world.slots source) h o (not-much s other u.0 some_n));
+        ranks = λ test ranks. ap (λ (f : ℕ → ℕ). f into) (ranks-merge test into s.k s.accuracy s.layouts other.layouts ranks) ∙ (let n : ranks into ≡ ranks into + 0 = omega arith in n);
+      })
+    where
+      go : (b : Bool) → (other.n == 0) ≡ b → b ≡ false
+      go true e = absurd (omega (arith, some, eqb-true other.n 0 e))
+      go false e = refl
+
+  merge-none : (s other t : ReqShape) → (req_rules {A = A}).merged s other ≡ Some t → other.n ≡ 0 → (lengths : List ℕ) → FitsReq s lengths → FitsReq t lengths
+  merge-none s other t e z lengths h =
+      let u = unless-there _ _ t e in
+      let is : merged_as s other s.layouts ≡ t = ap (λ (n : ℕ). merged_as s other (if n == 0 then s.layouts else merge_layouts s.k s.layouts other.layouts)) (sym z) ∙ u.1 in
+      subst (λ (shape : ReqShape). FitsReq shape lengths) is (none_fits s other lengths h z)
+
+  merge-counts : (s other t : ReqShape) → (req_rules {A = A}).merged s other ≡ Some t → (t.n ≡ s.n + other.n) × (s.n < 2 ^ 64 → t.n < 2 ^ 64)
+  merge-counts s other t e =
+      let u = unless-there _ _ t e in
+      let n : t.n ≡ s.n + other.n = ap (λ (shape : ReqShape). shape.n) (sym u.1) in
+      (n, λ few. elim (cases_Bool (other.n == 0)) [
+        | inl b ↦ omega (arith, n, few, eqb-true other.n 0 b)
+        | inr b ↦ omega (arith, n, (enough_room (s.n + other.n) (retained_of s.layouts + retained_of other.layouts) (not-much s other u.0 b)).0)
+      ])
+
+module _ {A : Type 0} where
+  pub req_lawful : AreLawful {A = A} req_rules MeetsReq FitsReq
+  req_lawful = record {
+    even = λ e world f. (along-even (λ s. 0) (e ∷ []) world (f, tt)).0;
+    clears = λ slot world. tt;
+    snaps = λ source into world. tt;
+    made = λ config t e.
+        let u = unless-there _ _ t e in
+        (ap (λ (s : ReqShape). s.n) (sym u.1), subst (λ (s : ReqShape). FitsReq s (0 ∷ [])) u.1 (new_fits config.0 config.1 (legal_k config.0 (not-false _ u.0))));
+    emptied = λ s. refl;
+    emptied_fits = λ s lengths h. new_fits s.k s.accuracy h.legal;
+    updated = λ s t e.
+        let u = unless-there _ _ t e in
+        let n : t.n ≡ s.n + 1 = ap (λ (shape : ReqShape). shape.n) (sym u.1) in
+        (n, λ few. let r : (s.n + 1 < 2 ^ 64) × (retained_of s.layouts + 1 ≤ 4294967295) = enough_room (s.n + 1) (retained_of s.layouts + 1) u.0 in omega (arith, n, r.0));
+    weighted = λ s t weight e. absurd (not-none t e);
+    merged = merge-counts A;
+    update_well = update-well;
+    weighted_well = λ s t weight e. absurd (not-none t e);
+    merge_well = merge-well A;
+    merge_none = merge-none A;
+    read_well = λ s slot world h z. record {
+      legal = record { scratch = (obeys (sum world.scratch) _ z, z); meets = (tt, tt) };
+      fits = fits-by s (world.slots slot) _ (changed-there world.slots slot (world.slots slot)) h;
+      ranks = λ test ranks. omega arith;
+    };
+    read_lengths = λ slot world. ap (λ (slots : ℕ → List ℕ). let w : World (List ℕ) = record { slots = slots; scratch = world.scratch; target = world.target } in w) (changed-itself world.slots slot);
+    read_draws = refl;
+  }

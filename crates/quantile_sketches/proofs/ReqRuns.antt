@@ -1,0 +1,171 @@
+-- What a run on REQ sketches gives, from what every run gives.
+use Rattle.std.proofs.Common.{◌≡◌, ℕ, suc, ◌+◌, ◌*◌, ◌^◌, ◌<◌, ◌≤◌, Bool, true, not, IsTrue, List, [], ◌∷◌, ◌++◌, length, sum, count_by, Option, None, Some, refl, sym, ap, ◌∙◌, subst, arith, append-nil, Ordering}
+use Rattle.std.specs.Prelude.{IsSorted}
+use Rattle.std.specs.Cmp.{IsTotalOrder}
+use Rattle.std.specs.List.{AllByRecursion}
+use Rattle.std.specs.Option.{option_map}
+use Rattle.sketch_base.specs.declared.common.SearchCriteria.{SearchCriteria}
+use Rattle.sketch_base.specs.Bag.{weighted_rank, load}
+use Rattle.sketch_base.specs.Lengths.{IsLegalReq}
+use Rattle.sketch_base.specs.Query.{counted, true_rank}
+use Rattle.sketch_base.specs.Spelling.{SpellingsTie}
+use Rattle.sketch_base.specs.Trace.{Event, play, start, coins}
+use Rattle.sketch_base.specs.Words.{sum_over_words, distance}
+use Rattle.sketch_base.proofs.Alikes.{rank-alike}
+use Rattle.sketch_base.proofs.Loads.{req_within_load}
+use Rattle.sketch_base.proofs.SpelledItems.{IsPrefixFree}
+use Rattle.sketch_req.specs.Actions.{bag_of}
+use Rattle.sketch_req.specs.Image.{BeginsImage}
+use Rattle.sketch_req.specs.ImageLaws.{without_coins}
+use Rattle.sketch_req.specs.Level.{Level}
+use Rattle.sketch_req.specs.Schedule.{layouts_of, retained_of, nominal_sum}
+use Rattle.sketch_req.specs.Sketch.{Req}
+use Rattle.sketch_req.specs.Walk.{AreLevels}
+use Rattle.sketch_req.specs.Written.{image_text}
+use Rattle.sketch_req.specs.declared.RankAccuracy.{RankAccuracy}
+use Rattle.sketch_req.proofs.Capacities.{upper_weighs}
+use Rattle.sketch_req.proofs.Joins.{length-layouts}
+use Rattle.sketch_req.proofs.OneSketch.{one_sketch}
+use Rattle.sketch_req.proofs.Ranks.{retained_is}
+use Rattle.sketch_req.proofs.Writings.{written_lem}
+use Rattle.quantile_sketches.specs.Audit.{word_of, rank_under, AreWeights, AreRunWeights}
+use Rattle.quantile_sketches.specs.Outcome.{Slots, sketch_at, ArePlanned, ArePlayed, AreSound, AreUnbiased}
+use Rattle.quantile_sketches.specs.Plan.{Plan, start_plan, plan_of, trace_of}
+use Rattle.quantile_sketches.specs.Refused.{accepted_of, AreRefused}
+use Rattle.quantile_sketches.specs.ReqKind.{FitsReq, req_kind, req_shape}
+use Rattle.quantile_sketches.specs.ReqOutcome.{AreInOrder, HaveFewLevels, took_no_sketch, AreBelow, AreOwnTails, AreExact, AreReadBack, AreUnbiasedByUpdates}
+use Rattle.quantile_sketches.specs.ReqPlan.{ReqCommand, shape_in, tails_of, no_shapes}
+use Rattle.quantile_sketches.specs.ReqRules.{ReqShape, req_rules}
+use Rattle.quantile_sketches.specs.ReqRun.{off_tail, are_by_updates}
+use Rattle.quantile_sketches.specs.Run.{stream_of, RunIsWithinLoad}
+use Rattle.quantile_sketches.proofs.LeftOut.{left-out}
+use Rattle.quantile_sketches.proofs.Plans.{run-legal, steady-start, steady-from}
+use Rattle.quantile_sketches.proofs.ReqAlone.{run-below, run-own, run-unbiased}
+use Rattle.quantile_sketches.proofs.ReqKind.{req_kind_lawful}
+use Rattle.quantile_sketches.proofs.ReqLawful.{req_lawful}
+use Rattle.quantile_sketches.proofs.ReqLeftOut.{req-left-out}
+use Rattle.quantile_sketches.proofs.ReqSame.{Known, same}
+use Rattle.quantile_sketches.proofs.ReqTails.{run-exact}
+use Rattle.quantile_sketches.proofs.Streams.{run-ranks}
+use Rattle.quantile_sketches.proofs.WordSums.{sum_up, sum-entries, sum-words}
+
+-- ---- of every list of commands
+
+module _ {A : Type 0} where
+  pub req-legal : (commands : List (ReqCommand A)) → IsLegalReq (λ s. 0) (trace_of req_rules commands)
+  req-legal commands = let r = run-legal req_lawful commands in record { scratch = r.scratch; sizes = r.meets }
+
+  pub req-below : (commands : List (ReqCommand A)) (slot : ℕ) → took_no_sketch commands slot ≡ true →
+      retained_of (shape_in ((plan_of req_rules commands).shapes slot)).layouts < nominal_sum (shape_in ((plan_of req_rules commands).shapes slot)).k (shape_in ((plan_of req_rules commands).shapes slot)).layouts
+  req-below commands slot =
+      subst (λ (r : Known _). r.unmerged slot ≡ true → retained_of (shape_in (r.shapes slot)).layouts < nominal_sum (shape_in (r.shapes slot)).k (shape_in (r.shapes slot)).layouts) (same commands)
+      (run-below commands slot)
+
+  pub req-own : (commands : List (ReqCommand A)) (slot : ℕ) → took_no_sketch commands slot ≡ true → (shape : ReqShape) → (plan_of req_rules commands).shapes slot ≡ Some shape → tails_of commands slot ≡ shape.k
+  req-own commands slot =
+      subst (λ (r : Known _). r.unmerged slot ≡ true → (shape : ReqShape) → r.shapes slot ≡ Some shape → r.tails slot ≡ shape.k) (same commands) (run-own commands slot)
+
+  pub req-unbiased : (cmp : A → A → Ordering) (test : A → Bool) (commands : List (ReqCommand A)) (length slot : ℕ) → are_by_updates no_shapes commands ≡ true → coins (trace_of req_rules commands) ≤ length →
+      sum_over_words length (λ word. weighted_rank cmp test ((play cmp (trace_of req_rules commands) word start).slots slot)) ≡ 2 ^ length * count_by test (stream_of req_rules commands slot)
+  req-unbiased cmp test commands length slot =
+      subst (λ (r : Known _). r.by_updates ≡ true → coins r.trace ≤ length →
+      sum_over_words length (λ word. weighted_rank cmp test ((play cmp r.trace word start).slots slot)) ≡ 2 ^ length * count_by test (r.streams slot)) (same commands)
+      (run-unbiased cmp test commands length slot)
+
+module _ {A : Type 0} {cmp : A → A → Ordering} (o : IsTotalOrder cmp) where
+  pub req-load : RunIsWithinLoad req_rules 4 cmp
+  req-load y criteria commands word slot =
+      let bag = (play cmp (trace_of req_rules commands) word start).slots slot in
+      subst (λ (m : ℕ). 4 * distance (weighted_rank cmp (counted cmp y criteria) bag) m ≤ load bag) (run-ranks req_lawful (counted cmp y criteria) commands slot)
+      (req_within_load o (λ s. 0) y criteria (trace_of req_rules commands) word slot (req-legal commands))
+
+  pub req-exact : (y : A) (criteria : SearchCriteria) (commands : List (ReqCommand A)) (word : List Bool) (slot : ℕ) →
+      off_tail cmp (shape_in ((plan_of req_rules commands).shapes slot)).accuracy y criteria (stream_of req_rules commands slot) ≤ 3 * tails_of commands slot →
+      weighted_rank cmp (counted cmp y criteria) ((play cmp (trace_of req_rules commands) word start).slots slot) ≡ true_rank cmp y criteria (stream_of req_rules commands slot)
+  req-exact y criteria commands word slot =
+      subst (λ (r : Known _). off_tail cmp (shape_in (r.shapes slot)).accuracy y criteria (r.streams slot) ≤ 3 * r.tails slot →
+      weighted_rank cmp (counted cmp y criteria) ((play cmp r.trace word start).slots slot) ≡ true_rank cmp y criteria (r.streams slot)) (same commands)
+      (run-exact o y criteria commands word slot)
+
+-- ---- of a run
+
+in-order : {A : Type 0} (cmp : A → A → Ordering) (k : ℕ) (accuracy : RankAccuracy) (h : ℕ) (ls : List (Level A)) → AreLevels cmp k accuracy h ls → AllByRecursion (λ level. IsTrue level.is_sorted → IsSorted cmp level.items) ls
+in-order cmp k accuracy h [] a = tt
+in-order cmp k accuracy h (l ∷ ls) a = (a.0.sound.in_order, in-order cmp k accuracy (suc h) ls a.1)
+
+module _ {A : Type 0} {cmp : A → A → Ordering} (o : IsTotalOrder cmp) (spelling : A → Option (List ℕ)) (commands : List (ReqCommand A)) (slots : Slots (Req A)) where
+  -- the shape that is planned of a sketch
+  there : ArePlanned (req_kind cmp spelling) commands slots → (slot : ℕ) (s : Req A) → sketch_at slots slot ≡ Some s → (plan_of req_rules commands).shapes slot ≡ Some (req_shape s)
+  there planned slot s held = sym (planned slot) ∙ ap (option_map req_shape) held
+
+  fits : ArePlanned (req_kind cmp spelling) commands slots → (slot : ℕ) (s : Req A) → sketch_at slots slot ≡ Some s → FitsReq (req_shape s) ((plan_of req_rules commands).lengths.slots slot)
+  fits planned slot s held = (steady-from req_lawful start_plan (steady-start req_lawful) commands).fits slot (req_shape s) (there planned slot s held)
+
+  pub run-ordered : AreSound (req_kind cmp spelling) slots → AreInOrder cmp slots
+  run-ordered sound slot s held = in-order cmp s.k s.accuracy 0 s.levels (sound slot s held).placed
+
+  pub run-levels : ArePlanned (req_kind cmp spelling) commands slots → HaveFewLevels slots
+  run-levels planned slot s held many =
+      let f = fits planned slot s held in
+      let n = length-layouts s.levels in
+      let l = upper_weighs (layouts_of s.levels) f.two (omega (arith, many, n)) in
+      subst (λ (m : ℕ). 2 ^ m ≤ s.n) n (omega (arith, l, f.weighs))
+
+  pub run-small : ArePlanned (req_kind cmp spelling) commands slots → AreBelow commands slots
+  run-small planned slot s held alone =
+      let h = subst (λ (p : Option ReqShape). retained_of (shape_in p).layouts < nominal_sum (shape_in p).k (shape_in p).layouts) (there planned slot s held) (req-below commands slot alone) in
+      omega (arith, h, retained_is s.levels)
+
+  pub run-tails-own : ArePlanned (req_kind cmp spelling) commands slots → AreOwnTails commands slots
+  run-tails-own planned slot s held alone = req-own commands slot alone (req_shape s) (there planned slot s held)
+
+  pub run-images : IsPrefixFree spelling → SpellingsTie cmp spelling → AreSound (req_kind cmp spelling) slots → AreReadBack cmp spelling slots
+  run-images free ties sound slot s held has =
+      let text : List ℕ = image_text spelling s in
+      let nil : text ++ [] ≡ text = append-nil text in
+      let written = subst (λ (t : List ℕ). BeginsImage cmp spelling t (without_coins s) []) nil (written_lem spelling s [] (sound slot s held) has.0) in
+      record {
+        written = written;
+        read = λ t rest is. let r = one_sketch o spelling free ties text (without_coins s) t [] rest written is in (r.0, sym r.1);
+      }
+
+  module _ (word : List Bool) (refused : List ℕ) (are : AreRefused (req_kind cmp spelling) word commands refused) where
+    pub run-tail : ArePlanned (req_kind cmp spelling) commands slots → ArePlayed (req_kind cmp spelling) (accepted_of refused commands) word slots → AreExact cmp commands slots
+    run-tail planned played slot s held y criteria few =
+        let fewer = accepted_of refused commands in
+        let l = left-out (req_kind_lawful o spelling) word commands refused are in
+        let t = req-left-out o spelling word refused commands are in
+        let shape : (plan_of req_rules fewer).shapes slot ≡ Some (req_shape s) = ap (λ (p : Plan ReqShape). p.shapes slot) (sym l.plan) ∙ there planned slot s held in
+        let same_side : (shape_in ((plan_of req_rules fewer).shapes slot)).accuracy ≡ s.accuracy = ap (λ (p : Option ReqShape). (shape_in p).accuracy) shape in
+        let streams = ap (λ (f : ℕ → List A). f slot) l.streams in
+        let tails = ap (λ (f : ℕ → ℕ). f slot) t.tails in
+        let alike = played slot s held in
+        let enough = subst (λ (a : RankAccuracy). off_tail cmp a y criteria (stream_of req_rules fewer slot) ≤ 3 * tails_of fewer slot) (sym same_side)
+        (subst (λ (xs : List A). off_tail cmp s.accuracy y criteria xs ≤ 3 * tails_of fewer slot) streams
+        (subst (λ (n : ℕ). off_tail cmp s.accuracy y criteria (stream_of req_rules commands slot) ≤ 3 * n) tails few)) in
+        sym (rank-alike o y criteria ((play cmp (trace_of req_rules fewer) word start).slots slot) (bag_of s.levels) alike.levels)
+        ∙ (req-exact o y criteria fewer word slot enough ∙ sym (ap (true_rank cmp y criteria) streams))
+
+    pub run-by-updates : (n : ℕ) → coins (trace_of req_rules commands) ≤ n → AreUnbiasedByUpdates cmp (accepted_of refused commands) n
+    run-by-updates n enough by y criteria slot =
+        let l = left-out (req_kind_lawful o spelling) word commands refused are in
+        req-unbiased cmp (counted cmp y criteria) (accepted_of refused commands) n slot by (omega (arith, enough, l.drawn))
+
+-- the weights of an audit by updates alone, under all words
+pub weights-sum : {A : Type 0} {cmp : A → A → Ordering} (o : IsTotalOrder cmp) (spelling : A → Option (List ℕ)) (y : A) (criteria : SearchCriteria) (commands : List (ReqCommand A)) (slot : ℕ) (weights : List ℕ) →
+    are_by_updates no_shapes commands ≡ true → length weights ≡ 2 ^ coins (trace_of req_rules commands) → AreRunWeights (req_kind cmp spelling) y criteria commands slot weights →
+    sum weights ≡ length weights * true_rank cmp y criteria (stream_of req_rules commands slot)
+weights-sum {A} {cmp} o spelling y criteria commands slot weights by words are =
+    let n = coins (trace_of req_rules commands) in
+    let f : List Bool → ℕ = rank_under req_rules cmp y criteria commands slot in
+    sum-entries weights (λ k. f (word_of n k)) (λ k inside. at k (omega (arith, inside, words)))
+    ∙ (ap (λ (m : ℕ). sum_up m (λ k. f (word_of n k))) words
+    ∙ (sum-words n f
+    ∙ (req-unbiased cmp (counted cmp y criteria) commands n slot by (omega arith)
+    ∙ ap (λ (m : ℕ). m * true_rank cmp y criteria (stream_of req_rules commands slot)) (sym words))))
+  where
+    at : AreWeights req_rules cmp y criteria commands slot weights
+    at number inside =
+        let (weight, there, (refused, r, e)) = are number inside in
+        let word = word_of (coins (trace_of req_rules commands)) number in
+        there ∙ ap Some (e ∙ ap (λ (t : List (Event A)). weighted_rank cmp (counted cmp y criteria) ((play cmp t word start).slots slot)) (sym ((req-left-out o spelling word refused commands r).trace by)))

@@ -1,0 +1,64 @@
+use Rattle.std.proofs.Common.{length, Result, Ok, Err, IfOk}
+use Rattle.quantile_sketches.proofs.Courses.{close-by}
+use Rattle.quantile_sketches.proofs.ReqKind.{req_kind_lawful}
+use Rattle.quantile_sketches.proofs.ReqRuns.{req-load, run-ordered, run-levels, run-small, run-tail, run-tails-own, run-images, run-by-updates}
+use Rattle.quantile_sketches.proofs.audit.req_runs.run_req.Goals as goal
+
+-- what follows of what is given
+given : {T E : Type 0} {P Q : T → Type 0} (r : Result T E) → ((x : T) → P x → Q x) → IfOk r P → IfOk r Q
+given (Ok x) f p = f x p
+given (Err e) f p = tt
+
+both : {T E : Type 0} {P Q R : T → Type 0} (r : Result T E) → ((x : T) → P x → Q x → R x) → IfOk r P → IfOk r Q → IfOk r R
+both (Ok x) f p q = f x p q
+both (Err e) f p q = tt
+
+three : {T E : Type 0} {P Q R U : T → Type 0} (r : Result T E) → ((x : T) → P x → Q x → R x → U x) → IfOk r P → IfOk r Q → IfOk r R → IfOk r U
+three (Ok x) f p q s = f x p q s
+three (Err e) f p q s = tt
+
+pub run_family-requires-clause-lawful : goal.run_family-requires-clause-lawful
+run_family-requires-clause-lawful g c = req_kind_lawful g.met.T.Ord.total g.T.ReqValue.spelling
+
+pub returns-clause-ordered : goal.returns-clause-ordered
+returns-clause-ordered g c =
+    given c.run_family.result (λ run. run-ordered g.met.T.Ord.total g.T.ReqValue.spelling c.args.commands.now run.slots) c.run_family.ensures.sound
+
+pub returns-clause-levels : goal.returns-clause-levels
+returns-clause-levels g c =
+    given c.run_family.result (λ run. run-levels g.met.T.Ord.total g.T.ReqValue.spelling c.args.commands.now run.slots) c.run_family.ensures.planned
+
+pub returns-clause-small : goal.returns-clause-small
+returns-clause-small g c =
+    given c.run_family.result (λ run. run-small g.met.T.Ord.total g.T.ReqValue.spelling c.args.commands.now run.slots) c.run_family.ensures.planned
+
+pub returns-clause-close : goal.returns-clause-close
+returns-clause-close g c =
+    both c.run_family.result
+    (λ run refused played.
+    close-by (req_kind_lawful g.met.T.Ord.total g.T.ReqValue.spelling) 4 (req-load g.met.T.Ord.total) c.args.word.now c.args.commands.now run.refused.items refused run.slots played)
+    c.run_family.ensures.refused c.run_family.ensures.played
+
+pub returns-clause-tail : goal.returns-clause-tail
+returns-clause-tail g c =
+    three c.run_family.result
+    (λ run refused planned played.
+    run-tail g.met.T.Ord.total g.T.ReqValue.spelling c.args.commands.now run.slots c.args.word.now run.refused.items refused planned played)
+    c.run_family.ensures.refused c.run_family.ensures.planned c.run_family.ensures.played
+
+pub returns-clause-own : goal.returns-clause-own
+returns-clause-own g c =
+    given c.run_family.result (λ run. run-tails-own g.met.T.Ord.total g.T.ReqValue.spelling c.args.commands.now run.slots) c.run_family.ensures.planned
+
+pub returns-clause-images : goal.returns-clause-images
+returns-clause-images g c =
+    given c.run_family.result
+    (λ run. run-images g.met.T.Ord.total g.T.ReqValue.spelling c.args.commands.now run.slots g.met.T.ReqValue.is_prefix_free c.requires.codec)
+    c.run_family.ensures.sound
+
+pub returns-clause-unbiased : goal.returns-clause-unbiased
+returns-clause-unbiased g c =
+    both c.run_family.result
+    (λ run refused enough.
+    run-by-updates g.met.T.Ord.total g.T.ReqValue.spelling c.args.commands.now run.slots c.args.word.now run.refused.items refused (length c.args.word.now) enough)
+    c.run_family.ensures.refused c.run_family.ensures.enough

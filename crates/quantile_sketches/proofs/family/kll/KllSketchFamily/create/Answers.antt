@@ -1,0 +1,7 @@
+use Rattle.quantile_sketches.proofs.KllKind.{new_is}
+use Rattle.quantile_sketches.proofs.family.kll.KllSketchFamily.create.Goals as goal
+
+pub returns-clause-made : goal.returns-clause-made
+returns-clause-made g c =
+    let is = c.in_ok-sketch.ensures in
+    new_is g.met.T.Ord.total g.T.KllValue.spelling c.args.k c.in_ok-sketch.sketch is.small is.k is.n is.bag is.extremes is.sound

@@ -1,0 +1,102 @@
+-- what a REQ sketch gives where a command calls it
+use Rattle.std.specs.Prelude.{◌≡◌, ◌≢◌, ◌⊎◌, ◌^◌, ◌+◌, ◌-◌, ◌<◌, ◌≤◌, ◌↔◌, ℕ, Bool, true, List, [], ◌∷◌, Option, None, Result, IsErrOf, IsOk, IfOk, IfErr, OnOk, OnErr}
+use Rattle.std.specs.declared.alloc.Global.{Global}
+use Rattle.std.specs.declared.vec.Vec.{Vec}
+use Rattle.std.specs.declared.cmp.Ordering.{Ordering}
+use Rattle.sketch_base.specs.Bag.{expanded, retained}
+use Rattle.sketch_base.specs.Queries.{cdf_of, pmf_of}
+use Rattle.sketch_base.specs.Random.{bits_from, after_draws}
+use Rattle.sketch_base.specs.declared.error.ErrorKind.{ErrorKind}
+use Rattle.sketch_base.specs.declared.error.ErrorKind.TheVariants.{InvalidArgument, InvalidData, OutOfMemory}
+use Rattle.sketch_req.specs.Actions.{bag_of}
+use Rattle.sketch_req.specs.Copy.{IsCopy}
+use Rattle.sketch_req.specs.Image.{BeginsImage, NoImage}
+use Rattle.sketch_req.specs.Level.{fresh}
+use Rattle.sketch_req.specs.Merged.{IsMerged, coins_of_merge}
+use Rattle.sketch_req.specs.Sections.{IsLegalK}
+use Rattle.sketch_req.specs.Sketch.{Req, IsUpdated, coins_of_update}
+use Rattle.sketch_req.specs.Written.{image_text}
+use Rattle.sketch_req.specs.declared.RankAccuracy.{RankAccuracy}
+use Rattle.quantile_sketches.specs.Behaviour.{Behaviour}
+use Rattle.quantile_sketches.specs.Queried.{IsRank, IsQuantile, AreRanks}
+use Rattle.quantile_sketches.specs.ReqKind.{HasImage}
+
+module _ {A : Type 0} (cmp : A → A → Ordering) (spelling : A → Option (List ℕ)) where
+  -- a sketch of no items
+  abbrev pub IsEmptyOf : ℕ → RankAccuracy → Req A → Type 0
+  IsEmptyOf k accuracy s =
+      (s.k ≡ k) × (s.accuracy ≡ accuracy) × (s.n ≡ 0) × (s.levels ≡ fresh [] true 0 k accuracy ∷ [])
+      × (s.least ≡ None) × (s.greatest ≡ None)
+
+  -- an empty sketch of this k and accuracy, refused exactly for a k that is none, or for memory
+  abbrev pub IsMade : ℕ × RankAccuracy → Result (Req A) ErrorKind → Type 0
+  IsMade config r =
+      (IsErrOf r InvalidArgument ↔ ¬ (IsLegalK config.0))
+      × IfErr r (λ e. IsLegalK config.0 → e ≡ OutOfMemory)
+      × IfOk r (IsEmptyOf config.0 config.1)
+
+  -- an equal sketch, or want of memory
+  abbrev pub IsCopied : Req A → Result (Req A) ErrorKind → Type 0
+  IsCopied s r = IfOk r (IsCopy cmp s) × IfErr r (λ e. e ≡ OutOfMemory)
+
+  -- what a new sketch of the same k and accuracy is
+  abbrev pub IsEmptied : Req A → Req A → Type 0
+  IsEmptied s t = IsEmptyOf s.k s.accuracy t
+
+  -- the bytes of the sketch, refused where it has no image, or for memory
+  abbrev pub IsImaged : Req A → Result (Vec ℕ Global) ErrorKind → Type 0
+  IsImaged s r =
+      IfOk r (λ v. v.items ≡ image_text spelling s)
+      × OnOk r (HasImage spelling s)
+      × (IsErrOf r InvalidArgument → ¬ HasImage spelling s)
+      × IfErr r (λ e. e ≢ InvalidData)
+
+  -- the sketch of an image that the bytes begin with, refused where there is none, or for memory
+  abbrev pub IsLoaded : List ℕ → Result (Req A) ErrorKind → Type 0
+  IsLoaded bytes r =
+      IfOk r (λ s. (rest : List ℕ) × BeginsImage cmp spelling bytes s rest)
+      × IfErr r (λ e. e ≢ InvalidArgument)
+      × IfErr r (λ e. e ≡ InvalidData → NoImage cmp spelling bytes)
+
+  module _ {Source : Type 0} (bit : Source → Bool) (next : Source → Source) where
+    -- an item is taken in, or refused at a full weight, with all the items that a sketch may hold, or for memory
+    abbrev pub TakesIn : Req A → A → Source → Result Unit ErrorKind → Req A → Source → Type 0
+    TakesIn s x coins r t rest =
+        (IsErrOf r InvalidArgument ↔ ((s.n ≡ 2 ^ 64 - 1) ⊎ (retained (bag_of s.levels) ≡ 4294967295)))
+        × IfErr r (λ e. s.n < 2 ^ 64 - 1 → retained (bag_of s.levels) < 4294967295 → e ≡ OutOfMemory)
+        × OnOk r (IsUpdated cmp s x (bits_from bit next coins (coins_of_update s x)) t)
+        × OnOk r (rest ≡ after_draws next coins (coins_of_update s x))
+        × OnErr r ((t ≡ s) × (rest ≡ coins))
+
+    -- an item with a weight is never taken in
+    abbrev pub TakesNone : Req A → Source → Result Unit ErrorKind → Req A → Source → Type 0
+    TakesNone s coins r t rest = IsErrOf r InvalidArgument × (t ≡ s) × (rest ≡ coins)
+
+    -- another sketch is taken in, or refused where the accuracies differ, where there would be too much, or for memory
+    abbrev pub JoinsIn : Req A → Req A → Source → Result Unit ErrorKind → Req A → Source → Type 0
+    JoinsIn o s coins r t rest =
+        (IsErrOf r InvalidArgument ↔ ((s.accuracy ≢ o.accuracy) ⊎ ((2 ^ 64 ≤ s.n + o.n)
+        ⊎ (2 ^ 32 ≤ retained (bag_of s.levels) + retained (bag_of o.levels)))))
+        × IfErr r (λ e. s.accuracy ≡ o.accuracy → s.n + o.n < 2 ^ 64
+        → retained (bag_of s.levels) + retained (bag_of o.levels) < 2 ^ 32 → e ≡ OutOfMemory)
+        × (s.accuracy ≡ o.accuracy → o.n ≡ 0 → IsOk r × (t ≡ s) × (rest ≡ coins))
+        × OnOk r (0 < o.n → IsMerged cmp s o (bits_from bit next coins (coins_of_merge s o)) t)
+        × OnOk r (0 < o.n → rest ≡ after_draws next coins (coins_of_merge s o))
+        × OnErr r ((t ≡ s) × (rest ≡ coins))
+
+  -- how REQ sketches behave
+  abbrev pub req : Behaviour (Req A) A (ℕ × RankAccuracy)
+  req = record {
+    made = IsMade;
+    copied = IsCopied;
+    emptied = IsEmptied;
+    taken = λ x Source bit next s. TakesIn bit next s x;
+    taken_weighted = λ x weight Source bit next. TakesNone bit next;
+    joined = λ other Source bit next. JoinsIn bit next other;
+    rank = λ s. IsRank cmp s.n (bag_of s.levels);
+    quantile = λ s. IsQuantile cmp s.n (bag_of s.levels) s.least s.greatest;
+    cdf = λ s points criteria. AreRanks cmp s.n points (cdf_of cmp criteria (expanded cmp (bag_of s.levels)) points);
+    pmf = λ s points criteria. AreRanks cmp s.n points (pmf_of cmp criteria (expanded cmp (bag_of s.levels)) points);
+    imaged = IsImaged;
+    loaded = IsLoaded;
+  }

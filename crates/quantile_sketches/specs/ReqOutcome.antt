@@ -1,0 +1,60 @@
+-- What a run on REQ sketches gives beyond what every run gives.
+use Rattle.std.specs.Prelude.{◌≡◌, ℕ, ◌*◌, ◌^◌, ◌<◌, ◌≤◌, Bool, true, IsTrue, List, [], length, Option, IsSorted}
+use Rattle.std.specs.List.{AllByRecursion}
+use Rattle.std.specs.declared.cmp.Ordering.{Ordering}
+use Rattle.sketch_base.specs.declared.common.SearchCriteria.{SearchCriteria}
+use Rattle.sketch_base.specs.Bag.{retained, weighted_rank}
+use Rattle.sketch_base.specs.Query.{counted, true_rank}
+use Rattle.sketch_req.specs.Actions.{bag_of}
+use Rattle.sketch_req.specs.Image.{BeginsImage}
+use Rattle.sketch_req.specs.ImageLaws.{without_coins}
+use Rattle.sketch_req.specs.Imaged.{IsSameSketch}
+use Rattle.sketch_req.specs.Schedule.{layouts_of, nominal_sum}
+use Rattle.sketch_req.specs.Sketch.{Req}
+use Rattle.sketch_req.specs.Written.{image_text}
+use Rattle.quantile_sketches.specs.Outcome.{Slots, EachSketch, AreUnbiased}
+use Rattle.quantile_sketches.specs.ReqKind.{HasImage}
+use Rattle.quantile_sketches.specs.ReqPlan.{ReqCommand, tails_of, no_shapes}
+use Rattle.quantile_sketches.specs.ReqRules.{req_rules}
+use Rattle.quantile_sketches.specs.ReqRun.{unmerged_from, off_tail, are_by_updates}
+use Rattle.quantile_sketches.specs.Run.{stream_of}
+
+-- each level that says that it is sorted is
+abbrev pub AreInOrder : {A : Type 0} → (A → A → Ordering) → Slots (Req A) → Type 0
+AreInOrder cmp = EachSketch (λ slot s. AllByRecursion (λ level. IsTrue level.is_sorted → IsSorted cmp level.items) s.levels)
+
+-- each sketch of L levels, L at least 2, took at least 2^L items
+abbrev pub HaveFewLevels : {A : Type 0} → Slots (Req A) → Type 0
+HaveFewLevels = EachSketch (λ slot s. 2 ≤ length s.levels → 2 ^ length s.levels ≤ s.n)
+
+-- whether a slot took no sketch in that is not empty, since its New or Reset
+abbrev pub took_no_sketch : {A : Type 0} → List (ReqCommand A) → ℕ → Bool
+took_no_sketch = unmerged_from no_shapes (λ slot. true)
+
+-- each such sketch retains less than the sum of its nominal capacities
+abbrev pub AreBelow : {A : Type 0} → List (ReqCommand A) → Slots (Req A) → Type 0
+AreBelow commands = EachSketch (λ slot s.
+    IsTrue (took_no_sketch commands slot) → retained (bag_of s.levels) < nominal_sum s.k (layouts_of s.levels))
+
+-- and its tail number is its k
+abbrev pub AreOwnTails : {A : Type 0} → List (ReqCommand A) → Slots (Req A) → Type 0
+AreOwnTails commands = EachSketch (λ slot s. IsTrue (took_no_sketch commands slot) → tails_of commands slot ≡ s.k)
+
+-- on its protected tail of 3t items, t being its tail number, each sketch's weighted rank is the true rank in its stream
+abbrev pub AreExact : {A : Type 0} → (A → A → Ordering) → List (ReqCommand A) → Slots (Req A) → Type 0
+AreExact {A} cmp commands = EachSketch (λ slot s. (y : A) (criteria : SearchCriteria) →
+    off_tail cmp s.accuracy y criteria (stream_of req_rules commands slot) ≤ 3 * tails_of commands slot →
+    weighted_rank cmp (counted cmp y criteria) (bag_of s.levels) ≡ true_rank cmp y criteria (stream_of req_rules commands slot))
+
+-- what is written of a sketch is an image of it, and each sketch that is read of that is the same but for coins, which are false
+pub record ReadsBack {A : Type 0} (cmp : A → A → Ordering) (spelling : A → Option (List ℕ)) (s : Req A) : Type 0 where
+  pub written : BeginsImage cmp spelling (image_text spelling s) (without_coins s) []
+  pub read : (t : Req A) (rest : List ℕ) → BeginsImage cmp spelling (image_text spelling s) t rest → IsSameSketch cmp (without_coins s) t × (rest ≡ [])
+
+-- so it is of each sketch that has an image
+abbrev pub AreReadBack : {A : Type 0} → (A → A → Ordering) → (A → Option (List ℕ)) → Slots (Req A) → Type 0
+AreReadBack cmp spelling = EachSketch (λ slot s. HasImage spelling s → ReadsBack cmp spelling s)
+
+-- where the commands that are accepted are New, Update and Reset alone, the ranks are unbiased
+abbrev pub AreUnbiasedByUpdates : {A : Type 0} → (A → A → Ordering) → List (ReqCommand A) → ℕ → Type 0
+AreUnbiasedByUpdates cmp commands length = IsTrue (are_by_updates no_shapes commands) → AreUnbiased req_rules cmp commands length

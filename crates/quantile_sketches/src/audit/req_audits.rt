@@ -1,0 +1,53 @@
+//! An audit of commands on REQ sketches.
+ghost use Rattle.std.specs.Prelude.{◌≡◌, ◌≤◌, ◌<◌, ◌*◌, ◌^◌, ◌⊎◌, IfOk, IfErr, IsTrue, length, sum};
+ghost use Rattle.std.specs.declared.cmp.Ordering.TheVariants.{Equal};
+ghost use Rattle.sketch_base.specs.declared.error.ErrorKind.TheVariants.{InvalidArgument, OutOfMemory};
+ghost use Rattle.sketch_base.specs.Query.{true_rank as rank_in};
+ghost use Rattle.sketch_base.specs.Spelling.{SpellingsTie};
+ghost use Rattle.sketch_base.specs.Trace.{coins as taken};
+ghost use Rattle.quantile_sketches.specs.Audit.{AreRunWeights};
+ghost use Rattle.quantile_sketches.specs.Plan.{trace_of};
+ghost use Rattle.quantile_sketches.specs.ReqKind.{req_kind};
+ghost use Rattle.quantile_sketches.specs.ReqPlan.{no_shapes};
+ghost use Rattle.quantile_sketches.specs.ReqRules.{req_rules};
+ghost use Rattle.quantile_sketches.specs.ReqRun.{are_by_updates};
+ghost use Rattle.quantile_sketches.specs.Run.{stream_of};
+
+use super::audits::audit_family;
+use super::commands::{Audit, Command};
+use sketch_base::common::SearchCriteria;
+use sketch_base::error::Error;
+use sketch_req::RankAccuracy;
+use sketch_req::sketch::ReqSketch;
+use sketch_req::value::ReqValue;
+use std::alloc::Global;
+
+/// Runs commands on REQ sketches under every word of the coins that they take, and asks a slot for
+/// the rank of an item under each. An absent slot counts 0.
+///
+/// Values with one spelling have to compare equal, and so have an item and its clone.
+/// `InvalidArgument` exactly where more than 16 coins are taken; any other error is `OutOfMemory`.
+pub fn audit_req<T: ReqValue + Clone + Ord>(
+    alloc: Global,
+    commands: &[Command<T, (u16, RankAccuracy)>],
+    slot: u8,
+    item: &T,
+    criteria: SearchCriteria,
+) -> Result<Audit, Error>
+    requires codec { SpellingsTie T.cmp T.spelling }
+    requires clones { (x y : T) → T.is_clone x y → T.cmp x y ≡ Equal }
+    ensures enough { IfOk result (λ audit. taken (trace_of req_rules commands.now) ≤ 16) }
+    ensures errors { IfErr result (λ e. (e ≡ OutOfMemory)
+        ⊎ ((e ≡ InvalidArgument) × (16 < taken (trace_of req_rules commands.now)))) }
+    ensures coins { IfOk result (λ audit. audit.coins ≡ taken (trace_of req_rules commands.now)) }
+    ensures words { IfOk result (λ audit.
+        length audit.weights.items ≡ 2 ^ taken (trace_of req_rules commands.now)) }
+    ensures weights { IfOk result (λ audit. AreRunWeights (req_kind T.cmp T.spelling)
+        item.now criteria commands.now slot audit.weights.items) }
+    ensures true_rank { IfOk result (λ audit.
+        audit.true_rank ≡ rank_in T.cmp item.now criteria (stream_of req_rules commands.now slot)) }
+    ensures sum { IsTrue (are_by_updates no_shapes commands.now) → IfOk result (λ audit.
+        sum audit.weights.items ≡ length audit.weights.items * audit.true_rank) }
+{
+    audit_family::<ReqSketch<T>>(alloc, commands, slot, item, criteria)
+}

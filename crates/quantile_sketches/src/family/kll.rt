@@ -1,0 +1,96 @@
+//! KLL sketches as a family.
+ghost use Rattle.std.specs.Prelude.{◌≡◌};
+ghost use Rattle.std.specs.declared.cmp.Ordering.TheVariants.{Equal};
+ghost use Rattle.sketch_base.specs.Spelling.{SpellingsTie};
+ghost use Rattle.sketch_kll.specs.Image.{IsImage};
+ghost use Rattle.quantile_sketches.specs.Kll.{kll};
+ghost use Rattle.quantile_sketches.specs.KllRules.{KllShape, kll_kind};
+
+use super::{Family, QueriedFamily};
+use sketch_base::common::random::RandomBits;
+use sketch_base::common::{Rank, SearchCriteria};
+use sketch_base::error::Error;
+use sketch_kll::sketch::KllSketch;
+use sketch_kll::value::KllValue;
+use std::alloc::Global;
+
+impl<T: KllValue + Ord> Family for KllSketch<T> {
+    type Item = T;
+
+    type Config = u16;
+
+    ghost behaviour = { kll T.cmp T.eq T.spelling };
+
+    ghost Shape = { KllShape };
+
+    ghost kind = { kll_kind T.cmp T.spelling };
+
+    ghost Asks = { SpellingsTie T.cmp T.spelling × ((x y : T) → T.is_clone x y → T.cmp x y ≡ Equal) };
+
+    ghost IsImage = { IsImage T.cmp T.spelling };
+
+    ghost clones_tie = { λ asks. asks.1 };
+
+    fn create(alloc: Global, k: u16) -> Result<Self, Error> {
+        let sketch = KllSketch::new(alloc, k)?;
+        Ok(sketch)
+    }
+
+    fn copy(&self) -> Result<Self, Error> {
+        let copy = self.clone()?;
+        Ok(copy)
+    }
+
+    fn empty(&mut self) {
+        self.reset();
+    }
+
+    fn take<B: RandomBits>(&mut self, item: T, coins: &mut B) -> Result<(), Error> {
+        let _n = self.n();
+        self.update(item, coins)?;
+        Ok(())
+    }
+
+    fn take_weighted<B: RandomBits>(
+        &mut self,
+        item: T,
+        weight: u64,
+        coins: &mut B,
+    ) -> Result<(), Error> {
+        let _n = self.n();
+        self.update_weighted(item, weight, coins)?;
+        Ok(())
+    }
+
+    fn join<B: RandomBits>(&mut self, other: &Self, coins: &mut B) -> Result<(), Error> {
+        let _n = self.n();
+        self.merge(other, coins)
+    }
+
+    fn rank_of(&self, item: &T, criteria: SearchCriteria) -> Option<Rank> {
+        self.rank(item, criteria)
+    }
+
+    fn image(&self) -> Result<Vec<u8>, Error> {
+        self.serialize()
+    }
+
+    fn load(alloc: Global, bytes: &[u8]) -> Result<Self, Error> {
+        let sketch = KllSketch::deserialize(alloc, bytes)?;
+        Ok(sketch)
+    }
+}
+
+impl<T: KllValue + Ord> QueriedFamily for KllSketch<T> {
+    fn quantile_of(&self, fraction: Rank, criteria: SearchCriteria) -> Result<Option<T>, Error> {
+        self.quantile(fraction, criteria)
+    }
+
+    fn cdf_of(&self, points: &[T], criteria: SearchCriteria) -> Result<Option<Vec<Rank>>, Error> {
+        self.cdf(points, criteria)
+    }
+
+    fn pmf_of(&self, points: &[T], criteria: SearchCriteria) -> Result<Option<Vec<Rank>>, Error> {
+        self.pmf(points, criteria)
+    }
+}

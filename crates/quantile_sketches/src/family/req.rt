@@ -1,0 +1,91 @@
+//! REQ sketches as a family.
+ghost use Rattle.std.specs.Prelude.{◌≡◌, []};
+ghost use Rattle.std.specs.declared.cmp.Ordering.TheVariants.{Equal};
+ghost use Rattle.sketch_base.specs.Spelling.{SpellingsTie};
+ghost use Rattle.sketch_req.specs.Image.{BeginsImage};
+ghost use Rattle.sketch_req.specs.ImageLaws.{without_coins};
+ghost use Rattle.quantile_sketches.specs.Req.{req};
+ghost use Rattle.quantile_sketches.specs.ReqKind.{req_kind};
+ghost use Rattle.quantile_sketches.specs.ReqRules.{ReqShape};
+
+use super::Family;
+use sketch_base::common::random::RandomBits;
+use sketch_base::common::{Rank, SearchCriteria};
+use sketch_base::error::{Error, ErrorKind};
+use sketch_req::RankAccuracy;
+use sketch_req::sketch::ReqSketch;
+use sketch_req::value::ReqValue;
+use std::alloc::Global;
+
+impl<T: ReqValue + Clone + Ord> Family for ReqSketch<T> {
+    type Item = T;
+
+    type Config = (u16, RankAccuracy);
+
+    ghost behaviour = { req T.cmp T.spelling };
+
+    ghost Shape = { ReqShape };
+
+    ghost kind = { req_kind T.cmp T.spelling };
+
+    ghost Asks = { SpellingsTie T.cmp T.spelling × ((x y : T) → T.is_clone x y → T.cmp x y ≡ Equal) };
+
+    ghost IsImage = { λ bytes s. BeginsImage T.cmp T.spelling bytes (without_coins s) [] };
+
+    ghost clones_tie = { λ asks. asks.1 };
+
+    fn create(alloc: Global, config: (u16, RankAccuracy)) -> Result<Self, Error> {
+        let sketch = ReqSketch::new(alloc, config.0, config.1)?;
+        sketch.is_sound();
+        Ok(sketch)
+    }
+
+    fn copy(&self) -> Result<Self, Error> {
+        let copy = self.clone()?;
+        copy.is_sound();
+        Ok(copy)
+    }
+
+    fn empty(&mut self) {
+        self.reset();
+        self.is_sound();
+    }
+
+    fn take<B: RandomBits>(&mut self, item: T, coins: &mut B) -> Result<(), Error> {
+        self.is_sound();
+        self.update(item, coins)?;
+        self.is_sound();
+        Ok(())
+    }
+
+    fn take_weighted<B: RandomBits>(
+        &mut self,
+        _item: T,
+        _weight: u64,
+        _coins: &mut B,
+    ) -> Result<(), Error> {
+        Err(Error::new(ErrorKind::InvalidArgument))
+    }
+
+    fn join<B: RandomBits>(&mut self, other: &Self, coins: &mut B) -> Result<(), Error> {
+        self.is_sound();
+        other.is_sound();
+        let done = self.merge(other, coins);
+        self.is_sound();
+        done
+    }
+
+    fn rank_of(&self, item: &T, criteria: SearchCriteria) -> Option<Rank> {
+        self.rank(item, criteria)
+    }
+
+    fn image(&self) -> Result<Vec<u8>, Error> {
+        self.serialize()
+    }
+
+    fn load(alloc: Global, bytes: &[u8]) -> Result<Self, Error> {
+        let sketch = ReqSketch::deserialize(alloc, bytes)?;
+        sketch.is_sound();
+        Ok(sketch)
+    }
+}

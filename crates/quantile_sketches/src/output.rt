@@ -1,0 +1,112 @@
+//! How bytes are written: they wait in a vector, and go out together.
+//! Of what is owed always a beginning is out and the rest waits, also where memory or the output fails.
+ghost use Rattle.std.specs.Prelude.{◌≡◌, ◌≤◌, ◌++◌, length, take, drop, [], IfOk, OnOk, OnErr};
+ghost use Rattle.std.specs.Io.KnownBytes.{Appends, Keeps};
+ghost use Rattle.std.specs.Fmt.{decimal, signed_decimal};
+ghost use Rattle.quantile_sketches.specs.Output.{Writes};
+
+use std::io::{self, ErrorKind, Write};
+
+/// As many bytes wait at most.
+pub const MOST_WAITING: usize = 16384;
+
+/// Adds bytes to those that wait. Where there is no room for them all go out, and nothing grows.
+#[inline]
+pub fn add<W: Write>(output: &mut W, waiting: &mut Vec<u8>, bytes: &[u8]) -> io::Result<()>
+    ensures { Writes result (W.contents output.old) (W.contents output.new)
+        (waiting.old.items ++ bytes.now) waiting.new.items }
+{
+    let is_room = bytes.len() <= waiting.capacity() - waiting.len();
+    if is_room && waiting.extend_from_slice(bytes).is_ok() {
+        return Ok(());
+    }
+    write_through(output, waiting, bytes)
+}
+
+// This is kept out of the loop over the lines.
+#[inline(never)]
+fn write_through<W: Write>(output: &mut W, waiting: &mut Vec<u8>, bytes: &[u8]) -> io::Result<()>
+    ensures { Writes result (W.contents output.old) (W.contents output.new)
+        (waiting.old.items ++ bytes.now) waiting.new.items }
+{
+    write_out(output, waiting)?;
+    write_bytes(output, bytes)
+}
+
+/// Writes out all that waits, and flushes.
+pub fn write_out<W: Write>(output: &mut W, waiting: &mut Vec<u8>) -> io::Result<()>
+    ensures written { Writes result (W.contents output.old) (W.contents output.new)
+        waiting.old.items [] }
+    ensures nothing_waits { OnOk result (waiting.new.items ≡ []) }
+{
+    write_bytes(output, waiting.as_slice())?;
+    waiting.clear();
+    output.flush()
+}
+
+// Writes all of some bytes, or on an error a beginning of them.
+fn write_bytes<W: Write>(output: &mut W, bytes: &[u8]) -> io::Result<()>
+    ensures { Writes result (W.contents output.old) (W.contents output.new) bytes.now [] }
+{
+    let mut written = 0;
+    for _ in 0..u64::MAX {
+        if written == bytes.len() {
+            return Ok(());
+        }
+        written += write_some(output, &bytes[written..])?;
+    }
+    Err(io::Error::from(ErrorKind::Other))
+}
+
+// Writes once, and says how many bytes were taken: none where a signal came between.
+fn write_some<W: Write>(output: &mut W, bytes: &[u8]) -> io::Result<usize>
+    ensures within { IfOk result (λ count. count ≤ length bytes.now) }
+    ensures out { IfOk result (λ count. Appends (W.contents output.old) (W.contents output.new)
+        (take count bytes.now)) }
+    ensures err { OnErr result (Keeps (W.contents output.old) (W.contents output.new)) }
+{
+    match output.write(bytes) {
+        Ok(0) => Err(io::Error::from(ErrorKind::WriteZero)),
+        Ok(count) => Ok(count),
+        Err(error) if error.kind() == ErrorKind::Interrupted => Ok(0),
+        Err(error) => Err(error),
+    }
+}
+
+/// Adds a number in decimal digits.
+pub fn add_number<W: Write>(output: &mut W, waiting: &mut Vec<u8>, number: u64) -> io::Result<()>
+    ensures { Writes result (W.contents output.old) (W.contents output.new)
+        (waiting.old.items ++ decimal number) waiting.new.items }
+{
+    let mut room = [0; 20];
+    let start = put_digits(number, &mut room);
+    add(output, waiting, &room[start..])
+}
+
+/// Adds a number in decimal digits, after a minus where it is negative.
+pub fn add_signed<W: Write>(output: &mut W, waiting: &mut Vec<u8>, number: i64) -> io::Result<()>
+    ensures { Writes result (W.contents output.old) (W.contents output.new)
+        (waiting.old.items ++ signed_decimal number) waiting.new.items }
+{
+    if number < 0 {
+        add(output, waiting, b"-")?;
+        return add_number(output, waiting, number.unsigned_abs());
+    }
+    add_number(output, waiting, number.unsigned_abs())
+}
+
+// Puts the digits of a number at the end of their room; gives the place of the first.
+fn put_digits(number: u64, room: &mut [u8; 20]) -> usize
+    ensures digits { drop result room.new ≡ decimal number }
+    ensures within { result ≤ 20 }
+{
+    let mut rest = number;
+    let mut start = 19;
+    while rest >= 10 {
+        room[start] = b'0' + (rest % 10) as u8;
+        rest /= 10;
+        start -= 1;
+    }
+    room[start] = b'0' + rest as u8;
+    start
+}

@@ -1,0 +1,300 @@
+-- Weighted items in order, of which equal ones are joined: the view that they make.
+use Rattle.std.proofs.Common.{◌≡◌, ℕ, zero, suc, ◌+◌, ◌-◌, ◌*◌, ◌<◌, ◌≤◌, Bool, true, false, cond, List, [], ◌∷◌, ◌++◌, length, map, replicate, reverse, sum_by, refl, sym, ap, ap₂, ◌∙◌, subst, append_assoc, length-append, arith, if◌then◌else◌, IsSorted, IsPermutation, Ordering, Less, Equal, Greater, is_gt, is_lt}
+use Rattle.std.specs.Prelude.{⊤, Option, None, Some, IsSome}
+use Rattle.std.specs.Cmp.{IsTotalOrder}
+use Rattle.std.specs.List.{All, AllByRecursion}
+use Rattle.std.specs.Ordering.{is_eq}
+use Rattle.std.proofs.lemmas.Bool.{false≢true}
+use Rattle.std.specs.List.Sorted.{IsSortedBy}
+use Rattle.std.proofs.lemmas.List.{get_or-map, length-map, reverse-append}
+use Rattle.std.proofs.lemmas.Cmp.{tied_itself}
+use Rattle.std.proofs.lemmas.List.Sums.{sum_by-cons, sum_by-append}
+use Rattle.std.proofs.lemmas.List.Folds.{sum_by-replicate}
+use Rattle.std.proofs.lemmas.List.Sorted.{All-permutation, length_permutation, sum_by-IsPermutation}
+use Rattle.sketch_base.specs.declared.common.SearchCriteria.{SearchCriteria}
+use Rattle.sketch_base.specs.Bag.{SameItems, sort}
+use Rattle.sketch_base.specs.Pairs.{begins_equal, copies, distinct, is_below_next, joined, joined_weights}
+use Rattle.sketch_base.specs.Query.{counted}
+use Rattle.sketch_base.specs.Queries.{AreCumulated, spread_out, spread_over}
+use Rattle.sketch_base.specs.Views.{IsThere, IsView}
+use Rattle.sketch_base.proofs.Counts.{Ordered, Ordered-sort, below, counted-equal, items-from_counts}
+use Rattle.sketch_base.proofs.Entries.{Ordered-spread_over}
+use Rattle.sketch_base.proofs.Orders.{less-from_is_lt}
+use Rattle.sketch_base.proofs.Rises.{Rises, non_decreasing_from_rises}
+use Rattle.sketch_base.proofs.SketchViews.{sum-ones}
+use Rattle.sketch_base.proofs.Sorting.{IsSorted-from_ordered, Ordered-from_sorted}
+use Rattle.sketch_base.proofs.Sums.{sum_by-sort}
+
+pub all-by_recursion : {A : Type 0} (P : A → Type 0) (xs : List A) → All P xs → AllByRecursion P xs
+all-by_recursion P [] h = tt
+all-by_recursion P (x ∷ xs) h = (h 0 x (omega arith), all-by_recursion P xs (λ k d l. h (suc k) d (omega arith)))
+
+-- weighted items in order of the items
+pub sorted-items : {A : Type 0} (cmp : A → A → Ordering) (pairs : List (A × ℕ)) → IsSortedBy (λ (a b : A × ℕ). is_lt (cmp a.0 b.0)) pairs → IsSorted cmp (map (λ (pair : A × ℕ). pair.0) pairs)
+sorted-items cmp [] up k d l u = absurd (omega arith)
+sorted-items {A} cmp (p ∷ ps) up k d l u =
+    let item : A × ℕ → A = λ pair. pair.0 in
+    let n = length-map (p ∷ ps) item in
+    let one = get_or-map item (p ∷ ps) k p d (omega (arith, u, n)) in
+    let two = get_or-map item (p ∷ ps) (k + 1) p d (omega (arith, u, n)) in
+    ap₂ (λ x y. is_lt (cmp x y)) two one ∙ up k p l (omega (arith, u, n))
+
+-- numbers that climb from a start, each above the one before it
+abbrev Climbs : ℕ → List ℕ → Type 0
+Climbs before [] = ⊤
+Climbs before (n ∷ ns) = (before < n) × Climbs n ns
+
+rises-from_climbs : (before : ℕ) (ns : List ℕ) → Climbs before ns → Rises before ns
+rises-from_climbs before [] h = tt
+rises-from_climbs before (n ∷ ns) h = (omega (arith, h.0), rises-from_climbs n ns h.1)
+
+module _ {A : Type 0} where
+  abbrev pub items_in : List (A × ℕ) → List A
+  items_in pairs = map (λ (pair : A × ℕ). pair.0) pairs
+
+  -- each weighs something
+  abbrev pub HaveWeight : List (A × ℕ) → Type 0
+  HaveWeight pairs = AllByRecursion (λ (pair : A × ℕ). 0 < pair.1) pairs
+
+  -- the sum over the items of the weight times what f says
+  abbrev weigh_pairs : (A → ℕ) → List (A × ℕ) → ℕ
+  weigh_pairs f pairs = sum_by (λ (pair : A × ℕ). pair.1 * f pair.0) pairs
+
+  sum-copies : (f : A → ℕ) (pairs : List (A × ℕ)) → sum_by f (copies pairs) ≡ weigh_pairs f pairs
+  sum-copies f [] = refl
+  sum-copies f (p ∷ ps) =
+      sum_by-append f (replicate p.1 p.0) (copies ps) ∙
+      omega (arith, sum_by-replicate f p.1 p.0, sum-copies f ps, sum_by-cons (λ (pair : A × ℕ). pair.1 * f pair.0) p ps)
+
+  weigh-ones : (pairs : List (A × ℕ)) → weigh_pairs (λ x. 1) pairs ≡ sum_by (λ (pair : A × ℕ). pair.1) pairs
+  weigh-ones [] = refl
+  weigh-ones (p ∷ ps) = omega (arith, sum_by-cons (λ (pair : A × ℕ). pair.1 * 1) p ps, sum_by-cons (λ (pair : A × ℕ). pair.1) p ps, weigh-ones ps)
+
+  long-enough : (pairs : List (A × ℕ)) → HaveWeight pairs → length pairs ≤ weigh_pairs (λ x. 1) pairs
+  long-enough [] h = omega arith
+  long-enough (p ∷ ps) h = let one = h.0 in omega (arith, sum_by-cons (λ (pair : A × ℕ). pair.1 * 1) p ps, long-enough ps h.1, one)
+
+  -- what a weight counts that is carried on to the next item
+  abbrev carried : ℕ → (A → ℕ) → List (A × ℕ) → ℕ
+  carried n f [] = 0
+  carried n f (p ∷ ps) = n * f p.0
+
+  carried-none : (n : ℕ) (f : A → ℕ) (pairs : List (A × ℕ)) → n ≡ 0 → carried n f pairs ≡ 0
+  carried-none n f [] e = refl
+  carried-none n f (p ∷ ps) e = ap (λ m. m * f p.0) e ∙ omega arith
+
+module _ {A : Type 0} (cmp : A → A → Ordering) where
+  same-length : (before : ℕ) (pairs : List (A × ℕ)) → length (joined cmp pairs) ≡ length (joined_weights cmp before pairs)
+  same-length before [] = refl
+  same-length before (p ∷ ps) = go (is_below_next cmp p.0 ps) (same-length (before + p.1) ps)
+    where
+      go : (b : Bool) → length (joined cmp ps) ≡ length (joined_weights cmp (before + p.1) ps) →
+          length (if b then p.0 ∷ joined cmp ps else joined cmp ps) ≡ length (if b then (before + p.1) ∷ joined_weights cmp (before + p.1) ps else joined_weights cmp (before + p.1) ps)
+      go true e = ap suc e
+      go false e = e
+
+  few-joined : (pairs : List (A × ℕ)) → length (joined cmp pairs) ≤ length pairs
+  few-joined [] = omega arith
+  few-joined (p ∷ ps) = go (is_below_next cmp p.0 ps) (few-joined ps)
+    where
+      go : (b : Bool) → length (joined cmp ps) ≤ length ps → length (if b then p.0 ∷ joined cmp ps else joined cmp ps) ≤ length (p ∷ ps)
+      go true e = omega (arith, e)
+      go false e = omega (arith, e)
+
+  climbs-joined : (low before : ℕ) (pairs : List (A × ℕ)) → low ≤ before → HaveWeight pairs → Climbs low (joined_weights cmp before pairs)
+  climbs-joined low before [] le h = tt
+  climbs-joined low before (p ∷ ps) le h =
+      let some = h.0 in
+      let on : Climbs (before + p.1) (joined_weights cmp (before + p.1) ps) = climbs-joined (before + p.1) (before + p.1) ps (omega arith) h.1 in
+      let past : Climbs low (joined_weights cmp (before + p.1) ps) = climbs-joined low (before + p.1) ps (omega (arith, le)) h.1 in
+      go (is_below_next cmp p.0 ps) (omega (arith, le, some)) on past
+    where
+      go : (b : Bool) → low < before + p.1 → Climbs (before + p.1) (joined_weights cmp (before + p.1) ps) → Climbs low (joined_weights cmp (before + p.1) ps) →
+          Climbs low (if b then (before + p.1) ∷ joined_weights cmp (before + p.1) ps else joined_weights cmp (before + p.1) ps)
+      go true l on past = (l, on)
+      go false l on past = past
+
+  all-joined : (P : A → Type 0) (pairs : List (A × ℕ)) → AllByRecursion P (items_in pairs) → AllByRecursion P (joined cmp pairs)
+  all-joined P [] h = tt
+  all-joined P (p ∷ ps) h = go (is_below_next cmp p.0 ps) (all-joined P ps h.1)
+    where
+      go : (b : Bool) → AllByRecursion P (joined cmp ps) → AllByRecursion P (if b then p.0 ∷ joined cmp ps else joined cmp ps)
+      go true ih = (h.0, ih)
+      go false ih = ih
+
+  -- each item is below all after it
+  abbrev AllBelow : List A → Type 0
+  AllBelow [] = ⊤
+  AllBelow (x ∷ xs) = AllByRecursion (λ y. cmp x y ≡ Less) xs × AllBelow xs
+
+  not-equal : (o : Ordering) → o ≡ Less → is_eq o ≡ false
+  not-equal o e = ap is_eq e
+
+  begins-above : (x : A) (before : ℕ) (xs : List A) (cs : List ℕ) → AllByRecursion (λ y. cmp x y ≡ Less) xs → Climbs before cs → begins_equal cmp x (spread_over before xs cs) ≡ false
+  begins-above x before [] cs h up = refl
+  begins-above x before (y ∷ ys) [] h up = refl
+  begins-above x before (y ∷ ys) (c ∷ cs) h up = go (c - before) (let l = up.0 in omega (arith, l))
+    where
+      go : (n : ℕ) → 0 < n → begins_equal cmp x (replicate n y ++ spread_over c ys cs) ≡ false
+      go zero l = absurd (omega arith)
+      go (suc n) l = not-equal (cmp x y) h.0
+
+module _ {A : Type 0} {cmp : A → A → Ordering} (order : IsTotalOrder cmp) where
+  ordered-joined : (pairs : List (A × ℕ)) → Ordered order (items_in pairs) → Ordered order (joined cmp pairs)
+  ordered-joined [] up = tt
+  ordered-joined (p ∷ ps) up = go (is_below_next cmp p.0 ps) (ordered-joined ps up.1)
+    where
+      go : (b : Bool) → Ordered order (joined cmp ps) → Ordered order (if b then p.0 ∷ joined cmp ps else joined cmp ps)
+      go true ih = (all-joined cmp (λ y. is_gt (cmp p.0 y) ≡ false) ps up.0, ih)
+      go false ih = ih
+
+  tied : (o : Ordering) → is_lt o ≡ false → is_gt o ≡ false → o ≡ Equal
+  tied Less l g = absurd (false≢true (sym l))
+  tied Equal l g = refl
+  tied Greater l g = absurd (false≢true (sym g))
+
+  -- a weight that is carried on counts the same, since the next item compares equal
+  carried-on : (f : A → ℕ) → ((x y : A) → cmp x y ≡ Equal → f x ≡ f y) → (n : ℕ) (x : A) (pairs : List (A × ℕ)) → is_below_next cmp x pairs ≡ false → AllByRecursion (λ y. is_gt (cmp x y) ≡ false) (items_in pairs) → carried n f pairs ≡ n * f x
+  carried-on f respects n x [] e up = absurd (false≢true (sym e))
+  carried-on f respects n x (p ∷ ps) e up = ap (λ m. n * m) (sym (respects x p.0 (tied (cmp x p.0) e up.0)))
+
+  -- what the joined items stand for counts as the weighted items do
+  sum-joined : (f : A → ℕ) → ((x y : A) → cmp x y ≡ Equal → f x ≡ f y) → (low before : ℕ) (pairs : List (A × ℕ)) → low ≤ before → Ordered order (items_in pairs) →
+      sum_by f (spread_over low (joined cmp pairs) (joined_weights cmp before pairs)) ≡ carried (before - low) f pairs + weigh_pairs f pairs
+  sum-joined f respects low before [] le up = refl
+  sum-joined f respects low before (p ∷ ps) le up =
+      go (is_below_next cmp p.0 ps) refl (sum-joined f respects (before + p.1) (before + p.1) ps (omega arith) up.1) (sum-joined f respects low (before + p.1) ps (omega (arith, le)) up.1)
+    where
+      times : (before + p.1 - low) * f p.0 ≡ (before - low) * f p.0 + p.1 * f p.0
+      times = let more : before + p.1 - low ≡ (before - low) + p.1 = omega (arith, le) in ap (λ n. n * f p.0) more ∙ omega arith
+
+      go : (b : Bool) → is_below_next cmp p.0 ps ≡ b →
+          sum_by f (spread_over (before + p.1) (joined cmp ps) (joined_weights cmp (before + p.1) ps)) ≡ carried (before + p.1 - (before + p.1)) f ps + weigh_pairs f ps →
+          sum_by f (spread_over low (joined cmp ps) (joined_weights cmp (before + p.1) ps)) ≡ carried (before + p.1 - low) f ps + weigh_pairs f ps →
+          sum_by f (spread_over low (if b then p.0 ∷ joined cmp ps else joined cmp ps) (if b then (before + p.1) ∷ joined_weights cmp (before + p.1) ps else joined_weights cmp (before + p.1) ps)) ≡ (before - low) * f p.0 + weigh_pairs f (p ∷ ps)
+      go true e on past =
+          sum_by-append f (replicate (before + p.1 - low) p.0) (spread_over (before + p.1) (joined cmp ps) (joined_weights cmp (before + p.1) ps)) ∙
+          omega (arith, sum_by-replicate f (before + p.1 - low) p.0, times, on, carried-none (before + p.1 - (before + p.1)) f ps (omega arith), sum_by-cons (λ (pair : A × ℕ). pair.1 * f pair.0) p ps)
+      go false e on past =
+          omega (arith, past, carried-on f respects (before + p.1 - low) p.0 ps e up.0, times, sum_by-cons (λ (pair : A × ℕ). pair.1 * f pair.0) p ps)
+
+  -- what follows an item that is below the next one is above it
+  below-all : (x : A) (pairs : List (A × ℕ)) → is_below_next cmp x pairs ≡ true → Ordered order (items_in pairs) → AllByRecursion (λ y. cmp x y ≡ Less) (items_in pairs)
+  below-all x [] e up = tt
+  below-all x (p ∷ ps) e up = (less-from_is_lt (cmp x p.0) e, on (items_in ps) up.0)
+    where
+      on : (ys : List A) → AllByRecursion (λ y. is_gt (cmp p.0 y) ≡ false) ys → AllByRecursion (λ y. cmp x y ≡ Less) ys
+      on [] h = tt
+      on (y ∷ ys) h = (below order x p.0 y (less-from_is_lt (cmp x p.0) e) h.0, on ys h.1)
+
+  below-joined : (pairs : List (A × ℕ)) → Ordered order (items_in pairs) → AllBelow cmp (joined cmp pairs)
+  below-joined [] up = tt
+  below-joined (p ∷ ps) up = go (is_below_next cmp p.0 ps) refl (below-joined ps up.1)
+    where
+      go : (b : Bool) → is_below_next cmp p.0 ps ≡ b → AllBelow cmp (joined cmp ps) → AllBelow cmp (if b then p.0 ∷ joined cmp ps else joined cmp ps)
+      go true e ih = (all-joined cmp (λ y. cmp p.0 y ≡ Less) ps (below-all p.0 ps e up.1), ih)
+      go false e ih = ih
+
+  distinct-copies : (n : ℕ) (x : A) (rest : List A) → 0 < n → begins_equal cmp x rest ≡ false → distinct cmp (replicate n x ++ rest) ≡ 1 + distinct cmp rest
+  distinct-copies zero x rest l e = absurd (omega arith)
+  distinct-copies (suc zero) x rest l e = ap (λ (b : Bool). (if b then 0 else 1) + distinct cmp rest) e
+  distinct-copies (suc (suc n)) x rest l e =
+      let ih : distinct cmp (x ∷ (replicate n x ++ rest)) ≡ 1 + distinct cmp rest = distinct-copies (suc n) x rest (omega arith) e in
+      ap (λ (o : Ordering). (if is_eq o then 0 else 1) + distinct cmp (x ∷ (replicate n x ++ rest))) (tied_itself order x) ∙ (ap (λ m. 0 + m) ih ∙ omega arith)
+
+  distinct-spread : (before : ℕ) (xs : List A) (cs : List ℕ) → length xs ≡ length cs → Climbs before cs → AllBelow cmp xs → distinct cmp (spread_over before xs cs) ≡ length xs
+  distinct-spread before [] cs e up h = refl
+  distinct-spread before (x ∷ xs) [] e up h = absurd (omega (arith, e))
+  distinct-spread before (x ∷ xs) (c ∷ cs) e up h =
+      let l = up.0 in
+      distinct-copies (c - before) x (spread_over c xs cs) (omega (arith, l)) (begins-above cmp x c xs cs h.0 up.1) ∙ (ap (λ m. 1 + m) (distinct-spread c xs cs (omega (arith, e)) up.1 h.1) ∙ omega arith)
+
+  -- weighted items, and the same in order
+  pub record AreInOrder (weighted pairs : List (A × ℕ)) : Type 0 where
+    pub same : IsPermutation weighted pairs
+    pub up : IsSorted cmp (items_in pairs)
+    pub weigh : HaveWeight pairs
+
+  pub in-order : (weighted pairs : List (A × ℕ)) → IsPermutation weighted pairs → IsSorted cmp (items_in pairs) → All (λ (pair : A × ℕ). 0 < pair.1) weighted → AreInOrder weighted pairs
+  in-order weighted pairs same up weigh = record { same = same; up = up; weigh = all-by_recursion (λ (pair : A × ℕ). 0 < pair.1) pairs (All-permutation (λ (pair : A × ℕ). 0 < pair.1) weighted pairs same weigh) }
+
+  module _ (weighted pairs : List (A × ℕ)) (are : AreInOrder weighted pairs) where
+    up : Ordered order (items_in pairs)
+    up = Ordered-from_sorted cmp order (items_in pairs) are.up
+
+    sum-spread : (f : A → ℕ) → ((x y : A) → cmp x y ≡ Equal → f x ≡ f y) → sum_by f (spread_out (joined cmp pairs) (joined_weights cmp 0 pairs)) ≡ weigh_pairs f pairs
+    sum-spread f respects = omega (arith, sum-joined f respects 0 0 pairs (omega arith) up, carried-none (0 - 0) f pairs (omega arith))
+
+    long : length (spread_out (joined cmp pairs) (joined_weights cmp 0 pairs)) ≡ weigh_pairs (λ x. 1) pairs
+    long = sym (sum-ones (spread_out (joined cmp pairs) (joined_weights cmp 0 pairs))) ∙ sum-spread (λ x. 1) (λ x y e. refl)
+
+    pub joined-entries : SameItems cmp (sort cmp (copies weighted)) (spread_out (joined cmp pairs) (joined_weights cmp 0 pairs))
+    joined-entries =
+        items-from_counts order (sort cmp (copies weighted)) (spread_out (joined cmp pairs) (joined_weights cmp 0 pairs)) (Ordered-sort order (copies weighted))
+        (Ordered-spread_over order 0 (joined cmp pairs) (joined_weights cmp 0 pairs) (ordered-joined pairs up))
+        (λ z c.
+        let one : A → ℕ = λ x. cond (counted cmp z c x) 1 0 in
+        sum_by-sort one cmp (copies weighted) ∙ (sum-copies one weighted ∙ (sym (sum_by-IsPermutation (λ (pair : A × ℕ). pair.1 * one pair.0) weighted pairs are.same) ∙
+        sym (sum-spread one (λ x y e. ap (λ (b : Bool). cond b 1 0) (counted-equal order x y e z c))))))
+
+    pub joined-distinct : length (joined cmp pairs) ≡ distinct cmp (spread_out (joined cmp pairs) (joined_weights cmp 0 pairs))
+    joined-distinct = sym (distinct-spread 0 (joined cmp pairs) (joined_weights cmp 0 pairs) (same-length cmp 0 pairs) (climbs-joined cmp 0 0 pairs (omega arith) are.weigh) (below-joined pairs up))
+
+    there : (extreme : Option A) → IsSome extreme → (n : ℕ) → 0 < n → IsThere extreme n
+    there None h n l = absurd (false≢true h)
+    there (Some x) h n l = l
+
+    pub joined-view : (least greatest : Option A) → 0 < length weighted → IsSome least → IsSome greatest → IsView cmp (joined cmp pairs) (joined_weights cmp 0 pairs) least greatest
+    joined-view least greatest some l g =
+        let enough = long-enough pairs are.weigh in
+        let few = few-joined cmp pairs in
+        let as_long = length-permuted in
+        let whole : 0 < length (spread_out (joined cmp pairs) (joined_weights cmp 0 pairs)) = omega (arith, long, enough, as_long, some) in
+        record {
+          cumulates = record { one_each = same-length cmp 0 pairs; none_falls = non_decreasing_from_rises 0 (joined_weights cmp 0 pairs) (rises-from_climbs 0 (joined_weights cmp 0 pairs) (climbs-joined cmp 0 0 pairs (omega arith) are.weigh)) };
+          sorted = IsSorted-from_ordered cmp order (joined cmp pairs) (ordered-joined pairs up);
+          each_counts = omega (arith, long, enough, few);
+          least_there = there least l (length (spread_out (joined cmp pairs) (joined_weights cmp 0 pairs))) whole;
+          greatest_there = there greatest g (length (spread_out (joined cmp pairs) (joined_weights cmp 0 pairs))) whole;
+        }
+      where
+        length-permuted : length pairs ≡ length weighted
+        length-permuted = length_permutation weighted pairs are.same
+
+-- one more item: the last of those that stand in reverse
+pub record IsNext {A : Type 0} (cmp : A → A → Ordering) (xs xs' : List A) (ws ws' : List ℕ) (before after : ℕ) (old new : List (A × ℕ)) : Type 0 where
+  pub items : xs' ++ joined cmp (reverse new) ≡ xs ++ joined cmp (reverse old)
+  pub weights : ws' ++ joined_weights cmp after (reverse new) ≡ ws ++ joined_weights cmp before (reverse old)
+  pub total : after + sum_by (λ (pair : A × ℕ). pair.1) (reverse new) ≡ before + sum_by (λ (pair : A × ℕ). pair.1) (reverse old)
+
+pub is-next : {A : Type 0} (cmp : A → A → Ordering) (xs xs' : List A) (ws ws' : List ℕ) (before after : ℕ) (old new : List (A × ℕ)) (x : A) (w : ℕ) (b : Bool) →
+    old ≡ new ++ (x, w) ∷ [] → after ≡ before + w → b ≡ is_below_next cmp x (reverse new) → xs' ≡ (if b then xs ++ x ∷ [] else xs) → ws' ≡ (if b then ws ++ after ∷ [] else ws) → IsNext cmp xs xs' ws ws' before after old new
+is-next {A} cmp xs xs' ws ws' before after old new x w b is_old is_after is_b is_xs is_ws =
+    subst (λ (l : List (A × ℕ)). IsNext cmp xs xs' ws ws' before after l new) (sym is_old)
+    (subst (λ n. IsNext cmp xs xs' ws ws' before n (new ++ (x, w) ∷ []) new) (sym is_after) (go b is_b is_xs (is_ws ∙ ap (λ n. if b then ws ++ n ∷ [] else ws) is_after)))
+  where
+    turned : reverse (new ++ (x, w) ∷ []) ≡ (x, w) ∷ reverse new
+    turned = reverse-append new ((x, w) ∷ [])
+
+    summed : before + w + sum_by (λ (pair : A × ℕ). pair.1) (reverse new) ≡ before + sum_by (λ (pair : A × ℕ). pair.1) (reverse (new ++ (x, w) ∷ []))
+    summed = omega (arith, ap (sum_by (λ (pair : A × ℕ). pair.1)) turned, sum_by-cons (λ (pair : A × ℕ). pair.1) (x, w) (reverse new))
+
+    go : (b : Bool) → b ≡ is_below_next cmp x (reverse new) → xs' ≡ (if b then xs ++ x ∷ [] else xs) → ws' ≡ (if b then ws ++ (before + w) ∷ [] else ws) → IsNext cmp xs xs' ws ws' before (before + w) (new ++ (x, w) ∷ []) new
+    go true e ex ew = record {
+      items = ap (λ (l : List A). l ++ joined cmp (reverse new)) ex ∙ (append_assoc xs (x ∷ []) (joined cmp (reverse new)) ∙
+          (ap (λ (t : Bool). xs ++ (if t then x ∷ joined cmp (reverse new) else joined cmp (reverse new))) e ∙ ap (λ (l : List (A × ℕ)). xs ++ joined cmp l) (sym turned)));
+      weights = ap (λ (l : List ℕ). l ++ joined_weights cmp (before + w) (reverse new)) ew ∙ (append_assoc ws ((before + w) ∷ []) (joined_weights cmp (before + w) (reverse new)) ∙
+          (ap (λ (t : Bool). ws ++ (if t then (before + w) ∷ joined_weights cmp (before + w) (reverse new) else joined_weights cmp (before + w) (reverse new))) e ∙ ap (λ (l : List (A × ℕ)). ws ++ joined_weights cmp before l) (sym turned)));
+      total = summed;
+    }
+    go false e ex ew = record {
+      items = ap (λ (l : List A). l ++ joined cmp (reverse new)) ex ∙
+          (ap (λ (t : Bool). xs ++ (if t then x ∷ joined cmp (reverse new) else joined cmp (reverse new))) e ∙ ap (λ (l : List (A × ℕ)). xs ++ joined cmp l) (sym turned));
+      weights = ap (λ (l : List ℕ). l ++ joined_weights cmp (before + w) (reverse new)) ew ∙
+          (ap (λ (t : Bool). ws ++ (if t then (before + w) ∷ joined_weights cmp (before + w) (reverse new) else joined_weights cmp (before + w) (reverse new))) e ∙ ap (λ (l : List (A × ℕ)). ws ++ joined_weights cmp before l) (sym turned));
+      total = summed;
+    }
+
+pub length-pushed : {A : Type 0} (b : Bool) (x : A) (xs ys : List A) → ys ≡ (if b then xs ++ x ∷ [] else xs) → length ys ≤ length xs + 1
+length-pushed true x xs ys e = omega (arith, ap length e, length-append xs (x ∷ []))
+length-pushed false x xs ys e = omega (arith, ap length e)

@@ -1,0 +1,71 @@
+use Rattle.std.proofs.Common.{◌≡◌, ◌∷◌, [], refl, sym, ap, ap₂, subst, arith, length, List, Bool}
+use Rattle.std.proofs.lemmas.Result.{err_from_is_err_and}
+use Rattle.sketch_req.specs.Level.{Level}
+use Rattle.sketch_req.specs.LevelImage.{Place, place_at, BeginsLevel, BeginsLevels}
+use Rattle.sketch_req.specs.Image.{first_place}
+use Rattle.sketch_req.specs.declared.RankAccuracy.{RankAccuracy}
+use Rattle.sketch_req.proofs.Sounds.{one_of, alone, imaged_at}
+use Rattle.sketch_req.proofs.OneSketch.{same_levels, same_numbers}
+use Rattle.sketch_req.proofs.sketch.ReqSketch.read_one.Goals as goal
+
+pub returns-in_err-level-clause-refused : goal.returns-in_err-level-clause-refused
+returns-in_err-level-clause-refused g c =
+    let p = err_from_is_err_and c.from_residual.result c.from_residual.ensures.1 in
+    let cmp = g.T.Ord.cmp in
+    let f = g.T.ReqValue.spelling in
+    let h = c.args.header.now in
+    let place : Place = first_place h in
+    let e : place_at h.k c.rank_accuracy.result 0 c.is_level_zero_sorted-sorted.result ≡ place = ap₂ (λ (a : RankAccuracy) (z : Bool). place_at h.k a 0 z) c.rank_accuracy.ensures c.is_level_zero_sorted-sorted.ensures in
+    rw (p.1, p.2) (λ k s rest b.
+    let one = one_of s.levels b.one_level in
+    let all : BeginsLevels cmp f place c.args.text.now (one.0 ∷ []) rest = subst (λ (ls : List (Level g.row.T.Denot)). BeginsLevels cmp f place c.args.text.now ls rest) one.1 b.levels in
+    c.in_err-level.ensures.refused k one.0 all.0 (subst (λ (q : Place). BeginsLevel cmp f q c.args.text.now one.0 all.0) (sym e) all.1))
+
+pub returns-then-num_items-lt5-clause-refused : goal.returns-then-num_items-lt5-clause-refused
+returns-then-num_items-lt5-clause-refused g c = λ k s rest b.
+    let cmp = g.T.Ord.cmp in
+    let f = g.T.ReqValue.spelling in
+    let h = c.args.header.now in
+    let place : Place = first_place h in
+    let e : place_at h.k c.rank_accuracy.result 0 c.is_level_zero_sorted-sorted.result ≡ place = ap₂ (λ (a : RankAccuracy) (z : Bool). place_at h.k a 0 z) c.rank_accuracy.ensures c.is_level_zero_sorted-sorted.ensures in
+    let read : BeginsLevel cmp f place c.args.text.now c.in_ok-level.level c.deserialize.new.input = subst (λ (p : Place). BeginsLevel cmp f p c.args.text.now c.in_ok-level.level c.deserialize.new.input) e c.in_ok-level.ensures.found in
+    let xs : List (Level g.row.T.Denot) = c.in_ok-level.level ∷ [] in
+    let same = same_levels cmp f g.met.T.ReqValue.is_prefix_free place c.requires.head.legal_k c.args.text.now xs s.levels c.deserialize.new.input rest (sym b.one_level) (c.deserialize.new.input, read, refl) b.levels in
+    let n = same_numbers f xs s.levels same.0 in
+    let its = ap length (alone xs c.in_ok-level.level refl).items in
+    absurd (omega (arith, n.items, its, b.many_items, c.num_items.ensures, c.if-num_items-lt5.true))
+
+pub from_level-requires : goal.from_level-requires
+from_level-requires g c =
+    let cmp = g.T.Ord.cmp in
+    let f = g.T.ReqValue.spelling in
+    let h = c.args.header.now in
+    let place : Place = first_place h in
+    let e : place_at h.k c.rank_accuracy.result 0 c.is_level_zero_sorted-sorted.result ≡ place = ap₂ (λ (a : RankAccuracy) (z : Bool). place_at h.k a 0 z) c.rank_accuracy.ensures c.is_level_zero_sorted-sorted.ensures in
+    let read : BeginsLevel cmp f place c.args.text.now c.in_ok-level.level c.deserialize.new.input = subst (λ (p : Place). BeginsLevel cmp f p c.args.text.now c.in_ok-level.level c.deserialize.new.input) e c.in_ok-level.ensures.found in
+    record {
+      legal = c.requires.head.legal_k;
+      clones = c.requires.clones;
+      placed = imaged_at cmp place c.in_ok-level.level c.requires.head.legal_k (omega arith) (λ above. absurd (omega (arith, above))) read.imaged;
+      some = omega (arith, c.num_items.ensures, c.if-num_items-lt5.false);
+      fresh = λ few. absurd (omega (arith, few, c.num_items.ensures, c.if-num_items-lt5.false));
+    }
+
+pub returns-clause-found : goal.returns-clause-found
+returns-clause-found g c =
+    let cmp = g.T.Ord.cmp in
+    let f = g.T.ReqValue.spelling in
+    let h = c.args.header.now in
+    let place : Place = first_place h in
+    let e : place_at h.k c.rank_accuracy.result 0 c.is_level_zero_sorted-sorted.result ≡ place = ap₂ (λ (a : RankAccuracy) (z : Bool). place_at h.k a 0 z) c.rank_accuracy.ensures c.is_level_zero_sorted-sorted.ensures in
+    let read : BeginsLevel cmp f place c.args.text.now c.in_ok-level.level c.deserialize.new.input = subst (λ (p : Place). BeginsLevel cmp f p c.args.text.now c.in_ok-level.level c.deserialize.new.input) e c.in_ok-level.ensures.found in
+    let levels = c.in_ok-sketch.ensures.levels in
+    let rest = c.deserialize.new.input in
+    let its = ap length (alone _ c.in_ok-level.level levels).items in
+    record {
+      none_raw = omega (arith, c.if-header-ne0.false);
+      one_level = ap length levels;
+      levels = subst (λ (ls : List (Level g.row.T.Denot)). BeginsLevels cmp f place c.args.text.now ls rest) (sym levels) (rest, read, refl);
+      many_items = omega (arith, its, c.num_items.ensures, c.if-num_items-lt5.false);
+      told = c.in_ok-sketch.ensures.told;
+    }

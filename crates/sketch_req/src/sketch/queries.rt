@@ -1,0 +1,152 @@
+//! Queries of a sketch that go by a view.
+ghost use Rattle.std.specs.Prelude.{◌≡◌, ◌++◌, ℕ, List, IfOk, IfErr, IfSome, OnOk, map, sum_by};
+ghost use Rattle.std.specs.declared.cmp.Ordering.TheVariants.{Equal};
+ghost use Rattle.std.specs.List.{All};
+ghost use Rattle.std.specs.List.Sorted.{IsNonDecreasing};
+ghost use Rattle.sketch_base.specs.declared.error.ErrorKind.TheVariants.{OutOfMemory};
+ghost use Rattle.sketch_base.specs.Answered.{FindsQuantiles, FindsRanks, IsFoundAmong, IsRefusedUnless};
+ghost use Rattle.sketch_base.specs.Bag.{expanded};
+ghost use Rattle.sketch_base.specs.Pairs.{distinct};
+ghost use Rattle.sketch_base.specs.Queries.{IsFraction, IsIncreasing, SameAnswer, cdf_of, pmf_of};
+ghost use Rattle.sketch_base.specs.Views.{IsViewOf, quantile_of};
+ghost use Rattle.sketch_req.specs.Actions.{bag_of};
+ghost use Rattle.sketch_req.specs.Pairs.{pairs_of, weighed};
+ghost use Rattle.sketch_req.specs.Views.{SamePairs, view_of};
+
+use super::ReqSketch;
+use crate::compactor::Compactor;
+use crate::sorted_view::SortedView;
+use sketch_base::common::extremes::clone_found;
+use sketch_base::common::queries::{check_fraction, check_fractions, check_points};
+use sketch_base::common::{Rank, SearchCriteria};
+use sketch_base::error::Error;
+use std::alloc::{AllocError, Global};
+
+impl<T: Clone + Ord> ReqSketch<T> {
+    /// A snapshot of the items in order, for many queries. Equal items are joined in it.
+    ///
+    /// Item clones have to compare equal to the item. An error is `OutOfMemory`.
+    pub fn sorted_view(&self) -> Result<SortedView<T>, Error>
+        requires clones { (x y : T) → T.is_clone x y → T.cmp x y ≡ Equal }
+        ensures view { let s = self.now in
+            IfOk result (IsViewOf T.cmp (bag_of s.levels) s.n s.least s.greatest) }
+        ensures joined { IfOk result (λ v. v.held ≡ distinct T.cmp v.entries) }
+        ensures memory { IfErr result (λ e. e ≡ OutOfMemory) }
+    {
+        let least = clone_found(self.min_item.as_ref())?;
+        let greatest = clone_found(self.max_item.as_ref())?;
+        let alloc = *self.levels.allocator();
+        let weighted = clone_pairs(alloc, self.num_retained, self.levels.as_slice())?;
+        SortedView::new(weighted, least, greatest)
+    }
+
+    /// The item that a fraction names; None for an empty sketch.
+    ///
+    /// Item clones have to compare equal to the item. `InvalidArgument` exactly where the fraction is of nothing or
+    /// above the whole, whether or not the sketch is empty; any other error is `OutOfMemory`.
+    pub fn quantile(&self, fraction: Rank, criteria: SearchCriteria) -> Result<Option<T>, Error>
+        requires clones { (x y : T) → T.is_clone x y → T.cmp x y ≡ Equal }
+        ensures found { IfOk result
+            (SameAnswer T.cmp (quantile_of (view_of T.cmp self.now) fraction criteria)) }
+        ensures there { IfOk result (IsFoundAmong self.now.n) }
+        ensures refused { IsRefusedUnless (IsFraction fraction) self.now.n result }
+    {
+        check_fraction(fraction)?;
+        if self.n == 0 {
+            return Ok(None);
+        }
+        self.sorted_view()?.quantile(fraction, criteria)
+    }
+
+    /// The items that fractions name, one for each; None for an empty sketch. Errors as for one quantile.
+    pub fn quantiles(
+        &self,
+        fractions: &[Rank],
+        criteria: SearchCriteria,
+    ) -> Result<Option<Vec<T>>, Error>
+        requires clones { (x y : T) → T.is_clone x y → T.cmp x y ≡ Equal }
+        ensures found { IfOk result
+            (FindsQuantiles T.cmp (view_of T.cmp self.now) criteria fractions.now) }
+        ensures there { IfOk result (IsFoundAmong self.now.n) }
+        ensures refused { IsRefusedUnless (All IsFraction fractions.now) self.now.n result }
+    {
+        check_fractions(fractions)?;
+        if self.n == 0 {
+            return Ok(None);
+        }
+        self.sorted_view()?.quantiles(fractions, criteria)
+    }
+
+    /// The rank of each split point, and last the whole; None for an empty sketch.
+    ///
+    /// Item clones have to compare equal to the item. `InvalidArgument` exactly where the split points do not strictly
+    /// increase, whether or not the sketch is empty; any other error is `OutOfMemory`.
+    pub fn cdf(&self, points: &[T], criteria: SearchCriteria) -> Result<Option<Vec<Rank>>, Error>
+        requires clones { (x y : T) → T.is_clone x y → T.cmp x y ≡ Equal }
+        ensures found { let s = self.now in IfOk result
+            (FindsRanks s.n (cdf_of T.cmp criteria (expanded T.cmp (bag_of s.levels)) points.now)) }
+        ensures rises { IfOk result (λ found. IfSome found (λ ranks. IsNonDecreasing (map (λ (r : Rank).
+            r.weight) ranks.items))) }
+        ensures there { IfOk result (IsFoundAmong self.now.n) }
+        ensures refused { IsRefusedUnless (IsIncreasing T.cmp points.now) self.now.n result }
+    {
+        check_points(points)?;
+        if self.n == 0 {
+            return Ok(None);
+        }
+        self.sorted_view()?.cdf(points, criteria)
+    }
+
+    /// How much lies between the split points; None for an empty sketch. Errors as for `cdf`.
+    pub fn pmf(&self, points: &[T], criteria: SearchCriteria) -> Result<Option<Vec<Rank>>, Error>
+        requires clones { (x y : T) → T.is_clone x y → T.cmp x y ≡ Equal }
+        ensures found { let s = self.now in IfOk result
+            (FindsRanks s.n (pmf_of T.cmp criteria (expanded T.cmp (bag_of s.levels)) points.now)) }
+        ensures sums { IfOk result (λ found. IfSome found (λ ranks. sum_by (λ (r : Rank).
+            r.weight) ranks.items ≡ self.now.n)) }
+        ensures there { IfOk result (IsFoundAmong self.now.n) }
+        ensures refused { IsRefusedUnless (IsIncreasing T.cmp points.now) self.now.n result }
+    {
+        check_points(points)?;
+        if self.n == 0 {
+            return Ok(None);
+        }
+        self.sorted_view()?.pmf(points, criteria)
+    }
+}
+
+// Puts clones of a level's items last, each with the level's weight.
+fn clone_level<T: Clone + Ord>(
+    items: &[T],
+    weight: u64,
+    pairs: &mut Vec<(T, u64)>,
+) -> Result<(), AllocError>
+    requires clones { (x y : T) → T.is_clone x y → T.cmp x y ≡ Equal }
+    ensures { OnOk result ((before : List (T × ℕ)) → SamePairs T.cmp before pairs.old.items
+        → SamePairs T.cmp (before ++ weighed weight items.now) pairs.new.items) }
+{
+    for item in items {
+        let copy = item.clone()?;
+        pairs.push((copy, weight))?;
+    }
+    Ok(())
+}
+
+// Clones of the items of the levels, each with its level's weight, in a list with room for so many.
+fn clone_pairs<T: Clone + Ord>(
+    alloc: Global,
+    room: usize,
+    levels: &[Compactor<T>],
+) -> Result<Vec<(T, u64)>, AllocError>
+    requires clones { (x y : T) → T.is_clone x y → T.cmp x y ≡ Equal }
+    ensures { IfOk result (λ pairs. SamePairs T.cmp (pairs_of levels.now) pairs.items) }
+{
+    let mut pairs = Vec::with_capacity(alloc, room)?;
+    for level in levels {
+        clone_level(level.items_slice(), level.weight(), &mut pairs)?;
+    }
+    Ok(pairs)
+}
+
+#[cfg(test)]
+mod tests;
