@@ -1,0 +1,14 @@
+use Rattle.sketch_req.proofs.Texts.{text_clones}
+use Rattle.sketch_req.proofs.sketch.tests.merge_again.Goals as goal
+
+pub clone-requires : goal.clone-requires
+clone-requires c = record { clones = text_clones }
+
+pub clone-requires-in-Err : goal.clone-requires-in-Err
+clone-requires-in-Err c = record { clones = text_clones }
+
+pub merge-requires : goal.merge-requires
+merge-requires c = record { clones = text_clones }
+
+pub merge-requires-in-Err-merge : goal.merge-requires-in-Err-merge
+merge-requires-in-Err-merge c = record { clones = text_clones }
