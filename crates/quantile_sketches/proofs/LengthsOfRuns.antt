@@ -13,6 +13,6 @@ pub hangs-on-none : {A C Shape : Type 0} {rules : Rules A C Shape} {Meets : Even
 hangs-on-none {Shape = Shape} laws are cmp commands commands' same = (
   same-coins are commands commands' same,
   λ word word' slot.
-  ap (λ (w : World (List ℕ)). w.slots slot)
-  (run-lengths laws cmp commands word ∙ (ap (λ (p : Plan Shape). p.lengths) (same-plan are commands commands' same) ∙ sym (run-lengths laws cmp commands' word'))),
+      ap (λ (w : World (List ℕ)). w.slots slot)
+      (run-lengths laws cmp commands word ∙ (ap (λ (p : Plan Shape). p.lengths) (same-plan are commands commands' same) ∙ sym (run-lengths laws cmp commands' word'))),
 )
