@@ -8,7 +8,7 @@ ghost use Rattle.quantile_sketches.specs.Req.{req};
 ghost use Rattle.quantile_sketches.specs.ReqKind.{req_kind};
 ghost use Rattle.quantile_sketches.specs.ReqRules.{ReqShape};
 
-use super::Family;
+use super::{Family, QueriedFamily};
 use sketch_base::common::random::RandomBits;
 use sketch_base::common::{Rank, SearchCriteria};
 use sketch_base::error::{Error, ErrorKind};
@@ -87,5 +87,19 @@ impl<T: ReqValue + Clone + Ord> Family for ReqSketch<T> {
         let sketch = ReqSketch::deserialize(alloc, bytes)?;
         sketch.is_sound();
         Ok(sketch)
+    }
+}
+
+impl<T: ReqValue + Clone + Ord> QueriedFamily for ReqSketch<T> {
+    fn quantile_of(&self, fraction: Rank, criteria: SearchCriteria) -> Result<Option<T>, Error> {
+        self.quantile(fraction, criteria)
+    }
+
+    fn cdf_of(&self, points: &[T], criteria: SearchCriteria) -> Result<Option<Vec<Rank>>, Error> {
+        self.cdf(points, criteria)
+    }
+
+    fn pmf_of(&self, points: &[T], criteria: SearchCriteria) -> Result<Option<Vec<Rank>>, Error> {
+        self.pmf(points, criteria)
     }
 }
