@@ -22,6 +22,11 @@ use std::alloc::Global;
 /// Runs commands on REQ sketches under a word of coins. A command on an absent slot is refused, so is
 /// one that a sketch refuses, and so is each update with a weight; a refused command changes nothing.
 ///
+/// > Whatever commands are run on several sketches, each non-empty sketch has weight `n` and its stream's least and greatest
+/// > item; a KLL sketch keeps at most `3k+519` items, and its rank of any item, summed over all coin words, is exactly the
+/// > number of words times the true rank; a REQ sketch gives the true rank under every word on its protected tail of `3k`
+/// > items; images read back.
+///
 /// Values with one spelling have to compare equal, and so have an item and its clone.
 /// `InvalidArgument` exactly where a command needs more coins than the word has left; any other
 /// error is `OutOfMemory`.
