@@ -3,10 +3,7 @@ use super::*;
 use sketch_base::common::random::WordBits;
 use std::test::Fail;
 
-/// No items in state 65535, with 3 sections of 12.
-const LATE: [u8; 20] = [255, 255, 0, 0, 0, 0, 0, 0, 12, 0, 0, 0, 0, 3, 0, 0, 0, 0, 0, 0];
-
-/// The same in the last state.
+/// No items in the last state, with 3 sections of 12.
 const LAST: [u8; 20] = [
     255, 255, 255, 255, 255, 255, 255, 255, 12, 0, 0, 0, 0, 3, 0, 0, 0, 0, 0, 0,
 ];
@@ -20,17 +17,6 @@ fn image_of(alloc: Global, level: &Compactor<i32>) -> Result<Vec<u8>, Error> {
     let mut bytes = SketchBytes::with_capacity(alloc, 0)?;
     level.serialize_into(&mut bytes)?;
     Ok(bytes.into_bytes())
-}
-
-#[test]
-fn a_late_level_doubles_the_sections_where_it_is_merged(rt: HostRuntime) -> Result<(), Fail> {
-    let late = read(rt.alloc(), &LATE)?;
-    assert_eq!(rt; image_of(rt.alloc(), &late)?.as_slice(), LATE.as_slice());
-    let mut level = Compactor::new(rt.alloc(), 0, 12, RankAccuracy::HighRank);
-    level.merge(&late)?;
-    assert_eq!(rt; (level.state(), level.nominal_capacity()), (65535, 192));
-    assert_eq!(rt; (level.num_sections(), level.section_size()), (24, 4));
-    Ok(())
 }
 
 #[test]

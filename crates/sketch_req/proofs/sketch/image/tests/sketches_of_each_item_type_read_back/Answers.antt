@@ -5,11 +5,11 @@ use Rattle.sketch_req.proofs.sketch.image.tests.sketches_of_each_item_type_read_
 pub two_read_back-requires-clause-codec : goal.two_read_back-requires-clause-codec
 two_read_back-requires-clause-codec c = i32_ties
 
-pub two_read_back-2-requires-clause-codec : goal.two_read_back-2-requires-clause-codec
-two_read_back-2-requires-clause-codec c = i64_ties
+pub two_read_back-requires-2-clause-codec : goal.two_read_back-requires-2-clause-codec
+two_read_back-requires-2-clause-codec c = i64_ties
 
-pub two_read_back-3-requires-clause-codec : goal.two_read_back-3-requires-clause-codec
-two_read_back-3-requires-clause-codec c = u32_ties
+pub two_read_back-requires-3-clause-codec : goal.two_read_back-requires-3-clause-codec
+two_read_back-requires-3-clause-codec c = u32_ties
 
-pub two_read_back-4-requires-clause-codec : goal.two_read_back-4-requires-clause-codec
-two_read_back-4-requires-clause-codec c = u64_ties
+pub two_read_back-requires-4-clause-codec : goal.two_read_back-requires-4-clause-codec
+two_read_back-requires-4-clause-codec c = u64_ties
