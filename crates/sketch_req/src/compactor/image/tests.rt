@@ -30,7 +30,10 @@ fn a_level_in_the_last_state_is_compacted_and_read_again(rt: HostRuntime) -> Res
     level.compact_into(&mut out, &mut coins)?;
     assert_eq!(rt; (coins.drawn(), out.len()), (0, 18));
     assert_eq!(rt; (out.first(), out.last()), (Some(&2), Some(&36)));
-    assert_eq!(rt; (level.num_items(), level.items_slice().first()), (36, Some(&37)));
+    assert_eq!(rt;
+        (level.num_items(), level.items_slice().first()),
+        (36, Some(&37))
+    );
     let again = read(rt.alloc(), &image_of(rt.alloc(), &level)?)?;
     assert_eq!(rt; (again.state(), again.num_items()), (u64::MAX, 36));
     assert_eq!(rt; (again.num_sections(), again.section_size()), (6, 8));
