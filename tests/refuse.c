@@ -4,6 +4,9 @@
 //   REFUSE_READ=N     the Nth read, and each later one, fails with EIO
 //   REFUSE_WRITE=N    the Nth write, and each later one, fails with EIO
 //   REFUSE_MANY=N     reads and writes move at most N bytes at a time
+//   REFUSE_SIGNS=1    the program says itself what is to be refused: where it asks for 2^24 + N bytes, N from 1 to 4095, the
+//                     Nth request from then on gets none; where it asks for 2^24 bytes, that is over, and it gets them
+//                     exactly if no request was refused since
 //   REFUSE_REPORT=FD  at the end a line goes to this file descriptor: the requests for memory made, how many of them
 //                     were refused, the bytes read, the bytes written and the greatest resident memory in KiB
 #define _GNU_SOURCE
@@ -15,8 +18,16 @@
 #include <sys/syscall.h>
 #include <unistd.h>
 
-static long memory_at, read_at, write_at, many, report_to = -1;
-static long requests, refused, reads, writes, bytes_read, bytes_written;
+// How often bytes were moved in one direction, how many, and which time fails.
+struct traffic {
+    long fails_at, times, bytes;
+};
+
+enum { SIGN = 1 << 24, SIGNS = 1 << 12 };
+
+static struct traffic in, out;
+static long memory_at, many, signs, report_to = -1;
+static long requests, refused, refused_before;
 static int is_started;
 
 static long number(const char *name, long otherwise) {
@@ -26,15 +37,26 @@ static long number(const char *name, long otherwise) {
 
 __attribute__((constructor)) static void start(void) {
     memory_at = number("REFUSE_MEMORY", 0);
-    read_at = number("REFUSE_READ", 0);
-    write_at = number("REFUSE_WRITE", 0);
+    in.fails_at = number("REFUSE_READ", 0);
+    out.fails_at = number("REFUSE_WRITE", 0);
     many = number("REFUSE_MANY", 0);
+    signs = number("REFUSE_SIGNS", 0);
     report_to = number("REFUSE_REPORT", -1);
     is_started = 1;
 }
 
-// Whether this request for memory is the one to refuse.
-static int is_refused(void) {
+// Whether a request was refused since the last sign, which this one ends; or has a later request refused.
+static int is_sign_refused(size_t size) {
+    int was_refused = size == SIGN && refused > refused_before;
+    memory_at = size == SIGN ? 0 : requests + (long)(size - SIGN);
+    refused_before = refused;
+    return was_refused;
+}
+
+// Whether this request for memory is to be refused.
+static int is_refused(size_t size) {
+    if (signs && size >= SIGN && size < SIGN + SIGNS)
+        return is_sign_refused(size);
     if (!is_started || ++requests != memory_at)
         return 0;
     refused++;
@@ -46,38 +68,32 @@ void *malloc(size_t size) {
     static void *(*given)(size_t);
     if (!given)
         given = (void *(*)(size_t))dlsym(RTLD_NEXT, "malloc");
-    return is_refused() ? NULL : given(size);
+    return is_refused(size) ? NULL : given(size);
 }
 
 void *realloc(void *old, size_t size) {
     static void *(*given)(void *, size_t);
     if (!given)
         given = (void *(*)(void *, size_t))dlsym(RTLD_NEXT, "realloc");
-    return is_refused() ? NULL : given(old, size);
+    return is_refused(size) ? NULL : given(old, size);
 }
 
-static size_t at_most(size_t size) {
-    return many && size > (size_t)many ? (size_t)many : size;
+static ssize_t moved(long call, struct traffic *way, int file, void *bytes, size_t size) {
+    if (way->fails_at && ++way->times >= way->fails_at) {
+        errno = EIO;
+        return -1;
+    }
+    ssize_t count = syscall(call, file, bytes, many && size > (size_t)many ? (size_t)many : size);
+    way->bytes += count > 0 ? count : 0;
+    return count;
 }
 
 ssize_t read(int from, void *to, size_t size) {
-    if (read_at && ++reads >= read_at) {
-        errno = EIO;
-        return -1;
-    }
-    ssize_t moved = syscall(SYS_read, from, to, at_most(size));
-    bytes_read += moved > 0 ? moved : 0;
-    return moved;
+    return moved(SYS_read, &in, from, to, size);
 }
 
 ssize_t write(int to, const void *from, size_t size) {
-    if (write_at && ++writes >= write_at) {
-        errno = EIO;
-        return -1;
-    }
-    ssize_t moved = syscall(SYS_write, to, from, at_most(size));
-    bytes_written += moved > 0 ? moved : 0;
-    return moved;
+    return moved(SYS_write, &out, to, (void *)from, size);
 }
 
 ssize_t __write(int to, const void *from, size_t size) {
@@ -93,7 +109,7 @@ __attribute__((destructor)) static void report(void) {
     ssize_t size = syscall(SYS_read, status, text, sizeof text - 1);
     text[size > 0 ? size : 0] = 0;
     const char *peak = strstr(text, "VmHWM:");
-    int length = snprintf(line, sizeof line, "%ld %ld %ld %ld %ld\n", requests, refused, bytes_read, bytes_written,
+    int length = snprintf(line, sizeof line, "%ld %ld %ld %ld %ld\n", requests, refused, in.bytes, out.bytes,
                           peak ? atol(peak + 6) : -1);
     syscall(SYS_write, (int)report_to, line, (size_t)length);
 }
