@@ -1,4 +1,3 @@
-use Rattle.std.proofs.Common.{true}
 use Rattle.quantile_sketches.proofs.Digits.{tested_more, tested_whole}
 use Rattle.quantile_sketches.proofs.text.is_hex.Goals as goal
 

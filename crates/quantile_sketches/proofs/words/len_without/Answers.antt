@@ -1,4 +1,4 @@
-use Rattle.std.proofs.Common.{◌≡◌, ℕ, ◌+◌, ◌-◌, ◌==◌, ◌≤◌, length, take, drop, sym, ap, ◌∙◌, arith, rules, false, length-take-le, length-drop}
+use Rattle.std.proofs.Common.{◌≡◌, ◌+◌, ◌-◌, ◌==◌, ◌≤◌, length, take, drop, ◌∙◌, arith, rules, false, length-take-le, length-drop}
 use Rattle.std.specs.List.{position_or_len}
 use Rattle.quantile_sketches.proofs.Parts.{place_behind_block}
 use Rattle.quantile_sketches.proofs.words.len_without.Goals as goal
