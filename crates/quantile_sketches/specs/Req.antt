@@ -58,6 +58,12 @@ module _ {A : Type 0} (cmp : A → A → Ordering) (spelling : A → Option (Lis
       × IfErr r (λ e. e ≢ InvalidArgument)
       × IfErr r (λ e. e ≡ InvalidData → NoImage cmp spelling bytes)
 
+  -- another sketch is refused: the accuracies differ, or there would be too much
+  abbrev pub IsUnfit : Req A → Req A → Type 0
+  IsUnfit s o =
+      (s.accuracy ≢ o.accuracy) ⊎ ((2 ^ 64 ≤ s.n + o.n)
+      ⊎ (2 ^ 32 ≤ retained (bag_of s.levels) + retained (bag_of o.levels)))
+
   module _ {Source : Type 0} (bit : Source → Bool) (next : Source → Source) where
     -- an item is taken in, or refused at a full weight, with all the items that a sketch may hold, or for memory
     abbrev pub TakesIn : Req A → A → Source → Result Unit ErrorKind → Req A → Source → Type 0
@@ -72,11 +78,10 @@ module _ {A : Type 0} (cmp : A → A → Ordering) (spelling : A → Option (Lis
     abbrev pub TakesNone : Req A → Source → Result Unit ErrorKind → Req A → Source → Type 0
     TakesNone s coins r t rest = IsErrOf r InvalidArgument × (t ≡ s) × (rest ≡ coins)
 
-    -- another sketch is taken in, or refused where the accuracies differ, where there would be too much, or for memory
+    -- another sketch is taken in, or refused, or not taken in for memory
     abbrev pub JoinsIn : Req A → Req A → Source → Result Unit ErrorKind → Req A → Source → Type 0
     JoinsIn o s coins r t rest =
-        (IsErrOf r InvalidArgument ↔ ((s.accuracy ≢ o.accuracy) ⊎ ((2 ^ 64 ≤ s.n + o.n)
-        ⊎ (2 ^ 32 ≤ retained (bag_of s.levels) + retained (bag_of o.levels)))))
+        (IsErrOf r InvalidArgument ↔ IsUnfit s o)
         × IfErr r (λ e. s.accuracy ≡ o.accuracy → s.n + o.n < 2 ^ 64
         → retained (bag_of s.levels) + retained (bag_of o.levels) < 2 ^ 32 → e ≡ OutOfMemory)
         × (s.accuracy ≡ o.accuracy → o.n ≡ 0 → IsOk r × (t ≡ s) × (rest ≡ coins))
@@ -93,6 +98,7 @@ module _ {A : Type 0} (cmp : A → A → Ordering) (spelling : A → Option (Lis
     taken = λ x Source bit next s. TakesIn bit next s x;
     taken_weighted = λ x weight Source bit next. TakesNone bit next;
     joined = λ other Source bit next. JoinsIn bit next other;
+    refuses = IsUnfit;
     rank = λ s. IsRank cmp s.n (bag_of s.levels);
     quantile = λ s. IsQuantile cmp s.n (bag_of s.levels) s.least s.greatest;
     cdf = λ s points criteria. AreRanks cmp s.n points (cdf_of cmp criteria (expanded cmp (bag_of s.levels)) points);

@@ -45,6 +45,18 @@ impl<T: KllValue + Ord> Family for KllSketch<T> {
         self.reset();
     }
 
+    fn is_full(&self) -> bool {
+        self.n() == u64::MAX
+    }
+
+    fn refuses_weight(&self, weight: u64) -> bool {
+        weight == 0 || weight >= 1 << 61 || weight > u64::MAX - self.n()
+    }
+
+    fn refuses(&self, other: &Self) -> bool {
+        other.n() > u64::MAX - self.n()
+    }
+
     fn take<B: RandomBits>(&mut self, item: T, coins: &mut B) -> Result<(), Error> {
         let _n = self.n();
         self.update(item, coins)?;

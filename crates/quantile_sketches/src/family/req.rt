@@ -48,6 +48,22 @@ impl<T: ReqValue + Clone + Ord> Family for ReqSketch<T> {
         self.reset();
     }
 
+    fn is_full(&self) -> bool {
+        self.n() == u64::MAX || self.num_retained() == u32::MAX
+    }
+
+    fn refuses_weight(&self, _weight: u64) -> bool {
+        true
+    }
+
+    fn refuses(&self, other: &Self) -> bool {
+        self.is_sound();
+        other.is_sound();
+        self.rank_accuracy() != other.rank_accuracy()
+            || other.n() > u64::MAX - self.n()
+            || other.num_retained() > u32::MAX - self.num_retained()
+    }
+
     fn take<B: RandomBits>(&mut self, item: T, coins: &mut B) -> Result<(), Error> {
         let _n = self.n();
         self.update(item, coins)?;
