@@ -57,10 +57,9 @@ impl<T: ReqValue + Clone + Ord> Family for ReqSketch<T> {
     }
 
     fn refuses(&self, other: &Self) -> bool {
-        self.is_sound();
-        other.is_sound();
+        let (n, more) = (self.n(), other.n());
         self.rank_accuracy() != other.rank_accuracy()
-            || other.n() > u64::MAX - self.n()
+            || more > u64::MAX - n
             || other.num_retained() > u32::MAX - self.num_retained()
     }
 
