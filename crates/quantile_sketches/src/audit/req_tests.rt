@@ -1,3 +1,4 @@
+use super::tests::total;
 use super::{Audit, Command, Run, audit_req, run_req};
 use sketch_base::common::SearchCriteria;
 use sketch_base::error::{Error, ErrorKind};
@@ -92,14 +93,6 @@ fn is_exact(run: &Run<ReqSketch<i32>>, slot: u8, first: u8, count: u8) -> bool {
         }
     }
     true
-}
-
-fn total(audit: &Audit) -> u64 {
-    let mut sum = 0u64;
-    for weight in audit.weights.iter() {
-        sum = sum.wrapping_add(*weight);
-    }
-    sum
 }
 
 const WORDS: [[bool; 3]; 8] = [
