@@ -89,7 +89,7 @@ fn answers_alike<S: Tried>(
     let is_cut = sketch.cdf_of(points, CRITERIA)? == view.cdf(points, CRITERIA)?;
     let is_split = sketch.pmf_of(points, CRITERIA)? == view.pmf(points, CRITERIA)?;
     let found = sketch.quantiles_of(fractions)?;
-    let is_found = found == view.quantiles(fractions, CRITERIA)?;
+    let is_found = found == S::quantiles_in(view, fractions)?;
     Ok(is_cut && is_split && is_found && found.is_some_and(|found| found.len() == fractions.len()))
 }
 
@@ -135,7 +135,7 @@ fn holds_many<S: Tried>(alloc: Global, k: u16) -> Result<bool, Error>
     let is_filled = is_whole(alloc, &sketch, 100_000)?;
     let copy = sketch.copy()?;
     sketch.join(&copy, &mut SplitMix64::new(2))?;
-    let view = sketch.view_of()?.clone()?;
+    let view = S::copy_of(&sketch.view_of()?)?;
     let is_answered = answers_alike(
         &sketch,
         &view,

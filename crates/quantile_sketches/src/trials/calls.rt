@@ -135,13 +135,20 @@ fn change<S: Tried>(
 ) -> Result<Answer<S>, Error>
     requires { S.Asks }
 {
-    let Some(item) = subject.items.pop() else {
+    let Subject {
+        sketch,
+        other,
+        items,
+        weight,
+        ..
+    } = subject;
+    let Some(item) = items.pop() else {
         return Err(Error::new(ErrorKind::InvalidArgument));
     };
     match call {
-        Call::Update => subject.sketch.take(item, coins)?,
-        Call::UpdateWeighted => subject.sketch.take_weighted(item, subject.weight, coins)?,
-        _ => subject.sketch.join(&subject.other, coins)?,
+        Call::Update => sketch.take(item, coins)?,
+        Call::UpdateWeighted => sketch.take_weighted(item, *weight, coins)?,
+        _ => sketch.join(other, coins)?,
     }
     Ok(Answer::Done)
 }
@@ -270,8 +277,8 @@ fn are_views_alike<S: Tried>(
     let (one, other) = (a.cdf(points, CRITERIA)?, b.cdf(points, CRITERIA)?);
     let fractions = fractions();
     let (items, others) = (
-        a.quantiles(&fractions, CRITERIA)?,
-        b.quantiles(&fractions, CRITERIA)?,
+        S::quantiles_in(a, &fractions)?,
+        S::quantiles_in(b, &fractions)?,
     );
     Ok(a.len() == b.len() && one == other && items == others)
 }

@@ -140,8 +140,8 @@ fn views_none<S: Tried>(view: &SortedView<S::Item>, points: &[S::Item], item: &S
 {
     let fractions = fractions();
     view.rank(item, CRITERIA).is_none()
-        && is_none(view.quantile(fractions[1], CRITERIA))
-        && is_none(view.quantiles(&fractions, CRITERIA))
+        && is_none(S::quantile_in(view, fractions[1]))
+        && is_none(S::quantiles_in(view, &fractions))
         && is_none(view.cdf(points, CRITERIA))
         && is_none(view.pmf(points, CRITERIA))
 }
@@ -151,24 +151,25 @@ fn views_none<S: Tried>(view: &SortedView<S::Item>, points: &[S::Item], item: &S
 fn asks_for_none<S: Tried>(alloc: Global) -> Result<bool, Error>
     requires { S.Asks }
 {
-    let mut subject: Subject<S> = subject_of(alloc, (Call::Merge, 8, 27, 0))?;
+    let Subject {
+        mut sketch,
+        other: empty,
+        points,
+        ..
+    }: Subject<S> = subject_of(alloc, (Call::Merge, 8, 27, 0))?;
     let (equal, item) = (items::<S>(alloc, &[3, 3])?, S::item_of(alloc, 27)?);
-    let (view, nothing) = (subject.sketch.view_of()?, subject.other.view_of()?);
-    let copy = subject.sketch.copy()?;
-    let is_told = refuse(alloc, 1) && subject.sketch.reads_as(&copy);
+    let (view, nothing) = (sketch.view_of()?, empty.view_of()?);
+    let copy = sketch.copy()?;
+    let is_told = refuse(alloc, 1) && sketch.reads_as(&copy);
     let whole = Some(Rank {
         weight: 27,
         total: 27,
     });
-    let is_ranked = view.rank(&item, CRITERIA) == whole
-        && subject.sketch.rank_of(&item, CRITERIA) == whole;
-    let is_refused = refuses_arguments(alloc, &subject.sketch, equal.as_slice());
-    let is_merged = subject
-        .sketch
-        .join(&subject.other, &mut WordBits::new(&WORD))
-        .is_ok();
-    subject.sketch.empty();
-    let (points, other) = (subject.points.as_slice(), &subject.sketch);
+    let is_ranked = view.rank(&item, CRITERIA) == whole && sketch.rank_of(&item, CRITERIA) == whole;
+    let is_refused = refuses_arguments(alloc, &sketch, equal.as_slice());
+    let is_merged = sketch.join(&empty, &mut WordBits::new(&WORD)).is_ok();
+    sketch.empty();
+    let (points, other) = (points.as_slice(), &sketch);
     let is_nothing = answers_none(other, points) && views_none::<S>(&nothing, points, &item);
     Ok(!was_refused(alloc) && is_told && is_ranked && is_refused && is_merged && is_nothing)
 }
@@ -189,7 +190,7 @@ const ROWS: [Row; 15] = [
     (Call::Serialize, 8, 27, 0),
     (Call::Deserialize, 8, 27, 0),
     (Call::Run, 8, 21, 0),
-    (Call::Audit, 8, 21, 0),
+    (Call::Audit, 8, 9, 0),
 ];
 
 /// What is tried of KLL sketches: a weight with and without a compaction, and merges that end in all ways.

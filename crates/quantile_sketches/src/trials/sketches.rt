@@ -18,7 +18,7 @@ pub(super) trait Numbered: Sized {
 
 impl Numbered for i32 {
     fn numbered(_alloc: Global, number: u32) -> Result<i32, AllocError> {
-        Ok(number as i32)
+        Ok((number % (1 << 31)) as i32)
     }
 }
 
@@ -50,6 +50,22 @@ pub(super) trait Tried: QueriedFamily {
         requires { Self.Asks };
 
     fn quantiles_of(&self, fractions: &[Rank]) -> Result<Option<Vec<Self::Item>>, Error>
+        requires { Self.Asks };
+
+    // (calls of a view that clone, which no clause of a family's allows for any view)
+    fn copy_of(view: &SortedView<Self::Item>) -> Result<SortedView<Self::Item>, Error>
+        requires { Self.Asks };
+
+    fn quantile_in(
+        view: &SortedView<Self::Item>,
+        fraction: Rank,
+    ) -> Result<Option<Self::Item>, Error>
+        requires { Self.Asks };
+
+    fn quantiles_in(
+        view: &SortedView<Self::Item>,
+        fractions: &[Rank],
+    ) -> Result<Option<Vec<Self::Item>>, Error>
         requires { Self.Asks };
 
     fn run_of(
@@ -97,6 +113,19 @@ impl<T: KllValue + Ord + Numbered> Tried for KllSketch<T> {
         self.quantiles(fractions, SearchCriteria::Inclusive)
     }
 
+    fn copy_of(view: &SortedView<T>) -> Result<SortedView<T>, Error> {
+        let copy = view.clone()?;
+        Ok(copy)
+    }
+
+    fn quantile_in(view: &SortedView<T>, fraction: Rank) -> Result<Option<T>, Error> {
+        view.quantile(fraction, SearchCriteria::Inclusive)
+    }
+
+    fn quantiles_in(view: &SortedView<T>, fractions: &[Rank]) -> Result<Option<Vec<T>>, Error> {
+        view.quantiles(fractions, SearchCriteria::Inclusive)
+    }
+
     fn run_of(
         alloc: Global,
         commands: &[Command<T, u16>],
@@ -142,6 +171,19 @@ impl<T: ReqValue + Clone + Ord + Numbered> Tried for ReqSketch<T> {
 
     fn quantiles_of(&self, fractions: &[Rank]) -> Result<Option<Vec<T>>, Error> {
         self.quantiles(fractions, SearchCriteria::Inclusive)
+    }
+
+    fn copy_of(view: &SortedView<T>) -> Result<SortedView<T>, Error> {
+        let copy = view.clone()?;
+        Ok(copy)
+    }
+
+    fn quantile_in(view: &SortedView<T>, fraction: Rank) -> Result<Option<T>, Error> {
+        view.quantile(fraction, SearchCriteria::Inclusive)
+    }
+
+    fn quantiles_in(view: &SortedView<T>, fractions: &[Rank]) -> Result<Option<Vec<T>>, Error> {
+        view.quantiles(fractions, SearchCriteria::Inclusive)
     }
 
     fn run_of(
