@@ -52,17 +52,6 @@ writes-stop c c' c'' waiting r written bytes fails a k = record {
   waits = no-ok _ r fails;
 }
 
--- all is out
-pub writes-all : {T E : Type 0} (c c' : Option (List ℕ)) (r : Result T E) (bytes : List ℕ) → Appends c c' bytes → Writes r c c' bytes []
-writes-all c c' r bytes a = record { sent = bytes; left = []; parts = sym (append-nil bytes); out = a; waits = done r }
-  where
-    none : List ℕ
-    none = []
-
-    done : {T E : Type 0} (r : Result T E) → OnOk r (none ≡ none)
-    done (Ok u) = refl
-    done (Err e) = tt
-
 -- nothing is out
 pub writes-none : {T E : Type 0} (c : Option (List ℕ)) (r : Result T E) (owed waiting : List ℕ) → owed ≡ waiting → Writes r c c owed waiting
 writes-none c r owed waiting e = record { sent = []; left = owed; parts = refl; out = appends_none c; waits = done r }
@@ -97,11 +86,16 @@ writes-early text more waiting' r' e fails h = record {
   waits = no-ok _ r' fails;
 }
 
+-- what holds of a call that is done
+pub held-ok : {T E : Type 0} {P : Type 0} (r : Result T E) → IsOk r → OnOk r P → P
+held-ok (Ok u) ok p = p
+held-ok (Err x) ok p = absurd (cc)
+
 -- what waits goes out, with more behind
 pub writes-on : {T E T' E' : Type 0} {r : Result T E} {r' : Result T' E'} {c c' c'' : Option (List ℕ)} {owed waiting owed' waiting' : List ℕ} (text more : List ℕ) →
     text ≡ owed ++ more → Writes r c c' owed waiting → IsOk r → owed' ≡ waiting ++ more → Writes r' c' c'' owed' waiting' → Writes r' c c'' text waiting'
 writes-on {T} {E} {T'} {E'} {r} {r'} {c} {c'} {c''} {owed} {waiting} {owed'} {waiting'} text more e h ok f k =
-    let w : h.left ≡ waiting = left r ok h.waits in record {
+    let w : h.left ≡ waiting = held-ok r ok h.waits in record {
       sent = h.sent ++ k.sent;
       left = k.left;
       parts =
@@ -113,10 +107,6 @@ writes-on {T} {E} {T'} {E'} {r} {r'} {c} {c'} {c''} {owed} {waiting} {owed'} {wa
       out = appends_on c c' c'' h.sent k.sent h.out k.out;
       waits = k.waits;
     }
-  where
-    left : {P : Type 0} (r : Result T E) → IsOk r → OnOk r P → P
-    left (Ok u) ok p = p
-    left (Err x) ok p = absurd (cc)
 
 -- a first part of a text is written, and then the rest
 pub writes-then : {T E T' E' : Type 0} {r : Result T E} {r' : Result T' E'} {c c' c'' : Option (List ℕ)} {waiting waiting' : List ℕ} (w first rest text : List ℕ) →

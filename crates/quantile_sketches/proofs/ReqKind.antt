@@ -3,18 +3,17 @@ use Rattle.std.proofs.Common.{◌≡◌, ℕ, Bool, List, [], ◌∷◌, ◌++�
 use Rattle.std.proofs.lemmas.Bool.{false≢true}
 use Rattle.std.proofs.lemmas.List.Elements.{length_all_zip}
 use Rattle.std.specs.Cmp.{IsTotalOrder}
-use Rattle.std.specs.List.{AllZip}
 use Rattle.std.specs.declared.cmp.Ordering.TheVariants.{Equal}
-use Rattle.sketch_base.specs.Bag.{Bag, AlikeReq, SameItems, sort, with_level, empty_bag}
+use Rattle.sketch_base.specs.Bag.{Bag, AlikeReq, sort, with_level, empty_bag}
 use Rattle.sketch_base.specs.Trace.{Action, Put, Pull, Join, Compact, Forget, Clear, Fresh, Turned, Work, act, acts, alone, bag_after, next_bit}
 use Rattle.sketch_base.proofs.Alikes.{acts-req}
-use Rattle.sketch_base.proofs.Counts.{sorted_items, SameCounts-from_items}
 use Rattle.sketch_base.proofs.Fixed.{length-sort}
-use Rattle.sketch_base.proofs.Items.{SameItems-refl, SameItems-append}
+use Rattle.sketch_base.proofs.Items.{SameItems-last}
+use Rattle.sketch_base.proofs.Sorting.{SameItems-sort}
 use Rattle.sketch_req.specs.Schedule.{Layout, put_layouts, room_actions, update_actions, merge_actions}
 use Rattle.sketch_req.specs.Walk.{AreOwn}
 use Rattle.sketch_req.specs.declared.RankAccuracy.{RankAccuracy}
-use Rattle.sketch_req.proofs.Bags.{alike-refl, alike-trans}
+use Rattle.sketch_req.proofs.Bags.{alike-refl, alike-trans, AlikeLevels, levels-refl}
 use Rattle.sketch_req.proofs.Ranks.{weight_is}
 use Rattle.sketch_req.proofs.Unbiased.{AreCompacts, room_compacts, merge_req}
 use Rattle.sketch_req.proofs.Walks.{own-req}
@@ -45,14 +44,7 @@ own-compacts (Forget ∷ rest) c = absurd c
 own-compacts (Clear ∷ rest) c = absurd c
 
 module _ {A : Type 0} {cmp : A → A → Ordering} (o : IsTotalOrder cmp) where
-  abbrev Alikes : List (List A) → List (List A) → Type 0
-  Alikes = AllZip (λ xs ys. SameItems cmp (sort cmp xs) (sort cmp ys))
-
-  levels-refl : (levels : List (List A)) → Alikes levels levels
-  levels-refl [] = tt
-  levels-refl (level ∷ above) = (SameItems-refl cmp o (sort cmp level), levels-refl above)
-
-  same-lengths : (xs ys : List (List A)) → Alikes xs ys → map length xs ≡ map length ys
+  same-lengths : (xs ys : List (List A)) → AlikeLevels o xs ys → map length xs ≡ map length ys
   same-lengths [] [] e = refl
   same-lengths [] (y ∷ ys) e = absurd e
   same-lengths (x ∷ xs) [] e = absurd e
@@ -63,14 +55,9 @@ module _ {A : Type 0} {cmp : A → A → Ordering} (o : IsTotalOrder cmp) where
   put-alike : (x y : A) → cmp x y ≡ Equal → (next : Bool) (work : Work (Bag A)) → AlikeReq cmp (act cmp (Put 0 x) next work).bag (act cmp (Put 0 y) next work).bag
   put-alike x y e next work = record { levels = go work.bag.levels; kept = λ h. refl }
     where
-      same : (level : List A) → SameItems cmp (sort cmp (level ++ x ∷ [])) (sort cmp (level ++ y ∷ []))
-      same level =
-          sorted_items o (level ++ x ∷ []) (level ++ y ∷ []) (SameCounts-from_items o (level ++ x ∷ []) (level ++ y ∷ [])
-          (SameItems-append cmp level level (x ∷ []) (y ∷ []) (SameItems-refl cmp o level) (e, tt)))
-
-      go : (levels : List (List A)) → Alikes (with_level [] 0 (λ level. level ++ x ∷ []) levels) (with_level [] 0 (λ level. level ++ y ∷ []) levels)
-      go [] = (same [], tt)
-      go (level ∷ above) = (same level, levels-refl above)
+      go : (levels : List (List A)) → AlikeLevels o (with_level [] 0 (λ level. level ++ x ∷ []) levels) (with_level [] 0 (λ level. level ++ y ∷ []) levels)
+      go [] = (SameItems-sort cmp o (x ∷ []) (y ∷ []) (SameItems-last cmp o x y e []), tt)
+      go (level ∷ above) = (SameItems-sort cmp o (level ++ x ∷ []) (level ++ y ∷ []) (SameItems-last cmp o x y e level), levels-refl o above)
 
   update-alike : (x y : A) → cmp x y ≡ Equal → (k : ℕ) (accuracy : RankAccuracy) (ls : List Layout) (word : List Bool) (a b : Work (Bag A)) → AlikeReq cmp a.bag b.bag →
       AlikeReq cmp (acts cmp (update_actions k accuracy ls x) word a).bag (acts cmp (update_actions k accuracy ls y) word b).bag

@@ -1,11 +1,12 @@
 -- REQ's rules are lawful.
-use Rattle.std.proofs.Common.{◌≡◌, ℕ, zero, suc, ◌+◌, ◌-◌, ◌*◌, ◌%◌, ◌^◌, ◌<◌, ◌≤◌, Bool, true, false, ◌||◌, ◌&&◌, ◌==◌, not, eqb, nat_le, nat_lt, if◌then◌else◌, List, [], ◌∷◌, ◌++◌, length, append-nil, sum, slice_index, Some, refl, sym, ap, ap₂, ◌∙◌, subst, arith, inl, inr, leb-true, eqb-true}
-use Rattle.std.proofs.lemmas.Bool.{cases_Bool, false≢true, ltb-false, and_parts}
+use Rattle.std.proofs.Common.{◌≡◌, ℕ, zero, suc, ◌+◌, ◌-◌, ◌*◌, ◌%◌, ◌^◌, ◌<◌, ◌≤◌, Bool, true, false, ◌||◌, ◌&&◌, ◌==◌, not, nat_le, nat_lt, if◌then◌else◌, List, [], ◌∷◌, ◌++◌, length, append-nil, sum, slice_index, Some, refl, sym, ap, ap₂, ◌∙◌, subst, arith, inl, inr, leb-true, eqb-true}
+use Rattle.std.proofs.lemmas.Bool.{cases_Bool, false≢true, ltb-false, and_parts, or_parts}
 use Rattle.sketch_base.specs.Bag.{Taken, AllButLeftover, Lowest, Greatest}
 use Rattle.sketch_base.specs.Lengths.{acts_on_lengths, lengths_after, Along, TakesFew, LeavesTail}
 use Rattle.sketch_base.specs.Ranks.{true_ranks}
 use Rattle.sketch_base.specs.Trace.{Action, Put, Pull, Join, Compact, Forget, Clear, Event, Snap, At, Work, World}
-use Rattle.sketch_base.proofs.Changes.{changed-there}
+use Rattle.sketch_base.proofs.Changes.{changed-there, changed-itself}
+use Rattle.sketch_base.proofs.Lengths.{obeys}
 use Rattle.sketch_req.specs.Schedule.{Layout, counts_of, retained_of, update_actions, update_layouts, joined_layouts, joins_actions, merge_actions, merge_layouts, room_actions}
 use Rattle.sketch_req.specs.ScheduleLaws.{IsLegalFrom, merge_events}
 use Rattle.sketch_req.specs.Sections.{IsLegalK}
@@ -13,7 +14,7 @@ use Rattle.sketch_req.specs.declared.RankAccuracy.{RankAccuracy}
 use Rattle.sketch_req.specs.declared.RankAccuracy.TheVariants.{HighRank, LowRank}
 use Rattle.sketch_req.proofs.Capacities.{update_weighs, merge_weighs, update_two, merge_two, update_few, merge_few, update_retains, merge_retains}
 use Rattle.sketch_req.proofs.LegalLayouts.{new_is, filled_are, joined_are}
-use Rattle.sketch_req.proofs.LegalTraces.{lengths_at, along-even, changed-itself, update_legal, update_lengths, merge_legal, merge_lengths}
+use Rattle.sketch_req.proofs.LegalTraces.{lengths_at, along-even, update_legal, update_lengths, merge_legal, merge_lengths}
 use Rattle.sketch_req.proofs.LegalWalks.{room_leads}
 use Rattle.sketch_req.proofs.Unbiased.{AreCompacts, room_compacts, ranks-update}
 use Rattle.quantile_sketches.specs.Lawful.{lengths_by, IsLegalBy, DoWell, AreLawful}
@@ -21,10 +22,7 @@ use Rattle.quantile_sketches.specs.Plan.{events_at}
 use Rattle.quantile_sketches.specs.ReqKind.{FitsReq, MeetsReq}
 use Rattle.quantile_sketches.specs.ReqRules.{ReqShape, new_shape, may_be_k, is_same, is_too_much, req_rules}
 use Rattle.quantile_sketches.proofs.KllLawful.{unless-there}
-use Rattle.quantile_sketches.proofs.Plans.{not-none, or-left, or-right}
-
-obeys : (n : ℕ) (b : Bool) → n ≡ 0 → (eqb n 0 || b) ≡ true
-obeys n b e = ap (λ m. eqb m 0 || b) e
+use Rattle.quantile_sketches.proofs.Plans.{not-none}
 
 pub not-false : (b : Bool) → not b ≡ false → b ≡ true
 not-false true e = refl
@@ -44,8 +42,8 @@ legal_k k e =
 
 enough_room : (n retained : ℕ) → is_too_much n retained ≡ false → (n < 2 ^ 64) × (retained ≤ 4294967295)
 enough_room n retained e =
-    let a = ltb-false (2 ^ 64 - 1) n (or-left (nat_lt (2 ^ 64 - 1) n) (nat_lt 4294967295 retained) e) in
-    let b = ltb-false 4294967295 retained (or-right (nat_lt (2 ^ 64 - 1) n) (nat_lt 4294967295 retained) e) in
+    let a = ltb-false (2 ^ 64 - 1) n (or_parts (nat_lt (2 ^ 64 - 1) n) (nat_lt 4294967295 retained) e).0 in
+    let b = ltb-false 4294967295 retained (or_parts (nat_lt (2 ^ 64 - 1) n) (nat_lt 4294967295 retained) e).1 in
     (omega (arith, a), omega (arith, b))
 
 -- ---- what the shape of a sketch keeps
@@ -78,7 +76,7 @@ updated_fits s lengths h e =
     }
 
 -- a sketch that took another one in
-abbrev merged_as : ReqShape → ReqShape → List Layout → ReqShape
+abbrev pub merged_as : ReqShape → ReqShape → List Layout → ReqShape
 merged_as s other layouts = record { k = s.k; accuracy = s.accuracy; n = s.n + other.n; layouts = layouts }
 
 none_fits : (s other : ReqShape) (lengths : List ℕ) → FitsReq s lengths → other.n ≡ 0 → FitsReq (merged_as s other s.layouts) lengths
@@ -120,7 +118,7 @@ abbrev pub no_merge : ReqShape → ReqShape → Bool
 no_merge s other = not (is_same s.accuracy other.accuracy) || (not (other.n == 0) && too_much s other)
 
 pub not-much : (s other : ReqShape) → no_merge s other ≡ false → (other.n == 0) ≡ false → too_much s other ≡ false
-not-much s other e b = go (other.n == 0) (too_much s other) b (or-right (not (is_same s.accuracy other.accuracy)) (not (other.n == 0) && too_much s other) e)
+not-much s other e b = go (other.n == 0) (too_much s other) b (or_parts (not (is_same s.accuracy other.accuracy)) (not (other.n == 0) && too_much s other) e).1
   where
     go : (b c : Bool) → b ≡ false → (not b && c) ≡ false → c ≡ false
     go true c z f = absurd (false≢true (sym z))

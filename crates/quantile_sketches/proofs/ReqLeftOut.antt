@@ -1,8 +1,9 @@
 -- The accepted commands of a REQ run give the tail numbers of all its commands, and by updates alone their trace.
-use Rattle.std.proofs.Common.{◌≡◌, ℕ, zero, suc, Bool, true, false, ◌||◌, ◌&&◌, ◌==◌, if◌then◌else◌, List, [], ◌∷◌, ◌++◌, length, Option, refl, sym, ap, ap₂, ◌∙◌, subst, arith, append_assoc, append-nil, zero-add, eqb-true, Ordering}
+use Rattle.std.proofs.Common.{◌≡◌, ℕ, zero, suc, Bool, true, false, ◌||◌, ◌==◌, if◌then◌else◌, List, [], ◌∷◌, ◌++◌, length, Option, refl, sym, ap, ap₂, ◌∙◌, subst, arith, append_assoc, append-nil, zero-add, eqb-true, Ordering}
 use Rattle.std.specs.Prelude.{Contains}
 use Rattle.std.specs.Cmp.{IsTotalOrder}
-use Rattle.std.proofs.lemmas.Bool.{and_parts}
+use Rattle.std.proofs.Math.Bool.{or-false}
+use Rattle.std.proofs.lemmas.Bool.{and_parts, and_from}
 use Rattle.std.proofs.lemmas.List.{length_push}
 use Rattle.std.proofs.lemmas.Map.Views.{Contains-from_any}
 use Rattle.sketch_base.specs.Trace.{Event}
@@ -34,18 +35,10 @@ module _ {A : Type 0} where
   by-append plan (x ∷ xs) c e =
       let p = and_parts (is_refused req_rules plan.shapes x || is_by_update x) (are_by_updates (next_shapes plan.shapes x) (xs ++ c ∷ [])) e in
       let q = by-append (plan_after req_rules plan x) xs c p.1 in
-      (both _ _ p.0 q.0, q.1)
-    where
-      both : (b d : Bool) → b ≡ true → d ≡ true → (b && d) ≡ true
-      both true d e f = f
-      both false d e f = e
+      (and_from _ _ p.0 q.0, q.1)
 
   tails-refused : (shapes : ℕ → Option ReqShape) (tails : ℕ → ℕ) (c : ReqCommand A) → is_refused req_rules shapes c ≡ true → tails_after shapes tails c ≡ tails
   tails-refused shapes tails c e = ap (λ (b : Bool). if b then tails else accepted_tails shapes tails c) e
-
-some-of : (b : Bool) → (b || false) ≡ true → b ≡ true
-some-of true e = refl
-some-of false e = e
 
 tails-trip : (A : Type 0) (shapes : ℕ → Option ReqShape) (tails : ℕ → ℕ) (slot : ℕ) → tails_after {A = A} shapes tails (RoundTrip slot) ≡ tails
 tails-trip A shapes tails slot =
@@ -72,7 +65,7 @@ module _ {A : Type 0} {cmp : A → A → Ordering} (o : IsTotalOrder cmp) (spell
   refused-planned before (UpdateWeighted slot x weight) P h p by = h.0 p
   refused-planned before (Merge into source) P h p by = h.0 p
   refused-planned before (Reset slot) P h p by = h.0 p
-  refused-planned before (RoundTrip slot) P h p by = some-of (is_refused {A = A} req_rules (plan_of req_rules before).shapes (RoundTrip slot)) by
+  refused-planned before (RoundTrip slot) P h p by = sym (or-false (is_refused {A = A} req_rules (plan_of req_rules before).shapes (RoundTrip slot))) ∙ by
 
   pub req-left-out : (commands : List (ReqCommand A)) → AreRefused (req_kind cmp spelling) word commands refused → IsLeftOutReq commands (accepted_of refused commands)
   req-left-out commands r = go (length commands) commands (ends commands) [] refl (sym (append-nil commands))

@@ -1,19 +1,21 @@
 -- What a run on REQ sketches gives, from what every run gives.
-use Rattle.std.proofs.Common.{◌≡◌, ℕ, suc, ◌*◌, ◌^◌, ◌<◌, ◌≤◌, Bool, true, IsTrue, List, [], ◌∷◌, ◌++◌, length, sum, count_by, Option, Some, sym, ap, ◌∙◌, subst, arith, append-nil, Ordering}
+use Rattle.std.proofs.Common.{◌≡◌, ℕ, suc, ◌*◌, ◌^◌, ◌<◌, ◌≤◌, Bool, true, IsTrue, List, [], ◌∷◌, ◌++◌, length, sum, count_by, Option, Some, sym, ap, ◌∙◌, subst, arith, append-nil, Ordering, ap₂, ◌+◌, refl}
 use Rattle.std.specs.Prelude.{IsSorted}
 use Rattle.std.specs.Cmp.{IsTotalOrder}
 use Rattle.std.specs.List.{AllByRecursion}
 use Rattle.std.specs.Option.{option_map}
 use Rattle.sketch_base.specs.declared.common.SearchCriteria.{SearchCriteria}
-use Rattle.sketch_base.specs.Bag.{weighted_rank, load}
-use Rattle.sketch_base.specs.Lengths.{IsLegalReq}
+use Rattle.sketch_base.specs.Bag.{weighted_rank, load, weight, weigh}
+use Rattle.sketch_base.specs.Lengths.{IsLegalReq, start_lengths}
 use Rattle.sketch_base.specs.Query.{counted, true_rank}
 use Rattle.sketch_base.specs.Spelling.{SpellingsTie}
 use Rattle.sketch_base.specs.Trace.{Event, play, start, coins}
-use Rattle.sketch_base.specs.Words.{sum_over_words, distance}
+use Rattle.sketch_base.specs.Words.{distance}
 use Rattle.sketch_base.proofs.Alikes.{rank-alike}
 use Rattle.sketch_base.proofs.Loads.{req_within_load}
 use Rattle.sketch_base.proofs.SpelledItems.{IsPrefixFree}
+use Rattle.sketch_base.proofs.Sums.{sum_by-expanded}
+use Rattle.sketch_base.proofs.Tails.{weight_is}
 use Rattle.sketch_req.specs.Actions.{bag_of}
 use Rattle.sketch_req.specs.Image.{BeginsImage}
 use Rattle.sketch_req.specs.ImageLaws.{without_coins}
@@ -33,20 +35,19 @@ use Rattle.quantile_sketches.specs.Outcome.{Slots, sketch_at, ArePlanned, ArePla
 use Rattle.quantile_sketches.specs.Plan.{Plan, start_plan, plan_of, trace_of}
 use Rattle.quantile_sketches.specs.Refused.{accepted_of, AreRefused}
 use Rattle.quantile_sketches.specs.ReqKind.{FitsReq, req_kind, req_shape}
-use Rattle.quantile_sketches.specs.ReqOutcome.{AreInOrder, HaveFewLevels, took_no_sketch, AreBelow, AreOwnTails, AreExact, AreReadBack, AreUnbiasedByUpdates}
+use Rattle.quantile_sketches.specs.ReqOutcome.{AreInOrder, HaveFewLevels, AreBelow, AreOwnTails, AreExact, AreReadBack, AreUnbiasedByUpdates}
 use Rattle.quantile_sketches.specs.ReqPlan.{ReqCommand, shape_in, tails_of, no_shapes}
 use Rattle.quantile_sketches.specs.ReqRules.{ReqShape, req_rules}
 use Rattle.quantile_sketches.specs.ReqRun.{off_tail, are_by_updates}
 use Rattle.quantile_sketches.specs.Run.{stream_of, RunIsWithinLoad}
 use Rattle.quantile_sketches.proofs.LeftOut.{left-out}
-use Rattle.quantile_sketches.proofs.Plans.{run-legal, steady-start, steady-from}
+use Rattle.quantile_sketches.proofs.Plans.{run-legal, steady-start, steady-from, along-even}
 use Rattle.quantile_sketches.proofs.ReqAlone.{run-below, run-own, run-unbiased}
 use Rattle.quantile_sketches.proofs.ReqKind.{req_kind_lawful}
 use Rattle.quantile_sketches.proofs.ReqLawful.{req_lawful}
 use Rattle.quantile_sketches.proofs.ReqLeftOut.{req-left-out}
-use Rattle.quantile_sketches.proofs.ReqSame.{Known, same}
 use Rattle.quantile_sketches.proofs.ReqTails.{run-exact}
-use Rattle.quantile_sketches.proofs.Streams.{run-ranks}
+use Rattle.quantile_sketches.proofs.Streams.{run-ranks, all-counted}
 use Rattle.quantile_sketches.proofs.WordSums.{sum_up, sum-entries, sum-words}
 
 -- ---- of every list of commands
@@ -55,23 +56,6 @@ module _ {A : Type 0} where
   pub req-legal : (commands : List (ReqCommand A)) → IsLegalReq (λ s. 0) (trace_of req_rules commands)
   req-legal commands = let r = run-legal req_lawful commands in record { scratch = r.scratch; sizes = r.meets }
 
-  pub req-below : (commands : List (ReqCommand A)) (slot : ℕ) → took_no_sketch commands slot ≡ true →
-      retained_of (shape_in ((plan_of req_rules commands).shapes slot)).layouts < nominal_sum (shape_in ((plan_of req_rules commands).shapes slot)).k (shape_in ((plan_of req_rules commands).shapes slot)).layouts
-  req-below commands slot =
-      subst (λ (r : Known _). r.unmerged slot ≡ true → retained_of (shape_in (r.shapes slot)).layouts < nominal_sum (shape_in (r.shapes slot)).k (shape_in (r.shapes slot)).layouts) (same commands)
-      (run-below commands slot)
-
-  pub req-own : (commands : List (ReqCommand A)) (slot : ℕ) → took_no_sketch commands slot ≡ true → (shape : ReqShape) → (plan_of req_rules commands).shapes slot ≡ Some shape → tails_of commands slot ≡ shape.k
-  req-own commands slot =
-      subst (λ (r : Known _). r.unmerged slot ≡ true → (shape : ReqShape) → r.shapes slot ≡ Some shape → r.tails slot ≡ shape.k) (same commands) (run-own commands slot)
-
-  pub req-unbiased : (cmp : A → A → Ordering) (test : A → Bool) (commands : List (ReqCommand A)) (length slot : ℕ) → are_by_updates no_shapes commands ≡ true → coins (trace_of req_rules commands) ≤ length →
-      sum_over_words length (λ word. weighted_rank cmp test ((play cmp (trace_of req_rules commands) word start).slots slot)) ≡ 2 ^ length * count_by test (stream_of req_rules commands slot)
-  req-unbiased cmp test commands length slot =
-      subst (λ (r : Known _). r.by_updates ≡ true → coins r.trace ≤ length →
-      sum_over_words length (λ word. weighted_rank cmp test ((play cmp r.trace word start).slots slot)) ≡ 2 ^ length * count_by test (r.streams slot)) (same commands)
-      (run-unbiased cmp test commands length slot)
-
 module _ {A : Type 0} {cmp : A → A → Ordering} (o : IsTotalOrder cmp) where
   pub req-load : RunIsWithinLoad req_rules 4 cmp
   req-load y criteria commands word slot =
@@ -79,13 +63,20 @@ module _ {A : Type 0} {cmp : A → A → Ordering} (o : IsTotalOrder cmp) where
       subst (λ (m : ℕ). 4 * distance (weighted_rank cmp (counted cmp y criteria) bag) m ≤ load bag) (run-ranks req_lawful (counted cmp y criteria) commands slot)
       (req_within_load o (λ s. 0) y criteria (trace_of req_rules commands) word slot (req-legal commands))
 
-  pub req-exact : (y : A) (criteria : SearchCriteria) (commands : List (ReqCommand A)) (word : List Bool) (slot : ℕ) →
-      off_tail cmp (shape_in ((plan_of req_rules commands).shapes slot)).accuracy y criteria (stream_of req_rules commands slot) ≤ 3 * tails_of commands slot →
-      weighted_rank cmp (counted cmp y criteria) ((play cmp (trace_of req_rules commands) word start).slots slot) ≡ true_rank cmp y criteria (stream_of req_rules commands slot)
-  req-exact y criteria commands word slot =
-      subst (λ (r : Known _). off_tail cmp (shape_in (r.shapes slot)).accuracy y criteria (r.streams slot) ≤ 3 * r.tails slot →
-      weighted_rank cmp (counted cmp y criteria) ((play cmp r.trace word start).slots slot) ≡ true_rank cmp y criteria (r.streams slot)) (same commands)
-      (run-exact o y criteria commands word slot)
+-- each item counts, at each level
+weigh-any : {A : Type 0} (h : ℕ) (levels : List (List A)) → weigh (count_by (λ (x : A). true)) h levels ≡ weigh length h levels
+weigh-any h [] = refl
+weigh-any h (level ∷ above) = ap₂ (λ (m n : ℕ). 2 ^ h * m + n) (all-counted level) (weigh-any (suc h) above)
+
+pub req-weight : {A : Type 0} {cmp : A → A → Ordering} → IsTotalOrder cmp → (commands : List (ReqCommand A)) (word : List Bool) (slot : ℕ) → weight ((play cmp (trace_of req_rules commands) word start).slots slot) ≡ length (stream_of req_rules commands slot)
+req-weight {A} {cmp} order commands word slot =
+    let any : A → Bool = λ x. true in
+    let bag = (play cmp (trace_of req_rules commands) word start).slots slot in
+    let legal = run-legal (req_lawful {A = A}) commands in
+    sym (weigh-any 0 bag.levels)
+    ∙ (sym (sum_by-expanded (λ x. 1) cmp bag)
+    ∙ (weight_is order (trace_of req_rules commands) word slot legal.scratch (along-even (req_lawful {A = A}) (trace_of req_rules commands) start_lengths legal.meets)
+    ∙ (run-ranks (req_lawful {A = A}) any commands slot ∙ all-counted (stream_of req_rules commands slot))))
 
 -- ---- of a run
 
@@ -113,11 +104,11 @@ module _ {A : Type 0} {cmp : A → A → Ordering} (o : IsTotalOrder cmp) (spell
 
   pub run-small : ArePlanned (req_kind cmp spelling) commands slots → AreBelow commands slots
   run-small planned slot s held alone =
-      let h = subst (λ (p : Option ReqShape). retained_of (shape_in p).layouts < nominal_sum (shape_in p).k (shape_in p).layouts) (there planned slot s held) (req-below commands slot alone) in
+      let h = subst (λ (p : Option ReqShape). retained_of (shape_in p).layouts < nominal_sum (shape_in p).k (shape_in p).layouts) (there planned slot s held) (run-below commands slot alone) in
       omega (arith, h, retained_is s.levels)
 
   pub run-tails-own : ArePlanned (req_kind cmp spelling) commands slots → AreOwnTails commands slots
-  run-tails-own planned slot s held alone = req-own commands slot alone (req_shape s) (there planned slot s held)
+  run-tails-own planned slot s held alone = run-own commands slot alone (req_shape s) (there planned slot s held)
 
   pub run-images : IsPrefixFree spelling → SpellingsTie cmp spelling → AreSound (req_kind cmp spelling) slots → AreReadBack cmp spelling slots
   run-images free ties sound slot s held has =
@@ -144,12 +135,12 @@ module _ {A : Type 0} {cmp : A → A → Ordering} (o : IsTotalOrder cmp) (spell
         (subst (λ (xs : List A). off_tail cmp s.accuracy y criteria xs ≤ 3 * tails_of fewer slot) streams
         (subst (λ (n : ℕ). off_tail cmp s.accuracy y criteria (stream_of req_rules commands slot) ≤ 3 * n) tails few)) in
         sym (rank-alike o y criteria ((play cmp (trace_of req_rules fewer) word start).slots slot) (bag_of s.levels) alike.levels)
-        ∙ (req-exact o y criteria fewer word slot enough ∙ sym (ap (true_rank cmp y criteria) streams))
+        ∙ (run-exact o y criteria fewer word slot enough ∙ sym (ap (true_rank cmp y criteria) streams))
 
     pub run-by-updates : (n : ℕ) → coins (trace_of req_rules commands) ≤ n → AreUnbiasedByUpdates cmp (accepted_of refused commands) n
     run-by-updates n enough by y criteria slot =
         let l = left-out (req_kind_lawful o spelling) word commands refused are in
-        req-unbiased cmp (counted cmp y criteria) (accepted_of refused commands) n slot by (omega (arith, enough, l.drawn))
+        run-unbiased cmp (counted cmp y criteria) (accepted_of refused commands) n slot by (omega (arith, enough, l.drawn))
 
 -- the weights of an audit by updates alone, under all words
 pub weights-sum : {A : Type 0} {cmp : A → A → Ordering} (o : IsTotalOrder cmp) (spelling : A → Option (List ℕ)) (y : A) (criteria : SearchCriteria) (commands : List (ReqCommand A)) (slot : ℕ) (weights : List ℕ) →
@@ -161,7 +152,7 @@ weights-sum {A} {cmp} o spelling y criteria commands slot weights by words are =
     sum-entries weights (λ k. f (word_of n k)) (λ k inside. at k (omega (arith, inside, words)))
     ∙ (ap (λ (m : ℕ). sum_up m (λ k. f (word_of n k))) words
     ∙ (sum-words n f
-    ∙ (req-unbiased cmp (counted cmp y criteria) commands n slot by (omega arith)
+    ∙ (run-unbiased cmp (counted cmp y criteria) commands n slot by (omega arith)
     ∙ ap (λ (m : ℕ). m * true_rank cmp y criteria (stream_of req_rules commands slot)) (sym words))))
   where
     at : AreWeights req_rules cmp y criteria commands slot weights

@@ -1,6 +1,6 @@
 use Rattle.std.specs.Int.{w16, w32, w64, to_le_bytes}
 use Rattle.std.proofs.Common.{◌∷◌, [], ◌≡◌, ◌++◌, ◌∙◌, ap}
-use Rattle.sketch_req.specs.declared.image.front.Front.{Front}
+use Rattle.sketch_req.specs.declared.compactor.image.Front.{Front}
 use Rattle.sketch_req.specs.LevelImage.{front_text, front_of}
 use Rattle.sketch_req.proofs.Fronts.{five_written}
 use Rattle.sketch_req.proofs.compactor.Compactor.write_front.Goals as goal

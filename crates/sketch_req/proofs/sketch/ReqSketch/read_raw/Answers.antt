@@ -38,7 +38,7 @@ returns-clause-found g c =
       begins = c.in_ok-items.ensures.found.begins;
       as_many = c.in_ok-items.ensures.found.as_many;
       is_sorted = made.is_sorted;
-      sorted = subst (λ (z : Bool). IsTrue made.is_sorted ↔ (IsTrue z × IsSorted g.T.Ord.cmp xs)) c.is_level_zero_sorted-sorted.ensures c.raw_items_compactor-level.ensures.sorted;
+      sorted = subst (λ (z : Bool). IsTrue made.is_sorted ↔ (IsTrue z × IsSorted g.T.Ord.cmp xs)) c.has_flag-sorted.ensures c.raw_items_compactor-level.ensures.sorted;
       levels_are = c.in_ok-sketch.ensures.levels ∙ ap (λ (l : Level g.row.T.Denot). l ∷ []) rest;
       told = c.in_ok-sketch.ensures.told;
     }

@@ -10,7 +10,7 @@ loop-level-preserved g c =
     let i = c.loop-level.level-index in
     let ls = c.args.levels.now in
     let level = c.level-item.result in
-    let there = ap₂ (weighed {A = g.row.T.Denot}) c.weight.ensures c.items_slice.ensures in
+    let there = ap₂ (weighed {A = g.row.T.Denot}) c.weight.ensures c.items_slice.ensures.value in
     let more = levels-more ls i level (omega arith) c.level-item.is in
     let put = c.in_ok-clone_level.ensures (pairs_of (take i ls)) c.loop-level.invariant in
     subst (λ (ps : List (g.row.T.Denot × ℕ)). SamePairs g.T.Ord.cmp ps c.clone_level.new.pairs.items) (ap (λ ps. pairs_of (take i ls) ++ ps) there ∙ sym more) put

@@ -22,7 +22,7 @@ pub returns-clause-found : goal.returns-clause-found
 returns-clause-found g c = λ s is.
     let found = c.in_ok-sketch.ensures.found in
     let back = one_sketch g.met.T.Ord.total g.T.ReqValue.spelling g.met.T.ReqValue.is_prefix_free c.requires.0 c.args.bytes.now (without_coins s) c.in_ok-sketch.sketch [] found.0 is found.1 in
-    read_is g.met.T.Ord.total g.T.ReqValue.spelling s c.in_ok-sketch.sketch back.0 c.is_sound.ensures
+    read_is g.met.T.Ord.total g.T.ReqValue.spelling s c.in_ok-sketch.sketch back.0 c.in_ok-sketch.ensures.sound
 
 -- an error of reading
 bad : {A : Type 0} (cmp : A → A → Ordering) (spelling : A → Option (List ℕ)) (bytes : List ℕ) (e : ErrorKind) → (e ≡ InvalidArgument → ⊥) → (e ≡ InvalidData → NoImage cmp spelling bytes) → IsLoaded cmp spelling bytes (Err e)

@@ -1,0 +1,23 @@
+use Rattle.std.proofs.Common.{◌≡◌, ◌%◌, ◌+◌, ◌*◌, length, ap, ◌∙◌, arith}
+use Rattle.std.specs.Result.{result_ok}
+use Rattle.hex.proofs.HexLemmas.{decode_of-even}
+use Rattle.hex.proofs.Pairs.{decode_step, decode_done}
+use Rattle.quantile_sketches.proofs.Digits.{digit_at, two_digits}
+use Rattle.quantile_sketches.proofs.text.read_pairs.Goals as goal
+
+pub digit_value-requires : goal.digit_value-requires
+digit_value-requires c = digit_at c.args.digits.now (2 * c.bytes.i) c.requires.digits (omega (arith, c.bytes-test.true, c.requires.room))
+
+pub digit_value-requires-in-bytes : goal.digit_value-requires-in-bytes
+digit_value-requires-in-bytes c = digit_at c.args.digits.now (2 * c.bytes.i + 1) c.requires.digits (omega (arith, c.bytes-test.true, c.requires.room))
+
+pub bytes-preserved : goal.bytes-preserved
+bytes-preserved c =
+    let pair = two_digits c.args.digits.now (2 * c.bytes.i) c.digit_value.result c.digit_value-in-bytes.result c.digit_value.ensures.value c.digit_value-in-bytes.ensures.value in
+    decode_step c.args.digits.now c.bytes.bytes c.bytes.i (c.digit_value.result * 16 + c.digit_value-in-bytes.result) (omega (arith, c.bytes-test.true, c.requires.room)) (omega (arith, c.bytes-test.true, c.bytes.auto.bytes)) pair c.bytes.invariant
+
+pub returns : goal.returns
+returns c =
+    let even : length c.args.digits.now % 2 ≡ 0 = omega (arith, c.requires.room) in
+    let all = decode_done c.args.digits.now c.bytes.bytes c.bytes.i (omega (arith, c.bytes-test.false, c.bytes.auto.bytes)) (omega (arith, c.bytes-test.false, c.requires.room)) c.bytes.invariant in
+    ap result_ok (decode_of-even c.args.digits.now even ∙ all)

@@ -1,0 +1,25 @@
+-- Level lengths after events and after actions, part by part, and what events leave in the scratch.
+use Rattle.std.proofs.Common.{◌≡◌, ℕ, Bool, true, ◌||◌, eqb, List, [], ◌∷◌, ◌++◌, sum, fold, refl, ap}
+use Rattle.sketch_base.specs.Trace.{Action, Event, Work, World}
+use Rattle.sketch_base.specs.Lengths.{act_on_lengths, acts_on_lengths, lengths_after, ObeysScratch}
+
+-- the level lengths after some events
+abbrev pub lengths_by : {A : Type 0} → World (List ℕ) → List (Event A) → World (List ℕ)
+lengths_by world trace = fold (λ w e. lengths_after e w) world trace
+
+-- the scratch rule of an event that finds nothing in the scratch
+pub obeys : (n : ℕ) (b : Bool) → n ≡ 0 → (eqb n 0 || b) ≡ true
+obeys n b e = ap (λ m. eqb m 0 || b) e
+
+module _ {A : Type 0} where
+  pub lengths_by-append : (xs ys : List (Event A)) (world : World (List ℕ)) → lengths_by world (xs ++ ys) ≡ lengths_by (lengths_by world xs) ys
+  lengths_by-append [] ys world = refl
+  lengths_by-append (e ∷ xs) ys world = lengths_by-append xs ys (lengths_after e world)
+
+  pub acts_on-append : (xs ys : List (Action A)) (work : Work (List ℕ)) → acts_on_lengths (xs ++ ys) work ≡ acts_on_lengths ys (acts_on_lengths xs work)
+  acts_on-append [] ys work = refl
+  acts_on-append (x ∷ xs) ys work = acts_on-append xs ys (act_on_lengths x work)
+
+  pub trace-settles : (trace : List (Event A)) (world : World (List ℕ)) → ObeysScratch trace world → sum (lengths_by world trace).scratch ≡ 0
+  trace-settles [] world f = f
+  trace-settles (e ∷ rest) world f = trace-settles rest (lengths_after e world) f.1
