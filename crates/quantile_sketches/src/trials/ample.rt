@@ -152,16 +152,31 @@ fn holds_many<S: Tried>(alloc: Global, k: u16) -> Result<bool, Error>
 }
 
 #[test]
-fn large_sketches_answer(rt: HostRuntime) -> Result<(), Fail> {
+fn large_kll_of_i64_answers(rt: HostRuntime) -> Result<(), Fail> {
     assert!(rt; holds_many::<KllSketch<i64>>(rt.alloc(), 4096)?);
+    Ok(())
+}
+
+#[test]
+fn large_kll_of_text_answers(rt: HostRuntime) -> Result<(), Fail> {
     assert!(rt; holds_many::<KllSketch<String>>(rt.alloc(), 4096)?);
+    Ok(())
+}
+
+#[test]
+fn large_req_answers(rt: HostRuntime) -> Result<(), Fail> {
     assert!(rt; holds_many::<ReqSketch<i32>>(rt.alloc(), 1024)?);
     Ok(())
 }
 
 #[test]
-fn long_runs_end(rt: HostRuntime) -> Result<(), Fail> {
+fn long_run_of_kll_ends(rt: HostRuntime) -> Result<(), Fail> {
     assert!(rt; runs::<KllSketch<i64>>(rt.alloc(), 4096)?);
+    Ok(())
+}
+
+#[test]
+fn long_run_of_req_ends(rt: HostRuntime) -> Result<(), Fail> {
     assert!(rt; runs::<ReqSketch<i32>>(rt.alloc(), 1024)?);
     Ok(())
 }
