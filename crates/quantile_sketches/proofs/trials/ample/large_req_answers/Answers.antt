@@ -3,4 +3,4 @@ use Rattle.sketch_base.specs.NumberSpellings.{i32_ties}
 use Rattle.quantile_sketches.proofs.trials.ample.large_req_answers.Goals as goal
 
 pub holds_many-requires : goal.holds_many-requires
-holds_many-requires c = (i32_ties, search rules)
+holds_many-requires c _ = (i32_ties, search rules)
