@@ -127,25 +127,27 @@ fn runs<S: Tried>(alloc: Global, k: u16) -> Result<bool, Error>
     }
 }
 
+/// Whether a large sketch answers many queries at once as a copy of its view does.
+fn answers_many<S: Tried>(alloc: Global, sketch: &S) -> Result<bool, Error>
+    requires { S.Asks }
+{
+    let view = S::copy_of(&sketch.view_of()?)?;
+    let (points, fractions) = (points::<S>(alloc)?, fractions(alloc)?);
+    answers_alike(sketch, &view, points.as_slice(), fractions.as_slice())
+}
+
 /// Whether a large sketch answers all that it is asked.
 fn holds_many<S: Tried>(alloc: Global, k: u16) -> Result<bool, Error>
     requires { S.Asks }
 {
+    let _usual = S::default_of(alloc)?;
     let mut sketch: S = filled(alloc, k)?;
     let is_filled = is_whole(alloc, &sketch, 100_000)?;
     let copy = sketch.copy()?;
     sketch.join(&copy, &mut SplitMix64::new(2))?;
-    let view = S::copy_of(&sketch.view_of()?)?;
-    let is_answered = answers_alike(
-        &sketch,
-        &view,
-        points::<S>(alloc)?.as_slice(),
-        fractions(alloc)?.as_slice(),
-    )?;
-    let _usual = S::default_of(alloc)?;
     Ok(
         is_filled
-            && is_answered
+            && answers_many(alloc, &sketch)?
             && is_whole(alloc, &sketch, 200_000)?
             && reads_back(alloc, &sketch, 200_000)?,
     )

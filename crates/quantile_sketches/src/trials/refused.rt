@@ -52,6 +52,14 @@ fn gives_the_same<S: Tried>(
     )
 }
 
+/// Whether the call, made again, gives what it gives on a sketch that was never refused memory.
+fn answers_again<S: Tried>(alloc: Global, row: Row, subject: &mut Subject<S>) -> Result<bool, Error>
+    requires { S.Asks }
+{
+    let given = answer_of(alloc, row, subject)?;
+    gives_the_same(alloc, row, &given, subject)
+}
+
 /// Makes the row's call with the Nth request refused: whether one was, and whether all is as wanted.
 fn try_nth<S: Tried>(alloc: Global, row: Row, nth: usize) -> Result<(bool, bool), Error>
     requires { S.Asks }
@@ -61,18 +69,16 @@ fn try_nth<S: Tried>(alloc: Global, row: Row, nth: usize) -> Result<(bool, bool)
     let is_told = refuse(alloc, nth);
     let first = answer_of(alloc, row, &mut subject);
     let is_refused = was_refused(alloc);
-    let is_kept = is_told && are_alike(alloc, &subject.sketch, &before)?;
-    match first {
-        Ok(given) => Ok((
-            is_refused,
-            !is_refused && gives_the_same(alloc, row, &given, &subject)?,
-        )),
-        Err(error) if is_refused && is_kept && error.kind() == ErrorKind::OutOfMemory => {
-            let given = answer_of(alloc, row, &mut subject)?;
-            Ok((true, gives_the_same(alloc, row, &given, &subject)?))
+    let is_well = match first {
+        Ok(given) => is_told && !is_refused && gives_the_same(alloc, row, &given, &subject)?,
+        Err(error) => {
+            is_refused
+                && error.kind() == ErrorKind::OutOfMemory
+                && are_alike(alloc, &subject.sketch, &before)?
+                && answers_again(alloc, row, &mut subject)?
         }
-        Err(_) => Ok((is_refused, false)),
-    }
+    };
+    Ok((is_refused, is_well))
 }
 
 /// How many requests of the row's call were refused, if all is as wanted for each.
