@@ -1,0 +1,308 @@
+//! A call that takes memory, as data: what it is made on and with, what it gave, and whether two gave the same.
+use super::sketches::Tried;
+use crate::audit::{Audit, Command, Run};
+use sketch_base::common::random::WordBits;
+use sketch_base::common::{Rank, SearchCriteria};
+use sketch_base::error::{Error, ErrorKind};
+use sketch_base::sorted_view::SortedView;
+use std::alloc::{AllocError, Global};
+
+pub(super) const WORD: [bool; 8] = [false, true, false, false, true, true, false, true];
+
+pub(super) const CRITERIA: SearchCriteria = SearchCriteria::Inclusive;
+
+#[derive(Clone, Copy, Debug, PartialEq, Eq, Drop)]
+pub(super) enum Call {
+    Default,
+    New,
+    Clone,
+    Update,
+    UpdateWeighted,
+    Merge,
+    Quantile,
+    Quantiles,
+    Cdf,
+    Pmf,
+    SortedView,
+    Serialize,
+    Deserialize,
+    Run,
+    Audit,
+}
+
+/// A call on a sketch of this k and so many items. Last a number: the items of the sketch that is merged in, or the weight of
+/// the item that is put in.
+pub(super) type Row = (Call, u16, u32, u32);
+
+/// What a call is made on and with.
+#[derive(Drop)]
+pub(super) struct Subject<S: Tried> {
+    pub(super) sketch: S,
+    pub(super) other: S,
+    pub(super) items: Vec<S::Item>,
+    pub(super) points: Vec<S::Item>,
+    pub(super) image: Vec<u8>,
+    pub(super) commands: Vec<Command<S::Item, S::Config>>,
+    pub(super) weight: u64,
+}
+
+/// What a call gave.
+#[derive(Drop)]
+pub(super) enum Answer<S: Tried> {
+    Done,
+    Sketch(S),
+    Item(Option<S::Item>),
+    Items(Option<Vec<S::Item>>),
+    Ranks(Option<Vec<Rank>>),
+    View(SortedView<S::Item>),
+    Bytes(Vec<u8>),
+    Run(Run<S>),
+    Audit(Audit),
+}
+
+/// A sketch of the items from 1 on.
+pub(super) fn filled<S: Tried>(alloc: Global, k: u16, count: u32) -> Result<S, Error>
+    requires { S.Asks }
+{
+    let mut sketch = S::create(alloc, S::config_of(k))?;
+    let mut coins = WordBits::new(&WORD);
+    for number in 0..count {
+        sketch.take(S::item_of(alloc, number.wrapping_add(1))?, &mut coins)?;
+    }
+    Ok(sketch)
+}
+
+/// A sketch of so many items in slot 0, and in slot 1 what is read of the image of a sketch that it was merged into.
+fn commands<S: Tried>(
+    alloc: Global,
+    k: u16,
+    count: u32,
+) -> Result<Vec<Command<S::Item, S::Config>>, AllocError> {
+    let mut commands = Vec::new(alloc);
+    for slot in 0..2u8 {
+        commands.push(Command::New {
+            slot,
+            config: S::config_of(k),
+        })?;
+    }
+    for number in 0..count {
+        let item = S::item_of(alloc, number.wrapping_add(1))?;
+        commands.push(Command::Update { slot: 0, item })?;
+    }
+    let item = S::item_of(alloc, 3)?;
+    commands.push(Command::UpdateWeighted {
+        slot: 1,
+        item,
+        weight: 6,
+    })?;
+    commands.push(Command::Merge { into: 1, source: 0 })?;
+    commands.push(Command::RoundTrip { slot: 1 })?;
+    Ok(commands)
+}
+
+pub(super) fn items<S: Tried>(alloc: Global, numbers: &[u32]) -> Result<Vec<S::Item>, AllocError> {
+    let mut items = Vec::new(alloc);
+    for number in numbers {
+        items.push(S::item_of(alloc, *number)?)?;
+    }
+    Ok(items)
+}
+
+pub(super) fn subject_of<S: Tried>(alloc: Global, row: Row) -> Result<Subject<S>, Error>
+    requires { S.Asks }
+{
+    let (_, k, count, number) = row;
+    // (a copy has no room to spare)
+    let sketch = filled::<S>(alloc, k, count)?.copy()?;
+    let image = sketch.image()?;
+    let next = count.wrapping_add(1);
+    Ok(Subject {
+        sketch,
+        other: filled(alloc, k, number % 1000)?,
+        items: items::<S>(alloc, &[next, next])?,
+        points: items::<S>(alloc, &[3, 9, 14])?,
+        image,
+        commands: commands::<S>(alloc, k, count)?,
+        weight: number as u64,
+    })
+}
+
+/// Makes a call that changes the sketch.
+fn change<S: Tried>(
+    call: Call,
+    subject: &mut Subject<S>,
+    coins: &mut WordBits,
+) -> Result<Answer<S>, Error>
+    requires { S.Asks }
+{
+    let Subject {
+        sketch,
+        other,
+        items,
+        weight,
+        ..
+    } = subject;
+    let Some(item) = items.pop() else {
+        return Err(Error::new(ErrorKind::InvalidArgument));
+    };
+    match call {
+        Call::Update => sketch.take(item, coins)?,
+        Call::UpdateWeighted => sketch.take_weighted(item, *weight, coins)?,
+        _ => sketch.join(other, coins)?,
+    }
+    Ok(Answer::Done)
+}
+
+pub(super) fn fractions() -> [Rank; 3] {
+    [
+        Rank {
+            weight: 0,
+            total: 5,
+        },
+        Rank {
+            weight: 2,
+            total: 5,
+        },
+        Rank {
+            weight: 1,
+            total: 1,
+        },
+    ]
+}
+
+/// Makes a call that asks the sketch.
+fn ask<S: Tried>(call: Call, subject: &Subject<S>) -> Result<Answer<S>, Error>
+    requires { S.Asks }
+{
+    let Subject { sketch, points, .. } = subject;
+    let fractions = fractions();
+    Ok(match call {
+        Call::Clone => Answer::Sketch(sketch.copy()?),
+        Call::Quantile => Answer::Item(sketch.quantile_of(fractions[1], CRITERIA)?),
+        Call::Quantiles => Answer::Items(sketch.quantiles_of(&fractions)?),
+        Call::Cdf => Answer::Ranks(sketch.cdf_of(points.as_slice(), CRITERIA)?),
+        Call::Pmf => Answer::Ranks(sketch.pmf_of(points.as_slice(), CRITERIA)?),
+        Call::SortedView => Answer::View(sketch.view_of()?),
+        _ => Answer::Bytes(sketch.image()?),
+    })
+}
+
+/// Makes a call that takes no sketch.
+fn make<S: Tried>(alloc: Global, row: Row, subject: &Subject<S>) -> Result<Answer<S>, Error>
+    requires { S.Asks }
+{
+    let Subject {
+        image,
+        points,
+        commands,
+        ..
+    } = subject;
+    let Some(item) = points.first() else {
+        return Err(Error::new(ErrorKind::InvalidArgument));
+    };
+    let commands = commands.as_slice();
+    Ok(match row.0 {
+        Call::Default => Answer::Sketch(S::default_of(alloc)?),
+        Call::New => Answer::Sketch(S::create(alloc, S::config_of(row.1))?),
+        Call::Run => Answer::Run(S::run_of(alloc, commands, &WORD)?),
+        Call::Audit => Answer::Audit(S::audit_of(alloc, commands, item)?),
+        _ => Answer::Sketch(S::load(alloc, image.as_slice())?),
+    })
+}
+
+/// Makes the row's call.
+pub(super) fn answer_of<S: Tried>(
+    alloc: Global,
+    row: Row,
+    subject: &mut Subject<S>,
+) -> Result<Answer<S>, Error>
+    requires { S.Asks }
+{
+    match row.0 {
+        Call::Update | Call::UpdateWeighted | Call::Merge => {
+            change(row.0, subject, &mut WordBits::new(&WORD))
+        }
+        Call::Default | Call::New | Call::Deserialize | Call::Run | Call::Audit => make(
+            alloc, row, subject,
+        ),
+        _ => ask(row.0, subject),
+    }
+}
+
+/// The image of a sketch that took so many items more: states and coins that no image holds show there.
+fn image_past<S: Tried>(alloc: Global, sketch: &S, more: u32) -> Result<Vec<u8>, Error>
+    requires { S.Asks }
+{
+    let mut copy = sketch.copy()?;
+    let mut coins = WordBits::new(&WORD);
+    for number in 0..more {
+        copy.take(S::item_of(alloc, number.wrapping_mul(7) % 90)?, &mut coins)?;
+    }
+    copy.image()
+}
+
+pub(super) fn are_alike<S: Tried>(alloc: Global, a: &S, b: &S) -> Result<bool, Error>
+    requires { S.Asks }
+{
+    for more in [0, 1, 150] {
+        if image_past(alloc, a, more)?.as_slice() != image_past(alloc, b, more)?.as_slice() {
+            return Ok(false);
+        }
+    }
+    Ok(true)
+}
+
+fn are_runs_alike<S: Tried>(alloc: Global, a: &Run<S>, b: &Run<S>) -> Result<bool, Error>
+    requires { S.Asks }
+{
+    for slot in 0..3u8 {
+        let is_same = match (a.slots.get(&slot), b.slots.get(&slot)) {
+            (Some(one), Some(other)) => are_alike(alloc, one, other)?,
+            (one, other) => one.is_none() && other.is_none(),
+        };
+        if !is_same {
+            return Ok(false);
+        }
+    }
+    Ok(a.coins == b.coins && a.refused.as_slice() == b.refused.as_slice())
+}
+
+fn are_views_alike<S: Tried>(
+    a: &SortedView<S::Item>,
+    b: &SortedView<S::Item>,
+    points: &[S::Item],
+) -> Result<bool, Error>
+    requires { S.Asks }
+{
+    let (one, other) = (a.cdf(points, CRITERIA)?, b.cdf(points, CRITERIA)?);
+    let fractions = fractions();
+    let (items, others) = (
+        S::quantiles_in(a, &fractions)?,
+        S::quantiles_in(b, &fractions)?,
+    );
+    Ok(a.len() == b.len() && one == other && items == others)
+}
+
+pub(super) fn is_same<S: Tried>(
+    alloc: Global,
+    a: &Answer<S>,
+    b: &Answer<S>,
+    points: &[S::Item],
+) -> Result<bool, Error>
+    requires { S.Asks }
+{
+    match (a, b) {
+        (Answer::Done, Answer::Done) => Ok(true),
+        (Answer::Sketch(a), Answer::Sketch(b)) => are_alike(alloc, a, b),
+        (Answer::Item(a), Answer::Item(b)) => Ok(a == b),
+        (Answer::Items(a), Answer::Items(b)) => Ok(a == b),
+        (Answer::Ranks(a), Answer::Ranks(b)) => Ok(a == b),
+        (Answer::View(a), Answer::View(b)) => are_views_alike::<S>(a, b, points),
+        (Answer::Bytes(a), Answer::Bytes(b)) => Ok(a == b),
+        (Answer::Run(a), Answer::Run(b)) => are_runs_alike(alloc, a, b),
+        (Answer::Audit(a), Answer::Audit(b)) => {
+            Ok(a.coins == b.coins && a.weights == b.weights && a.true_rank == b.true_rank)
+        }
+        _ => Ok(false),
+    }
+}

@@ -1,0 +1,174 @@
+//! Items that compare by one field of three values, and whose clones count how often they were cloned.
+ghost use Rattle.std.specs.Prelude.{◌≡◌, nat_eq};
+ghost use Rattle.std.proofs.Common.{rules, refl};
+ghost use Rattle.std.specs.Cmp.{partial_order_from_own_ties};
+ghost use Rattle.std.specs.Cmp.Rules.{comparing};
+ghost use Rattle.std.specs.Ordering.{nat_cmp, on, as_partial_cmp};
+
+use sketch_base::common::random::SplitMix64;
+use sketch_base::common::{Rank, SearchCriteria};
+use sketch_base::error::Error;
+use sketch_kll::sketch::KllSketch;
+use sketch_req::RankAccuracy;
+use sketch_req::sketch::ReqSketch;
+use std::alloc::{AllocError, Global};
+use std::cmp::Ordering;
+use std::test::Fail;
+
+#[derive(Debug, Drop)]
+struct Third {
+    class: u8,
+    clones: u32,
+}
+
+impl Clone for Third {
+    ghost is_clone = { λ x y. y.class ≡ x.class };
+
+    fn clone(&self) -> Result<Third, AllocError> {
+        Ok(Third {
+            class: self.class,
+            clones: self.clones.saturating_add(1),
+        })
+    }
+}
+
+impl PartialEq for Third {
+    ghost eq = { on (λ x. x.class) nat_eq };
+
+    ghost laws = { Prim.search (comparing, rules) };
+
+    fn eq(&self, other: &Third) -> bool {
+        self.class == other.class
+    }
+}
+
+impl Eq for Third {
+    ghost laws = { Prim.search (comparing, rules) };
+}
+
+impl PartialOrd for Third {
+    ghost partial_cmp = { as_partial_cmp (on (λ x. x.class) nat_cmp) };
+
+    ghost laws = { partial_order_from_own_ties (Prim.search (comparing, rules)) (Prim.search (comparing, rules)) };
+
+    fn partial_cmp(&self, other: &Third) -> Option<Ordering> {
+        Some(self.cmp(other))
+    }
+}
+
+impl Ord for Third {
+    ghost cmp = { on (λ x. x.class) nat_cmp };
+
+    ghost total = { Prim.search (comparing, rules) };
+
+    ghost matches_partial_cmp = { λ x y. refl };
+
+    ghost matches_eq = { Prim.search (comparing, rules) };
+
+    fn cmp(&self, other: &Third) -> Ordering {
+        self.class.cmp(&other.class)
+    }
+}
+
+fn item_of(class: u32) -> Third {
+    Third {
+        class: (class % 3) as u8,
+        clones: 0,
+    }
+}
+
+/// How many items, and the least and the greatest.
+type Seen = (u64, Option<u8>, Option<u8>);
+
+fn class_of(item: Option<&Third>) -> Option<u8> {
+    match item {
+        Some(item) => Some(item.class),
+        None => None,
+    }
+}
+
+fn seen_of_kll(sketch: &KllSketch<Third>) -> Seen {
+    (
+        sketch.n(),
+        class_of(sketch.min_item()),
+        class_of(sketch.max_item()),
+    )
+}
+
+fn seen_of_req(sketch: &ReqSketch<Third>) -> Seen {
+    (
+        sketch.n(),
+        class_of(sketch.min_item()),
+        class_of(sketch.max_item()),
+    )
+}
+
+/// Whether a median is the clone of a class's item, and the whole is ranked.
+fn is_answered(median: Option<Third>, rank: Option<Rank>) -> bool {
+    rank == Some(Rank {
+        weight: 2000,
+        total: 2000,
+    }) && median.is_some_and(|item| item.class < 3 && item.clones > 0)
+}
+
+const HALF: Rank = Rank {
+    weight: 1,
+    total: 2,
+};
+
+const CRITERIA: SearchCriteria = SearchCriteria::Inclusive;
+
+/// What the sketch of so many items 0, 1, 2, 0, 1 and so on shows.
+fn wanted(count: u32) -> Seen {
+    (
+        count as u64,
+        Some(0),
+        Some(count.wrapping_sub(1).min(2) as u8),
+    )
+}
+
+/// A KLL sketch of k 8 that took 1000 items and a copy of itself, unless an update left it otherwise than it should.
+fn kll_of_thirds(alloc: Global) -> Result<Option<KllSketch<Third>>, Error> {
+    let mut sketch = KllSketch::new(alloc, 8)?;
+    let mut coins = SplitMix64::new(0);
+    for number in 0..1000u32 {
+        sketch.update(item_of(number), &mut coins)?;
+        if seen_of_kll(&sketch) != wanted(number.wrapping_add(1)) || sketch.num_retained() > 80 {
+            return Ok(None);
+        }
+    }
+    let copy = sketch.clone()?;
+    sketch.merge(&copy, &mut coins)?;
+    Ok(Some(sketch))
+}
+
+/// The same of a REQ sketch of k 4.
+fn req_of_thirds(alloc: Global) -> Result<Option<ReqSketch<Third>>, Error> {
+    let mut sketch = ReqSketch::new(alloc, 4, RankAccuracy::HighRank)?;
+    let mut coins = SplitMix64::new(0);
+    for number in 0..1000u32 {
+        sketch.update(item_of(number), &mut coins)?;
+        if seen_of_req(&sketch) != wanted(number.wrapping_add(1)) || sketch.num_retained() > 216 {
+            return Ok(None);
+        }
+    }
+    let copy = sketch.clone()?;
+    sketch.merge(&copy, &mut coins)?;
+    Ok(Some(sketch))
+}
+
+#[test]
+fn kll_takes_items_of_three_classes(rt: HostRuntime) -> Result<(), Fail> {
+    let sketch = kll_of_thirds(rt.alloc())?.ok_or("an update left another sketch")?;
+    let median = sketch.quantile(HALF, CRITERIA)?;
+    assert!(rt; is_answered(median, sketch.rank(&item_of(2), CRITERIA)));
+    Ok(())
+}
+
+#[test]
+fn req_takes_items_of_three_classes(rt: HostRuntime) -> Result<(), Fail> {
+    let sketch = req_of_thirds(rt.alloc())?.ok_or("an update left another sketch")?;
+    let median = sketch.quantile(HALF, CRITERIA)?;
+    assert!(rt; is_answered(median, sketch.rank(&item_of(2), CRITERIA)));
+    Ok(())
+}

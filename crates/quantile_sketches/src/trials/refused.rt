@@ -1,0 +1,250 @@
+//! Calls whose requests for memory are refused one by one.
+//!
+//! `tests/memory` runs these tests under tests/refuse.c, and each call is then made anew for the first request, the second and
+//! so on, until none is refused. Without that library nothing is refused: each call is made once.
+use super::calls::{
+    Answer, CRITERIA, Call, Row, Subject, WORD, answer_of, are_alike, fractions, is_same, items,
+    subject_of,
+};
+use super::sketches::Tried;
+use sketch_base::common::random::WordBits;
+use sketch_base::common::{Rank, SearchCriteria};
+use sketch_base::error::{Error, ErrorKind};
+use sketch_base::sorted_view::SortedView;
+use sketch_kll::sketch::KllSketch;
+use sketch_req::sketch::ReqSketch;
+use std::alloc::Global;
+use std::test::Fail;
+
+/// So many bytes and more are asked of the library alone: N more have the Nth request from then on refused, and just so many are
+/// refused where a request was.
+const SIGN: usize = 1 << 24;
+
+fn refuse(alloc: Global, nth: usize) -> bool {
+    Vec::<u8>::with_capacity(alloc, SIGN.wrapping_add(nth)).is_ok()
+}
+
+fn was_refused(alloc: Global) -> bool {
+    Vec::<u8>::with_capacity(alloc, SIGN).is_err()
+}
+
+/// Whether the library is there.
+fn is_tried(alloc: Global) -> bool {
+    let _is_told = refuse(alloc, 1);
+    let _is_asked = Vec::<u8>::with_capacity(alloc, 1).is_ok();
+    was_refused(alloc)
+}
+
+/// Whether the call gives what it gives on a sketch that was never refused memory, and leaves the same.
+fn gives_the_same<S: Tried>(
+    alloc: Global,
+    row: Row,
+    given: &Answer<S>,
+    subject: &Subject<S>,
+) -> Result<bool, Error>
+    requires { S.Asks }
+{
+    let mut other: Subject<S> = subject_of(alloc, row)?;
+    let wanted = answer_of(alloc, row, &mut other)?;
+    Ok(
+        is_same(alloc, given, &wanted, other.points.as_slice())?
+            && are_alike(alloc, &subject.sketch, &other.sketch)?,
+    )
+}
+
+/// Whether the call, made again, gives what it gives on a sketch that was never refused memory.
+fn answers_again<S: Tried>(alloc: Global, row: Row, subject: &mut Subject<S>) -> Result<bool, Error>
+    requires { S.Asks }
+{
+    let given = answer_of(alloc, row, subject)?;
+    gives_the_same(alloc, row, &given, subject)
+}
+
+/// Makes the row's call with the Nth request refused: whether one was, and whether all is as wanted.
+fn try_nth<S: Tried>(alloc: Global, row: Row, nth: usize) -> Result<(bool, bool), Error>
+    requires { S.Asks }
+{
+    let mut subject: Subject<S> = subject_of(alloc, row)?;
+    let before = subject.sketch.copy()?;
+    let is_told = refuse(alloc, nth);
+    let first = answer_of(alloc, row, &mut subject);
+    let is_refused = was_refused(alloc);
+    let is_well = match first {
+        Ok(given) => is_told && !is_refused && gives_the_same(alloc, row, &given, &subject)?,
+        Err(error) => {
+            is_refused
+                && error.kind() == ErrorKind::OutOfMemory
+                && are_alike(alloc, &subject.sketch, &before)?
+                && answers_again(alloc, row, &mut subject)?
+        }
+    };
+    Ok((is_refused, is_well))
+}
+
+/// How many requests of the row's call were refused, if all is as wanted for each.
+fn try_each<S: Tried>(alloc: Global, row: Row) -> Result<Option<usize>, Error>
+    requires { S.Asks }
+{
+    for nth in 1..1000usize {
+        let (is_refused, is_well) = try_nth::<S>(alloc, row, nth)?;
+        if !is_refused || !is_well {
+            return Ok(is_well.then_some(nth.wrapping_sub(1)));
+        }
+    }
+    Ok(None)
+}
+
+/// Tries a row, and prints it under the library.
+fn try_row<S: Tried>(rt: &(impl Print + AllocGlobal), row: Row) -> Result<bool, Fail>
+    requires { S.Asks }
+{
+    let refused = try_each::<S>(rt.alloc(), row)?;
+    if is_tried(rt.alloc()) || refused.is_none() {
+        let (call, k, count, number) = row;
+        println!(rt; "{call:?} {k} {count} {number} {refused:?}")?;
+    }
+    Ok(refused.is_some())
+}
+
+/// Whether bad arguments are refused.
+fn refuses_arguments<S: Tried>(alloc: Global, sketch: &S, equal: &[S::Item]) -> bool
+    requires { S.Asks }
+{
+    let none = Rank {
+        weight: 0,
+        total: 0,
+    };
+    is_bad(sketch.quantile_of(none, CRITERIA))
+        && is_bad(sketch.quantiles_of(&[none]))
+        && is_bad(sketch.cdf_of(equal, CRITERIA))
+        && is_bad(sketch.pmf_of(equal, CRITERIA))
+        && is_bad(S::create(alloc, S::config_of(3)))
+}
+
+fn is_bad<X: Drop>(answer: Result<X, Error>) -> bool {
+    answer.is_err_and(|error| error.kind() == ErrorKind::InvalidArgument)
+}
+
+/// Whether an empty sketch answers None.
+fn answers_none<S: Tried>(sketch: &S, points: &[S::Item]) -> bool
+    requires { S.Asks }
+{
+    let fractions = fractions();
+    is_none(sketch.quantile_of(fractions[1], CRITERIA))
+        && is_none(sketch.quantiles_of(&fractions))
+        && is_none(sketch.cdf_of(points, CRITERIA))
+        && is_none(sketch.pmf_of(points, CRITERIA))
+}
+
+fn is_none<X: Drop>(answer: Result<Option<X>, Error>) -> bool {
+    matches!(answer, Ok(None))
+}
+
+/// Whether an empty view answers None.
+fn views_none<S: Tried>(view: &SortedView<S::Item>, points: &[S::Item], item: &S::Item) -> bool
+    requires { S.Asks }
+{
+    let fractions = fractions();
+    view.rank(item, CRITERIA).is_none()
+        && is_none(S::quantile_in(view, fractions[1]))
+        && is_none(S::quantiles_in(view, &fractions))
+        && is_none(view.cdf(points, CRITERIA))
+        && is_none(view.pmf(points, CRITERIA))
+}
+
+/// Makes the calls that take no memory, of the two families alike, with the first request refused: whether none was made, and
+/// the answers are right.
+fn asks_for_none<S: Tried>(alloc: Global) -> Result<bool, Error>
+    requires { S.Asks }
+{
+    let Subject {
+        mut sketch,
+        other: empty,
+        points,
+        ..
+    }: Subject<S> = subject_of(alloc, (Call::Merge, 8, 27, 0))?;
+    let (equal, item) = (items::<S>(alloc, &[3, 3])?, S::item_of(alloc, 27)?);
+    let (view, nothing) = (sketch.view_of()?, empty.view_of()?);
+    let copy = sketch.copy()?;
+    let is_told = refuse(alloc, 1) && sketch.reads_as(&copy);
+    let whole = Some(Rank {
+        weight: 27,
+        total: 27,
+    });
+    let is_ranked = view.rank(&item, CRITERIA) == whole && sketch.rank_of(&item, CRITERIA) == whole;
+    let is_refused = refuses_arguments(alloc, &sketch, equal.as_slice());
+    let is_merged = sketch.join(&empty, &mut WordBits::new(&WORD)).is_ok();
+    sketch.empty();
+    let (points, other) = (points.as_slice(), &sketch);
+    let is_nothing = answers_none(other, points) && views_none::<S>(&nothing, points, &item);
+    Ok(!was_refused(alloc) && is_told && is_ranked && is_refused && is_merged && is_nothing)
+}
+
+/// What is tried of each family.
+const ROWS: [Row; 15] = [
+    (Call::Default, 8, 0, 0),
+    (Call::New, 8, 0, 0),
+    (Call::Clone, 8, 27, 0),
+    (Call::Update, 8, 3, 0),
+    (Call::Update, 8, 8, 0),
+    (Call::Update, 8, 26, 0),
+    (Call::Quantile, 8, 27, 0),
+    (Call::Quantiles, 8, 27, 0),
+    (Call::Cdf, 8, 27, 0),
+    (Call::Pmf, 8, 27, 0),
+    (Call::SortedView, 8, 27, 0),
+    (Call::Serialize, 8, 27, 0),
+    (Call::Deserialize, 8, 27, 0),
+    (Call::Run, 8, 21, 0),
+    (Call::Audit, 8, 9, 0),
+];
+
+/// What is tried of KLL sketches: a weight with and without a compaction, and merges that end in all ways.
+const KLL_ROWS: [Row; 6] = [
+    (Call::UpdateWeighted, 8, 0, 5),
+    (Call::UpdateWeighted, 8, 8, 3),
+    (Call::Merge, 8, 0, 9),
+    (Call::Merge, 8, 8, 4),
+    (Call::Merge, 8, 20, 20),
+    (Call::Merge, 8, 21, 21),
+];
+
+/// What is tried of REQ sketches: the 48th item compacts at k 8, the 72nd at k 12, and so may merges.
+const REQ_ROWS: [Row; 6] = [
+    (Call::Update, 8, 47, 0),
+    (Call::Update, 12, 149, 0),
+    (Call::Clone, 12, 211, 0),
+    (Call::Merge, 12, 0, 72),
+    (Call::Merge, 12, 72, 72),
+    (Call::Merge, 4, 40, 200),
+];
+
+/// Tries the rows of each family and some more, and the calls that take no memory.
+fn try_all<S: Tried>(rt: &(impl Print + AllocGlobal), more: &[Row]) -> Result<(), Fail>
+    requires { S.Asks }
+{
+    for row in ROWS.iter().chain(more.iter()) {
+        try_row::<S>(rt, *row)?.then_some(()).ok_or(
+            "a call whose memory was refused answered otherwise than wanted",
+        )?;
+    }
+    asks_for_none::<S>(rt.alloc())?.then_some(()).ok_or(
+        "a call that takes no memory asked for some, or answered otherwise than wanted",
+    )?;
+    Ok(())
+}
+
+#[test]
+fn kll_of_i64(rt: HostRuntime) -> Result<(), Fail> {
+    try_all::<KllSketch<i64>>(&rt, &KLL_ROWS)
+}
+
+#[test]
+fn kll_of_text(rt: HostRuntime) -> Result<(), Fail> {
+    try_all::<KllSketch<String>>(&rt, &KLL_ROWS)
+}
+
+#[test]
+fn req_of_i64(rt: HostRuntime) -> Result<(), Fail> {
+    try_all::<ReqSketch<i64>>(&rt, &REQ_ROWS)
+}

@@ -1,0 +1,204 @@
+//! The sketches that are tried, with all calls that take memory, and items by number.
+use crate::audit::{Audit, Command, Run, audit, audit_req, run, run_req};
+use crate::family::QueriedFamily;
+use sketch_base::common::{Rank, SearchCriteria};
+use sketch_base::error::Error;
+use sketch_base::sorted_view::SortedView;
+use sketch_kll::sketch::KllSketch;
+use sketch_kll::value::KllValue;
+use sketch_req::RankAccuracy;
+use sketch_req::sketch::ReqSketch;
+use sketch_req::value::ReqValue;
+use std::alloc::{AllocError, Global};
+
+/// Items that stand in the order of their numbers.
+pub(super) trait Numbered: Sized {
+    fn numbered(alloc: Global, number: u32) -> Result<Self, AllocError>;
+}
+
+impl Numbered for i32 {
+    fn numbered(_alloc: Global, number: u32) -> Result<i32, AllocError> {
+        Ok((number % (1 << 31)) as i32)
+    }
+}
+
+impl Numbered for i64 {
+    fn numbered(_alloc: Global, number: u32) -> Result<i64, AllocError> {
+        Ok(number as i64)
+    }
+}
+
+/// Six digits.
+impl Numbered for String {
+    fn numbered(alloc: Global, number: u32) -> Result<String, AllocError> {
+        format!(in alloc; "{number:06}")
+    }
+}
+
+/// A sketch with the calls that take memory and that the program has no word for.
+pub(super) trait Tried: QueriedFamily {
+    fn config_of(k: u16) -> Self::Config;
+
+    fn item_of(alloc: Global, number: u32) -> Result<Self::Item, AllocError>;
+
+    fn default_of(alloc: Global) -> Result<Self, Error>;
+
+    /// Whether the plain reads of the sketch and of a copy are the same.
+    fn reads_as(&self, copy: &Self) -> bool;
+
+    fn view_of(&self) -> Result<SortedView<Self::Item>, Error>
+        requires { Self.Asks };
+
+    fn quantiles_of(&self, fractions: &[Rank]) -> Result<Option<Vec<Self::Item>>, Error>
+        requires { Self.Asks };
+
+    // (calls of a view that clone, which no clause of a family's allows for any view)
+    fn copy_of(view: &SortedView<Self::Item>) -> Result<SortedView<Self::Item>, Error>
+        requires { Self.Asks };
+
+    fn quantile_in(
+        view: &SortedView<Self::Item>,
+        fraction: Rank,
+    ) -> Result<Option<Self::Item>, Error>
+        requires { Self.Asks };
+
+    fn quantiles_in(
+        view: &SortedView<Self::Item>,
+        fractions: &[Rank],
+    ) -> Result<Option<Vec<Self::Item>>, Error>
+        requires { Self.Asks };
+
+    fn run_of(
+        alloc: Global,
+        commands: &[Command<Self::Item, Self::Config>],
+        word: &[bool],
+    ) -> Result<Run<Self>, Error>
+        requires { Self.Asks };
+
+    fn audit_of(
+        alloc: Global,
+        commands: &[Command<Self::Item, Self::Config>],
+        item: &Self::Item,
+    ) -> Result<Audit, Error>
+        requires { Self.Asks };
+}
+
+impl<T: KllValue + Ord + Numbered> Tried for KllSketch<T> {
+    fn config_of(k: u16) -> u16 {
+        k
+    }
+
+    fn item_of(alloc: Global, number: u32) -> Result<T, AllocError> {
+        T::numbered(alloc, number)
+    }
+
+    fn default_of(alloc: Global) -> Result<Self, Error> {
+        KllSketch::default(alloc)
+    }
+
+    fn reads_as(&self, copy: &Self) -> bool {
+        self == copy
+            && (self.k(), self.min_k(), self.n()) == (copy.k(), copy.min_k(), copy.n())
+            && self.num_retained() == copy.num_retained()
+            && self.is_empty() == copy.is_empty()
+            && self.is_estimation_mode() == copy.is_estimation_mode()
+            && (self.min_item(), self.max_item()) == (copy.min_item(), copy.max_item())
+    }
+
+    fn view_of(&self) -> Result<SortedView<T>, Error> {
+        self.sorted_view()
+    }
+
+    fn quantiles_of(&self, fractions: &[Rank]) -> Result<Option<Vec<T>>, Error> {
+        self.quantiles(fractions, SearchCriteria::Inclusive)
+    }
+
+    fn copy_of(view: &SortedView<T>) -> Result<SortedView<T>, Error> {
+        let copy = view.clone()?;
+        Ok(copy)
+    }
+
+    fn quantile_in(view: &SortedView<T>, fraction: Rank) -> Result<Option<T>, Error> {
+        view.quantile(fraction, SearchCriteria::Inclusive)
+    }
+
+    fn quantiles_in(view: &SortedView<T>, fractions: &[Rank]) -> Result<Option<Vec<T>>, Error> {
+        view.quantiles(fractions, SearchCriteria::Inclusive)
+    }
+
+    fn run_of(
+        alloc: Global,
+        commands: &[Command<T, u16>],
+        word: &[bool],
+    ) -> Result<Run<Self>, Error> {
+        run(alloc, commands, word)
+    }
+
+    fn audit_of(alloc: Global, commands: &[Command<T, u16>], item: &T) -> Result<Audit, Error> {
+        audit(alloc, commands, 0, item, SearchCriteria::Inclusive)
+    }
+}
+
+impl<T: ReqValue + Clone + Ord + Numbered> Tried for ReqSketch<T> {
+    fn config_of(k: u16) -> (u16, RankAccuracy) {
+        (k, RankAccuracy::HighRank)
+    }
+
+    fn item_of(alloc: Global, number: u32) -> Result<T, AllocError> {
+        T::numbered(alloc, number)
+    }
+
+    fn default_of(alloc: Global) -> Result<Self, Error> {
+        ReqSketch::default(alloc)
+    }
+
+    fn reads_as(&self, copy: &Self) -> bool {
+        let (sizes, others) = (self.serialized_size_bytes(), copy.serialized_size_bytes());
+        sizes.is_ok()
+            && sizes == others
+            && (self.k(), self.rank_accuracy(), self.n())
+                == (copy.k(), copy.rank_accuracy(), copy.n())
+            && self.num_retained() == copy.num_retained()
+            && self.is_empty() == copy.is_empty()
+            && self.is_estimation_mode() == copy.is_estimation_mode()
+            && (self.min_item(), self.max_item()) == (copy.min_item(), copy.max_item())
+            && self.iter().last() == copy.iter().last()
+    }
+
+    fn view_of(&self) -> Result<SortedView<T>, Error> {
+        self.sorted_view()
+    }
+
+    fn quantiles_of(&self, fractions: &[Rank]) -> Result<Option<Vec<T>>, Error> {
+        self.quantiles(fractions, SearchCriteria::Inclusive)
+    }
+
+    fn copy_of(view: &SortedView<T>) -> Result<SortedView<T>, Error> {
+        let copy = view.clone()?;
+        Ok(copy)
+    }
+
+    fn quantile_in(view: &SortedView<T>, fraction: Rank) -> Result<Option<T>, Error> {
+        view.quantile(fraction, SearchCriteria::Inclusive)
+    }
+
+    fn quantiles_in(view: &SortedView<T>, fractions: &[Rank]) -> Result<Option<Vec<T>>, Error> {
+        view.quantiles(fractions, SearchCriteria::Inclusive)
+    }
+
+    fn run_of(
+        alloc: Global,
+        commands: &[Command<T, (u16, RankAccuracy)>],
+        word: &[bool],
+    ) -> Result<Run<Self>, Error> {
+        run_req(alloc, commands, word)
+    }
+
+    fn audit_of(
+        alloc: Global,
+        commands: &[Command<T, (u16, RankAccuracy)>],
+        item: &T,
+    ) -> Result<Audit, Error> {
+        audit_req(alloc, commands, 0, item, SearchCriteria::Inclusive)
+    }
+}
