@@ -1,8 +1,9 @@
 //! What no contract can say: calls go through where memory is ample, and leave all as it was where it is refused.
-//! `tests/memory` runs the tests of `refused` under a library that refuses each request for memory in turn.
+//! `tests/memory` runs the tests of `refused` under a library that refuses each request for memory in turn. The README's example.
 
 mod ample;
 mod calls;
 mod items;
+mod readme;
 mod refused;
 mod sketches;

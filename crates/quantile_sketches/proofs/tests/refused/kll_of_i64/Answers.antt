@@ -1,6 +1,6 @@
 use Rattle.std.proofs.Common.{rules}
 use Rattle.sketch_base.specs.SpellingLaws.{i64_ties}
-use Rattle.quantile_sketches.proofs.trials.refused.req_of_i64.Goals as goal
+use Rattle.quantile_sketches.proofs.tests.refused.kll_of_i64.Goals as goal
 
 pub try_all-requires : goal.try_all-requires
 try_all-requires c = (i64_ties, search rules)
