@@ -1,4 +1,4 @@
-use Rattle.std.proofs.Common.{◌≡◌, ℕ, ◌-◌, ◌/◌, List, ◌++◌, length, take, drop, reverse, ap, ◌∙◌}
+use Rattle.std.proofs.Common.{ℕ, ◌-◌, ◌/◌, List, ◌++◌, length, take, drop, reverse, ap, ◌∙◌}
 use Rattle.sketch_base.specs.Bag.{half}
 use Rattle.sketch_req.specs.Level.{second_half, side_kept, side_taken}
 use Rattle.sketch_req.proofs.Order.{written_back}

@@ -1,4 +1,4 @@
-use Rattle.std.proofs.Common.{◌≡◌, ◌+◌, ◌*◌, List, ◌++◌, length, take, drop, sym, ◌∙◌, subst, arith, IsSorted, IsPermutation, length-take-le}
+use Rattle.std.proofs.Common.{◌+◌, List, ◌++◌, take, drop, sym, ◌∙◌, subst, arith, IsSorted, IsPermutation, length-take-le}
 use Rattle.std.proofs.lemmas.List.Sorted.{IsPermutation-trans, IsPermutation-append}
 use Rattle.sketch_req.proofs.Parts.{before_end, are_ends}
 use Rattle.sketch_req.proofs.merging.merge_ends.Goals as goal

@@ -1,4 +1,4 @@
-use Rattle.std.proofs.Common.{◌≡◌, ℕ, List, ◌+◌, ◌/◌, length, take, sym, subst, ap, ◌∙◌, IsSorted}
+use Rattle.std.proofs.Common.{ℕ, List, ◌+◌, ◌/◌, length, take, sym, subst, ap, ◌∙◌, IsSorted}
 use Rattle.sketch_base.specs.Bag.{SameItems}
 use Rattle.sketch_base.proofs.Items.{SameItems-refl}
 use Rattle.sketch_req.specs.Level.{second_half}

@@ -1,4 +1,4 @@
-use Rattle.std.proofs.Common.{◌≡◌, ◌-◌, ◌≤◌, arith, leb-true, le-leb}
+use Rattle.std.proofs.Common.{◌-◌, ◌≤◌, arith, leb-true, le-leb}
 use Rattle.sketch_req.proofs.Sections.{threshold_rises}
 use Rattle.sketch_req.proofs.serialization.is_reached.Goals as goal
 

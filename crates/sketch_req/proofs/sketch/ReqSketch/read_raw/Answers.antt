@@ -1,4 +1,4 @@
-use Rattle.std.proofs.Common.{◌≡◌, ◌∙◌, ◌∷◌, [], refl, sym, ap, subst, arith, length, List, Bool, true, IsSorted}
+use Rattle.std.proofs.Common.{◌≡◌, ◌∙◌, ◌∷◌, [], sym, ap, subst, arith, length, List, Bool, IsSorted}
 use Rattle.std.specs.Prelude.{IsTrue, ◌↔◌}
 use Rattle.sketch_req.specs.Level.{Level, fresh}
 use Rattle.sketch_req.specs.Image.{accuracy_in}

@@ -1,6 +1,5 @@
-use Rattle.std.proofs.Common.{◌≡◌, ℕ, List, [], ◌∷◌, ◌++◌, Equal, append-nil, arith, rules}
+use Rattle.std.proofs.Common.{◌≡◌, [], ◌∷◌, ◌++◌, Equal, append-nil, arith, rules}
 use Rattle.std.proofs.lemmas.List.{take_all}
-use Rattle.sketch_req.specs.Views.{SamePairs}
 use Rattle.sketch_req.proofs.Views.{pairs-more}
 use Rattle.sketch_req.proofs.sketch.queries.clone_level.Goals as goal
 

@@ -1,4 +1,4 @@
-use Rattle.std.proofs.Common.{◌++◌, ◌^◌, ℕ, List, take, ap, ap₂, ◌∙◌, sym, subst, arith}
+use Rattle.std.proofs.Common.{◌++◌, ℕ, List, take, ap, ap₂, ◌∙◌, sym, subst, arith}
 use Rattle.std.proofs.lemmas.List.{take_all}
 use Rattle.sketch_req.specs.Pairs.{pairs_of, weighed}
 use Rattle.sketch_req.specs.Views.{SamePairs}
