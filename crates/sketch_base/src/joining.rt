@@ -1,16 +1,21 @@
 //! How weighted items are put in order, and equal ones joined.
-ghost use Rattle.std.specs.Prelude.{◌≡◌, ℕ, ◌+◌, ◌^◌, ◌<◌, ◌≤◌, [], ◌∷◌, ◌++◌, map, reverse, sum_by, IsSorted, vec_len, vec_capacity, if◌then◌else◌};
+ghost use Rattle.std.specs.Prelude.{◌≡◌, ℕ, ◌+◌, ◌^◌, ◌<◌, ◌≤◌, [], ◌∷◌, ◌++◌, map, reverse, sum_by, IsSorted, vec_len, vec_capacity, if◌then◌else◌, OnOk};
 ghost use Rattle.std.specs.List.Sorted.{IsPermutation};
 ghost use Rattle.sketch_base.specs.Pairs.{is_below_next, joined, joined_weights};
 
-/// Puts weighted items in order of the items, the least last.
-pub(crate) fn sort_from_greatest<T: Ord>(weighted: &mut Vec<(T, u64)>)
-    ensures permutation { IsPermutation weighted.old.items (reverse weighted.new.items) }
-    ensures sorted { IsSorted T.cmp (map (λ pair. pair.0) (reverse weighted.new.items)) }
+use std::alloc::AllocError;
+
+/// Puts weighted items in order of the items, the least last. Runs that are in order already, as levels are, are merged.
+pub(crate) fn sort_from_greatest<T: Ord>(weighted: &mut Vec<(T, u64)>) -> Result<(), AllocError>
+    ensures permutation { OnOk result
+        (IsPermutation weighted.old.items (reverse weighted.new.items)) }
+    ensures sorted { OnOk result
+        (IsSorted T.cmp (map (λ pair. pair.0) (reverse weighted.new.items))) }
     ensures len { vec_len weighted.new ≡ vec_len weighted.old }
 {
-    weighted.sort_unstable_by(|a, b| a.0.cmp(&b.0));
+    weighted.sort_by(|a, b| a.0.cmp(&b.0))?;
     weighted.reverse();
+    Ok(())
 }
 
 // Whether an item is below the last of weighted items, if there is one.

@@ -67,7 +67,7 @@ impl<T: Clone + Ord> SortedView<T> {
         if count == 0 {
             return Ok(SortedView::from_cumulated(items, cumulated, None, None));
         }
-        sort_from_greatest(&mut weighted);
+        sort_from_greatest(&mut weighted)?;
         join_equal(&mut weighted, &mut items, &mut cumulated);
         Ok(SortedView::from_cumulated(items, cumulated, min_item, max_item))
     }

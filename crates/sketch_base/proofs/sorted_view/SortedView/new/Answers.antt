@@ -8,14 +8,14 @@ use Rattle.sketch_base.proofs.sorted_view.SortedView.new.Goals as goal
 pub join_equal-requires-clause-fits : goal.join_equal-requires-clause-fits
 join_equal-requires-clause-fits g c =
     let all = reverse c.sort_from_greatest.new.weighted.items in
-    omega (arith, sum_by-IsPermutation (λ (pair : g.row.T.Denot × ℕ). pair.1) c.args.weighted.items all c.sort_from_greatest.ensures.permutation, c.requires.fits)
+    omega (arith, sum_by-IsPermutation (λ (pair : g.row.T.Denot × ℕ). pair.1) c.args.weighted.items all c.in_ok-sort_from_greatest.ensures.permutation, c.requires.fits)
 
 pub from_cumulated-requires-2 : goal.from_cumulated-requires-2
 from_cumulated-requires-2 g c =
     let cmp = g.T.Ord.cmp in
     let weighted = c.args.weighted.items in
     let all = reverse c.sort_from_greatest.new.weighted.items in
-    let are = in-order g.met.T.Ord.total weighted all c.sort_from_greatest.ensures.permutation c.sort_from_greatest.ensures.sorted c.requires.weights in
+    let are = in-order g.met.T.Ord.total weighted all c.in_ok-sort_from_greatest.ensures.permutation c.in_ok-sort_from_greatest.ensures.sorted c.requires.weights in
     let some : 0 < length weighted = omega (arith, c.args.weighted.ok) in
     subst (λ (xs : List g.row.T.Denot). IsView cmp xs c.join_equal.new.weights.items c.args.min_item c.args.max_item) (sym c.join_equal.ensures.items)
     (subst (λ (ws : List ℕ). IsView cmp (joined cmp all) ws c.args.min_item c.args.max_item) (sym c.join_equal.ensures.weights)
@@ -26,7 +26,7 @@ returns-clause-entries g c =
     let cmp = g.T.Ord.cmp in
     let weighted = c.args.weighted.items in
     let all = reverse c.sort_from_greatest.new.weighted.items in
-    let are = in-order g.met.T.Ord.total weighted all c.sort_from_greatest.ensures.permutation c.sort_from_greatest.ensures.sorted c.requires.weights in
+    let are = in-order g.met.T.Ord.total weighted all c.in_ok-sort_from_greatest.ensures.permutation c.in_ok-sort_from_greatest.ensures.sorted c.requires.weights in
     rw (c.from_cumulated-2.ensures, c.join_equal.ensures.items, c.join_equal.ensures.weights) (joined-entries g.met.T.Ord.total weighted all are)
 
 pub returns-clause-joined : goal.returns-clause-joined
@@ -34,5 +34,5 @@ returns-clause-joined g c =
     let cmp = g.T.Ord.cmp in
     let weighted = c.args.weighted.items in
     let all = reverse c.sort_from_greatest.new.weighted.items in
-    let are = in-order g.met.T.Ord.total weighted all c.sort_from_greatest.ensures.permutation c.sort_from_greatest.ensures.sorted c.requires.weights in
+    let are = in-order g.met.T.Ord.total weighted all c.in_ok-sort_from_greatest.ensures.permutation c.in_ok-sort_from_greatest.ensures.sorted c.requires.weights in
     rw (c.from_cumulated-2.ensures, c.join_equal.ensures.items, c.join_equal.ensures.weights) (joined-distinct g.met.T.Ord.total weighted all are)
