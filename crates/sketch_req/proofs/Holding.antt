@@ -21,7 +21,7 @@ use Rattle.sketch_req.specs.Walk.{AreActed, room_of}
 use Rattle.sketch_req.specs.declared.RankAccuracy.{RankAccuracy}
 use Rattle.sketch_req.proofs.Bags.{alike-sym}
 use Rattle.sketch_base.specs.Extremes.{IsFrom, IsUpTo}
-use Rattle.sketch_req.proofs.Joins.{length-layouts}
+use Rattle.sketch_req.proofs.Layouts.{length-layouts}
 
 -- ---- a walk over one level that is full adds another
 

@@ -63,7 +63,7 @@ returns-clause-found g c =
     let rest = c.deserialize.new.input in
     let its = ap length (alone _ c.in_ok-level.level levels).items in
     record {
-      none_raw = omega (arith, c.if-header-ne0.false);
+      none_raw = omega (arith, c.if-raw_count-ne0.false);
       one_level = ap length levels;
       levels = subst (λ (ls : List (Level g.row.T.Denot)). BeginsLevels cmp f place c.args.text.now ls rest) (sym levels) (rest, read, refl);
       many_items = omega (arith, its, c.num_items.ensures, c.if-num_items-lt5.false);

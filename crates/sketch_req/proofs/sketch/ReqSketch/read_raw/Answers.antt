@@ -19,8 +19,8 @@ from_level-requires g c =
       legal = c.requires.head.legal_k;
       clones = c.requires.clones;
       placed = subst (λ (l : Level g.row.T.Denot). IsPlaced g.T.Ord.cmp h.k (accuracy_in h.flags) 0 l) (sym rest)
-          (fresh_placed g.T.Ord.cmp h.k (accuracy_in h.flags) xs made.is_sorted c.requires.head.legal_k (omega (arith, many, c.if-header-gt4.false)) (λ t. (c.raw_items_compactor-level.ensures.sorted.0 t).1));
-      some = omega (arith, held, many, c.if-header-eq0.false);
+          (fresh_placed g.T.Ord.cmp h.k (accuracy_in h.flags) xs made.is_sorted c.requires.head.legal_k (omega (arith, many, c.if-raw_count-gt4.false)) (λ t. (c.raw_items_compactor-level.ensures.sorted.0 t).1));
+      some = omega (arith, held, many, c.if-raw_count-eq0.false);
       fresh = λ _. (ap (λ (l : Level g.row.T.Denot). l.state) rest, ap (λ (l : Level g.row.T.Denot). l.doublings) rest);
     }
 
@@ -31,9 +31,9 @@ returns-clause-found g c =
     let made : Level g.row.T.Denot = c.raw_items_compactor-level.result in
     let rest : made ≡ fresh xs made.is_sorted 0 h.k (accuracy_in h.flags) = c.raw_items_compactor-level.ensures.rest ∙ ap (λ (a : RankAccuracy). fresh xs made.is_sorted 0 h.k a) c.rank_accuracy.ensures in
     record {
-      one_level = c.if-header-ne1.false;
-      some_items = omega (arith, c.if-header-eq0.false);
-      few_items = omega (arith, c.if-header-gt4.false);
+      one_level = c.if-num_levels-ne1.false;
+      some_items = omega (arith, c.if-raw_count-eq0.false);
+      few_items = omega (arith, c.if-raw_count-gt4.false);
       items = xs;
       begins = c.in_ok-items.ensures.found.begins;
       as_many = c.in_ok-items.ensures.found.as_many;
