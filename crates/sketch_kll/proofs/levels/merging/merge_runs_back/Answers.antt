@@ -1,0 +1,69 @@
+use Rattle.std.proofs.Common.{◌≡◌, ℕ, List, ◌+◌, ◌-◌, ◌≤◌, ◌++◌, suc, length, get_or, drop, reverse, sym, ap, ap₂, subst, ◌∙◌, arith, length-drop, length-take-le}
+use Rattle.sketch_kll.specs.Flat.{levels_in}
+use Rattle.sketch_kll.proofs.Flats.{bound_at, bound_within, length-bounds}
+use Rattle.sketch_kll.proofs.Joins.{AreJoining, HasJoined, IsRunAt, run_at, next_runs, joining_start, joining_more, joining_end}
+use Rattle.sketch_kll.proofs.levels.merging.merge_runs_back.Goals as goal
+
+pub move_back-requires-clause-within : goal.move_back-requires-clause-within
+move_back-requires-clause-within g c = bound_within c.args.items.now.items c.args.bounds.now c.requires.flat 1
+
+pub loop-level-init : goal.loop-level-init
+loop-level-init g c =
+    let ls : List (List g.row.T.Denot) = levels_in c.args.items.now.items c.args.bounds.now in
+    let n = length-bounds c.args.items.now.items c.args.bounds.now c.requires.flat in
+    let r : IsRunAt 0 ls c.args.items.now.items (get_or c.args.bounds.now 1 0) = run_at 0 ls c.args.items.now.items (get_or c.args.bounds.now 1 0) (sym c.requires.flat.items_are) (bound_at c.args.items.now.items c.args.bounds.now c.requires.flat 1) in
+    record {
+      within = omega arith;
+      count = omega (arith, c.move_back.ensures.len, ap length c.requires.empty, ap length c.move_back.ensures.from, length-take-le (get_or c.args.bounds.now 1 0) c.args.items.now.items r.within, r.within, c.args.items.now.ok, c.args.merged.now.ok, c.move_back.new.to.ok);
+      capacity = c.move_back.ensures.capacity;
+      joining = joining_start g.T.Ord.cmp g.met.T.Ord.total ls _ c.move_back.new.from.items c.args.upper.now.items c.move_back.new.to.items (omega (arith, n, c.requires.fewer, c.requires.some))
+          (c.move_back.ensures.from ∙ r.rest) (sym c.requires.runs.items_are) (c.move_back.ensures.to ∙ ap₂ (λ (x y : List g.row.T.Denot). x ++ y) r.run (ap reverse c.requires.empty));
+    }
+
+pub merge_back-requires : goal.merge_back-requires
+merge_back-requires g c =
+    let i = c.loop-level.invariant in
+    let r = next_runs g.T.Ord.cmp c.loop-level.level c.args.items.now.items c.args.upper.now.items c.loop-level.items.items c.loop-level.upper.items c.loop-level.merged.items c.args.bounds.now c.args.runs.now c.requires.flat c.requires.runs c.requires.sorted c.requires.runs_sorted i.within i.joining in
+    record {
+      left = r.left_at.within;
+      right = r.right_at.within;
+      left_sorted = r.left_sorted;
+      right_sorted = r.right_sorted;
+      room = omega (arith, i.count, i.capacity, c.requires.room, c.loop-level.items.ok, c.loop-level.upper.ok, c.loop-level.merged.ok, c.args.items.now.ok, c.args.upper.now.ok, r.left_at.within, r.right_at.within);
+    }
+
+pub loop-level-preserved : goal.loop-level-preserved
+loop-level-preserved g c =
+    let i = c.loop-level.invariant in
+    let h : ℕ = c.loop-level.level - 1 in
+    let ls : List (List g.row.T.Denot) = levels_in c.args.items.now.items c.args.bounds.now in
+    let us : List (List g.row.T.Denot) = levels_in c.args.upper.now.items (drop 1 c.args.runs.now) in
+    let n = length-bounds c.args.items.now.items c.args.bounds.now c.requires.flat in
+    let m = length-bounds c.args.upper.now.items (drop 1 c.args.runs.now) c.requires.runs in
+    let d = length-drop 1 c.args.runs.now in
+    let e = c.merge_back.ensures in
+    let r = next_runs g.T.Ord.cmp c.loop-level.level c.args.items.now.items c.args.upper.now.items c.loop-level.items.items c.loop-level.upper.items c.loop-level.merged.items c.args.bounds.now c.args.runs.now c.requires.flat c.requires.runs c.requires.sorted c.requires.runs_sorted i.within i.joining in
+    let next = joining_more g.T.Ord.cmp g.met.T.Ord.total h _ ls us c.loop-level.items.items c.loop-level.upper.items c.loop-level.merged.items c.merge_back.new.left.items c.merge_back.new.right.items c.merge_back.new.to.items
+    (drop (get_or c.args.bounds.now (c.loop-level.level + 1) 0) c.loop-level.items.items) (drop (get_or c.args.runs.now (c.loop-level.level + 1) 0) c.loop-level.upper.items)
+    (omega (arith, n, c.requires.fewer, i.within)) (omega (arith, m, d, i.within)) (e.left ∙ r.left_at.rest) (e.right ∙ r.right_at.rest) e.kept r.left_at.run r.right_at.run e.run e.sorted i.joining in
+    let one : suc h ≡ c.loop-level.level + 1 - 1 = omega (arith, i.within) in
+    record {
+      within = omega arith;
+      count = omega (arith, i.count, e.len, ap length e.left, ap length e.right, length-take-le (get_or c.args.bounds.now (c.loop-level.level + 1) 0) c.loop-level.items.items r.left_at.within, length-take-le (get_or c.args.runs.now (c.loop-level.level + 1) 0) c.loop-level.upper.items r.right_at.within, r.left_at.within, r.right_at.within, c.loop-level.items.ok, c.loop-level.upper.ok, c.loop-level.merged.ok, c.merge_back.new.to.ok);
+      capacity = e.capacity ∙ i.capacity;
+      joining = subst (λ (j : ℕ). AreJoining g.T.Ord.cmp j ls us c.merge_back.new.left.items c.merge_back.new.right.items c.merge_back.new.to.items) one next;
+    }
+
+pub returns : goal.returns
+returns g c =
+    let i = c.loop-level.invariant in
+    let ls : List (List g.row.T.Denot) = levels_in c.args.items.now.items c.args.bounds.now in
+    let us : List (List g.row.T.Denot) = levels_in c.args.upper.now.items (drop 1 c.args.runs.now) in
+    let n = length-bounds c.args.items.now.items c.args.bounds.now c.requires.flat in
+    let m = length-bounds c.args.upper.now.items (drop 1 c.args.runs.now) c.requires.runs in
+    let d = length-drop 1 c.args.runs.now in
+    let over : length us ≤ c.loop-level.level - 1 = omega (arith, m, d, c.requires.some) in
+    let r : HasJoined g.T.Ord.cmp ls us (reverse c.move_back-2.new.to.items) _ =
+    joining_end g.T.Ord.cmp (c.loop-level.level - 1) ls us c.loop-level.items.items c.loop-level.upper.items c.loop-level.merged.items c.move_back-2.new.to.items c.args.bounds.now c.args.runs.now
+    over (omega (arith, n, c.requires.fewer, c.requires.some)) (omega (arith, n, m, d, c.requires.fewer, c.requires.some)) c.requires.sorted c.requires.flat.bounds_are (sym c.requires.runs.bounds_are) c.move_back-2.ensures.to i.joining in
+    record { flat = r.fits; levels = r.same; sorted = r.sorted }

@@ -1,0 +1,260 @@
+//! The levels of a sketch in one vector, the highest first, and how updates change them.
+//! What a compaction does to a slice stands in `compaction`, merges in `levels::merging`.
+ghost use Rattle.std.specs.Prelude.{◌≡◌, ℕ, ◌+◌, ◌-◌, ◌*◌, ◌/◌, ◌^◌, ◌<◌, ◌≤◌, [], ◌∷◌, ◌++◌, length, IfSome, IfOk, vec_len, vec_capacity, if◌then◌else◌, ◌==◌, drop, is_some, false};
+ghost use Rattle.std.specs.List.{between};
+ghost use Rattle.sketch_base.specs.Query.{counted};
+ghost use Rattle.sketch_kll.specs.Capacity.{total_of};
+ghost use Rattle.sketch_kll.specs.Flat.{levels_in, IsFlat};
+ghost use Rattle.sketch_kll.specs.Levels.{weight as weight_in, first_level, compacted, SameLevels, UpperSorted};
+ghost use Rattle.sketch_kll.specs.Rank.{counted_weight};
+ghost use Rattle.sketch_kll.specs.Steps.{full_level, is_full, with_room, keeps_last, put};
+ghost use Rattle.sketch_kll.specs.Stored.{levels_of, AreStored, KeepsRoom};
+
+mod compress;
+pub(crate) mod merging;
+
+use crate::capacity::{MINIMUM_CAPACITY, level_capacity, total_capacity};
+use crate::compaction::compact_level;
+use sketch_base::common::SearchCriteria;
+use sketch_base::common::counting::count_counted;
+use sketch_base::common::random::RandomBits;
+use std::alloc::{AllocError, Global};
+
+/// The levels of a sketch: level h is `items[bounds[h + 1]..bounds[h]]`, so that an update without a
+/// compaction is a push.
+#[derive(Debug, Drop)]
+pub(crate) struct Levels<T> {
+    pub(crate) k: u16,
+    pub(crate) is_level_zero_sorted: bool,
+    pub(crate) items: Vec<T>,
+    pub(crate) bounds: Vec<usize>,
+    pub(crate) total_capacity: u32,
+}
+
+impl<T: Ord + Drop> Levels<T> {
+    // One level with nothing in it, which does not count as sorted.
+    pub(crate) fn new(alloc: Global, k: u16) -> Result<Self, AllocError>
+        requires k { 8 ≤ k }
+        ensures k { IfOk result (λ x. x.k ≡ k) }
+        ensures flag { IfOk result (λ x. x.is_level_zero_sorted ≡ false) }
+        ensures items { IfOk result (λ x. x.items.items ≡ []) }
+        ensures bounds { IfOk result (λ x. x.bounds.items ≡ 0 ∷ 0 ∷ []) }
+        ensures total { IfOk result (λ x. x.total_capacity ≡ total_of k 8 1) }
+    {
+        Ok(Levels {
+            k,
+            is_level_zero_sorted: false,
+            items: Vec::new(alloc),
+            bounds: vec![in alloc; 0, 0]?,
+            total_capacity: total_capacity(k, MINIMUM_CAPACITY, 1),
+        })
+    }
+
+    // Makes the levels what `new` gives.
+    pub(crate) fn clear(&mut self)
+        requires k { 8 ≤ self.old.k }
+        requires some_level { 1 < length self.old.bounds.items }
+        ensures k { self.new.k ≡ self.old.k }
+        ensures flag { self.new.is_level_zero_sorted ≡ false }
+        ensures items { self.new.items.items ≡ [] }
+        ensures bounds { self.new.bounds.items ≡ 0 ∷ 0 ∷ [] }
+        ensures total { self.new.total_capacity ≡ total_of self.old.k 8 1 }
+    {
+        self.is_level_zero_sorted = false;
+        self.items.clear();
+        self.bounds.truncate(2);
+        self.bounds[0] = 0;
+        self.bounds[1] = 0;
+        self.total_capacity = total_capacity(self.k, MINIMUM_CAPACITY, 1);
+    }
+
+    // Compacts one level, where the levels are at or over their total capacity.
+    #[inline(always)]
+    pub(crate) fn make_room<B: RandomBits>(&mut self, coins: &mut B)
+        requires stored { AreStored T.cmp self.old }
+        requires light { weight_in (levels_of self.old) < 2 ^ 64 }
+        requires spare { vec_len self.old.bounds < vec_capacity self.old.bounds }
+        ensures stored { AreStored T.cmp self.new }
+        ensures kept { KeepsRoom self.old self.new }
+        ensures levels { SameLevels T.cmp
+            (with_room T.cmp self.old.k self.old.is_level_zero_sorted (B.bit coins.old) (levels_of self.old))
+            (levels_of self.new) }
+        ensures shorter { vec_len self.new.items ≤ vec_len self.old.items }
+        ensures coins { coins.new ≡ (if is_full self.old.k (levels_of self.old)
+            then B.next coins.old else coins.old) }
+    {
+        let (items, bounds) = (self.items.as_slice(), self.bounds.as_slice());
+        if let Some(level) = find_level_to_compact(self.k, self.total_capacity, items, bounds) {
+            self.compact(level, coins);
+        }
+    }
+
+    // Compacts one level under the next coin; above the top one a level is added.
+    fn compact<B: RandomBits>(&mut self, level: usize, coins: &mut B)
+        requires stored { AreStored T.cmp self.old }
+        requires within { level + 1 < length self.old.bounds.items }
+        requires few { level < 60 }
+        requires spare { vec_len self.old.bounds < vec_capacity self.old.bounds }
+        ensures stored { AreStored T.cmp self.new }
+        ensures kept { KeepsRoom self.old self.new }
+        ensures levels { SameLevels T.cmp
+            (compacted T.cmp (keeps_last self.old.is_level_zero_sorted level) (B.bit coins.old) level (levels_of self.old))
+            (levels_of self.new) }
+        ensures shorter { vec_len self.new.items ≤ vec_len self.old.items }
+        ensures coins { coins.new ≡ B.next coins.old }
+    {
+        let num_levels = self.bounds.len() - 1;
+        raise(&mut self.bounds, level);
+        let keeps_last = keeps_last_item(self.is_level_zero_sorted, level);
+        let coin = coins.random_bit();
+        compact_in_place(&mut self.items, &mut self.bounds, level, keeps_last, coin);
+        let total = total_at(
+            self.k,
+            self.total_capacity,
+            num_levels,
+            self.bounds.len() - 1,
+        );
+        self.total_capacity = total;
+    }
+
+    // Puts an item last into level 0.
+    pub(crate) fn push(&mut self, item: T)
+        requires stored { AreStored T.cmp self.old }
+        requires spare { vec_len self.old.items < vec_capacity self.old.items }
+        ensures stored { AreStored T.cmp self.new }
+        ensures k { self.new.k ≡ self.old.k }
+        ensures flag { self.new.is_level_zero_sorted ≡ false }
+        ensures levels { levels_of self.new ≡ put item (levels_of self.old) }
+        ensures len { vec_len self.new.items ≡ vec_len self.old.items + 1 }
+        ensures room { vec_capacity self.old.items ≤ vec_capacity self.new.items }
+        ensures bounds_room { vec_capacity self.new.bounds ≡ vec_capacity self.old.bounds }
+    {
+        self.items.push(item).unwrap();
+        self.bounds[0] = self.items.len();
+        self.is_level_zero_sorted = false;
+    }
+}
+
+// The items of one level.
+pub(crate) fn level_slice<'a, T>(items: &'a [T], bounds: &[usize], level: usize) -> &'a [T]
+    requires flat { IsFlat items.now bounds.now }
+    requires within { level + 1 < length bounds.now }
+    ensures { result.now ≡ first_level (drop level (levels_in items.now bounds.now)) }
+{
+    run_between(items, bounds[level + 1], bounds[level])
+}
+
+fn run_between<T>(items: &[T], start: usize, end: usize) -> &[T]
+    requires ordered { start ≤ end }
+    requires within { end ≤ length items.now }
+    ensures { result.now ≡ between start end items.now }
+{
+    &items[start..end]
+}
+
+// The weight of the items that a query counts.
+pub(crate) fn weight_counted<T: Ord>(
+    items: &[T],
+    bounds: &[usize],
+    query: &T,
+    criteria: SearchCriteria,
+) -> u64
+    requires flat { IsFlat items.now bounds.now }
+    requires fits { weight_in (levels_in items.now bounds.now) < 2 ^ 64 }
+    ensures { result ≡ counted_weight (counted T.cmp query.now criteria)
+        (levels_in items.now bounds.now) }
+{
+    let mut weight = 0;
+    let mut level = bounds.len() - 1;
+    while level > 0 {
+        level -= 1;
+        let counted = count_counted(level_slice(items, bounds, level), query, criteria);
+        weight = 2 * weight + counted as u64;
+    }
+    weight
+}
+
+// The lowest level at or over its capacity, where the levels are at or over their total capacity.
+fn find_level_to_compact<T>(k: u16, total: u32, items: &[T], bounds: &[usize]) -> Option<usize>
+    requires k { 8 ≤ k }
+    requires total { total ≡ total_of k 8 (length bounds.now - 1) }
+    requires flat { IsFlat items.now bounds.now }
+    requires some_level { 1 < length bounds.now }
+    requires few_levels { length bounds.now ≤ 62 }
+    ensures full { is_some result ≡ is_full k (levels_in items.now bounds.now) }
+    ensures level { IfSome result (λ level. level ≡ full_level k (levels_in items.now bounds.now)) }
+    ensures within { IfSome result (λ level. level + 1 < length bounds.now) }
+{
+    if items.len() < total as usize {
+        return None;
+    }
+    let num_levels = bounds.len() - 1;
+    for level in 0..num_levels {
+        let capacity = level_capacity(k, num_levels, level, MINIMUM_CAPACITY) as usize;
+        if bounds[level] - bounds[level + 1] >= capacity {
+            return Some(level);
+        }
+    }
+    unreachable!()
+}
+
+// The total capacity at so many levels, from that at another number of them.
+fn total_at(k: u16, total: u32, known: usize, num_levels: usize) -> u32
+    requires k { 8 ≤ k }
+    requires total { total ≡ total_of k 8 known }
+    requires few_levels { num_levels ≤ 61 }
+    ensures { result ≡ total_of k 8 num_levels }
+{
+    if num_levels == known {
+        total
+    } else {
+        total_capacity(k, MINIMUM_CAPACITY, num_levels)
+    }
+}
+
+// Whether a level that is compacted keeps its last item or its first.
+fn keeps_last_item(is_sorted: bool, level: usize) -> bool
+    ensures { result ≡ keeps_last is_sorted level }
+{
+    level == 0 && !is_sorted
+}
+
+// Sees to it that there is a level above a level.
+fn raise(bounds: &mut Vec<usize>, level: usize)
+    requires spare { vec_len bounds.old < vec_capacity bounds.old }
+    requires within { level + 2 < 2 ^ 64 }
+    ensures items { bounds.new.items ≡ (if level + 2 == length bounds.old.items
+        then bounds.old.items ++ 0 ∷ [] else bounds.old.items) }
+    ensures capacity { vec_capacity bounds.old ≤ vec_capacity bounds.new }
+{
+    if level + 2 == bounds.len() {
+        bounds.push(0).unwrap();
+    }
+}
+
+// Compacts a level that has a level above it, and drops what has to go.
+fn compact_in_place<T: Ord + Drop>(
+    items: &mut Vec<T>,
+    bounds: &mut Vec<usize>,
+    level: usize,
+    keeps_last: bool,
+    coin: bool,
+)
+    requires flat { IsFlat items.old.items bounds.old.items }
+    requires within { level + 2 < length bounds.old.items }
+    requires sorted { UpperSorted T.cmp (levels_in items.old.items bounds.old.items) }
+    ensures flat { IsFlat items.new.items bounds.new.items }
+    ensures alike { SameLevels T.cmp
+        (compacted T.cmp keeps_last coin level (levels_in items.old.items bounds.old.items))
+        (levels_in items.new.items bounds.new.items) }
+    ensures sorted { UpperSorted T.cmp (levels_in items.old.items bounds.old.items)
+        → UpperSorted T.cmp (levels_in items.new.items bounds.new.items) }
+    ensures capacity { vec_capacity items.new ≡ vec_capacity items.old }
+    ensures bounds_capacity { vec_capacity bounds.new ≡ vec_capacity bounds.old }
+    ensures shorter { vec_len items.new ≤ vec_len items.old }
+{
+    let len = items.len();
+    let (row, marks) = (items.as_mut_slice(), bounds.as_mut_slice());
+    let count = compact_level(row, marks, level, keeps_last, coin);
+    items.truncate(len - count);
+}

@@ -1,0 +1,88 @@
+//! General compress: a walk over the levels from 0 up.
+ghost use Rattle.std.specs.Prelude.{◌≡◌, ℕ, ◌+◌, ◌-◌, ◌^◌, ◌<◌, ◌≤◌, length, drop, IsTrue, IsSorted, true, false, ◌⊎◌, vec_capacity, vec_len, if◌then◌else◌};
+ghost use Rattle.sketch_base.specs.Random.{after_draws};
+ghost use Rattle.sketch_base.specs.Trace.{draws_of};
+ghost use Rattle.sketch_kll.specs.Capacity.{total_of};
+ghost use Rattle.sketch_kll.specs.Compress.{walked, passes, stepped, compress_of, IsCompressed};
+ghost use Rattle.sketch_kll.specs.Levels.{retained, weight, first_level, SameLevels};
+ghost use Rattle.sketch_kll.specs.Steps.{is_full};
+ghost use Rattle.sketch_kll.specs.Stored.{levels_of, AreStored, KeepsRoom};
+
+use super::Levels;
+use crate::capacity::{MINIMUM_CAPACITY, level_capacity};
+use sketch_base::common::random::RandomBits;
+
+impl<T: Ord + Drop> Levels<T> {
+    // Whether the walk comes to a level: it is there, and the levels are at or over their total
+    // capacity.
+    fn walk_reaches(&self, level: usize) -> bool
+        requires stored { AreStored T.cmp self.now }
+        requires fits { level + 1 < 2 ^ 64 }
+        ensures within { IsTrue result → level + 1 < length self.now.bounds.items }
+        ensures full { IsTrue result → is_full self.now.k (levels_of self.now) ≡ true }
+        ensures over { result ≡ false → (length (levels_of self.now) ≤ level)
+            ⊎ (retained (levels_of self.now) < total_of self.now.k 8 (length (levels_of self.now))) }
+    {
+        level + 1 < self.bounds.len() && self.items.len() >= self.total_capacity as usize
+    }
+
+    // Whether general compress leaves a level as it is, where the levels are at or over their total
+    // capacity.
+    fn level_passes(&self, level: usize) -> bool
+        requires stored { AreStored T.cmp self.now }
+        requires full { is_full self.now.k (levels_of self.now) ≡ true }
+        requires within { level + 1 < length self.now.bounds.items }
+        ensures { result ≡ passes self.now.k (levels_of self.now) level }
+    {
+        let bounds = self.bounds.as_slice();
+        let num_levels = bounds.len() - 1;
+        let capacity = level_capacity(self.k, num_levels, level, MINIMUM_CAPACITY) as usize;
+        bounds[level] - bounds[level + 1] < capacity
+    }
+
+    // One step of the walk, where the levels are at or over their total capacity.
+    fn compress_level<B: RandomBits>(&mut self, level: usize, coins: &mut B)
+        requires stored { AreStored T.cmp self.old }
+        requires full { is_full self.old.k (levels_of self.old) ≡ true }
+        requires within { level + 1 < length self.old.bounds.items }
+        requires few { level < 60 }
+        requires spare { vec_len self.old.bounds < vec_capacity self.old.bounds }
+        ensures stored { AreStored T.cmp self.new }
+        ensures kept { KeepsRoom self.old self.new }
+        ensures levels { SameLevels T.cmp
+            (stepped T.cmp self.old.k self.old.is_level_zero_sorted (B.bit coins.old) level (levels_of self.old))
+            (levels_of self.new) }
+        ensures coins { coins.new ≡ (if passes self.old.k (levels_of self.old) level
+            then coins.old else B.next coins.old) }
+    {
+        if !self.level_passes(level) {
+            self.compact(level, coins);
+        }
+    }
+
+    // General compress: compacts, from level 0 up, each level that is over its capacity, until the
+    // levels are below their total capacity. The walk goes on into a level that is added.
+    pub(crate) fn compress<B: RandomBits>(&mut self, coins: &mut B)
+        requires stored { AreStored T.cmp self.old }
+        requires light { weight (levels_of self.old) < 2 ^ 64 }
+        requires flag { IsTrue self.old.is_level_zero_sorted
+            → IsSorted T.cmp (first_level (levels_of self.old)) }
+        requires spare { 63 ≤ vec_capacity self.old.bounds }
+        ensures stored { AreStored T.cmp self.new }
+        ensures kept { KeepsRoom self.old self.new }
+        ensures below { retained (levels_of self.new) < total_of self.old.k 8 (length (levels_of self.new)) }
+        ensures levels { SameLevels T.cmp
+            (walked T.cmp B.bit B.next self.old.k self.old.is_level_zero_sorted 61 0 coins.old (levels_of self.old))
+            (levels_of self.new) }
+        ensures bag { IsCompressed T.cmp B.bit B.next coins.old self.old.k self.old.is_level_zero_sorted
+            (levels_of self.old) (levels_of self.new) }
+        ensures coins { coins.new ≡ after_draws B.next coins.old
+            (draws_of (compress_of self.old.k (levels_of self.old))) }
+    {
+        let mut level = 0;
+        while self.walk_reaches(level) {
+            self.compress_level(level, coins);
+            level += 1;
+        }
+    }
+}
