@@ -1,5 +1,5 @@
 -- what is written for a text of commands on KLL or on REQ sketches, from empty slots on
-use Rattle.std.specs.Prelude.{ℕ, ℤ, Bool, true, false, List, [], None, replicate}
+use Rattle.std.specs.Prelude.{ℕ, ℤ, Bool, true, false, List, [], None, Some, replicate}
 use Rattle.std.specs.Ordering.{int_cmp, int_eq}
 use Rattle.sketch_base.specs.Spelling.{i64_spelling}
 use Rattle.sketch_kll.specs.Image.{IsImage}
@@ -9,6 +9,7 @@ use Rattle.sketch_req.specs.ImageLaws.{without_coins}
 use Rattle.sketch_req.specs.Sketch.{Req}
 use Rattle.sketch_req.specs.declared.RankAccuracy.{RankAccuracy}
 use Rattle.quantile_sketches.specs.Behaviour.{Behaviour}
+use Rattle.quantile_sketches.specs.Behind.{AnswersRun}
 use Rattle.quantile_sketches.specs.Calls.{in_full}
 use Rattle.quantile_sketches.specs.declared.table.TheConstants.{SLOTS}
 use Rattle.quantile_sketches.specs.Kll.{kll}
@@ -34,3 +35,10 @@ ServesFamily false seed text out = Serves kll_grammar kll_of_i64 (replicate SLOT
 abbrev pub BeginsFamily : (is_req : Bool) → ℕ → List ℕ → List ℕ → Type 0
 BeginsFamily true seed text sent = Begins req_grammar req_of_i64 (replicate SLOTS None) seed (lines text) sent
 BeginsFamily false seed text sent = Begins kll_grammar kll_of_i64 (replicate SLOTS None) seed (lines text) sent
+
+-- the answers to all its lines, each given by the sketches of a run of the commands that were accepted before it, as long as no `load` was
+abbrev pub ServesRun : (is_req : Bool) → ℕ → List ℕ → List ℕ → Type 0
+ServesRun true seed text out =
+    AnswersRun req_grammar req_of_i64 (req_kind int_cmp i64_spelling) seed (Some []) (replicate SLOTS None) seed (lines text) out
+ServesRun false seed text out =
+    AnswersRun kll_grammar kll_of_i64 (kll_kind int_cmp i64_spelling) seed (Some []) (replicate SLOTS None) seed (lines text) out
