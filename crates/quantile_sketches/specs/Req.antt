@@ -1,5 +1,5 @@
 -- what a REQ sketch gives where a command calls it
-use Rattle.std.specs.Prelude.{◌≡◌, ◌≢◌, ◌⊎◌, ◌^◌, ◌+◌, ◌-◌, ◌<◌, ◌≤◌, ◌↔◌, ℕ, Bool, true, List, [], ◌∷◌, Option, None, Result, IsErrOf, IsOk, IfOk, IfErr, OnOk, OnErr}
+use Rattle.std.specs.Prelude.{◌≡◌, ◌≢◌, ◌⊎◌, ◌^◌, ◌+◌, ◌-◌, ◌<◌, ◌≤◌, ◌↔◌, ℕ, Bool, true, List, [], ◌∷◌, Option, None, Result, IsErrOf, IsOk, IfOk, IfErr, OnOk, OnErr, IsTrue}
 use Rattle.std.specs.declared.alloc.Global.{Global}
 use Rattle.std.specs.declared.vec.Vec.{Vec}
 use Rattle.std.specs.declared.cmp.Ordering.{Ordering}
@@ -98,7 +98,7 @@ module _ {A : Type 0} (cmp : A → A → Ordering) (spelling : A → Option (Lis
     taken = λ x Source bit next s. TakesIn bit next s x;
     taken_weighted = λ x weight Source bit next. TakesNone bit next;
     joined = λ other Source bit next. JoinsIn bit next other;
-    refuses = IsUnfit;
+    refuses = λ s o answer. IsTrue answer ↔ IsUnfit s o;
     rank = λ s. IsRank cmp s.n (bag_of s.levels);
     quantile = λ s. IsQuantile cmp s.n (bag_of s.levels) s.least s.greatest;
     cdf = λ s points criteria. AreRanks cmp s.n points (cdf_of cmp criteria (expanded cmp (bag_of s.levels)) points);

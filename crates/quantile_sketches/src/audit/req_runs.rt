@@ -4,7 +4,7 @@ ghost use Rattle.std.specs.declared.cmp.Ordering.TheVariants.{Equal};
 ghost use Rattle.sketch_base.specs.declared.error.ErrorKind.TheVariants.{InvalidArgument, OutOfMemory};
 ghost use Rattle.sketch_base.specs.Spelling.{SpellingsTie};
 ghost use Rattle.sketch_base.specs.Trace.{coins};
-ghost use Rattle.quantile_sketches.specs.Outcome.{ArePlanned, ArePlayed, WeighStreams, HaveExtremes, AreClose};
+ghost use Rattle.quantile_sketches.specs.Outcome.{ArePlanned, ArePlayed, WeighStreams, HaveExtremes, AreClose, sketch_at};
 ghost use Rattle.quantile_sketches.specs.Plan.{trace_of};
 ghost use Rattle.quantile_sketches.specs.Refused.{AreRefused, LeadTo, accepted_of};
 ghost use Rattle.quantile_sketches.specs.ReqKind.{req_kind};
@@ -43,7 +43,7 @@ pub fn run_req<T: ReqValue + Clone + Ord>(
     ensures refused { IfOk result (λ run.
         AreRefused (req_kind T.cmp T.spelling) word.now commands.now run.refused.items) }
     ensures executed { IfOk result (λ run.
-        LeadTo (req_kind T.cmp T.spelling) word.now commands.now run.refused.items run.slots) }
+        LeadTo (req_kind T.cmp T.spelling) word.now commands.now run.refused.items (sketch_at run.slots)) }
     ensures coins { IfOk result (λ run. run.coins ≡ coins (trace_of req_rules commands.now)) }
     ensures planned { IfOk result (λ run. ArePlanned (req_kind T.cmp T.spelling) commands.now run.slots) }
     ensures played { IfOk result (λ run. ArePlayed (req_kind T.cmp T.spelling)

@@ -45,11 +45,11 @@ impl<T: KllValue + Ord> Family for KllSketch<T> {
         self.reset();
     }
 
-    fn is_full(&self) -> bool {
+    fn is_full<B: RandomBits>(&self) -> bool {
         self.n() == u64::MAX
     }
 
-    fn refuses_weight(&self, weight: u64) -> bool {
+    fn refuses_weight<B: RandomBits>(&self, weight: u64) -> bool {
         weight == 0 || weight >= 1 << 61 || weight > u64::MAX - self.n()
     }
 
@@ -75,7 +75,7 @@ impl<T: KllValue + Ord> Family for KllSketch<T> {
     }
 
     fn join<B: RandomBits>(&mut self, other: &Self, coins: &mut B) -> Result<(), Error> {
-        let _n = self.n();
+        let (_n, _others) = (self.n(), other.n());
         self.merge(other, coins)
     }
 

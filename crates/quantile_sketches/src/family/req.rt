@@ -48,11 +48,11 @@ impl<T: ReqValue + Clone + Ord> Family for ReqSketch<T> {
         self.reset();
     }
 
-    fn is_full(&self) -> bool {
+    fn is_full<B: RandomBits>(&self) -> bool {
         self.n() == u64::MAX || self.num_retained() == u32::MAX
     }
 
-    fn refuses_weight(&self, _weight: u64) -> bool {
+    fn refuses_weight<B: RandomBits>(&self, _weight: u64) -> bool {
         true
     }
 

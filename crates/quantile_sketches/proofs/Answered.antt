@@ -1,0 +1,88 @@
+-- Lines are answered by the sketches of a run of the commands that were accepted before them.
+use Rattle.std.proofs.Common.{◌≡◌, ℕ, ℤ, ◌<◌, List, [], ◌∷◌, ◌++◌, length, Option, None, Some, IfSome, Result, Ok, Err, OnOk, refl, sym, ap, ◌∙◌, subst, zero-add, replicate}
+use mathlib.Core.Path.{fun_ext}
+use Rattle.std.specs.Io.KnownBytes.{Appends}
+use Rattle.sketch_base.specs.Random.{next_state}
+use Rattle.sketch_base.specs.declared.error.ErrorKind.{ErrorKind}
+use Rattle.quantile_sketches.specs.Behaviour.{Behaviour, coin_of}
+use Rattle.quantile_sketches.specs.Behind.{run_after, AreOfRun, AnswersRun}
+use Rattle.quantile_sketches.specs.Calls.{in_full}
+use Rattle.quantile_sketches.specs.Command.{command_of}
+use Rattle.quantile_sketches.specs.declared.answer.Refusal.TheVariants.{BadLine, AbsentSlot, Sketch}
+use Rattle.quantile_sketches.specs.declared.audit.commands.Command.{Command as RunCommand}
+use Rattle.quantile_sketches.specs.declared.command.Command.{Command}
+use Rattle.quantile_sketches.specs.declared.command.Command.TheVariants.{Run, Rank, Quantile, Cdf, Pmf, Image, Load}
+use Rattle.quantile_sketches.specs.declared.table.TheConstants.{SLOTS}
+use Rattle.quantile_sketches.specs.Lawful.{IsLawful}
+use Rattle.quantile_sketches.specs.Lines.{lines, Serves}
+use Rattle.quantile_sketches.specs.Reader.{Grammar}
+use Rattle.quantile_sketches.specs.Refused.{AreExecuted}
+use Rattle.quantile_sketches.specs.Rules.{Kind}
+use Rattle.quantile_sketches.specs.Step.{Slots, in_slot, Verdict, Reply, reply_of, Makes, Loads, Answers, CarriesOutItem}
+use Rattle.quantile_sketches.specs.Steps.{Held, AreSame}
+use Rattle.quantile_sketches.specs.Words.{words, image_in}
+use Rattle.quantile_sketches.proofs.Carried.{comes-item, left}
+use Rattle.quantile_sketches.proofs.Refusals.{executed-more}
+use Rattle.quantile_sketches.proofs.Slots.{in_slot-none}
+
+module _ {C Shape S : Type 0} (grammar : Grammar C) {kind : Kind ℤ C Shape S} (lawful : IsLawful kind) (behaviour : Behaviour S ℤ C) (IsImage : List ℕ → S → Type 0) (seed : ℕ) where
+  abbrev Full : Behaviour S ℤ C
+  Full = in_full behaviour kind IsImage
+
+  abbrev OfRun : Option (List (RunCommand ℤ C)) → Slots S → ℕ → Type 0
+  OfRun = AreOfRun grammar Full kind seed
+
+  -- where nothing changes
+  stays : (run : Option (List (RunCommand ℤ C))) (slots : Slots S) (coins : ℕ) (slots' : Slots S) (coins' : ℕ) → slots' ≡ slots → coins' ≡ coins → OfRun run slots coins → OfRun run slots' coins'
+  stays run slots coins slots' coins' e f h = subst (λ s. OfRun run s coins') (sym e) (subst (λ n. OfRun run slots n) (sym f) h)
+
+  stays-held : (run : Option (List (RunCommand ℤ C))) (slots : Slots S) (coins : ℕ) (slots' : Slots S) (coins' : ℕ) → AreSame (in_slot slots) (in_slot slots') → coins' ≡ coins → OfRun run slots coins → OfRun run slots' coins'
+  stays-held None slots coins slots' coins' e f h = tt
+  stays-held (Some commands) slots coins slots' coins' e f h =
+      subst (λ (held : Held S). AreExecuted kind coin_of next_state [] 0 commands (λ slot. None) seed held coins') (sym (fun_ext e))
+      (subst (λ (n : ℕ). AreExecuted kind coin_of next_state [] 0 commands (λ slot. None) seed (in_slot slots) n) (sym f) h)
+
+  -- a command of runs, carried out or not
+  carried : (run : Option (List (RunCommand ℤ C))) (command : RunCommand ℤ C) (slots : Slots S) (coins : ℕ) (v : Verdict) (slots' : Slots S) (coins' : ℕ) →
+      CarriesOutItem Full coin_of next_state command slots coins v slots' coins' → OfRun run slots coins → OfRun (run_after run (Some (Run command)) (reply_of v)) slots' coins'
+  carried None command slots coins (Ok tt) slots' coins' h of = tt
+  carried (Some commands) command slots coins (Ok tt) slots' coins' h of =
+      executed-more kind coin_of next_state [] 0 (length commands) commands (zero-add (length commands)) (λ slot. None) seed (in_slot slots) coins of command (in_slot slots') coins'
+      (comes-item lawful behaviour IsImage coin_of next_state slots slots' coins coins' command (Ok tt) h)
+  carried run command slots coins (Err e) slots' coins' h of =
+      let same = left kind coin_of next_state e command (in_slot slots) coins (in_slot slots') coins' (comes-item lawful behaviour IsImage coin_of next_state slots slots' coins coins' command (Err e) h) in
+      stays-held run slots coins slots' coins' same.0 same.1 of
+
+  loaded : (run : Option (List (RunCommand ℤ C))) (slot : ℕ) (made : Result S ErrorKind → Type 0) (slots : Slots S) (coins : ℕ) (v : Verdict) (slots' : Slots S) (coins' : ℕ) →
+      Makes made slot slots v slots' → coins' ≡ coins → OfRun run slots coins → OfRun (run_after run (Some (Load slot)) (reply_of v)) slots' coins'
+  loaded run slot made slots coins (Ok tt) slots' coins' h same of = tt
+  loaded run slot made slots coins (Err (Sketch e)) slots' coins' h same of = stays run slots coins slots' coins' h.1 same of
+  loaded run slot made slots coins (Err BadLine) slots' coins' h same of = absurd h
+  loaded run slot made slots coins (Err AbsentSlot) slots' coins' h same of = absurd h
+
+  answered : (run : Option (List (RunCommand ℤ C))) (command : Option (Command C)) (line : List (List ℕ)) (slots : Slots S) (coins : ℕ) (r : Reply) (slots' : Slots S) (coins' : ℕ) →
+      Answers Full command line slots coins r slots' coins' → OfRun run slots coins → OfRun (run_after run command r) slots' coins'
+  answered run None line slots coins r slots' coins' h of = stays run slots coins slots' coins' h.1 h.2 of
+  answered run (Some (Run command)) line slots coins r slots' coins' (v, is, h) of =
+      subst (λ r. OfRun (run_after run (Some (Run command)) r) slots' coins') (sym is) (carried run command slots coins v slots' coins' h of)
+  answered run (Some (Load slot)) line slots coins r slots' coins' (v, is, h, same) of =
+      subst (λ r. OfRun (run_after run (Some (Load slot)) r) slots' coins') (sym is) (loaded run slot (Loads Full (image_in line)) slots coins v slots' coins' h same of)
+  answered run (Some (Rank slot item criteria)) line slots coins r slots' coins' h of = stays run slots coins slots' coins' h.1 h.2 of
+  answered run (Some (Quantile slot weight total criteria)) line slots coins r slots' coins' h of = stays run slots coins slots' coins' h.1 h.2 of
+  answered run (Some (Cdf slot criteria)) line slots coins r slots' coins' h of = stays run slots coins slots' coins' h.1 h.2 of
+  answered run (Some (Pmf slot criteria)) line slots coins r slots' coins' h of = stays run slots coins slots' coins' h.1 h.2 of
+  answered run (Some (Image slot)) line slots coins r slots' coins' h of = stays run slots coins slots' coins' h.1 h.2 of
+
+  answers-run : (run : Option (List (RunCommand ℤ C))) (slots : Slots S) (coins : ℕ) (ls : List (List ℕ)) (out : List ℕ) → OfRun run slots coins → Serves grammar Full slots coins ls out → AnswersRun grammar Full kind seed run slots coins ls out
+  answers-run run slots coins [] out of e = (of, e)
+  answers-run run slots coins (l ∷ ls) out of (r, slots', coins', rest, a, more, e) =
+      (of, r, slots', coins', rest, a, answers-run (run_after run (command_of grammar (words l)) r) slots' coins' ls rest (answered run (command_of grammar (words l)) (words l) slots coins r slots' coins' a of) more, e)
+
+  -- from empty slots on
+  pub runs-behind : {E : Type 0} (r : Result Unit E) (o w w' : Option (List ℕ)) →
+      OnOk r (IfSome o (λ text. (out : List ℕ) × Serves grammar Full (replicate SLOTS None) seed (lines text) out × Appends w w' out)) →
+      OnOk r (IfSome o (λ text. (out : List ℕ) × AnswersRun grammar Full kind seed (Some []) (replicate SLOTS None) seed (lines text) out × Appends w w' out))
+  runs-behind (Ok done) None w w' h = tt
+  runs-behind (Ok done) (Some text) w w' (out, served, appends) =
+      (out, answers-run (Some []) (replicate SLOTS None) seed (lines text) out (fun_ext (λ q. in_slot-none SLOTS q), refl) served, appends)
+  runs-behind (Err e) o w w' h = tt

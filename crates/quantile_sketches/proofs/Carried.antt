@@ -1,0 +1,370 @@
+-- What comes of a command of runs on a table's slots is a step of a run.
+use Rattle.std.proofs.Common.{◌≡◌, ◌≢◌, ◌⊎◌, ℕ, ◌==◌, Bool, true, false, not, if◌then◌else◌, List, Option, None, Some, is_some, is_ok, set, Result, Ok, Err, refl, sym, ap, ap₂, ◌∙◌, subst, inl, inr, eqb-true, Ordering}
+use Rattle.std.specs.Prelude.{IsTrue, MatchOption, ◌↔◌, ⊤}
+use Rattle.std.proofs.lemmas.Bool.{eqb-false, false≢true}
+use Rattle.std.proofs.lemmas.Grind.{get_or-set_at}
+use Rattle.std.proofs.lemmas.List.{get_or-set_other}
+use Rattle.std.proofs.lemmas.Option.{get_or_from_slice_get, slice_get_within}
+use Rattle.std.specs.Cmp.{IsTotalOrder, tied_itself}
+use Rattle.std.specs.Option.{option_map, option_and_then}
+use Rattle.std.specs.declared.cmp.Ordering.TheVariants.{Equal}
+use Rattle.sketch_base.specs.Queries.{SameAnswer}
+use Rattle.sketch_base.specs.Trace.{changed}
+use Rattle.sketch_base.proofs.Changes.{changed-own}
+use Rattle.sketch_base.specs.declared.error.ErrorKind.{ErrorKind}
+use Rattle.sketch_base.specs.declared.error.ErrorKind.TheVariants.{InvalidArgument, InvalidData, OutOfMemory}
+use Rattle.quantile_sketches.specs.Behaviour.{Behaviour, Change}
+use Rattle.quantile_sketches.specs.Calls.{Obeys, in_full}
+use Rattle.quantile_sketches.specs.declared.answer.Refusal.TheVariants.{BadLine, AbsentSlot, Sketch}
+use Rattle.quantile_sketches.specs.declared.audit.commands.Command.{Command}
+use Rattle.quantile_sketches.specs.declared.audit.commands.Command.TheVariants.{New, Update, UpdateWeighted, Merge, Reset, RoundTrip}
+use Rattle.quantile_sketches.specs.Lawful.{IsLawful}
+use Rattle.quantile_sketches.specs.Plan.{is_refused}
+use Rattle.quantile_sketches.specs.Outcome.{shapes_in}
+use Rattle.quantile_sketches.specs.Rules.{Kind}
+use Rattle.quantile_sketches.specs.Step.{Slots, in_slot, Holds, Verdict, Turns, Changes, Cloned, Empties, RoundTrips, JoinsCopy, Merges, CarriesOut, CarriesOutItem, CarriesOutClone}
+use Rattle.quantile_sketches.specs.Steps.{Held, Puts, AreSame, Refuses, IsCopied, IsUpdated, IsWeighted, IsMerged, IsMergedIn, IsDecided, IsDone, IsExecuted}
+
+-- ---- slots
+
+in_slot-held : {S : Type 0} (slots : Slots S) (slot : ℕ) (o : Option S) → Holds slots slot o → in_slot slots slot ≡ o
+in_slot-held slots slot o h = get_or_from_slice_get slots slot o None h
+
+in_slot-set : {S : Type 0} (slots : Slots S) (slot : ℕ) (o new : Option S) → Holds slots slot o → (q : ℕ) → in_slot (set slots slot new) q ≡ changed (in_slot slots) slot new q
+in_slot-set slots slot o new h q = go (q == slot) refl
+  where
+    go : (b : Bool) → (q == slot) ≡ b → in_slot (set slots slot new) q ≡ (if b then new else in_slot slots q)
+    go true e = get_or-set_at slots slot q new None (eqb-true q slot e) (slice_get_within slots slot o h)
+    go false e = get_or-set_other slots slot q new None (eqb-false q slot e)
+
+-- a slot that holds what it held
+in_slot-same : {S : Type 0} (slots slots' : Slots S) (slot : ℕ) (o new : Option S) → Holds slots slot o → new ≡ o → slots' ≡ set slots slot new → AreSame (in_slot slots) (in_slot slots')
+in_slot-same slots slots' slot o new h same is q =
+    ap (λ l. in_slot l q) is
+    ∙ (in_slot-set slots slot o new h q
+    ∙ (ap (λ x. changed (in_slot slots) slot x q) (same ∙ sym (in_slot-held slots slot o h))
+    ∙ changed-own (in_slot slots) slot q))
+
+-- a command is accepted where the rules give a shape
+given : {X : Type 0} (o : Option X) (x : X) → o ≡ Some x → true ≡ not (not (is_some o))
+given o x e = sym (ap (λ o. not (not (is_some o))) e)
+
+not-given : {X : Type 0} (o : Option X) → o ≡ None → false ≡ not (not (is_some o))
+not-given o e = sym (ap (λ o. not (not (is_some o))) e)
+
+no-memory : InvalidArgument ≡ OutOfMemory → ⊥
+no-memory e = cc
+
+no-data : InvalidData ≡ OutOfMemory → ⊥
+no-data e = cc
+
+not-refused : InvalidData ≡ InvalidArgument → ⊥
+not-refused e = cc
+
+-- what is owed of an error but for want of memory
+abbrev Unless : ErrorKind → Type 0 → Type 0
+Unless InvalidArgument P = P
+Unless InvalidData P = P
+Unless OutOfMemory P = ⊤
+
+unless-refused : {Shape : Type 0} {P : Type 0} (shape : Option Shape) (e : ErrorKind) → Refuses shape e → (shape ≡ None → P) → Unless e P
+unless-refused shape InvalidArgument (inl r) f = f r.1
+unless-refused shape InvalidArgument (inr r) f = absurd (no-memory r.0)
+unless-refused shape InvalidData (inl r) f = absurd (not-refused r.0)
+unless-refused shape InvalidData (inr r) f = absurd (no-data r.0)
+unless-refused shape OutOfMemory r f = tt
+
+unless-memory : (P : Type 0) (e : ErrorKind) → e ≡ OutOfMemory → Unless e P
+unless-memory P InvalidArgument r = absurd (no-memory r)
+unless-memory P InvalidData r = absurd (no-data r)
+unless-memory P OutOfMemory r = tt
+
+ok-no-err : {T E : Type 0} {P : Type 0} (x : T) (e : E) → Ok x ≡ Err e → P
+ok-no-err x e same = absurd (cc)
+
+same-err : {T E : Type 0} (x y : E) (r : Result T E) → r ≡ Err x → r ≡ Err y → y ≡ x
+same-err x y r is also = cc
+
+-- ---- a command
+
+module _ {A C Shape S Source : Type 0} (kind : Kind A C Shape S) (bit : Source → Bool) (next : Source → Source) where
+  -- a verdict is that of a step: it is accepted or refused, or memory is wanted and nothing is changed
+  abbrev pub Comes : Verdict → Command A C → Held S → Source → Held S → Source → Type 0
+  Comes (Ok done) command slots source slots' source' = IsExecuted kind bit next command slots source true slots' source'
+  Comes (Err BadLine) command slots source slots' source' = IsExecuted kind bit next command slots source false slots' source'
+  Comes (Err AbsentSlot) command slots source slots' source' = IsExecuted kind bit next command slots source false slots' source'
+  Comes (Err (Sketch e)) command slots source slots' source' =
+      Unless e (IsDecided kind command slots false) × AreSame slots slots' × (source' ≡ source)
+
+  yes : (command : Command A C) (slots : Held S) (source : Source) (slots' : Held S) (source' : Source) → IsDecided kind command slots true → IsDone kind bit next command slots source slots' source' →
+      IsExecuted kind bit next command slots source true slots' source'
+  yes command slots source slots' source' d done = record { decided = d; done = λ t. done; left = λ f. absurd (false≢true (sym f)) }
+
+  no : (command : Command A C) (slots : Held S) (source : Source) (slots' : Held S) (source' : Source) → IsDecided kind command slots false → AreSame slots slots' → source' ≡ source →
+      IsExecuted kind bit next command slots source false slots' source'
+  no command slots source slots' source' d same stays = record { decided = d; done = λ f. absurd (false≢true f); left = λ f. (same, stays) }
+
+  -- a command that is no want of memory
+  pub executed : (r : Verdict) (command : Command A C) (slots : Held S) (source : Source) (slots' : Held S) (source' : Source) → r ≢ Err (Sketch OutOfMemory) →
+      Comes r command slots source slots' source' → IsExecuted kind bit next command slots source (is_ok r) slots' source'
+  executed (Ok done) command slots source slots' source' n h = h
+  executed (Err BadLine) command slots source slots' source' n h = h
+  executed (Err AbsentSlot) command slots source slots' source' n h = h
+  executed (Err (Sketch InvalidArgument)) command slots source slots' source' n h = no command slots source slots' source' h.0 h.1 h.2
+  executed (Err (Sketch InvalidData)) command slots source slots' source' n h = no command slots source slots' source' h.0 h.1 h.2
+  executed (Err (Sketch OutOfMemory)) command slots source slots' source' n h = absurd (n refl)
+
+  -- one that is not carried out leaves all as it was
+  pub left : (e : _) (command : Command A C) (slots : Held S) (source : Source) (slots' : Held S) (source' : Source) →
+      Comes (Err e) command slots source slots' source' → AreSame slots slots' × (source' ≡ source)
+  left BadLine command slots source slots' source' h = h.left refl
+  left AbsentSlot command slots source slots' source' h = h.left refl
+  left (Sketch e) command slots source slots' source' h = (h.1, h.2)
+
+  module _ (command : Command A C) (slots slots' : Slots S) (source source' : Source) where
+    -- what comes of a sketch in a slot
+    record Turned (slot : ℕ) (turn : Change Source S) : Type 0 where
+      absent : in_slot slots slot ≡ None → IsDecided kind command (in_slot slots) false
+      done : (s t : S) → in_slot slots slot ≡ Some s → turn s source (Ok tt) t source' → Puts (in_slot slots) slot t (in_slot slots') →
+          IsDecided kind command (in_slot slots) true × IsDone kind bit next command (in_slot slots) source (in_slot slots') source'
+      refused : (s t : S) (e : ErrorKind) → in_slot slots slot ≡ Some s → turn s source (Err e) t source' →
+          Unless e (IsDecided kind command (in_slot slots) false) × (t ≡ s) × (source' ≡ source)
+
+    turned : (slot : ℕ) (turn : Change Source S) → Turned slot turn → (o new : Option S) (r : Verdict) → Holds slots slot o → Turns turn o source r new source' → slots' ≡ set slots slot new →
+        Comes r command (in_slot slots) source (in_slot slots') source'
+    turned slot turn by None new r held (is, same, stays) set_is =
+        subst (λ r. Comes r command (in_slot slots) source (in_slot slots') source') (sym is)
+        (no command (in_slot slots) source (in_slot slots') source' (by.absent (in_slot-held slots slot None held)) (in_slot-same slots slots' slot None new held same set_is) stays)
+    turned slot turn by (Some s) new (Ok done) held (t, is, h) set_is =
+        let puts : Puts (in_slot slots) slot t (in_slot slots') = λ q. ap (λ l. in_slot l q) set_is ∙ (in_slot-set slots slot (Some s) new held q ∙ ap (λ x. changed (in_slot slots) slot x q) is) in
+        let d = by.done s t (in_slot-held slots slot (Some s) held) h puts in
+        yes command (in_slot slots) source (in_slot slots') source' d.0 d.1
+    turned slot turn by (Some s) new (Err (Sketch e)) held (t, is, h) set_is =
+        let d = by.refused s t e (in_slot-held slots slot (Some s) held) h in
+        (d.0, in_slot-same slots slots' slot (Some s) new held (is ∙ ap Some d.1) set_is, d.2)
+    turned slot turn by (Some s) new (Err BadLine) held h set_is = absurd h
+    turned slot turn by (Some s) new (Err AbsentSlot) held h set_is = absurd h
+
+    -- a command on one slot that the rules decide by its sketch's shape
+    ruled : (slot : ℕ) (gives : Shape → Option Shape) →
+        ((accepted : Bool) → accepted ≡ not (not (is_some (option_and_then gives (option_map kind.shape (in_slot slots slot))))) → IsDecided kind command (in_slot slots) accepted) →
+        (turn : Change Source S) (does : S → S → Type 0) → ((s t : S) (r : Result Unit ErrorKind) → turn s source r t source' → Obeys (gives (kind.shape s)) (λ t source'. does s t) s source r t source') →
+        ((s t : S) → does s t → gives (kind.shape s) ≡ Some (kind.shape t)) →
+        ((s t : S) → in_slot slots slot ≡ Some s → does s t → Puts (in_slot slots) slot t (in_slot slots') → IsDone kind bit next command (in_slot slots) source (in_slot slots') source') →
+        Turned slot turn
+    ruled slot gives decide turn does obeys shape done = record {
+      absent = λ h. decide false (not-given _ (by h));
+      done = λ s t held h puts.
+          let d = (obeys s t (Ok tt) h).0 in (decide true (given _ (kind.shape t) (by held ∙ shape s t d)), done s t held d puts);
+      refused = λ s t e held h.
+          let o = obeys s t (Err e) h in (unless-refused _ e o.1 (λ none. decide false (not-given _ (by held ∙ none))), o.2.0, o.2.1);
+    }
+      where
+        by : {o : Option S} → in_slot slots slot ≡ o → option_and_then gives (option_map kind.shape (in_slot slots slot)) ≡ option_and_then gives (option_map kind.shape o)
+        by h = ap (λ o. option_and_then gives (option_map kind.shape o)) h
+
+-- ---- each command
+
+module _ {A C Shape S Source : Type 0} {kind : Kind A C Shape S} (lawful : IsLawful kind) (behaviour : Behaviour S A C) (IsImage : List ℕ → S → Type 0) (bit : Source → Bool) (next : Source → Source) where
+  abbrev Full : Behaviour S A C
+  Full = in_full behaviour kind IsImage
+
+  -- a sketch took an item that compares equal
+  abbrev Took : A → S → Source → S → Source → Type 0
+  Took x s source t source' = (y : A) × (kind.cmp x y ≡ Equal) × IsUpdated kind bit next s y source t source'
+
+  abbrev TookWeighted : A → ℕ → S → Source → S → Source → Type 0
+  TookWeighted x weight s source t source' = (y : A) × (kind.cmp x y ≡ Equal) × IsWeighted kind bit next s y weight source t source'
+
+  clone-obeys : (IsClone : A → Type 0) (x : A) → ((y : A) → IsClone y → kind.cmp x y ≡ Equal) → (behave : A → Change Source S) (shape : S → Option Shape) (does : A → S → Source → S → Source → Type 0) →
+      (s : S) (source : Source) (r : Result Unit ErrorKind) (t : S) (source' : Source) → Cloned IsClone (λ y s source r t source'. behave y s source r t source' × Obeys (shape s) (does y s source) s source r t source') s source r t source' →
+      Obeys (shape s) (λ t source'. (y : A) × (kind.cmp x y ≡ Equal) × does y s source t source') s source r t source'
+  clone-obeys IsClone x ties behave shape does s source (Ok tt) t source' (inl (y, is, h)) = ((y, ties y is, h.1.0), tt, tt)
+  clone-obeys IsClone x ties behave shape does s source (Ok tt) t source' (inr all) = ((x, tied_itself lawful.total x, (all x).1.0), tt, tt)
+  clone-obeys IsClone x ties behave shape does s source (Err e) t source' (inl (y, is, h)) = (tt, h.1.1, h.1.2)
+  clone-obeys IsClone x ties behave shape does s source (Err e) t source' (inr all) = (tt, (all x).1.1, (all x).1.2)
+
+  item-obeys : (x : A) (Behaves : Result Unit ErrorKind → S → Source → Type 0) (shape : Option Shape) (does : A → S → Source → Type 0) →
+      (s : S) (source : Source) (r : Result Unit ErrorKind) (t : S) (source' : Source) → Behaves r t source' × Obeys shape (does x) s source r t source' →
+      Obeys shape (λ t source'. (y : A) × (kind.cmp x y ≡ Equal) × does y t source') s source r t source'
+  item-obeys x Behaves shape does s source (Ok tt) t source' h = ((x, tied_itself lawful.total x, h.1.0), tt, tt)
+  item-obeys x Behaves shape does s source (Err e) t source' h = (tt, h.1.1, h.1.2)
+
+  -- a sketch is a copy of itself
+  same-answer : (o : Option A) → SameAnswer kind.cmp o o
+  same-answer None = tt
+  same-answer (Some x) = tied_itself lawful.total x
+
+  copied-itself : (s : S) → kind.IsSound s → IsCopied kind s s
+  copied-itself s sound = record {
+    shape_is = refl;
+    alike = lawful.alike_refl (kind.bag s);
+    least_is = same-answer (kind.least s);
+    greatest_is = same-answer (kind.greatest s);
+    sound = sound;
+  }
+
+  module _ (slots slots' : Slots S) (source source' : Source) where
+    abbrev Goes : Verdict → Command A C → Type 0
+    Goes r command = Comes kind bit next r command (in_slot slots) source (in_slot slots') source'
+
+    comes-new : (slot : ℕ) (config : C) (r : Verdict) → CarriesOut Full bit next (λ x s coins r t coins'. ⊥) (λ x weight s coins r t coins'. ⊥) (New slot config) slots source r slots' source' → Goes r (New slot config)
+    comes-new slot config (Ok tt) ((s, o, held, made, is), stays) =
+        yes kind bit next (New slot config) (in_slot slots) source (in_slot slots') source' (given _ (kind.shape s) made.1.shape_is)
+        (record { made = s; fresh = made.1; puts = λ q. ap (λ l. in_slot l q) is ∙ in_slot-set slots slot o (Some s) held q }, stays)
+    comes-new slot config (Err (Sketch e)) ((made, is), stays) =
+        (unless-refused _ e made.2 (λ none. not-given _ none), (λ q. ap (λ l. in_slot l q) is), stays)
+    comes-new slot config (Err BadLine) h = absurd h.0
+    comes-new slot config (Err AbsentSlot) h = absurd h.0
+
+    -- one slot turns
+    changes : (command : Command A C) (slot : ℕ) (turn : Change Source S) → Turned kind bit next command slots slots' source source' slot turn → (r : Verdict) → Changes (Turns turn) slot slots source r slots' source' → Goes r command
+    changes command slot turn by r (o, new, held, turns, is) = turned kind bit next command slots slots' source source' slot turn by o new r held turns is
+
+    comes-update : (slot : ℕ) (x : A) (taken : Change Source S) → ((s t : S) (r : Result Unit ErrorKind) → taken s source r t source' → Obeys (kind.rules.updated (kind.shape s)) (Took x s source) s source r t source') →
+        (r : Verdict) → Changes (Turns taken) slot slots source r slots' source' → Goes r (Update slot x)
+    comes-update slot x taken obeys =
+        changes (Update slot x) slot taken
+        (ruled kind bit next (Update slot x) slots slots' source source' slot kind.rules.updated (λ accepted e. e) taken (λ s t. Took x s source t source') obeys
+        (λ s t d. d.2.0.shape_is) (λ s t held d puts. record { old = s; taken = d.0; made = t; held = held; ties = d.1; after = d.2; puts = puts }))
+
+    comes-weighted : (slot : ℕ) (x : A) (weight : ℕ) (taken : Change Source S) →
+        ((s t : S) (r : Result Unit ErrorKind) → taken s source r t source' → Obeys (kind.rules.updated_weighted (kind.shape s) weight) (TookWeighted x weight s source) s source r t source') →
+        (r : Verdict) → Changes (Turns taken) slot slots source r slots' source' → Goes r (UpdateWeighted slot x weight)
+    comes-weighted slot x weight taken obeys =
+        changes (UpdateWeighted slot x weight) slot taken
+        (ruled kind bit next (UpdateWeighted slot x weight) slots slots' source source' slot (λ shape. kind.rules.updated_weighted shape weight) (λ accepted e. e) taken (λ s t. TookWeighted x weight s source t source') obeys
+        (λ s t d. d.2.0.shape_is) (λ s t held d puts. record { old = s; taken = d.0; made = t; held = held; ties = d.1; after = d.2; puts = puts }))
+
+    comes-reset : (slot : ℕ) (r : Verdict) → Changes (Turns (Empties Full)) slot slots source r slots' source' → Goes r (Reset slot)
+    comes-reset slot = changes (Reset slot) slot (Empties Full) (record {
+      absent = λ h. not-given _ (ap (λ o. option_map kind.rules.emptied (option_map kind.shape o)) h);
+      done = λ s t held h puts. (
+        given _ (kind.rules.emptied (kind.shape s)) (ap (λ o. option_map kind.rules.emptied (option_map kind.shape o)) held),
+        (record { old = s; held = held; made = record { made = t; fresh = h.1.1; puts = puts } }, h.2),
+      );
+      refused = λ s t e held h. absurd (ok-no-err tt e (sym h.0));
+    })
+
+    -- a round trip
+    trip-decided : (slot : ℕ) (accepted : Bool) (s : S) → in_slot slots slot ≡ Some s → IsTrue accepted ↔ kind.HasImage s → IsDecided kind (RoundTrip slot) (in_slot slots) accepted
+    trip-decided slot accepted s held h = subst (λ o. MatchOption o (accepted ≡ false) (λ s. IsTrue accepted ↔ kind.HasImage s)) (sym held) h
+
+    comes-trip : (slot : ℕ) (r : Verdict) → Changes (Turns (RoundTrips Full)) slot slots source r slots' source' → Goes r (RoundTrip slot)
+    comes-trip slot = changes (RoundTrip slot) slot (RoundTrips Full) (record {
+      absent = λ h. subst (λ o. MatchOption o (false ≡ false) (λ s. IsTrue false ↔ kind.HasImage s)) (sym h) refl;
+      done = done;
+      refused = refused;
+    })
+      where
+        done : (s t : S) → in_slot slots slot ≡ Some s → RoundTrips Full s source (Ok tt) t source' → Puts (in_slot slots) slot t (in_slot slots') →
+            IsDecided kind (RoundTrip slot) (in_slot slots) true × IsDone kind bit next (RoundTrip slot) (in_slot slots) source (in_slot slots') source'
+        done s t held (inl (bytes, written, read), stays) puts = (
+          trip-decided slot true s held (λ y. written.2, λ has. refl),
+          (record { old = s; made = t; held = held; copied = read.1 s written.1; puts = puts }, stays),
+        )
+        done s t held (inr (e, written, is, same), stays) puts = ok-no-err tt e is
+
+        unread : (s : S) (e : ErrorKind) → kind.HasImage s → (e ≡ OutOfMemory) ⊎ ((e ≡ InvalidData) × ⊥) → Unless e (IsDecided kind (RoundTrip slot) (in_slot slots) false)
+        unread s e has (inl m) = unless-memory _ e m
+        unread s e has (inr b) = absurd b.1
+
+        unwritten : (s : S) (e : ErrorKind) → in_slot slots slot ≡ Some s → ((e ≡ InvalidArgument) × (¬ kind.HasImage s)) ⊎ (e ≡ OutOfMemory) → Unless e (IsDecided kind (RoundTrip slot) (in_slot slots) false)
+        unwritten s e held (inr m) = unless-memory _ e m
+        unwritten s e held (inl n) = subst (λ e. Unless e (IsDecided kind (RoundTrip slot) (in_slot slots) false)) (sym n.0) (trip-decided slot false s held (λ f. absurd (false≢true f), λ has. absurd (n.1 has)))
+
+        refused : (s t : S) (e : ErrorKind) → in_slot slots slot ≡ Some s → RoundTrips Full s source (Err e) t source' → Unless e (IsDecided kind (RoundTrip slot) (in_slot slots) false) × (t ≡ s) × (source' ≡ source)
+        refused s t e held (inl (bytes, written, (read, same)), stays) = (unread s e written.2 (go read.2), same, stays)
+          where
+            go : (e ≡ OutOfMemory) ⊎ ((e ≡ InvalidData) × ((p : S) → ¬ IsImage bytes.items p)) → (e ≡ OutOfMemory) ⊎ ((e ≡ InvalidData) × ⊥)
+            go (inl m) = inl m
+            go (inr b) = inr (b.0, b.1 s written.1)
+        refused s t e held (inr (f, written, is, same), stays) =
+            (unwritten s e held (subst (λ e. ((e ≡ InvalidArgument) × (¬ kind.HasImage s)) ⊎ (e ≡ OutOfMemory)) (same-err e f _ refl is) written.3), same, stays)
+
+    -- a merge
+    abbrev merged-by : Option Shape → Option Shape → Option Shape
+    merged-by x y = option_and_then (λ shape. option_and_then (kind.rules.merged shape) y) x
+
+    merged-at : (into from : ℕ) (s p : S) → in_slot slots into ≡ Some s → in_slot slots from ≡ Some p → merged-by (option_map kind.shape (in_slot slots into)) (option_map kind.shape (in_slot slots from)) ≡ kind.rules.merged (kind.shape s) (kind.shape p)
+    merged-at into from s p held its = ap₂ (λ x y. merged-by (option_map kind.shape x) (option_map kind.shape y)) held its
+
+    merged-none : (x : Option Shape) → merged-by x None ≡ None
+    merged-none None = refl
+    merged-none (Some shape) = refl
+
+    -- a sketch takes another in that stands in a slot, or a copy of it
+    takes-in : (into from : ℕ) (s p copy t : S) → in_slot slots into ≡ Some s → in_slot slots from ≡ Some p → IsCopied kind p copy → IsMerged kind bit next s copy source t source' → kind.IsSound t → Puts (in_slot slots) into t (in_slot slots') →
+        IsDecided kind (Merge into from) (in_slot slots) true × IsMergedIn kind bit next into from (in_slot slots) source (in_slot slots') source'
+    takes-in into from s p copy t held its copied merged sound puts = (
+      given _ (kind.shape t) (merged-at into from s p held its ∙ (ap (kind.rules.merged (kind.shape s)) (sym copied.shape_is) ∙ merged.shape_is)),
+      record { old = s; other = p; copy = copy; made = t; held = held; held_other = its; copied = copied; merged = merged; sound = sound; puts = puts },
+    )
+
+    refuses-it : (into from : ℕ) (s p : S) → in_slot slots into ≡ Some s → in_slot slots from ≡ Some p → kind.rules.merged (kind.shape s) (kind.shape p) ≡ None → IsDecided kind (Merge into from) (in_slot slots) false
+    refuses-it into from s p held its none = not-given _ (merged-at into from s p held its ∙ none)
+
+    merge-copy : (into from : ℕ) → into ≡ from → Turned kind bit next (Merge into from) slots slots' source source' into (JoinsCopy Full bit next)
+    merge-copy into from same = record {
+      absent = λ h. not-given _ (ap (λ x. merged-by (option_map kind.shape x) (option_map kind.shape (in_slot slots from))) h);
+      done = done;
+      refused = refused;
+    }
+      where
+        also : {s : S} → in_slot slots into ≡ Some s → in_slot slots from ≡ Some s
+        also held = ap (in_slot slots) (sym same) ∙ held
+
+        done : (s t : S) → in_slot slots into ≡ Some s → JoinsCopy Full bit next s source (Ok tt) t source' → Puts (in_slot slots) into t (in_slot slots') →
+            IsDecided kind (Merge into from) (in_slot slots) true × IsDone kind bit next (Merge into from) (in_slot slots) source (in_slot slots') source'
+        done s t held (inl (refuses, is, kept, stays)) puts = ok-no-err tt InvalidArgument is
+        done s t held (inr (fits, inl (p, copied, joined))) puts = takes-in into from s s p t held (also held) copied.1 joined.1.0 joined.3 puts
+        done s t held (inr (fits, inr (e, copied, is, kept, stays))) puts = ok-no-err tt e is
+
+        refused : (s t : S) (e : ErrorKind) → in_slot slots into ≡ Some s → JoinsCopy Full bit next s source (Err e) t source' → Unless e (IsDecided kind (Merge into from) (in_slot slots) false) × (t ≡ s) × (source' ≡ source)
+        refused s t e held (inl (refuses, is, kept, stays)) =
+            (subst (λ e. Unless e (IsDecided kind (Merge into from) (in_slot slots) false)) (same-err e InvalidArgument _ refl is) (refuses-it into from s s held (also held) (refuses.1.0 refl)), kept, stays)
+        refused s t e held (inr (fits, inl (p, copied, joined))) =
+            (unless-refused _ e joined.1.1 (λ none. refuses-it into from s s held (also held) (ap (kind.rules.merged (kind.shape s)) (sym copied.1.shape_is) ∙ none)), joined.1.2.0, joined.1.2.1)
+        refused s t e held (inr (fits, inr (f, copied, is, kept, stays))) = (unless-memory _ e (sym (same-err e f _ refl is) ∙ copied.2), kept, stays)
+
+    merge-other : (into from : ℕ) (p : S) → in_slot slots from ≡ Some p → Turned kind bit next (Merge into from) slots slots' source source' into (Full.joined p Source bit next)
+    merge-other into from p its = record {
+      absent = λ h. not-given _ (ap (λ x. merged-by (option_map kind.shape x) (option_map kind.shape (in_slot slots from))) h);
+      done = λ s t held h puts. takes-in into from s p p t held its (copied-itself p h.2) h.1.0 h.3 puts;
+      refused = λ s t e held h. (unless-refused _ e h.1.1 (refuses-it into from s p held its), h.1.2.0, h.1.2.1);
+    }
+
+    comes-merge : (into from : ℕ) (b : Bool) → (into == from) ≡ b → (r : Verdict) → Merges Full bit next b into from slots source r slots' source' → Goes r (Merge into from)
+    comes-merge into from true e r h = changes (Merge into from) into (JoinsCopy Full bit next) (merge-copy into from (eqb-true into from e)) r h
+    comes-merge into from false e r (None, its, (o, new, held, (is, same, stays), set_is)) =
+        subst (λ r. Goes r (Merge into from)) (sym is)
+        (no kind bit next (Merge into from) (in_slot slots) source (in_slot slots') source'
+        (not-given _ (ap (λ y. merged-by (option_map kind.shape (in_slot slots into)) (option_map kind.shape y)) (in_slot-held slots from None its) ∙ merged-none _))
+        (in_slot-same slots slots' into o new held same set_is) stays)
+    comes-merge into from false e r (Some p, its, (o, new, held, turns, set_is)) =
+        turned kind bit next (Merge into from) slots slots' source source' into (Full.joined p Source bit next) (merge-other into from p (in_slot-held slots from (Some p) its)) o new r held turns set_is
+
+    -- any command, by how its item is taken
+    comes : (taken : A → Change Source S) (weighted : A → ℕ → Change Source S) →
+        ((x : A) (s t : S) (r : Result Unit ErrorKind) → taken x s source r t source' → Obeys (kind.rules.updated (kind.shape s)) (Took x s source) s source r t source') →
+        ((x : A) (weight : ℕ) (s t : S) (r : Result Unit ErrorKind) → weighted x weight s source r t source' → Obeys (kind.rules.updated_weighted (kind.shape s) weight) (TookWeighted x weight s source) s source r t source') →
+        (command : Command A C) (r : Verdict) → CarriesOut Full bit next taken weighted command slots source r slots' source' → Goes r command
+    comes taken weighted f g (New slot config) r h = comes-new slot config r h
+    comes taken weighted f g (Update slot x) r h = comes-update slot x (taken x) (f x) r h
+    comes taken weighted f g (UpdateWeighted slot x weight) r h = comes-weighted slot x weight (weighted x weight) (g x weight) r h
+    comes taken weighted f g (Merge into from) r h = comes-merge into from (into == from) refl r h
+    comes taken weighted f g (Reset slot) r h = comes-reset slot r h
+    comes taken weighted f g (RoundTrip slot) r h = comes-trip slot r h
+
+    pub comes-clone : (IsClone : A → A → Type 0) → ((x y : A) → IsClone x y → kind.cmp x y ≡ Equal) → (command : Command A C) (r : Verdict) →
+        CarriesOutClone Full bit next IsClone command slots source r slots' source' → Goes r command
+    comes-clone IsClone ties =
+        comes (λ x. Cloned (IsClone x) (λ y. Full.taken y Source bit next)) (λ x weight. Cloned (IsClone x) (λ y. Full.taken_weighted y weight Source bit next))
+        (λ x s t r. clone-obeys (IsClone x) x (ties x) (λ y. behaviour.taken y Source bit next) (λ s. kind.rules.updated (kind.shape s)) (λ y s. IsUpdated kind bit next s y) s source r t source')
+        (λ x weight s t r. clone-obeys (IsClone x) x (ties x) (λ y. behaviour.taken_weighted y weight Source bit next) (λ s. kind.rules.updated_weighted (kind.shape s) weight) (λ y s. IsWeighted kind bit next s y weight) s source r t source')
+
+    pub comes-item : (command : Command A C) (r : Verdict) → CarriesOutItem Full bit next command slots source r slots' source' → Goes r command
+    comes-item =
+        comes (λ x. Full.taken x Source bit next) (λ x weight. Full.taken_weighted x weight Source bit next)
+        (λ x s t r. item-obeys x (λ r t source'. behaviour.taken x Source bit next s source r t source') (kind.rules.updated (kind.shape s)) (λ y. IsUpdated kind bit next s y source) s source r t source')
+        (λ x weight s t r. item-obeys x (λ r t source'. behaviour.taken_weighted x weight Source bit next s source r t source') (kind.rules.updated_weighted (kind.shape s) weight) (λ y. IsWeighted kind bit next s y weight source) s source r t source')
