@@ -20,8 +20,8 @@ use sketch_base::common::counting::count_counted;
 use sketch_base::common::random::RandomBits;
 use std::alloc::{AllocError, Global};
 
-/// The levels of a sketch: level h is `items[bounds[h + 1]..bounds[h]]`, so that an update without a
-/// compaction is a push.
+/// The levels of a sketch: level h is `items[bounds[h + 1]..bounds[h]]`, so that an update without
+/// a compaction is a push.
 #[derive(Debug, Drop)]
 pub(crate) struct Levels<T> {
     pub(crate) k: u16,
@@ -77,7 +77,8 @@ impl<T: Ord + Drop> Levels<T> {
         ensures stored { AreStored T.cmp self.new }
         ensures kept { KeepsRoom self.old self.new }
         ensures levels { SameLevels T.cmp
-            (with_room T.cmp self.old.k self.old.is_level_zero_sorted (B.bit coins.old) (levels_of self.old))
+            (with_room T.cmp self.old.k self.old.is_level_zero_sorted (B.bit coins.old)
+            (levels_of self.old))
             (levels_of self.new) }
         ensures shorter { vec_len self.new.items ≤ vec_len self.old.items }
         ensures coins { coins.new ≡ (if is_full self.old.k (levels_of self.old)
@@ -98,7 +99,8 @@ impl<T: Ord + Drop> Levels<T> {
         ensures stored { AreStored T.cmp self.new }
         ensures kept { KeepsRoom self.old self.new }
         ensures levels { SameLevels T.cmp
-            (compacted T.cmp (keeps_last self.old.is_level_zero_sorted level) (B.bit coins.old) level (levels_of self.old))
+            (compacted T.cmp (keeps_last self.old.is_level_zero_sorted level) (B.bit coins.old)
+            level (levels_of self.old))
             (levels_of self.new) }
         ensures shorter { vec_len self.new.items ≤ vec_len self.old.items }
         ensures coins { coins.new ≡ B.next coins.old }

@@ -1,5 +1,5 @@
 //! General compress: a walk over the levels from 0 up.
-ghost use Rattle.std.specs.Prelude.{◌≡◌, ℕ, ◌+◌, ◌-◌, ◌^◌, ◌<◌, ◌≤◌, length, drop, IsTrue, IsSorted, true, false, ◌⊎◌, vec_capacity, vec_len, if◌then◌else◌};
+ghost use Rattle.std.specs.Prelude.{◌≡◌, ℕ, ◌+◌, ◌-◌, ◌^◌, ◌<◌, ◌≤◌, length, IsTrue, IsSorted, true, false, ◌⊎◌, vec_capacity, vec_len, if◌then◌else◌};
 ghost use Rattle.sketch_base.specs.Random.{after_draws};
 ghost use Rattle.sketch_base.specs.Trace.{draws_of};
 ghost use Rattle.sketch_kll.specs.Capacity.{total_of};
@@ -21,7 +21,8 @@ impl<T: Ord + Drop> Levels<T> {
         ensures within { IsTrue result → level + 1 < length self.now.bounds.items }
         ensures full { IsTrue result → is_full self.now.k (levels_of self.now) ≡ true }
         ensures over { result ≡ false → (length (levels_of self.now) ≤ level)
-            ⊎ (retained (levels_of self.now) < total_of self.now.k 8 (length (levels_of self.now))) }
+            ⊎ (retained (levels_of self.now)
+            < total_of self.now.k 8 (length (levels_of self.now))) }
     {
         level + 1 < self.bounds.len() && self.items.len() >= self.total_capacity as usize
     }
@@ -50,7 +51,8 @@ impl<T: Ord + Drop> Levels<T> {
         ensures stored { AreStored T.cmp self.new }
         ensures kept { KeepsRoom self.old self.new }
         ensures levels { SameLevels T.cmp
-            (stepped T.cmp self.old.k self.old.is_level_zero_sorted (B.bit coins.old) level (levels_of self.old))
+            (stepped T.cmp self.old.k self.old.is_level_zero_sorted (B.bit coins.old) level
+            (levels_of self.old))
             (levels_of self.new) }
         ensures coins { coins.new ≡ (if passes self.old.k (levels_of self.old) level
             then coins.old else B.next coins.old) }
@@ -70,12 +72,14 @@ impl<T: Ord + Drop> Levels<T> {
         requires spare { 63 ≤ vec_capacity self.old.bounds }
         ensures stored { AreStored T.cmp self.new }
         ensures kept { KeepsRoom self.old self.new }
-        ensures below { retained (levels_of self.new) < total_of self.old.k 8 (length (levels_of self.new)) }
+        ensures below { retained (levels_of self.new)
+            < total_of self.old.k 8 (length (levels_of self.new)) }
         ensures levels { SameLevels T.cmp
-            (walked T.cmp B.bit B.next self.old.k self.old.is_level_zero_sorted 61 0 coins.old (levels_of self.old))
+            (walked T.cmp B.bit B.next self.old.k self.old.is_level_zero_sorted 61 0 coins.old
+            (levels_of self.old))
             (levels_of self.new) }
-        ensures bag { IsCompressed T.cmp B.bit B.next coins.old self.old.k self.old.is_level_zero_sorted
-            (levels_of self.old) (levels_of self.new) }
+        ensures bag { IsCompressed T.cmp B.bit B.next coins.old self.old.k
+            self.old.is_level_zero_sorted (levels_of self.old) (levels_of self.new) }
         ensures coins { coins.new ≡ after_draws B.next coins.old
             (draws_of (compress_of self.old.k (levels_of self.old))) }
     {
