@@ -1,5 +1,5 @@
 -- Lines are answered by the sketches of a run of the commands that were accepted before them.
-use Rattle.std.proofs.Common.{◌≡◌, ℕ, ℤ, ◌<◌, List, [], ◌∷◌, ◌++◌, length, Option, None, Some, IfSome, Result, Ok, Err, OnOk, refl, sym, ap, ◌∙◌, subst, zero-add, replicate}
+use Rattle.std.proofs.Common.{◌≡◌, ℕ, ℤ, List, [], ◌∷◌, length, Option, None, Some, IfSome, Result, Ok, Err, OnOk, refl, sym, subst, zero-add, replicate}
 use mathlib.Core.Path.{fun_ext}
 use Rattle.std.specs.Io.KnownBytes.{Appends}
 use Rattle.sketch_base.specs.Random.{next_state}

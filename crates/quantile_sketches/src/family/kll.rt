@@ -41,7 +41,7 @@ impl<T: KllValue + Ord> Family for KllSketch<T> {
         Ok(copy)
     }
 
-    fn empty(&mut self) {
+    fn reset(&mut self) {
         self.reset();
     }
 
@@ -57,13 +57,13 @@ impl<T: KllValue + Ord> Family for KllSketch<T> {
         other.n() > u64::MAX - self.n()
     }
 
-    fn take<B: RandomBits>(&mut self, item: T, coins: &mut B) -> Result<(), Error> {
+    fn update<B: RandomBits>(&mut self, item: T, coins: &mut B) -> Result<(), Error> {
         let _n = self.n();
         self.update(item, coins)?;
         Ok(())
     }
 
-    fn take_weighted<B: RandomBits>(
+    fn update_weighted<B: RandomBits>(
         &mut self,
         item: T,
         weight: u64,
@@ -74,7 +74,7 @@ impl<T: KllValue + Ord> Family for KllSketch<T> {
         Ok(())
     }
 
-    fn join<B: RandomBits>(&mut self, other: &Self, coins: &mut B) -> Result<(), Error> {
+    fn merge<B: RandomBits>(&mut self, other: &Self, coins: &mut B) -> Result<(), Error> {
         let (_n, _others) = (self.n(), other.n());
         self.merge(other, coins)
     }

@@ -44,7 +44,7 @@ impl<T: ReqValue + Clone + Ord> Family for ReqSketch<T> {
         Ok(copy)
     }
 
-    fn empty(&mut self) {
+    fn reset(&mut self) {
         self.reset();
     }
 
@@ -63,13 +63,13 @@ impl<T: ReqValue + Clone + Ord> Family for ReqSketch<T> {
             || other.num_retained() > u32::MAX - self.num_retained()
     }
 
-    fn take<B: RandomBits>(&mut self, item: T, coins: &mut B) -> Result<(), Error> {
+    fn update<B: RandomBits>(&mut self, item: T, coins: &mut B) -> Result<(), Error> {
         let _n = self.n();
         self.update(item, coins)?;
         Ok(())
     }
 
-    fn take_weighted<B: RandomBits>(
+    fn update_weighted<B: RandomBits>(
         &mut self,
         _item: T,
         _weight: u64,
@@ -78,7 +78,7 @@ impl<T: ReqValue + Clone + Ord> Family for ReqSketch<T> {
         Err(Error::new(ErrorKind::InvalidArgument))
     }
 
-    fn join<B: RandomBits>(&mut self, other: &Self, coins: &mut B) -> Result<(), Error> {
+    fn merge<B: RandomBits>(&mut self, other: &Self, coins: &mut B) -> Result<(), Error> {
         let (_n, _others) = (self.n(), other.n());
         self.merge(other, coins)
     }

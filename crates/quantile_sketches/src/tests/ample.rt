@@ -22,7 +22,7 @@ fn filled<S: Tried>(alloc: Global, k: u16) -> Result<S, Error>
     let mut sketch = S::create(alloc, S::config_of(k))?;
     let mut coins = SplitMix64::new(1);
     for number in 0..MANY {
-        sketch.take(S::item_of(alloc, number.wrapping_add(1))?, &mut coins)?;
+        sketch.update(S::item_of(alloc, number.wrapping_add(1))?, &mut coins)?;
     }
     Ok(sketch)
 }
@@ -144,7 +144,7 @@ fn holds_many<S: Tried>(alloc: Global, k: u16) -> Result<bool, Error>
     let mut sketch: S = filled(alloc, k)?;
     let is_filled = is_whole(alloc, &sketch, 100_000)?;
     let copy = sketch.copy()?;
-    sketch.join(&copy, &mut SplitMix64::new(2))?;
+    sketch.merge(&copy, &mut SplitMix64::new(2))?;
     Ok(
         is_filled
             && answers_many(alloc, &sketch)?

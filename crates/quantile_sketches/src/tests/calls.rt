@@ -67,7 +67,7 @@ pub(super) fn filled<S: Tried>(alloc: Global, k: u16, count: u32) -> Result<S, E
     let mut sketch = S::create(alloc, S::config_of(k))?;
     let mut coins = WordBits::new(&WORD);
     for number in 0..count {
-        sketch.take(S::item_of(alloc, number.wrapping_add(1))?, &mut coins)?;
+        sketch.update(S::item_of(alloc, number.wrapping_add(1))?, &mut coins)?;
     }
     Ok(sketch)
 }
@@ -146,9 +146,9 @@ fn change<S: Tried>(
         return Err(Error::new(ErrorKind::InvalidArgument));
     };
     match call {
-        Call::Update => sketch.take(item, coins)?,
-        Call::UpdateWeighted => sketch.take_weighted(item, *weight, coins)?,
-        _ => sketch.join(other, coins)?,
+        Call::Update => sketch.update(item, coins)?,
+        Call::UpdateWeighted => sketch.update_weighted(item, *weight, coins)?,
+        _ => sketch.merge(other, coins)?,
     }
     Ok(Answer::Done)
 }
@@ -236,7 +236,7 @@ fn image_past<S: Tried>(alloc: Global, sketch: &S, more: u32) -> Result<Vec<u8>,
     let mut copy = sketch.copy()?;
     let mut coins = WordBits::new(&WORD);
     for number in 0..more {
-        copy.take(S::item_of(alloc, number.wrapping_mul(7) % 90)?, &mut coins)?;
+        copy.update(S::item_of(alloc, number.wrapping_mul(7) % 90)?, &mut coins)?;
     }
     copy.image()
 }

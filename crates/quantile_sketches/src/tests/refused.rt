@@ -173,8 +173,8 @@ fn asks_for_none<S: Tried>(alloc: Global) -> Result<bool, Error>
     });
     let is_ranked = view.rank(&item, CRITERIA) == whole && sketch.rank_of(&item, CRITERIA) == whole;
     let is_refused = refuses_arguments(alloc, &sketch, equal.as_slice());
-    let is_merged = sketch.join(&empty, &mut WordBits::new(&WORD)).is_ok();
-    sketch.empty();
+    let is_merged = sketch.merge(&empty, &mut WordBits::new(&WORD)).is_ok();
+    sketch.reset();
     let (points, other) = (points.as_slice(), &sketch);
     let is_nothing = answers_none(other, points) && views_none::<S>(&nothing, points, &item);
     Ok(!was_refused(alloc) && is_told && is_ranked && is_refused && is_merged && is_nothing)

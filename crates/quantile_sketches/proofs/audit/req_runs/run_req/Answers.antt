@@ -1,5 +1,5 @@
 use Rattle.std.proofs.Common.{length, Result, Ok, Err, IfOk}
-use Rattle.quantile_sketches.proofs.Courses.{close-by}
+use Rattle.quantile_sketches.proofs.AfterCommands.{close-by}
 use Rattle.quantile_sketches.proofs.ReqKind.{req_kind_lawful}
 use Rattle.quantile_sketches.proofs.ReqRuns.{req-load, run-ordered, run-levels, run-small, run-tail, run-tails-own, run-images, run-by-updates}
 use Rattle.quantile_sketches.proofs.audit.req_runs.run_req.Goals as goal

@@ -1,5 +1,5 @@
 use Rattle.quantile_sketches.proofs.KllKind.{emptied_is}
-use Rattle.quantile_sketches.proofs.family.kll.KllSketchFamily.empty.Goals as goal
+use Rattle.quantile_sketches.proofs.family.kll.KllSketchFamily.reset.Goals as goal
 
 pub returns-clause-fresh : goal.returns-clause-fresh
 returns-clause-fresh g c =

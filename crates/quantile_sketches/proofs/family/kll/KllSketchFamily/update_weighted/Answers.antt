@@ -1,5 +1,5 @@
 use Rattle.quantile_sketches.proofs.KllKind.{weighted_by}
-use Rattle.quantile_sketches.proofs.family.kll.KllSketchFamily.take_weighted.Goals as goal
+use Rattle.quantile_sketches.proofs.family.kll.KllSketchFamily.update_weighted.Goals as goal
 
 pub returns-clause-taken : goal.returns-clause-taken
 returns-clause-taken g c =

@@ -1,5 +1,5 @@
 use Rattle.quantile_sketches.proofs.KllKind.{merged_by}
-use Rattle.quantile_sketches.proofs.family.kll.KllSketchFamily.join.Goals as goal
+use Rattle.quantile_sketches.proofs.family.kll.KllSketchFamily.merge.Goals as goal
 
 pub returns-clause-taken : goal.returns-clause-taken
 returns-clause-taken g c =
