@@ -78,18 +78,8 @@ loop-self-preserved g c =
       source = w.1;
     }
 
-pub returns-clause-below : goal.returns-clause-below
-returns-clause-below g c =
-    let x = c.loop-self.self in
-    let i = c.loop-self.invariant in
-    let e = ap (λ (k : ℕ). total_of k 8 (length (levels_in x.items.items x.bounds.items))) i.kept.k_is in
-    elim (c.loop-self-test.ensures.over refl) [
-      | inl h ↦ i.below h
-      | inr h ↦ omega (arith, h, e)
-    ]
-
-pub returns-clause-levels : goal.returns-clause-levels
-returns-clause-levels g c =
+pub returns : goal.returns
+returns g c =
     let x = c.loop-self.self in
     let i = c.loop-self.invariant in
     let k : ℕ = c.args.self.now.k in
@@ -98,28 +88,15 @@ returns-clause-levels g c =
     let l0 : List (List g.row.T.Denot) = levels_in c.args.self.now.items.items c.args.self.now.bounds.items in
     let over : (length ls ≤ c.loop-self.level) ⊎ (retained ls < total_of k 8 (length ls)) =
     subst (λ (j : ℕ). (length ls ≤ c.loop-self.level) ⊎ (retained ls < total_of j 8 (length ls))) i.kept.k_is (c.loop-self-test.ensures.over refl) in
-    (walk_ended g.T.Ord.cmp g.met.T.Ord.total g.B.RandomBits.bit g.B.RandomBits.next k flag c.loop-self.level c.args.coins.now c.loop-self.coins l0 ls c.requires.stored.sorted c.requires.flag over i.levels i.source).0
-
-pub returns-clause-bag : goal.returns-clause-bag
-returns-clause-bag g c =
-    let x = c.loop-self.self in
-    let i = c.loop-self.invariant in
-    let k : ℕ = c.args.self.now.k in
-    let flag : Bool = c.args.self.now.is_level_zero_sorted in
-    let ls : List (List g.row.T.Denot) = levels_in x.items.items x.bounds.items in
-    let l0 : List (List g.row.T.Denot) = levels_in c.args.self.now.items.items c.args.self.now.bounds.items in
-    let over : (length ls ≤ c.loop-self.level) ⊎ (retained ls < total_of k 8 (length ls)) =
-    subst (λ (j : ℕ). (length ls ≤ c.loop-self.level) ⊎ (retained ls < total_of j 8 (length ls))) i.kept.k_is (c.loop-self-test.ensures.over refl) in
-    (walk_ended g.T.Ord.cmp g.met.T.Ord.total g.B.RandomBits.bit g.B.RandomBits.next k flag c.loop-self.level c.args.coins.now c.loop-self.coins l0 ls c.requires.stored.sorted c.requires.flag over i.levels i.source).1
-
-pub returns-clause-coins : goal.returns-clause-coins
-returns-clause-coins g c =
-    let x = c.loop-self.self in
-    let i = c.loop-self.invariant in
-    let k : ℕ = c.args.self.now.k in
-    let flag : Bool = c.args.self.now.is_level_zero_sorted in
-    let ls : List (List g.row.T.Denot) = levels_in x.items.items x.bounds.items in
-    let l0 : List (List g.row.T.Denot) = levels_in c.args.self.now.items.items c.args.self.now.bounds.items in
-    let over : (length ls ≤ c.loop-self.level) ⊎ (retained ls < total_of k 8 (length ls)) =
-    subst (λ (j : ℕ). (length ls ≤ c.loop-self.level) ⊎ (retained ls < total_of j 8 (length ls))) i.kept.k_is (c.loop-self-test.ensures.over refl) in
-    (walk_ended g.T.Ord.cmp g.met.T.Ord.total g.B.RandomBits.bit g.B.RandomBits.next k flag c.loop-self.level c.args.coins.now c.loop-self.coins l0 ls c.requires.stored.sorted c.requires.flag over i.levels i.source).2
+    let r = walk_ended g.T.Ord.cmp g.met.T.Ord.total g.B.RandomBits.bit g.B.RandomBits.next k flag c.loop-self.level c.args.coins.now c.loop-self.coins l0 ls c.requires.stored.sorted c.requires.flag over i.levels i.source in
+    record {
+      stored = i.stored;
+      kept = i.kept;
+      below = elim over [
+        | inl h ↦ i.below h
+        | inr h ↦ h
+      ];
+      levels = r.0;
+      bag = r.1;
+      coins = r.2;
+    }

@@ -1,4 +1,4 @@
-use Rattle.std.proofs.Common.{◌≡◌, ℕ, List, ◌+◌, ◌-◌, ◌++◌, length, get_or, take, drop, reverse, sym, ap, subst, ◌∙◌, arith, rules, length-drop}
+use Rattle.std.proofs.Common.{◌≡◌, ℕ, List, ◌+◌, ◌-◌, ◌++◌, length, get_or, take, drop, reverse, sym, ap, subst, ◌∙◌, refl, arith, rules, length-drop}
 use Rattle.std.proofs.lemmas.Grind.{get_or_after_one}
 use Rattle.sketch_kll.specs.Capacity.{total_of}
 use Rattle.sketch_kll.specs.Flat.{levels_in, IsFlat}
@@ -52,8 +52,8 @@ total_capacity-self-requires-clause-levels g c =
     let e : c.len.result ≡ length c.deref_mut.result.now = search rules in
     omega (arith, e, p.few)
 
-pub returns-clause-stored : goal.returns-clause-stored
-returns-clause-stored g c =
+pub returns : goal.returns
+returns g c =
     let x = c.args.self.now in
     let n = length-bounds x.items.items x.bounds.items c.requires.stored.flat in
     let cmp = g.T.Ord.cmp in
@@ -76,31 +76,16 @@ returns-clause-stored g c =
     let k = length-bounds its wide there.0 in
     let e : c.len.result ≡ length wide = search rules in
     record {
-      k_above = c.requires.stored.k_above;
-      flat = there.0;
-      total_is = c.total_capacity-self.ensures.value ∙ ap (total_of x.k 8) (omega (arith, k, e));
-      some = s.some;
-      few = s.few;
-      sorted = there.2;
+      stored = record {
+        k_above = c.requires.stored.k_above;
+        flat = there.0;
+        total_is = c.total_capacity-self.ensures.value ∙ ap (total_of x.k 8) (omega (arith, k, e));
+        some = s.some;
+        few = s.few;
+        sorted = there.2;
+      };
+      k = refl;
+      flag = refl;
+      levels = there.1;
+      spare = omega (arith, c.requires.spare, c.add_levels.ensures.capacity);
     }
-
-pub returns-clause-levels : goal.returns-clause-levels
-returns-clause-levels g c =
-    let x = c.args.self.now in
-    let n = length-bounds x.items.items x.bounds.items c.requires.stored.flat in
-    let cmp = g.T.Ord.cmp in
-    let us : List (List g.row.T.Denot) = levels_in c.args.upper.items (drop 1 c.args.runs.now) in
-    let ls : List (List g.row.T.Denot) = levels_in x.items.items x.bounds.items in
-    let p : Prepared cmp x.items.items x.bounds.items c.args.runs.now c.deref.result.now us =
-    prepared cmp x.items.items c.args.upper.items x.bounds.items c.args.runs.now c.deref.result.now c.requires.stored.flat c.requires.runs c.requires.stored.sorted c.requires.some_level c.requires.some (omega (arith, n, c.requires.stored.few)) c.requires.few (c.deref.ensures.value ∙ c.add_levels.ensures.items) in
-    let bs : List ℕ = c.add_bounds.new.bounds in
-    let eb : bs ≡ joined_bounds c.deref.result.now c.args.runs.now = c.add_bounds.ensures ∙ ap (λ (b : List ℕ). joined_bounds b c.args.runs.now) (c.deref_mut.ensures.value ∙ sym c.deref.ensures.value) in
-    let ew = whole_slice bs c.add_levels.new.bounds.items c.add_levels.new.bounds.len (search rules) in
-    let wide : List ℕ = take c.add_levels.new.bounds.len (bs ++ drop (length bs) c.add_levels.new.bounds.items) in
-    let its : List g.row.T.Denot = c.reverse.new.self.items in
-    let F : List g.row.T.Denot → List ℕ → Type 0 = λ (y : List g.row.T.Denot) (b : List ℕ). IsFlat y b × SameLevels cmp (joined cmp ls us) (levels_in y b) × UpperSorted cmp (levels_in y b) in
-    let r = c.merge_runs_back.ensures in
-    let here : F (reverse c.merge_runs_back.new.merged.items) (joined_bounds c.deref.result.now c.args.runs.now) =
-    (r.flat, subst (λ (l : List (List g.row.T.Denot)). SameLevels cmp l (levels_in (reverse c.merge_runs_back.new.merged.items) (joined_bounds c.deref.result.now c.args.runs.now))) p.same r.levels, r.sorted) in
-    let there : F its wide = subst (λ (y : List g.row.T.Denot). F y wide) (sym c.reverse.ensures.items) (subst (λ (b : List ℕ). F (reverse c.merge_runs_back.new.merged.items) b) (sym (ew ∙ eb)) here) in
-    there.1
