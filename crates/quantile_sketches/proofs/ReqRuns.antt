@@ -26,7 +26,7 @@ use Rattle.sketch_req.specs.Walk.{AreLevels}
 use Rattle.sketch_req.specs.Written.{image_text}
 use Rattle.sketch_req.specs.declared.RankAccuracy.{RankAccuracy}
 use Rattle.sketch_req.proofs.Capacities.{upper_weighs}
-use Rattle.sketch_req.proofs.Joins.{length-layouts}
+use Rattle.sketch_req.proofs.Layouts.{length-layouts}
 use Rattle.sketch_req.proofs.OneSketch.{one_sketch}
 use Rattle.sketch_req.proofs.Ranks.{retained_is}
 use Rattle.sketch_req.proofs.Writings.{written_lem}
