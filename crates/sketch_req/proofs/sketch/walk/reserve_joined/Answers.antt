@@ -1,0 +1,73 @@
+-- The loop keeps a bound of what comes into the next level, and that there is room for the turns so far.
+use Rattle.std.proofs.Common.{◌≡◌, ◌+◌, ◌<◌, ℕ, List, length, length-set, map, sym, ◌∙◌, subst, arith, inl, inr, get_or, set, vec_capacity}
+use Rattle.std.proofs.lemmas.Bool.{cases_lt}
+use Rattle.std.proofs.lemmas.List.{length-map}
+use Rattle.sketch_req.specs.Schedule.{Layout, layouts_of, layout_at, joined_layouts, steps_layouts}
+use Rattle.sketch_req.specs.Walk.{IsRoom}
+use Rattle.sketch_req.proofs.Plans.{bounded-start, bounded-more, bounded-room}
+use Rattle.sketch_req.proofs.Rooms.{room-empty, rooms-set, capacity-set, capacity-below}
+use Rattle.sketch_req.proofs.Joins.{joined-count}
+use Rattle.sketch_req.proofs.Layouts.{length-layouts}
+use Rattle.sketch_req.proofs.Mergings.{length-joined}
+use Rattle.sketch_req.proofs.sketch.walk.reserve_joined.Goals as goal
+
+pub loop-level-init : goal.loop-level-init
+loop-level-init g c = record {
+  rooms = c.add_rooms.ensures.empty;
+  enough = let e = c.in_ok-add_rooms.ensures.enough in omega (arith, e, c.add_rooms.new.rooms.ok);
+  few = omega arith;
+  bounded = bounded-start c.args.k (joined_layouts c.args.k (layouts_of c.args.levels.now) (layouts_of c.args.others.now));
+  fits = λ h l. absurd (omega (arith, l));
+}
+
+pub reserve_step-requires-clause-up : goal.reserve_step-requires-clause-up
+reserve_step-requires-clause-up g c =
+    (room-empty c.loop-level.rooms.items c.loop-level.level c.index_mut.result.now (λ room. room.up.items) (λ room. room.merged.items) c.loop-level.invariant.rooms (omega (arith, c.loop-level.invariant.enough, c.loop-level-test.true)) c.index_mut.ensures.value).0
+
+pub reserve_step-requires-clause-merged : goal.reserve_step-requires-clause-merged
+reserve_step-requires-clause-merged g c =
+    (room-empty c.loop-level.rooms.items c.loop-level.level c.index_mut.result.now (λ room. room.up.items) (λ room. room.merged.items) c.loop-level.invariant.rooms (omega (arith, c.loop-level.invariant.enough, c.loop-level-test.true)) c.index_mut.ensures.value).1
+
+pub loop-level-preserved : goal.loop-level-preserved
+loop-level-preserved g c =
+    let i = c.loop-level.invariant in
+    let both : List Layout = joined_layouts c.args.k (layouts_of c.args.levels.now) (layouts_of c.args.others.now) in
+    let here : ℕ = c.count_joined.result + c.loop-level.carried in
+    let e : here ≡ (layout_at both c.loop-level.level).count + c.loop-level.carried = omega (arith, joined-count c.args.k (layouts_of c.args.levels.now) (layouts_of c.args.others.now) c.loop-level.level, c.count_joined.ensures.value) in
+    let f : c.count_joined-above.result ≡ (layout_at both (c.loop-level.level + 1)).count = c.count_joined-above.ensures.value ∙ sym (joined-count c.args.k (layouts_of c.args.levels.now) (layouts_of c.args.others.now) (c.loop-level.level + 1)) in
+    let up = c.in_ok-reserve_step.ensures.here in
+    let above = c.in_ok-reserve_step.ensures.above in
+    let inside : c.loop-level.level < length c.loop-level.rooms.items = omega (arith, i.enough, c.loop-level-test.true) in
+    let room = c.reserve_step.new.room in
+    let rooms = c.loop-level.rooms.items in
+    record {
+      rooms = rooms-set rooms c.loop-level.level room (λ room. room.up.items) (λ room. room.merged.items) i.rooms c.reserve_step.ensures.up c.reserve_step.ensures.merged;
+      enough = simp length-set i.enough;
+      few = omega (arith, i.few, c.count_joined.ensures.few);
+      bounded = bounded-more c.args.k c.loop-level.level c.loop-level.carried here both e i.bounded;
+      fits = λ h l.
+          elim (cases_lt h c.loop-level.level) [
+            | inl low ↦
+                subst (λ (n : ℕ). IsRoom c.args.k h (steps_layouts c.args.k h 0 both) n (get_or (map (λ room. vec_capacity room.up) (set rooms c.loop-level.level room)) h 0)) (sym (capacity-below _ rooms c.loop-level.level h room low))
+                (subst (λ (n : ℕ). IsRoom c.args.k h (steps_layouts c.args.k h 0 both) (get_or (map (λ room. vec_capacity room.merged) rooms) h 0) n) (sym (capacity-below _ rooms c.loop-level.level h room low)) (i.fits h low))
+            | inr high ↦
+                let there : c.loop-level.level ≡ h = omega (arith, l, high) in
+                subst (λ (j : ℕ). IsRoom c.args.k j (steps_layouts c.args.k j 0 both) (get_or (map (λ room. vec_capacity room.merged) (set rooms c.loop-level.level room)) j 0) (get_or (map (λ room. vec_capacity room.up) (set rooms c.loop-level.level room)) j 0)) there
+                (subst (λ (n : ℕ). IsRoom c.args.k c.loop-level.level (steps_layouts c.args.k c.loop-level.level 0 both) n (get_or (map (λ room. vec_capacity room.up) (set rooms c.loop-level.level room)) c.loop-level.level 0)) (sym (capacity-set (λ room. vec_capacity room.merged) rooms c.loop-level.level room inside))
+                (subst (λ (n : ℕ). IsRoom c.args.k c.loop-level.level (steps_layouts c.args.k c.loop-level.level 0 both) (vec_capacity room.merged) n) (sym (capacity-set (λ room. vec_capacity room.up) rooms c.loop-level.level room inside))
+                (bounded-room c.args.k c.loop-level.level c.loop-level.carried here c.count_joined-above.result _ _ both e f i.bounded up above)))
+          ];
+    }
+
+pub returns-in_err-reserve_step-clause-rooms : goal.returns-in_err-reserve_step-clause-rooms
+returns-in_err-reserve_step-clause-rooms g c = rooms-set c.loop-level.rooms.items c.loop-level.level c.reserve_step.new.room (λ room. room.up.items) (λ room. room.merged.items) c.loop-level.invariant.rooms c.reserve_step.ensures.up c.reserve_step.ensures.merged
+
+pub returns-clause-fit : goal.returns-clause-fit
+returns-clause-fit g c =
+    let n = length-layouts c.args.levels.now in
+    let m = length-layouts c.args.others.now in
+    let b = length-joined c.args.k (layouts_of c.args.levels.now) (layouts_of c.args.others.now) in
+    record {
+      enough = omega (arith, n, m, b, c.max-count.ensures, c.loop-level.invariant.enough, length-map c.loop-level.rooms.items (λ room. vec_capacity room.merged));
+      fits = λ h l. c.loop-level.invariant.fits h (omega (arith, l, n, m, b, c.max-count.ensures));
+    }
