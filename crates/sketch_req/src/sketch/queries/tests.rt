@@ -21,17 +21,22 @@ fn sketch_of(alloc: Global, items: &[i32]) -> Result<ReqSketch<i32>, Error> {
 
 /// The view of the odd numbers from 1 to 9.
 fn odd_view(alloc: Global) -> Result<SortedView<i32>, Error> {
-    let mut weighted = Vec::with_capacity(alloc, 5)?;
-    weighted.push((5, 1))?;
-    weighted.push((1, 1))?;
-    weighted.push((9, 1))?;
-    weighted.push((3, 1))?;
-    weighted.push((7, 1))?;
+    let weighted = vec![in alloc; (5, 1), (1, 1), (9, 1), (3, 1), (7, 1)]?;
     SortedView::new(weighted, Some(1), Some(9))
 }
 
 fn weight_of(view: &SortedView<i32>, item: i32, criteria: SearchCriteria) -> Option<u64> {
     view.rank(&item, criteria).map(|rank| rank.weight)
+}
+
+/// How many items, their weight, and the inclusive weights of some.
+fn is_as_said(view: &SortedView<i32>, len: usize, total: u64, weights: &[(i32, u64)]) -> bool {
+    for (item, weight) in weights {
+        if weight_of(view, *item, INCLUSIVE) != Some(*weight) {
+            return false;
+        }
+    }
+    view.len() == len && view.total_weight() == total
 }
 
 fn fraction(weight: u64, total: u64) -> Rank {
@@ -54,11 +59,8 @@ fn are_ranks(ranks: &Option<Vec<Rank>>, weights: &[u64], total: u64) -> bool {
 #[test]
 fn a_view_of_odd_numbers_ranks(rt: HostRuntime) -> Result<(), Fail> {
     let view = odd_view(rt.alloc())?;
-    assert_eq!(rt; view.len(), 5);
-    assert_eq!(rt; view.total_weight(), 5);
-    for (item, weight) in [(1, 1), (2, 1), (6, 3), (0, 0), (10, 5)] {
-        assert_eq!(rt; weight_of(&view, item, INCLUSIVE), Some(weight));
-    }
+    let weights = [(1, 1), (2, 1), (6, 3), (0, 0), (10, 5)];
+    assert!(rt; is_as_said(&view, 5, 5, &weights));
     assert_eq!(rt; weight_of(&view, 1, SearchCriteria::Exclusive), Some(0));
     Ok(())
 }
@@ -76,9 +78,7 @@ fn a_view_of_odd_numbers_is_distributed(rt: HostRuntime) -> Result<(), Fail> {
 #[test]
 fn a_view_of_nothing_is_empty(rt: HostRuntime) -> Result<(), Fail> {
     let view = SortedView::<i32>::new(Vec::new(rt.alloc()), None, None)?;
-    assert_eq!(rt; view.len(), 0);
-    assert_eq!(rt; view.total_weight(), 0);
-    assert_eq!(rt; view.rank(&1, INCLUSIVE), None);
+    assert!(rt; is_as_said(&view, 0, 0, &[]) && weight_of(&view, 1, INCLUSIVE).is_none());
     assert_eq!(rt; view.quantile(fraction(1, 2), INCLUSIVE)?, None);
     Ok(())
 }
@@ -87,8 +87,7 @@ fn a_view_of_nothing_is_empty(rt: HostRuntime) -> Result<(), Fail> {
 fn a_view_joins_equal_items(rt: HostRuntime) -> Result<(), Fail> {
     let sketch = sketch_of(rt.alloc(), &[5, 5, 7])?;
     let view = sketch.sorted_view()?;
-    assert_eq!(rt; view.len(), 2);
-    assert_eq!(rt; view.total_weight(), 3);
+    assert!(rt; is_as_said(&view, 2, 3, &[(5, 2), (7, 3)]));
     assert!(rt; are_ranks(&sketch.cdf(&[5], INCLUSIVE)?, &[2, 3], 3));
     assert!(rt; are_ranks(&sketch.pmf(&[5], INCLUSIVE)?, &[2, 1], 3));
     Ok(())

@@ -22,12 +22,6 @@ from_levels-requires g c =
     low (tied_back o _ _ (c.requires.clones _ _ c.in_ok-least.ensures.cases)) high (tied_back o _ _ (c.requires.clones _ _ c.in_ok-greatest.ensures.cases)) in
     record { sound = subst (λ (a : RankAccuracy). IsSound cmp (sketch_of h.k a c.num_items-n.result c.push.new.self.items (Some c.in_ok-least.least) (Some c.in_ok-greatest.greatest))) (sym c.rank_accuracy.ensures) made.sound }
 
-pub returns-clause-levels : goal.returns-clause-levels
-returns-clause-levels g c =
-    let level : Level g.row.T.Denot = c.args.level in
-    let levels : c.push.new.self.items ≡ level ∷ [] = c.in_ok-push.ensures.items ∙ ap (λ (l : List (Level g.row.T.Denot)). l ++ level ∷ []) c.in_ok-levels.ensures.items in
-    ap (λ (s : Req g.row.T.Denot). s.levels) c.from_levels.ensures.value ∙ levels
-
 pub returns-clause-told : goal.returns-clause-told
 returns-clause-told g c =
     let o = g.met.T.Ord.total in
@@ -41,4 +35,4 @@ returns-clause-told g c =
     let made = rebuilt o s level c.least_of.result.now c.in_ok-least.least c.greatest_of.result.now c.in_ok-greatest.greatest levels refl refl c.requires.legal c.requires.placed c.num_items-n.ensures c.requires.some c.requires.fresh
     low (tied_back o _ _ (c.requires.clones _ _ c.in_ok-least.ensures.cases)) high (tied_back o _ _ (c.requires.clones _ _ c.in_ok-greatest.ensures.cases)) in
     let told : IsTold cmp h s = record { k_is = refl; accuracy_is = refl; n_is = made.n_is; least_is = made.least_is; greatest_is = made.greatest_is } in
-    subst (λ (t : Req g.row.T.Denot). IsTold cmp h t) (sym (c.from_levels.ensures.value ∙ ap (λ (a : RankAccuracy). sketch_of h.k a c.num_items-n.result c.push.new.self.items (Some c.in_ok-least.least) (Some c.in_ok-greatest.greatest)) c.rank_accuracy.ensures)) told
+    (ap (λ (s : Req g.row.T.Denot). s.levels) c.from_levels.ensures.value ∙ levels, subst (λ (t : Req g.row.T.Denot). IsTold cmp h t) (sym (c.from_levels.ensures.value ∙ ap (λ (a : RankAccuracy). sketch_of h.k a c.num_items-n.result c.push.new.self.items (Some c.in_ok-least.least) (Some c.in_ok-greatest.greatest)) c.rank_accuracy.ensures)) told)

@@ -1,4 +1,4 @@
-use Rattle.std.proofs.Common.{◌≡◌, ◌∙◌, sym, ap, arith, true, false, is_gt}
+use Rattle.std.proofs.Common.{rules, ◌≡◌, ◌∙◌, sym, ap, arith, true, false, is_gt}
 use Rattle.std.specs.Prelude.{IsTrue}
 use Rattle.sketch_req.proofs.Wholes.{retained_told}
 use Rattle.sketch_req.proofs.sketch.image.is_legal.Goals as goal
@@ -13,11 +13,11 @@ returns-then-n-eq0-clause-no g c = λ h.
           let z : true ≡ false = sym (ap is_gt (sym w.cmp.ensures) ∙ sym w.is_gt.ensures ∙ w.if-is_gt.true) ∙ h.ends.in_order in absurd cc
     ]
 
-pub returns-then-weight-n-clause-yes : goal.returns-then-weight-n-clause-yes
-returns-then-weight-n-clause-yes g c = λ t. record {
+pub returns-then-eq-clause-yes : goal.returns-then-eq-clause-yes
+returns-then-eq-clause-yes g c = λ t. record {
   some_weight = omega (arith, c.if-n-eq0.false);
   n_fits = omega (arith, c.ranges.n.fits);
-  weighs_n = omega (arith, c.in-Some.ensures.1, c.if-weight-n.true);
+  weighs_n = search rules;
   few_items = omega (arith, retained_told c.args.levels.now, c.count_items.ensures, c.if-count_items-gt-MAX_ITEMS.false);
   ends = record { in_order = ap is_gt (sym c.cmp.ensures) ∙ sym c.is_gt.ensures ∙ c.if-is_gt.false; between = c.are_all_between.ensures.yes t };
 }
