@@ -32,13 +32,11 @@ impl<T: KllValue + Ord> Family for KllSketch<T> {
     ghost clones_tie = { λ asks. asks.1 };
 
     fn create(alloc: Global, k: u16) -> Result<Self, Error> {
-        let sketch = KllSketch::new(alloc, k)?;
-        Ok(sketch)
+        Ok(KllSketch::new(alloc, k)?)
     }
 
     fn copy(&self) -> Result<Self, Error> {
-        let copy = self.clone()?;
-        Ok(copy)
+        Ok(self.clone()?)
     }
 
     fn reset(&mut self) {
@@ -46,15 +44,16 @@ impl<T: KllValue + Ord> Family for KllSketch<T> {
     }
 
     fn is_full<B: RandomBits>(&self) -> bool {
-        self.n() == u64::MAX
+        self.is_full()
     }
 
     fn refuses_weight<B: RandomBits>(&self, weight: u64) -> bool {
-        weight == 0 || weight >= 1 << 61 || weight > u64::MAX - self.n()
+        let _n = self.n();
+        self.refuses_weight(weight)
     }
 
     fn refuses(&self, other: &Self) -> bool {
-        other.n() > u64::MAX - self.n()
+        self.refuses(other)
     }
 
     fn update<B: RandomBits>(&mut self, item: T, coins: &mut B) -> Result<(), Error> {

@@ -35,13 +35,11 @@ impl<T: ReqValue + Clone + Ord> Family for ReqSketch<T> {
     ghost clones_tie = { λ asks. asks.1 };
 
     fn create(alloc: Global, config: (u16, RankAccuracy)) -> Result<Self, Error> {
-        let sketch = ReqSketch::new(alloc, config.0, config.1)?;
-        Ok(sketch)
+        Ok(ReqSketch::new(alloc, config.0, config.1)?)
     }
 
     fn copy(&self) -> Result<Self, Error> {
-        let copy = self.clone()?;
-        Ok(copy)
+        Ok(self.clone()?)
     }
 
     fn reset(&mut self) {
@@ -49,7 +47,8 @@ impl<T: ReqValue + Clone + Ord> Family for ReqSketch<T> {
     }
 
     fn is_full<B: RandomBits>(&self) -> bool {
-        self.n() == u64::MAX || self.num_retained() == u32::MAX
+        let (_n, _items) = (self.n(), self.num_retained());
+        self.is_full()
     }
 
     fn refuses_weight<B: RandomBits>(&self, _weight: u64) -> bool {
@@ -57,10 +56,9 @@ impl<T: ReqValue + Clone + Ord> Family for ReqSketch<T> {
     }
 
     fn refuses(&self, other: &Self) -> bool {
-        let (n, more) = (self.n(), other.n());
-        self.rank_accuracy() != other.rank_accuracy()
-            || more > u64::MAX - n
-            || other.num_retained() > u32::MAX - self.num_retained()
+        let (_n, _others) = (self.n(), other.n());
+        let (_items, _more) = (self.num_retained(), other.num_retained());
+        self.refuses(other)
     }
 
     fn update<B: RandomBits>(&mut self, item: T, coins: &mut B) -> Result<(), Error> {

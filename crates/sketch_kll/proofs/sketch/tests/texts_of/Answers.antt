@@ -1,5 +1,5 @@
-use Rattle.sketch_kll.proofs.Texts.{text_clones}
+use Rattle.sketch_base.specs.SpellingLaws.{text_clones}
 use Rattle.sketch_kll.proofs.sketch.tests.texts_of.Goals as goal
 
 pub update-requires : goal.update-requires
-update-requires c = record { clones = text_clones }
+update-requires c = record { clones = text_clones string_bytes }

@@ -1,8 +1,8 @@
-use Rattle.sketch_kll.proofs.Texts.{text_clones}
+use Rattle.sketch_base.specs.SpellingLaws.{text_clones}
 use Rattle.sketch_kll.proofs.sketch.copies.tests.copied_view.Goals as goal
 
 pub sorted_view-requires : goal.sorted_view-requires
-sorted_view-requires c = record { clones = text_clones }
+sorted_view-requires c = record { clones = text_clones string_bytes }
 
 pub clone-requires : goal.clone-requires
-clone-requires c = record { clones = text_clones }
+clone-requires c = record { clones = text_clones string_bytes }
