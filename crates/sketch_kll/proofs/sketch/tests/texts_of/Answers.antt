@@ -1,3 +1,4 @@
+use Rattle.std.specs.String.{string_bytes}
 use Rattle.sketch_base.specs.SpellingLaws.{text_clones}
 use Rattle.sketch_kll.proofs.sketch.tests.texts_of.Goals as goal
 
