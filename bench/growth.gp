@@ -7,11 +7,11 @@ set grid
 set key top left
 updates = "< sed -n 's/^| 10^\\([0-9]*\\) |/| 1e\\1 |/p' docs/SPEED.md | tr -d '|'"
 merges = "< awk -F '|' '/^## Growth/ { on = 1 } on && $2 ~ /^ [0-9]+ $/ { print $2, $3, $5 }' docs/SPEED.md"
-set title "a line with an update"
+set title "an update"
 set xlabel "updates of one sketch"
 set ylabel "nanoseconds"
 set format x "10^{%L}"
-set yrange [0:300]
+set yrange [0:60]
 plot updates using 1:2 with linespoints title "k 200", updates using 1:5 with linespoints title "k 4096"
 set title "a merge of a sketch of 10,000 items"
 set xlabel "sketches merged into one"
