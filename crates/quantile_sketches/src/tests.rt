@@ -2,6 +2,7 @@
 //! `tests/memory` runs the tests of `refused` under a library that refuses each request for memory in turn. The README's example.
 
 mod ample;
+mod base;
 mod calls;
 mod items;
 mod readme;
