@@ -6,6 +6,9 @@ ghost use Rattle.sketch_base.specs.declared.common.SearchCriteria.TheVariants.{I
 
 use crate::common::SearchCriteria;
 
+/// From so many items on, a search by halves is faster than a count of them all.
+const FEW: usize = 16;
+
 /// How many items a query counts, in any order.
 pub fn count_counted<T: Ord>(items: &[T], query: &T, criteria: SearchCriteria) -> usize
     ensures { result ≡ count_by (counted T.cmp query.now criteria) items.now }
@@ -53,4 +56,63 @@ pub fn count_in_order<T: Ord>(items: &[T], query: &T, criteria: SearchCriteria) 
         SearchCriteria::Inclusive => items.partition_point(|item| item.cmp(query).is_le()),
         SearchCriteria::Exclusive => items.partition_point(|item| item.cmp(query).is_lt()),
     }
+}
+
+// Whether a query counts an item.
+fn counts<T: Ord>(item: &T, query: &T, criteria: SearchCriteria) -> bool
+    ensures { result ≡ counted T.cmp query.now criteria item.now }
+{
+    match criteria {
+        SearchCriteria::Inclusive => item.cmp(query).is_le(),
+        SearchCriteria::Exclusive => item.cmp(query).is_lt(),
+    }
+}
+
+// A part of items in order, from `known` on, in which the count of a query ends that is at least
+// `known`. The parts that are tried get twice as long each time.
+fn part_from<T: Ord>(
+    items: &[T],
+    known: usize,
+    query: &T,
+    criteria: SearchCriteria,
+) -> (usize, usize)
+    requires sorted { IsSorted T.cmp items.now }
+    requires known { known ≤ count_by (counted T.cmp query.now criteria) items.now }
+    ensures starts { result.0 ≤ count_by (counted T.cmp query.now criteria) items.now }
+    ensures ends { count_by (counted T.cmp query.now criteria) items.now ≤ result.1 }
+    ensures within { result.1 ≤ length items.now }
+{
+    let mut start = known;
+    let mut step = FEW;
+    while items.len() - start > step && counts(&items[start + step - 1], query, criteria) {
+        start += step;
+        step = step.saturating_mul(2);
+    }
+    let rest = items.len() - start;
+    (start, start + rest.min(step))
+}
+
+// How many items in order a query counts: all of them are looked at where they are few.
+fn count_in_part<T: Ord>(items: &[T], query: &T, criteria: SearchCriteria) -> usize
+    requires sorted { IsSorted T.cmp items.now }
+    ensures { result ≡ count_by (counted T.cmp query.now criteria) items.now }
+{
+    if items.len() > FEW {
+        count_in_order(items, query, criteria)
+    } else {
+        count_counted(items, query, criteria)
+    }
+}
+
+/// How many items in order a query counts that is known to count so many at least. It takes the
+/// fewer comparisons the nearer they are.
+pub fn count_onward<T: Ord>(items: &[T], known: usize, query: &T, criteria: SearchCriteria) -> usize
+    requires sorted { IsSorted T.cmp items.now }
+    requires known { known ≤ count_by (counted T.cmp query.now criteria) items.now }
+    ensures within { result ≤ length items.now }
+    ensures parts { Parts (counted T.cmp query.now criteria) items.now result }
+    ensures count { result ≡ count_by (counted T.cmp query.now criteria) items.now }
+{
+    let (start, end) = part_from(items, known, query, criteria);
+    start + count_in_part(&items[start..end], query, criteria)
 }

@@ -1,0 +1,19 @@
+use Rattle.std.proofs.Common.{◌+◌, ap, sym, ◌∙◌, subst}
+use Rattle.sketch_base.specs.Query.{counted}
+use Rattle.sketch_base.specs.Queries.{Parts}
+use Rattle.sketch_base.proofs.Entries.{counted-parted}
+use Rattle.sketch_base.proofs.Fronts.{parts-count, count-of_part}
+use Rattle.sketch_base.proofs.common.counting.count_onward.Goals as goal
+
+pub returns-clause-count : goal.returns-clause-count
+returns-clause-count g c =
+    let parted = counted-parted g.met.T.Ord.total c.args.items.now c.args.query.now c.args.criteria c.requires.sorted in
+    let r = c.part_from-start.ensures in
+    ap (λ n. c.part_from-start.result.0 + n) c.count_in_part.ensures
+    ∙ count-of_part (counted g.T.Ord.cmp c.args.query.now c.args.criteria) c.args.items.now c.part_from-start.result.0 c.part_from-start.result.1 parted r.starts r.ends r.within
+
+pub returns-clause-parts : goal.returns-clause-parts
+returns-clause-parts g c =
+    let test = counted g.T.Ord.cmp c.args.query.now c.args.criteria in
+    subst (Parts test c.args.items.now) (sym (returns-clause-count g c))
+    (parts-count test c.args.items.now (counted-parted g.met.T.Ord.total c.args.items.now c.args.query.now c.args.criteria c.requires.sorted))
