@@ -6,17 +6,9 @@ use Rattle.sketch_req.specs.Walk.{AreLevels, AreRooms}
 use Rattle.sketch_req.proofs.Mergings.{layouts-joined, weight-joined, retained-joined}
 use Rattle.sketch_req.proofs.sketch.merge.take_levels.Goals as goal
 
-pub clone_levels-requires-clause-few : goal.clone_levels-requires-clause-few
-clone_levels-requires-clause-few g c =
-    omega (arith, c.requires.few, ap (λ (ls : List (Level g.row.T.Denot)). retained_of (layouts_of ls)) c.as_slice.ensures.value)
-
-pub count_items-requires : goal.count_items-requires
-count_items-requires g c =
-    omega (arith, c.requires.few, ap (λ (ls : List (Level g.row.T.Denot)). retained_of (layouts_of ls)) c.as_slice-2.ensures.value)
-
 pub reserve_joined-requires-clause-few : goal.reserve_joined-requires-clause-few
 reserve_joined-requires-clause-few g c =
-    omega (arith, c.requires.few, ap (λ (ls : List (Level g.row.T.Denot)). retained_of (layouts_of ls)) c.as_slice-3.ensures.value)
+    omega (arith, c.requires.few, ap (λ (ls : List (Level g.row.T.Denot)). retained_of (layouts_of ls)) c.as_slice.ensures.value)
 
 pub join_levels-requires-clause-levels : goal.join_levels-requires-clause-levels
 join_levels-requires-clause-levels g c =
@@ -31,18 +23,11 @@ join_levels-requires-clause-spare g c =
     let n = ap length c.reserve.ensures.items in
     omega (arith, n, c.in_ok-reserve.ensures.ok, c.reserve.ensures.len, c.saturating_sub.ensures, c.args.levels.now.ok)
 
-pub join_levels-requires-clause-clones : goal.join_levels-requires-clause-clones
-join_levels-requires-clause-clones g c =
-    subst (λ (ls : List (Level g.row.T.Denot)). AreCloned g.T.Ord.cmp ls c.args.others.now (length c.args.others.now) (map (λ clones. clones.items) c.in_ok-clones.clones.items) (map (λ clones. vec_capacity clones) c.in_ok-clones.clones.items))
-    (c.as_slice.ensures.value ∙ sym c.reserve.ensures.items) c.in_ok-clones.ensures
-
-pub join_levels-requires-clause-empty : goal.join_levels-requires-clause-empty
-join_levels-requires-clause-empty g c =
-    c.in_ok-room.ensures.items
-
-pub join_levels-requires-clause-room : goal.join_levels-requires-clause-room
-join_levels-requires-clause-room g c =
-    omega (arith, c.in_ok-room.ensures.capacity, c.count_items.ensures, c.count_items-2.ensures, ap (λ (ls : List (Level g.row.T.Denot)). retained_of (layouts_of ls)) c.as_slice-2.ensures.value, ap (λ (ls : List (Level g.row.T.Denot)). retained_of (layouts_of ls)) c.reserve.ensures.items)
+pub join_levels-requires-clause-cloned : goal.join_levels-requires-clause-cloned
+join_levels-requires-clause-cloned g c =
+    let rooms = c.reserve_joined.new.rooms.items in
+    subst (λ (ls : List (Level g.row.T.Denot)). AreCloned g.T.Ord.cmp ls c.args.others.now (map (λ room. room.clones.items) rooms) (map (λ room. vec_capacity room.clones) rooms) (map (λ room. vec_capacity room.up) rooms))
+    (c.as_slice.ensures.value ∙ sym c.reserve.ensures.items) c.in_ok-reserve_joined.ensures.cloned
 
 pub make_room-requires-clause-levels : goal.make_room-requires-clause-levels
 make_room-requires-clause-levels g c =
@@ -61,8 +46,12 @@ make_room-requires-clause-few g c =
 pub make_room-requires-clause-fit : goal.make_room-requires-clause-fit
 make_room-requires-clause-fit g c =
     let layouts = layouts-joined c.args.shape.k c.args.shape.rank_accuracy c.reserve.new.self.items c.args.others.now c.join_levels.new.levels.items c.join_levels.ensures.joined c.join_levels.ensures.count in
-    let e = ap (λ (ls : List (Level g.row.T.Denot)). joined_layouts c.args.shape.k (layouts_of ls) (layouts_of c.args.others.now)) (c.as_slice-3.ensures.value ∙ sym c.reserve.ensures.items) ∙ sym layouts in
-    subst (λ (ls : List Layout). AreRooms c.args.shape.k ls (map (λ room. vec_capacity room.merged) c.reserve_joined.new.rooms.items) (map (λ room. vec_capacity room.up) c.reserve_joined.new.rooms.items)) e c.in_ok-reserve_joined.ensures.fit
+    let e = ap (λ (ls : List (Level g.row.T.Denot)). joined_layouts c.args.shape.k (layouts_of ls) (layouts_of c.args.others.now)) (c.as_slice.ensures.value ∙ sym c.reserve.ensures.items) ∙ sym layouts in
+    let both : List Layout = layouts_of c.join_levels.new.levels.items in
+    let rooms = c.reserve_joined.new.rooms.items in
+    let fit : AreRooms c.args.shape.k both (map (λ room. vec_capacity room.merged) rooms) (map (λ room. vec_capacity room.up) rooms) =
+    subst (λ (ls : List Layout). AreRooms c.args.shape.k ls (map (λ room. vec_capacity room.merged) rooms) (map (λ room. vec_capacity room.up) rooms)) e c.in_ok-reserve_joined.ensures.fit in
+    rw (c.join_levels.ensures.merged_capacities, c.join_levels.ensures.up_capacities) fit
 
 pub returns-clause-taken_in : goal.returns-clause-taken_in
 returns-clause-taken_in g c =

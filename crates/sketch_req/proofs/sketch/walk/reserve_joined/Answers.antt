@@ -1,11 +1,12 @@
 -- The loop keeps a bound of what comes into the next level, and that there is room for the turns so far.
-use Rattle.std.proofs.Common.{◌≡◌, ◌+◌, ◌<◌, ℕ, List, length, length-set, map, sym, ◌∙◌, subst, arith, inl, inr, get_or, set, vec_capacity}
+use Rattle.std.proofs.Common.{◌≡◌, ◌+◌, ◌<◌, ◌≤◌, ap, ℕ, List, length, length-set, map, sym, ◌∙◌, subst, arith, inl, inr, get_or, set, vec_capacity}
 use Rattle.std.proofs.lemmas.Bool.{cases_lt}
 use Rattle.std.proofs.lemmas.List.{length-map}
 use Rattle.sketch_req.specs.Schedule.{Layout, layouts_of, layout_at, joined_layouts, steps_layouts}
 use Rattle.sketch_req.specs.Walk.{IsRoom}
 use Rattle.sketch_req.proofs.Plans.{bounded-start, bounded-more, bounded-room}
 use Rattle.sketch_req.proofs.Rooms.{room-empty, rooms-set, capacity-set, capacity-below}
+use Rattle.sketch_req.proofs.Clones.{cloned-more}
 use Rattle.sketch_req.proofs.Joins.{joined-count}
 use Rattle.sketch_req.proofs.Layouts.{length-layouts}
 use Rattle.sketch_req.proofs.Mergings.{length-joined}
@@ -17,16 +18,17 @@ loop-level-init g c = record {
   enough = let e = c.in_ok-add_rooms.ensures.enough in omega (arith, e, c.add_rooms.new.rooms.ok);
   few = omega arith;
   bounded = bounded-start c.args.k (joined_layouts c.args.k (layouts_of c.args.levels.now) (layouts_of c.args.others.now));
+  cloned = λ h l. absurd (omega (arith, l));
   fits = λ h l. absurd (omega (arith, l));
 }
 
-pub reserve_step-requires-clause-up : goal.reserve_step-requires-clause-up
-reserve_step-requires-clause-up g c =
-    (room-empty c.loop-level.rooms.items c.loop-level.level c.index_mut.result.now (λ room. room.up.items) (λ room. room.merged.items) c.loop-level.invariant.rooms (omega (arith, c.loop-level.invariant.enough, c.loop-level-test.true)) c.index_mut.ensures.value).0
+pub reserve-requires-clause-up : goal.reserve-requires-clause-up
+reserve-requires-clause-up g c =
+    (room-empty c.loop-level.rooms.items c.loop-level.level c.index_mut-room.result.now (λ room. room.up.items) (λ room. room.merged.items) c.loop-level.invariant.rooms (omega (arith, c.loop-level.invariant.enough, c.loop-level-test.true)) c.index_mut-room.ensures.value).0
 
-pub reserve_step-requires-clause-merged : goal.reserve_step-requires-clause-merged
-reserve_step-requires-clause-merged g c =
-    (room-empty c.loop-level.rooms.items c.loop-level.level c.index_mut.result.now (λ room. room.up.items) (λ room. room.merged.items) c.loop-level.invariant.rooms (omega (arith, c.loop-level.invariant.enough, c.loop-level-test.true)) c.index_mut.ensures.value).1
+pub reserve-requires-clause-merged : goal.reserve-requires-clause-merged
+reserve-requires-clause-merged g c =
+    (room-empty c.loop-level.rooms.items c.loop-level.level c.index_mut-room.result.now (λ room. room.up.items) (λ room. room.merged.items) c.loop-level.invariant.rooms (omega (arith, c.loop-level.invariant.enough, c.loop-level-test.true)) c.index_mut-room.ensures.value).1
 
 pub loop-level-preserved : goal.loop-level-preserved
 loop-level-preserved g c =
@@ -35,16 +37,21 @@ loop-level-preserved g c =
     let here : ℕ = c.count_joined.result + c.loop-level.carried in
     let e : here ≡ (layout_at both c.loop-level.level).count + c.loop-level.carried = omega (arith, joined-count c.args.k (layouts_of c.args.levels.now) (layouts_of c.args.others.now) c.loop-level.level, c.count_joined.ensures.value) in
     let f : c.count_joined-above.result ≡ (layout_at both (c.loop-level.level + 1)).count = c.count_joined-above.ensures.value ∙ sym (joined-count c.args.k (layouts_of c.args.levels.now) (layouts_of c.args.others.now) (c.loop-level.level + 1)) in
-    let up = c.in_ok-reserve_step.ensures.here in
-    let above = c.in_ok-reserve_step.ensures.above in
+    let room = c.clone_level.new.room in
+    let same = ap (λ v. vec_capacity v) c.clone_level.ensures.up in
+    let up : here ≤ vec_capacity room.up = omega (arith, c.in_ok-reserve.ensures.here, same) in
+    let above : 0 < here → c.count_joined-above.result + here ≤ vec_capacity room.merged = λ some. omega (arith, c.in_ok-reserve.ensures.above some, ap (λ v. vec_capacity v) c.clone_level.ensures.merged) in
+    let none = ap (λ v. v.items) c.clone_level.ensures.up ∙ c.reserve.ensures.up in
+    let no_more = ap (λ v. v.items) c.clone_level.ensures.merged ∙ c.reserve.ensures.merged in
     let inside : c.loop-level.level < length c.loop-level.rooms.items = omega (arith, i.enough, c.loop-level-test.true) in
-    let room = c.reserve_step.new.room in
     let rooms = c.loop-level.rooms.items in
     record {
-      rooms = rooms-set rooms c.loop-level.level room (λ room. room.up.items) (λ room. room.merged.items) i.rooms c.reserve_step.ensures.up c.reserve_step.ensures.merged;
+      rooms = rooms-set rooms c.loop-level.level room (λ room. room.up.items) (λ room. room.merged.items) i.rooms none no_more;
       enough = simp length-set i.enough;
       few = omega (arith, i.few, c.count_joined.ensures.few);
       bounded = bounded-more c.args.k c.loop-level.level c.loop-level.carried here both e i.bounded;
+      cloned = cloned-more g.T.Ord.cmp c.args.levels.now c.args.others.now (λ room. room.clones.items) (λ room. vec_capacity room.clones) (λ room. vec_capacity room.up) rooms c.loop-level.level room inside i.cloned
+          (λ there. record { same = c.in_ok-clone_level.ensures.same there; space = omega (arith, c.in_ok-clone_level.ensures.space there, c.count_joined.ensures.value); fits = omega (arith, up, c.count_joined.ensures.value) });
       fits = λ h l.
           elim (cases_lt h c.loop-level.level) [
             | inl low ↦
@@ -59,8 +66,22 @@ loop-level-preserved g c =
           ];
     }
 
-pub returns-in_err-reserve_step-clause-rooms : goal.returns-in_err-reserve_step-clause-rooms
-returns-in_err-reserve_step-clause-rooms g c = rooms-set c.loop-level.rooms.items c.loop-level.level c.reserve_step.new.room (λ room. room.up.items) (λ room. room.merged.items) c.loop-level.invariant.rooms c.reserve_step.ensures.up c.reserve_step.ensures.merged
+pub returns-in_err-reserve-clause-rooms : goal.returns-in_err-reserve-clause-rooms
+returns-in_err-reserve-clause-rooms g c = rooms-set c.loop-level.rooms.items c.loop-level.level c.reserve.new.self (λ room. room.up.items) (λ room. room.merged.items) c.loop-level.invariant.rooms c.reserve.ensures.up c.reserve.ensures.merged
+
+pub returns-in_err-clone_level-clause-rooms : goal.returns-in_err-clone_level-clause-rooms
+returns-in_err-clone_level-clause-rooms g c =
+    let none = ap (λ v. v.items) c.clone_level.ensures.up ∙ c.reserve.ensures.up in
+    let no_more = ap (λ v. v.items) c.clone_level.ensures.merged ∙ c.reserve.ensures.merged in
+    rooms-set c.loop-level.rooms.items c.loop-level.level c.clone_level.new.room (λ room. room.up.items) (λ room. room.merged.items) c.loop-level.invariant.rooms none no_more
+
+pub returns-clause-cloned : goal.returns-clause-cloned
+returns-clause-cloned g c =
+    let i = c.loop-level.invariant in
+    record {
+      enough = omega (arith, c.max-count.ensures, i.enough, length-map c.loop-level.rooms.items (λ room. room.clones.items));
+      cloned = λ h l. i.cloned h (omega (arith, l, c.max-count.ensures)) l;
+    }
 
 pub returns-clause-fit : goal.returns-clause-fit
 returns-clause-fit g c =

@@ -1,6 +1,7 @@
 use Rattle.std.proofs.Common.{◌≡◌, ℕ, ◌^◌, ◌<◌, ◌≤◌, [], length, map, get_or, vec_capacity}
 use Rattle.std.specs.List.{All}
 use Rattle.sketch_req.specs.Schedule.{layouts_of, joined_layouts, steps_layouts}
+use Rattle.sketch_req.specs.Merged.{IsCloned}
 use Rattle.sketch_req.specs.Walk.{IsRoom}
 use Rattle.sketch_req.proofs.Plans.{IsBounded}
 use Rattle.sketch_req.proofs.sketch.walk.reserve_joined.Given as goal
@@ -11,5 +12,6 @@ invariant-loop-level g l = record {
   enough : l.count ≤ length l.rooms.items;
   few : l.carried < 2 ^ 32;
   bounded : IsBounded l.k l.level l.carried (joined_layouts l.k (layouts_of l.levels) (layouts_of l.others));
+  cloned : (h : ℕ) → h < l.level → h < length l.others → IsCloned g.T.Ord.cmp h l.levels l.others (get_or (map (λ room. room.clones.items) l.rooms.items) h []) (get_or (map (λ room. vec_capacity room.clones) l.rooms.items) h 0) (get_or (map (λ room. vec_capacity room.up) l.rooms.items) h 0);
   fits : (h : ℕ) → h < l.level → IsRoom l.k h (steps_layouts l.k h 0 (joined_layouts l.k (layouts_of l.levels) (layouts_of l.others))) (get_or (map (λ room. vec_capacity room.merged) l.rooms.items) h 0) (get_or (map (λ room. vec_capacity room.up) l.rooms.items) h 0);
 }
