@@ -58,6 +58,7 @@ impl<T: Clone + Ord> SortedView<T> {
         ensures least { IfOk result (λ v. v.least ≡ extreme_among weighted.items min_item) }
         ensures greatest { IfOk result (λ v. v.greatest ≡ extreme_among weighted.items max_item) }
         ensures memory { IfErr result (λ e. e ≡ OutOfMemory) }
+        ensures none { IfErr result (λ e. 0 < length weighted.items) }
     {
         let alloc = *weighted.allocator();
         let mut weighted = weighted;

@@ -1,10 +1,10 @@
 -- The weighted items of a sketch's levels, clones of them, and the view that they make.
-use Rattle.std.proofs.Common.{◌≡◌, ℕ, zero, suc, ◌+◌, ◌^◌, ◌<◌, ◌≤◌, List, [], ◌∷◌, ◌++◌, length, map, take, replicate, flat_map, get_or, sum_by, refl, sym, ap, ap₂, ◌∙◌, subst, append_assoc, append-nil, arith, Result, Ordering, Equal}
+use Rattle.std.proofs.Common.{◌≡◌, ℕ, zero, suc, ◌+◌, ◌^◌, ◌<◌, ◌≤◌, List, [], ◌∷◌, ◌++◌, length, map, take, replicate, flat_map, get_or, sum_by, refl, sym, ap, ap₂, ◌∙◌, subst, append_assoc, arith, Result, Ordering, Equal}
 use Rattle.std.specs.Prelude.{Option, None, Some, IfOk, IsSome}
 use Rattle.std.specs.Cmp.{IsTotalOrder}
 use Rattle.std.specs.List.{All, AllByRecursion}
 use Rattle.std.proofs.lemmas.Bool.{false≢true}
-use Rattle.std.proofs.lemmas.List.{map_more, take_more}
+use Rattle.std.proofs.lemmas.List.{take_more}
 use Rattle.std.proofs.lemmas.List.Elements.{AllZip-push}
 use Rattle.std.proofs.lemmas.List.Sums.{sum_by-cons}
 use Rattle.std.proofs.lemmas.Nat.{pow_pos}
@@ -27,27 +27,14 @@ use Rattle.sketch_req.specs.declared.RankAccuracy.{RankAccuracy}
 use Rattle.sketch_req.proofs.Pairs.{weigh-pairs}
 use Rattle.sketch_req.proofs.Ranks.{weight_is}
 
--- clones of the items of a level, one more
-pub pairs-more : {A : Type 0} (cmp : A → A → Ordering) (w i : ℕ) (items : List A) (x y : A) (before old new : List (A × ℕ)) → i < length items → x ≡ get_or items i x → cmp x y ≡ Equal → new ≡ old ++ (y, w) ∷ [] →
-    SamePairs cmp (before ++ weighed w (take i items)) old → SamePairs cmp (before ++ weighed w (take (i + 1) items)) new
-pairs-more {A} cmp w i items x y before old new l at same pushed h =
-    let longer : weighed w (take (i + 1) items) ≡ weighed w (take i items) ++ (x, w) ∷ [] =
-    map_more (λ (z : A). (z, w)) items i x l ∙ ap (λ (z : A). weighed w (take i items) ++ (z, w) ∷ []) (sym at) in
-    let all : before ++ weighed w (take (i + 1) items) ≡ (before ++ weighed w (take i items)) ++ (x, w) ∷ [] =
-    ap (λ (l : List (A × ℕ)). before ++ l) longer ∙ sym (append_assoc before (weighed w (take i items)) ((x, w) ∷ [])) in
-    subst (λ (l : List (A × ℕ)). SamePairs cmp l new) (sym all)
-    (subst (λ (l : List (A × ℕ)). SamePairs cmp ((before ++ weighed w (take i items)) ++ (x, w) ∷ []) l) (sym pushed)
-    (AllZip-push (λ p q. (cmp p.0 q.0 ≡ Equal) × (q.1 ≡ p.1)) (before ++ weighed w (take i items)) old (x, w) (y, w) h (same, refl)))
-
-pairs_of-append : {A : Type 0} (ls ms : List (Level A)) → pairs_of (ls ++ ms) ≡ pairs_of ls ++ pairs_of ms
-pairs_of-append [] ms = refl
-pairs_of-append (l ∷ ls) ms = ap (λ ps. weighed (2 ^ l.lg_weight) l.items ++ ps) (pairs_of-append ls ms) ∙ sym (append_assoc (weighed (2 ^ l.lg_weight) l.items) (pairs_of ls) (pairs_of ms))
-
--- the pairs of the levels, one more
-pub levels-more : {A : Type 0} (ls : List (Level A)) (i : ℕ) (l : Level A) → i < length ls → l ≡ get_or ls i l → pairs_of (take (i + 1) ls) ≡ pairs_of (take i ls) ++ weighed (2 ^ l.lg_weight) l.items
-levels-more {A} ls i l lt at =
-    ap pairs_of (take_more ls i l lt ∙ ap (λ (m : Level A). take i ls ++ m ∷ []) (sym at)) ∙
-    (pairs_of-append (take i ls) (l ∷ []) ∙ ap (λ ps. pairs_of (take i ls) ++ ps) (append-nil (weighed (2 ^ l.lg_weight) l.items)))
+-- clones of weighted items, one more
+pub pairs-more : {A : Type 0} (cmp : A → A → Ordering) (all : List (A × ℕ)) (i : ℕ) (p : A × ℕ) (y : A) (old new : List (A × ℕ)) → i < length all → p ≡ get_or all i p → cmp p.0 y ≡ Equal → new ≡ old ++ (y, p.1) ∷ [] →
+    SamePairs cmp (take i all) old → SamePairs cmp (take (i + 1) all) new
+pairs-more {A} cmp all i p y old new l at same pushed h =
+    let longer : take (i + 1) all ≡ take i all ++ p ∷ [] = take_more all i p l ∙ ap (λ (q : A × ℕ). take i all ++ q ∷ []) (sym at) in
+    subst (λ (l : List (A × ℕ)). SamePairs cmp l new) (sym longer)
+    (subst (λ (l : List (A × ℕ)). SamePairs cmp (take i all ++ p ∷ []) l) (sym pushed)
+    (AllZip-push (λ p q. (cmp p.0 q.0 ≡ Equal) × (q.1 ≡ p.1)) (take i all) old p (y, p.1) h (same, refl)))
 
 -- what the weighted items of the levels stand for is what the levels do
 copies-append : {A : Type 0} (ps qs : List (A × ℕ)) → copies (ps ++ qs) ≡ copies ps ++ copies qs

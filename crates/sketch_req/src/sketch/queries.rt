@@ -1,5 +1,5 @@
 //! Queries of a sketch that go by a view.
-ghost use Rattle.std.specs.Prelude.{◌≡◌, ◌++◌, ℕ, List, IfOk, IfErr, IfSome, OnOk, map, sum_by};
+ghost use Rattle.std.specs.Prelude.{◌≡◌, ◌≢◌, IfOk, IfErr, IfSome, map, sum_by};
 ghost use Rattle.std.specs.declared.cmp.Ordering.TheVariants.{Equal};
 ghost use Rattle.std.specs.List.{All};
 ghost use Rattle.std.specs.List.Sorted.{IsNonDecreasing};
@@ -10,17 +10,16 @@ ghost use Rattle.sketch_base.specs.Pairs.{distinct};
 ghost use Rattle.sketch_base.specs.Queries.{IsFraction, IsIncreasing, SameAnswer, cdf_of, pmf_of};
 ghost use Rattle.sketch_base.specs.Views.{IsViewOf, quantile_of};
 ghost use Rattle.sketch_req.specs.Actions.{bag_of};
-ghost use Rattle.sketch_req.specs.Pairs.{pairs_of, weighed};
+ghost use Rattle.sketch_req.specs.Pairs.{pairs_of};
 ghost use Rattle.sketch_req.specs.Views.{SamePairs, view_of};
 
 use super::ReqSketch;
-use crate::compactor::Compactor;
 use crate::sorted_view::SortedView;
 use sketch_base::common::extremes::clone_found;
 use sketch_base::common::queries::{check_fraction, check_fractions, check_points};
 use sketch_base::common::{Rank, SearchCriteria};
 use sketch_base::error::Error;
-use std::alloc::{AllocError, Global};
+use std::alloc::AllocError;
 
 impl<T: Clone + Ord> ReqSketch<T> {
     /// A snapshot of the items in order, for many queries. Equal items are joined in it.
@@ -32,12 +31,26 @@ impl<T: Clone + Ord> ReqSketch<T> {
             IfOk result (IsViewOf T.cmp (bag_of s.levels) s.n s.least s.greatest) }
         ensures joined { IfOk result (λ v. v.held ≡ distinct T.cmp v.entries) }
         ensures memory { IfErr result (λ e. e ≡ OutOfMemory) }
+        ensures some { IfErr result (λ e. self.now.n ≢ 0) }
     {
         let least = clone_found(self.min_item.as_ref())?;
         let greatest = clone_found(self.max_item.as_ref())?;
-        let alloc = *self.levels.allocator();
-        let weighted = clone_pairs(alloc, self.num_retained, self.levels.as_slice())?;
+        let weighted = self.clone_pairs()?;
         SortedView::new(weighted, least, greatest)
+    }
+
+    // Clones of the retained items, each with its weight.
+    fn clone_pairs(&self) -> Result<Vec<(T, u64)>, AllocError>
+        requires clones { (x y : T) → T.is_clone x y → T.cmp x y ≡ Equal }
+        ensures pairs { IfOk result (λ pairs. SamePairs T.cmp (pairs_of self.now.levels) pairs.items) }
+        ensures some { IfErr result (λ e. self.now.n ≢ 0) }
+    {
+        let mut pairs = Vec::with_capacity(*self.levels.allocator(), self.num_retained)?;
+        for (item, weight) in self.iter() {
+            let copy = item.clone()?;
+            pairs.push_reserved((copy, weight));
+        }
+        Ok(pairs)
     }
 
     /// The item that a fraction names; None for an empty sketch.
@@ -52,9 +65,6 @@ impl<T: Clone + Ord> ReqSketch<T> {
         ensures refused { IsRefusedUnless (IsFraction fraction) self.now.n result }
     {
         check_fraction(fraction)?;
-        if self.n == 0 {
-            return Ok(None);
-        }
         self.sorted_view()?.quantile(fraction, criteria)
     }
 
@@ -71,9 +81,6 @@ impl<T: Clone + Ord> ReqSketch<T> {
         ensures refused { IsRefusedUnless (All IsFraction fractions.now) self.now.n result }
     {
         check_fractions(fractions)?;
-        if self.n == 0 {
-            return Ok(None);
-        }
         self.sorted_view()?.quantiles(fractions, criteria)
     }
 
@@ -91,9 +98,6 @@ impl<T: Clone + Ord> ReqSketch<T> {
         ensures refused { IsRefusedUnless (IsIncreasing T.cmp points.now) self.now.n result }
     {
         check_points(points)?;
-        if self.n == 0 {
-            return Ok(None);
-        }
         self.sorted_view()?.cdf(points, criteria)
     }
 
@@ -108,44 +112,8 @@ impl<T: Clone + Ord> ReqSketch<T> {
         ensures refused { IsRefusedUnless (IsIncreasing T.cmp points.now) self.now.n result }
     {
         check_points(points)?;
-        if self.n == 0 {
-            return Ok(None);
-        }
         self.sorted_view()?.pmf(points, criteria)
     }
-}
-
-// Puts clones of a level's items last, each with the level's weight.
-fn clone_level<T: Clone + Ord>(
-    items: &[T],
-    weight: u64,
-    pairs: &mut Vec<(T, u64)>,
-) -> Result<(), AllocError>
-    requires clones { (x y : T) → T.is_clone x y → T.cmp x y ≡ Equal }
-    ensures { OnOk result ((before : List (T × ℕ)) → SamePairs T.cmp before pairs.old.items
-        → SamePairs T.cmp (before ++ weighed weight items.now) pairs.new.items) }
-{
-    for item in items {
-        let copy = item.clone()?;
-        pairs.push((copy, weight))?;
-    }
-    Ok(())
-}
-
-// Clones of the items of the levels, each with its level's weight, in a list with room for so many.
-fn clone_pairs<T: Clone + Ord>(
-    alloc: Global,
-    room: usize,
-    levels: &[Compactor<T>],
-) -> Result<Vec<(T, u64)>, AllocError>
-    requires clones { (x y : T) → T.is_clone x y → T.cmp x y ≡ Equal }
-    ensures { IfOk result (λ pairs. SamePairs T.cmp (pairs_of levels.now) pairs.items) }
-{
-    let mut pairs = Vec::with_capacity(alloc, room)?;
-    for level in levels {
-        clone_level(level.items_slice(), level.weight(), &mut pairs)?;
-    }
-    Ok(pairs)
 }
 
 #[cfg(test)]

@@ -4,6 +4,7 @@ use super::*;
 use crate::RankAccuracy;
 use sketch_base::common::random::WordBits;
 use sketch_base::error::ErrorKind;
+use std::alloc::Global;
 use std::test::Fail;
 
 const INCLUSIVE: SearchCriteria = SearchCriteria::Inclusive;

@@ -1,10 +1,9 @@
-use Rattle.std.proofs.Common.{◌<◌, ◌^◌, List, subst, arith}
+use Rattle.std.proofs.Common.{◌<◌, ◌^◌, subst, sym, arith}
 use Rattle.std.specs.Prelude.{Option}
 use Rattle.sketch_base.specs.Queries.{SameAnswer}
-use Rattle.sketch_req.specs.Level.{Level}
 use Rattle.sketch_req.specs.Pairs.{pairs_of}
 use Rattle.sketch_req.specs.Views.{SamePairs}
-use Rattle.sketch_req.specs.Sketch.{sketch_of}
+use Rattle.sketch_req.specs.Sketch.{Req, sketch_of}
 use Rattle.sketch_req.proofs.Views.{clones-all_weigh, clones-there, clones-view, clones-weigh_n}
 use Rattle.sketch_req.proofs.sketch.ReqSketch.sorted_view.Goals as goal
 
@@ -13,7 +12,7 @@ new-requires-clause-weights g c =
     let i = c.self.inside in
     let s = sketch_of i.k i.rank_accuracy i.n i.levels.items i.min_item i.max_item in
     let pairs = c.in_ok-weighted.weighted.items in
-    let same = subst (λ (ls : List (Level g.row.T.Denot)). SamePairs g.T.Ord.cmp (pairs_of ls) pairs) c.as_slice.ensures.value c.in_ok-weighted.ensures in
+    let same : SamePairs g.T.Ord.cmp (pairs_of i.levels.items) pairs = subst (λ (t : Req g.row.T.Denot). SamePairs g.T.Ord.cmp (pairs_of t.levels) pairs) (sym c.self.view_is) c.in_ok-weighted.ensures.pairs in
     clones-all_weigh g.met.T.Ord.total s pairs c.self.invariant.sound same
 
 pub new-requires-clause-fits : goal.new-requires-clause-fits
@@ -21,7 +20,7 @@ new-requires-clause-fits g c =
     let i = c.self.inside in
     let s = sketch_of i.k i.rank_accuracy i.n i.levels.items i.min_item i.max_item in
     let pairs = c.in_ok-weighted.weighted.items in
-    let same = subst (λ (ls : List (Level g.row.T.Denot)). SamePairs g.T.Ord.cmp (pairs_of ls) pairs) c.as_slice.ensures.value c.in_ok-weighted.ensures in
+    let same : SamePairs g.T.Ord.cmp (pairs_of i.levels.items) pairs = subst (λ (t : Req g.row.T.Denot). SamePairs g.T.Ord.cmp (pairs_of t.levels) pairs) (sym c.self.view_is) c.in_ok-weighted.ensures.pairs in
     let small : i.n < 2 ^ 64 = c.self.invariant.sound.n_fits in
     omega (arith, small, clones-weigh_n g.met.T.Ord.total s pairs c.self.invariant.sound same)
 
@@ -30,7 +29,7 @@ new-requires-clause-least g c =
     let i = c.self.inside in
     let s = sketch_of i.k i.rank_accuracy i.n i.levels.items i.min_item i.max_item in
     let pairs = c.in_ok-weighted.weighted.items in
-    let same = subst (λ (ls : List (Level g.row.T.Denot)). SamePairs g.T.Ord.cmp (pairs_of ls) pairs) c.as_slice.ensures.value c.in_ok-weighted.ensures in
+    let same : SamePairs g.T.Ord.cmp (pairs_of i.levels.items) pairs = subst (λ (t : Req g.row.T.Denot). SamePairs g.T.Ord.cmp (pairs_of t.levels) pairs) (sym c.self.view_is) c.in_ok-weighted.ensures.pairs in
     let least = subst (λ (x : Option g.row.T.Denot). SameAnswer g.T.Ord.cmp x c.in_ok-least.least) c.as_ref.ensures.value c.in_ok-least.ensures.same in
     clones-there g.met.T.Ord.total s pairs c.self.invariant.sound same i.min_item c.in_ok-least.least c.self.invariant.sound.least_there least
 
@@ -39,7 +38,7 @@ new-requires-clause-greatest g c =
     let i = c.self.inside in
     let s = sketch_of i.k i.rank_accuracy i.n i.levels.items i.min_item i.max_item in
     let pairs = c.in_ok-weighted.weighted.items in
-    let same = subst (λ (ls : List (Level g.row.T.Denot)). SamePairs g.T.Ord.cmp (pairs_of ls) pairs) c.as_slice.ensures.value c.in_ok-weighted.ensures in
+    let same : SamePairs g.T.Ord.cmp (pairs_of i.levels.items) pairs = subst (λ (t : Req g.row.T.Denot). SamePairs g.T.Ord.cmp (pairs_of t.levels) pairs) (sym c.self.view_is) c.in_ok-weighted.ensures.pairs in
     let greatest = subst (λ (x : Option g.row.T.Denot). SameAnswer g.T.Ord.cmp x c.in_ok-greatest.greatest) c.as_ref-2.ensures.value c.in_ok-greatest.ensures.same in
     clones-there g.met.T.Ord.total s pairs c.self.invariant.sound same i.max_item c.in_ok-greatest.greatest c.self.invariant.sound.greatest_there greatest
 
@@ -48,7 +47,7 @@ returns-clause-view g c =
     let i = c.self.inside in
     let s = sketch_of i.k i.rank_accuracy i.n i.levels.items i.min_item i.max_item in
     let pairs = c.in_ok-weighted.weighted.items in
-    let same = subst (λ (ls : List (Level g.row.T.Denot)). SamePairs g.T.Ord.cmp (pairs_of ls) pairs) c.as_slice.ensures.value c.in_ok-weighted.ensures in
+    let same : SamePairs g.T.Ord.cmp (pairs_of i.levels.items) pairs = subst (λ (t : Req g.row.T.Denot). SamePairs g.T.Ord.cmp (pairs_of t.levels) pairs) (sym c.self.view_is) c.in_ok-weighted.ensures.pairs in
     let least = subst (λ (x : Option g.row.T.Denot). SameAnswer g.T.Ord.cmp x c.in_ok-least.least) c.as_ref.ensures.value c.in_ok-least.ensures.same in
     let greatest = subst (λ (x : Option g.row.T.Denot). SameAnswer g.T.Ord.cmp x c.in_ok-greatest.greatest) c.as_ref-2.ensures.value c.in_ok-greatest.ensures.same in
     rw (← c.self.view_is) (clones-view g.met.T.Ord.total s pairs c.self.invariant.sound same c.in_ok-least.least c.in_ok-greatest.greatest c.new.result least greatest c.new.ensures.entries c.new.ensures.least c.new.ensures.greatest)
