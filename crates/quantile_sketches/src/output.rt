@@ -2,13 +2,13 @@
 //! Of what is owed always a beginning is out and the rest waits, also where memory or the output fails.
 ghost use Rattle.std.specs.Prelude.{◌≡◌, ◌≤◌, ◌<◌, ◌+◌, ◌++◌, ◌∷◌, length, take, drop, [], IfOk, OnOk, OnErr};
 ghost use Rattle.std.specs.Io.KnownBytes.{Appends, Keeps};
-ghost use Rattle.std.specs.Fmt.{decimal, signed_decimal};
+ghost use Rattle.std.specs.Fmt.{decimal};
 ghost use Rattle.quantile_sketches.specs.Output.{Writes};
 
 use std::io::{self, ErrorKind, Write};
 
-// Two numbers of at most 20 digits, and a byte between them.
-const ROOM: usize = 41;
+/// Two numbers of at most 20 digits, and a byte behind each.
+pub const ROOM: usize = 42;
 
 /// As many bytes wait at most.
 pub const MOST_WAITING: usize = 16384;
@@ -76,47 +76,8 @@ fn write_some<W: Write>(output: &mut W, bytes: &[u8]) -> io::Result<usize>
     }
 }
 
-/// Adds a number in decimal digits.
-pub fn add_number<W: Write>(output: &mut W, waiting: &mut Vec<u8>, number: u64) -> io::Result<()>
-    ensures { Writes result (W.contents output.old) (W.contents output.new)
-        (waiting.old.items ++ decimal number) waiting.new.items }
-{
-    let mut room = [0; ROOM];
-    let start = put_digits(number, &mut room, ROOM);
-    add(output, waiting, &room[start..])
-}
-
-/// Adds two numbers in decimal digits with a slash between them.
-pub fn add_fraction<W: Write>(
-    output: &mut W,
-    waiting: &mut Vec<u8>,
-    above: u64,
-    below: u64,
-) -> io::Result<()>
-    ensures { Writes result (W.contents output.old) (W.contents output.new)
-        (waiting.old.items ++ (decimal above ++ 47 ∷ decimal below)) waiting.new.items }
-{
-    let mut room = [b'/'; ROOM];
-    let middle = put_digits(below, &mut room, ROOM) - 1;
-    room[middle] = b'/';
-    let start = put_digits(above, &mut room, middle);
-    add(output, waiting, &room[start..])
-}
-
-/// Adds a number in decimal digits, after a minus where it is negative.
-pub fn add_signed<W: Write>(output: &mut W, waiting: &mut Vec<u8>, number: i64) -> io::Result<()>
-    ensures { Writes result (W.contents output.old) (W.contents output.new)
-        (waiting.old.items ++ signed_decimal number) waiting.new.items }
-{
-    if number < 0 {
-        add(output, waiting, b"-")?;
-        return add_number(output, waiting, number.unsigned_abs());
-    }
-    add_number(output, waiting, number.unsigned_abs())
-}
-
-// Puts the digits of a number before what stands from `end` on; gives the place of the first.
-fn put_digits(number: u64, room: &mut [u8; ROOM], end: usize) -> usize
+/// Puts the digits of a number before what stands from `end` on; gives the place of the first.
+pub fn put_digits(number: u64, room: &mut [u8; ROOM], end: usize) -> usize
     requires some { 20 ≤ end }
     requires within { end ≤ ROOM }
     ensures digits { drop result room.new ≡ decimal number ++ drop end room.old }

@@ -6,7 +6,7 @@ ghost use Rattle.sketch_kll.specs.Image.{IsImage};
 ghost use Rattle.quantile_sketches.specs.Kll.{kll};
 ghost use Rattle.quantile_sketches.specs.KllRules.{KllShape, kll_kind};
 
-use super::{Family, QueriedFamily};
+use super::Family;
 use sketch_base::common::random::RandomBits;
 use sketch_base::common::{Rank, SearchCriteria};
 use sketch_base::error::Error;
@@ -82,17 +82,6 @@ impl<T: KllValue + Ord> Family for KllSketch<T> {
         self.rank(item, criteria)
     }
 
-    fn image(&self) -> Result<Vec<u8>, Error> {
-        self.serialize()
-    }
-
-    fn load(alloc: Global, bytes: &[u8]) -> Result<Self, Error> {
-        let sketch = KllSketch::deserialize(alloc, bytes)?;
-        Ok(sketch)
-    }
-}
-
-impl<T: KllValue + Ord> QueriedFamily for KllSketch<T> {
     fn quantile_of(&self, fraction: Rank, criteria: SearchCriteria) -> Result<Option<T>, Error> {
         self.quantile(fraction, criteria)
     }
@@ -103,5 +92,14 @@ impl<T: KllValue + Ord> QueriedFamily for KllSketch<T> {
 
     fn pmf_of(&self, points: &[T], criteria: SearchCriteria) -> Result<Option<Vec<Rank>>, Error> {
         self.pmf(points, criteria)
+    }
+
+    fn image(&self) -> Result<Vec<u8>, Error> {
+        self.serialize()
+    }
+
+    fn load(alloc: Global, bytes: &[u8]) -> Result<Self, Error> {
+        let sketch = KllSketch::deserialize(alloc, bytes)?;
+        Ok(sketch)
     }
 }

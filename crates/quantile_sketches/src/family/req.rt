@@ -8,7 +8,7 @@ ghost use Rattle.quantile_sketches.specs.Req.{req};
 ghost use Rattle.quantile_sketches.specs.ReqKind.{req_kind};
 ghost use Rattle.quantile_sketches.specs.ReqRules.{ReqShape};
 
-use super::{Family, QueriedFamily};
+use super::Family;
 use sketch_base::common::random::RandomBits;
 use sketch_base::common::{Rank, SearchCriteria};
 use sketch_base::error::{Error, ErrorKind};
@@ -85,17 +85,6 @@ impl<T: ReqValue + Clone + Ord> Family for ReqSketch<T> {
         self.rank(item, criteria)
     }
 
-    fn image(&self) -> Result<Vec<u8>, Error> {
-        self.serialize()
-    }
-
-    fn load(alloc: Global, bytes: &[u8]) -> Result<Self, Error> {
-        let sketch = ReqSketch::deserialize(alloc, bytes)?;
-        Ok(sketch)
-    }
-}
-
-impl<T: ReqValue + Clone + Ord> QueriedFamily for ReqSketch<T> {
     fn quantile_of(&self, fraction: Rank, criteria: SearchCriteria) -> Result<Option<T>, Error> {
         self.quantile(fraction, criteria)
     }
@@ -106,5 +95,14 @@ impl<T: ReqValue + Clone + Ord> QueriedFamily for ReqSketch<T> {
 
     fn pmf_of(&self, points: &[T], criteria: SearchCriteria) -> Result<Option<Vec<Rank>>, Error> {
         self.pmf(points, criteria)
+    }
+
+    fn image(&self) -> Result<Vec<u8>, Error> {
+        self.serialize()
+    }
+
+    fn load(alloc: Global, bytes: &[u8]) -> Result<Self, Error> {
+        let sketch = ReqSketch::deserialize(alloc, bytes)?;
+        Ok(sketch)
     }
 }

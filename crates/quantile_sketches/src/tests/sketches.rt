@@ -1,6 +1,6 @@
 //! The sketches that are tried, with all calls that take memory, and items by number.
 use crate::audit::{Audit, Command, Run, audit, audit_req, run, run_req};
-use crate::family::QueriedFamily;
+use crate::family::Family;
 use sketch_base::common::{Rank, SearchCriteria};
 use sketch_base::error::Error;
 use sketch_base::sorted_view::SortedView;
@@ -36,7 +36,7 @@ impl Numbered for String {
 }
 
 /// A sketch with the calls that take memory and that the program has no word for.
-pub(super) trait Tried: QueriedFamily {
+pub(super) trait Tried: Family {
     fn config_of(k: u16) -> Self::Config;
 
     fn item_of(alloc: Global, number: u32) -> Result<Self::Item, AllocError>;
