@@ -105,18 +105,13 @@ impl<T: Ord + Drop> Levels<T> {
         ensures shorter { vec_len self.new.items ≤ vec_len self.old.items }
         ensures coins { coins.new ≡ B.next coins.old }
     {
-        let num_levels = self.bounds.len() - 1;
+        let known = self.bounds.len() - 1;
         raise(&mut self.bounds, level);
         let keeps_last = keeps_last_item(self.is_level_zero_sorted, level);
         let coin = coins.random_bit();
         compact_in_place(&mut self.items, &mut self.bounds, level, keeps_last, coin);
-        let total = total_at(
-            self.k,
-            self.total_capacity,
-            num_levels,
-            self.bounds.len() - 1,
-        );
-        self.total_capacity = total;
+        let num_levels = self.bounds.len() - 1;
+        self.total_capacity = total_at(self.k, self.total_capacity, known, num_levels);
     }
 
     // Puts an item last into level 0.

@@ -43,14 +43,22 @@ add_bounds-requires-clause-fits g c = λ j b.
     let r = get_or_after_one c.args.runs.now (j - 1) 0 ∙ ap (λ (i : ℕ). get_or c.args.runs.now i 0) e in
     omega (arith, bound_within x.items.items c.deref_mut.result.now p.fits j, bound_within c.args.upper.items (drop 1 c.args.runs.now) c.requires.runs (j - 1), r, c.requires.room, x.items.ok, c.args.upper.ok, c.args.merged.ok, c.args.merged.small)
 
-pub total_capacity-self-requires-clause-levels : goal.total_capacity-self-requires-clause-levels
-total_capacity-self-requires-clause-levels g c =
+pub total_at-self-requires-clause-few_levels : goal.total_at-self-requires-clause-few_levels
+total_at-self-requires-clause-few_levels g c =
     let x = c.args.self.now in
     let n = length-bounds x.items.items x.bounds.items c.requires.stored.flat in
     let p : Prepared g.T.Ord.cmp x.items.items x.bounds.items c.args.runs.now c.deref_mut.result.now _ =
     prepared g.T.Ord.cmp x.items.items c.args.upper.items x.bounds.items c.args.runs.now c.deref_mut.result.now c.requires.stored.flat c.requires.runs c.requires.stored.sorted c.requires.some_level c.requires.some (omega (arith, n, c.requires.stored.few)) c.requires.few (c.deref_mut.ensures.value ∙ c.add_levels.ensures.items) in
-    let e : c.len.result ≡ length c.deref_mut.result.now = search rules in
+    let e : c.len-num_levels.result ≡ length c.deref_mut.result.now = search rules in
     omega (arith, e, p.few)
+
+pub total_at-self-requires-clause-total : goal.total_at-self-requires-clause-total
+total_at-self-requires-clause-total g c =
+    let x = c.args.self.now in
+    let n = length-bounds x.items.items x.bounds.items c.requires.stored.flat in
+    let e : c.len-known.result ≡ length x.bounds.items = search rules in
+    let d : length (levels_in x.items.items x.bounds.items) ≡ c.len-known.result - 1 = omega (arith, n, e) in
+    c.requires.stored.total_is ∙ ap (total_of x.k 8) d
 
 pub returns : goal.returns
 returns g c =
@@ -74,12 +82,12 @@ returns g c =
     let m = length-bounds c.args.upper.items (drop 1 c.args.runs.now) c.requires.runs in
     let s : JoinedSize ls us (levels_in its wide) = joined_size cmp ls us (levels_in its wide) c.requires.stored.some c.requires.stored.few (omega (arith, m, length-drop 1 c.args.runs.now, c.requires.few)) there.1 in
     let k = length-bounds its wide there.0 in
-    let e : c.len.result ≡ length wide = search rules in
+    let e : c.len-num_levels.result ≡ length wide = search rules in
     record {
       stored = record {
         k_above = c.requires.stored.k_above;
         flat = there.0;
-        total_is = c.total_capacity-self.ensures.value ∙ ap (total_of x.k 8) (omega (arith, k, e));
+        total_is = c.total_at-self.ensures ∙ ap (total_of x.k 8) (omega (arith, k, e));
         some = s.some;
         few = s.few;
         sorted = there.2;
