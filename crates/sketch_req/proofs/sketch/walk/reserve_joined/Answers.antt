@@ -4,7 +4,7 @@ use Rattle.std.proofs.lemmas.Bool.{cases_lt}
 use Rattle.std.proofs.lemmas.List.{length-map}
 use Rattle.sketch_req.specs.Schedule.{Layout, layouts_of, layout_at, joined_layouts, steps_layouts}
 use Rattle.sketch_req.specs.Walk.{IsRoom}
-use Rattle.sketch_req.proofs.Plans.{bounded-start, bounded-more, bounded-room}
+use Rattle.sketch_req.proofs.Plans.{count-within, bounded-start, bounded-more, bounded-room}
 use Rattle.sketch_req.proofs.Rooms.{room-empty, rooms-set, capacity-set, capacity-below}
 use Rattle.sketch_req.proofs.Clones.{cloned-more}
 use Rattle.sketch_req.proofs.Joins.{joined-count}
@@ -30,17 +30,27 @@ pub reserve-requires-clause-merged : goal.reserve-requires-clause-merged
 reserve-requires-clause-merged g c =
     (room-empty c.loop-level.rooms.items c.loop-level.level c.index_mut-room.result.now (λ room. room.up.items) (λ room. room.merged.items) c.loop-level.invariant.rooms (omega (arith, c.loop-level.invariant.enough, c.loop-level-test.true)) c.index_mut-room.ensures.value).1
 
+pub reserve-requires-clause-few : goal.reserve-requires-clause-few
+reserve-requires-clause-few g c =
+    let at = c.loop-level.level in
+    let ls : List Layout = layouts_of c.args.levels.now in
+    let os : List Layout = layouts_of c.args.others.now in
+    omega (arith, c.requires.few, c.loop-level.invariant.few, c.count_at.ensures, c.count_at-in-loop-level.ensures, c.count_at-in-loop-level-2.ensures, c.count_at-in-loop-level-3.ensures, count-within at ls, count-within at os, count-within (at + 1) ls, count-within (at + 1) os)
+
 pub loop-level-preserved : goal.loop-level-preserved
 loop-level-preserved g c =
     let i = c.loop-level.invariant in
     let both : List Layout = joined_layouts c.args.k (layouts_of c.args.levels.now) (layouts_of c.args.others.now) in
-    let here : ℕ = c.count_joined.result + c.loop-level.carried in
-    let e : here ≡ (layout_at both c.loop-level.level).count + c.loop-level.carried = omega (arith, joined-count c.args.k (layouts_of c.args.levels.now) (layouts_of c.args.others.now) c.loop-level.level, c.count_joined.ensures.value) in
-    let f : c.count_joined-above.result ≡ (layout_at both (c.loop-level.level + 1)).count = c.count_joined-above.ensures.value ∙ sym (joined-count c.args.k (layouts_of c.args.levels.now) (layouts_of c.args.others.now) (c.loop-level.level + 1)) in
+    let ls : List Layout = layouts_of c.args.levels.now in
+    let os : List Layout = layouts_of c.args.others.now in
+    let here : ℕ = c.count_at.result + c.count_at-in-loop-level.result + c.loop-level.carried in
+    let over : ℕ = c.count_at-in-loop-level-2.result + c.count_at-in-loop-level-3.result in
+    let e : here ≡ (layout_at both c.loop-level.level).count + c.loop-level.carried = omega (arith, joined-count c.args.k ls os c.loop-level.level, c.count_at.ensures, c.count_at-in-loop-level.ensures) in
+    let f : over ≡ (layout_at both (c.loop-level.level + 1)).count = omega (arith, joined-count c.args.k ls os (c.loop-level.level + 1), c.count_at-in-loop-level-2.ensures, c.count_at-in-loop-level-3.ensures) in
     let room = c.clone_level.new.room in
     let same = ap (λ v. vec_capacity v) c.clone_level.ensures.up in
     let up : here ≤ vec_capacity room.up = omega (arith, c.in_ok-reserve.ensures.here, same) in
-    let above : 0 < here → c.count_joined-above.result + here ≤ vec_capacity room.merged = λ some. omega (arith, c.in_ok-reserve.ensures.above some, ap (λ v. vec_capacity v) c.clone_level.ensures.merged) in
+    let above : 0 < here → over + here ≤ vec_capacity room.merged = λ some. omega (arith, c.in_ok-reserve.ensures.above some, ap (λ v. vec_capacity v) c.clone_level.ensures.merged) in
     let none = ap (λ v. v.items) c.clone_level.ensures.up ∙ c.reserve.ensures.up in
     let no_more = ap (λ v. v.items) c.clone_level.ensures.merged ∙ c.reserve.ensures.merged in
     let inside : c.loop-level.level < length c.loop-level.rooms.items = omega (arith, i.enough, c.loop-level-test.true) in
@@ -48,10 +58,10 @@ loop-level-preserved g c =
     record {
       rooms = rooms-set rooms c.loop-level.level room (λ room. room.up.items) (λ room. room.merged.items) i.rooms none no_more;
       enough = simp length-set i.enough;
-      few = omega (arith, i.few, c.count_joined.ensures.few);
+      few = omega (arith, i.few, c.requires.few, c.count_at.ensures, c.count_at-in-loop-level.ensures, count-within c.loop-level.level ls, count-within c.loop-level.level os);
       bounded = bounded-more c.args.k c.loop-level.level c.loop-level.carried here both e i.bounded;
       cloned = cloned-more g.T.Ord.cmp c.args.levels.now c.args.others.now (λ room. room.clones.items) (λ room. vec_capacity room.clones) (λ room. vec_capacity room.up) rooms c.loop-level.level room inside i.cloned
-          (λ there. record { same = c.in_ok-clone_level.ensures.same there; space = omega (arith, c.in_ok-clone_level.ensures.space there, c.count_joined.ensures.value); fits = omega (arith, up, c.count_joined.ensures.value) });
+          (λ there. record { same = c.in_ok-clone_level.ensures.same there; space = omega (arith, c.in_ok-clone_level.ensures.space there, c.count_at.ensures, c.count_at-in-loop-level.ensures); fits = omega (arith, up, c.count_at.ensures, c.count_at-in-loop-level.ensures) });
       fits = λ h l.
           elim (cases_lt h c.loop-level.level) [
             | inl low ↦
@@ -62,7 +72,7 @@ loop-level-preserved g c =
                 subst (λ (j : ℕ). IsRoom c.args.k j (steps_layouts c.args.k j 0 both) (get_or (map (λ room. vec_capacity room.merged) (set rooms c.loop-level.level room)) j 0) (get_or (map (λ room. vec_capacity room.up) (set rooms c.loop-level.level room)) j 0)) there
                 (subst (λ (n : ℕ). IsRoom c.args.k c.loop-level.level (steps_layouts c.args.k c.loop-level.level 0 both) n (get_or (map (λ room. vec_capacity room.up) (set rooms c.loop-level.level room)) c.loop-level.level 0)) (sym (capacity-set (λ room. vec_capacity room.merged) rooms c.loop-level.level room inside))
                 (subst (λ (n : ℕ). IsRoom c.args.k c.loop-level.level (steps_layouts c.args.k c.loop-level.level 0 both) (vec_capacity room.merged) n) (sym (capacity-set (λ room. vec_capacity room.up) rooms c.loop-level.level room inside))
-                (bounded-room c.args.k c.loop-level.level c.loop-level.carried here c.count_joined-above.result _ _ both e f i.bounded up above)))
+                (bounded-room c.args.k c.loop-level.level c.loop-level.carried here over _ _ both e f i.bounded up above)))
           ];
     }
 
