@@ -42,7 +42,8 @@ impl<T: Clone + Ord> ReqSketch<T> {
     // Clones of the retained items, each with its weight.
     fn clone_pairs(&self) -> Result<Vec<(T, u64)>, AllocError>
         requires clones { (x y : T) → T.is_clone x y → T.cmp x y ≡ Equal }
-        ensures pairs { IfOk result (λ pairs. SamePairs T.cmp (pairs_of self.now.levels) pairs.items) }
+        ensures pairs { IfOk result (λ pairs.
+            SamePairs T.cmp (pairs_of self.now.levels) pairs.items) }
         ensures some { IfErr result (λ e. self.now.n ≢ 0) }
     {
         let mut pairs = Vec::with_capacity(*self.levels.allocator(), self.num_retained)?;
@@ -55,8 +56,9 @@ impl<T: Clone + Ord> ReqSketch<T> {
 
     /// The item that a fraction names; None for an empty sketch.
     ///
-    /// Item clones have to compare equal to the item. `InvalidArgument` exactly where the fraction is of nothing or
-    /// above the whole, whether or not the sketch is empty; any other error is `OutOfMemory`.
+    /// Item clones have to compare equal to the item. `InvalidArgument` exactly where the fraction
+    /// is of nothing or above the whole, whether or not the sketch is empty; any other error is
+    /// `OutOfMemory`.
     pub fn quantile(&self, fraction: Rank, criteria: SearchCriteria) -> Result<Option<T>, Error>
         requires clones { (x y : T) → T.is_clone x y → T.cmp x y ≡ Equal }
         ensures found { IfOk result
@@ -68,7 +70,8 @@ impl<T: Clone + Ord> ReqSketch<T> {
         self.sorted_view()?.quantile(fraction, criteria)
     }
 
-    /// The items that fractions name, one for each; None for an empty sketch. Errors as for one quantile.
+    /// The items that fractions name, one for each; None for an empty sketch. Errors as for one
+    /// quantile.
     pub fn quantiles(
         &self,
         fractions: &[Rank],
@@ -86,14 +89,15 @@ impl<T: Clone + Ord> ReqSketch<T> {
 
     /// The rank of each split point, and last the whole; None for an empty sketch.
     ///
-    /// Item clones have to compare equal to the item. `InvalidArgument` exactly where the split points do not strictly
-    /// increase, whether or not the sketch is empty; any other error is `OutOfMemory`.
+    /// Item clones have to compare equal to the item. `InvalidArgument` exactly where the split
+    /// points do not strictly increase, whether or not the sketch is empty; any other error is
+    /// `OutOfMemory`.
     pub fn cdf(&self, points: &[T], criteria: SearchCriteria) -> Result<Option<Vec<Rank>>, Error>
         requires clones { (x y : T) → T.is_clone x y → T.cmp x y ≡ Equal }
         ensures found { let s = self.now in IfOk result
             (FindsRanks s.n (cdf_of T.cmp criteria (expanded T.cmp (bag_of s.levels)) points.now)) }
-        ensures rises { IfOk result (λ found. IfSome found (λ ranks. IsNonDecreasing (map (λ (r : Rank).
-            r.weight) ranks.items))) }
+        ensures rises { IfOk result (λ found. IfSome found (λ ranks.
+            IsNonDecreasing (map (λ (r : Rank). r.weight) ranks.items))) }
         ensures there { IfOk result (IsFoundAmong self.now.n) }
         ensures refused { IsRefusedUnless (IsIncreasing T.cmp points.now) self.now.n result }
     {
@@ -106,8 +110,8 @@ impl<T: Clone + Ord> ReqSketch<T> {
         requires clones { (x y : T) → T.is_clone x y → T.cmp x y ≡ Equal }
         ensures found { let s = self.now in IfOk result
             (FindsRanks s.n (pmf_of T.cmp criteria (expanded T.cmp (bag_of s.levels)) points.now)) }
-        ensures sums { IfOk result (λ found. IfSome found (λ ranks. sum_by (λ (r : Rank).
-            r.weight) ranks.items ≡ self.now.n)) }
+        ensures sums { IfOk result (λ found. IfSome found (λ ranks.
+            sum_by (λ (r : Rank). r.weight) ranks.items ≡ self.now.n)) }
         ensures there { IfOk result (IsFoundAmong self.now.n) }
         ensures refused { IsRefusedUnless (IsIncreasing T.cmp points.now) self.now.n result }
     {
