@@ -1,5 +1,6 @@
 //! How bytes are written: they wait in a vector, and go out together.
-//! Of what is owed always a beginning is out and the rest waits, also where memory or the output fails.
+//! Of what is owed always a beginning is out and the rest waits, also where memory or the output
+//! fails.
 ghost use Rattle.std.specs.Prelude.{◌≡◌, ◌≤◌, ◌<◌, ◌+◌, ◌++◌, ◌∷◌, length, take, drop, [], IfOk, OnOk, OnErr};
 ghost use Rattle.std.specs.Io.KnownBytes.{Appends, Keeps};
 ghost use Rattle.std.specs.Fmt.{decimal};

@@ -99,7 +99,6 @@ impl<T: KllValue + Ord> Family for KllSketch<T> {
     }
 
     fn load(alloc: Global, bytes: &[u8]) -> Result<Self, Error> {
-        let sketch = KllSketch::deserialize(alloc, bytes)?;
-        Ok(sketch)
+        Ok(KllSketch::deserialize(alloc, bytes)?)
     }
 }

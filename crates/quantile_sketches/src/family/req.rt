@@ -102,7 +102,6 @@ impl<T: ReqValue + Clone + Ord> Family for ReqSketch<T> {
     }
 
     fn load(alloc: Global, bytes: &[u8]) -> Result<Self, Error> {
-        let sketch = ReqSketch::deserialize(alloc, bytes)?;
-        Ok(sketch)
+        Ok(ReqSketch::deserialize(alloc, bytes)?)
     }
 }

@@ -1,18 +1,42 @@
 use Rattle.std.proofs.Common.{◌≡◌, ◌<◌, length, get_or, arith}
-use Rattle.quantile_sketches.proofs.ShortNumbers.{space_there}
+use Rattle.std.proofs.lemmas.Int.Digits.{digits_value_more}
+use Rattle.std.proofs.lemmas.Str.{digit_value_digit}
+use Rattle.quantile_sketches.proofs.ShortNumbers.{few_digits, one_digit_more, all_digits_more, space_there}
 use Rattle.quantile_sketches.proofs.words.short_number.Goals as goal
 use Rattle.quantile_sketches.proofs.words.short_number.Goals.{then-len-text, else-len-text}
 
+pub overflow_mul-number : goal.overflow_mul-number
+overflow_mul-number c =
+    let few = few_digits c.loop-len.len 17 (omega (arith, c.loop-len-test.true, c.min.ensures)) in
+    omega (arith, c.loop-len.invariant.below, few)
+
+pub overflow_add-number : goal.overflow_add-number
+overflow_add-number c =
+    let few = few_digits c.loop-len.len 17 (omega (arith, c.loop-len-test.true, c.min.ensures)) in
+    omega (arith, c.loop-len.invariant.below, few, c.if-is_ascii_digit.ensures.cases)
+
+pub loop-len-preserved : goal.loop-len-preserved
+loop-len-preserved c =
+    let digit = digit_value_digit _ c.if-is_ascii_digit.ensures.cases in
+    let inside : c.loop-len.len < length c.args.text.now = omega (arith, c.loop-len-test.true, c.min.ensures) in record {
+      within = omega (arith, inside);
+      few = omega (arith, c.loop-len-test.true, c.min.ensures);
+      below = one_digit_more c.loop-len.number _ c.loop-len.len c.loop-len.invariant.below (omega (arith, c.if-is_ascii_digit.ensures.cases));
+      digits = all_digits_more c.args.text.now c.loop-len.len inside c.loop-len.invariant.digits (omega (arith, digit, c.if-is_ascii_digit.ensures.cases));
+      value = omega (arith, digit, c.loop-len.invariant.value, digits_value_more 10 c.args.text.now c.loop-len.len inside);
+    }
+
 pub returns : goal.returns
 returns c =
-    let ends : c.leading_number-number.result.1 < length c.args.text.now → get_or c.args.text.now c.leading_number-number.result.1 0 ≡ 32 = elim c.if-len-text.branch [
+    let ends : c.loop-len.len < length c.args.text.now → get_or c.args.text.now c.loop-len.len 0 ≡ 32 = elim c.if-len-text.branch [
       | then-len-text w ↦ λ h. space_there _ c.if-len-text.value w.value-is c.if-text-len-ne32.false
       | else-len-text w ↦ λ h. absurd (omega (arith, h, w.if-len-text))
-    ] in record {
-      within = c.leading_number-number.ensures.within;
+    ] in
+    let few = few_digits c.loop-len.len 18 c.loop-len.invariant.few in record {
+      within = c.loop-len.invariant.within;
       some = omega (arith, c.if-len-eq0.false);
-      digits = c.leading_number-number.ensures.digits;
-      value = c.leading_number-number.ensures.value;
-      bound = c.leading_number-number.ensures.bound;
+      digits = c.loop-len.invariant.digits;
+      value = c.loop-len.invariant.value;
+      bound = omega (arith, c.loop-len.invariant.below, few);
       ends = ends;
     }
