@@ -13,7 +13,7 @@ use Rattle.quantile_sketches.specs.declared.audit.commands.Command.{Command as R
 use Rattle.quantile_sketches.specs.declared.command.Command.{Command}
 use Rattle.quantile_sketches.specs.declared.command.Command.TheVariants.{Run, Rank, Quantile, Cdf, Pmf, Image, Load}
 use Rattle.quantile_sketches.specs.declared.table.TheConstants.{SLOTS}
-use Rattle.quantile_sketches.specs.Lawful.{IsLawful}
+use Rattle.quantile_sketches.specs.RuleLaws.{IsLawful}
 use Rattle.quantile_sketches.specs.Lines.{lines, Serves}
 use Rattle.quantile_sketches.specs.Reader.{Grammar}
 use Rattle.quantile_sketches.specs.Refused.{AreExecuted}

@@ -1,13 +1,13 @@
 -- What commands make of level lengths, coins and shapes hangs on no item.
-use Rattle.std.proofs.Common.{◌≡◌, ℕ, ◌+◌, Bool, true, false, ◌==◌, cond, not, if◌then◌else◌, List, [], ◌∷◌, ◌++◌, map, Option, None, Some, is_some, refl, sym, ap, ap₂, ◌∙◌}
+use Rattle.std.proofs.Common.{◌≡◌, ℕ, zero, suc, ◌+◌, Bool, true, false, ◌==◌, cond, not, if◌then◌else◌, List, [], ◌∷◌, ◌++◌, map, Option, None, Some, is_some, refl, sym, ap, ap₂, ◌∙◌}
 use Rattle.std.proofs.lemmas.List.{map-append}
 use Rattle.std.proofs.lemmas.List.Sums.{sum_by-cons}
 use Rattle.std.specs.Option.{option_and_then, option_map}
 use Rattle.sketch_base.specs.Lengths.{acts_on_lengths}
-use Rattle.sketch_base.specs.Trace.{Action, Put, Pull, Join, Compact, Forget, Clear, Fresh, Turned, Event, Snap, At, Work, World, changed, coins, event_draws}
+use Rattle.sketch_base.specs.Trace.{Action, Put, Pull, Join, Compact, Forget, Clear, Fresh, Turned, Event, Snap, At, Work, World, changed, coins, event_draws, joins_actions}
 use Rattle.quantile_sketches.specs.declared.audit.commands.Command.{Command}
 use Rattle.quantile_sketches.specs.declared.audit.commands.Command.TheVariants.{New, Update, UpdateWeighted, Merge, Reset, RoundTrip}
-use Rattle.quantile_sketches.specs.Lawful.{lengths_by}
+use Rattle.quantile_sketches.specs.RuleLaws.{lengths_by}
 use Rattle.quantile_sketches.specs.Plan.{Plan, start_plan, slot_of, actions_on, events_at, count_of, shape_after, is_refused, accepted_events, events_of, plan_after, plan_from, trace_from, plan_of, trace_of}
 use Rattle.quantile_sketches.specs.Rules.{Rules}
 use Rattle.quantile_sketches.specs.Run.{bare}
@@ -26,6 +26,10 @@ bare_event (At s action) = At s (bare_action action)
 bare_event (Snap s t) = Snap s t
 
 module _ {A : Type 0} where
+  pub bare-joins : (more level : ℕ) → map bare_action (joins_actions {A = A} more level) ≡ joins_actions more level
+  bare-joins zero level = refl
+  bare-joins (suc more) level = ap (λ (l : List (Action Unit)). Join level ∷ l) (bare-joins more (suc level))
+
   pub acts-bare : (actions : List (Action A)) (work : Work (List ℕ)) → acts_on_lengths (map bare_action actions) work ≡ acts_on_lengths actions work
   acts-bare [] work = refl
   acts-bare (Put h x ∷ rest) work = acts-bare rest _

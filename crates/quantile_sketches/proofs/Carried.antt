@@ -18,7 +18,7 @@ use Rattle.quantile_sketches.specs.Calls.{Obeys, in_full}
 use Rattle.quantile_sketches.specs.declared.answer.Refusal.TheVariants.{BadLine, AbsentSlot, Sketch}
 use Rattle.quantile_sketches.specs.declared.audit.commands.Command.{Command}
 use Rattle.quantile_sketches.specs.declared.audit.commands.Command.TheVariants.{New, Update, UpdateWeighted, Merge, Reset, RoundTrip}
-use Rattle.quantile_sketches.specs.Lawful.{IsLawful}
+use Rattle.quantile_sketches.specs.RuleLaws.{IsLawful}
 use Rattle.quantile_sketches.specs.Rules.{Kind}
 use Rattle.quantile_sketches.specs.Step.{Slots, in_slot, Holds, Verdict, Turns, Changes, Cloned, Empties, RoundTrips, JoinsCopy, Merges, CarriesOut, CarriesOutItem, CarriesOutClone}
 use Rattle.quantile_sketches.specs.Steps.{Held, Puts, AreSame, Refuses, IsCopied, IsUpdated, IsWeighted, IsMerged, IsMergedIn, IsDecided, IsDone, IsExecuted}

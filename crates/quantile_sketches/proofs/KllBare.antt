@@ -2,13 +2,13 @@
 use Rattle.std.proofs.Common.{◌≡◌, ℕ, zero, suc, ◌-◌, ◌/◌, ◌%◌, ◌==◌, Bool, true, false, nat_lt, if◌then◌else◌, List, [], ◌∷◌, ◌++◌, length, map, slice_index, refl, sym, ap, ap₂, ◌∙◌}
 use Rattle.std.proofs.lemmas.List.{map-append}
 use Rattle.sketch_base.specs.Lengths.{acts_on_lengths}
-use Rattle.sketch_base.specs.Trace.{Action, Put, Pull, Join, Compact, Fresh, Work}
+use Rattle.sketch_base.specs.Trace.{Action, Put, Pull, Join, Compact, Fresh, Work, joins_actions}
 use Rattle.sketch_base.specs.Bag.{AllButLeftover}
-use Rattle.sketch_kll.specs.Merge.{pull_actions, pulls_actions, joins_actions, taking_actions, merge_actions}
+use Rattle.sketch_kll.specs.Merge.{pull_actions, pulls_actions, taking_actions, merge_actions}
 use Rattle.sketch_kll.specs.Schedule.{are_full, lowest_full, room_actions, update_actions, updated_lengths, updates_actions, lengths_after_actions, passes_at, step_actions, walk_actions, compress_actions}
 use Rattle.sketch_kll.specs.Weighted.{at_digit, puts_actions, entering_actions, weighted_actions, weighted_lengths}
 use Rattle.quantile_sketches.specs.KllRules.{kll_rules}
-use Rattle.quantile_sketches.proofs.Bare.{bare_action, acts-bare, AreBare}
+use Rattle.quantile_sketches.proofs.Bare.{bare_action, acts-bare, AreBare, bare-joins}
 
 module _ (A : Type 0) where
   -- lengths by actions that are the same without their items
@@ -90,10 +90,6 @@ module _ (A : Type 0) where
       map-append bare_action (pull_actions k work.bag) (pulls_actions k more after)
       ∙ ap₂ (λ (xs ys : List (Action Unit)). xs ++ ys) (bare-pull k work.bag)
       (bare-pulls k more after ∙ ap (pulls_actions {A = Unit} k more) (lengths-by (pull_actions k work.bag) (pull_actions k work.bag) work (bare-pull k work.bag)))
-
-  bare-joins : (more level : ℕ) → map bare_action (joins_actions {A = A} more level) ≡ joins_actions more level
-  bare-joins zero level = refl
-  bare-joins (suc more) level = ap (λ (l : List (Action Unit)). Join level ∷ l) (bare-joins more (suc level))
 
   bare-taking : (k : ℕ) (work : Work (List ℕ)) → map bare_action (taking_actions {A = A} k work) ≡ taking_actions k work
   bare-taking k work =

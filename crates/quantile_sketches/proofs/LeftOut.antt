@@ -10,7 +10,7 @@ use Rattle.sketch_base.proofs.Calls.{coins-at}
 use Rattle.sketch_base.proofs.Changes.{changed-own}
 use Rattle.quantile_sketches.specs.declared.audit.commands.Command.{Command}
 use Rattle.quantile_sketches.specs.declared.audit.commands.Command.TheVariants.{New, Update, UpdateWeighted, Merge, Reset, RoundTrip}
-use Rattle.quantile_sketches.specs.Lawful.{IsLawful}
+use Rattle.quantile_sketches.specs.RuleLaws.{IsLawful}
 use Rattle.quantile_sketches.specs.Plan.{Plan, start_plan, events_at, is_refused, accepted_shapes, accepted_events, events_of, plan_after, plan_of, trace_of}
 use Rattle.quantile_sketches.specs.Refused.{is_among, accepted_of, IsRefusedExactly, AreRefused}
 use Rattle.quantile_sketches.specs.Rules.{Rules, Kind}

@@ -1,7 +1,7 @@
 -- Level lengths and coins of runs hang on no item and no bit.
 use Rattle.std.proofs.Common.{ℕ, List, sym, ap, ◌∙◌, Ordering}
 use Rattle.sketch_base.specs.Trace.{Event, World}
-use Rattle.quantile_sketches.specs.Lawful.{AreLawful}
+use Rattle.quantile_sketches.specs.RuleLaws.{AreLawful}
 use Rattle.quantile_sketches.specs.Plan.{Plan}
 use Rattle.quantile_sketches.specs.Rules.{Rules}
 use Rattle.quantile_sketches.specs.Run.{LengthsHangOnNoItem}

@@ -1,11 +1,11 @@
 -- REQ's actions hang on items in their Puts alone.
 use Rattle.std.proofs.Common.{◌≡◌, ℕ, zero, suc, Bool, true, false, if◌then◌else◌, List, [], ◌∷◌, ◌++◌, length, map, refl, ap, ap₂, ◌∙◌}
 use Rattle.std.proofs.lemmas.List.{map-append}
-use Rattle.sketch_base.specs.Trace.{Action, Put, Join}
-use Rattle.sketch_req.specs.Schedule.{Layout, is_full, are_full, layout_at, put_layouts, joined_layouts, compact_level, step_actions, step_layouts, steps_actions, room_actions, walk_actions, joins_actions}
+use Rattle.sketch_base.specs.Trace.{Action, Put, Join, joins_actions}
+use Rattle.sketch_req.specs.Schedule.{Layout, is_full, are_full, layout_at, put_layouts, joined_layouts, compact_level, step_actions, step_layouts, steps_actions, room_actions, walk_actions}
 use Rattle.sketch_req.specs.declared.RankAccuracy.{RankAccuracy}
 use Rattle.quantile_sketches.specs.ReqRules.{req_rules}
-use Rattle.quantile_sketches.proofs.Bare.{bare_action, AreBare}
+use Rattle.quantile_sketches.proofs.Bare.{bare_action, AreBare, bare-joins}
 
 module _ (A : Type 0) where
   bare-step : (k : ℕ) (accuracy : RankAccuracy) (h : ℕ) (layouts : List Layout) → map bare_action (step_actions {A = A} k accuracy h layouts) ≡ step_actions k accuracy h layouts
@@ -27,10 +27,6 @@ module _ (A : Type 0) where
       go : (b : Bool) → map (bare_action {A = A}) (if b then walk_actions k accuracy layouts else []) ≡ (if b then walk_actions k accuracy layouts else [])
       go true = bare-steps k accuracy (length layouts) 0 layouts
       go false = refl
-
-  bare-joins : (more h : ℕ) → map bare_action (joins_actions {A = A} more h) ≡ joins_actions more h
-  bare-joins zero h = refl
-  bare-joins (suc more) h = ap (λ (l : List (Action Unit)). Join h ∷ l) (bare-joins more (suc h))
 
   pub req-bare : AreBare {A = A} req_rules req_rules
   req-bare = record {

@@ -17,10 +17,10 @@ use Rattle.sketch_req.proofs.Bags.{alike-refl, alike-trans, AlikeLevels, levels-
 use Rattle.sketch_req.proofs.Ranks.{weight_is}
 use Rattle.sketch_req.proofs.Unbiased.{AreCompacts, room_compacts, merge_req}
 use Rattle.sketch_req.proofs.Walks.{own-req}
-use Rattle.quantile_sketches.specs.Lawful.{IsLawful}
+use Rattle.quantile_sketches.specs.RuleLaws.{IsLawful}
 use Rattle.quantile_sketches.specs.ReqKind.{req_kind}
 use Rattle.quantile_sketches.proofs.Plans.{not-none}
-use Rattle.quantile_sketches.proofs.ReqLawful.{req_lawful}
+use Rattle.quantile_sketches.proofs.ReqRuleLaws.{req_lawful}
 
 module _ {A : Type 0} (cmp : A → A → Ordering) where
   -- actions that leave the scratch alone do the same whatever it holds

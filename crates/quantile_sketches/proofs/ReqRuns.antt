@@ -44,7 +44,7 @@ use Rattle.quantile_sketches.proofs.LeftOut.{left-out}
 use Rattle.quantile_sketches.proofs.Plans.{run-legal, steady-start, steady-from, along-even}
 use Rattle.quantile_sketches.proofs.ReqAlone.{run-below, run-own, run-unbiased}
 use Rattle.quantile_sketches.proofs.ReqKind.{req_kind_lawful}
-use Rattle.quantile_sketches.proofs.ReqLawful.{req_lawful}
+use Rattle.quantile_sketches.proofs.ReqRuleLaws.{req_lawful}
 use Rattle.quantile_sketches.proofs.ReqLeftOut.{req-left-out}
 use Rattle.quantile_sketches.proofs.ReqTails.{run-exact}
 use Rattle.quantile_sketches.proofs.Streams.{run-ranks, all-counted}

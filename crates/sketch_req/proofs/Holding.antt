@@ -12,7 +12,7 @@ use Rattle.sketch_base.specs.Queries.{SameAnswer}
 use Rattle.sketch_base.specs.Random.{bits_from}
 use Rattle.sketch_base.specs.Trace.{Action, Work, act, acts, alone, bit_of, draws, draws_of, next_bit}
 use Rattle.sketch_base.proofs.Entries.{SameAnswer-itself}
-use Rattle.sketch_base.proofs.Everywhere.{AllIn, all-alike, all-compaction, all-alike-levels, all-flat, all-by-level, all-map}
+use Rattle.sketch_base.proofs.AllParts.{AllIn, all-alike, all-compaction, all-alike-levels, all-flat, all-by-level, all-map}
 use Rattle.sketch_req.specs.Actions.{bag_of, coin_kind}
 use Rattle.sketch_req.specs.Level.{Level, taken_side}
 use Rattle.sketch_req.specs.Schedule.{Layout, new_layout, layout_of, layouts_of, layout_at, nominal, nominal_sum, retained_of, is_full, are_full, taken, compacted, compact_level, compacted_at, step_layouts, steps_actions, steps_layouts, walk_layouts, room_layouts, filled}

@@ -1,6 +1,6 @@
 use Rattle.std.proofs.Common.{rules, ◌≡◌, ◌∙◌, sym, ap, arith, true, false, is_gt}
 use Rattle.std.specs.Prelude.{IsTrue}
-use Rattle.sketch_req.proofs.Wholes.{retained_told}
+use Rattle.sketch_req.proofs.ReadLevels.{retained_told}
 use Rattle.sketch_req.proofs.sketch.image.is_legal.Goals as goal
 use Rattle.sketch_req.proofs.sketch.image.is_legal.Goals.{then-n-eq0-via-then-n-eq0, then-n-eq0-via-else-n-eq0+then-count_items-gt-MAX_ITEMS, then-n-eq0-via-else-n-eq0+else-count_items-gt-MAX_ITEMS+then-is_gt}
 

@@ -4,10 +4,10 @@ use Rattle.std.proofs.lemmas.Bool.{cases_Bool, false≢true, ltb-false, and_part
 use Rattle.sketch_base.specs.Bag.{Taken, AllButLeftover, Lowest, Greatest}
 use Rattle.sketch_base.specs.Lengths.{acts_on_lengths, lengths_after, Along, TakesFew, LeavesTail}
 use Rattle.sketch_base.specs.Ranks.{true_ranks}
-use Rattle.sketch_base.specs.Trace.{Action, Put, Pull, Join, Compact, Forget, Clear, Event, Snap, At, Work, World}
+use Rattle.sketch_base.specs.Trace.{Action, Put, Pull, Join, Compact, Forget, Clear, Event, Snap, At, Work, World, joins_actions}
 use Rattle.sketch_base.proofs.Changes.{changed-there, changed-itself}
 use Rattle.sketch_base.proofs.Lengths.{obeys}
-use Rattle.sketch_req.specs.Schedule.{Layout, counts_of, retained_of, update_actions, update_layouts, joined_layouts, joins_actions, merge_actions, merge_layouts, room_actions}
+use Rattle.sketch_req.specs.Schedule.{Layout, counts_of, retained_of, update_actions, update_layouts, joined_layouts, merge_actions, merge_layouts, room_actions}
 use Rattle.sketch_req.specs.ScheduleLaws.{IsLegalFrom, merge_events}
 use Rattle.sketch_req.specs.Sections.{IsLegalK}
 use Rattle.sketch_req.specs.declared.RankAccuracy.{RankAccuracy}
@@ -17,11 +17,11 @@ use Rattle.sketch_req.proofs.LegalLayouts.{new_is, filled_are, joined_are}
 use Rattle.sketch_req.proofs.LegalTraces.{lengths_at, along-even, update_legal, update_lengths, merge_legal, merge_lengths}
 use Rattle.sketch_req.proofs.LegalWalks.{room_leads}
 use Rattle.sketch_req.proofs.Unbiased.{AreCompacts, room_compacts, ranks-update}
-use Rattle.quantile_sketches.specs.Lawful.{lengths_by, IsLegalBy, DoWell, AreLawful}
+use Rattle.quantile_sketches.specs.RuleLaws.{lengths_by, IsLegalBy, DoWell, AreLawful}
 use Rattle.quantile_sketches.specs.Plan.{events_at}
 use Rattle.quantile_sketches.specs.ReqKind.{FitsReq, MeetsReq}
 use Rattle.quantile_sketches.specs.ReqRules.{ReqShape, new_shape, may_be_k, is_same, is_too_much, req_rules}
-use Rattle.quantile_sketches.proofs.KllLawful.{unless-there}
+use Rattle.quantile_sketches.proofs.KllRuleLaws.{unless-there}
 use Rattle.quantile_sketches.proofs.Plans.{not-none}
 
 pub not-false : (b : Bool) → not b ≡ false → b ≡ true
