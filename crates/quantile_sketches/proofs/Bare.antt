@@ -25,11 +25,11 @@ abbrev pub bare_event : {A : Type 0} → Event A → Event Unit
 bare_event (At s action) = At s (bare_action action)
 bare_event (Snap s t) = Snap s t
 
-module _ {A : Type 0} where
-  pub bare-joins : (more level : ℕ) → map bare_action (joins_actions {A = A} more level) ≡ joins_actions more level
-  bare-joins zero level = refl
-  bare-joins (suc more) level = ap (λ (l : List (Action Unit)). Join level ∷ l) (bare-joins more (suc level))
+pub bare-joins : (A : Type 0) (more level : ℕ) → map bare_action (joins_actions {A = A} more level) ≡ joins_actions more level
+bare-joins A zero level = refl
+bare-joins A (suc more) level = ap (λ (l : List (Action Unit)). Join level ∷ l) (bare-joins A more (suc level))
 
+module _ {A : Type 0} where
   pub acts-bare : (actions : List (Action A)) (work : Work (List ℕ)) → acts_on_lengths (map bare_action actions) work ≡ acts_on_lengths actions work
   acts-bare [] work = refl
   acts-bare (Put h x ∷ rest) work = acts-bare rest _

@@ -94,7 +94,7 @@ module _ (A : Type 0) where
   bare-taking : (k : ℕ) (work : Work (List ℕ)) → map bare_action (taking_actions {A = A} k work) ≡ taking_actions k work
   bare-taking k work =
       map-append bare_action (pulls_actions k (slice_index work.scratch 0) work) (joins_actions (length work.scratch - 1) 1)
-      ∙ ap₂ (λ (xs ys : List (Action Unit)). xs ++ ys) (bare-pulls k (slice_index work.scratch 0) work) (bare-joins (length work.scratch - 1) 1)
+      ∙ ap₂ (λ (xs ys : List (Action Unit)). xs ++ ys) (bare-pulls k (slice_index work.scratch 0) work) (bare-joins A (length work.scratch - 1) 1)
 
   pub bare-merge : (k : ℕ) (work : Work (List ℕ)) → map bare_action (merge_actions {A = A} k work) ≡ merge_actions k work
   bare-merge k work =

@@ -40,6 +40,6 @@ module _ (A : Type 0) where
     weighted = λ s lengths x weight. refl;
     merge = λ s other work.
         map-append bare_action (joins_actions (length other.layouts) 0) (room_actions s.k s.accuracy (joined_layouts s.k s.layouts other.layouts))
-        ∙ ap₂ (λ (xs ys : List (Action Unit)). xs ++ ys) (bare-joins (length other.layouts) 0) (bare-room s.k s.accuracy (joined_layouts s.k s.layouts other.layouts));
+        ∙ ap₂ (λ (xs ys : List (Action Unit)). xs ++ ys) (bare-joins A (length other.layouts) 0) (bare-room s.k s.accuracy (joined_layouts s.k s.layouts other.layouts));
     read_back = refl;
   }
