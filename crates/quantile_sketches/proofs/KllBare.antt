@@ -2,7 +2,7 @@
 use Rattle.std.proofs.Common.{◌≡◌, ℕ, zero, suc, ◌-◌, ◌/◌, ◌%◌, ◌==◌, Bool, true, false, nat_lt, if◌then◌else◌, List, [], ◌∷◌, ◌++◌, length, map, slice_index, refl, sym, ap, ap₂, ◌∙◌}
 use Rattle.std.proofs.lemmas.List.{map-append}
 use Rattle.sketch_base.specs.Lengths.{acts_on_lengths}
-use Rattle.sketch_base.specs.Trace.{Action, Put, Pull, Join, Compact, Fresh, Work, joins_actions}
+use Rattle.sketch_base.specs.Trace.{Action, Put, Pull, Compact, Fresh, Work, joins_actions}
 use Rattle.sketch_base.specs.Bag.{AllButLeftover}
 use Rattle.sketch_kll.specs.Merge.{pull_actions, pulls_actions, taking_actions, merge_actions}
 use Rattle.sketch_kll.specs.Schedule.{are_full, lowest_full, room_actions, update_actions, updated_lengths, updates_actions, lengths_after_actions, passes_at, step_actions, walk_actions, compress_actions}

@@ -1,7 +1,7 @@
 -- REQ's actions hang on items in their Puts alone.
 use Rattle.std.proofs.Common.{◌≡◌, ℕ, zero, suc, Bool, true, false, if◌then◌else◌, List, [], ◌∷◌, ◌++◌, length, map, refl, ap, ap₂, ◌∙◌}
 use Rattle.std.proofs.lemmas.List.{map-append}
-use Rattle.sketch_base.specs.Trace.{Action, Put, Join, joins_actions}
+use Rattle.sketch_base.specs.Trace.{Action, Put, joins_actions}
 use Rattle.sketch_req.specs.Schedule.{Layout, is_full, are_full, layout_at, put_layouts, joined_layouts, compact_level, step_actions, step_layouts, steps_actions, room_actions, walk_actions}
 use Rattle.sketch_req.specs.declared.RankAccuracy.{RankAccuracy}
 use Rattle.quantile_sketches.specs.ReqRules.{req_rules}
