@@ -9,7 +9,7 @@ use Rattle.sketch_base.proofs.common.counting.part_from.Goals.{then-loop-step-te
 pub loop-step-preserved : goal.loop-step-preserved
 loop-step-preserved g c =
     let test = counted g.T.Ord.cmp c.args.query.now c.args.criteria in
-    let items  = c.args.items.now in
+    let items = c.args.items.now in
     let item = c.index-items-start.result in
     let more = counts-passed test items (c.loop-step.start + c.loop-step.step - 1) item
     (counted-parted g.met.T.Ord.total items c.args.query.now c.args.criteria c.requires.sorted) (omega (arith, c.loop-step-test.true, c.loop-step.invariant.1.0, c.loop-step.invariant.1.1)) (ap test (sym c.index-items-start.is) ∙ (sym c.counts.ensures ∙ c.if-counts.true)) in
@@ -18,7 +18,7 @@ loop-step-preserved g c =
 pub returns-clause-ends : goal.returns-clause-ends
 returns-clause-ends g c =
     let test = counted g.T.Ord.cmp c.args.query.now c.args.criteria in
-    let items  = c.args.items.now in
+    let items = c.args.items.now in
     let past : count_by test items ≤ c.loop-step.start + c.min.result = elim c.loop-step-test.branch [
       | then-loop-step-test+else-counts w ↦
           let few = counts-failed test items (c.loop-step.start + c.loop-step.step - 1) w.index-items-start.result
