@@ -46,7 +46,8 @@ impl<T: Clone + Ord> ReqSketch<T> {
             SamePairs T.cmp (pairs_of self.now.levels) pairs.items) }
         ensures some { IfErr result (λ e. self.now.n ≢ 0) }
     {
-        let mut pairs = Vec::with_capacity(*self.levels.allocator(), self.num_retained)?;
+        let levels = &self.levels;
+        let mut pairs = Vec::with_capacity(*levels.compactors.allocator(), levels.num_retained)?;
         for (item, weight) in self.iter() {
             let copy = item.clone()?;
             pairs.push_reserved((copy, weight));

@@ -31,7 +31,7 @@ push_reserved-requires g c =
     let road = YieldsList-from_first (λ (x : Bor g.row.T.Denot × ℕ). (x.0.now, x.1)) (λ (rest : List (g.row.T.Denot × ℕ)). rest) all (c.into_iter-item-iterator.ensures.into_iter_gives ∙ c.iter-item-items.ensures.pairs) in
     let turn = YieldsList-turn road c.loop-item.yielded _ c.loop-item.yielded_by _ _ (c.in-Some.item, c.in-Some.weight) c.in-Some.is c.next.ensures.steps in
     let held = ap (λ (s : Req g.row.T.Denot). length (pairs_of s.levels)) c.self.view_is in
-    omega (arith, i.len, i.room, c.in_ok-pairs.ensures.capacity, c.self.invariant.retained_is, length-pairs c.self.inside.levels.items, held, turn.0)
+    omega (arith, i.len, i.room, c.in_ok-pairs.ensures.capacity, c.self.invariant.retained_is, length-pairs c.self.inside.levels.compactors.items, held, turn.0)
 
 pub returns-clause-pairs : goal.returns-clause-pairs
 returns-clause-pairs g c =

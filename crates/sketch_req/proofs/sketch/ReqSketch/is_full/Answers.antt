@@ -8,5 +8,5 @@ use Rattle.sketch_req.proofs.sketch.ReqSketch.is_full.Goals as goal
 
 pub returns-else-self : goal.returns-else-self
 returns-else-self g c =
-    let e : retained (bag_of c.args.self.now.levels) ≡ c.self.inside.num_retained = ap (λ (s : Req g.row.T.Denot). retained (bag_of s.levels)) (sym c.self.view_is) ∙ (retained_is c.self.inside.levels.items ∙ sym c.self.invariant.retained_is) in
+    let e : retained (bag_of c.args.self.now.levels) ≡ c.self.inside.levels.num_retained = ap (λ (s : Req g.row.T.Denot). retained (bag_of s.levels)) (sym c.self.view_is) ∙ (retained_is c.self.inside.levels.compactors.items ∙ sym c.self.invariant.retained_is) in
     grind (arith, common_steps, e)

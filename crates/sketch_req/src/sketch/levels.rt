@@ -1,0 +1,177 @@
+//! The levels of a sketch: the sums over them, and how an item comes in.
+//! The walk over them stands in `walk`, how other levels are joined in `merge`.
+ghost use Rattle.std.specs.Prelude.{◌≡◌, ◌+◌, ◌-◌, ◌^◌, ◌<◌, ◌≤◌, [], length, vec_len, vec_capacity, IfErr, OnOk, OnErr};
+ghost use Rattle.std.specs.List.{All};
+ghost use Rattle.sketch_base.specs.declared.error.ErrorKind.TheVariants.{OutOfMemory};
+ghost use Rattle.sketch_base.specs.Query.{counted};
+ghost use Rattle.sketch_req.specs.Rank.{counted_weight};
+ghost use Rattle.sketch_req.specs.Schedule.{layouts_of, room_layouts, retained_of, weight_of, nominal_sum};
+ghost use Rattle.sketch_req.specs.Sections.{IsLegalK};
+ghost use Rattle.sketch_req.specs.Walk.{AreLevels, AreActed, appended_first, room_of};
+
+use crate::RankAccuracy;
+use crate::compactor::Compactor;
+use crate::merging::Room;
+use sketch_base::common::SearchCriteria;
+use sketch_base::common::random::RandomBits;
+use sketch_base::error::Error;
+
+/// The levels of a sketch, from level 0 up, and the sums over them.
+#[derive(Debug, Drop)]
+pub(crate) struct Levels<T: Clone + Ord> {
+    pub(crate) k: u16,
+    pub(crate) rank_accuracy: RankAccuracy,
+    pub(crate) compactors: Vec<Compactor<T>>,
+    pub(crate) num_retained: usize,
+    /// The sum of the nominal capacities.
+    pub(crate) capacity: usize,
+}
+
+impl<T: Clone + Ord> Levels<T> {
+    // These levels, with their sums.
+    pub(crate) fn new(k: u16, rank_accuracy: RankAccuracy, compactors: Vec<Compactor<T>>) -> Self
+        requires levels { AreLevels T.cmp k rank_accuracy 0 compactors.items }
+        requires few { retained_of (layouts_of compactors.items) < 2 ^ 32 }
+        ensures k { result.k ≡ k }
+        ensures accuracy { result.rank_accuracy ≡ rank_accuracy }
+        ensures compactors { result.compactors ≡ compactors }
+        ensures retained { result.num_retained ≡ retained_of (layouts_of result.compactors.items) }
+        ensures capacity { result.capacity
+            ≡ nominal_sum result.k (layouts_of result.compactors.items) }
+    {
+        let mut levels = Levels {
+            k,
+            rank_accuracy,
+            compactors,
+            num_retained: 0,
+            capacity: 0,
+        };
+        levels.add_up();
+        levels
+    }
+
+    // Adds up how many items the levels hold, and their nominal capacities.
+    pub(crate) fn add_up(&mut self)
+        requires levels { AreLevels T.cmp self.old.k self.old.rank_accuracy 0 self.old.compactors.items }
+        requires few { retained_of (layouts_of self.old.compactors.items) < 2 ^ 32 }
+        ensures k { self.new.k ≡ self.old.k }
+        ensures accuracy { self.new.rank_accuracy ≡ self.old.rank_accuracy }
+        ensures compactors { self.new.compactors ≡ self.old.compactors }
+        ensures retained { self.new.num_retained ≡ retained_of (layouts_of self.old.compactors.items) }
+        ensures capacity { self.new.capacity
+            ≡ nominal_sum self.old.k (layouts_of self.old.compactors.items) }
+    {
+        self.num_retained = count_items(self.compactors.as_slice());
+        self.capacity = sum_capacities(self.k, self.compactors.as_slice());
+    }
+
+    // The weight of the items that a query counts.
+    pub(crate) fn weight_counted(&self, item: &T, criteria: SearchCriteria) -> u64
+        requires { weight_of (layouts_of self.now.compactors.items) < 2 ^ 64 }
+        ensures { result
+            ≡ counted_weight (counted T.cmp item.now criteria) self.now.compactors.items }
+    {
+        let mut weight = 0;
+        let mut level = self.compactors.len();
+        while level > 0 {
+            level -= 1;
+            let counted = self.compactors[level].count(item, criteria);
+            weight = 2 * weight + counted as u64;
+        }
+        weight
+    }
+
+    // Puts an item last into level 0.
+    fn append(&mut self, item: T) -> Result<(), Error>
+        requires some { 0 < length self.old.compactors.items }
+        requires few { retained_of (layouts_of self.old.compactors.items) < 4294967295 }
+        requires retained { self.old.num_retained
+            ≡ retained_of (layouts_of self.old.compactors.items) }
+        ensures k { self.new.k ≡ self.old.k }
+        ensures accuracy { self.new.rank_accuracy ≡ self.old.rank_accuracy }
+        ensures ok { OnOk result
+            (self.new.compactors.items ≡ appended_first self.old.compactors.items item) }
+        ensures err { OnErr result (self.new.compactors.items ≡ self.old.compactors.items) }
+        ensures retained { self.new.num_retained
+            ≡ retained_of (layouts_of self.new.compactors.items) }
+        ensures capacity { self.new.capacity ≡ self.old.capacity }
+        ensures len { vec_len self.new.compactors ≡ vec_len self.old.compactors }
+        ensures room { vec_capacity self.new.compactors ≡ vec_capacity self.old.compactors }
+        ensures memory { IfErr result (λ e. e ≡ OutOfMemory) }
+    {
+        self.compactors[0].append(item)?;
+        self.num_retained += 1;
+        Ok(())
+    }
+
+    // Puts an item last into level 0, and then walks over the levels where these are full together.
+    // What can fail comes first.
+    pub(crate) fn take_item<B: RandomBits>(
+        &mut self,
+        item: T,
+        rooms: &mut Vec<Room<T>>,
+        coins: &mut B,
+    ) -> Result<(), Error>
+        requires legal { IsLegalK self.old.k }
+        requires levels { AreLevels T.cmp self.old.k self.old.rank_accuracy 0 self.old.compactors.items }
+        requires some { 0 < length self.old.compactors.items }
+        requires fits { weight_of (layouts_of self.old.compactors.items) < 2 ^ 64 - 1 }
+        requires few { retained_of (layouts_of self.old.compactors.items) < 4294967295 }
+        requires retained { self.old.num_retained
+            ≡ retained_of (layouts_of self.old.compactors.items) }
+        requires capacity { self.old.capacity
+            ≡ nominal_sum self.old.k (layouts_of self.old.compactors.items) }
+        requires rooms { All (λ room. (room.up.items ≡ []) × (room.merged.items ≡ [])) rooms.old.items }
+        ensures k { self.new.k ≡ self.old.k }
+        ensures accuracy { self.new.rank_accuracy ≡ self.old.rank_accuracy }
+        ensures acted { OnOk result (AreActed T.cmp B.bit B.next coins.old coins.new
+            self.old.k self.old.rank_accuracy
+            (room_of self.old.k self.old.rank_accuracy (appended_first self.old.compactors.items item))
+            (room_layouts self.old.k (layouts_of (appended_first self.old.compactors.items item))) 0
+            (appended_first self.old.compactors.items item) self.new.compactors.items) }
+        ensures err { OnErr result ((self.new.compactors.items ≡ self.old.compactors.items)
+            × (coins.new ≡ coins.old)) }
+        ensures retained { self.new.num_retained
+            ≡ retained_of (layouts_of self.new.compactors.items) }
+        ensures capacity { self.new.capacity
+            ≡ nominal_sum self.old.k (layouts_of self.new.compactors.items) }
+        ensures rooms { All (λ room. (room.up.items ≡ []) × (room.merged.items ≡ [])) rooms.new.items }
+        ensures memory { IfErr result (λ e. e ≡ OutOfMemory) }
+    {
+        if self.num_retained + 1 < self.capacity {
+            return self.append(item);
+        }
+        self.compactors.reserve(1)?;
+        Self::add_rooms(rooms, 1)?;
+        self.compactors[0].reserve_to_sort(&mut rooms[0])?;
+        self.reserve_walk(1, rooms)?;
+        self.append(item)?;
+        self.walk(rooms, coins);
+        Ok(())
+    }
+}
+
+// How many items the levels hold.
+pub(crate) fn count_items<T: Clone + Ord>(levels: &[Compactor<T>]) -> usize
+    requires { retained_of (layouts_of levels.now) < 2 ^ 64 }
+    ensures { result ≡ retained_of (layouts_of levels.now) }
+{
+    let mut count = 0;
+    for level in levels {
+        count += level.num_items() as usize;
+    }
+    count
+}
+
+// The sum of the levels' nominal capacities.
+fn sum_capacities<T: Clone + Ord>(k: u16, levels: &[Compactor<T>]) -> usize
+    requires few { length levels.now ≤ 64 }
+    requires levels { (accuracy : RankAccuracy) × AreLevels T.cmp k accuracy 0 levels.now }
+    ensures { result ≡ nominal_sum k (layouts_of levels.now) }
+{
+    let mut sum = 0;
+    for level in levels {
+        sum += level.nominal_capacity() as usize;
+    }
+    sum
+}
