@@ -11,10 +11,7 @@ ghost use Rattle.sketch_req.specs.Walk.{AreLevels, AreActed, appended_first, roo
 
 use crate::RankAccuracy;
 use crate::compactor::Compactor;
-use crate::merging::Room;
 use sketch_base::common::SearchCriteria;
-use sketch_base::common::random::RandomBits;
-use sketch_base::error::Error;
 
 /// The levels of a sketch, from level 0 up, and the sums over them.
 #[derive(Debug, Drop)]
@@ -79,75 +76,6 @@ impl<T: Clone + Ord> Levels<T> {
             weight = 2 * weight + counted as u64;
         }
         weight
-    }
-
-    // Puts an item last into level 0.
-    fn append(&mut self, item: T) -> Result<(), Error>
-        requires some { 0 < length self.old.compactors.items }
-        requires few { retained_of (layouts_of self.old.compactors.items) < 4294967295 }
-        requires retained { self.old.num_retained
-            ≡ retained_of (layouts_of self.old.compactors.items) }
-        ensures k { self.new.k ≡ self.old.k }
-        ensures accuracy { self.new.rank_accuracy ≡ self.old.rank_accuracy }
-        ensures ok { OnOk result
-            (self.new.compactors.items ≡ appended_first self.old.compactors.items item) }
-        ensures err { OnErr result (self.new.compactors.items ≡ self.old.compactors.items) }
-        ensures retained { self.new.num_retained
-            ≡ retained_of (layouts_of self.new.compactors.items) }
-        ensures capacity { self.new.capacity ≡ self.old.capacity }
-        ensures len { vec_len self.new.compactors ≡ vec_len self.old.compactors }
-        ensures room { vec_capacity self.new.compactors ≡ vec_capacity self.old.compactors }
-        ensures memory { IfErr result (λ e. e ≡ OutOfMemory) }
-    {
-        self.compactors[0].append(item)?;
-        self.num_retained += 1;
-        Ok(())
-    }
-
-    // Puts an item last into level 0, and then walks over the levels where these are full together.
-    // What can fail comes first.
-    pub(crate) fn take_item<B: RandomBits>(
-        &mut self,
-        item: T,
-        rooms: &mut Vec<Room<T>>,
-        coins: &mut B,
-    ) -> Result<(), Error>
-        requires legal { IsLegalK self.old.k }
-        requires levels { AreLevels T.cmp self.old.k self.old.rank_accuracy 0 self.old.compactors.items }
-        requires some { 0 < length self.old.compactors.items }
-        requires fits { weight_of (layouts_of self.old.compactors.items) < 2 ^ 64 - 1 }
-        requires few { retained_of (layouts_of self.old.compactors.items) < 4294967295 }
-        requires retained { self.old.num_retained
-            ≡ retained_of (layouts_of self.old.compactors.items) }
-        requires capacity { self.old.capacity
-            ≡ nominal_sum self.old.k (layouts_of self.old.compactors.items) }
-        requires rooms { All (λ room. (room.up.items ≡ []) × (room.merged.items ≡ [])) rooms.old.items }
-        ensures k { self.new.k ≡ self.old.k }
-        ensures accuracy { self.new.rank_accuracy ≡ self.old.rank_accuracy }
-        ensures acted { OnOk result (AreActed T.cmp B.bit B.next coins.old coins.new
-            self.old.k self.old.rank_accuracy
-            (room_of self.old.k self.old.rank_accuracy (appended_first self.old.compactors.items item))
-            (room_layouts self.old.k (layouts_of (appended_first self.old.compactors.items item))) 0
-            (appended_first self.old.compactors.items item) self.new.compactors.items) }
-        ensures err { OnErr result ((self.new.compactors.items ≡ self.old.compactors.items)
-            × (coins.new ≡ coins.old)) }
-        ensures retained { self.new.num_retained
-            ≡ retained_of (layouts_of self.new.compactors.items) }
-        ensures capacity { self.new.capacity
-            ≡ nominal_sum self.old.k (layouts_of self.new.compactors.items) }
-        ensures rooms { All (λ room. (room.up.items ≡ []) × (room.merged.items ≡ [])) rooms.new.items }
-        ensures memory { IfErr result (λ e. e ≡ OutOfMemory) }
-    {
-        if self.num_retained + 1 < self.capacity {
-            return self.append(item);
-        }
-        self.compactors.reserve(1)?;
-        Self::add_rooms(rooms, 1)?;
-        self.compactors[0].reserve_to_sort(&mut rooms[0])?;
-        self.reserve_walk(1, rooms)?;
-        self.append(item)?;
-        self.walk(rooms, coins);
-        Ok(())
     }
 }
 
