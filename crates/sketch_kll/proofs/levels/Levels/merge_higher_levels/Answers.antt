@@ -12,18 +12,20 @@ use Rattle.sketch_kll.proofs.levels.Levels.merge_higher_levels.Goals as goal
 pub merge_runs_back-requires-clause-flat : goal.merge_runs_back-requires-clause-flat
 merge_runs_back-requires-clause-flat g c =
     let x = c.args.self.now in
+    let same : c.take_away-items.result.items ≡ x.items.items = ap (λ v. v.items) c.take_away-items.ensures.taken in
     let n = length-bounds x.items.items x.bounds.items c.requires.stored.flat in
     let p : Prepared g.T.Ord.cmp x.items.items x.bounds.items c.args.runs.now c.deref.result.now _ =
     prepared g.T.Ord.cmp x.items.items c.args.upper.items x.bounds.items c.args.runs.now c.deref.result.now c.requires.stored.flat c.requires.runs c.requires.stored.sorted c.requires.some_level c.requires.some (omega (arith, n, c.requires.stored.few)) c.requires.few (c.deref.ensures.value ∙ c.add_levels.ensures.items) in
-    p.fits
+    subst (λ (l : List g.row.T.Denot). IsFlat l c.deref.result.now) (sym same) p.fits
 
 pub merge_runs_back-requires-clause-sorted : goal.merge_runs_back-requires-clause-sorted
 merge_runs_back-requires-clause-sorted g c =
     let x = c.args.self.now in
+    let same : c.take_away-items.result.items ≡ x.items.items = ap (λ v. v.items) c.take_away-items.ensures.taken in
     let n = length-bounds x.items.items x.bounds.items c.requires.stored.flat in
     let p : Prepared g.T.Ord.cmp x.items.items x.bounds.items c.args.runs.now c.deref.result.now _ =
     prepared g.T.Ord.cmp x.items.items c.args.upper.items x.bounds.items c.args.runs.now c.deref.result.now c.requires.stored.flat c.requires.runs c.requires.stored.sorted c.requires.some_level c.requires.some (omega (arith, n, c.requires.stored.few)) c.requires.few (c.deref.ensures.value ∙ c.add_levels.ensures.items) in
-    p.sorted
+    subst (λ (l : List g.row.T.Denot). UpperSorted g.T.Ord.cmp (levels_in l c.deref.result.now)) (sym same) p.sorted
 
 pub add_bounds-requires-clause-zero : goal.add_bounds-requires-clause-zero
 add_bounds-requires-clause-zero g c =
@@ -63,6 +65,7 @@ total_at-self-requires-clause-total g c =
 pub returns : goal.returns
 returns g c =
     let x = c.args.self.now in
+    let same : c.take_away-items.result.items ≡ x.items.items = ap (λ v. v.items) c.take_away-items.ensures.taken in
     let n = length-bounds x.items.items x.bounds.items c.requires.stored.flat in
     let cmp = g.T.Ord.cmp in
     let us : List (List g.row.T.Denot) = levels_in c.args.upper.items (drop 1 c.args.runs.now) in
@@ -76,8 +79,10 @@ returns g c =
     let its : List g.row.T.Denot = c.reverse.new.self.items in
     let F : List g.row.T.Denot → List ℕ → Type 0 = λ (y : List g.row.T.Denot) (b : List ℕ). IsFlat y b × SameLevels cmp (joined cmp ls us) (levels_in y b) × UpperSorted cmp (levels_in y b) in
     let r = c.merge_runs_back.ensures in
+    let told : SameLevels cmp (joined cmp (levels_in x.items.items c.deref.result.now) us) (levels_in (reverse c.merge_runs_back.new.merged.items) (joined_bounds c.deref.result.now c.args.runs.now)) =
+    subst (λ (l : List g.row.T.Denot). SameLevels cmp (joined cmp (levels_in l c.deref.result.now) us) (levels_in (reverse c.merge_runs_back.new.merged.items) (joined_bounds c.deref.result.now c.args.runs.now))) same r.levels in
     let here : F (reverse c.merge_runs_back.new.merged.items) (joined_bounds c.deref.result.now c.args.runs.now) =
-    (r.flat, subst (λ (l : List (List g.row.T.Denot)). SameLevels cmp l (levels_in (reverse c.merge_runs_back.new.merged.items) (joined_bounds c.deref.result.now c.args.runs.now))) p.same r.levels, r.sorted) in
+    (r.flat, subst (λ (l : List (List g.row.T.Denot)). SameLevels cmp l (levels_in (reverse c.merge_runs_back.new.merged.items) (joined_bounds c.deref.result.now c.args.runs.now))) p.same told, r.sorted) in
     let there : F its wide = subst (λ (y : List g.row.T.Denot). F y wide) (sym c.reverse.ensures.items) (subst (λ (b : List ℕ). F (reverse c.merge_runs_back.new.merged.items) b) (sym (ew ∙ eb)) here) in
     let m = length-bounds c.args.upper.items (drop 1 c.args.runs.now) c.requires.runs in
     let s : JoinedSize ls us (levels_in its wide) = joined_size cmp ls us (levels_in its wide) c.requires.stored.some c.requires.stored.few (omega (arith, m, length-drop 1 c.args.runs.now, c.requires.few)) there.1 in
