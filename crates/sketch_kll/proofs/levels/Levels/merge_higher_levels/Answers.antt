@@ -12,7 +12,7 @@ use Rattle.sketch_kll.proofs.levels.Levels.merge_higher_levels.Goals as goal
 pub merge_runs_back-requires-clause-flat : goal.merge_runs_back-requires-clause-flat
 merge_runs_back-requires-clause-flat g c =
     let x = c.args.self.now in
-    let same : c.replace-items.result.items ≡ x.items.items = search rules in
+    let same : c.take_away-items.result.items ≡ x.items.items = ap (λ v. v.items) c.take_away-items.ensures.taken in
     let n = length-bounds x.items.items x.bounds.items c.requires.stored.flat in
     let p : Prepared g.T.Ord.cmp x.items.items x.bounds.items c.args.runs.now c.deref.result.now _ =
     prepared g.T.Ord.cmp x.items.items c.args.upper.items x.bounds.items c.args.runs.now c.deref.result.now c.requires.stored.flat c.requires.runs c.requires.stored.sorted c.requires.some_level c.requires.some (omega (arith, n, c.requires.stored.few)) c.requires.few (c.deref.ensures.value ∙ c.add_levels.ensures.items) in
@@ -21,7 +21,7 @@ merge_runs_back-requires-clause-flat g c =
 pub merge_runs_back-requires-clause-sorted : goal.merge_runs_back-requires-clause-sorted
 merge_runs_back-requires-clause-sorted g c =
     let x = c.args.self.now in
-    let same : c.replace-items.result.items ≡ x.items.items = search rules in
+    let same : c.take_away-items.result.items ≡ x.items.items = ap (λ v. v.items) c.take_away-items.ensures.taken in
     let n = length-bounds x.items.items x.bounds.items c.requires.stored.flat in
     let p : Prepared g.T.Ord.cmp x.items.items x.bounds.items c.args.runs.now c.deref.result.now _ =
     prepared g.T.Ord.cmp x.items.items c.args.upper.items x.bounds.items c.args.runs.now c.deref.result.now c.requires.stored.flat c.requires.runs c.requires.stored.sorted c.requires.some_level c.requires.some (omega (arith, n, c.requires.stored.few)) c.requires.few (c.deref.ensures.value ∙ c.add_levels.ensures.items) in
@@ -65,7 +65,7 @@ total_at-self-requires-clause-total g c =
 pub returns : goal.returns
 returns g c =
     let x = c.args.self.now in
-    let same : c.replace-items.result.items ≡ x.items.items = search rules in
+    let same : c.take_away-items.result.items ≡ x.items.items = ap (λ v. v.items) c.take_away-items.ensures.taken in
     let n = length-bounds x.items.items x.bounds.items c.requires.stored.flat in
     let cmp = g.T.Ord.cmp in
     let us : List (List g.row.T.Denot) = levels_in c.args.upper.items (drop 1 c.args.runs.now) in

@@ -1,7 +1,9 @@
-use Rattle.std.proofs.Common.{◌≡◌, ℕ, List, ◌+◌, ◌-◌, ◌≤◌, ◌++◌, suc, length, get_or, drop, reverse, sym, ap, ap₂, subst, ◌∙◌, arith, length-drop, length-take-le}
+use Rattle.std.proofs.Common.{◌≡◌, ℕ, List, ◌+◌, ◌-◌, ◌≤◌, ◌++◌, suc, length, get_or, drop, reverse, sym, ap, ap₂, subst, ◌∙◌, arith, length-append, length-drop, length-take-le}
+use Rattle.std.proofs.lemmas.List.{length-reverse}
+use Rattle.sketch_base.proofs.Pourings.{reverse_back}
 use Rattle.sketch_kll.specs.Flat.{levels_in}
 use Rattle.sketch_kll.proofs.Flats.{bound_at, bound_within, length-bounds}
-use Rattle.sketch_kll.proofs.Joins.{AreJoining, HasJoined, IsRunAt, run_at, next_runs, joining_start, joining_more, joining_end}
+use Rattle.sketch_kll.proofs.Joins.{AreJoining, HasJoined, IsRunAt, run_at, next_runs, joining_start, joining_more, joining_end, moved_run}
 use Rattle.sketch_kll.proofs.levels.merging.merge_runs_back.Goals as goal
 
 pub move_back-requires-clause-within : goal.move_back-requires-clause-within
@@ -11,17 +13,20 @@ pub loop-level-init : goal.loop-level-init
 loop-level-init g c =
     let ls : List (List g.row.T.Denot) = levels_in c.args.items.now.items c.args.bounds.now in
     let n = length-bounds c.args.items.now.items c.args.bounds.now c.requires.flat in
-    let r : IsRunAt 0 ls c.args.items.now.items (get_or c.args.bounds.now 1 0) = run_at 0 ls c.args.items.now.items (get_or c.args.bounds.now 1 0) (sym c.requires.flat.items_are) (bound_at c.args.items.now.items c.args.bounds.now c.requires.flat 1) in
+    let b : ℕ = get_or c.args.bounds.now 1 0 in
+    let first : List g.row.T.Denot = drop b c.args.items.now.items in
+    let r : IsRunAt 0 ls c.args.items.now.items b = run_at 0 ls c.args.items.now.items b (sym c.requires.flat.items_are) (bound_at c.args.items.now.items c.args.bounds.now c.requires.flat 1) in
+    let e = c.move_back.ensures in
     record {
       within = omega arith;
-      count = omega (arith, c.move_back.ensures.len, ap length c.requires.empty, ap length c.move_back.ensures.from, length-take-le (get_or c.args.bounds.now 1 0) c.args.items.now.items r.within, r.within, c.args.items.now.ok, c.args.merged.now.ok, c.move_back.new.to.ok);
-      capacity = c.move_back.ensures.capacity;
+      count = omega (arith, ap length e.from, length-take-le b c.args.items.now.items r.within, ap length e.to, length-append c.args.merged.now.items (reverse first), length-reverse first, length-drop b c.args.items.now.items, ap length c.requires.empty, r.within);
+      capacity = e.to_capacity;
       joining = joining_start g.T.Ord.cmp g.met.T.Ord.total ls _ c.move_back.new.from.items c.args.upper.now.items c.move_back.new.to.items (omega (arith, n, c.requires.fewer, c.requires.some))
-          (c.move_back.ensures.from ∙ r.rest) (sym c.requires.runs.items_are) (c.move_back.ensures.to ∙ ap₂ (λ (x y : List g.row.T.Denot). x ++ y) r.run (ap reverse c.requires.empty));
+          (e.from ∙ r.rest) (sym c.requires.runs.items_are) (ap reverse e.to ∙ (reverse_back c.args.merged.now.items first ∙ ap₂ (λ (x y : List g.row.T.Denot). x ++ y) r.run (ap reverse c.requires.empty)));
     }
 
-pub merge_back-requires : goal.merge_back-requires
-merge_back-requires g c =
+pub pour_greater-requires : goal.pour_greater-requires
+pour_greater-requires g c =
     let i = c.loop-level.invariant in
     let r = next_runs g.T.Ord.cmp c.loop-level.level c.args.items.now.items c.args.upper.now.items c.loop-level.items.items c.loop-level.upper.items c.loop-level.merged.items c.args.bounds.now c.args.runs.now c.requires.flat c.requires.runs c.requires.sorted c.requires.runs_sorted i.within i.joining in
     record {
@@ -41,17 +46,43 @@ loop-level-preserved g c =
     let n = length-bounds c.args.items.now.items c.args.bounds.now c.requires.flat in
     let m = length-bounds c.args.upper.now.items (drop 1 c.args.runs.now) c.requires.runs in
     let d = length-drop 1 c.args.runs.now in
-    let e = c.merge_back.ensures in
+    let e = c.pour_greater.ensures in
+    let f = c.move_back-in-loop-level.ensures in
+    let kl : ℕ = get_or c.args.bounds.now (c.loop-level.level + 1) 0 in
+    let kr : ℕ = get_or c.args.runs.now (c.loop-level.level + 1) 0 in
+    let left : List g.row.T.Denot = c.pour_greater.new.left.items in
+    let to : List g.row.T.Denot = c.pour_greater.new.to.items in
+    let rest : List g.row.T.Denot = drop kl left in
     let r = next_runs g.T.Ord.cmp c.loop-level.level c.args.items.now.items c.args.upper.now.items c.loop-level.items.items c.loop-level.upper.items c.loop-level.merged.items c.args.bounds.now c.args.runs.now c.requires.flat c.requires.runs c.requires.sorted c.requires.runs_sorted i.within i.joining in
-    let next = joining_more g.T.Ord.cmp g.met.T.Ord.total h _ ls us c.loop-level.items.items c.loop-level.upper.items c.loop-level.merged.items c.merge_back.new.left.items c.merge_back.new.right.items c.merge_back.new.to.items
-    (drop (get_or c.args.bounds.now (c.loop-level.level + 1) 0) c.loop-level.items.items) (drop (get_or c.args.runs.now (c.loop-level.level + 1) 0) c.loop-level.upper.items)
-    (omega (arith, n, c.requires.fewer, i.within)) (omega (arith, m, d, i.within)) (e.left ∙ r.left_at.rest) (e.right ∙ r.right_at.rest) e.kept r.left_at.run r.right_at.run e.run e.sorted i.joining in
+    let next = joining_more g.T.Ord.cmp g.met.T.Ord.total h ls us c.loop-level.items.items c.loop-level.upper.items c.loop-level.merged.items c.move_back-in-loop-level.new.from.items c.pour_greater.new.right.items c.move_back-in-loop-level.new.to.items
+    (drop kl c.loop-level.items.items) (drop kr c.loop-level.upper.items) (rest ++ reverse (drop (length c.loop-level.merged.items) to))
+    (omega (arith, n, c.requires.fewer, i.within)) (omega (arith, m, d, i.within)) (f.from ∙ (e.left ∙ r.left_at.rest)) (e.right ∙ r.right_at.rest)
+    (moved_run c.loop-level.merged.items to c.move_back-in-loop-level.new.to.items rest e.to f.to) r.left_at.run r.right_at.run e.moved e.sorted i.joining in
     let one : suc h ≡ c.loop-level.level + 1 - 1 = omega (arith, i.within) in
     record {
       within = omega arith;
-      count = omega (arith, i.count, e.len, ap length e.left, ap length e.right, length-take-le (get_or c.args.bounds.now (c.loop-level.level + 1) 0) c.loop-level.items.items r.left_at.within, length-take-le (get_or c.args.runs.now (c.loop-level.level + 1) 0) c.loop-level.upper.items r.right_at.within, r.left_at.within, r.right_at.within, c.loop-level.items.ok, c.loop-level.upper.ok, c.loop-level.merged.ok, c.merge_back.new.to.ok);
-      capacity = e.capacity ∙ i.capacity;
-      joining = subst (λ (j : ℕ). AreJoining g.T.Ord.cmp j ls us c.merge_back.new.left.items c.merge_back.new.right.items c.merge_back.new.to.items) one next;
+      count = omega (
+        arith,
+        i.count,
+        e.whole,
+        ap length e.right,
+        length-take-le kr c.loop-level.upper.items r.right_at.within,
+        r.right_at.within,
+        e.left_within,
+        ap length f.from,
+        length-take-le kl left e.left_within,
+        ap length f.to,
+        length-append to (reverse rest),
+        length-reverse rest,
+        length-drop kl left,
+        c.loop-level.items.ok,
+        c.loop-level.upper.ok,
+        c.loop-level.merged.ok,
+        c.pour_greater.new.left.ok,
+        c.pour_greater.new.to.ok,
+      );
+      capacity = f.to_capacity ∙ (e.to_capacity ∙ i.capacity);
+      joining = subst (λ (j : ℕ). AreJoining g.T.Ord.cmp j ls us c.move_back-in-loop-level.new.from.items c.pour_greater.new.right.items c.move_back-in-loop-level.new.to.items) one next;
     }
 
 pub returns : goal.returns
@@ -65,5 +96,6 @@ returns g c =
     let over : length us ≤ c.loop-level.level - 1 = omega (arith, m, d, c.requires.some) in
     let r : HasJoined g.T.Ord.cmp ls us (reverse c.move_back-2.new.to.items) _ =
     joining_end g.T.Ord.cmp (c.loop-level.level - 1) ls us c.loop-level.items.items c.loop-level.upper.items c.loop-level.merged.items c.move_back-2.new.to.items c.args.bounds.now c.args.runs.now
-    over (omega (arith, n, c.requires.fewer, c.requires.some)) (omega (arith, n, m, d, c.requires.fewer, c.requires.some)) c.requires.sorted c.requires.flat.bounds_are (sym c.requires.runs.bounds_are) c.move_back-2.ensures.to i.joining in
+    over (omega (arith, n, c.requires.fewer, c.requires.some)) (omega (arith, n, m, d, c.requires.fewer, c.requires.some)) c.requires.sorted c.requires.flat.bounds_are (sym c.requires.runs.bounds_are)
+    (ap reverse c.move_back-2.ensures.to ∙ reverse_back c.loop-level.merged.items c.loop-level.items.items) i.joining in
     record { flat = r.fits; levels = r.same; sorted = r.sorted }
