@@ -7,7 +7,7 @@ ghost use Rattle.sketch_base.specs.declared.error.ErrorKind.TheVariants.{OutOfMe
 ghost use Rattle.sketch_base.specs.Answered.{FindsQuantiles, FindsRanks, IsFoundAmong, IsRefusedUnless};
 ghost use Rattle.sketch_base.specs.Bag.{expanded};
 ghost use Rattle.sketch_base.specs.Pairs.{distinct};
-ghost use Rattle.sketch_base.specs.Queries.{IsFraction, IsIncreasing, SameAnswer, cdf_of, pmf_of};
+ghost use Rattle.sketch_base.specs.Queries.{IsFraction, IsIncreasing, SameAnswer, cdf_of, pmf_of, ranks_of};
 ghost use Rattle.sketch_base.specs.Views.{IsViewOf, quantile_of};
 ghost use Rattle.sketch_req.specs.Actions.{bag_of};
 ghost use Rattle.sketch_req.specs.Pairs.{pairs_of};
@@ -16,7 +16,9 @@ ghost use Rattle.sketch_req.specs.Views.{SamePairs, view_of};
 use super::ReqSketch;
 use crate::sorted_view::SortedView;
 use sketch_base::common::extremes::clone_found;
-use sketch_base::common::queries::{check_fraction, check_fractions, check_points};
+use sketch_base::common::queries::{
+    check_fraction, check_fractions, check_points, take_differences,
+};
 use sketch_base::common::{Rank, SearchCriteria};
 use sketch_base::error::Error;
 use std::alloc::AllocError;
@@ -87,13 +89,12 @@ impl<T: Clone + Ord> ReqSketch<T> {
         self.sorted_view()?.quantiles(fractions, criteria)
     }
 
-    /// The rank of each split point, and last the whole; None for an empty sketch.
+    /// The rank of each split point, and last the whole; None for an empty sketch. It takes memory for
+    /// the answer alone.
     ///
-    /// Item clones have to compare equal to the item. `InvalidArgument` exactly where the split
-    /// points do not strictly increase, whether or not the sketch is empty; any other error is
-    /// `OutOfMemory`.
+    /// `InvalidArgument` exactly where the split points do not strictly increase, whether or not the
+    /// sketch is empty; any other error is `OutOfMemory`.
     pub fn cdf(&self, points: &[T], criteria: SearchCriteria) -> Result<Option<Vec<Rank>>, Error>
-        requires clones { (x y : T) → T.is_clone x y → T.cmp x y ≡ Equal }
         ensures found { let s = self.now in IfOk result
             (FindsRanks s.n (cdf_of T.cmp criteria (expanded T.cmp (bag_of s.levels)) points.now)) }
         ensures rises { IfOk result (λ found. IfSome found (λ ranks.
@@ -102,12 +103,14 @@ impl<T: Clone + Ord> ReqSketch<T> {
         ensures refused { IsRefusedUnless (IsIncreasing T.cmp points.now) self.now.n result }
     {
         check_points(points)?;
-        self.sorted_view()?.cdf(points, criteria)
+        if self.n == 0 {
+            return Ok(None);
+        }
+        Ok(Some(self.rank_all(points, criteria)?))
     }
 
     /// How much lies between the split points; None for an empty sketch. Errors as for `cdf`.
     pub fn pmf(&self, points: &[T], criteria: SearchCriteria) -> Result<Option<Vec<Rank>>, Error>
-        requires clones { (x y : T) → T.is_clone x y → T.cmp x y ≡ Equal }
         ensures found { let s = self.now in IfOk result
             (FindsRanks s.n (pmf_of T.cmp criteria (expanded T.cmp (bag_of s.levels)) points.now)) }
         ensures sums { IfOk result (λ found. IfSome found (λ ranks.
@@ -116,7 +119,32 @@ impl<T: Clone + Ord> ReqSketch<T> {
         ensures refused { IsRefusedUnless (IsIncreasing T.cmp points.now) self.now.n result }
     {
         check_points(points)?;
-        self.sorted_view()?.pmf(points, criteria)
+        if self.n() == 0 {
+            return Ok(None);
+        }
+        let mut ranks = self.rank_all(points, criteria)?;
+        take_differences(ranks.as_mut_slice());
+        Ok(Some(ranks))
+    }
+
+    // The rank of each split point, and last the whole.
+    fn rank_all(&self, points: &[T], criteria: SearchCriteria) -> Result<Vec<Rank>, AllocError>
+        requires some { self.now.n ≢ 0 }
+        requires increasing { IsIncreasing T.cmp points.now }
+        ensures ranks { let s = self.now in IfOk result (λ ranks. ranks.items ≡ ranks_of s.n
+            (cdf_of T.cmp criteria (expanded T.cmp (bag_of s.levels)) points.now)) }
+        ensures rises { IfOk result (λ ranks.
+            IsNonDecreasing (map (λ (r : Rank). r.weight) ranks.items)) }
+    {
+        let alloc = *self.levels.allocator();
+        let mut ranks = Vec::with_capacity(alloc, points.len().saturating_add(1))?;
+        for point in points {
+            ranks.push(self.rank(point, criteria).unwrap())?;
+        }
+        let weight = self.n();
+        let total = weight;
+        ranks.push(Rank { weight, total })?;
+        Ok(ranks)
     }
 }
 
