@@ -1,23 +1,28 @@
 //! Queries of a sketch that go by a view.
-ghost use Rattle.std.specs.Prelude.{◌≡◌, ◌≢◌, IfOk, IfErr, IfSome, map, sum_by};
+ghost use Rattle.std.specs.Prelude.{◌≡◌, ◌≢◌, Some, IsSome, IfOk, IfErr, IfSome, map, slice_get, sum_by};
 ghost use Rattle.std.specs.declared.cmp.Ordering.TheVariants.{Equal};
 ghost use Rattle.std.specs.List.{All};
 ghost use Rattle.std.specs.List.Sorted.{IsNonDecreasing};
 ghost use Rattle.sketch_base.specs.declared.error.ErrorKind.TheVariants.{OutOfMemory};
 ghost use Rattle.sketch_base.specs.Answered.{FindsQuantiles, FindsRanks, IsFoundAmong, IsRefusedUnless};
-ghost use Rattle.sketch_base.specs.Bag.{expanded};
+ghost use Rattle.sketch_base.specs.Bag.{expanded, weighted_rank};
 ghost use Rattle.sketch_base.specs.Pairs.{distinct};
-ghost use Rattle.sketch_base.specs.Queries.{IsFraction, IsIncreasing, SameAnswer, cdf_of, pmf_of};
+ghost use Rattle.sketch_base.specs.Query.{counted};
+ghost use Rattle.sketch_base.specs.Queries.{IsFraction, IsIncreasing, SameAnswer, cdf_of, pmf_of, ranks_of};
 ghost use Rattle.sketch_base.specs.Views.{IsViewOf, quantile_of};
 ghost use Rattle.sketch_req.specs.Actions.{bag_of};
 ghost use Rattle.sketch_req.specs.Pairs.{pairs_of};
 ghost use Rattle.sketch_req.specs.Views.{SamePairs, view_of};
 
 use super::ReqSketch;
+use crate::compactor::Compactor;
 use crate::sorted_view::SortedView;
+use sketch_base::common::Rank;
+use sketch_base::common::SearchCriteria::{self, Exclusive, Inclusive};
 use sketch_base::common::extremes::clone_found;
-use sketch_base::common::queries::{check_fraction, check_fractions, check_points};
-use sketch_base::common::{Rank, SearchCriteria};
+use sketch_base::common::queries::{
+    check_fraction, check_fractions, check_points, place_of, take_differences,
+};
 use sketch_base::error::Error;
 use std::alloc::AllocError;
 
@@ -68,7 +73,73 @@ impl<T: Clone + Ord> ReqSketch<T> {
         ensures refused { IsRefusedUnless (IsFraction fraction) self.now.n result }
     {
         check_fraction(fraction)?;
+        if let Some(item) = self.find(fraction, criteria) {
+            return Ok(Some(item.clone()?));
+        }
         self.sorted_view()?.quantile(fraction, criteria)
+    }
+
+    // The item that a fraction names, where it is an extreme or a level in order holds it. The
+    // highest level comes first, since it weighs most.
+    fn find(&self, fraction: Rank, criteria: SearchCriteria) -> Option<&T>
+        requires { IsFraction fraction }
+        ensures same { IfSome result (λ x. SameAnswer T.cmp
+            (quantile_of (view_of T.cmp self.now) fraction criteria) (Some x.now)) }
+        ensures some { IsSome result → self.now.n ≢ 0 }
+    {
+        if fraction.weight == 0 {
+            return self.min_item();
+        }
+        if fraction.weight == fraction.total {
+            return self.max_item();
+        }
+        match self.n() {
+            0 => None,
+            n => self.find_at(place_of(fraction, n, criteria)),
+        }
+    }
+
+    // The item at a place of all entries in order, where a level in order holds it.
+    fn find_at(&self, place: u64) -> Option<&T>
+        requires { self.now.n ≢ 0 }
+        ensures { IfSome result (λ x. SameAnswer T.cmp
+            (slice_get (expanded T.cmp (bag_of self.now.levels)) place) (Some x.now)) }
+    {
+        for level in self.levels.iter().rev() {
+            if let Some(item) = self.find_in(level, place) {
+                return Some(item);
+            }
+        }
+        None
+    }
+
+    // The item at a place of all entries in order, where a level is in order and holds it.
+    fn find_in<'a>(&self, level: &'a Compactor<T>, place: u64) -> Option<&'a T>
+        requires { self.now.n ≢ 0 }
+        ensures { IfSome result (λ x. SameAnswer T.cmp
+            (slice_get (expanded T.cmp (bag_of self.now.levels)) place) (Some x.now)) }
+    {
+        if !level.is_sorted() {
+            return None;
+        }
+        let items = level.items_slice();
+        let first = items.partition_point(|item| self.rank_weight(item, Inclusive) <= place);
+        let item = items.get(first)?;
+        if self.rank_weight(item, Exclusive) <= place && place < self.rank_weight(item, Inclusive) {
+            return Some(item);
+        }
+        None
+    }
+
+    // The weight of the retained items that a query counts.
+    fn rank_weight(&self, item: &T, criteria: SearchCriteria) -> u64
+        ensures { self.now.n ≢ 0 → result
+            ≡ weighted_rank T.cmp (counted T.cmp item.now criteria) (bag_of self.now.levels) }
+    {
+        match self.rank(item, criteria) {
+            Some(rank) => rank.weight,
+            None => 0,
+        }
     }
 
     /// The items that fractions name, one for each; None for an empty sketch. Errors as for one
@@ -88,13 +159,12 @@ impl<T: Clone + Ord> ReqSketch<T> {
         self.sorted_view()?.quantiles(fractions, criteria)
     }
 
-    /// The rank of each split point, and last the whole; None for an empty sketch.
+    /// The rank of each split point, and last the whole; None for an empty sketch. It takes memory for
+    /// the answer alone.
     ///
-    /// Item clones have to compare equal to the item. `InvalidArgument` exactly where the split
-    /// points do not strictly increase, whether or not the sketch is empty; any other error is
-    /// `OutOfMemory`.
+    /// `InvalidArgument` exactly where the split points do not strictly increase, whether or not the
+    /// sketch is empty; any other error is `OutOfMemory`.
     pub fn cdf(&self, points: &[T], criteria: SearchCriteria) -> Result<Option<Vec<Rank>>, Error>
-        requires clones { (x y : T) → T.is_clone x y → T.cmp x y ≡ Equal }
         ensures found { let s = self.now in IfOk result
             (FindsRanks s.n (cdf_of T.cmp criteria (expanded T.cmp (bag_of s.levels)) points.now)) }
         ensures rises { IfOk result (λ found. IfSome found (λ ranks.
@@ -103,12 +173,14 @@ impl<T: Clone + Ord> ReqSketch<T> {
         ensures refused { IsRefusedUnless (IsIncreasing T.cmp points.now) self.now.n result }
     {
         check_points(points)?;
-        self.sorted_view()?.cdf(points, criteria)
+        if self.n == 0 {
+            return Ok(None);
+        }
+        Ok(Some(self.rank_all(points, criteria)?))
     }
 
     /// How much lies between the split points; None for an empty sketch. Errors as for `cdf`.
     pub fn pmf(&self, points: &[T], criteria: SearchCriteria) -> Result<Option<Vec<Rank>>, Error>
-        requires clones { (x y : T) → T.is_clone x y → T.cmp x y ≡ Equal }
         ensures found { let s = self.now in IfOk result
             (FindsRanks s.n (pmf_of T.cmp criteria (expanded T.cmp (bag_of s.levels)) points.now)) }
         ensures sums { IfOk result (λ found. IfSome found (λ ranks.
@@ -117,7 +189,33 @@ impl<T: Clone + Ord> ReqSketch<T> {
         ensures refused { IsRefusedUnless (IsIncreasing T.cmp points.now) self.now.n result }
     {
         check_points(points)?;
-        self.sorted_view()?.pmf(points, criteria)
+        if self.n() == 0 {
+            return Ok(None);
+        }
+        let mut ranks = self.rank_all(points, criteria)?;
+        take_differences(ranks.as_mut_slice());
+        Ok(Some(ranks))
+    }
+
+    // The rank of each split point, and last the whole.
+    fn rank_all(&self, points: &[T], criteria: SearchCriteria) -> Result<Vec<Rank>, AllocError>
+        requires some { self.now.n ≢ 0 }
+        requires increasing { IsIncreasing T.cmp points.now }
+        ensures ranks { let s = self.now in IfOk result (λ ranks. ranks.items ≡ ranks_of s.n
+            (cdf_of T.cmp criteria (expanded T.cmp (bag_of s.levels)) points.now)) }
+        ensures rises { IfOk result (λ ranks.
+            IsNonDecreasing (map (λ (r : Rank). r.weight) ranks.items)) }
+    {
+        let alloc = *self.levels.allocator();
+        let total = self.n();
+        let mut ranks = Vec::with_capacity(alloc, points.len().saturating_add(1))?;
+        for point in points {
+            let weight = self.rank_weight(point, criteria);
+            ranks.push(Rank { weight, total })?;
+        }
+        let weight = total;
+        ranks.push(Rank { weight, total })?;
+        Ok(ranks)
     }
 }
 

@@ -1,8 +1,1 @@
-use Rattle.sketch_base.proofs.SketchViews.{cdf-result}
-use Rattle.sketch_req.specs.Actions.{bag_of}
 use Rattle.sketch_req.proofs.sketch.ReqSketch.cdf.Goals as goal
-
-pub returns-clause-found : goal.returns-clause-found
-returns-clause-found g c =
-    let s = c.args.self.now in
-    cdf-result g.met.T.Ord.total (bag_of s.levels) s.n s.least s.greatest c.in_ok-sorted_view.field-0 c.in_ok-sorted_view.ensures.view c.args.criteria c.args.points.now c.cdf-2.result c.cdf-2.ensures.found

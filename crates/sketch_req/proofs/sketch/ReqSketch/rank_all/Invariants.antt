@@ -1,0 +1,11 @@
+use Rattle.std.proofs.Common.{◌≡◌, map, take}
+use Rattle.sketch_base.specs.Bag.{expanded}
+use Rattle.sketch_base.specs.Query.{true_rank}
+use Rattle.sketch_base.specs.Queries.{ranks_of}
+use Rattle.sketch_req.specs.Actions.{bag_of}
+use Rattle.sketch_req.proofs.sketch.ReqSketch.rank_all.Given as goal
+
+abbrev pub invariant-loop-point : goal.invariant-loop-point
+invariant-loop-point g l =
+    let entries = expanded g.T.Ord.cmp (bag_of l.fn.self.levels) in
+    l.ranks.items ≡ ranks_of l.fn.self.n (map (λ y. true_rank g.T.Ord.cmp y l.fn.criteria entries) (take l.point-index l.points))
