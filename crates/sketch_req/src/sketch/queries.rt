@@ -105,7 +105,7 @@ impl<T: Clone + Ord> ReqSketch<T> {
         ensures { IfSome result (λ x. SameAnswer T.cmp
             (slice_get (expanded T.cmp (bag_of self.now.levels)) place) (Some x.now)) }
     {
-        for level in self.levels.iter().rev() {
+        for level in self.levels.compactors.iter().rev() {
             if let Some(item) = self.find_in(level, place) {
                 return Some(item);
             }
@@ -206,7 +206,7 @@ impl<T: Clone + Ord> ReqSketch<T> {
         ensures rises { IfOk result (λ ranks.
             IsNonDecreasing (map (λ (r : Rank). r.weight) ranks.items)) }
     {
-        let alloc = *self.levels.allocator();
+        let alloc = *self.levels.compactors.allocator();
         let total = self.n();
         let mut ranks = Vec::with_capacity(alloc, points.len().saturating_add(1))?;
         for point in points {
