@@ -58,8 +58,12 @@ impl<T: Clone + Ord> Levels<T> {
         ensures capacity { self.new.capacity
             ≡ nominal_sum self.old.k (layouts_of self.old.compactors.items) }
     {
-        self.num_retained = count_items(self.compactors.as_slice());
-        self.capacity = sum_capacities(self.k, self.compactors.as_slice());
+        let (mut count, mut sum) = (0, 0);
+        for level in self.compactors.as_slice() {
+            count += level.num_items() as usize;
+            sum += level.nominal_capacity() as usize;
+        }
+        (self.num_retained, self.capacity) = (count, sum);
     }
 
     // The weight of the items that a query counts.
@@ -89,17 +93,4 @@ pub(crate) fn count_items<T: Clone + Ord>(levels: &[Compactor<T>]) -> usize
         count += level.num_items() as usize;
     }
     count
-}
-
-// The sum of the levels' nominal capacities.
-fn sum_capacities<T: Clone + Ord>(k: u16, levels: &[Compactor<T>]) -> usize
-    requires few { length levels.now ≤ 64 }
-    requires levels { (accuracy : RankAccuracy) × AreLevels T.cmp k accuracy 0 levels.now }
-    ensures { result ≡ nominal_sum k (layouts_of levels.now) }
-{
-    let mut sum = 0;
-    for level in levels {
-        sum += level.nominal_capacity() as usize;
-    }
-    sum
 }

@@ -1,24 +1,36 @@
-use Rattle.std.proofs.Common.{List, length, arith, sym, ap, ◌∙◌, subst}
-use Rattle.sketch_req.specs.Level.{Level}
-use Rattle.sketch_req.specs.Schedule.{layouts_of, retained_of, nominal_sum}
-use Rattle.sketch_req.specs.Walk.{AreLevels}
+-- The loop keeps the sums over the levels so far.
+use Rattle.std.proofs.Common.{arith, ap, length}
+use Rattle.sketch_req.specs.Schedule.{Layout, nominal}
+use Rattle.sketch_req.proofs.Totals.{sum-more, nominal-there}
 use Rattle.sketch_req.proofs.Updates.{few-placed}
 use Rattle.sketch_req.proofs.sketch.levels.Levels.add_up.Goals as goal
 
-pub count_items-self-requires : goal.count_items-self-requires
-count_items-self-requires g c = omega (arith, c.requires.few, ap (λ (ls : List (Level g.row.T.Denot)). retained_of (layouts_of ls)) c.as_slice.ensures.value)
+pub overflow_add-count : goal.overflow_add-count
+overflow_add-count g c =
+    let inside = c.loop-level-test.true in
+    let is = c.level-item.is in
+    let m = sum-more (λ (l : Layout). l.count) c.args.self.now.compactors.items c.loop-level.level-index c.level-item.result (rw c.as_slice-level-items.ensures.value at inside) (rw c.as_slice-level-items.ensures.value at is) in
+    omega (arith, m.1, c.loop-level.invariant.count, c.num_items.ensures, c.requires.few)
 
-pub sum_capacities-self-requires-clause-few : goal.sum_capacities-self-requires-clause-few
-sum_capacities-self-requires-clause-few g c =
-    let f = few-placed g.T.Ord.cmp c.args.self.now.k c.args.self.now.rank_accuracy 0 c.args.self.now.compactors.items (omega arith) c.requires.levels in
-    omega (arith, f, ap length c.as_slice-2.ensures.value)
+pub overflow_add-sum : goal.overflow_add-sum
+overflow_add-sum g c =
+    let inside = c.loop-level-test.true in
+    let is = c.level-item.is in
+    let few = few-placed g.T.Ord.cmp c.args.self.now.k c.args.self.now.rank_accuracy 0 c.args.self.now.compactors.items (omega arith) c.requires.levels in
+    let n = nominal-there g.T.Ord.cmp c.args.self.now.k c.args.self.now.rank_accuracy 0 c.args.self.now.compactors.items c.loop-level.level-index c.level-item.result c.requires.levels (rw c.as_slice-level-items.ensures.value at inside) (rw c.as_slice-level-items.ensures.value at is) in
+    omega (arith, few, inside, ap length c.as_slice-level-items.ensures.value, c.loop-level.invariant.small, n.1, c.nominal_capacity.ensures)
 
-pub sum_capacities-self-requires-clause-levels : goal.sum_capacities-self-requires-clause-levels
-sum_capacities-self-requires-clause-levels g c =
-    (c.args.self.now.rank_accuracy, subst (λ (ls : List (Level g.row.T.Denot)). AreLevels g.T.Ord.cmp c.args.self.now.k c.args.self.now.rank_accuracy 0 ls) (sym c.as_slice-2.ensures.value) c.requires.levels)
-
-pub returns-clause-retained : goal.returns-clause-retained
-returns-clause-retained g c = c.count_items-self.ensures ∙ ap (λ (ls : List (Level g.row.T.Denot)). retained_of (layouts_of ls)) c.as_slice.ensures.value
-
-pub returns-clause-capacity : goal.returns-clause-capacity
-returns-clause-capacity g c = c.sum_capacities-self.ensures ∙ ap (λ (ls : List (Level g.row.T.Denot)). nominal_sum c.args.self.now.k (layouts_of ls)) c.as_slice-2.ensures.value
+pub loop-level-preserved : goal.loop-level-preserved
+loop-level-preserved g c =
+    let i = c.loop-level.invariant in
+    let inside = c.loop-level-test.true in
+    let is = c.level-item.is in
+    let items = c.args.self.now.compactors.items in
+    let m = sum-more (λ (l : Layout). l.count) items c.loop-level.level-index c.level-item.result (rw c.as_slice-level-items.ensures.value at inside) (rw c.as_slice-level-items.ensures.value at is) in
+    let s = sum-more (nominal c.args.self.now.k) items c.loop-level.level-index c.level-item.result (rw c.as_slice-level-items.ensures.value at inside) (rw c.as_slice-level-items.ensures.value at is) in
+    let n = nominal-there g.T.Ord.cmp c.args.self.now.k c.args.self.now.rank_accuracy 0 items c.loop-level.level-index c.level-item.result c.requires.levels (rw c.as_slice-level-items.ensures.value at inside) (rw c.as_slice-level-items.ensures.value at is) in
+    record {
+      count = omega (arith, m.0, i.count, c.num_items.ensures);
+      sum = omega (arith, s.0, i.sum, n.0, c.nominal_capacity.ensures);
+      small = omega (arith, i.small, n.1, c.nominal_capacity.ensures);
+    }
