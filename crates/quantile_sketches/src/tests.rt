@@ -7,4 +7,5 @@ mod calls;
 mod items;
 mod readme;
 mod refused;
-mod sketches;
+pub(crate) mod runs;
+pub(crate) mod sketches;

@@ -58,8 +58,7 @@ impl<T: KllValue + Ord> Family for KllSketch<T> {
 
     fn update<B: RandomBits>(&mut self, item: T, coins: &mut B) -> Result<(), Error> {
         let _n = self.n();
-        self.update(item, coins)?;
-        Ok(())
+        Ok(self.update(item, coins)?)
     }
 
     fn update_weighted<B: RandomBits>(
@@ -69,8 +68,7 @@ impl<T: KllValue + Ord> Family for KllSketch<T> {
         coins: &mut B,
     ) -> Result<(), Error> {
         let _n = self.n();
-        self.update_weighted(item, weight, coins)?;
-        Ok(())
+        Ok(self.update_weighted(item, weight, coins)?)
     }
 
     fn merge<B: RandomBits>(&mut self, other: &Self, coins: &mut B) -> Result<(), Error> {

@@ -63,8 +63,7 @@ impl<T: ReqValue + Clone + Ord> Family for ReqSketch<T> {
 
     fn update<B: RandomBits>(&mut self, item: T, coins: &mut B) -> Result<(), Error> {
         let _n = self.n();
-        self.update(item, coins)?;
-        Ok(())
+        Ok(self.update(item, coins)?)
     }
 
     fn update_weighted<B: RandomBits>(

@@ -1,4 +1,5 @@
 //! Large sketches: no call gives up from some size on where memory is ample.
+use super::calls::fill;
 use super::sketches::Tried;
 use crate::audit::Command;
 use crate::text::{image_bytes, image_text};
@@ -14,18 +15,6 @@ use std::test::Fail;
 const MANY: u32 = 100_000;
 
 const CRITERIA: SearchCriteria = SearchCriteria::Inclusive;
-
-/// A sketch of the items from 1 on.
-fn filled<S: Tried>(alloc: Global, k: u16) -> Result<S, Error>
-    requires { S.Asks }
-{
-    let mut sketch = S::create(alloc, S::config_of(k))?;
-    let mut coins = SplitMix64::new(1);
-    for number in 0..MANY {
-        sketch.update(S::item_of(alloc, number.wrapping_add(1))?, &mut coins)?;
-    }
-    Ok(sketch)
-}
 
 /// Every tenth item.
 fn points<S: Tried>(alloc: Global) -> Result<Vec<S::Item>, AllocError> {
@@ -77,20 +66,31 @@ fn is_whole<S: Tried>(alloc: Global, sketch: &S, count: u64) -> Result<bool, Err
     )
 }
 
-/// Whether queries on a view answer as those on its sketch.
-fn answers_alike<S: Tried>(
+/// Whether a view has the distributions of its sketch.
+fn distributes_alike<S: Tried>(
     sketch: &S,
     view: &SortedView<S::Item>,
     points: &[S::Item],
+) -> Result<bool, Error>
+    requires { S.Asks }
+{
+    Ok(
+        sketch.cdf_of(points, CRITERIA)? == view.cdf(points, CRITERIA)?
+            && sketch.pmf_of(points, CRITERIA)? == view.pmf(points, CRITERIA)?,
+    )
+}
+
+/// Whether a view has the quantiles of its sketch, one for each fraction.
+fn finds_alike<S: Tried>(
+    sketch: &S,
+    view: &SortedView<S::Item>,
     fractions: &[Rank],
 ) -> Result<bool, Error>
     requires { S.Asks }
 {
-    let is_cut = sketch.cdf_of(points, CRITERIA)? == view.cdf(points, CRITERIA)?;
-    let is_split = sketch.pmf_of(points, CRITERIA)? == view.pmf(points, CRITERIA)?;
     let found = sketch.quantiles_of(fractions)?;
     let is_found = found == S::quantiles_in(view, fractions)?;
-    Ok(is_cut && is_split && is_found && found.is_some_and(|found| found.len() == fractions.len()))
+    Ok(is_found && found.is_some_and(|found| found.len() == fractions.len()))
 }
 
 /// Whether what is read of a sketch's image, as a text too, is written as it was read.
@@ -132,8 +132,10 @@ fn answers_many<S: Tried>(alloc: Global, sketch: &S) -> Result<bool, Error>
     requires { S.Asks }
 {
     let view = S::copy_of(&sketch.view_of()?)?;
-    let (points, fractions) = (points::<S>(alloc)?, fractions(alloc)?);
-    answers_alike(sketch, &view, points.as_slice(), fractions.as_slice())
+    Ok(
+        distributes_alike(sketch, &view, points::<S>(alloc)?.as_slice())?
+            && finds_alike(sketch, &view, fractions(alloc)?.as_slice())?,
+    )
 }
 
 /// Whether a large sketch answers all that it is asked.
@@ -141,7 +143,7 @@ fn holds_many<S: Tried>(alloc: Global, k: u16) -> Result<bool, Error>
     requires { S.Asks }
 {
     let _usual = S::default_of(alloc)?;
-    let mut sketch: S = filled(alloc, k)?;
+    let mut sketch: S = fill(alloc, k, MANY, &mut SplitMix64::new(1))?;
     let is_filled = is_whole(alloc, &sketch, 100_000)?;
     let copy = sketch.copy()?;
     sketch.merge(&copy, &mut SplitMix64::new(2))?;

@@ -2,7 +2,7 @@
 use sketch_base::codec::{Family, SketchBytes, SketchSlice};
 use sketch_base::common::random::{RandomBits, SplitMix64, WordBits};
 use sketch_base::error::{Error, ErrorKind};
-use std::alloc::Global;
+use std::alloc::{AllocError, Global};
 use std::test::Fail;
 
 // Numbers of each width, the lowest byte first.
@@ -29,16 +29,24 @@ fn writes_the_lowest_byte_first(rt: HostRuntime) -> Result<(), Fail> {
     Ok(())
 }
 
+fn read_small(input: &mut SketchSlice<'_>) -> Result<(u8, u16, u32), Error> {
+    Ok((input.read_u8()?, input.read_u16_le()?, input.read_u32_le()?))
+}
+
+fn read_large(input: &mut SketchSlice<'_>) -> Result<(u64, i32, i64), Error> {
+    Ok((
+        input.read_u64_le()?,
+        input.read_i32_le()?,
+        input.read_i64_le()?,
+    ))
+}
+
 #[test]
 fn reads_the_lowest_byte_first(rt: HostRuntime) -> Result<(), Fail> {
     let bytes = numbers(rt.alloc())?;
     let mut input = SketchSlice::new(&bytes);
-    assert_eq!(rt; input.read_u8()?, 7);
-    assert_eq!(rt; input.read_u16_le()?, 200);
-    assert_eq!(rt; input.read_u32_le()?, 0x0102_0304);
-    assert_eq!(rt; input.read_u64_le()?, 9);
-    assert_eq!(rt; input.read_i32_le()?, -2);
-    assert_eq!(rt; input.read_i64_le()?, -1);
+    assert!(rt; read_small(&mut input)? == (7, 200, 0x0102_0304));
+    assert!(rt; read_large(&mut input)? == (9, -2, -1));
     assert!(rt; input.read_u16_le().is_err());
     assert_eq!(rt; input.remaining(), [5].as_slice());
     input.advance(1);
@@ -56,10 +64,14 @@ fn knows_its_family(rt: HostRuntime) {
 #[test]
 fn splitmix64_from_zero(rt: HostRuntime) {
     let mut source = SplitMix64::new(0);
-    assert_eq!(rt; source.next_u64(), 0xe220a8397b1dcdaf);
-    assert_eq!(rt; source.next_u64(), 0x6e789e6aa1b965f4);
-    assert_eq!(rt; source.next_u64(), 0x06c45d188009454f);
-    assert_eq!(rt; source.next_u64(), 0xf88bb8a8724c81ec);
+    for number in [
+        0xe220a8397b1dcdaf,
+        0x6e789e6aa1b965f4,
+        0x06c45d188009454f,
+        0xf88bb8a8724c81ec,
+    ] {
+        assert_eq!(rt; source.next_u64(), number);
+    }
     let mut coins = SplitMix64::new(0);
     for bit in [true, false, true, false] {
         assert_eq!(rt; coins.random_bit(), bit);
@@ -76,17 +88,16 @@ fn word_then_false(rt: HostRuntime) {
     assert_eq!(rt; source.drawn(), 5);
 }
 
+// Whether the error of a kind prints so, and tells its kind.
+fn prints(alloc: Global, kind: ErrorKind, text: &str) -> Result<bool, AllocError> {
+    let error = Error::new(kind);
+    Ok(error.kind() == kind && error.to_string(alloc)?.as_str() == text)
+}
+
 #[test]
 fn prints_its_kind(rt: HostRuntime) -> Result<(), Fail> {
-    for (kind, text) in [
-        (ErrorKind::InvalidArgument, "invalid argument"),
-        (ErrorKind::InvalidData, "invalid data"),
-        (ErrorKind::OutOfMemory, "out of memory"),
-    ] {
-        let error = Error::new(kind);
-        let printed = error.to_string(rt.alloc())?;
-        assert_eq!(rt; printed.as_str(), text);
-        assert_eq!(rt; error.kind(), kind);
-    }
+    assert!(rt; prints(rt.alloc(), ErrorKind::InvalidArgument, "invalid argument")?);
+    assert!(rt; prints(rt.alloc(), ErrorKind::InvalidData, "invalid data")?);
+    assert!(rt; prints(rt.alloc(), ErrorKind::OutOfMemory, "out of memory")?);
     Ok(())
 }

@@ -1,7 +1,7 @@
 //! A call that takes memory, as data: what it is made on and with, what it gave, and whether two gave the same.
 use super::sketches::Tried;
 use crate::audit::{Audit, Command, Run};
-use sketch_base::common::random::WordBits;
+use sketch_base::common::random::{RandomBits, WordBits};
 use sketch_base::common::{Rank, SearchCriteria};
 use sketch_base::error::{Error, ErrorKind};
 use sketch_base::sorted_view::SortedView;
@@ -38,12 +38,20 @@ pub(super) type Row = (Call, u16, u32, u32);
 #[derive(Drop)]
 pub(super) struct Subject<S: Tried> {
     pub(super) sketch: S,
-    pub(super) other: S,
-    pub(super) items: Vec<S::Item>,
     pub(super) points: Vec<S::Item>,
-    pub(super) image: Vec<u8>,
-    pub(super) commands: Vec<Command<S::Item, S::Config>>,
-    pub(super) weight: u64,
+    pub(super) given: Given<S>,
+}
+
+/// What a call takes besides.
+#[derive(Drop)]
+pub(super) enum Given<S: Tried> {
+    Nothing,
+    /// Items to put in, one for each time that the call is made.
+    Items(Vec<S::Item>),
+    /// A sketch to merge in.
+    Other(S),
+    Image(Vec<u8>),
+    Commands(Vec<Command<S::Item, S::Config>>),
 }
 
 /// What a call gave.
@@ -61,15 +69,25 @@ pub(super) enum Answer<S: Tried> {
 }
 
 /// A sketch of the items from 1 on.
-pub(super) fn filled<S: Tried>(alloc: Global, k: u16, count: u32) -> Result<S, Error>
+pub(super) fn fill<S: Tried, B: RandomBits>(
+    alloc: Global,
+    k: u16,
+    count: u32,
+    coins: &mut B,
+) -> Result<S, Error>
     requires { S.Asks }
 {
     let mut sketch = S::create(alloc, S::config_of(k))?;
-    let mut coins = WordBits::new(&WORD);
     for number in 0..count {
-        sketch.update(S::item_of(alloc, number.wrapping_add(1))?, &mut coins)?;
+        sketch.update(S::item_of(alloc, number.wrapping_add(1))?, coins)?;
     }
     Ok(sketch)
+}
+
+pub(super) fn filled<S: Tried>(alloc: Global, k: u16, count: u32) -> Result<S, Error>
+    requires { S.Asks }
+{
+    fill(alloc, k, count, &mut WordBits::new(&WORD))
 }
 
 /// A sketch of so many items in slot 0, and in slot 1 what is read of the image of a sketch that it was merged into.
@@ -108,49 +126,59 @@ pub(super) fn items<S: Tried>(alloc: Global, numbers: &[u32]) -> Result<Vec<S::I
     Ok(items)
 }
 
-pub(super) fn subject_of<S: Tried>(alloc: Global, row: Row) -> Result<Subject<S>, Error>
+fn given_of<S: Tried>(alloc: Global, row: Row, sketch: &S) -> Result<Given<S>, Error>
     requires { S.Asks }
 {
-    let (_, k, count, number) = row;
-    // (a copy has no room to spare)
-    let sketch = filled::<S>(alloc, k, count)?.copy()?;
-    let image = sketch.image()?;
+    let (call, k, count, number) = row;
     let next = count.wrapping_add(1);
-    Ok(Subject {
-        sketch,
-        other: filled(alloc, k, number % 1000)?,
-        items: items::<S>(alloc, &[next, next])?,
-        points: items::<S>(alloc, &[3, 9, 14])?,
-        image,
-        commands: commands::<S>(alloc, k, count)?,
-        weight: number as u64,
+    Ok(match call {
+        Call::Update | Call::UpdateWeighted => Given::Items(items::<S>(alloc, &[next, next])?),
+        Call::Merge => Given::Other(filled(alloc, k, number)?),
+        Call::Deserialize => Given::Image(sketch.image()?),
+        Call::Run | Call::Audit => Given::Commands(commands::<S>(alloc, k, count)?),
+        _ => Given::Nothing,
     })
 }
 
-/// Makes a call that changes the sketch.
-fn change<S: Tried>(
-    call: Call,
-    subject: &mut Subject<S>,
-    coins: &mut WordBits,
-) -> Result<Answer<S>, Error>
+pub(super) fn subject_of<S: Tried>(alloc: Global, row: Row) -> Result<Subject<S>, Error>
     requires { S.Asks }
 {
-    let Subject {
+    // (a copy has no room to spare)
+    let sketch = filled::<S>(alloc, row.1, row.2)?.copy()?;
+    let points = items::<S>(alloc, &[3, 9, 14])?;
+    let given = given_of(alloc, row, &sketch)?;
+    Ok(Subject {
         sketch,
-        other,
-        items,
-        weight,
-        ..
-    } = subject;
-    let Some(item) = items.pop() else {
-        return Err(Error::new(ErrorKind::InvalidArgument));
-    };
-    match call {
-        Call::Update => sketch.update(item, coins)?,
-        Call::UpdateWeighted => sketch.update_weighted(item, *weight, coins)?,
-        _ => sketch.merge(other, coins)?,
+        points,
+        given,
+    })
+}
+
+fn bad_row<X>() -> Result<X, Error> {
+    Err(Error::new(ErrorKind::InvalidArgument))
+}
+
+/// Puts an item in.
+fn take<S: Tried>(row: Row, sketch: &mut S, item: Option<S::Item>) -> Result<(), Error>
+    requires { S.Asks }
+{
+    let mut coins = WordBits::new(&WORD);
+    match (row.0, item) {
+        (Call::Update, Some(item)) => sketch.update(item, &mut coins),
+        (_, Some(item)) => sketch.update_weighted(item, row.3 as u64, &mut coins),
+        (_, None) => bad_row(),
     }
-    Ok(Answer::Done)
+}
+
+/// Makes a call that changes the sketch.
+fn change<S: Tried>(row: Row, subject: &mut Subject<S>) -> Result<(), Error>
+    requires { S.Asks }
+{
+    match &mut subject.given {
+        Given::Items(items) => take(row, &mut subject.sketch, items.pop()),
+        Given::Other(other) => subject.sketch.merge(other, &mut WordBits::new(&WORD)),
+        _ => bad_row(),
+    }
 }
 
 pub(super) fn fractions() -> [Rank; 3] {
@@ -187,27 +215,34 @@ fn ask<S: Tried>(call: Call, subject: &Subject<S>) -> Result<Answer<S>, Error>
     })
 }
 
+/// Runs or audits commands.
+fn run<S: Tried>(
+    alloc: Global,
+    call: Call,
+    commands: &[Command<S::Item, S::Config>],
+    points: &[S::Item],
+) -> Result<Answer<S>, Error>
+    requires { S.Asks }
+{
+    match (call, points.first()) {
+        (Call::Run, _) => Ok(Answer::Run(S::run_of(alloc, commands, &WORD)?)),
+        (_, Some(item)) => Ok(Answer::Audit(S::audit_of(alloc, commands, 0, item, CRITERIA)?)),
+        _ => bad_row(),
+    }
+}
+
 /// Makes a call that takes no sketch.
 fn make<S: Tried>(alloc: Global, row: Row, subject: &Subject<S>) -> Result<Answer<S>, Error>
     requires { S.Asks }
 {
-    let Subject {
-        image,
-        points,
-        commands,
-        ..
-    } = subject;
-    let Some(item) = points.first() else {
-        return Err(Error::new(ErrorKind::InvalidArgument));
-    };
-    let commands = commands.as_slice();
-    Ok(match row.0 {
-        Call::Default => Answer::Sketch(S::default_of(alloc)?),
-        Call::New => Answer::Sketch(S::create(alloc, S::config_of(row.1))?),
-        Call::Run => Answer::Run(S::run_of(alloc, commands, &WORD)?),
-        Call::Audit => Answer::Audit(S::audit_of(alloc, commands, item)?),
-        _ => Answer::Sketch(S::load(alloc, image.as_slice())?),
-    })
+    match &subject.given {
+        Given::Image(image) => Ok(Answer::Sketch(S::load(alloc, image.as_slice())?)),
+        Given::Commands(commands) => {
+            run(alloc, row.0, commands.as_slice(), subject.points.as_slice())
+        }
+        _ if row.0 == Call::Default => Ok(Answer::Sketch(S::default_of(alloc)?)),
+        _ => Ok(Answer::Sketch(S::create(alloc, S::config_of(row.1))?)),
+    }
 }
 
 /// Makes the row's call.
@@ -220,7 +255,8 @@ pub(super) fn answer_of<S: Tried>(
 {
     match row.0 {
         Call::Update | Call::UpdateWeighted | Call::Merge => {
-            change(row.0, subject, &mut WordBits::new(&WORD))
+            change(row, subject)?;
+            Ok(Answer::Done)
         }
         Call::Default | Call::New | Call::Deserialize | Call::Run | Call::Audit => make(
             alloc, row, subject,
@@ -274,13 +310,12 @@ fn are_views_alike<S: Tried>(
 ) -> Result<bool, Error>
     requires { S.Asks }
 {
-    let (one, other) = (a.cdf(points, CRITERIA)?, b.cdf(points, CRITERIA)?);
     let fractions = fractions();
-    let (items, others) = (
-        S::quantiles_in(a, &fractions)?,
-        S::quantiles_in(b, &fractions)?,
-    );
-    Ok(a.len() == b.len() && one == other && items == others)
+    Ok(
+        a.len() == b.len()
+            && a.cdf(points, CRITERIA)? == b.cdf(points, CRITERIA)?
+            && S::quantiles_in(a, &fractions)? == S::quantiles_in(b, &fractions)?,
+    )
 }
 
 pub(super) fn is_same<S: Tried>(

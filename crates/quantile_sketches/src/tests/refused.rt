@@ -3,8 +3,8 @@
 //! `tests/memory` runs these tests under tests/refuse.c, and each call is then made anew for the first request, the second and
 //! so on, until none is refused. Without that library nothing is refused: each call is made once.
 use super::calls::{
-    Answer, CRITERIA, Call, Row, Subject, WORD, answer_of, are_alike, fractions, is_same, items,
-    subject_of,
+    Answer, CRITERIA, Call, Row, Subject, WORD, answer_of, are_alike, filled, fractions, is_same,
+    items, subject_of,
 };
 use super::sketches::Tried;
 use sketch_base::common::random::WordBits;
@@ -60,6 +60,20 @@ fn answers_again<S: Tried>(alloc: Global, row: Row, subject: &mut Subject<S>) ->
     gives_the_same(alloc, row, &given, subject)
 }
 
+/// Whether a call whose request was refused said so, left the sketch as it was, and answers when it is made again.
+fn is_left<S: Tried>(
+    alloc: Global,
+    row: Row,
+    error: Error,
+    before: &S,
+    subject: &mut Subject<S>,
+) -> Result<bool, Error>
+    requires { S.Asks }
+{
+    let is_told = error.kind() == ErrorKind::OutOfMemory;
+    Ok(is_told && are_alike(alloc, &subject.sketch, before)? && answers_again(alloc, row, subject)?)
+}
+
 /// Makes the row's call with the Nth request refused: whether one was, and whether all is as wanted.
 fn try_nth<S: Tried>(alloc: Global, row: Row, nth: usize) -> Result<(bool, bool), Error>
     requires { S.Asks }
@@ -71,12 +85,7 @@ fn try_nth<S: Tried>(alloc: Global, row: Row, nth: usize) -> Result<(bool, bool)
     let is_refused = was_refused(alloc);
     let is_well = match first {
         Ok(given) => is_told && !is_refused && gives_the_same(alloc, row, &given, &subject)?,
-        Err(error) => {
-            is_refused
-                && error.kind() == ErrorKind::OutOfMemory
-                && are_alike(alloc, &subject.sketch, &before)?
-                && answers_again(alloc, row, &mut subject)?
-        }
+        Err(error) => is_refused && is_left(alloc, row, error, &before, &mut subject)?,
     };
     Ok((is_refused, is_well))
 }
@@ -152,32 +161,71 @@ fn views_none<S: Tried>(view: &SortedView<S::Item>, points: &[S::Item], item: &S
         && is_none(view.pmf(points, CRITERIA))
 }
 
-/// Makes the calls that take no memory, of the two families alike, with the first request refused: whether none was made, and
-/// the answers are right.
-fn asks_for_none<S: Tried>(alloc: Global) -> Result<bool, Error>
+// Each of these makes calls that take no memory, with the first request refused: whether none was made, and the answers are right.
+fn reads_quietly<S: Tried>(alloc: Global, sketch: &S) -> Result<bool, Error>
     requires { S.Asks }
 {
-    let Subject {
-        mut sketch,
-        other: empty,
-        points,
-        ..
-    }: Subject<S> = subject_of(alloc, (Call::Merge, 8, 27, 0))?;
-    let (equal, item) = (items::<S>(alloc, &[3, 3])?, S::item_of(alloc, 27)?);
-    let (view, nothing) = (sketch.view_of()?, empty.view_of()?);
-    let copy = sketch.copy()?;
-    let is_told = refuse(alloc, 1) && sketch.reads_as(&copy);
+    let item = S::item_of(alloc, 27)?;
+    let (view, copy) = (sketch.view_of()?, sketch.copy()?);
+    let is_told = refuse(alloc, 1);
+    let is_read = sketch.reads_as(&copy) && ranks_last(sketch, &view, &item);
+    Ok(is_told && is_read && !was_refused(alloc))
+}
+
+fn ranks_last<S: Tried>(sketch: &S, view: &SortedView<S::Item>, item: &S::Item) -> bool {
     let whole = Some(Rank {
         weight: 27,
         total: 27,
     });
-    let is_ranked = view.rank(&item, CRITERIA) == whole && sketch.rank_of(&item, CRITERIA) == whole;
-    let is_refused = refuses_arguments(alloc, &sketch, equal.as_slice());
+    view.rank(item, CRITERIA) == whole && sketch.rank_of(item, CRITERIA) == whole
+}
+
+fn refuses_quietly<S: Tried>(alloc: Global, sketch: &S) -> Result<bool, Error>
+    requires { S.Asks }
+{
+    let equal = items::<S>(alloc, &[3, 3])?;
+    let is_told = refuse(alloc, 1);
+    let is_refused = refuses_arguments(alloc, sketch, equal.as_slice());
+    Ok(is_told && is_refused && !was_refused(alloc))
+}
+
+fn views_quietly<S: Tried>(alloc: Global, points: &[S::Item]) -> Result<bool, Error>
+    requires { S.Asks }
+{
+    let view = filled::<S>(alloc, 8, 0)?.view_of()?;
+    let item = S::item_of(alloc, 27)?;
+    let is_told = refuse(alloc, 1);
+    let is_nothing = views_none::<S>(&view, points, &item);
+    Ok(is_told && is_nothing && !was_refused(alloc))
+}
+
+fn empties_quietly<S: Tried>(
+    alloc: Global,
+    mut sketch: S,
+    points: &[S::Item],
+) -> Result<bool, Error>
+    requires { S.Asks }
+{
+    let empty: S = filled(alloc, 8, 0)?;
+    let is_told = refuse(alloc, 1);
     let is_merged = sketch.merge(&empty, &mut WordBits::new(&WORD)).is_ok();
     sketch.reset();
-    let (points, other) = (points.as_slice(), &sketch);
-    let is_nothing = answers_none(other, points) && views_none::<S>(&nothing, points, &item);
-    Ok(!was_refused(alloc) && is_told && is_ranked && is_refused && is_merged && is_nothing)
+    let is_nothing = answers_none(&sketch, points);
+    Ok(is_told && is_merged && is_nothing && !was_refused(alloc))
+}
+
+/// Makes the calls that take no memory, of the two families alike.
+fn asks_for_none<S: Tried>(alloc: Global) -> Result<bool, Error>
+    requires { S.Asks }
+{
+    let sketch: S = filled(alloc, 8, 27)?;
+    let points = items::<S>(alloc, &[3, 9, 14])?;
+    Ok(
+        reads_quietly(alloc, &sketch)?
+            && refuses_quietly(alloc, &sketch)?
+            && views_quietly::<S>(alloc, points.as_slice())?
+            && empties_quietly(alloc, sketch, points.as_slice())?,
+    )
 }
 
 /// What is tried of each family.

@@ -12,7 +12,7 @@ use sketch_req::value::ReqValue;
 use std::alloc::{AllocError, Global};
 
 /// Items that stand in the order of their numbers.
-pub(super) trait Numbered: Sized {
+pub(crate) trait Numbered: Sized {
     fn numbered(alloc: Global, number: u32) -> Result<Self, AllocError>;
 }
 
@@ -36,12 +36,15 @@ impl Numbered for String {
 }
 
 /// A sketch with the calls that take memory and that the program has no word for.
-pub(super) trait Tried: Family {
+pub(crate) trait Tried: Family {
     fn config_of(k: u16) -> Self::Config;
 
     fn item_of(alloc: Global, number: u32) -> Result<Self::Item, AllocError>;
 
     fn default_of(alloc: Global) -> Result<Self, Error>;
+
+    /// Its k, and how many items it retains.
+    fn sizes(&self) -> (u16, usize);
 
     /// Whether the plain reads of the sketch and of a copy are the same.
     fn reads_as(&self, copy: &Self) -> bool;
@@ -78,7 +81,9 @@ pub(super) trait Tried: Family {
     fn audit_of(
         alloc: Global,
         commands: &[Command<Self::Item, Self::Config>],
+        slot: u8,
         item: &Self::Item,
+        criteria: SearchCriteria,
     ) -> Result<Audit, Error>
         requires { Self.Asks };
 }
@@ -94,6 +99,10 @@ impl<T: KllValue + Ord + Numbered> Tried for KllSketch<T> {
 
     fn default_of(alloc: Global) -> Result<Self, Error> {
         KllSketch::default(alloc)
+    }
+
+    fn sizes(&self) -> (u16, usize) {
+        (self.k(), self.num_retained())
     }
 
     fn reads_as(&self, copy: &Self) -> bool {
@@ -134,8 +143,14 @@ impl<T: KllValue + Ord + Numbered> Tried for KllSketch<T> {
         run(alloc, commands, word)
     }
 
-    fn audit_of(alloc: Global, commands: &[Command<T, u16>], item: &T) -> Result<Audit, Error> {
-        audit(alloc, commands, 0, item, SearchCriteria::Inclusive)
+    fn audit_of(
+        alloc: Global,
+        commands: &[Command<T, u16>],
+        slot: u8,
+        item: &T,
+        criteria: SearchCriteria,
+    ) -> Result<Audit, Error> {
+        audit(alloc, commands, slot, item, criteria)
     }
 }
 
@@ -150,6 +165,10 @@ impl<T: ReqValue + Clone + Ord + Numbered> Tried for ReqSketch<T> {
 
     fn default_of(alloc: Global) -> Result<Self, Error> {
         ReqSketch::default(alloc)
+    }
+
+    fn sizes(&self) -> (u16, usize) {
+        (self.k(), self.num_retained() as usize)
     }
 
     fn reads_as(&self, copy: &Self) -> bool {
@@ -197,8 +216,10 @@ impl<T: ReqValue + Clone + Ord + Numbered> Tried for ReqSketch<T> {
     fn audit_of(
         alloc: Global,
         commands: &[Command<T, (u16, RankAccuracy)>],
+        slot: u8,
         item: &T,
+        criteria: SearchCriteria,
     ) -> Result<Audit, Error> {
-        audit_req(alloc, commands, 0, item, SearchCriteria::Inclusive)
+        audit_req(alloc, commands, slot, item, criteria)
     }
 }

@@ -1,6 +1,6 @@
 use Rattle.std.proofs.Common.{◌≡◌, ◌+◌, ◌-◌, ◌≤◌, ◌==◌, length, drop}
 use Rattle.std.specs.List.{position_or_len}
-use Rattle.quantile_sketches.proofs.words.len_without.Given as goal
+use Rattle.quantile_sketches.proofs.words.len_before_far.Given as goal
 
 abbrev pub invariant-loop-i : goal.invariant-loop-i
 invariant-loop-i l = record {

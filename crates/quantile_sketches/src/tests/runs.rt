@@ -1,0 +1,360 @@
+//! Runs and audits as rows: what is run, and what must come of it. The rows stand with `audit`.
+use super::sketches::Tried;
+use crate::audit::{Audit, Command, Run};
+use sketch_base::common::SearchCriteria;
+use sketch_base::error::{Error, ErrorKind};
+use std::alloc::{AllocError, Global};
+
+/// One command of a run, or many alike.
+#[derive(Clone, Copy)]
+pub(crate) enum Step<C> {
+    New(u8, C),
+    /// Updates by the numbers from one to another.
+    Updates(u8, u32, u32),
+    Weighted(u8, u32, u64),
+    Merge(u8, u8),
+    Reset(u8),
+    RoundTrip(u8),
+}
+
+/// What must come of some steps.
+#[derive(Clone, Copy)]
+pub(crate) enum Trial<'a> {
+    /// A run under a word gives this.
+    Gives(RunRow<'a>),
+    /// A run wants more coins than this word has.
+    WantsMore(&'a [bool]),
+    /// A run under a word keeps the greatest items.
+    HasTail(&'a [bool], Tail),
+    /// A run under a word leaves so many items in a slot.
+    Retains(&'a [bool], u8, usize),
+    Audits(AuditRow<'a>),
+    /// An audit of the ranks of the numbers below this one is unbiased, over three coins.
+    IsUnbiased(u32),
+    /// There are more coins than are audited.
+    HasTooMany,
+}
+
+/// The refused commands, the coins, and inclusive ranks: slot, number, its weight and the whole.
+#[derive(Clone, Copy)]
+pub(crate) struct RunRow<'a> {
+    pub(crate) word: &'a [bool],
+    pub(crate) refused: &'a [usize],
+    pub(crate) coins: usize,
+    pub(crate) ranks: &'a [(u8, u32, u64, u64)],
+}
+
+/// The slot whose sketch of this k took 1, 2 and so on to the last, and weighs each from the first on exactly.
+#[derive(Clone, Copy)]
+pub(crate) struct Tail {
+    pub(crate) slot: u8,
+    pub(crate) k: u16,
+    pub(crate) first: u32,
+    pub(crate) last: u32,
+}
+
+/// The inclusive weights of a number in a slot under each word, and its true rank.
+#[derive(Clone, Copy)]
+pub(crate) struct AuditRow<'a> {
+    pub(crate) slot: u8,
+    pub(crate) number: u32,
+    pub(crate) coins: usize,
+    pub(crate) weights: &'a [u64],
+    pub(crate) true_rank: u64,
+}
+
+pub(crate) fn given<'a>(
+    word: &'a [bool],
+    coins: usize,
+    refused: &'a [usize],
+    ranks: &'a [(u8, u32, u64, u64)],
+) -> Trial<'a> {
+    Trial::Gives(RunRow {
+        word,
+        refused,
+        coins,
+        ranks,
+    })
+}
+
+pub(crate) fn audited<'a>(
+    slot: u8,
+    number: u32,
+    coins: usize,
+    weights: &'a [u64],
+    true_rank: u64,
+) -> Trial<'a> {
+    Trial::Audits(AuditRow {
+        slot,
+        number,
+        coins,
+        weights,
+        true_rank,
+    })
+}
+
+type Commands<S> = Vec<
+    Command<<S as crate::family::Family>::Item, <S as crate::family::Family>::Config>,
+>;
+
+fn push_updates<S: Tried>(
+    alloc: Global,
+    commands: &mut Commands<S>,
+    slot: u8,
+    first: u32,
+    last: u32,
+) -> Result<(), AllocError> {
+    for number in first..=last {
+        let item = S::item_of(alloc, number)?;
+        commands.push(Command::Update { slot, item })?;
+    }
+    Ok(())
+}
+
+fn push_weighted<S: Tried>(
+    alloc: Global,
+    commands: &mut Commands<S>,
+    slot: u8,
+    number: u32,
+    weight: u64,
+) -> Result<(), AllocError> {
+    let item = S::item_of(alloc, number)?;
+    commands.push(Command::UpdateWeighted { slot, item, weight })?;
+    Ok(())
+}
+
+fn push_step<S: Tried>(
+    alloc: Global,
+    commands: &mut Commands<S>,
+    step: &Step<S::Config>,
+) -> Result<(), AllocError> {
+    match step {
+        Step::Updates(slot, first, last) => {
+            push_updates::<S>(alloc, commands, *slot, *first, *last)?
+        }
+        Step::Weighted(slot, number, weight) => {
+            push_weighted::<S>(alloc, commands, *slot, *number, *weight)?
+        }
+        Step::New(slot, config) => commands.push(Command::New {
+            slot: *slot,
+            config: *config,
+        })?,
+        Step::Merge(into, source) => commands.push(Command::Merge {
+            into: *into,
+            source: *source,
+        })?,
+        Step::Reset(slot) => commands.push(Command::Reset { slot: *slot })?,
+        Step::RoundTrip(slot) => commands.push(Command::RoundTrip { slot: *slot })?,
+    }
+    Ok(())
+}
+
+fn commands_of<S: Tried>(
+    alloc: Global,
+    steps: &[Step<S::Config>],
+) -> Result<Commands<S>, AllocError> {
+    let mut commands = Vec::new(alloc);
+    for step in steps {
+        push_step::<S>(alloc, &mut commands, step)?;
+    }
+    Ok(commands)
+}
+
+fn run_of<S: Tried>(
+    alloc: Global,
+    steps: &[Step<S::Config>],
+    word: &[bool],
+) -> Result<Run<S>, Error>
+    requires { S.Asks }
+{
+    let commands = commands_of::<S>(alloc, steps)?;
+    S::run_of(alloc, commands.as_slice(), word)
+}
+
+/// The weight of an item and the whole, 0 both of an empty sketch. None of an absent one.
+fn rank_in<S: Tried>(run: &Run<S>, slot: u8, item: &S::Item) -> Option<(u64, u64)> {
+    let sketch = run.slots.get(&slot)?;
+    match sketch.rank_of(item, SearchCriteria::Inclusive) {
+        Some(rank) => Some((rank.weight, rank.total)),
+        None => Some((0, 0)),
+    }
+}
+
+fn ranks<S: Tried>(
+    alloc: Global,
+    run: &Run<S>,
+    rows: &[(u8, u32, u64, u64)],
+) -> Result<bool, AllocError> {
+    for (slot, number, weight, total) in rows {
+        let item = S::item_of(alloc, *number)?;
+        if rank_in(run, *slot, &item) != Some((*weight, *total)) {
+            return Ok(false);
+        }
+    }
+    Ok(true)
+}
+
+fn gives<S: Tried>(
+    alloc: Global,
+    steps: &[Step<S::Config>],
+    given: &RunRow<'_>,
+) -> Result<bool, Error>
+    requires { S.Asks }
+{
+    let run = run_of::<S>(alloc, steps, given.word)?;
+    let is_run = run.refused.as_slice() == given.refused && run.coins == given.coins;
+    Ok(is_run && ranks(alloc, &run, given.ranks)?)
+}
+
+fn is_exact<S: Tried>(alloc: Global, run: &Run<S>, tail: &Tail) -> Result<bool, AllocError> {
+    for number in tail.first..=tail.last {
+        let item = S::item_of(alloc, number)?;
+        if rank_in(run, tail.slot, &item) != Some((number as u64, tail.last as u64)) {
+            return Ok(false);
+        }
+    }
+    Ok(true)
+}
+
+fn has_tail<S: Tried>(
+    alloc: Global,
+    steps: &[Step<S::Config>],
+    word: &[bool],
+    tail: &Tail,
+) -> Result<bool, Error>
+    requires { S.Asks }
+{
+    let run = run_of::<S>(alloc, steps, word)?;
+    match run.slots.get(&tail.slot) {
+        Some(sketch) => Ok(sketch.sizes().0 == tail.k && is_exact(alloc, &run, tail)?),
+        None => Ok(false),
+    }
+}
+
+fn retains<S: Tried>(
+    alloc: Global,
+    steps: &[Step<S::Config>],
+    word: &[bool],
+    slot: u8,
+    count: usize,
+) -> Result<bool, Error>
+    requires { S.Asks }
+{
+    let run = run_of::<S>(alloc, steps, word)?;
+    Ok(
+        run.slots
+            .get(&slot)
+            .is_some_and(|sketch| sketch.sizes().1 == count),
+    )
+}
+
+/// Whether some steps leave the same sketch in slot 0 as others do.
+pub(crate) fn leaves_alike<S: Tried>(
+    alloc: Global,
+    steps: &[Step<S::Config>],
+    others: &[Step<S::Config>],
+    word: &[bool],
+) -> Result<bool, Error>
+    requires { S.Asks }
+{
+    let (one, other) = (
+        run_of::<S>(alloc, steps, word)?,
+        run_of::<S>(alloc, others, word)?,
+    );
+    match (one.slots.get(&0), other.slots.get(&0)) {
+        (Some(sketch), Some(same)) => Ok(sketch.reads_as(same)),
+        _ => Ok(false),
+    }
+}
+
+fn audit_of<S: Tried>(
+    alloc: Global,
+    steps: &[Step<S::Config>],
+    slot: u8,
+    number: u32,
+    criteria: SearchCriteria,
+) -> Result<Audit, Error>
+    requires { S.Asks }
+{
+    let commands = commands_of::<S>(alloc, steps)?;
+    let item = S::item_of(alloc, number)?;
+    S::audit_of(alloc, commands.as_slice(), slot, &item, criteria)
+}
+
+fn audits<S: Tried>(
+    alloc: Global,
+    steps: &[Step<S::Config>],
+    row: &AuditRow<'_>,
+) -> Result<bool, Error>
+    requires { S.Asks }
+{
+    let audit = audit_of::<S>(
+        alloc,
+        steps,
+        row.slot,
+        row.number,
+        SearchCriteria::Inclusive,
+    )?;
+    Ok(
+        audit.coins == row.coins
+            && audit.weights.as_slice() == row.weights
+            && audit.true_rank == row.true_rank,
+    )
+}
+
+/// Whether the weights under all words of three coins sum to eight times the true rank.
+fn is_even(audit: &Audit) -> bool {
+    let mut sum = 0u64;
+    for weight in audit.weights.iter() {
+        sum = sum.wrapping_add(*weight);
+    }
+    audit.coins == 3 && sum == audit.true_rank.wrapping_mul(8)
+}
+
+fn is_unbiased<S: Tried>(
+    alloc: Global,
+    steps: &[Step<S::Config>],
+    count: u32,
+    criteria: SearchCriteria,
+) -> Result<bool, Error>
+    requires { S.Asks }
+{
+    for number in 0..count {
+        if !is_even(&audit_of::<S>(alloc, steps, 0, number, criteria)?) {
+            return Ok(false);
+        }
+    }
+    Ok(true)
+}
+
+fn is_invalid<X: Drop>(answer: Result<X, Error>) -> bool {
+    answer.is_err_and(|error| error.kind() == ErrorKind::InvalidArgument)
+}
+
+/// Whether it is so of these steps.
+pub(crate) fn holds<S: Tried>(
+    alloc: Global,
+    steps: &[Step<S::Config>],
+    trial: &Trial<'_>,
+) -> Result<bool, Error>
+    requires { S.Asks }
+{
+    match trial {
+        Trial::Gives(given) => gives::<S>(alloc, steps, given),
+        Trial::WantsMore(word) => Ok(is_invalid(run_of::<S>(alloc, steps, word))),
+        Trial::HasTail(word, tail) => has_tail::<S>(alloc, steps, word, tail),
+        Trial::Retains(word, slot, count) => retains::<S>(alloc, steps, word, *slot, *count),
+        Trial::Audits(row) => audits::<S>(alloc, steps, row),
+        Trial::IsUnbiased(count) => Ok(
+            is_unbiased::<S>(alloc, steps, *count, SearchCriteria::Inclusive)?
+                && is_unbiased::<S>(alloc, steps, *count, SearchCriteria::Exclusive)?,
+        ),
+        Trial::HasTooMany => Ok(is_invalid(audit_of::<S>(
+            alloc,
+            steps,
+            0,
+            5,
+            SearchCriteria::Inclusive,
+        ))),
+    }
+}
