@@ -46,12 +46,14 @@ impl<T: Clone + Ord> Levels<T> {
 
     // Adds up how many items the levels hold, and their nominal capacities.
     pub(crate) fn add_up(&mut self)
-        requires levels { AreLevels T.cmp self.old.k self.old.rank_accuracy 0 self.old.compactors.items }
+        requires levels { AreLevels T.cmp self.old.k self.old.rank_accuracy 0
+            self.old.compactors.items }
         requires few { retained_of (layouts_of self.old.compactors.items) < 2 ^ 32 }
         ensures k { self.new.k ≡ self.old.k }
         ensures accuracy { self.new.rank_accuracy ≡ self.old.rank_accuracy }
         ensures compactors { self.new.compactors ≡ self.old.compactors }
-        ensures retained { self.new.num_retained ≡ retained_of (layouts_of self.old.compactors.items) }
+        ensures retained { self.new.num_retained
+            ≡ retained_of (layouts_of self.old.compactors.items) }
         ensures capacity { self.new.capacity
             ≡ nominal_sum self.old.k (layouts_of self.old.compactors.items) }
     {
