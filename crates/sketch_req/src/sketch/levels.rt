@@ -1,13 +1,10 @@
-//! The levels of a sketch: the sums over them, and how an item comes in.
-//! The walk over them stands in `walk`, how other levels are joined in `merge`.
-ghost use Rattle.std.specs.Prelude.{◌≡◌, ◌+◌, ◌-◌, ◌^◌, ◌<◌, ◌≤◌, [], length, vec_len, vec_capacity, IfErr, OnOk, OnErr};
-ghost use Rattle.std.specs.List.{All};
-ghost use Rattle.sketch_base.specs.declared.error.ErrorKind.TheVariants.{OutOfMemory};
+//! The levels of a sketch, and the sums over them.
+//! How an item comes in stands in `walk`, how other levels are joined in `merge`.
+ghost use Rattle.std.specs.Prelude.{◌≡◌, ◌+◌, ◌^◌, ◌<◌};
 ghost use Rattle.sketch_base.specs.Query.{counted};
 ghost use Rattle.sketch_req.specs.Rank.{counted_weight};
-ghost use Rattle.sketch_req.specs.Schedule.{layouts_of, room_layouts, retained_of, weight_of, nominal_sum};
-ghost use Rattle.sketch_req.specs.Sections.{IsLegalK};
-ghost use Rattle.sketch_req.specs.Walk.{AreLevels, AreActed, appended_first, room_of};
+ghost use Rattle.sketch_req.specs.Schedule.{layouts_of, retained_of, weight_of, nominal_sum};
+ghost use Rattle.sketch_req.specs.Walk.{AreLevels};
 
 use crate::RankAccuracy;
 use crate::compactor::Compactor;
@@ -49,12 +46,14 @@ impl<T: Clone + Ord> Levels<T> {
 
     // Adds up how many items the levels hold, and their nominal capacities.
     pub(crate) fn add_up(&mut self)
-        requires levels { AreLevels T.cmp self.old.k self.old.rank_accuracy 0 self.old.compactors.items }
+        requires levels { AreLevels T.cmp self.old.k self.old.rank_accuracy 0
+            self.old.compactors.items }
         requires few { retained_of (layouts_of self.old.compactors.items) < 2 ^ 32 }
         ensures k { self.new.k ≡ self.old.k }
         ensures accuracy { self.new.rank_accuracy ≡ self.old.rank_accuracy }
         ensures compactors { self.new.compactors ≡ self.old.compactors }
-        ensures retained { self.new.num_retained ≡ retained_of (layouts_of self.old.compactors.items) }
+        ensures retained { self.new.num_retained
+            ≡ retained_of (layouts_of self.old.compactors.items) }
         ensures capacity { self.new.capacity
             ≡ nominal_sum self.old.k (layouts_of self.old.compactors.items) }
     {

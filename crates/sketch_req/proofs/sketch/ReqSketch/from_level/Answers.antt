@@ -2,9 +2,8 @@ use Rattle.std.proofs.Common.{◌≡◌, ◌∙◌, ◌∷◌, [], refl, sym, ap
 use Rattle.std.proofs.lemmas.Cmp.{tied_back}
 use Rattle.sketch_base.specs.Extremes.{IsExtreme, IsAtMost}
 use Rattle.sketch_req.specs.Level.{Level}
-use Rattle.sketch_req.specs.Sketch.{Req, IsSound, sketch_of}
+use Rattle.sketch_req.specs.Sketch.{Req, sketch_of}
 use Rattle.sketch_req.specs.Image.{accuracy_in, IsTold}
-use Rattle.sketch_req.specs.declared.RankAccuracy.{RankAccuracy}
 use Rattle.sketch_req.proofs.Sounds.{rebuilt}
 use Rattle.sketch_req.proofs.sketch.ReqSketch.from_level.Goals as goal
 

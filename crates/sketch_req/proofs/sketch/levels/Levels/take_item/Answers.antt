@@ -1,4 +1,4 @@
-use Rattle.std.proofs.Common.{◌≡◌, ◌+◌, false, true, sym, ap, ◌∙◌, subst, List, arith, le-leb}
+use Rattle.std.proofs.Common.{◌≡◌, false, true, sym, ap, ◌∙◌, subst, List, arith, le-leb}
 use Rattle.std.proofs.lemmas.Bool.{lt-leb}
 use Rattle.std.proofs.lemmas.Result.{on_ok_weaker}
 use Rattle.sketch_req.specs.Level.{Level}
