@@ -335,7 +335,7 @@ fn is_unbiased<S: Tried>(
     Ok(true)
 }
 
-fn is_invalid<X: Drop>(answer: Result<X, Error>) -> bool {
+pub(crate) fn is_invalid<X: Drop>(answer: Result<X, Error>) -> bool {
     answer.is_err_and(|error| error.kind() == ErrorKind::InvalidArgument)
 }
 
