@@ -6,6 +6,7 @@ use super::calls::{
     Answer, CRITERIA, Call, Row, Subject, WORD, answer_of, are_alike, filled, fractions, is_same,
     items, subject_of,
 };
+use super::runs::is_invalid;
 use super::sketches::Tried;
 use sketch_base::common::random::WordBits;
 use sketch_base::common::{Rank, SearchCriteria};
@@ -123,15 +124,11 @@ fn refuses_arguments<S: Tried>(alloc: Global, sketch: &S, equal: &[S::Item]) -> 
         weight: 0,
         total: 0,
     };
-    is_bad(sketch.quantile_of(none, CRITERIA))
-        && is_bad(sketch.quantiles_of(&[none]))
-        && is_bad(sketch.cdf_of(equal, CRITERIA))
-        && is_bad(sketch.pmf_of(equal, CRITERIA))
-        && is_bad(S::create(alloc, S::config_of(3)))
-}
-
-fn is_bad<X: Drop>(answer: Result<X, Error>) -> bool {
-    answer.is_err_and(|error| error.kind() == ErrorKind::InvalidArgument)
+    is_invalid(sketch.quantile_of(none, CRITERIA))
+        && is_invalid(sketch.quantiles_of(&[none]))
+        && is_invalid(sketch.cdf_of(equal, CRITERIA))
+        && is_invalid(sketch.pmf_of(equal, CRITERIA))
+        && is_invalid(S::create(alloc, S::config_of(3)))
 }
 
 /// Whether an empty sketch answers None.

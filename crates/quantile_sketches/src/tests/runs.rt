@@ -6,7 +6,6 @@ use sketch_base::error::{Error, ErrorKind};
 use std::alloc::{AllocError, Global};
 
 /// One command of a run, or many alike.
-#[derive(Clone, Copy)]
 pub(crate) enum Step<C> {
     New(u8, C),
     /// Updates by the numbers from one to another.
@@ -16,6 +15,15 @@ pub(crate) enum Step<C> {
     Reset(u8),
     RoundTrip(u8),
 }
+
+// (by hand, since it is proved sooner than a derived one)
+impl<C: Copy> Clone for Step<C> {
+    fn clone(&self) -> Result<Self, AllocError> {
+        Ok(*self)
+    }
+}
+
+impl<C: Copy> Copy for Step<C> {}
 
 /// What must come of some steps.
 #[derive(Clone, Copy)]
@@ -327,7 +335,7 @@ fn is_unbiased<S: Tried>(
     Ok(true)
 }
 
-fn is_invalid<X: Drop>(answer: Result<X, Error>) -> bool {
+pub(crate) fn is_invalid<X: Drop>(answer: Result<X, Error>) -> bool {
     answer.is_err_and(|error| error.kind() == ErrorKind::InvalidArgument)
 }
 
