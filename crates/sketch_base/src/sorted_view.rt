@@ -53,10 +53,12 @@ impl<T: Clone + Ord> SortedView<T> {
         requires fits { sum_by (λ pair. pair.1) weighted.items < 2 ^ 64 }
         requires least { 0 < length weighted.items → IsSome min_item }
         requires greatest { 0 < length weighted.items → IsSome max_item }
-        ensures entries { IfOk result (λ v. SameItems T.cmp (sort T.cmp (copies weighted.items)) v.entries) }
+        ensures entries { IfOk result (λ v.
+            SameItems T.cmp (sort T.cmp (copies weighted.items)) v.entries) }
         ensures joined { IfOk result (λ v. v.held ≡ distinct T.cmp v.entries) }
         ensures least { IfOk result (λ v. v.least ≡ extreme_among weighted.items min_item) }
-        ensures greatest { IfOk result (λ v. v.greatest ≡ extreme_among weighted.items max_item) }
+        ensures greatest { IfOk result (λ v.
+            v.greatest ≡ extreme_among weighted.items max_item) }
         ensures memory { IfErr result (λ e. e ≡ OutOfMemory) }
         ensures none { IfErr result (λ e. 0 < length weighted.items) }
     {
@@ -115,7 +117,8 @@ impl<T: Clone + Ord> SortedView<T> {
     /// How many entries a query counts, of them all; None where there are none.
     pub fn rank(&self, item: &T, criteria: SearchCriteria) -> Option<Rank>
         ensures there { IsSome result ↔ (0 < length self.now.entries) }
-        ensures weight { IfSome result (λ r. r.weight ≡ true_rank T.cmp item.now criteria self.now.entries) }
+        ensures weight { IfSome result (λ r.
+            r.weight ≡ true_rank T.cmp item.now criteria self.now.entries) }
         ensures total { IfSome result (λ r. r.total ≡ length self.now.entries) }
     {
         if self.items.is_empty() {
@@ -147,7 +150,8 @@ impl<T: Clone + Ord> SortedView<T> {
         requires clones { (x y : T) → T.is_clone x y → T.cmp x y ≡ Equal }
         ensures found { IfOk result (FindsQuantiles T.cmp self.now criteria fractions.now) }
         ensures there { IfOk result (IsFoundAmong (length self.now.entries)) }
-        ensures refused { IsRefusedUnless (All IsFraction fractions.now) (length self.now.entries) result }
+        ensures refused { IsRefusedUnless (All IsFraction fractions.now)
+            (length self.now.entries) result }
     {
         check_fractions(fractions)?;
         if self.items.is_empty() {
@@ -160,10 +164,11 @@ impl<T: Clone + Ord> SortedView<T> {
     pub fn cdf(&self, points: &[T], criteria: SearchCriteria) -> Result<Option<Vec<Rank>>, Error>
         ensures found { let entries = self.now.entries in
             IfOk result (FindsRanks (length entries) (cdf_of T.cmp criteria entries points.now)) }
-        ensures rises { IfOk result (λ found. IfSome found (λ ranks. IsNonDecreasing (map (λ (r : Rank).
-            r.weight) ranks.items))) }
+        ensures rises { IfOk result (λ found. IfSome found (λ ranks.
+            IsNonDecreasing (map (λ (r : Rank). r.weight) ranks.items))) }
         ensures there { IfOk result (IsFoundAmong (length self.now.entries)) }
-        ensures refused { IsRefusedUnless (IsIncreasing T.cmp points.now) (length self.now.entries) result }
+        ensures refused { IsRefusedUnless (IsIncreasing T.cmp points.now)
+            (length self.now.entries) result }
     {
         check_points(points)?;
         if self.items.is_empty() {
@@ -181,7 +186,8 @@ impl<T: Clone + Ord> SortedView<T> {
         ensures sums { IfOk result (λ found. IfSome found (λ ranks. sum_by (λ (r : Rank).
             r.weight) ranks.items ≡ length self.now.entries)) }
         ensures there { IfOk result (IsFoundAmong (length self.now.entries)) }
-        ensures refused { IsRefusedUnless (IsIncreasing T.cmp points.now) (length self.now.entries) result }
+        ensures refused { IsRefusedUnless (IsIncreasing T.cmp points.now)
+            (length self.now.entries) result }
     {
         check_points(points)?;
         if self.items.is_empty() {

@@ -52,8 +52,10 @@ pub fn greatest_of<T: Ord>(items: &[T]) -> &T
 
 /// Whether each item is at least the one and at most the other.
 pub fn are_between<T: Ord>(items: &[T], least: &T, greatest: &T) -> bool
-    ensures yes { IsTrue result → AllByRecursion (IsBetween T.cmp least.now greatest.now) items.now }
-    ensures no { AllByRecursion (IsBetween T.cmp least.now greatest.now) items.now → IsTrue result }
+    ensures yes { IsTrue result
+        → AllByRecursion (IsBetween T.cmp least.now greatest.now) items.now }
+    ensures no { AllByRecursion (IsBetween T.cmp least.now greatest.now) items.now
+        → IsTrue result }
 {
     for item in items {
         if least.cmp(item).is_gt() || item.cmp(greatest).is_gt() {
