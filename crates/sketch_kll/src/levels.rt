@@ -179,7 +179,8 @@ fn find_level_to_compact<T>(k: u16, total: u32, items: &[T], bounds: &[usize]) -
     requires some_level { 1 < length bounds.now }
     requires few_levels { length bounds.now ≤ 62 }
     ensures full { is_some result ≡ is_full k (levels_in items.now bounds.now) }
-    ensures level { IfSome result (λ level. level ≡ full_level k (levels_in items.now bounds.now)) }
+    ensures level { IfSome result (λ level.
+        level ≡ full_level k (levels_in items.now bounds.now)) }
     ensures within { IfSome result (λ level. level + 1 < length bounds.now) }
 {
     if items.len() < total as usize {
