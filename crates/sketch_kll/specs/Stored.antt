@@ -1,10 +1,10 @@
 -- the levels of a sketch as their model, and how they are stored
-use Rattle.std.specs.Prelude.{◌≡◌, ℕ, ◌<◌, ◌≤◌, ◌+◌, Bool, List, [], length, vec_len, vec_capacity}
+use Rattle.std.specs.Prelude.{◌≡◌, ℕ, ◌<◌, ◌≤◌, ◌+◌, Bool, List, [], ◌∷◌, length, drop, vec_len, vec_capacity}
 use Rattle.std.specs.declared.cmp.Ordering.{Ordering}
 use Rattle.sketch_kll.specs.declared.levels.merging.Incoming.{Incoming}
 use Rattle.sketch_kll.specs.Capacity.{total_of}
-use Rattle.sketch_kll.specs.Flat.{levels_in, IsFlat}
-use Rattle.sketch_kll.specs.Levels.{retained, UpperSorted}
+use Rattle.sketch_kll.specs.Flat.{marks, levels_in, IsFlat}
+use Rattle.sketch_kll.specs.Levels.{retained, SameLevels, UpperSorted}
 
 -- k, whether level 0 counts as sorted, the levels, and for how many items and bounds there is room
 pub record Stored (A : Type 0) : Type 0 where
@@ -41,3 +41,8 @@ pub record IsReady {A : Type 0} (x : Stored A) (y : Incoming A) : Type 0 where
   pub bounds_room : 63 ≤ x.bounds_room
   pub merged_room : retained x.levels + vec_len y.low + vec_len y.upper ≤ vec_capacity y.merged
   pub merged_empty : y.merged.items ≡ []
+
+-- clones of levels: the items of level 0, and those of the levels above it, which lie between the same bounds
+pub record AreClones {A : Type 0} (cmp : A → A → Ordering) (ls : List (List A)) (y : Incoming A) : Type 0 where
+  pub same : SameLevels cmp ls (y.low.items ∷ levels_in y.upper.items (drop 1 (marks ls)))
+  pub flat : IsFlat y.upper.items (drop 1 (marks ls))
