@@ -5,10 +5,10 @@ ghost use Rattle.std.specs.List.{between};
 ghost use Rattle.sketch_base.specs.Query.{counted};
 ghost use Rattle.sketch_kll.specs.Capacity.{total_of};
 ghost use Rattle.sketch_kll.specs.Flat.{levels_in, IsFlat};
-ghost use Rattle.sketch_kll.specs.Levels.{weight as weight_in, first_level, compacted, SameLevels, UpperSorted};
+ghost use Rattle.sketch_kll.specs.Levels.{retained, weight as weight_in, first_level, compacted, SameLevels, UpperSorted};
 ghost use Rattle.sketch_kll.specs.Rank.{counted_weight};
 ghost use Rattle.sketch_kll.specs.Steps.{full_level, is_full, with_room, keeps_last, put};
-ghost use Rattle.sketch_kll.specs.Stored.{levels_of, AreStored, KeepsRoom};
+ghost use Rattle.sketch_kll.specs.Stored.{KeepsRoom};
 
 mod compress;
 pub(crate) mod merging;
@@ -19,11 +19,12 @@ use sketch_base::common::SearchCriteria;
 use sketch_base::common::counting::count_counted;
 use sketch_base::common::random::RandomBits;
 use std::alloc::{AllocError, Global};
+use std::marker::Model;
 
 /// The levels of a sketch: level h is `items[bounds[h + 1]..bounds[h]]`, so that an update without
-/// a compaction is a push.
+/// a compaction is a push. A contract sees them as the record `Stored` of specs/Stored.
 #[derive(Debug, Drop)]
-pub(crate) struct Levels<T> {
+pub(crate) struct Levels<T: Ord> {
     pub(crate) k: u16,
     pub(crate) is_level_zero_sorted: bool,
     pub(crate) items: Vec<T>,
@@ -31,15 +32,25 @@ pub(crate) struct Levels<T> {
     pub(crate) total_capacity: u32,
 }
 
+impl<T: Ord> Model for Levels<T> {
+    ghost use Rattle.std.specs.Prelude.{vec_capacity};
+    ghost use Rattle.sketch_kll.specs.Stored.{Stored, AreStored, stored_of};
+
+    ghost Value = { Stored T };
+
+    ghost view = { λ x. stored_of x.k x.is_level_zero_sorted x.items.items x.bounds.items
+        (vec_capacity x.items) (vec_capacity x.bounds) };
+
+    ghost invariant = { λ x. AreStored T.cmp x.k x.items.items x.bounds.items x.total_capacity };
+}
+
 impl<T: Ord + Drop> Levels<T> {
     // One level with nothing in it, which does not count as sorted.
     pub(crate) fn new(alloc: Global, k: u16) -> Result<Self, AllocError>
         requires k { 8 ≤ k }
         ensures k { IfOk result (λ x. x.k ≡ k) }
-        ensures flag { IfOk result (λ x. x.is_level_zero_sorted ≡ false) }
-        ensures items { IfOk result (λ x. x.items.items ≡ []) }
-        ensures bounds { IfOk result (λ x. x.bounds.items ≡ 0 ∷ 0 ∷ []) }
-        ensures total { IfOk result (λ x. x.total_capacity ≡ total_of k 8 1) }
+        ensures flag { IfOk result (λ x. x.is_sorted ≡ false) }
+        ensures levels { IfOk result (λ x. x.levels ≡ [] ∷ []) }
     {
         Ok(Levels {
             k,
@@ -52,13 +63,9 @@ impl<T: Ord + Drop> Levels<T> {
 
     // Makes the levels what `new` gives.
     pub(crate) fn clear(&mut self)
-        requires k { 8 ≤ self.old.k }
-        requires some_level { 1 < length self.old.bounds.items }
         ensures k { self.new.k ≡ self.old.k }
-        ensures flag { self.new.is_level_zero_sorted ≡ false }
-        ensures items { self.new.items.items ≡ [] }
-        ensures bounds { self.new.bounds.items ≡ 0 ∷ 0 ∷ [] }
-        ensures total { self.new.total_capacity ≡ total_of self.old.k 8 1 }
+        ensures flag { self.new.is_sorted ≡ false }
+        ensures levels { self.new.levels ≡ [] ∷ [] }
     {
         self.is_level_zero_sorted = false;
         self.items.clear();
@@ -71,17 +78,15 @@ impl<T: Ord + Drop> Levels<T> {
     // Compacts one level, where the levels are at or over their total capacity.
     #[inline(always)]
     pub(crate) fn make_room<B: RandomBits>(&mut self, coins: &mut B)
-        requires stored { AreStored T.cmp self.old }
-        requires light { weight_in (levels_of self.old) < 2 ^ 64 }
-        requires spare { vec_len self.old.bounds < vec_capacity self.old.bounds }
-        ensures stored { AreStored T.cmp self.new }
+        requires light { weight_in self.old.levels < 2 ^ 64 }
+        requires spare { length self.old.levels + 1 < self.old.bounds_room }
         ensures kept { KeepsRoom self.old self.new }
         ensures levels { SameLevels T.cmp
-            (with_room T.cmp self.old.k self.old.is_level_zero_sorted (B.bit coins.old)
-            (levels_of self.old))
-            (levels_of self.new) }
-        ensures shorter { vec_len self.new.items ≤ vec_len self.old.items }
-        ensures coins { coins.new ≡ (if is_full self.old.k (levels_of self.old)
+            (with_room T.cmp self.old.k self.old.is_sorted (B.bit coins.old) self.old.levels)
+            self.new.levels }
+        ensures sorted { UpperSorted T.cmp self.new.levels }
+        ensures shorter { retained self.new.levels ≤ retained self.old.levels }
+        ensures coins { coins.new ≡ (if is_full self.old.k self.old.levels
             then B.next coins.old else coins.old) }
     {
         let (items, bounds) = (self.items.as_slice(), self.bounds.as_slice());
@@ -92,17 +97,16 @@ impl<T: Ord + Drop> Levels<T> {
 
     // Compacts one level under the next coin; above the top one a level is added.
     fn compact<B: RandomBits>(&mut self, level: usize, coins: &mut B)
-        requires stored { AreStored T.cmp self.old }
-        requires within { level + 1 < length self.old.bounds.items }
+        requires within { level < length self.old.levels }
         requires few { level < 60 }
-        requires spare { vec_len self.old.bounds < vec_capacity self.old.bounds }
-        ensures stored { AreStored T.cmp self.new }
+        requires spare { length self.old.levels + 1 < self.old.bounds_room }
         ensures kept { KeepsRoom self.old self.new }
         ensures levels { SameLevels T.cmp
-            (compacted T.cmp (keeps_last self.old.is_level_zero_sorted level) (B.bit coins.old)
-            level (levels_of self.old))
-            (levels_of self.new) }
-        ensures shorter { vec_len self.new.items ≤ vec_len self.old.items }
+            (compacted T.cmp (keeps_last self.old.is_sorted level) (B.bit coins.old)
+            level self.old.levels)
+            self.new.levels }
+        ensures sorted { UpperSorted T.cmp self.new.levels }
+        ensures shorter { retained self.new.levels ≤ retained self.old.levels }
         ensures coins { coins.new ≡ B.next coins.old }
     {
         let known = self.bounds.len() - 1;
@@ -116,15 +120,12 @@ impl<T: Ord + Drop> Levels<T> {
 
     // Puts an item last into level 0.
     pub(crate) fn push(&mut self, item: T)
-        requires stored { AreStored T.cmp self.old }
-        requires spare { vec_len self.old.items < vec_capacity self.old.items }
-        ensures stored { AreStored T.cmp self.new }
+        requires spare { retained self.old.levels < self.old.items_room }
         ensures k { self.new.k ≡ self.old.k }
-        ensures flag { self.new.is_level_zero_sorted ≡ false }
-        ensures levels { levels_of self.new ≡ put item (levels_of self.old) }
-        ensures len { vec_len self.new.items ≡ vec_len self.old.items + 1 }
-        ensures room { vec_capacity self.old.items ≤ vec_capacity self.new.items }
-        ensures bounds_room { vec_capacity self.new.bounds ≡ vec_capacity self.old.bounds }
+        ensures flag { self.new.is_sorted ≡ false }
+        ensures levels { self.new.levels ≡ put item self.old.levels }
+        ensures room { self.old.items_room ≤ self.new.items_room }
+        ensures bounds_room { self.new.bounds_room ≡ self.old.bounds_room }
     {
         self.items.push(item).unwrap();
         self.bounds[0] = self.items.len();
@@ -179,7 +180,8 @@ fn find_level_to_compact<T>(k: u16, total: u32, items: &[T], bounds: &[usize]) -
     requires some_level { 1 < length bounds.now }
     requires few_levels { length bounds.now ≤ 62 }
     ensures full { is_some result ≡ is_full k (levels_in items.now bounds.now) }
-    ensures level { IfSome result (λ level. level ≡ full_level k (levels_in items.now bounds.now)) }
+    ensures level { IfSome result (λ level.
+        level ≡ full_level k (levels_in items.now bounds.now)) }
     ensures within { IfSome result (λ level. level + 1 < length bounds.now) }
 {
     if items.len() < total as usize {

@@ -4,9 +4,9 @@ ghost use Rattle.sketch_base.specs.Random.{after_draws};
 ghost use Rattle.sketch_base.specs.Trace.{draws_of};
 ghost use Rattle.sketch_kll.specs.Capacity.{total_of};
 ghost use Rattle.sketch_kll.specs.Compress.{walked, passes, stepped, compress_of, IsCompressed};
-ghost use Rattle.sketch_kll.specs.Levels.{retained, weight, first_level, SameLevels};
+ghost use Rattle.sketch_kll.specs.Levels.{retained, weight, first_level, SameLevels, UpperSorted};
 ghost use Rattle.sketch_kll.specs.Steps.{is_full};
-ghost use Rattle.sketch_kll.specs.Stored.{levels_of, AreStored, KeepsRoom};
+ghost use Rattle.sketch_kll.specs.Stored.{KeepsRoom};
 
 use super::Levels;
 use crate::capacity::{MINIMUM_CAPACITY, level_capacity};
@@ -16,13 +16,13 @@ impl<T: Ord + Drop> Levels<T> {
     // Whether the walk comes to a level: it is there, and the levels are at or over their total
     // capacity.
     fn walk_reaches(&self, level: usize) -> bool
-        requires stored { AreStored T.cmp self.now }
         requires fits { level + 1 < 2 ^ 64 }
-        ensures within { IsTrue result → level + 1 < length self.now.bounds.items }
-        ensures full { IsTrue result → is_full self.now.k (levels_of self.now) ≡ true }
-        ensures over { result ≡ false → (length (levels_of self.now) ≤ level)
-            ⊎ (retained (levels_of self.now)
-            < total_of self.now.k 8 (length (levels_of self.now))) }
+        ensures within { IsTrue result → level < length self.now.levels }
+        ensures full { IsTrue result → is_full self.now.k self.now.levels ≡ true }
+        ensures over { result ≡ false → (length self.now.levels ≤ level)
+            ⊎ (retained self.now.levels < total_of self.now.k 8 (length self.now.levels)) }
+        ensures few { length self.now.levels ≤ 61 }
+        ensures sorted { UpperSorted T.cmp self.now.levels }
     {
         level + 1 < self.bounds.len() && self.items.len() >= self.total_capacity as usize
     }
@@ -30,10 +30,9 @@ impl<T: Ord + Drop> Levels<T> {
     // Whether general compress leaves a level as it is, where the levels are at or over their total
     // capacity.
     fn level_passes(&self, level: usize) -> bool
-        requires stored { AreStored T.cmp self.now }
-        requires full { is_full self.now.k (levels_of self.now) ≡ true }
-        requires within { level + 1 < length self.now.bounds.items }
-        ensures { result ≡ passes self.now.k (levels_of self.now) level }
+        requires full { is_full self.now.k self.now.levels ≡ true }
+        requires within { level < length self.now.levels }
+        ensures { result ≡ passes self.now.k self.now.levels level }
     {
         let bounds = self.bounds.as_slice();
         let num_levels = bounds.len() - 1;
@@ -43,18 +42,15 @@ impl<T: Ord + Drop> Levels<T> {
 
     // One step of the walk, where the levels are at or over their total capacity.
     fn compress_level<B: RandomBits>(&mut self, level: usize, coins: &mut B)
-        requires stored { AreStored T.cmp self.old }
-        requires full { is_full self.old.k (levels_of self.old) ≡ true }
-        requires within { level + 1 < length self.old.bounds.items }
+        requires full { is_full self.old.k self.old.levels ≡ true }
+        requires within { level < length self.old.levels }
         requires few { level < 60 }
-        requires spare { vec_len self.old.bounds < vec_capacity self.old.bounds }
-        ensures stored { AreStored T.cmp self.new }
+        requires spare { length self.old.levels + 1 < self.old.bounds_room }
         ensures kept { KeepsRoom self.old self.new }
         ensures levels { SameLevels T.cmp
-            (stepped T.cmp self.old.k self.old.is_level_zero_sorted (B.bit coins.old) level
-            (levels_of self.old))
-            (levels_of self.new) }
-        ensures coins { coins.new ≡ (if passes self.old.k (levels_of self.old) level
+            (stepped T.cmp self.old.k self.old.is_sorted (B.bit coins.old) level self.old.levels)
+            self.new.levels }
+        ensures coins { coins.new ≡ (if passes self.old.k self.old.levels level
             then coins.old else B.next coins.old) }
     {
         if !self.level_passes(level) {
@@ -65,24 +61,23 @@ impl<T: Ord + Drop> Levels<T> {
     // General compress: compacts, from level 0 up, each level that is over its capacity, until the
     // levels are below their total capacity. The walk goes on into a level that is added.
     pub(crate) fn compress<B: RandomBits>(&mut self, coins: &mut B)
-        requires stored { AreStored T.cmp self.old }
-        requires light { weight (levels_of self.old) < 2 ^ 64 }
-        requires flag { IsTrue self.old.is_level_zero_sorted
-            → IsSorted T.cmp (first_level (levels_of self.old)) }
-        requires spare { 63 ≤ vec_capacity self.old.bounds }
-        ensures stored { AreStored T.cmp self.new }
+        requires light { weight self.old.levels < 2 ^ 64 }
+        requires flag { IsTrue self.old.is_sorted → IsSorted T.cmp (first_level self.old.levels) }
+        requires spare { 63 ≤ self.old.bounds_room }
         ensures kept { KeepsRoom self.old self.new }
-        ensures below { retained (levels_of self.new)
-            < total_of self.old.k 8 (length (levels_of self.new)) }
+        ensures below { retained self.new.levels < total_of self.old.k 8 (length self.new.levels) }
         ensures levels { SameLevels T.cmp
-            (walked T.cmp B.bit B.next self.old.k self.old.is_level_zero_sorted 61 0 coins.old
-            (levels_of self.old))
-            (levels_of self.new) }
-        ensures bag { IsCompressed T.cmp B.bit B.next coins.old self.old.k
-            self.old.is_level_zero_sorted (levels_of self.old) (levels_of self.new) }
+            (walked T.cmp B.bit B.next self.old.k self.old.is_sorted 61 0 coins.old
+            self.old.levels)
+            self.new.levels }
+        ensures bag { IsCompressed T.cmp B.bit B.next coins.old self.old.k self.old.is_sorted
+            self.old.levels self.new.levels }
         ensures coins { coins.new ≡ after_draws B.next coins.old
-            (draws_of (compress_of self.old.k (levels_of self.old))) }
+            (draws_of (compress_of self.old.k self.old.levels)) }
+        ensures few { length self.new.levels ≤ 61 }
+        ensures sorted { UpperSorted T.cmp self.new.levels }
     {
+        let _k = self.k;
         let mut level = 0;
         while self.walk_reaches(level) {
             self.compress_level(level, coins);

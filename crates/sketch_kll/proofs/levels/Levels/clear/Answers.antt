@@ -1,4 +1,6 @@
 use Rattle.std.proofs.Common.{◌≡◌, ℕ, ◌≤◌, List, [], ◌∷◌, length, set, take, arith, refl, ap, ◌∙◌}
+use Rattle.sketch_kll.proofs.Flats.{length-bounds}
+use Rattle.sketch_kll.proofs.Sketches.{empty_stored, new_levels}
 use Rattle.sketch_kll.proofs.levels.Levels.clear.Goals as goal
 
 two_bounds : (bs : List ℕ) → 2 ≤ length bs → set (set (take 2 bs) 0 0) 1 0 ≡ 0 ∷ 0 ∷ []
@@ -6,5 +8,19 @@ two_bounds [] h = absurd (omega arith)
 two_bounds (a ∷ []) h = absurd (omega arith)
 two_bounds (a ∷ b ∷ bs) h = refl
 
-pub returns-clause-bounds : goal.returns-clause-bounds
-returns-clause-bounds g c = ap (λ (x : List ℕ). set (set x 0 0) 1 0) c.truncate.ensures.items ∙ two_bounds c.args.self.now.bounds.items (omega (arith, c.requires.some_level))
+pub index_mut-requires-2 : goal.index_mut-requires-2
+index_mut-requires-2 g c =
+    let n = length-bounds c.self.inside.items.items c.self.inside.bounds.items c.self.invariant.flat in
+    omega (arith, n, c.self.invariant.some, c.truncate.ensures.len, c.self.inside.bounds.ok)
+
+pub invariant_of-self : goal.invariant_of-self
+invariant_of-self g c =
+    let n = length-bounds c.self.inside.items.items c.self.inside.bounds.items c.self.invariant.flat in
+    let bounds = ap (λ (x : List ℕ). set (set x 0 0) 1 0) c.truncate.ensures.items ∙ two_bounds c.self.inside.bounds.items (omega (arith, n, c.self.invariant.some)) in
+    empty_stored g.T.Ord.cmp c.self.inside.k _ _ _ c.self.invariant.k_above c.clear.ensures.items bounds c.total_capacity-self-inside.ensures.value
+
+pub returns-clause-levels : goal.returns-clause-levels
+returns-clause-levels g c =
+    let n = length-bounds c.self.inside.items.items c.self.inside.bounds.items c.self.invariant.flat in
+    let bounds = ap (λ (x : List ℕ). set (set x 0 0) 1 0) c.truncate.ensures.items ∙ two_bounds c.self.inside.bounds.items (omega (arith, n, c.self.invariant.some)) in
+    (new_levels c.clear.new.self.items _ c.clear.ensures.items bounds).1

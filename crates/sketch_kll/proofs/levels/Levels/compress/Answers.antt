@@ -1,22 +1,21 @@
 use Rattle.std.proofs.Common.{◌≡◌, ℕ, Bool, List, ◌+◌, ◌<◌, ◌≤◌, ◌⊎◌, inl, inr, suc, length, arith, ap, subst, ◌∙◌, refl}
 use Rattle.std.proofs.lemmas.Bool.{cases_eq, leb-true}
 use Rattle.sketch_kll.specs.Capacity.{total_of}
-use Rattle.sketch_kll.specs.Levels.{retained, SameLevels}
-use Rattle.sketch_kll.specs.Flat.{levels_in}
+use Rattle.sketch_kll.specs.Levels.{retained, SameLevels, UpperSorted}
 use Rattle.sketch_kll.specs.Compress.{stepped, stepped_source}
-use Rattle.sketch_kll.proofs.Flats.{SameLevels-refl, length-bounds}
+use Rattle.sketch_kll.specs.Stored.{Stored}
+use Rattle.sketch_kll.proofs.Flats.{SameLevels-refl}
 use Rattle.sketch_kll.proofs.Walks.{behind_start, no_62nd_level, walk_step, walk_more, WalkStep}
 use Rattle.sketch_kll.proofs.Compresses.{walk_ended}
 use Rattle.sketch_kll.proofs.levels.Levels.compress.Goals as goal
 
 pub loop-self-init : goal.loop-self-init
 loop-self-init g c = record {
-  stored = c.requires.stored;
   kept = record { k_is = refl; flag_is = refl; items_room = omega arith; bounds_room = omega arith };
   level_few = omega arith;
   weighs = c.requires.light;
-  behind = behind_start c.args.self.now.k (levels_in c.args.self.now.items.items c.args.self.now.bounds.items);
-  below = λ h. absurd (omega (arith, h, c.requires.stored.some));
+  behind = behind_start c.args.self.now.k c.args.self.now.levels;
+  below = λ h. absurd (omega (arith, h, ap (λ (y : Stored g.row.T.Denot). length y.levels) c.self.view_is, c.self.invariant.some));
   levels = SameLevels-refl g.T.Ord.cmp g.met.T.Ord.total _;
   source = refl;
 }
@@ -25,19 +24,18 @@ pub compress_level-requires-clause-few : goal.compress_level-requires-clause-few
 compress_level-requires-clause-few g c =
     let x = c.loop-self.self in
     let i = c.loop-self.invariant in
-    let n = length-bounds x.items.items x.bounds.items i.stored.flat in
     let within = c.loop-self-test.ensures.within refl in
+    let few = c.loop-self-test.ensures.few in
     let full = leb-true _ _ (c.loop-self-test.ensures.full refl) in
+    let above : 8 ≤ c.args.self.now.k = omega (arith, ap (λ (y : Stored g.row.T.Denot). y.k) c.self.view_is, c.self.invariant.k_above) in
     elim (cases_eq c.loop-self.level 60) [
-      | inl e ↦ absurd (no_62nd_level c.args.self.now.k c.loop-self.level (levels_in x.items.items x.bounds.items) c.requires.stored.k_above e (omega (arith, n, within, e, i.stored.few)) (omega (arith, full, ap (λ (k : ℕ). total_of k 8 (length (levels_in x.items.items x.bounds.items))) i.kept.k_is)) i.weighs i.behind)
-      | inr e ↦ omega (arith, n, within, e, i.stored.few)
+      | inl e ↦ absurd (no_62nd_level c.args.self.now.k c.loop-self.level x.levels above e (omega (arith, within, e, few)) (omega (arith, full, ap (λ (k : ℕ). total_of k 8 (length x.levels)) i.kept.k_is)) i.weighs i.behind)
+      | inr e ↦ omega (arith, within, e, few)
     ]
 
 pub compress_level-requires-clause-spare : goal.compress_level-requires-clause-spare
 compress_level-requires-clause-spare g c =
-    let x = c.loop-self.self in
-    let n = length-bounds x.items.items x.bounds.items c.loop-self.invariant.stored.flat in
-    omega (arith, n, c.loop-self.invariant.stored.few, c.loop-self.invariant.kept.bounds_room, c.requires.spare, x.bounds.ok)
+    omega (arith, c.loop-self-test.ensures.few, c.loop-self.invariant.kept.bounds_room, c.requires.spare)
 
 pub loop-self-preserved : goal.loop-self-preserved
 loop-self-preserved g c =
@@ -46,31 +44,30 @@ loop-self-preserved g c =
     let y = c.compress_level.new.self in
     let e = c.compress_level.ensures in
     let k : ℕ = c.args.self.now.k in
-    let flag : Bool = c.args.self.now.is_level_zero_sorted in
-    let ls : List (List g.row.T.Denot) = levels_in x.items.items x.bounds.items in
-    let ms : List (List g.row.T.Denot) = levels_in y.items.items y.bounds.items in
-    let n = length-bounds x.items.items x.bounds.items i.stored.flat in
+    let flag : Bool = c.args.self.now.is_sorted in
+    let ls : List (List g.row.T.Denot) = x.levels in
+    let ms : List (List g.row.T.Denot) = y.levels in
     let t = c.loop-self-test.ensures.within refl in
+    let few = c.loop-self-test.ensures.few in
+    let above : 8 ≤ k = omega (arith, ap (λ (y : Stored g.row.T.Denot). y.k) c.self.view_is, c.self.invariant.k_above) in
     let b : Bool = g.B.RandomBits.bit c.loop-self.coins in
     let levels : SameLevels g.T.Ord.cmp (stepped g.T.Ord.cmp k flag b c.loop-self.level ls) ms =
     subst (λ (j : ℕ). SameLevels g.T.Ord.cmp (stepped g.T.Ord.cmp j flag b c.loop-self.level ls) ms) i.kept.k_is
     (subst (λ (f : Bool). SameLevels g.T.Ord.cmp (stepped g.T.Ord.cmp x.k f b c.loop-self.level ls) ms) i.kept.flag_is e.levels) in
     let source : c.compress_level.new.coins ≡ stepped_source g.B.RandomBits.next k c.loop-self.level c.loop-self.coins ls =
     e.coins ∙ ap (λ (j : ℕ). stepped_source g.B.RandomBits.next j c.loop-self.level c.loop-self.coins ls) i.kept.k_is in
-    let s : WalkStep k c.loop-self.level ls ms =
-    walk_step g.T.Ord.cmp k c.loop-self.level flag b ls ms c.requires.stored.k_above (omega (arith, n, t)) i.stored.few i.weighs i.behind levels in
+    let s : WalkStep k c.loop-self.level ls ms = walk_step g.T.Ord.cmp k c.loop-self.level flag b ls ms above t few i.weighs i.behind levels in
     let w = walk_more g.T.Ord.cmp g.met.T.Ord.total g.B.RandomBits.bit g.B.RandomBits.next k flag c.loop-self.level c.loop-self.coins c.compress_level.new.coins _ ls ms _
-    (omega (arith, n, t, i.stored.few)) source levels i.levels i.source in
+    (omega (arith, t, few)) source levels i.levels i.source in
     let one : c.loop-self.level + 1 ≡ suc c.loop-self.level = omega arith in
     record {
-      stored = e.stored;
       kept = record {
         k_is = e.kept.k_is ∙ i.kept.k_is;
         flag_is = e.kept.flag_is ∙ i.kept.flag_is;
         items_room = omega (arith, e.kept.items_room, i.kept.items_room);
         bounds_room = omega (arith, e.kept.bounds_room, i.kept.bounds_room);
       };
-      level_few = omega (arith, n, t, i.stored.few);
+      level_few = omega (arith, t, few);
       weighs = omega (arith, s.weighs, i.weighs);
       behind = rw one s.behind;
       below = λ h. s.below (omega (arith, h));
@@ -83,14 +80,14 @@ returns g c =
     let x = c.loop-self.self in
     let i = c.loop-self.invariant in
     let k : ℕ = c.args.self.now.k in
-    let flag : Bool = c.args.self.now.is_level_zero_sorted in
-    let ls : List (List g.row.T.Denot) = levels_in x.items.items x.bounds.items in
-    let l0 : List (List g.row.T.Denot) = levels_in c.args.self.now.items.items c.args.self.now.bounds.items in
+    let flag : Bool = c.args.self.now.is_sorted in
+    let ls : List (List g.row.T.Denot) = x.levels in
+    let l0 : List (List g.row.T.Denot) = c.args.self.now.levels in
+    let sorted : UpperSorted g.T.Ord.cmp l0 = subst (λ (y : Stored g.row.T.Denot). UpperSorted g.T.Ord.cmp y.levels) c.self.view_is c.self.invariant.sorted in
     let over : (length ls ≤ c.loop-self.level) ⊎ (retained ls < total_of k 8 (length ls)) =
     subst (λ (j : ℕ). (length ls ≤ c.loop-self.level) ⊎ (retained ls < total_of j 8 (length ls))) i.kept.k_is (c.loop-self-test.ensures.over refl) in
-    let r = walk_ended g.T.Ord.cmp g.met.T.Ord.total g.B.RandomBits.bit g.B.RandomBits.next k flag c.loop-self.level c.args.coins.now c.loop-self.coins l0 ls c.requires.stored.sorted c.requires.flag over i.levels i.source in
+    let r = walk_ended g.T.Ord.cmp g.met.T.Ord.total g.B.RandomBits.bit g.B.RandomBits.next k flag c.loop-self.level c.args.coins.now c.loop-self.coins l0 ls sorted c.requires.flag over i.levels i.source in
     record {
-      stored = i.stored;
       kept = i.kept;
       below = elim over [
         | inl h ↦ i.below h
@@ -99,4 +96,6 @@ returns g c =
       levels = r.0;
       bag = r.1;
       coins = r.2;
+      few = c.loop-self-test.ensures.few;
+      sorted = c.loop-self-test.ensures.sorted;
     }

@@ -1,18 +1,16 @@
 use Rattle.std.proofs.Common.{◌≡◌, ℕ, Bool, ◌+◌, ◌^◌, ◌<◌, List, [], ◌∷◌, ◌++◌, length, sym, ap, subst, cond, ◌∙◌, refl, arith, length-append}
 use Rattle.std.proofs.lemmas.Iterator.Adapters.{YieldsList-from_vec}
 use Rattle.std.proofs.lemmas.Iterator.Consumers.{YieldsList-turn}
-use Rattle.sketch_kll.specs.Flat.{levels_in}
-use Rattle.sketch_kll.specs.Levels.{weight, SameLevels}
+use Rattle.sketch_kll.specs.Levels.{retained, weight, SameLevels}
 use Rattle.sketch_kll.specs.Steps.{is_full, with_room}
-use Rattle.sketch_kll.proofs.Flats.{length-bounds}
+use Rattle.sketch_kll.proofs.Sketches.{retained-put}
 use Rattle.sketch_kll.proofs.Takes.{Taking, taking_none, taking_more}
 use Rattle.sketch_kll.proofs.levels.Levels.take_items.Goals as goal
 
 pub loop-item-init : goal.loop-item-init
 loop-item-init g c = record {
-  stored = c.requires.stored;
   k = refl;
-  taking = taking_none g.T.Ord.cmp g.met.T.Ord.total g.B.RandomBits.bit g.B.RandomBits.next c.args.coins.now c.args.self.now.k c.args.self.now.is_level_zero_sorted (levels_in c.args.self.now.items.items c.args.self.now.bounds.items) c.requires.kept;
+  taking = taking_none g.T.Ord.cmp g.met.T.Ord.total g.B.RandomBits.bit g.B.RandomBits.next c.args.coins.now c.args.self.now.k c.args.self.now.is_sorted c.args.self.now.levels c.requires.kept;
   len = omega arith;
   room = omega arith;
   spare = c.requires.spare;
@@ -28,8 +26,7 @@ make_room-requires-clause-light g c =
 pub make_room-requires-clause-spare : goal.make_room-requires-clause-spare
 make_room-requires-clause-spare g c =
     let i = c.loop-item.invariant in
-    let n = length-bounds c.loop-item.self.items.items c.loop-item.self.bounds.items i.stored.flat in
-    omega (arith, n, i.stored.few, i.spare, c.loop-item.self.bounds.ok)
+    omega (arith, i.taking.taken.kept.few, i.spare)
 
 pub loop-item-preserved : goal.loop-item-preserved
 loop-item-preserved g c =
@@ -42,23 +39,22 @@ loop-item-preserved g c =
     let next = g.B.RandomBits.next in
     let gives = c.into_iter-item-iterator.ensures.into_iter_gives in
     let t = YieldsList-turn (YieldsList-from_vec {s = c.into_iter-item-iterator.result} c.args.low.items gives.0 (gives.1 ∙ c.args.low.ok.0)) c.loop-item.yielded c.loop-item.item-iterator c.loop-item.yielded_by c.next.result c.next.new.self c.in-Some.item c.in-Some.is c.next.ensures.steps in
-    let l0 : List (List g.row.T.Denot) = levels_in x0.items.items x0.bounds.items in
-    let ms : List (List g.row.T.Denot) = levels_in x.items.items x.bounds.items in
-    let ws : List (List g.row.T.Denot) = levels_in y.items.items y.bounds.items in
-    let ns : List (List g.row.T.Denot) = levels_in z.items.items z.bounds.items in
-    let flag : Bool = x.is_level_zero_sorted in
+    let l0 : List (List g.row.T.Denot) = x0.levels in
+    let ms : List (List g.row.T.Denot) = x.levels in
+    let ws : List (List g.row.T.Denot) = y.levels in
+    let ns : List (List g.row.T.Denot) = z.levels in
+    let flag : Bool = x.is_sorted in
     let light : weight l0 + length c.loop-item.yielded < 2 ^ 64 = omega (arith, c.requires.light, t.0) in
     let levels : SameLevels cmp (with_room cmp x0.k flag (g.B.RandomBits.bit c.loop-item.coins) ms) ws =
     subst (λ (k : ℕ). SameLevels cmp (with_room cmp k flag (g.B.RandomBits.bit c.loop-item.coins) ms) ws) i.k c.make_room.ensures.levels in
     let coins : c.make_room.new.coins ≡ cond (is_full x0.k ms) (next c.loop-item.coins) c.loop-item.coins =
     c.make_room.ensures.coins ∙ ap (λ (k : ℕ). cond (is_full k ms) (next c.loop-item.coins) c.loop-item.coins) i.k in
-    let more = taking_more cmp g.met.T.Ord.total g.B.RandomBits.bit next c.args.coins.now c.loop-item.coins c.make_room.new.coins x0.k x0.is_level_zero_sorted flag
-    l0 c.loop-item.yielded c.in-Some.item ms ws ns i.taking light levels c.make_room.ensures.stored.sorted c.push.ensures.levels coins in
+    let more = taking_more cmp g.met.T.Ord.total g.B.RandomBits.bit next c.args.coins.now c.loop-item.coins c.make_room.new.coins x0.k x0.is_sorted flag
+    l0 c.loop-item.yielded c.in-Some.item ms ws ns i.taking light levels c.make_room.ensures.sorted c.push.ensures.levels coins in
     record {
-      stored = c.push.ensures.stored;
       k = c.push.ensures.k ∙ (c.make_room.ensures.kept.k_is ∙ i.k);
-      taking = subst (λ (f : Bool). Taking cmp g.B.RandomBits.bit next c.args.coins.now c.make_room.new.coins x0.k x0.is_level_zero_sorted f l0 (c.loop-item.yielded ++ c.in-Some.item ∷ []) ns) (sym c.push.ensures.flag) more;
-      len = omega (arith, i.len, c.make_room.ensures.shorter, c.push.ensures.len, length-append c.loop-item.yielded (c.in-Some.item ∷ []));
+      taking = subst (λ (f : Bool). Taking cmp g.B.RandomBits.bit next c.args.coins.now c.make_room.new.coins x0.k x0.is_sorted f l0 (c.loop-item.yielded ++ c.in-Some.item ∷ []) ns) (sym c.push.ensures.flag) more;
+      len = omega (arith, i.len, c.make_room.ensures.shorter, ap retained c.push.ensures.levels, retained-put c.in-Some.item ws, length-append c.loop-item.yielded (c.in-Some.item ∷ []));
       room = omega (arith, i.room, c.make_room.ensures.kept.items_room, c.push.ensures.room);
       spare = omega (arith, i.spare, c.make_room.ensures.kept.bounds_room, c.push.ensures.bounds_room);
     }
