@@ -5,10 +5,9 @@ ghost use Rattle.std.specs.List.{All};
 ghost use Rattle.std.specs.List.Sorted.{IsNonDecreasing};
 ghost use Rattle.sketch_base.specs.declared.error.ErrorKind.TheVariants.{OutOfMemory};
 ghost use Rattle.sketch_base.specs.Answered.{FindsQuantiles, FindsRanks, IsFoundAmong, IsRefusedUnless};
-ghost use Rattle.sketch_base.specs.Bag.{expanded, weighted_rank};
+ghost use Rattle.sketch_base.specs.Bag.{expanded};
 ghost use Rattle.sketch_base.specs.Pairs.{distinct};
-ghost use Rattle.sketch_base.specs.Query.{counted};
-ghost use Rattle.sketch_base.specs.Queries.{IsFraction, IsIncreasing, SameAnswer, cdf_of, pmf_of, ranks_of};
+ghost use Rattle.sketch_base.specs.Queries.{IsFraction, IsIncreasing, SameAnswer, cdf_of, pmf_of};
 ghost use Rattle.sketch_base.specs.Views.{IsViewOf, quantile_of};
 ghost use Rattle.sketch_req.specs.Actions.{bag_of};
 ghost use Rattle.sketch_req.specs.Pairs.{pairs_of};
@@ -87,13 +86,9 @@ impl<T: Clone + Ord> ReqSketch<T> {
             (quantile_of (view_of T.cmp self.now) fraction criteria) (Some x.now)) }
         ensures some { IsSome result → self.now.n ≢ 0 }
     {
-        if fraction.weight == 0 {
-            return self.min_item();
-        }
-        if fraction.weight == fraction.total {
-            return self.max_item();
-        }
         match self.n() {
+            _ if fraction.weight == 0 => self.min_item(),
+            _ if fraction.weight == fraction.total => self.max_item(),
             0 => None,
             n => self.find_at(place_of(fraction, n, criteria)),
         }
@@ -101,21 +96,15 @@ impl<T: Clone + Ord> ReqSketch<T> {
 
     // The item at a place of all entries in order, where a level in order holds it.
     fn find_at(&self, place: u64) -> Option<&T>
-        requires { self.now.n ≢ 0 }
         ensures { IfSome result (λ x. SameAnswer T.cmp
             (slice_get (expanded T.cmp (bag_of self.now.levels)) place) (Some x.now)) }
     {
-        for level in self.levels.compactors.iter().rev() {
-            if let Some(item) = self.find_in(level, place) {
-                return Some(item);
-            }
-        }
-        None
+        let mut levels = self.levels.compactors.iter().rev();
+        levels.find_map(|level| self.find_in(level, place))
     }
 
     // The item at a place of all entries in order, where a level is in order and holds it.
     fn find_in<'a>(&self, level: &'a Compactor<T>, place: u64) -> Option<&'a T>
-        requires { self.now.n ≢ 0 }
         ensures { IfSome result (λ x. SameAnswer T.cmp
             (slice_get (expanded T.cmp (bag_of self.now.levels)) place) (Some x.now)) }
     {
@@ -129,17 +118,6 @@ impl<T: Clone + Ord> ReqSketch<T> {
             return Some(item);
         }
         None
-    }
-
-    // The weight of the retained items that a query counts.
-    fn rank_weight(&self, item: &T, criteria: SearchCriteria) -> u64
-        ensures { self.now.n ≢ 0 → result
-            ≡ weighted_rank T.cmp (counted T.cmp item.now criteria) (bag_of self.now.levels) }
-    {
-        match self.rank(item, criteria) {
-            Some(rank) => rank.weight,
-            None => 0,
-        }
     }
 
     /// The items that fractions name, one for each; None for an empty sketch. Errors as for one
@@ -176,7 +154,16 @@ impl<T: Clone + Ord> ReqSketch<T> {
         if self.n == 0 {
             return Ok(None);
         }
-        Ok(Some(self.rank_all(points, criteria)?))
+        let alloc = *self.levels.compactors.allocator();
+        let total = self.n();
+        let mut ranks = Vec::with_capacity(alloc, points.len().saturating_add(1))?;
+        for point in points {
+            let weight = self.rank_weight(point, criteria);
+            ranks.push(Rank { weight, total })?;
+        }
+        let weight = total;
+        ranks.push(Rank { weight, total })?;
+        Ok(Some(ranks))
     }
 
     /// How much lies between the split points; None for an empty sketch. Errors as for `cdf`.
@@ -188,34 +175,12 @@ impl<T: Clone + Ord> ReqSketch<T> {
         ensures there { IfOk result (IsFoundAmong self.now.n) }
         ensures refused { IsRefusedUnless (IsIncreasing T.cmp points.now) self.now.n result }
     {
-        check_points(points)?;
-        if self.n() == 0 {
+        let _n = self.n();
+        let Some(mut ranks) = self.cdf(points, criteria)? else {
             return Ok(None);
-        }
-        let mut ranks = self.rank_all(points, criteria)?;
+        };
         take_differences(ranks.as_mut_slice());
         Ok(Some(ranks))
-    }
-
-    // The rank of each split point, and last the whole.
-    fn rank_all(&self, points: &[T], criteria: SearchCriteria) -> Result<Vec<Rank>, AllocError>
-        requires some { self.now.n ≢ 0 }
-        requires increasing { IsIncreasing T.cmp points.now }
-        ensures ranks { let s = self.now in IfOk result (λ ranks. ranks.items ≡ ranks_of s.n
-            (cdf_of T.cmp criteria (expanded T.cmp (bag_of s.levels)) points.now)) }
-        ensures rises { IfOk result (λ ranks.
-            IsNonDecreasing (map (λ (r : Rank). r.weight) ranks.items)) }
-    {
-        let alloc = *self.levels.compactors.allocator();
-        let total = self.n();
-        let mut ranks = Vec::with_capacity(alloc, points.len().saturating_add(1))?;
-        for point in points {
-            let weight = self.rank_weight(point, criteria);
-            ranks.push(Rank { weight, total })?;
-        }
-        let weight = total;
-        ranks.push(Rank { weight, total })?;
-        Ok(ranks)
     }
 }
 

@@ -7,8 +7,8 @@ use Rattle.sketch_base.proofs.SketchViews.{length-expanded}
 use Rattle.sketch_req.specs.Actions.{bag_of}
 use Rattle.sketch_req.proofs.sketch.ReqSketch.find.Goals as goal
 
-pub returns-in_default-clause-same : goal.returns-in_default-clause-same
-returns-in_default-clause-same g c =
+pub returns-in_default-3-clause-same : goal.returns-in_default-3-clause-same
+returns-in_default-3-clause-same g c =
     let s = c.args.self.now in
     let f = c.args.fraction in
     let entries = expanded g.T.Ord.cmp (bag_of s.levels) in

@@ -3,7 +3,7 @@ use Rattle.sketch_base.specs.Bag.{expanded}
 use Rattle.sketch_base.specs.Query.{true_rank}
 use Rattle.sketch_base.specs.Queries.{ranks_of}
 use Rattle.sketch_req.specs.Actions.{bag_of}
-use Rattle.sketch_req.proofs.sketch.ReqSketch.rank_all.Given as goal
+use Rattle.sketch_req.proofs.sketch.ReqSketch.cdf.Given as goal
 
 abbrev pub invariant-loop-point : goal.invariant-loop-point
 invariant-loop-point g l =
