@@ -49,7 +49,8 @@ impl Eq for Third {
 impl PartialOrd for Third {
     ghost partial_cmp = { as_partial_cmp (on (λ x. x.class) nat_cmp) };
 
-    ghost laws = { partial_order_from_own_ties (Prim.search (comparing, rules)) (Prim.search (comparing, rules)) };
+    ghost laws = { partial_order_from_own_ties (Prim.search (comparing, rules))
+        (Prim.search (comparing, rules)) };
 
     fn partial_cmp(&self, other: &Third) -> Option<Ordering> {
         Some(self.cmp(other))
