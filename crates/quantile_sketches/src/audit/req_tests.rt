@@ -116,16 +116,15 @@ fn tail_is_exact_past_a_round_trip(rt: HostRuntime) -> Result<(), Fail> {
     Ok(())
 }
 
+// Whether a run under one false coin, which it takes, ranks an item so.
+fn ranks_as(alloc: Global, steps: &[Steps], rank: (u8, u32, u64, u64)) -> Result<bool, Error> {
+    is_so(alloc, steps, &given(&[false], 1, &[], &[rank]))
+}
+
 #[test]
 fn merges_a_copy_into_itself(rt: HostRuntime) -> Result<(), Fail> {
     let steps = [high(0, 12), Step::Updates(0, 1, 72), Step::Merge(0, 0)];
-    assert!(rt;
-        is_so(
-            rt.alloc(),
-            &steps,
-            &given(&[false], 1, &[], &[(0, 54, 108, 144)])
-        )?
-    );
+    assert!(rt; ranks_as(rt.alloc(), &steps, (0, 54, 108, 144))?);
     assert!(rt; is_so(rt.alloc(), &steps, &Trial::Retains(&[false], 0, 132))?);
     Ok(())
 }
@@ -163,33 +162,56 @@ fn wants_a_word_that_is_long_enough(rt: HostRuntime) -> Result<(), Fail> {
     Ok(())
 }
 
-// Whether the audit of a number, under either value of one coin, gives these weights and this true rank.
+// Whether the audit of a number, under either value of one coin, gives these weights, and the number as the true rank.
 fn audits_as(
     alloc: Global,
     steps: &[Steps],
     number: u32,
     weights: [u64; 2],
-    true_rank: u64,
 ) -> Result<bool, Error> {
-    is_so(alloc, steps, &audited(0, number, 1, &weights, true_rank))
+    is_so(
+        alloc,
+        steps,
+        &audited(0, number, 1, &weights, number as u64),
+    )
+}
+
+// The same of a new sketch and the updates by the numbers from 1 to the last.
+fn audits_updates(
+    alloc: Global,
+    new: Steps,
+    last: u32,
+    number: u32,
+    weights: [u64; 2],
+) -> Result<bool, Error> {
+    audits_as(alloc, &[new, Step::Updates(0, 1, last)], number, weights)
 }
 
 #[test]
 fn audits_every_word(rt: HostRuntime) -> Result<(), Fail> {
-    let grown = [high(0, 12), Step::Updates(0, 1, 150)];
-    assert!(rt; audits_as(rt.alloc(), &grown, 13, [12, 14], 13)?);
-    let small = [high(0, 4), Step::Updates(0, 1, 50)];
-    assert!(rt; audits_as(rt.alloc(), &small, 5, [4, 6], 5)?);
-    assert!(rt; audits_as(rt.alloc(), &with_round_trip(), 5, [4, 4], 5)?);
+    assert!(rt; audits_updates(rt.alloc(), high(0, 12), 150, 13, [12, 14])?);
+    assert!(rt; audits_updates(rt.alloc(), high(0, 4), 50, 5, [4, 6])?);
     Ok(())
 }
 
 #[test]
+fn audits_every_word_past_a_round_trip(rt: HostRuntime) -> Result<(), Fail> {
+    assert!(rt; audits_as(rt.alloc(), &with_round_trip(), 5, [4, 4])?);
+    Ok(())
+}
+
+fn is_unbiased_by_updates(alloc: Global, new: Steps) -> Result<bool, Error> {
+    is_so(
+        alloc,
+        &[new, Step::Updates(0, 1, 211)],
+        &Trial::IsUnbiased(213),
+    )
+}
+
+#[test]
 fn ranks_are_unbiased_by_updates(rt: HostRuntime) -> Result<(), Fail> {
-    for new in [high(0, 12), low(0, 12)] {
-        let steps = [new, Step::Updates(0, 1, 211)];
-        assert!(rt; is_so(rt.alloc(), &steps, &Trial::IsUnbiased(213))?);
-    }
+    assert!(rt; is_unbiased_by_updates(rt.alloc(), high(0, 12))?);
+    assert!(rt; is_unbiased_by_updates(rt.alloc(), low(0, 12))?);
     Ok(())
 }
 

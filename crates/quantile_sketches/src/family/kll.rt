@@ -25,7 +25,8 @@ impl<T: KllValue + Ord> Family for KllSketch<T> {
 
     ghost kind = { kll_kind T.cmp T.spelling };
 
-    ghost Asks = { SpellingsTie T.cmp T.spelling × ((x y : T) → T.is_clone x y → T.cmp x y ≡ Equal) };
+    ghost Asks = { SpellingsTie T.cmp T.spelling
+        × ((x y : T) → T.is_clone x y → T.cmp x y ≡ Equal) };
 
     ghost IsImage = { IsImage T.cmp T.spelling };
 

@@ -28,7 +28,8 @@ impl<T: ReqValue + Clone + Ord> Family for ReqSketch<T> {
 
     ghost kind = { req_kind T.cmp T.spelling };
 
-    ghost Asks = { SpellingsTie T.cmp T.spelling × ((x y : T) → T.is_clone x y → T.cmp x y ≡ Equal) };
+    ghost Asks = { SpellingsTie T.cmp T.spelling
+        × ((x y : T) → T.is_clone x y → T.cmp x y ≡ Equal) };
 
     ghost IsImage = { λ bytes s. BeginsImage T.cmp T.spelling bytes (without_coins s) [] };
 

@@ -1,7 +1,8 @@
 //! Large sketches: no call gives up from some size on where memory is ample.
-use super::calls::fill;
+use super::calls::{are_equal, fill};
+use super::runs::{Commands, Step, push_step};
 use super::sketches::Tried;
-use crate::audit::Command;
+use crate::audit::Run;
 use crate::text::{image_bytes, image_text};
 use sketch_base::common::random::SplitMix64;
 use sketch_base::common::{Rank, SearchCriteria};
@@ -68,29 +69,53 @@ fn is_whole<S: Tried>(alloc: Global, sketch: &S, count: u64) -> Result<bool, Err
 
 /// Whether a view has the distributions of its sketch.
 fn distributes_alike<S: Tried>(
+    alloc: Global,
     sketch: &S,
     view: &SortedView<S::Item>,
-    points: &[S::Item],
 ) -> Result<bool, Error>
     requires { S.Asks }
 {
+    let points = points::<S>(alloc)?;
+    let points = points.as_slice();
     Ok(
-        sketch.cdf_of(points, CRITERIA)? == view.cdf(points, CRITERIA)?
-            && sketch.pmf_of(points, CRITERIA)? == view.pmf(points, CRITERIA)?,
+        are_equal(sketch.cdf_of(points, CRITERIA), view.cdf(points, CRITERIA))?
+            && are_equal(sketch.pmf_of(points, CRITERIA), view.pmf(points, CRITERIA))?,
     )
 }
 
 /// Whether a view has the quantiles of its sketch, one for each fraction.
 fn finds_alike<S: Tried>(
+    alloc: Global,
     sketch: &S,
     view: &SortedView<S::Item>,
-    fractions: &[Rank],
 ) -> Result<bool, Error>
     requires { S.Asks }
 {
-    let found = sketch.quantiles_of(fractions)?;
-    let is_found = found == S::quantiles_in(view, fractions)?;
-    Ok(is_found && found.is_some_and(|found| found.len() == fractions.len()))
+    let fractions = fractions(alloc)?;
+    let found = sketch.quantiles_of(fractions.as_slice())?;
+    let count = found.as_ref().map_or(0, |found| found.len());
+    Ok(
+        count == fractions.len()
+            && are_equal(Ok(found), S::quantiles_in(view, fractions.as_slice()))?,
+    )
+}
+
+/// Whether the text of an image reads as the image.
+fn is_read_as_text(alloc: Global, image: &[u8]) -> Result<bool, Error> {
+    let text = image_text(alloc, image)?;
+    Ok(image_bytes(alloc, text.as_str())?.is_some_and(|bytes| bytes.as_slice() == image))
+}
+
+fn is_image_of<S: Tried>(sketch: &S, image: &[u8]) -> Result<bool, Error> {
+    Ok(sketch.image()?.as_slice() == image)
+}
+
+/// Whether what is read of an image holds so many items, and is written as it was read.
+fn is_read<S: Tried>(alloc: Global, image: &[u8], count: u64) -> Result<bool, Error>
+    requires { S.Asks }
+{
+    let read = S::load(alloc, image)?;
+    Ok(is_image_of(&read, image)? && is_whole(alloc, &read, count)?)
 }
 
 /// Whether what is read of a sketch's image, as a text too, is written as it was read.
@@ -98,61 +123,81 @@ fn reads_back<S: Tried>(alloc: Global, sketch: &S, count: u64) -> Result<bool, E
     requires { S.Asks }
 {
     let image = sketch.image()?;
-    let text = image_text(alloc, image.as_slice())?;
-    let bytes = image_bytes(alloc, text.as_str())?;
-    let read = S::load(alloc, image.as_slice())?;
-    Ok(read.image()? == image && bytes == Some(image) && is_whole(alloc, &read, count)?)
+    let image = image.as_slice();
+    Ok(is_read_as_text(alloc, image)? && is_read::<S>(alloc, image, count)?)
+}
+
+fn push_many<S: Tried>(
+    alloc: Global,
+    commands: &mut Commands<S>,
+    k: u16,
+) -> Result<(), AllocError> {
+    push_step::<S>(alloc, commands, Step::New(0, S::config_of(k)))?;
+    push_step::<S>(alloc, commands, Step::Updates(0, 1, MANY))?;
+    push_step::<S>(alloc, commands, Step::Merge(0, 0))?;
+    push_step::<S>(alloc, commands, Step::RoundTrip(0))
+}
+
+fn run_many<S: Tried>(alloc: Global, k: u16) -> Result<Run<S>, Error>
+    requires { S.Asks }
+{
+    let mut commands = Vec::new(alloc);
+    push_many::<S>(alloc, &mut commands, k)?;
+    S::run_of(alloc, commands.as_slice(), &[false; 1000])
 }
 
 /// Whether a run of many updates takes them all.
 fn runs<S: Tried>(alloc: Global, k: u16) -> Result<bool, Error>
     requires { S.Asks }
 {
-    let mut commands = Vec::new(alloc);
-    commands.push(Command::New {
-        slot: 0,
-        config: S::config_of(k),
-    })?;
-    for number in 0..MANY {
-        let item = S::item_of(alloc, number.wrapping_add(1))?;
-        commands.push(Command::Update { slot: 0, item })?;
-    }
-    commands.push(Command::Merge { into: 0, source: 0 })?;
-    commands.push(Command::RoundTrip { slot: 0 })?;
-    let word = [false; 1000];
-    let run = S::run_of(alloc, commands.as_slice(), &word)?;
+    let run = run_many::<S>(alloc, k)?;
     match run.slots.get(&0) {
         Some(sketch) => Ok(run.refused.is_empty() && is_whole(alloc, sketch, 200_000)?),
         None => Ok(false),
     }
 }
 
+fn copied_view<S: Tried>(sketch: &S) -> Result<SortedView<S::Item>, Error>
+    requires { S.Asks }
+{
+    S::copy_of(&sketch.view_of()?)
+}
+
 /// Whether a large sketch answers many queries at once as a copy of its view does.
 fn answers_many<S: Tried>(alloc: Global, sketch: &S) -> Result<bool, Error>
     requires { S.Asks }
 {
-    let view = S::copy_of(&sketch.view_of()?)?;
+    let view = copied_view(sketch)?;
+    Ok(distributes_alike(alloc, sketch, &view)? && finds_alike(alloc, sketch, &view)?)
+}
+
+/// Merges a copy of a sketch into it.
+fn double<S: Tried>(sketch: &mut S) -> Result<(), Error>
+    requires { S.Asks }
+{
+    let copy = sketch.copy()?;
+    sketch.merge(&copy, &mut SplitMix64::new(2))
+}
+
+/// Whether a large sketch answers all that it is asked, also where a copy was merged into it.
+fn answers_all<S: Tried>(alloc: Global, sketch: &mut S) -> Result<bool, Error>
+    requires { S.Asks }
+{
+    let is_filled = is_whole(alloc, sketch, 100_000)?;
+    double(sketch)?;
     Ok(
-        distributes_alike(sketch, &view, points::<S>(alloc)?.as_slice())?
-            && finds_alike(sketch, &view, fractions(alloc)?.as_slice())?,
+        is_filled
+            && answers_many(alloc, sketch)?
+            && is_whole(alloc, sketch, 200_000)?
+            && reads_back(alloc, sketch, 200_000)?,
     )
 }
 
-/// Whether a large sketch answers all that it is asked.
 fn holds_many<S: Tried>(alloc: Global, k: u16) -> Result<bool, Error>
     requires { S.Asks }
 {
-    let _usual = S::default_of(alloc)?;
     let mut sketch: S = fill(alloc, k, MANY, &mut SplitMix64::new(1))?;
-    let is_filled = is_whole(alloc, &sketch, 100_000)?;
-    let copy = sketch.copy()?;
-    sketch.merge(&copy, &mut SplitMix64::new(2))?;
-    Ok(
-        is_filled
-            && answers_many(alloc, &sketch)?
-            && is_whole(alloc, &sketch, 200_000)?
-            && reads_back(alloc, &sketch, 200_000)?,
-    )
+    Ok(S::default_of(alloc).is_ok() && answers_all(alloc, &mut sketch)?)
 }
 
 #[test]

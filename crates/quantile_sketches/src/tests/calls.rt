@@ -1,4 +1,5 @@
 //! A call that takes memory, as data: what it is made on and with, what it gave, and whether two gave the same.
+use super::runs::{Commands, Step, push_step};
 use super::sketches::Tried;
 use crate::audit::{Audit, Command, Run};
 use sketch_base::common::random::{RandomBits, WordBits};
@@ -91,30 +92,27 @@ pub(super) fn filled<S: Tried>(alloc: Global, k: u16, count: u32) -> Result<S, E
 }
 
 /// A sketch of so many items in slot 0, and in slot 1 what is read of the image of a sketch that it was merged into.
+fn push_commands<S: Tried>(
+    alloc: Global,
+    commands: &mut Commands<S>,
+    k: u16,
+    count: u32,
+) -> Result<(), AllocError> {
+    push_step::<S>(alloc, commands, Step::New(0, S::config_of(k)))?;
+    push_step::<S>(alloc, commands, Step::New(1, S::config_of(k)))?;
+    push_step::<S>(alloc, commands, Step::Updates(0, 1, count))?;
+    push_step::<S>(alloc, commands, Step::Weighted(1, 3, 6))?;
+    push_step::<S>(alloc, commands, Step::Merge(1, 0))?;
+    push_step::<S>(alloc, commands, Step::RoundTrip(1))
+}
+
 fn commands<S: Tried>(
     alloc: Global,
     k: u16,
     count: u32,
 ) -> Result<Vec<Command<S::Item, S::Config>>, AllocError> {
     let mut commands = Vec::new(alloc);
-    for slot in 0..2u8 {
-        commands.push(Command::New {
-            slot,
-            config: S::config_of(k),
-        })?;
-    }
-    for number in 0..count {
-        let item = S::item_of(alloc, number.wrapping_add(1))?;
-        commands.push(Command::Update { slot: 0, item })?;
-    }
-    let item = S::item_of(alloc, 3)?;
-    commands.push(Command::UpdateWeighted {
-        slot: 1,
-        item,
-        weight: 6,
-    })?;
-    commands.push(Command::Merge { into: 1, source: 0 })?;
-    commands.push(Command::RoundTrip { slot: 1 })?;
+    push_commands::<S>(alloc, &mut commands, k, count)?;
     Ok(commands)
 }
 
@@ -140,11 +138,17 @@ fn given_of<S: Tried>(alloc: Global, row: Row, sketch: &S) -> Result<Given<S>, E
     })
 }
 
+/// The row's sketch, with no room to spare.
+fn copied<S: Tried>(alloc: Global, row: Row) -> Result<S, Error>
+    requires { S.Asks }
+{
+    filled::<S>(alloc, row.1, row.2)?.copy()
+}
+
 pub(super) fn subject_of<S: Tried>(alloc: Global, row: Row) -> Result<Subject<S>, Error>
     requires { S.Asks }
 {
-    // (a copy has no room to spare)
-    let sketch = filled::<S>(alloc, row.1, row.2)?.copy()?;
+    let sketch = copied::<S>(alloc, row)?;
     let points = items::<S>(alloc, &[3, 9, 14])?;
     let given = given_of(alloc, row, &sketch)?;
     Ok(Subject {
@@ -265,6 +269,14 @@ pub(super) fn answer_of<S: Tried>(
     }
 }
 
+/// Whether two calls gave the same.
+pub(super) fn are_equal<X: PartialEq + Drop>(
+    a: Result<X, Error>,
+    b: Result<X, Error>,
+) -> Result<bool, Error> {
+    Ok(a? == b?)
+}
+
 /// The image of a sketch that took so many items more: states and coins that no image holds show there.
 fn image_past<S: Tried>(alloc: Global, sketch: &S, more: u32) -> Result<Vec<u8>, Error>
     requires { S.Asks }
@@ -313,9 +325,29 @@ fn are_views_alike<S: Tried>(
     let fractions = fractions();
     Ok(
         a.len() == b.len()
-            && a.cdf(points, CRITERIA)? == b.cdf(points, CRITERIA)?
-            && S::quantiles_in(a, &fractions)? == S::quantiles_in(b, &fractions)?,
+            && are_equal(a.cdf(points, CRITERIA), b.cdf(points, CRITERIA))?
+            && are_equal(
+                S::quantiles_in(a, &fractions),
+                S::quantiles_in(b, &fractions),
+            )?,
     )
+}
+
+fn are_audits_alike(a: &Audit, b: &Audit) -> bool {
+    a.coins == b.coins && a.weights == b.weights && a.true_rank == b.true_rank
+}
+
+/// Whether two answers that hold no sketch are the same.
+fn are_same_values<S: Tried>(a: &Answer<S>, b: &Answer<S>) -> bool {
+    match (a, b) {
+        (Answer::Done, Answer::Done) => true,
+        (Answer::Item(a), Answer::Item(b)) => a == b,
+        (Answer::Items(a), Answer::Items(b)) => a == b,
+        (Answer::Ranks(a), Answer::Ranks(b)) => a == b,
+        (Answer::Bytes(a), Answer::Bytes(b)) => a == b,
+        (Answer::Audit(a), Answer::Audit(b)) => are_audits_alike(a, b),
+        _ => false,
+    }
 }
 
 pub(super) fn is_same<S: Tried>(
@@ -327,17 +359,9 @@ pub(super) fn is_same<S: Tried>(
     requires { S.Asks }
 {
     match (a, b) {
-        (Answer::Done, Answer::Done) => Ok(true),
         (Answer::Sketch(a), Answer::Sketch(b)) => are_alike(alloc, a, b),
-        (Answer::Item(a), Answer::Item(b)) => Ok(a == b),
-        (Answer::Items(a), Answer::Items(b)) => Ok(a == b),
-        (Answer::Ranks(a), Answer::Ranks(b)) => Ok(a == b),
         (Answer::View(a), Answer::View(b)) => are_views_alike::<S>(a, b, points),
-        (Answer::Bytes(a), Answer::Bytes(b)) => Ok(a == b),
         (Answer::Run(a), Answer::Run(b)) => are_runs_alike(alloc, a, b),
-        (Answer::Audit(a), Answer::Audit(b)) => {
-            Ok(a.coins == b.coins && a.weights == b.weights && a.true_rank == b.true_rank)
-        }
-        _ => Ok(false),
+        (a, b) => Ok(are_same_values(a, b)),
     }
 }

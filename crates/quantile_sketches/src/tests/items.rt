@@ -49,7 +49,8 @@ impl Eq for Third {
 impl PartialOrd for Third {
     ghost partial_cmp = { as_partial_cmp (on (λ x. x.class) nat_cmp) };
 
-    ghost laws = { partial_order_from_own_ties (Prim.search (comparing, rules)) (Prim.search (comparing, rules)) };
+    ghost laws = { partial_order_from_own_ties (Prim.search (comparing, rules))
+        (Prim.search (comparing, rules)) };
 
     fn partial_cmp(&self, other: &Third) -> Option<Ordering> {
         Some(self.cmp(other))
@@ -127,34 +128,53 @@ fn wanted(count: u32) -> Seen {
     )
 }
 
+/// Whether a sketch takes 1000 items, and each leaves it as it should.
+fn fill_kll(sketch: &mut KllSketch<Third>, coins: &mut SplitMix64) -> Result<bool, Error> {
+    for number in 0..1000u32 {
+        sketch.update(item_of(number), coins)?;
+        if seen_of_kll(sketch) != wanted(number.wrapping_add(1)) || sketch.num_retained() > 80 {
+            return Ok(false);
+        }
+    }
+    Ok(true)
+}
+
+fn double_kll(sketch: &mut KllSketch<Third>, coins: &mut SplitMix64) -> Result<(), Error> {
+    let copy = sketch.clone()?;
+    sketch.merge(&copy, coins)
+}
+
 /// A KLL sketch of k 8 that took 1000 items and a copy of itself, unless an update left it otherwise than it should.
 fn kll_of_thirds(alloc: Global) -> Result<Option<KllSketch<Third>>, Error> {
     let mut sketch = KllSketch::new(alloc, 8)?;
     let mut coins = SplitMix64::new(0);
+    let is_filled = fill_kll(&mut sketch, &mut coins)?;
+    double_kll(&mut sketch, &mut coins)?;
+    Ok(is_filled.then_some(sketch))
+}
+
+fn fill_req(sketch: &mut ReqSketch<Third>, coins: &mut SplitMix64) -> Result<bool, Error> {
     for number in 0..1000u32 {
-        sketch.update(item_of(number), &mut coins)?;
-        if seen_of_kll(&sketch) != wanted(number.wrapping_add(1)) || sketch.num_retained() > 80 {
-            return Ok(None);
+        sketch.update(item_of(number), coins)?;
+        if seen_of_req(sketch) != wanted(number.wrapping_add(1)) || sketch.num_retained() > 216 {
+            return Ok(false);
         }
     }
+    Ok(true)
+}
+
+fn double_req(sketch: &mut ReqSketch<Third>, coins: &mut SplitMix64) -> Result<(), Error> {
     let copy = sketch.clone()?;
-    sketch.merge(&copy, &mut coins)?;
-    Ok(Some(sketch))
+    sketch.merge(&copy, coins)
 }
 
 /// The same of a REQ sketch of k 4.
 fn req_of_thirds(alloc: Global) -> Result<Option<ReqSketch<Third>>, Error> {
     let mut sketch = ReqSketch::new(alloc, 4, RankAccuracy::HighRank)?;
     let mut coins = SplitMix64::new(0);
-    for number in 0..1000u32 {
-        sketch.update(item_of(number), &mut coins)?;
-        if seen_of_req(&sketch) != wanted(number.wrapping_add(1)) || sketch.num_retained() > 216 {
-            return Ok(None);
-        }
-    }
-    let copy = sketch.clone()?;
-    sketch.merge(&copy, &mut coins)?;
-    Ok(Some(sketch))
+    let is_filled = fill_req(&mut sketch, &mut coins)?;
+    double_req(&mut sketch, &mut coins)?;
+    Ok(is_filled.then_some(sketch))
 }
 
 #[test]

@@ -36,6 +36,21 @@ fn is_tried(alloc: Global) -> bool {
     was_refused(alloc)
 }
 
+fn are_both_alike<S: Tried>(
+    alloc: Global,
+    given: &Answer<S>,
+    wanted: &Answer<S>,
+    subject: &Subject<S>,
+    other: &Subject<S>,
+) -> Result<bool, Error>
+    requires { S.Asks }
+{
+    Ok(
+        is_same(alloc, given, wanted, other.points.as_slice())?
+            && are_alike(alloc, &subject.sketch, &other.sketch)?,
+    )
+}
+
 /// Whether the call gives what it gives on a sketch that was never refused memory, and leaves the same.
 fn gives_the_same<S: Tried>(
     alloc: Global,
@@ -47,10 +62,7 @@ fn gives_the_same<S: Tried>(
 {
     let mut other: Subject<S> = subject_of(alloc, row)?;
     let wanted = answer_of(alloc, row, &mut other)?;
-    Ok(
-        is_same(alloc, given, &wanted, other.points.as_slice())?
-            && are_alike(alloc, &subject.sketch, &other.sketch)?,
-    )
+    are_both_alike(alloc, given, &wanted, subject, &other)
 }
 
 /// Whether the call, made again, gives what it gives on a sketch that was never refused memory.
@@ -75,20 +87,53 @@ fn is_left<S: Tried>(
     Ok(is_told && are_alike(alloc, &subject.sketch, before)? && answers_again(alloc, row, subject)?)
 }
 
+/// Whether all is as wanted behind the first try.
+fn is_well<S: Tried>(
+    alloc: Global,
+    row: Row,
+    first: Result<Answer<S>, Error>,
+    before: &S,
+    subject: &mut Subject<S>,
+) -> Result<bool, Error>
+    requires { S.Asks }
+{
+    match first {
+        Ok(given) => gives_the_same(alloc, row, &given, subject),
+        Err(error) => is_left(alloc, row, error, before, subject),
+    }
+}
+
+/// Makes the row's call on a sketch with the Nth request refused: whether one was, and whether all is as wanted.
+fn try_on<S: Tried>(
+    alloc: Global,
+    row: Row,
+    nth: usize,
+    before: &S,
+    subject: &mut Subject<S>,
+) -> Result<(bool, bool), Error>
+    requires { S.Asks }
+{
+    let is_told = refuse(alloc, nth);
+    let first = answer_of(alloc, row, subject);
+    let is_refused = was_refused(alloc);
+    let is_as_told = if first.is_ok() {
+        is_told && !is_refused
+    } else {
+        is_refused
+    };
+    Ok((
+        is_refused,
+        is_as_told && is_well(alloc, row, first, before, subject)?,
+    ))
+}
+
 /// Makes the row's call with the Nth request refused: whether one was, and whether all is as wanted.
 fn try_nth<S: Tried>(alloc: Global, row: Row, nth: usize) -> Result<(bool, bool), Error>
     requires { S.Asks }
 {
     let mut subject: Subject<S> = subject_of(alloc, row)?;
     let before = subject.sketch.copy()?;
-    let is_told = refuse(alloc, nth);
-    let first = answer_of(alloc, row, &mut subject);
-    let is_refused = was_refused(alloc);
-    let is_well = match first {
-        Ok(given) => is_told && !is_refused && gives_the_same(alloc, row, &given, &subject)?,
-        Err(error) => is_refused && is_left(alloc, row, error, &before, &mut subject)?,
-    };
-    Ok((is_refused, is_well))
+    try_on(alloc, row, nth, &before, &mut subject)
 }
 
 /// How many requests of the row's call were refused, if all is as wanted for each.

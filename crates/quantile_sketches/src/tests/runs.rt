@@ -101,9 +101,16 @@ pub(crate) fn audited<'a>(
     })
 }
 
-type Commands<S> = Vec<
+pub(crate) type Commands<S> = Vec<
     Command<<S as crate::family::Family>::Item, <S as crate::family::Family>::Config>,
 >;
+
+fn push<S: Tried>(
+    commands: &mut Commands<S>,
+    command: Command<S::Item, S::Config>,
+) -> Result<(), AllocError> {
+    Ok(commands.push(command)?)
+}
 
 fn push_updates<S: Tried>(
     alloc: Global,
@@ -114,7 +121,7 @@ fn push_updates<S: Tried>(
 ) -> Result<(), AllocError> {
     for number in first..=last {
         let item = S::item_of(alloc, number)?;
-        commands.push(Command::Update { slot, item })?;
+        push::<S>(commands, Command::Update { slot, item })?;
     }
     Ok(())
 }
@@ -127,34 +134,24 @@ fn push_weighted<S: Tried>(
     weight: u64,
 ) -> Result<(), AllocError> {
     let item = S::item_of(alloc, number)?;
-    commands.push(Command::UpdateWeighted { slot, item, weight })?;
-    Ok(())
+    push::<S>(commands, Command::UpdateWeighted { slot, item, weight })
 }
 
-fn push_step<S: Tried>(
+pub(crate) fn push_step<S: Tried>(
     alloc: Global,
     commands: &mut Commands<S>,
-    step: &Step<S::Config>,
+    step: Step<S::Config>,
 ) -> Result<(), AllocError> {
     match step {
-        Step::Updates(slot, first, last) => {
-            push_updates::<S>(alloc, commands, *slot, *first, *last)?
-        }
-        Step::Weighted(slot, number, weight) => {
-            push_weighted::<S>(alloc, commands, *slot, *number, *weight)?
-        }
-        Step::New(slot, config) => commands.push(Command::New {
-            slot: *slot,
-            config: *config,
-        })?,
-        Step::Merge(into, source) => commands.push(Command::Merge {
-            into: *into,
-            source: *source,
-        })?,
-        Step::Reset(slot) => commands.push(Command::Reset { slot: *slot })?,
-        Step::RoundTrip(slot) => commands.push(Command::RoundTrip { slot: *slot })?,
+        Step::Updates(slot, first, last) => push_updates::<S>(alloc, commands, slot, first, last),
+        Step::Weighted(slot, number, weight) => push_weighted::<S>(
+            alloc, commands, slot, number, weight,
+        ),
+        Step::New(slot, config) => push::<S>(commands, Command::New { slot, config }),
+        Step::Merge(into, source) => push::<S>(commands, Command::Merge { into, source }),
+        Step::Reset(slot) => push::<S>(commands, Command::Reset { slot }),
+        Step::RoundTrip(slot) => push::<S>(commands, Command::RoundTrip { slot }),
     }
-    Ok(())
 }
 
 fn commands_of<S: Tried>(
@@ -163,7 +160,7 @@ fn commands_of<S: Tried>(
 ) -> Result<Commands<S>, AllocError> {
     let mut commands = Vec::new(alloc);
     for step in steps {
-        push_step::<S>(alloc, &mut commands, step)?;
+        push_step::<S>(alloc, &mut commands, *step)?;
     }
     Ok(commands)
 }
@@ -256,6 +253,19 @@ fn retains<S: Tried>(
     )
 }
 
+/// Whether some steps leave this sketch in slot 0.
+fn leaves<S: Tried>(
+    alloc: Global,
+    steps: &[Step<S::Config>],
+    word: &[bool],
+    sketch: &S,
+) -> Result<bool, Error>
+    requires { S.Asks }
+{
+    let run = run_of::<S>(alloc, steps, word)?;
+    Ok(run.slots.get(&0).is_some_and(|left| sketch.reads_as(left)))
+}
+
 /// Whether some steps leave the same sketch in slot 0 as others do.
 pub(crate) fn leaves_alike<S: Tried>(
     alloc: Global,
@@ -265,13 +275,10 @@ pub(crate) fn leaves_alike<S: Tried>(
 ) -> Result<bool, Error>
     requires { S.Asks }
 {
-    let (one, other) = (
-        run_of::<S>(alloc, steps, word)?,
-        run_of::<S>(alloc, others, word)?,
-    );
-    match (one.slots.get(&0), other.slots.get(&0)) {
-        (Some(sketch), Some(same)) => Ok(sketch.reads_as(same)),
-        _ => Ok(false),
+    let run = run_of::<S>(alloc, steps, word)?;
+    match run.slots.get(&0) {
+        Some(sketch) => leaves(alloc, others, word, sketch),
+        None => Ok(false),
     }
 }
 
@@ -319,7 +326,7 @@ fn is_even(audit: &Audit) -> bool {
     audit.coins == 3 && sum == audit.true_rank.wrapping_mul(8)
 }
 
-fn is_unbiased<S: Tried>(
+fn is_unbiased_by<S: Tried>(
     alloc: Global,
     steps: &[Step<S::Config>],
     count: u32,
@@ -333,6 +340,25 @@ fn is_unbiased<S: Tried>(
         }
     }
     Ok(true)
+}
+
+fn is_unbiased<S: Tried>(
+    alloc: Global,
+    steps: &[Step<S::Config>],
+    count: u32,
+) -> Result<bool, Error>
+    requires { S.Asks }
+{
+    Ok(
+        is_unbiased_by::<S>(alloc, steps, count, SearchCriteria::Inclusive)?
+            && is_unbiased_by::<S>(alloc, steps, count, SearchCriteria::Exclusive)?,
+    )
+}
+
+fn has_too_many<S: Tried>(alloc: Global, steps: &[Step<S::Config>]) -> bool
+    requires { S.Asks }
+{
+    is_invalid(audit_of::<S>(alloc, steps, 0, 5, SearchCriteria::Inclusive))
 }
 
 pub(crate) fn is_invalid<X: Drop>(answer: Result<X, Error>) -> bool {
@@ -353,16 +379,7 @@ pub(crate) fn holds<S: Tried>(
         Trial::HasTail(word, tail) => has_tail::<S>(alloc, steps, word, tail),
         Trial::Retains(word, slot, count) => retains::<S>(alloc, steps, word, *slot, *count),
         Trial::Audits(row) => audits::<S>(alloc, steps, row),
-        Trial::IsUnbiased(count) => Ok(
-            is_unbiased::<S>(alloc, steps, *count, SearchCriteria::Inclusive)?
-                && is_unbiased::<S>(alloc, steps, *count, SearchCriteria::Exclusive)?,
-        ),
-        Trial::HasTooMany => Ok(is_invalid(audit_of::<S>(
-            alloc,
-            steps,
-            0,
-            5,
-            SearchCriteria::Inclusive,
-        ))),
+        Trial::IsUnbiased(count) => is_unbiased::<S>(alloc, steps, *count),
+        Trial::HasTooMany => Ok(has_too_many::<S>(alloc, steps)),
     }
 }

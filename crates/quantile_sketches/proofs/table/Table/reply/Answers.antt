@@ -1,5 +1,6 @@
-use Rattle.std.proofs.Common.{ℕ, List, Ok, Err, inl, inr, subst, ◌∙◌, rules, ◌≡◌, length, arith, refl}
+use Rattle.std.proofs.Common.{ℕ, List, Ok, Err, Some, inl, inr, ap, subst, ◌∙◌, rules, ◌≡◌, length, arith, refl}
 use Rattle.std.proofs.lemmas.Option.{slice_get_read}
+use Rattle.hex.specs.Hex.{encode_lower}
 use Rattle.sketch_base.specs.Random.{next_state}
 use Rattle.sketch_base.specs.declared.error.ErrorKind.TheVariants.{OutOfMemory}
 use Rattle.quantile_sketches.specs.declared.answer.Refusal.TheVariants.{Sketch}
@@ -18,26 +19,47 @@ returns-in_ok-execute-in-Run g c =
     let done = item_of_clone (in_full g.S.Family.behaviour g.S.Family.kind g.S.Family.IsImage) coin_of next_state _ (λ x y e. e) c.in-Run.command c.args.self.now c.args.coins.now c.execute.result c.execute.new.self c.execute.new.coins c.execute.ensures in
     rw c.in-Run.is (c.execute.result, search rules, done)
 
-pub returns-in-Image : goal.returns-in-Image
-returns-in-Image g c =
-    let l : 256 ≡ length c.self.inside.slots.items = omega (arith, c.self.invariant, c.self.inside.slots.ok) in
-    let held = slice_get_read c.self.inside.slots.items 256 c.in-Image.slot c.index.result.now l (omega arith) c.index.ensures in
-    rw c.in-Image.is (rw (← c.self.view_is) ((c.index.result.now, held, c.show.ensures), refl, refl))
-
 pub returns-in_err-bytes-in-Load : goal.returns-in_err-bytes-in-Load
 returns-in_err-bytes-in-Load g c = rw c.in-Load.is (Err (Sketch OutOfMemory), search rules, (inr refl, refl), refl)
+
+pub returns-in_err-bytes-in-Image : goal.returns-in_err-bytes-in-Image
+returns-in_err-bytes-in-Image g c =
+    let failed = c.in_err-bytes-in-Image.ensures in
+    rw c.in-Image.is (
+      (
+        Some c.in_ok-sketch-in-Image.field-0.now,
+        c.in_ok-sketch-in-Image.ensures.found,
+        inr (inl (c.in_err-bytes-in-Image.field-0.0, (failed.exact, tt, tt, failed.refused), search rules)),
+      ),
+      refl,
+      refl,
+    )
+
+pub returns-in_ok-image_text-in-Image : goal.returns-in_ok-image_text-in-Image
+returns-in_ok-image_text-in-Image g c =
+    let written = c.in_ok-bytes-in-Image.ensures in
+    let same = c.in_ok-image_text-in-Image.ensures.text ∙ ap encode_lower c.deref.ensures.value in
+    rw c.in-Image.is (
+      (
+        Some c.in_ok-sketch-in-Image.field-0.now,
+        c.in_ok-sketch-in-Image.ensures.found,
+        inl (c.in_ok-bytes-in-Image.bytes, c.in_ok-image_text-in-Image.field-0, (written.exact, written.image, written.fits, tt), same, refl),
+      ),
+      refl,
+      refl,
+    )
 
 pub returns-in_err-load-in-Load : goal.returns-in_err-load-in-Load
 returns-in_err-load-in-Load g c =
     let failed = c.in_err-load-in-Load.ensures in
     let P : List ℕ → Type 0 = λ bs. (in_full g.S.Family.behaviour g.S.Family.kind g.S.Family.IsImage).loaded bs (Err c.in_err-load-in-Load.field-0.0) in
-    rw c.in-Load.is (Err (Sketch c.in_err-load-in-Load.field-0.0), search rules, (inl (subst P (c.deref.ensures.value ∙ c.in_ok-bytes-in-Load.ensures.bytes) (failed.exact, tt, failed.refused)), refl), refl)
+    rw c.in-Load.is (Err (Sketch c.in_err-load-in-Load.field-0.0), search rules, (inl (subst P (c.deref-in-Load.ensures.value ∙ c.in_ok-bytes-in-Load.ensures.bytes) (failed.exact, tt, failed.refused)), refl), refl)
 
 pub returns-in_ok-load-in-Load : goal.returns-in_ok-load-in-Load
 returns-in_ok-load-in-Load g c =
     let read = c.in_ok-load-in-Load.ensures in
-    let l : 256 ≡ length c.self-in-Load.inside.slots.items = omega (arith, c.self-in-Load.invariant, c.self-in-Load.inside.slots.ok) in
+    let l : 256 ≡ length c.self.inside.slots.items = omega (arith, c.self.invariant, c.self.inside.slots.ok) in
     let P : List ℕ → Type 0 = λ bs. (in_full g.S.Family.behaviour g.S.Family.kind g.S.Family.IsImage).loaded bs (Ok c.in_ok-load-in-Load.field-0) in
-    let made = subst P (c.deref.ensures.value ∙ c.in_ok-bytes-in-Load.ensures.bytes) (read.exact, read.found, tt) in
-    let held = slice_get_read c.self-in-Load.inside.slots.items 256 c.in-Load.slot c.index_mut.result.now l (omega arith) c.index_mut.ensures.value in
-    rw c.in-Load.is (rw (← c.self-in-Load.view_is) (Ok tt, refl, (c.in_ok-load-in-Load.field-0, c.index_mut.result.now, held, inl made, refl), refl))
+    let made = subst P (c.deref-in-Load.ensures.value ∙ c.in_ok-bytes-in-Load.ensures.bytes) (read.exact, read.found, tt) in
+    let held = slice_get_read c.self.inside.slots.items 256 c.in-Load.slot c.index_mut.result.now l (omega arith) c.index_mut.ensures.value in
+    rw c.in-Load.is (rw (← c.self.view_is) (Ok tt, refl, (c.in_ok-load-in-Load.field-0, c.index_mut.result.now, held, inl made, refl), refl))
