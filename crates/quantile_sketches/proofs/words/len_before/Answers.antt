@@ -1,11 +1,17 @@
-use Rattle.quantile_sketches.proofs.Parts.{place_near, place_far}
+use Rattle.std.proofs.Common.{◌≡◌, ◌+◌, ◌-◌, ◌==◌, ◌≤◌, length, take, drop, ◌∙◌, arith, rules, false, length-take-le, length-drop}
+use Rattle.std.specs.List.{position_or_len}
+use Rattle.quantile_sketches.proofs.Parts.{place_behind_block}
 use Rattle.quantile_sketches.proofs.words.len_before.Goals as goal
 
-pub returns-then-near-lt-BLOCK-clause-value : goal.returns-then-near-lt-BLOCK-clause-value
-returns-then-near-lt-BLOCK-clause-value c =
-    place_near c.args.byte c.len_before_near-near.result c.min.result 32 c.args.text.now c.min.ensures c.len_before_near-near.ensures.value c.if-near-lt-BLOCK.true
-
-pub returns-clause-value : goal.returns-clause-value
-returns-clause-value c =
-    place_far c.args.byte c.len_before_near-near.result c.len_before_far.result c.min.result 32 c.args.text.now c.min.ensures
-    c.len_before_near-near.ensures.value c.len_before_near-near.ensures.within c.if-near-lt-BLOCK.false c.len_before_far.ensures.value
+pub loop-i-preserved : goal.loop-i-preserved
+loop-i-preserved c =
+    let fits : c.loop-i.i + 16 ≤ length c.args.text.now = omega (arith, c.loop-i-test.true, c.loop-i.invariant.within) in
+    let none : c.holds.result ≡ false = search rules in
+    let d = length-drop c.loop-i.i c.args.text.now in
+    let l : length (take 16 (drop c.loop-i.i c.args.text.now)) ≡ 16 = length-take-le 16 (drop c.loop-i.i c.args.text.now) (omega (arith, d, fits)) in
+    let n : c.loop-i.i + 16 - c.loop-i.i ≡ 16 = omega arith in
+    let whole : position_or_len (λ b. b == c.args.byte) (take 16 (drop c.loop-i.i c.args.text.now)) ≡ length (take 16 (drop c.loop-i.i c.args.text.now)) = rw n at (c.holds.ensures none) in
+    record {
+      within = fits;
+      value = place_behind_block c.args.byte c.loop-i.i 16 c.args.text.now fits (whole ∙ l) c.loop-i.invariant.value;
+    }
