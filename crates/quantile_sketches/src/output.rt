@@ -1,7 +1,7 @@
 //! How bytes are written: they wait in a vector, and go out together.
 //! Of what is owed always a beginning is out and the rest waits, also where memory or the output
 //! fails.
-ghost use Rattle.std.specs.Prelude.{◌≡◌, ◌≤◌, ◌<◌, ◌+◌, ◌++◌, ◌∷◌, length, take, drop, [], IfOk, OnOk, OnErr};
+ghost use Rattle.std.specs.Prelude.{◌≡◌, ◌≤◌, ◌<◌, ◌+◌, ◌++◌, ◌∷◌, length, take, drop, [], IfOk, OnOk, OnErr, IsTrue, false};
 ghost use Rattle.std.specs.Io.KnownBytes.{Appends, Keeps};
 ghost use Rattle.std.specs.Fmt.{decimal};
 ghost use Rattle.quantile_sketches.specs.Output.{Writes};
@@ -20,11 +20,19 @@ pub fn add<W: Write>(output: &mut W, waiting: &mut Vec<u8>, bytes: &[u8]) -> io:
     ensures { Writes result (W.contents output.old) (W.contents output.new)
         (waiting.old.items ++ bytes.now) waiting.new.items }
 {
-    let is_room = bytes.len() <= waiting.capacity() - waiting.len();
-    if is_room && waiting.extend_from_slice(bytes).is_ok() {
+    if add_within(waiting, bytes) {
         return Ok(());
     }
     write_through(output, waiting, bytes)
+}
+
+/// Adds bytes to those that wait where there is room for them, and says whether there is.
+pub fn add_within(waiting: &mut Vec<u8>, bytes: &[u8]) -> bool
+    ensures added { IsTrue result → waiting.new.items ≡ waiting.old.items ++ bytes.now }
+    ensures full { result ≡ false → waiting.new.items ≡ waiting.old.items }
+{
+    let is_room = bytes.len() <= waiting.capacity() - waiting.len();
+    is_room && waiting.extend_from_slice(bytes).is_ok()
 }
 
 // This is kept out of the loop over the lines.

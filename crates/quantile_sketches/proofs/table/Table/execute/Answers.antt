@@ -4,10 +4,10 @@ use Rattle.quantile_sketches.proofs.table.Table.execute.Goals as goal
 
 pub returns-in-Update : goal.returns-in-Update
 returns-in-Update g c =
-    let l : 256 ≡ length c.self-in-Update.inside.slots.items = omega (arith, c.self-in-Update.invariant, c.self-in-Update.inside.slots.ok) in
+    let l : 256 ≡ length c.self.inside.slots.items = omega (arith, c.self.invariant, c.self.inside.slots.ok) in
     let within : c.in-Update.slot < 256 = omega arith in
-    let held = slice_get_read c.self-in-Update.inside.slots.items 256 c.in-Update.slot c.index_mut-in-Update.result.now l within c.index_mut-in-Update.ensures.value in
-    rw c.in-Update.is (rw (← c.self-in-Update.view_is) (c.index_mut-in-Update.result.now, c.update.new.slot, held, c.update.ensures, refl))
+    let held = slice_get_read c.self.inside.slots.items 256 c.in-Update.slot c.index_mut.result.now l within c.index_mut.ensures.value in
+    rw c.in-Update.is (rw (← c.self.view_is) (c.index_mut.result.now, c.update.new.slot, held, c.update.ensures, refl))
 
 pub returns-in-UpdateWeighted : goal.returns-in-UpdateWeighted
 returns-in-UpdateWeighted g c =

@@ -9,16 +9,6 @@ use Rattle.quantile_sketches.specs.Calls.{in_full}
 use Rattle.quantile_sketches.proofs.Slots.{item_of_clone}
 use Rattle.quantile_sketches.proofs.table.Table.reply.Goals as goal
 
-pub returns-in_err-execute-in-Run : goal.returns-in_err-execute-in-Run
-returns-in_err-execute-in-Run g c =
-    let done = item_of_clone (in_full g.S.Family.behaviour g.S.Family.kind g.S.Family.IsImage) coin_of next_state _ (λ x y e. e) c.in-Run.command c.args.self.now c.args.coins.now c.execute.result c.execute.new.self c.execute.new.coins c.execute.ensures in
-    rw c.in-Run.is (c.execute.result, search rules, done)
-
-pub returns-in_ok-execute-in-Run : goal.returns-in_ok-execute-in-Run
-returns-in_ok-execute-in-Run g c =
-    let done = item_of_clone (in_full g.S.Family.behaviour g.S.Family.kind g.S.Family.IsImage) coin_of next_state _ (λ x y e. e) c.in-Run.command c.args.self.now c.args.coins.now c.execute.result c.execute.new.self c.execute.new.coins c.execute.ensures in
-    rw c.in-Run.is (c.execute.result, search rules, done)
-
 pub returns-in_err-bytes-in-Load : goal.returns-in_err-bytes-in-Load
 returns-in_err-bytes-in-Load g c = rw c.in-Load.is (Err (Sketch OutOfMemory), search rules, (inr refl, refl), refl)
 
