@@ -68,7 +68,7 @@ module _ {C Shape S : Type 0} (grammar : Grammar C) {kind : Kind ℤ C Shape S} 
   answered run (Some (Load slot)) line slots coins r slots' coins' (v, is, h, same) of =
       subst (λ r. OfRun (run_after run (Some (Load slot)) r) slots' coins') (sym is) (loaded run slot (Loads Full (image_in line)) slots coins v slots' coins' h same of)
   answered run (Some (Rank slot item criteria)) line slots coins r slots' coins' h of = stays run slots coins slots' coins' h.1 h.2 of
-  answered run (Some (Quantile slot weight total criteria)) line slots coins r slots' coins' h of = stays run slots coins slots' coins' h.1 h.2 of
+  answered run (Some (Quantile slot fraction criteria)) line slots coins r slots' coins' h of = stays run slots coins slots' coins' h.1 h.2 of
   answered run (Some (Cdf slot criteria)) line slots coins r slots' coins' h of = stays run slots coins slots' coins' h.1 h.2 of
   answered run (Some (Pmf slot criteria)) line slots coins r slots' coins' h of = stays run slots coins slots' coins' h.1 h.2 of
   answered run (Some (Image slot)) line slots coins r slots' coins' h of = stays run slots coins slots' coins' h.1 h.2 of
