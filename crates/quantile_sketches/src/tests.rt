@@ -4,8 +4,10 @@
 mod ample;
 mod base;
 mod calls;
+mod compactor;
 mod items;
 mod readme;
 mod refused;
+mod req;
 pub(crate) mod runs;
 pub(crate) mod sketches;
