@@ -14,9 +14,13 @@ const HIGH: RankAccuracy = RankAccuracy::HighRank;
 
 const LOW: RankAccuracy = RankAccuracy::LowRank;
 
-/// No items in the last state, with 3 sections of 12.
-const IN_THE_LAST_STATE: [u8; 20] = [
-    255, 255, 255, 255, 255, 255, 255, 255, 12, 0, 0, 0, 0, 3, 0, 0, 0, 0, 0, 0,
+/// No items in state 65535, with 3 sections of 12, and then with 24 of 4.
+const IN_THREE: [u8; 20] = [
+    255, 255, 0, 0, 0, 0, 0, 0, 12, 0, 0, 0, 0, 3, 0, 0, 0, 0, 0, 0,
+];
+
+const IN_24: [u8; 20] = [
+    255, 255, 0, 0, 0, 0, 0, 0, 4, 0, 0, 0, 0, 24, 0, 0, 0, 0, 0, 0,
 ];
 
 /// How many items, the state, how many sections, their size, and the nominal capacity.
@@ -79,18 +83,6 @@ fn level_of(alloc: Global, items: &[i32]) -> Result<Compactor<i32>, Error> {
     Ok(level)
 }
 
-/// The first level of a sketch of k 12, read from its bytes.
-fn read(alloc: Global, bytes: &[u8]) -> Result<Compactor<i32>, Error> {
-    let mut input = SketchSlice::new(bytes);
-    Compactor::deserialize(alloc, &mut input, 12, 0, HIGH, true)
-}
-
-fn image_of(alloc: Global, level: &Compactor<i32>) -> Result<Vec<u8>, Error> {
-    let mut bytes = SketchBytes::with_capacity(alloc, 0)?;
-    level.serialize_into(&mut bytes)?;
-    Ok(bytes.into_bytes())
-}
-
 /// Whether a new level of the third place and k 12 has 3 sections of 12, weighs 8 an item, and counts as sorted.
 fn is_new(alloc: Global) -> bool {
     let level: Compactor<i32> = Compactor::new(alloc, 3, 12, LOW);
@@ -129,7 +121,10 @@ fn new_levels(rt: HostRuntime) -> Result<(), Fail> {
         ((2, 1), true, false),
         ((2, 1), false, false),
     ] {
-        assert!(rt; is_raw(rt.alloc(), items, said, is_sorted)?, "{items:?}, said {said}");
+        assert!(rt;
+            is_raw(rt.alloc(), items, said, is_sorted)?,
+            "{items:?}, said {said}"
+        );
     }
     Ok(())
 }
@@ -142,12 +137,6 @@ fn are_two_sorted(alloc: Global) -> Result<bool, Error> {
     let is_kept = holds(&level, &[5, 3], false);
     level.sort();
     Ok(is_one_sorted && is_kept && holds(&level, &[3, 5], true))
-}
-
-#[test]
-fn two_items_count_as_not_sorted(rt: HostRuntime) -> Result<(), Fail> {
-    assert!(rt; are_two_sorted(rt.alloc())?);
-    Ok(())
 }
 
 /// Whether so many items are at most another, and so many below it.
@@ -172,7 +161,8 @@ fn counts_in_any_order(alloc: Global) -> Result<bool, Error> {
 }
 
 #[test]
-fn counts_items_below(rt: HostRuntime) -> Result<(), Fail> {
+fn sorts_and_counts_items_below(rt: HostRuntime) -> Result<(), Fail> {
+    assert!(rt; are_two_sorted(rt.alloc())?);
     assert!(rt; counts_in_any_order(rt.alloc())?);
     Ok(())
 }
@@ -252,46 +242,30 @@ fn compacts(rt: HostRuntime) -> Result<(), Fail> {
     Ok(())
 }
 
-/// Appends the numbers from 1 to another.
-fn append_up_to(level: &mut Compactor<i32>, last: i32) -> Result<(), Error> {
-    for item in 0..last {
-        level.append(item.wrapping_add(1))?;
-    }
-    Ok(())
+/// The first level of a sketch of k 12, read from its bytes.
+fn read(alloc: Global, bytes: &[u8]) -> Result<Compactor<i32>, Error>
+    ensures { IfOk result (λ level. level.lg_weight ≡ 0) }
+{
+    let mut input = SketchSlice::new(bytes);
+    Compactor::deserialize(alloc, &mut input, 12, 0, HIGH, true)
 }
 
-/// Whether a level gives up the half of its 36 least items that a turned coin takes, and draws no coin.
-fn gives_up_half(alloc: Global, level: &mut Compactor<i32>) -> Result<bool, Error> {
-    let mut out = Vec::new(alloc);
-    let mut coins = WordBits::new(&[false]);
-    level.compact_into(&mut out, &mut coins)?;
-    Ok(coins.drawn() == 0 && out.len() == 18 && out.first() == Some(&2) && out.last() == Some(&36))
+fn is_written_as(alloc: Global, level: &Compactor<i32>, image: &[u8]) -> Result<bool, Error> {
+    let mut bytes = SketchBytes::with_capacity(alloc, 0)?;
+    level.serialize_into(&mut bytes)?;
+    let written = bytes.into_bytes();
+    Ok(written.as_slice() == image)
 }
 
-/// Whether a level is in the last state, with the numbers from 37 to 72 and 6 sections of 8.
-fn is_in_the_last_state(level: &Compactor<i32>) -> bool {
-    is_range(level.items_slice(), 37, 72) && has_numbers(level, (36, u64::MAX, 6, 8, 96))
-}
-
-/// Whether what is read of a level's image is in the last state.
-fn is_read_in_the_last_state(alloc: Global, level: &Compactor<i32>) -> Result<bool, Error> {
-    let image = image_of(alloc, level)?;
-    Ok(is_in_the_last_state(&read(alloc, &image)?))
-}
-
-/// Whether a level of the numbers from 1 to 72 in the last state is compacted in it, and what is read of it is in the same.
-fn is_compacted_and_read(alloc: Global) -> Result<bool, Error> {
-    let mut level = read(alloc, &IN_THE_LAST_STATE)?;
-    append_up_to(&mut level, 72)?;
-    Ok(
-        gives_up_half(alloc, &mut level)?
-            && is_in_the_last_state(&level)
-            && is_read_in_the_last_state(alloc, &level)?,
-    )
+/// Whether a new level gets 24 sections by a merge of one that is read.
+fn doubles_sections(alloc: Global) -> Result<bool, Error> {
+    let mut level = filled(alloc, 12, HIGH, 0)?;
+    level.merge(&read(alloc, &IN_THREE)?)?;
+    Ok(has_numbers(&level, (0, 65535, 24, 4, 192)) && is_written_as(alloc, &level, &IN_24)?)
 }
 
 #[test]
-fn the_state_stays_at_its_greatest(rt: HostRuntime) -> Result<(), Fail> {
-    assert!(rt; is_compacted_and_read(rt.alloc())?);
+fn a_merge_doubles_the_sections_more_than_once(rt: HostRuntime) -> Result<(), Fail> {
+    assert!(rt; doubles_sections(rt.alloc())?);
     Ok(())
 }

@@ -5,12 +5,11 @@ use sketch_base::codec::{SketchBytes, SketchSlice};
 use sketch_base::common::random::WordBits;
 use sketch_base::common::{Rank, SearchCriteria};
 use sketch_base::error::{Error, ErrorKind};
-use sketch_req::RankAccuracy;
 use sketch_req::iter::ReqSketchIterator;
-use sketch_req::serialization;
 use sketch_req::sketch::ReqSketch;
 use sketch_req::sorted_view::SortedView;
 use sketch_req::value::ReqValue;
+use sketch_req::{RankAccuracy, serialization};
 use std::alloc::Global;
 use std::test::Fail;
 
@@ -36,11 +35,20 @@ fn sections_are_even(rt: HostRuntime) {
 
 /// The numbers that the format of images has.
 fn is_as_the_format_says() -> bool {
-    (serialization::SERIAL_VERSION, serialization::RAW_ITEMS_THRESHOLD) == (1, 4)
+    (
+        serialization::SERIAL_VERSION,
+        serialization::RAW_ITEMS_THRESHOLD,
+    ) == (1, 4)
         && serialization::PREAMBLE_INTS_EXACT == 2
         && serialization::PREAMBLE_INTS_ESTIMATION == 4
-        && (serialization::FLAG_IS_EMPTY, serialization::FLAG_IS_HIGH_RANK) == (4, 8)
-        && (serialization::FLAG_RAW_ITEMS, serialization::FLAG_IS_LEVEL_ZERO_SORTED) == (16, 32)
+        && (
+            serialization::FLAG_IS_EMPTY,
+            serialization::FLAG_IS_HIGH_RANK,
+        ) == (4, 8)
+        && (
+            serialization::FLAG_RAW_ITEMS,
+            serialization::FLAG_IS_LEVEL_ZERO_SORTED,
+        ) == (16, 32)
 }
 
 /// Whether version 1 alone is taken, and of preambles 2 up to one level and 4 for more.
@@ -162,11 +170,7 @@ fn is_view_of_nothing(alloc: Global) -> Result<bool, Error> {
 }
 
 /// Whether a view ranks the numbers up to 60 as its sketch does.
-fn ranks_alike(
-    sketch: &ReqSketch<i32>,
-    view: &SortedView<i32>,
-    criteria: SearchCriteria,
-) -> bool {
+fn ranks_alike(sketch: &ReqSketch<i32>, view: &SortedView<i32>, criteria: SearchCriteria) -> bool {
     for item in 0..61 {
         if view.rank(&item, criteria) != sketch.rank(&item, criteria) {
             return false;
@@ -219,10 +223,18 @@ fn double(sketch: &mut ReqSketch<String>, coins: &mut WordBits) -> Result<(), Er
 }
 
 /// Whether a sketch keeps so many texts, the last of which is c and counts twice, and counts so many up to l.
-fn has_letters(alloc: Global, sketch: &ReqSketch<String>, kept: u32, weight: u64) -> Result<bool, Error> {
+fn has_letters(
+    alloc: Global,
+    sketch: &ReqSketch<String>,
+    kept: u32,
+    weight: u64,
+) -> Result<bool, Error> {
     let twelfth = String::from_str(alloc, "l")?;
     let rank = sketch.rank(&twelfth, CRITERIA);
-    let is_last = sketch.iter().last().is_some_and(|(text, twice)| text.as_str() == "c" && twice == 2);
+    let is_last = sketch
+        .iter()
+        .last()
+        .is_some_and(|(text, twice)| text.as_str() == "c" && twice == 2);
     Ok(is_last && sketch.num_retained() == kept && rank.is_some_and(|rank| rank.weight == weight))
 }
 
