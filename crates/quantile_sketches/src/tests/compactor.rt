@@ -14,11 +14,12 @@ const HIGH: RankAccuracy = RankAccuracy::HighRank;
 
 const LOW: RankAccuracy = RankAccuracy::LowRank;
 
-/// No items in state 65535, with 3 sections of 12, and then with 24 of 4.
+/// No items in state 65535, with 3 sections of 12.
 const IN_THREE: [u8; 20] = [
     255, 255, 0, 0, 0, 0, 0, 0, 12, 0, 0, 0, 0, 3, 0, 0, 0, 0, 0, 0,
 ];
 
+/// The same with 24 sections of 4.
 const IN_24: [u8; 20] = [
     255, 255, 0, 0, 0, 0, 0, 0, 4, 0, 0, 0, 0, 24, 0, 0, 0, 0, 0, 0,
 ];
@@ -40,16 +41,13 @@ fn holds(level: &Compactor<i32>, items: &[i32], is_sorted: bool) -> bool {
     level.items_slice() == items && level.is_sorted() == is_sorted
 }
 
-/// Whether the items are the numbers from one to another, both included.
-fn is_range(items: &[i32], first: i32, last: i32) -> bool {
-    let mut next = first;
-    for item in items {
-        if *item != next {
-            return false;
-        }
-        next = next.wrapping_add(1);
-    }
-    next == last.wrapping_add(1)
+/// Whether a level has the numbers from one to another, both included, in order.
+fn is_range(level: &Compactor<i32>, first: i32, last: i32) -> bool {
+    let items = level.items_slice();
+    items.first() == Some(&first)
+        && items.last() == Some(&last)
+        && items.len() as i64 == last as i64 - first as i64 + 1
+        && level.is_sorted()
 }
 
 /// A level of weight 1 with the numbers from 1 to another, the last first.
@@ -69,17 +67,12 @@ fn filled(
     Ok(level)
 }
 
-fn append_all(level: &mut Compactor<i32>, items: &[i32]) -> Result<(), Error> {
-    for item in items {
-        level.append(*item)?;
-    }
-    Ok(())
-}
-
 /// A new level of weight 1 that took some items.
 fn level_of(alloc: Global, items: &[i32]) -> Result<Compactor<i32>, Error> {
     let mut level = Compactor::new(alloc, 0, 12, HIGH);
-    append_all(&mut level, items)?;
+    for item in items {
+        level.append(*item)?;
+    }
     Ok(level)
 }
 
@@ -98,45 +91,18 @@ fn is_raw(
 ) -> Result<bool, Error> {
     let items = vec![in alloc; first, second]?;
     let level = Compactor::raw_items_compactor(12, HIGH, items, said);
-    Ok(
-        holds(&level, &[first, second], is_sorted)
-            && level.weight() == 1
-            && has_numbers(&level, (2, 0, 3, 12, 72)),
-    )
-}
-
-/// Whether a level of no items, which are said not to be sorted, counts as sorted.
-fn is_nothing_sorted(alloc: Global) -> bool {
-    let none: Vec<i32> = Vec::new(alloc);
-    Compactor::raw_items_compactor(4, LOW, none, false).is_sorted()
+    Ok(holds(&level, &[first, second], is_sorted) && has_numbers(&level, (2, 0, 3, 12, 72)))
 }
 
 #[test]
 fn new_levels(rt: HostRuntime) -> Result<(), Fail> {
-    assert!(rt; is_new(rt.alloc()) && !is_nothing_sorted(rt.alloc()));
-    for (items, said, is_sorted) in [
-        ((1, 2), true, true),
-        ((1, 2), false, false),
-        ((2, 2), true, true),
-        ((2, 1), true, false),
-        ((2, 1), false, false),
-    ] {
-        assert!(rt;
-            is_raw(rt.alloc(), items, said, is_sorted)?,
-            "{items:?}, said {said}"
-        );
-    }
+    assert!(rt; is_new(rt.alloc()));
+    assert!(rt; is_raw(rt.alloc(), (1, 2), true, true)?);
+    assert!(rt; is_raw(rt.alloc(), (1, 2), false, false)?);
+    assert!(rt; is_raw(rt.alloc(), (2, 2), true, true)?);
+    assert!(rt; is_raw(rt.alloc(), (2, 1), true, false)?);
+    assert!(rt; is_raw(rt.alloc(), (2, 1), false, false)?);
     Ok(())
-}
-
-/// Whether 5 counts as sorted, 5 and 3 don't, and a sort puts them in order.
-fn are_two_sorted(alloc: Global) -> Result<bool, Error> {
-    let mut level = level_of(alloc, &[5])?;
-    let is_one_sorted = level.is_sorted();
-    level.append(3)?;
-    let is_kept = holds(&level, &[5, 3], false);
-    level.sort();
-    Ok(is_one_sorted && is_kept && holds(&level, &[3, 5], true))
 }
 
 /// Whether so many items are at most another, and so many below it.
@@ -152,17 +118,17 @@ fn counts_all(level: &Compactor<i32>) -> bool {
         && counts(level, 6, 4, 4)
 }
 
-/// Whether 5, 3, 5, 1 are counted so as they are and in order.
+/// Whether 5 counts as sorted, and 5, 3, 5, 1 don't until a sort; whether they are counted alike before and after it.
 fn counts_in_any_order(alloc: Global) -> Result<bool, Error> {
+    let is_one_sorted = level_of(alloc, &[5])?.is_sorted();
     let mut level = level_of(alloc, &[5, 3, 5, 1])?;
-    let is_counted = counts_all(&level);
+    let is_counted = holds(&level, &[5, 3, 5, 1], false) && counts_all(&level);
     level.sort();
-    Ok(is_counted && counts_all(&level))
+    Ok(is_one_sorted && is_counted && holds(&level, &[1, 3, 5, 5], true) && counts_all(&level))
 }
 
 #[test]
 fn sorts_and_counts_items_below(rt: HostRuntime) -> Result<(), Fail> {
-    assert!(rt; are_two_sorted(rt.alloc())?);
     assert!(rt; counts_in_any_order(rt.alloc())?);
     Ok(())
 }
@@ -171,14 +137,14 @@ fn sorts_and_counts_items_below(rt: HostRuntime) -> Result<(), Fail> {
 fn merged_in_order(alloc: Global) -> Result<Compactor<i32>, Error> {
     let mut level = level_of(alloc, &[5, 1, 3])?;
     level.sort();
-    level.merge_sorted(&[2, 4, 6])?;
+    level.merge_sorted([2, 4, 6].as_slice())?;
     Ok(level)
 }
 
 /// Whether a copy has the numbers from 1 to 6, and counts as sorted.
 fn is_copied(level: &Compactor<i32>) -> Result<bool, Error> {
     let copy = level.clone()?;
-    Ok(holds(&copy, &[1, 2, 3, 4, 5, 6], true) && copy.iter().sum::<i32>() == 21)
+    Ok(holds(&copy, &[1, 2, 3, 4, 5, 6], true) && copy.iter().count() == 6)
 }
 
 /// Whether a level of 3, 2, 1 merges nothing in and then 2, 1, from levels of another k and accuracy.
@@ -218,8 +184,7 @@ fn compacts_to(
     let moved = if up.is_empty() { 0 } else { 1 };
     Ok(
         out.as_slice() == up
-            && level.is_sorted()
-            && is_range(level.items_slice(), first, last)
+            && is_range(&level, first, last)
             && level.state() == moved as u64
             && coins.drawn() == moved,
     )

@@ -1,11 +1,15 @@
 //! REQ sketches: what no line of the program shows of their calls.
 use super::calls::filled;
-use super::sketches::Tried;
+use super::sketches::{Numbered, Tried};
 use sketch_base::codec::{SketchBytes, SketchSlice};
 use sketch_base::common::random::WordBits;
 use sketch_base::common::{Rank, SearchCriteria};
-use sketch_base::error::{Error, ErrorKind};
+use sketch_base::error::Error;
 use sketch_req::iter::ReqSketchIterator;
+use sketch_req::serialization::{
+    check_preamble_ints, check_serial_version, nearest_even_section_size, section_size,
+    validate_compactor_state,
+};
 use sketch_req::sketch::ReqSketch;
 use sketch_req::sorted_view::SortedView;
 use sketch_req::value::ReqValue;
@@ -17,66 +21,42 @@ const CRITERIA: SearchCriteria = SearchCriteria::Inclusive;
 
 #[test]
 fn sections_are_even(rt: HostRuntime) {
-    for (k, doublings, size) in [
-        (12, 0, 12),
-        (12, 1, 8),
-        (12, 2, 6),
-        (12, 3, 4),
-        (12, 4, 4),
-        (12, 5, 2),
-        (4, 5, 0),
-    ] {
-        assert_eq!(rt; serialization::section_size(k, doublings), size);
-    }
-    for (value, even) in [(0, 0), (1, 2), (2, 2), (3, 4), (4, 4), (13, 14)] {
-        assert_eq!(rt; serialization::nearest_even_section_size(value), even);
-    }
+    assert!(rt; section_size(12, 0) == 12 && section_size(12, 1) == 8);
+    assert!(rt; section_size(12, 2) == 6 && section_size(12, 3) == 4);
+    assert!(rt; section_size(12, 4) == 4 && section_size(12, 5) == 2);
+    assert!(rt; section_size(4, 5) == 0);
+    assert!(rt; nearest_even_section_size(0) == 0 && nearest_even_section_size(1) == 2);
+    assert!(rt; nearest_even_section_size(2) == 2 && nearest_even_section_size(3) == 4);
+    assert!(rt; nearest_even_section_size(4) == 4 && nearest_even_section_size(13) == 14);
 }
 
-/// The numbers that the format of images has.
-fn is_as_the_format_says() -> bool {
-    (
-        serialization::SERIAL_VERSION,
-        serialization::RAW_ITEMS_THRESHOLD,
-    ) == (1, 4)
-        && serialization::PREAMBLE_INTS_EXACT == 2
-        && serialization::PREAMBLE_INTS_ESTIMATION == 4
-        && (
-            serialization::FLAG_IS_EMPTY,
-            serialization::FLAG_IS_HIGH_RANK,
-        ) == (4, 8)
-        && (
-            serialization::FLAG_RAW_ITEMS,
-            serialization::FLAG_IS_LEVEL_ZERO_SORTED,
-        ) == (16, 32)
+#[test]
+fn constants(rt: HostRuntime) {
+    assert!(rt; serialization::SERIAL_VERSION == 1 && serialization::RAW_ITEMS_THRESHOLD == 4);
+    assert!(rt; serialization::PREAMBLE_INTS_EXACT == 2);
+    assert!(rt; serialization::PREAMBLE_INTS_ESTIMATION == 4);
+    assert!(rt; serialization::FLAG_IS_EMPTY == 4 && serialization::FLAG_IS_HIGH_RANK == 8);
+    assert!(rt; serialization::FLAG_RAW_ITEMS == 16);
+    assert!(rt; serialization::FLAG_IS_LEVEL_ZERO_SORTED == 32);
+    assert!(rt; RankAccuracy::default() == RankAccuracy::HighRank);
 }
 
-/// Whether version 1 alone is taken, and of preambles 2 up to one level and 4 for more.
-fn are_heads_checked() -> bool {
-    let version = serialization::check_serial_version;
-    let preamble = serialization::check_preamble_ints;
-    version(1).is_ok()
-        && version(0).is_err()
-        && preamble(2, 0).is_ok()
-        && preamble(2, 1).is_ok()
-        && preamble(4, 1).is_err()
-        && preamble(4, 2).is_ok()
-        && preamble(2, 2).is_err()
+/// Whether an image of this version and preamble and so many levels may be read.
+fn is_head(version: u8, preamble: u8, num_levels: u8) -> bool {
+    check_serial_version(version).is_ok() && check_preamble_ints(preamble, num_levels).is_ok()
 }
 
 /// Whether a level of k 12 in a state, with 24 sections of 4, may stand in an image.
 fn is_layout(state: u64) -> bool {
-    match serialization::validate_compactor_state(12, 0, state, 4, 0, 24) {
-        Ok(()) => true,
-        Err(error) => error.kind() != ErrorKind::InvalidData,
-    }
+    validate_compactor_state(12, 0, state, 4, 0, 24).is_ok()
 }
 
 #[test]
 fn images_are_checked(rt: HostRuntime) {
-    assert!(rt; is_as_the_format_says() && are_heads_checked());
+    assert!(rt; is_head(1, 2, 0) && is_head(1, 2, 1) && is_head(1, 4, 2));
+    assert!(rt; !is_head(0, 2, 1) && !is_head(2, 2, 1));
+    assert!(rt; !is_head(1, 4, 1) && !is_head(1, 2, 2) && !is_head(1, 3, 2));
     assert!(rt; is_layout(2048) && !is_layout(2047));
-    assert!(rt; RankAccuracy::default() == RankAccuracy::HighRank);
 }
 
 /// Whether a value is written as these bytes, and they are so many as it says.
@@ -120,14 +100,6 @@ fn each_type_of_item_reads_back(rt: HostRuntime) -> Result<(), Fail> {
     Ok(())
 }
 
-/// Whether the next pair is an item with a weight.
-fn is_pair(pair: Option<(&i32, u64)>, item: i32, weight: u64) -> bool {
-    match pair {
-        None => false,
-        Some((found, weighs)) => *found == item && weighs == weight,
-    }
-}
-
 /// Whether no pair is left, for good.
 fn is_at_its_end(pairs: &mut ReqSketchIterator<'_, i32>) -> bool {
     pairs.len() == 0 && pairs.next().is_none() && pairs.next().is_none()
@@ -137,8 +109,8 @@ fn is_at_its_end(pairs: &mut ReqSketchIterator<'_, i32>) -> bool {
 fn iterates_over(sketch: &ReqSketch<i32>) -> bool {
     let mut pairs = sketch.iter();
     pairs.size_hint() == (22, Some(22))
-        && is_pair(pairs.next(), 5, 1)
-        && is_pair(pairs.by_ref().nth(20), 3, 2)
+        && pairs.next() == Some((&5, 1))
+        && pairs.by_ref().nth(20) == Some((&3, 2))
         && is_at_its_end(&mut pairs)
 }
 
@@ -195,23 +167,11 @@ fn views_rank(rt: HostRuntime) -> Result<(), Fail> {
     Ok(())
 }
 
-fn take_text(
-    alloc: Global,
-    sketch: &mut ReqSketch<String>,
-    text: &str,
-    coins: &mut WordBits,
-) -> Result<(), Error> {
-    sketch.update(String::from_str(alloc, text)?, coins)
-}
-
-/// A sketch of k 4 that took the letters from a to x.
-fn letters(alloc: Global, coins: &mut WordBits) -> Result<ReqSketch<String>, Error> {
+/// A sketch of k 4 that took the texts of the numbers from 1 to 24.
+fn texts(alloc: Global, coins: &mut WordBits) -> Result<ReqSketch<String>, Error> {
     let mut sketch = ReqSketch::new(alloc, 4, RankAccuracy::HighRank)?;
-    for text in [
-        "a", "b", "c", "d", "e", "f", "g", "h", "i", "j", "k", "l", "m", "n", "o", "p", "q", "r",
-        "s", "t", "u", "v", "w", "x",
-    ] {
-        take_text(alloc, &mut sketch, text, coins)?;
+    for number in 0..24u32 {
+        sketch.update(String::numbered(alloc, number.wrapping_add(1))?, coins)?;
     }
     Ok(sketch)
 }
@@ -222,29 +182,27 @@ fn double(sketch: &mut ReqSketch<String>, coins: &mut WordBits) -> Result<(), Er
     sketch.merge(&copy, coins)
 }
 
-/// Whether a sketch keeps so many texts, the last of which is c and counts twice, and counts so many up to l.
-fn has_letters(
+/// Whether the last text is that of 3, which counts twice, and so many of so many are at most that of 12.
+fn has_texts(
     alloc: Global,
     sketch: &ReqSketch<String>,
-    kept: u32,
     weight: u64,
+    total: u64,
 ) -> Result<bool, Error> {
-    let twelfth = String::from_str(alloc, "l")?;
-    let rank = sketch.rank(&twelfth, CRITERIA);
-    let is_last = sketch
-        .iter()
-        .last()
-        .is_some_and(|(text, twice)| text.as_str() == "c" && twice == 2);
-    Ok(is_last && sketch.num_retained() == kept && rank.is_some_and(|rank| rank.weight == weight))
+    let (third, twelfth) = (String::numbered(alloc, 3)?, String::numbered(alloc, 12)?);
+    Ok(
+        sketch.iter().last() == Some((&third, 2))
+            && sketch.rank(&twelfth, CRITERIA) == Some(Rank { weight, total }),
+    )
 }
 
 /// Whether a sketch of texts is compacted once by updates, under a false coin, and then merged with its copy by none.
 fn takes_texts(alloc: Global) -> Result<bool, Error> {
     let mut coins = WordBits::new(&[]);
-    let mut sketch = letters(alloc, &mut coins)?;
-    let is_filled = has_letters(alloc, &sketch, 22, 12)?;
+    let mut sketch = texts(alloc, &mut coins)?;
+    let is_filled = has_texts(alloc, &sketch, 12, 24)?;
     double(&mut sketch, &mut coins)?;
-    Ok(is_filled && has_letters(alloc, &sketch, 44, 24)? && coins.drawn() == 1)
+    Ok(is_filled && has_texts(alloc, &sketch, 24, 48)? && coins.drawn() == 1)
 }
 
 #[test]

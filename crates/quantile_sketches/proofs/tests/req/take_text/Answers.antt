@@ -1,6 +1,0 @@
-use Rattle.std.specs.String.{string_bytes}
-use Rattle.sketch_base.specs.SpellingLaws.{text_clones}
-use Rattle.quantile_sketches.proofs.tests.req.take_text.Goals as goal
-
-pub update-requires : goal.update-requires
-update-requires c = record { clones = text_clones string_bytes }
