@@ -46,7 +46,7 @@ fn is_range(level: &Compactor<i32>, first: i32, last: i32) -> bool {
     let items = level.items_slice();
     items.first() == Some(&first)
         && items.last() == Some(&last)
-        && items.len() as i64 == last as i64 - first as i64 + 1
+        && level.num_items() as i64 == last as i64 - first as i64 + 1
         && level.is_sorted()
 }
 
@@ -212,7 +212,8 @@ fn read(alloc: Global, bytes: &[u8]) -> Result<Compactor<i32>, Error>
     ensures { IfOk result (λ level. level.lg_weight ≡ 0) }
 {
     let mut input = SketchSlice::new(bytes);
-    Compactor::deserialize(alloc, &mut input, 12, 0, HIGH, true)
+    let level = Compactor::deserialize(alloc, &mut input, 12, 0, HIGH, true)?;
+    Ok(level)
 }
 
 fn is_written_as(alloc: Global, level: &Compactor<i32>, image: &[u8]) -> Result<bool, Error> {

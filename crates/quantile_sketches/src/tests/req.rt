@@ -75,8 +75,9 @@ fn is_spelled<T: ReqValue + PartialEq + Drop>(
 ) -> Result<bool, Error> {
     let mut input = SketchSlice::new(spelling);
     let read = T::deserialize_value(alloc, &mut input)?;
-    let is_read = read == *value && T::deserialize_value(alloc, &mut input).is_err();
-    Ok(is_read && is_written_as(alloc, value, spelling)?)
+    let is_read = read == *value && input.remaining().is_empty();
+    let is_at_end = T::deserialize_value(alloc, &mut input).is_err();
+    Ok(is_read && is_at_end && is_written_as(alloc, value, spelling)?)
 }
 
 /// Whether a sketch of 60 items of a type at k 4 reads back.
