@@ -1,6 +1,6 @@
 //! What no contract can say: calls go through where memory is ample, and leave all as it was where it is refused.
 //! `tests/memory` runs the tests of `refused` under a library that refuses each request for memory in turn. The README's example.
-//! What the lines of the program show of no call of the libraries.
+//! `compactor` and `req` try what no line of the program shows of REQ's calls.
 
 mod ample;
 mod base;

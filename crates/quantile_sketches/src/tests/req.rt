@@ -13,7 +13,7 @@ use sketch_req::serialization::{
 use sketch_req::sketch::ReqSketch;
 use sketch_req::sorted_view::SortedView;
 use sketch_req::value::ReqValue;
-use sketch_req::{RankAccuracy, serialization};
+use sketch_req::{RankAccuracy, serialization as layout};
 use std::alloc::Global;
 use std::test::Fail;
 
@@ -32,12 +32,10 @@ fn sections_are_even(rt: HostRuntime) {
 
 #[test]
 fn constants(rt: HostRuntime) {
-    assert!(rt; serialization::SERIAL_VERSION == 1 && serialization::RAW_ITEMS_THRESHOLD == 4);
-    assert!(rt; serialization::PREAMBLE_INTS_EXACT == 2);
-    assert!(rt; serialization::PREAMBLE_INTS_ESTIMATION == 4);
-    assert!(rt; serialization::FLAG_IS_EMPTY == 4 && serialization::FLAG_IS_HIGH_RANK == 8);
-    assert!(rt; serialization::FLAG_RAW_ITEMS == 16);
-    assert!(rt; serialization::FLAG_IS_LEVEL_ZERO_SORTED == 32);
+    assert!(rt; layout::SERIAL_VERSION == 1 && layout::RAW_ITEMS_THRESHOLD == 4);
+    assert!(rt; layout::PREAMBLE_INTS_EXACT == 2 && layout::PREAMBLE_INTS_ESTIMATION == 4);
+    assert!(rt; layout::FLAG_IS_EMPTY == 4 && layout::FLAG_IS_HIGH_RANK == 8);
+    assert!(rt; layout::FLAG_RAW_ITEMS == 16 && layout::FLAG_IS_LEVEL_ZERO_SORTED == 32);
     assert!(rt; RankAccuracy::default() == RankAccuracy::HighRank);
 }
 
