@@ -1,11 +1,14 @@
 //! What no contract can say: calls go through where memory is ample, and leave all as it was where it is refused.
 //! `tests/memory` runs the tests of `refused` under a library that refuses each request for memory in turn. The README's example.
+//! `compactor` and `req` try what no line of the program shows of REQ's calls.
 
 mod ample;
 mod base;
 mod calls;
+mod compactor;
 mod items;
 mod readme;
 mod refused;
+mod req;
 pub(crate) mod runs;
 pub(crate) mod sketches;

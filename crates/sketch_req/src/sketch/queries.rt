@@ -183,6 +183,3 @@ impl<T: Clone + Ord> ReqSketch<T> {
         Ok(Some(ranks))
     }
 }
-
-#[cfg(test)]
-mod tests;

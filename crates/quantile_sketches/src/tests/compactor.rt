@@ -1,0 +1,237 @@
+//! One level of a REQ sketch, which no line of the program shows alone.
+ghost use Rattle.std.specs.Prelude.{◌≡◌, IfOk};
+ghost use Rattle.sketch_req.specs.Sections.{IsLegalK};
+
+use sketch_base::codec::{SketchBytes, SketchSlice};
+use sketch_base::common::random::WordBits;
+use sketch_base::error::Error;
+use sketch_req::RankAccuracy;
+use sketch_req::compactor::Compactor;
+use std::alloc::Global;
+use std::test::Fail;
+
+const HIGH: RankAccuracy = RankAccuracy::HighRank;
+
+const LOW: RankAccuracy = RankAccuracy::LowRank;
+
+/// No items in state 65535, with 3 sections of 12.
+const IN_THREE: [u8; 20] = [
+    255, 255, 0, 0, 0, 0, 0, 0, 12, 0, 0, 0, 0, 3, 0, 0, 0, 0, 0, 0,
+];
+
+/// The same with 24 sections of 4.
+const IN_24: [u8; 20] = [
+    255, 255, 0, 0, 0, 0, 0, 0, 4, 0, 0, 0, 0, 24, 0, 0, 0, 0, 0, 0,
+];
+
+/// How many items, the state, how many sections, their size, and the nominal capacity.
+type Numbers = (u32, u64, u8, u32, u32);
+
+fn has_numbers(level: &Compactor<i32>, numbers: Numbers) -> bool {
+    let (items, state, sections, size, capacity) = numbers;
+    level.num_items() == items
+        && level.state() == state
+        && level.num_sections() == sections
+        && level.section_size() == size
+        && level.nominal_capacity() == capacity
+}
+
+/// Whether a level has these items, and counts as sorted or not.
+fn holds(level: &Compactor<i32>, items: &[i32], is_sorted: bool) -> bool {
+    level.items_slice() == items && level.is_sorted() == is_sorted
+}
+
+/// Whether a level has the numbers from one to another, both included, in order.
+fn is_range(level: &Compactor<i32>, first: i32, last: i32) -> bool {
+    let items = level.items_slice();
+    items.first() == Some(&first)
+        && items.last() == Some(&last)
+        && level.num_items() as i64 == last as i64 - first as i64 + 1
+        && level.is_sorted()
+}
+
+/// A level of weight 1 with the numbers from 1 to another, the last first.
+fn filled(
+    alloc: Global,
+    k: u16,
+    rank_accuracy: RankAccuracy,
+    last: i32,
+) -> Result<Compactor<i32>, Error>
+    requires { IsLegalK k }
+    ensures { IfOk result (λ level. level.lg_weight ≡ 0) }
+{
+    let mut level = Compactor::new(alloc, 0, k, rank_accuracy);
+    for item in 0..last {
+        level.append(last.saturating_sub(item))?;
+    }
+    Ok(level)
+}
+
+/// A new level of weight 1 that took some items.
+fn level_of(alloc: Global, items: &[i32]) -> Result<Compactor<i32>, Error> {
+    let mut level = Compactor::new(alloc, 0, 12, HIGH);
+    for item in items {
+        level.append(*item)?;
+    }
+    Ok(level)
+}
+
+/// Whether a new level of the third place and k 12 has 3 sections of 12, weighs 8 an item, and counts as sorted.
+fn is_new(alloc: Global) -> bool {
+    let level: Compactor<i32> = Compactor::new(alloc, 3, 12, LOW);
+    holds(&level, &[], true) && level.weight() == 8 && has_numbers(&level, (0, 0, 3, 12, 72))
+}
+
+/// Whether a level of two items, which are said to be sorted or not, counts as sorted or not, and is new else.
+fn is_raw(
+    alloc: Global,
+    (first, second): (i32, i32),
+    said: bool,
+    is_sorted: bool,
+) -> Result<bool, Error> {
+    let items = vec![in alloc; first, second]?;
+    let level = Compactor::raw_items_compactor(12, HIGH, items, said);
+    Ok(holds(&level, &[first, second], is_sorted) && has_numbers(&level, (2, 0, 3, 12, 72)))
+}
+
+#[test]
+fn new_levels(rt: HostRuntime) -> Result<(), Fail> {
+    assert!(rt; is_new(rt.alloc()));
+    assert!(rt; is_raw(rt.alloc(), (1, 2), true, true)?);
+    assert!(rt; is_raw(rt.alloc(), (1, 2), false, false)?);
+    assert!(rt; is_raw(rt.alloc(), (2, 2), true, true)?);
+    assert!(rt; is_raw(rt.alloc(), (2, 1), true, false)?);
+    assert!(rt; is_raw(rt.alloc(), (2, 1), false, false)?);
+    Ok(())
+}
+
+/// Whether so many items are at most another, and so many below it.
+fn counts(level: &Compactor<i32>, item: i32, at_most: usize, below: usize) -> bool {
+    level.count_below(&item, true) == at_most && level.count_below(&item, false) == below
+}
+
+fn counts_all(level: &Compactor<i32>) -> bool {
+    counts(level, 0, 0, 0)
+        && counts(level, 1, 1, 0)
+        && counts(level, 4, 2, 2)
+        && counts(level, 5, 4, 2)
+        && counts(level, 6, 4, 4)
+}
+
+/// Whether 5 counts as sorted, and 5, 3, 5, 1 don't until a sort; whether they are counted alike before and after it.
+fn counts_in_any_order(alloc: Global) -> Result<bool, Error> {
+    let is_one_sorted = level_of(alloc, &[5])?.is_sorted();
+    let mut level = level_of(alloc, &[5, 3, 5, 1])?;
+    let is_counted = holds(&level, &[5, 3, 5, 1], false) && counts_all(&level);
+    level.sort();
+    Ok(is_one_sorted && is_counted && holds(&level, &[1, 3, 5, 5], true) && counts_all(&level))
+}
+
+#[test]
+fn sorts_and_counts_items_below(rt: HostRuntime) -> Result<(), Fail> {
+    assert!(rt; counts_in_any_order(rt.alloc())?);
+    Ok(())
+}
+
+/// A level of the numbers from 1 to 6, of which every second was merged in.
+fn merged_in_order(alloc: Global) -> Result<Compactor<i32>, Error> {
+    let mut level = level_of(alloc, &[5, 1, 3])?;
+    level.sort();
+    level.merge_sorted([2, 4, 6].as_slice())?;
+    Ok(level)
+}
+
+/// Whether a copy has the numbers from 1 to 6, and counts as sorted.
+fn is_copied(level: &Compactor<i32>) -> Result<bool, Error> {
+    let copy = level.clone()?;
+    Ok(holds(&copy, &[1, 2, 3, 4, 5, 6], true) && copy.iter().count() == 6)
+}
+
+/// Whether a level of 3, 2, 1 merges nothing in and then 2, 1, from levels of another k and accuracy.
+fn merges_two(alloc: Global) -> Result<bool, Error> {
+    let mut level = filled(alloc, 12, HIGH, 3)?;
+    level.merge(&filled(alloc, 4, LOW, 0)?)?;
+    let is_same = holds(&level, &[3, 2, 1], false);
+    level.merge(&filled(alloc, 4, LOW, 2)?)?;
+    Ok(is_same && holds(&level, &[1, 1, 2, 2, 3], true) && has_numbers(&level, (5, 0, 3, 12, 72)))
+}
+
+#[test]
+fn merges_levels(rt: HostRuntime) -> Result<(), Fail> {
+    assert!(rt; is_copied(&merged_in_order(rt.alloc())?)?);
+    assert!(rt; merges_two(rt.alloc())?);
+    Ok(())
+}
+
+/// A side, the greatest of the numbers from 1 on that a level of k 4 has, and a coin.
+type Compaction = (RankAccuracy, i32, bool);
+
+/// Whether a compaction sends these items up and keeps the numbers from one to another, and moves the state and draws a coin
+/// where anything goes up.
+fn compacts_to(
+    alloc: Global,
+    compaction: Compaction,
+    up: &[i32],
+    first: i32,
+    last: i32,
+) -> Result<bool, Error> {
+    let (rank_accuracy, count, coin) = compaction;
+    let mut level = filled(alloc, 4, rank_accuracy, count)?;
+    let mut out = vec![in alloc; 99]?;
+    let word = [coin];
+    let mut coins = WordBits::new(&word);
+    level.compact_into(&mut out, &mut coins)?;
+    let moved = if up.is_empty() { 0 } else { 1 };
+    Ok(
+        out.as_slice() == up
+            && is_range(&level, first, last)
+            && level.state() == moved as u64
+            && coins.drawn() == moved,
+    )
+}
+
+#[test]
+fn compacts(rt: HostRuntime) -> Result<(), Fail> {
+    for (compaction, up, first, last) in [
+        ((HIGH, 24, false), [1, 3].as_slice(), 5, 24),
+        ((HIGH, 24, true), [2, 4].as_slice(), 5, 24),
+        ((LOW, 24, false), [21, 23].as_slice(), 1, 20),
+        ((LOW, 24, true), [22, 24].as_slice(), 1, 20),
+        ((HIGH, 23, false), [1].as_slice(), 3, 23),
+        ((HIGH, 21, true), [].as_slice(), 1, 21),
+        ((HIGH, 20, true), [].as_slice(), 1, 20),
+    ] {
+        let held = compacts_to(rt.alloc(), compaction, up, first, last)?;
+        assert!(rt; held, "{first} to {last} are not kept");
+    }
+    Ok(())
+}
+
+/// The first level of a sketch of k 12, read from its bytes.
+fn read(alloc: Global, bytes: &[u8]) -> Result<Compactor<i32>, Error>
+    ensures { IfOk result (λ level. level.lg_weight ≡ 0) }
+{
+    let mut input = SketchSlice::new(bytes);
+    let level = Compactor::deserialize(alloc, &mut input, 12, 0, HIGH, true)?;
+    Ok(level)
+}
+
+fn is_written_as(alloc: Global, level: &Compactor<i32>, image: &[u8]) -> Result<bool, Error> {
+    let mut bytes = SketchBytes::with_capacity(alloc, 0)?;
+    level.serialize_into(&mut bytes)?;
+    let written = bytes.into_bytes();
+    Ok(written.as_slice() == image)
+}
+
+/// Whether a new level gets 24 sections by a merge of one that is read.
+fn doubles_sections(alloc: Global) -> Result<bool, Error> {
+    let mut level = filled(alloc, 12, HIGH, 0)?;
+    level.merge(&read(alloc, &IN_THREE)?)?;
+    Ok(has_numbers(&level, (0, 65535, 24, 4, 192)) && is_written_as(alloc, &level, &IN_24)?)
+}
+
+#[test]
+fn a_merge_doubles_the_sections_more_than_once(rt: HostRuntime) -> Result<(), Fail> {
+    assert!(rt; doubles_sections(rt.alloc())?);
+    Ok(())
+}
