@@ -5,6 +5,7 @@ mod ample;
 mod base;
 mod calls;
 mod items;
+pub(crate) mod kll;
 mod readme;
 mod refused;
 pub(crate) mod runs;
