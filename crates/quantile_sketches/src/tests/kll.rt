@@ -31,7 +31,11 @@ fn capacities(rt: HostRuntime) {
     ] {
         let found = capacity::level_capacity(k, num_levels, level, 8);
         assert_eq!(rt; found, capacity, "of k {k}");
-        assert_eq!(rt; capacity::total_capacity(k, 8, num_levels), total, "of k {k}");
+        assert_eq!(rt;
+            capacity::total_capacity(k, 8, num_levels),
+            total,
+            "of k {k}"
+        );
     }
 }
 
@@ -93,11 +97,13 @@ fn has_image(
 }
 
 // k 8 and 9 items, from "1" to "9": "9" on level 0, and "2", "4", "6" and "8" on level 1.
-const NINE_TEXTS: &str = "05010f00080008000900000000000000080002000b0000000c0000000100000031010000003901000000390100000032\
+const NINE_TEXTS: &str =
+    "05010f00080008000900000000000000080002000b0000000c0000000100000031010000003901000000390100000032\
     010000003401000000360100000038";
 
 // k 200 and 3 items, from "a" to "c", of which "c" came last, and "a" before it.
-const THREE_TEXTS: &str = "05010f00c80008000300000000000000c8000100c500000001000000610100000063010000006301000000610100000062";
+const THREE_TEXTS: &str =
+    "05010f00c80008000300000000000000c8000100c500000001000000610100000063010000006301000000610100000062";
 
 #[test]
 fn takes_texts(rt: HostRuntime) -> Result<(), Fail> {
