@@ -12,7 +12,6 @@ use sketch_base::common::random::WordBits;
 use sketch_base::common::{Rank, SearchCriteria};
 use sketch_base::error::{Error, ErrorKind};
 use sketch_base::sorted_view::SortedView;
-use sketch_kll::capacity;
 use sketch_kll::sketch::KllSketch;
 use sketch_kll::value::KllValue;
 use std::alloc::{AllocError, Global};
@@ -21,23 +20,6 @@ use std::test::Fail;
 const CRITERIA: SearchCriteria = SearchCriteria::Inclusive;
 
 const NINE: &[i64] = &[1, 2, 3, 4, 5, 6, 7, 8, 9];
-
-#[test]
-fn capacities(rt: HostRuntime) {
-    for (k, num_levels, level, capacity, total) in [
-        (200, 2, 0, 133, 333),
-        (200, 3, 2, 200, 422),
-        (8, 2, 1, 8, 16),
-    ] {
-        let found = capacity::level_capacity(k, num_levels, level, 8);
-        assert_eq!(rt; found, capacity, "of k {k}");
-        assert_eq!(rt;
-            capacity::total_capacity(k, 8, num_levels),
-            total,
-            "of k {k}"
-        );
-    }
-}
 
 // A sketch of some items under coins that are false.
 fn filled(alloc: Global, k: u16, items: &[i64]) -> Result<KllSketch<i64>, Error> {
@@ -61,8 +43,6 @@ fn more_than_one_level_gives_estimates(rt: HostRuntime) -> Result<(), Fail> {
     assert!(rt; gives_estimates(rt.alloc(), NINE)?);
     Ok(())
 }
-
-// ---- texts
 
 // Updates with a text under a coin that is false.
 fn take_text(alloc: Global, sketch: &mut KllSketch<String>, text: &str) -> Result<(), Error> {
@@ -107,11 +87,8 @@ const THREE_TEXTS: &str =
 
 #[test]
 fn takes_texts(rt: HostRuntime) -> Result<(), Fail> {
-    let nine = texts_of(
-        rt.alloc(),
-        8,
-        &["1", "2", "3", "4", "5", "6", "7", "8", "9"],
-    );
+    let digits = ["1", "2", "3", "4", "5", "6", "7", "8", "9"];
+    let nine = texts_of(rt.alloc(), 8, &digits);
     assert!(rt; has_image(rt.alloc(), nine, NINE_TEXTS)?);
     Ok(())
 }
@@ -122,8 +99,6 @@ fn merges_texts(rt: HostRuntime) -> Result<(), Fail> {
     assert!(rt; has_image(rt.alloc(), merged, THREE_TEXTS)?);
     Ok(())
 }
-
-// ---- items without a spelling
 
 /// A value that has no spelling.
 #[derive(Clone, Copy, Debug, PartialEq, Eq, PartialOrd, Ord)]
@@ -178,8 +153,6 @@ fn refuses_an_item_without_a_spelling(rt: HostRuntime) -> Result<(), Fail> {
     Ok(())
 }
 
-// ---- copies and `==`
-
 // Whether a copy is equal until it takes an item.
 fn is_equal_until_it_changes(sketch: &KllSketch<i64>) -> Result<bool, Error> {
     let mut copy = sketch.clone()?;
@@ -218,8 +191,6 @@ fn the_flag_makes_another_sketch(rt: HostRuntime) -> Result<(), Fail> {
     }
     Ok(())
 }
-
-// ---- views and quantiles
 
 fn fraction(weight: u64, total: u64) -> Rank {
     Rank { weight, total }
@@ -270,14 +241,12 @@ fn have_nothing(sketch: &KllSketch<i64>, view: &SortedView<i64>) -> bool {
         && matches!(sketch.quantiles(&[], CRITERIA), Ok(None))
 }
 
-// Whether a sketch and its view refuse a fraction.
+// Whether a sketch and its view refuse a fraction, and the view split points that don't increase.
 fn refuse(sketch: &KllSketch<i64>, view: &SortedView<i64>, asked: Rank) -> bool {
-    is_invalid(sketch.quantiles(&[asked], CRITERIA)) && is_invalid(view.quantile(asked, CRITERIA))
-}
-
-// Whether a view refuses split points that don't increase.
-fn refuses_points(view: &SortedView<i64>) -> bool {
-    is_invalid(view.cdf(&[3, 3], CRITERIA)) && is_invalid(view.pmf(&[3, 3], CRITERIA))
+    is_invalid(sketch.quantiles(&[asked], CRITERIA))
+        && is_invalid(view.quantile(asked, CRITERIA))
+        && is_invalid(view.cdf(&[3, 3], CRITERIA))
+        && is_invalid(view.pmf(&[3, 3], CRITERIA))
 }
 
 #[test]
@@ -287,7 +256,6 @@ fn an_empty_view_tests_arguments_first(rt: HostRuntime) -> Result<(), Fail> {
     assert!(rt; have_nothing(&sketch, &view));
     assert!(rt; refuse(&sketch, &view, fraction(1, 0)));
     assert!(rt; refuse(&sketch, &view, fraction(3, 2)));
-    assert!(rt; refuses_points(&view));
     Ok(())
 }
 
