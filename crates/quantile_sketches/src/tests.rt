@@ -7,6 +7,7 @@ mod base;
 mod calls;
 mod compactor;
 mod items;
+pub(crate) mod kll;
 mod readme;
 mod refused;
 mod req;
