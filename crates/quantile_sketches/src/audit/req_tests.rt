@@ -144,13 +144,8 @@ fn refuses_what_no_sketch_takes(rt: HostRuntime) -> Result<(), Fail> {
         Step::RoundTrip(7),
         Step::RoundTrip(0),
     ];
-    assert!(rt;
-        is_so(
-            rt.alloc(),
-            &steps,
-            &given(&[], 0, &[0, 1, 2, 6, 7, 8, 9], &[])
-        )?
-    );
+    let refused = given(&[], 0, &[0, 1, 2, 6, 7, 8, 9], &[]);
+    assert!(rt; is_so(rt.alloc(), &steps, &refused)?);
     Ok(())
 }
 
@@ -169,11 +164,8 @@ fn audits_as(
     number: u32,
     weights: [u64; 2],
 ) -> Result<bool, Error> {
-    is_so(
-        alloc,
-        steps,
-        &audited(0, number, 1, &weights, number as u64),
-    )
+    let trial = audited(0, number, 1, &weights, number as u64);
+    is_so(alloc, steps, &trial)
 }
 
 // The same of a new sketch and the updates by the numbers from 1 to the last.
@@ -201,11 +193,8 @@ fn audits_every_word_past_a_round_trip(rt: HostRuntime) -> Result<(), Fail> {
 }
 
 fn is_unbiased_by_updates(alloc: Global, new: Steps) -> Result<bool, Error> {
-    is_so(
-        alloc,
-        &[new, Step::Updates(0, 1, 211)],
-        &Trial::IsUnbiased(213),
-    )
+    let steps = [new, Step::Updates(0, 1, 211)];
+    is_so(alloc, &steps, &Trial::IsUnbiased(213))
 }
 
 #[test]

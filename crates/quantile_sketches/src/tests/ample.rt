@@ -1,21 +1,18 @@
 //! Large sketches: no call gives up from some size on where memory is ample.
-use super::calls::{are_equal, fill};
+use super::calls::{CRITERIA, View, are_equal, double, fill, fraction};
 use super::runs::{Commands, Step, push_step};
 use super::sketches::Tried;
 use crate::audit::Run;
 use crate::text::{image_bytes, image_text};
+use sketch_base::common::Rank;
 use sketch_base::common::random::SplitMix64;
-use sketch_base::common::{Rank, SearchCriteria};
 use sketch_base::error::Error;
-use sketch_base::sorted_view::SortedView;
 use sketch_kll::sketch::KllSketch;
 use sketch_req::sketch::ReqSketch;
 use std::alloc::{AllocError, Global};
 use std::test::Fail;
 
 const MANY: u32 = 100_000;
-
-const CRITERIA: SearchCriteria = SearchCriteria::Inclusive;
 
 /// Every tenth item.
 fn points<S: Tried>(alloc: Global) -> Result<Vec<S::Item>, AllocError> {
@@ -30,10 +27,7 @@ fn points<S: Tried>(alloc: Global) -> Result<Vec<S::Item>, AllocError> {
 fn fractions(alloc: Global) -> Result<Vec<Rank>, AllocError> {
     let mut fractions = Vec::new(alloc);
     for weight in 0..=MANY as u64 {
-        fractions.push(Rank {
-            weight,
-            total: MANY as u64,
-        })?;
+        fractions.push(fraction(weight, MANY as u64))?;
     }
     Ok(fractions)
 }
@@ -43,36 +37,17 @@ fn is_whole<S: Tried>(alloc: Global, sketch: &S, count: u64) -> Result<bool, Err
     requires { S.Asks }
 {
     let (least, greatest) = (S::item_of(alloc, 1)?, S::item_of(alloc, MANY)?);
-    let rank = sketch.rank_of(&greatest, CRITERIA);
-    let first = sketch.quantile_of(
-        Rank {
-            weight: 0,
-            total: 1,
-        },
-        CRITERIA,
-    )?;
-    let last = sketch.quantile_of(
-        Rank {
-            weight: 1,
-            total: 1,
-        },
-        CRITERIA,
-    )?;
+    let first = sketch.quantile_of(fraction(0, 1), CRITERIA)?;
+    let last = sketch.quantile_of(fraction(1, 1), CRITERIA)?;
     Ok(
-        rank == Some(Rank {
-            weight: count,
-            total: count,
-        }) && first == Some(least)
+        sketch.rank_of(&greatest, CRITERIA) == Some(fraction(count, count))
+            && first == Some(least)
             && last == Some(greatest),
     )
 }
 
 /// Whether a view has the distributions of its sketch.
-fn distributes_alike<S: Tried>(
-    alloc: Global,
-    sketch: &S,
-    view: &SortedView<S::Item>,
-) -> Result<bool, Error>
+fn distributes_alike<S: Tried>(alloc: Global, sketch: &S, view: &View<S>) -> Result<bool, Error>
     requires { S.Asks }
 {
     let points = points::<S>(alloc)?;
@@ -84,20 +59,14 @@ fn distributes_alike<S: Tried>(
 }
 
 /// Whether a view has the quantiles of its sketch, one for each fraction.
-fn finds_alike<S: Tried>(
-    alloc: Global,
-    sketch: &S,
-    view: &SortedView<S::Item>,
-) -> Result<bool, Error>
+fn finds_alike<S: Tried>(alloc: Global, sketch: &S, view: &View<S>) -> Result<bool, Error>
     requires { S.Asks }
 {
     let fractions = fractions(alloc)?;
-    let found = sketch.quantiles_of(fractions.as_slice())?;
+    let fractions = fractions.as_slice();
+    let found = sketch.quantiles_of(fractions)?;
     let count = found.as_ref().map_or(0, |found| found.len());
-    Ok(
-        count == fractions.len()
-            && are_equal(Ok(found), S::quantiles_in(view, fractions.as_slice()))?,
-    )
+    Ok(count == fractions.len() && are_equal(Ok(found), S::quantiles_in(view, fractions))?)
 }
 
 /// Whether the text of an image reads as the image.
@@ -106,25 +75,15 @@ fn is_read_as_text(alloc: Global, image: &[u8]) -> Result<bool, Error> {
     Ok(image_bytes(alloc, text.as_str())?.is_some_and(|bytes| bytes.as_slice() == image))
 }
 
-fn is_image_of<S: Tried>(sketch: &S, image: &[u8]) -> Result<bool, Error> {
-    Ok(sketch.image()?.as_slice() == image)
-}
-
-/// Whether what is read of an image holds so many items, and is written as it was read.
-fn is_read<S: Tried>(alloc: Global, image: &[u8], count: u64) -> Result<bool, Error>
-    requires { S.Asks }
-{
-    let read = S::load(alloc, image)?;
-    Ok(is_image_of(&read, image)? && is_whole(alloc, &read, count)?)
-}
-
-/// Whether what is read of a sketch's image, as a text too, is written as it was read.
+/// Whether what is read of a sketch's image, as a text too, holds so many items, and is written as it was read.
 fn reads_back<S: Tried>(alloc: Global, sketch: &S, count: u64) -> Result<bool, Error>
     requires { S.Asks }
 {
     let image = sketch.image()?;
     let image = image.as_slice();
-    Ok(is_read_as_text(alloc, image)? && is_read::<S>(alloc, image, count)?)
+    let read = S::load(alloc, image)?;
+    let is_same = read.image()?.as_slice() == image;
+    Ok(is_same && is_read_as_text(alloc, image)? && is_whole(alloc, &read, count)?)
 }
 
 fn push_many<S: Tried>(
@@ -157,26 +116,12 @@ fn runs<S: Tried>(alloc: Global, k: u16) -> Result<bool, Error>
     }
 }
 
-fn copied_view<S: Tried>(sketch: &S) -> Result<SortedView<S::Item>, Error>
-    requires { S.Asks }
-{
-    S::copy_of(&sketch.view_of()?)
-}
-
 /// Whether a large sketch answers many queries at once as a copy of its view does.
 fn answers_many<S: Tried>(alloc: Global, sketch: &S) -> Result<bool, Error>
     requires { S.Asks }
 {
-    let view = copied_view(sketch)?;
+    let view = S::copy_of(&sketch.view_of()?)?;
     Ok(distributes_alike(alloc, sketch, &view)? && finds_alike(alloc, sketch, &view)?)
-}
-
-/// Merges a copy of a sketch into it.
-fn double<S: Tried>(sketch: &mut S) -> Result<(), Error>
-    requires { S.Asks }
-{
-    let copy = sketch.copy()?;
-    sketch.merge(&copy, &mut SplitMix64::new(2))
 }
 
 /// Whether a large sketch answers all that it is asked, also where a copy was merged into it.
@@ -184,7 +129,7 @@ fn answers_all<S: Tried>(alloc: Global, sketch: &mut S) -> Result<bool, Error>
     requires { S.Asks }
 {
     let is_filled = is_whole(alloc, sketch, 100_000)?;
-    double(sketch)?;
+    double(sketch, &mut SplitMix64::new(2))?;
     Ok(
         is_filled
             && answers_many(alloc, sketch)?

@@ -1,7 +1,8 @@
 //! A call that takes memory, as data: what it is made on and with, what it gave, and whether two gave the same.
 use super::runs::{Commands, Step, push_step};
 use super::sketches::Tried;
-use crate::audit::{Audit, Command, Run};
+use crate::audit::{Audit, Run};
+use crate::family::Family;
 use sketch_base::common::random::{RandomBits, WordBits};
 use sketch_base::common::{Rank, SearchCriteria};
 use sketch_base::error::{Error, ErrorKind};
@@ -52,8 +53,10 @@ pub(super) enum Given<S: Tried> {
     /// A sketch to merge in.
     Other(S),
     Image(Vec<u8>),
-    Commands(Vec<Command<S::Item, S::Config>>),
+    Commands(Commands<S>),
 }
+
+pub(super) type View<S> = SortedView<<S as Family>::Item>;
 
 /// What a call gave.
 #[derive(Drop)]
@@ -63,7 +66,7 @@ pub(super) enum Answer<S: Tried> {
     Item(Option<S::Item>),
     Items(Option<Vec<S::Item>>),
     Ranks(Option<Vec<Rank>>),
-    View(SortedView<S::Item>),
+    View(View<S>),
     Bytes(Vec<u8>),
     Run(Run<S>),
     Audit(Audit),
@@ -91,6 +94,32 @@ pub(super) fn filled<S: Tried>(alloc: Global, k: u16, count: u32) -> Result<S, E
     fill(alloc, k, count, &mut WordBits::new(&WORD))
 }
 
+/// Merges a copy of a sketch into it.
+pub(super) fn double<S: Tried, B: RandomBits>(sketch: &mut S, coins: &mut B) -> Result<(), Error>
+    requires { S.Asks }
+{
+    let copy = sketch.copy()?;
+    sketch.merge(&copy, coins)
+}
+
+/// Whether a view ranks so many items, from 0 on, as its sketch does.
+pub(super) fn ranks_alike<S: Tried>(
+    alloc: Global,
+    sketch: &S,
+    view: &View<S>,
+    count: u32,
+) -> Result<bool, AllocError> {
+    for number in 0..count {
+        let item = S::item_of(alloc, number)?;
+        for criteria in [SearchCriteria::Inclusive, SearchCriteria::Exclusive] {
+            if view.rank(&item, criteria) != sketch.rank_of(&item, criteria) {
+                return Ok(false);
+            }
+        }
+    }
+    Ok(true)
+}
+
 /// A sketch of so many items in slot 0, and in slot 1 what is read of the image of a sketch that it was merged into.
 fn push_commands<S: Tried>(
     alloc: Global,
@@ -106,11 +135,7 @@ fn push_commands<S: Tried>(
     push_step::<S>(alloc, commands, Step::RoundTrip(1))
 }
 
-fn commands<S: Tried>(
-    alloc: Global,
-    k: u16,
-    count: u32,
-) -> Result<Vec<Command<S::Item, S::Config>>, AllocError> {
+fn commands<S: Tried>(alloc: Global, k: u16, count: u32) -> Result<Commands<S>, AllocError> {
     let mut commands = Vec::new(alloc);
     push_commands::<S>(alloc, &mut commands, k, count)?;
     Ok(commands)
@@ -185,21 +210,12 @@ fn change<S: Tried>(row: Row, subject: &mut Subject<S>) -> Result<(), Error>
     }
 }
 
+pub(super) fn fraction(weight: u64, total: u64) -> Rank {
+    Rank { weight, total }
+}
+
 pub(super) fn fractions() -> [Rank; 3] {
-    [
-        Rank {
-            weight: 0,
-            total: 5,
-        },
-        Rank {
-            weight: 2,
-            total: 5,
-        },
-        Rank {
-            weight: 1,
-            total: 1,
-        },
-    ]
+    [fraction(0, 5), fraction(2, 5), fraction(1, 1)]
 }
 
 /// Makes a call that asks the sketch.
@@ -223,11 +239,12 @@ fn ask<S: Tried>(call: Call, subject: &Subject<S>) -> Result<Answer<S>, Error>
 fn run<S: Tried>(
     alloc: Global,
     call: Call,
-    commands: &[Command<S::Item, S::Config>],
+    commands: &Commands<S>,
     points: &[S::Item],
 ) -> Result<Answer<S>, Error>
     requires { S.Asks }
 {
+    let commands = commands.as_slice();
     match (call, points.first()) {
         (Call::Run, _) => Ok(Answer::Run(S::run_of(alloc, commands, &WORD)?)),
         (_, Some(item)) => Ok(Answer::Audit(S::audit_of(alloc, commands, 0, item, CRITERIA)?)),
@@ -241,9 +258,7 @@ fn make<S: Tried>(alloc: Global, row: Row, subject: &Subject<S>) -> Result<Answe
 {
     match &subject.given {
         Given::Image(image) => Ok(Answer::Sketch(S::load(alloc, image.as_slice())?)),
-        Given::Commands(commands) => {
-            run(alloc, row.0, commands.as_slice(), subject.points.as_slice())
-        }
+        Given::Commands(commands) => run(alloc, row.0, commands, subject.points.as_slice()),
         _ if row.0 == Call::Default => Ok(Answer::Sketch(S::default_of(alloc)?)),
         _ => Ok(Answer::Sketch(S::create(alloc, S::config_of(row.1))?)),
     }
@@ -315,21 +330,14 @@ fn are_runs_alike<S: Tried>(alloc: Global, a: &Run<S>, b: &Run<S>) -> Result<boo
     Ok(a.coins == b.coins && a.refused.as_slice() == b.refused.as_slice())
 }
 
-fn are_views_alike<S: Tried>(
-    a: &SortedView<S::Item>,
-    b: &SortedView<S::Item>,
-    points: &[S::Item],
-) -> Result<bool, Error>
+fn are_views_alike<S: Tried>(a: &View<S>, b: &View<S>, points: &[S::Item]) -> Result<bool, Error>
     requires { S.Asks }
 {
-    let fractions = fractions();
+    let asked = fractions();
     Ok(
         a.len() == b.len()
             && are_equal(a.cdf(points, CRITERIA), b.cdf(points, CRITERIA))?
-            && are_equal(
-                S::quantiles_in(a, &fractions),
-                S::quantiles_in(b, &fractions),
-            )?,
+            && are_equal(S::quantiles_in(a, &asked), S::quantiles_in(b, &asked))?,
     )
 }
 

@@ -10,24 +10,23 @@ use sketch_req::compactor::Compactor;
 use std::alloc::Global;
 use std::test::Fail;
 
+type Level = Compactor<i32>;
+
 const HIGH: RankAccuracy = RankAccuracy::HighRank;
 
 const LOW: RankAccuracy = RankAccuracy::LowRank;
 
-/// No items in state 65535, with 3 sections of 12.
-const IN_THREE: [u8; 20] = [
-    255, 255, 0, 0, 0, 0, 0, 0, 12, 0, 0, 0, 0, 3, 0, 0, 0, 0, 0, 0,
-];
-
-/// The same with 24 sections of 4.
-const IN_24: [u8; 20] = [
-    255, 255, 0, 0, 0, 0, 0, 0, 4, 0, 0, 0, 0, 24, 0, 0, 0, 0, 0, 0,
-];
+/// The image of no items in state 65535, with so many sections of a size.
+fn image_of(sections: u8, size: u8) -> [u8; 20] {
+    [
+        255, 255, 0, 0, 0, 0, 0, 0, size, 0, 0, 0, 0, sections, 0, 0, 0, 0, 0, 0,
+    ]
+}
 
 /// How many items, the state, how many sections, their size, and the nominal capacity.
 type Numbers = (u32, u64, u8, u32, u32);
 
-fn has_numbers(level: &Compactor<i32>, numbers: Numbers) -> bool {
+fn has_numbers(level: &Level, numbers: Numbers) -> bool {
     let (items, state, sections, size, capacity) = numbers;
     level.num_items() == items
         && level.state() == state
@@ -37,12 +36,12 @@ fn has_numbers(level: &Compactor<i32>, numbers: Numbers) -> bool {
 }
 
 /// Whether a level has these items, and counts as sorted or not.
-fn holds(level: &Compactor<i32>, items: &[i32], is_sorted: bool) -> bool {
+fn holds(level: &Level, items: &[i32], is_sorted: bool) -> bool {
     level.items_slice() == items && level.is_sorted() == is_sorted
 }
 
 /// Whether a level has the numbers from one to another, both included, in order.
-fn is_range(level: &Compactor<i32>, first: i32, last: i32) -> bool {
+fn is_range(level: &Level, first: i32, last: i32) -> bool {
     let items = level.items_slice();
     items.first() == Some(&first)
         && items.last() == Some(&last)
@@ -51,12 +50,7 @@ fn is_range(level: &Compactor<i32>, first: i32, last: i32) -> bool {
 }
 
 /// A level of weight 1 with the numbers from 1 to another, the last first.
-fn filled(
-    alloc: Global,
-    k: u16,
-    rank_accuracy: RankAccuracy,
-    last: i32,
-) -> Result<Compactor<i32>, Error>
+fn filled(alloc: Global, k: u16, rank_accuracy: RankAccuracy, last: i32) -> Result<Level, Error>
     requires { IsLegalK k }
     ensures { IfOk result (λ level. level.lg_weight ≡ 0) }
 {
@@ -68,7 +62,7 @@ fn filled(
 }
 
 /// A new level of weight 1 that took some items.
-fn level_of(alloc: Global, items: &[i32]) -> Result<Compactor<i32>, Error> {
+fn level_of(alloc: Global, items: &[i32]) -> Result<Level, Error> {
     let mut level = Compactor::new(alloc, 0, 12, HIGH);
     for item in items {
         level.append(*item)?;
@@ -78,39 +72,33 @@ fn level_of(alloc: Global, items: &[i32]) -> Result<Compactor<i32>, Error> {
 
 /// Whether a new level of the third place and k 12 has 3 sections of 12, weighs 8 an item, and counts as sorted.
 fn is_new(alloc: Global) -> bool {
-    let level: Compactor<i32> = Compactor::new(alloc, 3, 12, LOW);
+    let level: Level = Compactor::new(alloc, 3, 12, LOW);
     holds(&level, &[], true) && level.weight() == 8 && has_numbers(&level, (0, 0, 3, 12, 72))
 }
 
 /// Whether a level of two items, which are said to be sorted or not, counts as sorted or not, and is new else.
-fn is_raw(
-    alloc: Global,
-    (first, second): (i32, i32),
-    said: bool,
-    is_sorted: bool,
-) -> Result<bool, Error> {
-    let items = vec![in alloc; first, second]?;
-    let level = Compactor::raw_items_compactor(12, HIGH, items, said);
-    Ok(holds(&level, &[first, second], is_sorted) && has_numbers(&level, (2, 0, 3, 12, 72)))
+fn is_raw(alloc: Global, items: [i32; 2], said: bool, is_sorted: bool) -> Result<bool, Error> {
+    let level = Compactor::raw_items_compactor(12, HIGH, Vec::from_array(alloc, items)?, said);
+    Ok(holds(&level, &items, is_sorted) && has_numbers(&level, (2, 0, 3, 12, 72)))
 }
 
 #[test]
 fn new_levels(rt: HostRuntime) -> Result<(), Fail> {
     assert!(rt; is_new(rt.alloc()));
-    assert!(rt; is_raw(rt.alloc(), (1, 2), true, true)?);
-    assert!(rt; is_raw(rt.alloc(), (1, 2), false, false)?);
-    assert!(rt; is_raw(rt.alloc(), (2, 2), true, true)?);
-    assert!(rt; is_raw(rt.alloc(), (2, 1), true, false)?);
-    assert!(rt; is_raw(rt.alloc(), (2, 1), false, false)?);
+    assert!(rt; is_raw(rt.alloc(), [1, 2], true, true)?);
+    assert!(rt; is_raw(rt.alloc(), [1, 2], false, false)?);
+    assert!(rt; is_raw(rt.alloc(), [2, 2], true, true)?);
+    assert!(rt; is_raw(rt.alloc(), [2, 1], true, false)?);
+    assert!(rt; is_raw(rt.alloc(), [2, 1], false, false)?);
     Ok(())
 }
 
 /// Whether so many items are at most another, and so many below it.
-fn counts(level: &Compactor<i32>, item: i32, at_most: usize, below: usize) -> bool {
+fn counts(level: &Level, item: i32, at_most: usize, below: usize) -> bool {
     level.count_below(&item, true) == at_most && level.count_below(&item, false) == below
 }
 
-fn counts_all(level: &Compactor<i32>) -> bool {
+fn counts_all(level: &Level) -> bool {
     counts(level, 0, 0, 0)
         && counts(level, 1, 1, 0)
         && counts(level, 4, 2, 2)
@@ -134,7 +122,7 @@ fn sorts_and_counts_items_below(rt: HostRuntime) -> Result<(), Fail> {
 }
 
 /// A level of the numbers from 1 to 6, of which every second was merged in.
-fn merged_in_order(alloc: Global) -> Result<Compactor<i32>, Error> {
+fn merged_in_order(alloc: Global) -> Result<Level, Error> {
     let mut level = level_of(alloc, &[5, 1, 3])?;
     level.sort();
     level.merge_sorted([2, 4, 6].as_slice())?;
@@ -142,7 +130,7 @@ fn merged_in_order(alloc: Global) -> Result<Compactor<i32>, Error> {
 }
 
 /// Whether a copy has the numbers from 1 to 6, and counts as sorted.
-fn is_copied(level: &Compactor<i32>) -> Result<bool, Error> {
+fn is_copied(level: &Level) -> Result<bool, Error> {
     let copy = level.clone()?;
     Ok(holds(&copy, &[1, 2, 3, 4, 5, 6], true) && copy.iter().count() == 6)
 }
@@ -163,19 +151,13 @@ fn merges_levels(rt: HostRuntime) -> Result<(), Fail> {
     Ok(())
 }
 
-/// A side, the greatest of the numbers from 1 on that a level of k 4 has, and a coin.
-type Compaction = (RankAccuracy, i32, bool);
+/// A side, the greatest of the numbers from 1 on that a level of k 4 has, a coin, the items that are sent up, and the first and
+/// the last number that is kept.
+type Compaction<'a> = (RankAccuracy, i32, bool, &'a [i32], i32, i32);
 
-/// Whether a compaction sends these items up and keeps the numbers from one to another, and moves the state and draws a coin
-/// where anything goes up.
-fn compacts_to(
-    alloc: Global,
-    compaction: Compaction,
-    up: &[i32],
-    first: i32,
-    last: i32,
-) -> Result<bool, Error> {
-    let (rank_accuracy, count, coin) = compaction;
+/// Whether a compaction does so, and moves the state and draws a coin where anything goes up.
+fn compacts_to(alloc: Global, compaction: Compaction<'_>) -> Result<bool, Error> {
+    let (rank_accuracy, count, coin, up, first, last) = compaction;
     let mut level = filled(alloc, 4, rank_accuracy, count)?;
     let mut out = vec![in alloc; 99]?;
     let word = [coin];
@@ -192,23 +174,23 @@ fn compacts_to(
 
 #[test]
 fn compacts(rt: HostRuntime) -> Result<(), Fail> {
-    for (compaction, up, first, last) in [
-        ((HIGH, 24, false), [1, 3].as_slice(), 5, 24),
-        ((HIGH, 24, true), [2, 4].as_slice(), 5, 24),
-        ((LOW, 24, false), [21, 23].as_slice(), 1, 20),
-        ((LOW, 24, true), [22, 24].as_slice(), 1, 20),
-        ((HIGH, 23, false), [1].as_slice(), 3, 23),
-        ((HIGH, 21, true), [].as_slice(), 1, 21),
-        ((HIGH, 20, true), [].as_slice(), 1, 20),
+    for (side, count, coin, up, first, last) in [
+        (HIGH, 24, false, [1, 3].as_slice(), 5, 24),
+        (HIGH, 24, true, [2, 4].as_slice(), 5, 24),
+        (LOW, 24, false, [21, 23].as_slice(), 1, 20),
+        (LOW, 24, true, [22, 24].as_slice(), 1, 20),
+        (HIGH, 23, false, [1].as_slice(), 3, 23),
+        (HIGH, 21, true, [].as_slice(), 1, 21),
+        (HIGH, 20, true, [].as_slice(), 1, 20),
     ] {
-        let held = compacts_to(rt.alloc(), compaction, up, first, last)?;
+        let held = compacts_to(rt.alloc(), (side, count, coin, up, first, last))?;
         assert!(rt; held, "{first} to {last} are not kept");
     }
     Ok(())
 }
 
 /// The first level of a sketch of k 12, read from its bytes.
-fn read(alloc: Global, bytes: &[u8]) -> Result<Compactor<i32>, Error>
+fn read(alloc: Global, bytes: &[u8]) -> Result<Level, Error>
     ensures { IfOk result (λ level. level.lg_weight ≡ 0) }
 {
     let mut input = SketchSlice::new(bytes);
@@ -216,7 +198,7 @@ fn read(alloc: Global, bytes: &[u8]) -> Result<Compactor<i32>, Error>
     Ok(level)
 }
 
-fn is_written_as(alloc: Global, level: &Compactor<i32>, image: &[u8]) -> Result<bool, Error> {
+fn is_written_as(alloc: Global, level: &Level, image: &[u8]) -> Result<bool, Error> {
     let mut bytes = SketchBytes::with_capacity(alloc, 0)?;
     level.serialize_into(&mut bytes)?;
     let written = bytes.into_bytes();
@@ -226,8 +208,11 @@ fn is_written_as(alloc: Global, level: &Compactor<i32>, image: &[u8]) -> Result<
 /// Whether a new level gets 24 sections by a merge of one that is read.
 fn doubles_sections(alloc: Global) -> Result<bool, Error> {
     let mut level = filled(alloc, 12, HIGH, 0)?;
-    level.merge(&read(alloc, &IN_THREE)?)?;
-    Ok(has_numbers(&level, (0, 65535, 24, 4, 192)) && is_written_as(alloc, &level, &IN_24)?)
+    level.merge(&read(alloc, &image_of(3, 12))?)?;
+    Ok(
+        has_numbers(&level, (0, 65535, 24, 4, 192))
+            && is_written_as(alloc, &level, &image_of(24, 4))?,
+    )
 }
 
 #[test]

@@ -5,8 +5,9 @@ ghost use Rattle.std.specs.Cmp.{partial_order_from_own_ties};
 ghost use Rattle.std.specs.Cmp.Rules.{comparing};
 ghost use Rattle.std.specs.Ordering.{nat_cmp, on, as_partial_cmp};
 
+use super::calls::{CRITERIA, fraction};
+use sketch_base::common::Rank;
 use sketch_base::common::random::SplitMix64;
-use sketch_base::common::{Rank, SearchCriteria};
 use sketch_base::error::Error;
 use sketch_kll::sketch::KllSketch;
 use sketch_req::RankAccuracy;
@@ -78,70 +79,31 @@ fn item_of(class: u32) -> Third {
     }
 }
 
-/// How many items, and the least and the greatest.
-type Seen = (u64, Option<u8>, Option<u8>);
-
-fn class_of(item: Option<&Third>) -> Option<u8> {
-    match item {
-        Some(item) => Some(item.class),
-        None => None,
-    }
-}
-
-fn seen_of_kll(sketch: &KllSketch<Third>) -> Seen {
-    (
-        sketch.n(),
-        class_of(sketch.min_item()),
-        class_of(sketch.max_item()),
-    )
-}
-
-fn seen_of_req(sketch: &ReqSketch<Third>) -> Seen {
-    (
-        sketch.n(),
-        class_of(sketch.min_item()),
-        class_of(sketch.max_item()),
-    )
+/// Whether a sketch of so many items 0, 1, 2, 0, 1 and so on shows so many, and the least and the greatest.
+fn is_seen(count: u32, n: u64, least: Option<&Third>, greatest: Option<&Third>) -> bool {
+    let last = count.wrapping_sub(1).min(2) as u8;
+    n == count as u64
+        && least.is_some_and(|item| item.class == 0)
+        && greatest.is_some_and(|item| item.class == last)
 }
 
 /// Whether a median is the clone of a class's item, and the whole is ranked.
 fn is_answered(median: Option<Third>, rank: Option<Rank>) -> bool {
-    rank == Some(Rank {
-        weight: 2000,
-        total: 2000,
-    }) && median.is_some_and(|item| item.class < 3 && item.clones > 0)
-}
-
-const HALF: Rank = Rank {
-    weight: 1,
-    total: 2,
-};
-
-const CRITERIA: SearchCriteria = SearchCriteria::Inclusive;
-
-/// What the sketch of so many items 0, 1, 2, 0, 1 and so on shows.
-fn wanted(count: u32) -> Seen {
-    (
-        count as u64,
-        Some(0),
-        Some(count.wrapping_sub(1).min(2) as u8),
-    )
+    rank == Some(fraction(2000, 2000))
+        && median.is_some_and(|item| item.class < 3 && item.clones > 0)
 }
 
 /// Whether a sketch takes 1000 items, and each leaves it as it should.
 fn fill_kll(sketch: &mut KllSketch<Third>, coins: &mut SplitMix64) -> Result<bool, Error> {
     for number in 0..1000u32 {
         sketch.update(item_of(number), coins)?;
-        if seen_of_kll(sketch) != wanted(number.wrapping_add(1)) || sketch.num_retained() > 80 {
+        let (least, greatest) = (sketch.min_item(), sketch.max_item());
+        let is_seen = is_seen(number.wrapping_add(1), sketch.n(), least, greatest);
+        if !is_seen || sketch.num_retained() > 80 {
             return Ok(false);
         }
     }
     Ok(true)
-}
-
-fn double_kll(sketch: &mut KllSketch<Third>, coins: &mut SplitMix64) -> Result<(), Error> {
-    let copy = sketch.clone()?;
-    sketch.merge(&copy, coins)
 }
 
 /// A KLL sketch of k 8 that took 1000 items and a copy of itself, unless an update left it otherwise than it should.
@@ -149,23 +111,21 @@ fn kll_of_thirds(alloc: Global) -> Result<Option<KllSketch<Third>>, Error> {
     let mut sketch = KllSketch::new(alloc, 8)?;
     let mut coins = SplitMix64::new(0);
     let is_filled = fill_kll(&mut sketch, &mut coins)?;
-    double_kll(&mut sketch, &mut coins)?;
+    let copy = sketch.clone()?;
+    sketch.merge(&copy, &mut coins)?;
     Ok(is_filled.then_some(sketch))
 }
 
 fn fill_req(sketch: &mut ReqSketch<Third>, coins: &mut SplitMix64) -> Result<bool, Error> {
     for number in 0..1000u32 {
         sketch.update(item_of(number), coins)?;
-        if seen_of_req(sketch) != wanted(number.wrapping_add(1)) || sketch.num_retained() > 216 {
+        let (least, greatest) = (sketch.min_item(), sketch.max_item());
+        let is_seen = is_seen(number.wrapping_add(1), sketch.n(), least, greatest);
+        if !is_seen || sketch.num_retained() > 216 {
             return Ok(false);
         }
     }
     Ok(true)
-}
-
-fn double_req(sketch: &mut ReqSketch<Third>, coins: &mut SplitMix64) -> Result<(), Error> {
-    let copy = sketch.clone()?;
-    sketch.merge(&copy, coins)
 }
 
 /// The same of a REQ sketch of k 4.
@@ -173,14 +133,15 @@ fn req_of_thirds(alloc: Global) -> Result<Option<ReqSketch<Third>>, Error> {
     let mut sketch = ReqSketch::new(alloc, 4, RankAccuracy::HighRank)?;
     let mut coins = SplitMix64::new(0);
     let is_filled = fill_req(&mut sketch, &mut coins)?;
-    double_req(&mut sketch, &mut coins)?;
+    let copy = sketch.clone()?;
+    sketch.merge(&copy, &mut coins)?;
     Ok(is_filled.then_some(sketch))
 }
 
 #[test]
 fn kll_takes_items_of_three_classes(rt: HostRuntime) -> Result<(), Fail> {
     let sketch = kll_of_thirds(rt.alloc())?.ok_or("an update left another sketch")?;
-    let median = sketch.quantile(HALF, CRITERIA)?;
+    let median = sketch.quantile(fraction(1, 2), CRITERIA)?;
     assert!(rt; is_answered(median, sketch.rank(&item_of(2), CRITERIA)));
     Ok(())
 }
@@ -188,7 +149,7 @@ fn kll_takes_items_of_three_classes(rt: HostRuntime) -> Result<(), Fail> {
 #[test]
 fn req_takes_items_of_three_classes(rt: HostRuntime) -> Result<(), Fail> {
     let sketch = req_of_thirds(rt.alloc())?.ok_or("an update left another sketch")?;
-    let median = sketch.quantile(HALF, CRITERIA)?;
+    let median = sketch.quantile(fraction(1, 2), CRITERIA)?;
     assert!(rt; is_answered(median, sketch.rank(&item_of(2), CRITERIA)));
     Ok(())
 }

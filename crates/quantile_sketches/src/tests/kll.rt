@@ -3,21 +3,19 @@
 ghost use Rattle.std.proofs.lemmas.Bool.{false≢true};
 ghost use Rattle.std.specs.Prelude.{None};
 
-use super::calls::are_equal;
+use super::calls::{CRITERIA, are_equal, double, fill, fraction, ranks_alike};
 use super::runs::is_invalid;
 use super::sketches::Numbered;
 use crate::text::{image_bytes, image_text};
 use sketch_base::codec::{SketchBytes, SketchSlice};
+use sketch_base::common::Rank;
 use sketch_base::common::random::WordBits;
-use sketch_base::common::{Rank, SearchCriteria};
 use sketch_base::error::{Error, ErrorKind};
 use sketch_base::sorted_view::SortedView;
 use sketch_kll::sketch::KllSketch;
 use sketch_kll::value::KllValue;
 use std::alloc::{AllocError, Global};
 use std::test::Fail;
-
-const CRITERIA: SearchCriteria = SearchCriteria::Inclusive;
 
 const NINE: &[i64] = &[1, 2, 3, 4, 5, 6, 7, 8, 9];
 
@@ -44,14 +42,16 @@ fn more_than_one_level_gives_estimates(rt: HostRuntime) -> Result<(), Fail> {
     Ok(())
 }
 
+type Texts = KllSketch<String>;
+
 // Updates with a text under a coin that is false.
-fn take_text(alloc: Global, sketch: &mut KllSketch<String>, text: &str) -> Result<(), Error> {
+fn take_text(alloc: Global, sketch: &mut Texts, text: &str) -> Result<(), Error> {
     let text = String::from_str(alloc, text)?;
     sketch.update(text, &mut WordBits::new(&[]))
 }
 
 // A sketch of some texts.
-fn texts_of(alloc: Global, k: u16, texts: &[&str]) -> Result<KllSketch<String>, Error> {
+fn texts_of(alloc: Global, k: u16, texts: &[&str]) -> Result<Texts, Error> {
     let mut sketch = KllSketch::new(alloc, k)?;
     for text in texts {
         take_text(alloc, &mut sketch, text)?;
@@ -60,7 +60,7 @@ fn texts_of(alloc: Global, k: u16, texts: &[&str]) -> Result<KllSketch<String>, 
 }
 
 // What two sketches of some texts give.
-fn texts_merged(alloc: Global, own: &[&str], texts: &[&str]) -> Result<KllSketch<String>, Error> {
+fn texts_merged(alloc: Global, own: &[&str], texts: &[&str]) -> Result<Texts, Error> {
     let other = texts_of(alloc, 200, texts)?;
     let mut sketch = texts_of(alloc, 200, own)?;
     sketch.merge(&other, &mut WordBits::new(&[]))?;
@@ -68,11 +68,7 @@ fn texts_merged(alloc: Global, own: &[&str], texts: &[&str]) -> Result<KllSketch
 }
 
 // Whether a call gave a sketch of texts whose image is this.
-fn has_image(
-    alloc: Global,
-    answer: Result<KllSketch<String>, Error>,
-    image: &str,
-) -> Result<bool, Error> {
+fn has_image(alloc: Global, answer: Result<Texts, Error>, image: &str) -> Result<bool, Error> {
     Ok(image_text(alloc, &answer?.serialize()?)?.as_str() == image)
 }
 
@@ -136,11 +132,7 @@ impl Numbered for Unspelled {
 
 // The image of a sketch of so many items that have no spelling.
 fn image_of_unspelled(alloc: Global, count: u32) -> Result<Vec<u8>, Error> {
-    let mut sketch = KllSketch::new(alloc, 200)?;
-    let mut coins = WordBits::new(&[]);
-    for _ in 0..count {
-        sketch.update(Unspelled, &mut coins)?;
-    }
+    let sketch: KllSketch<Unspelled> = fill(alloc, 200, count, &mut WordBits::new(&[]))?;
     sketch.serialize()
 }
 
@@ -190,10 +182,6 @@ fn the_flag_makes_another_sketch(rt: HostRuntime) -> Result<(), Fail> {
         assert!(rt; are_equal(read(rt.alloc(), flagged), read(rt.alloc(), flagged))?);
     }
     Ok(())
-}
-
-fn fraction(weight: u64, total: u64) -> Rank {
-    Rank { weight, total }
 }
 
 // Whether a call found just these items.
@@ -259,35 +247,14 @@ fn an_empty_view_tests_arguments_first(rt: HostRuntime) -> Result<(), Fail> {
     Ok(())
 }
 
-// A sketch of eight items that was doubled so many times.
-fn doubled(alloc: Global, times: u32) -> Result<KllSketch<i64>, Error> {
-    let mut sketch = filled(alloc, 8, &[3, 1, 4, 1, 5, 9, 2, 6])?;
-    for _ in 0..times {
-        let copy = sketch.clone()?;
-        sketch.merge(&copy, &mut WordBits::new(&[]))?;
-    }
-    Ok(sketch)
-}
-
-// Whether a view ranks the numbers from 0 to 9 as the sketch does.
-fn rank_alike(sketch: &KllSketch<i64>, view: &SortedView<i64>, criteria: SearchCriteria) -> bool {
-    for item in 0..10 {
-        if view.rank(&item, criteria) != sketch.rank(&item, criteria) {
-            return false;
-        }
-    }
-    true
-}
-
 // Whether the view of a sketch of eight items that was doubled so many times has this weight, and ranks as the sketch does.
 fn rank_doubled(alloc: Global, times: u32, weight: u64) -> Result<bool, Error> {
-    let sketch = doubled(alloc, times)?;
+    let mut sketch = filled(alloc, 8, &[3, 1, 4, 1, 5, 9, 2, 6])?;
+    for _ in 0..times {
+        double(&mut sketch, &mut WordBits::new(&[]))?;
+    }
     let view = sketch.sorted_view()?;
-    Ok(
-        view.total_weight() == weight
-            && rank_alike(&sketch, &view, SearchCriteria::Inclusive)
-            && rank_alike(&sketch, &view, SearchCriteria::Exclusive),
-    )
+    Ok(view.total_weight() == weight && ranks_alike(alloc, &sketch, &view, 10)?)
 }
 
 #[test]

@@ -3,15 +3,13 @@
 //! `tests/memory` runs these tests under tests/refuse.c, and each call is then made anew for the first request, the second and
 //! so on, until none is refused. Without that library nothing is refused: each call is made once.
 use super::calls::{
-    Answer, CRITERIA, Call, Row, Subject, WORD, answer_of, are_alike, filled, fractions, is_same,
-    items, subject_of,
+    Answer, CRITERIA, Call, Row, Subject, View, WORD, answer_of, are_alike, filled, fraction,
+    fractions, is_same, items, subject_of,
 };
 use super::runs::is_invalid;
 use super::sketches::Tried;
 use sketch_base::common::random::WordBits;
-use sketch_base::common::{Rank, SearchCriteria};
 use sketch_base::error::{Error, ErrorKind};
-use sketch_base::sorted_view::SortedView;
 use sketch_kll::sketch::KllSketch;
 use sketch_req::sketch::ReqSketch;
 use std::alloc::Global;
@@ -36,21 +34,6 @@ fn is_tried(alloc: Global) -> bool {
     was_refused(alloc)
 }
 
-fn are_both_alike<S: Tried>(
-    alloc: Global,
-    given: &Answer<S>,
-    wanted: &Answer<S>,
-    subject: &Subject<S>,
-    other: &Subject<S>,
-) -> Result<bool, Error>
-    requires { S.Asks }
-{
-    Ok(
-        is_same(alloc, given, wanted, other.points.as_slice())?
-            && are_alike(alloc, &subject.sketch, &other.sketch)?,
-    )
-}
-
 /// Whether the call gives what it gives on a sketch that was never refused memory, and leaves the same.
 fn gives_the_same<S: Tried>(
     alloc: Global,
@@ -62,7 +45,10 @@ fn gives_the_same<S: Tried>(
 {
     let mut other: Subject<S> = subject_of(alloc, row)?;
     let wanted = answer_of(alloc, row, &mut other)?;
-    are_both_alike(alloc, given, &wanted, subject, &other)
+    Ok(
+        is_same(alloc, given, &wanted, other.points.as_slice())?
+            && are_alike(alloc, &subject.sketch, &other.sketch)?,
+    )
 }
 
 /// Whether the call, made again, gives what it gives on a sketch that was never refused memory.
@@ -116,15 +102,9 @@ fn try_on<S: Tried>(
     let is_told = refuse(alloc, nth);
     let first = answer_of(alloc, row, subject);
     let is_refused = was_refused(alloc);
-    let is_as_told = if first.is_ok() {
-        is_told && !is_refused
-    } else {
-        is_refused
-    };
-    Ok((
-        is_refused,
-        is_as_told && is_well(alloc, row, first, before, subject)?,
-    ))
+    let is_as_told = is_refused == first.is_err() && (is_refused || is_told);
+    let is_well = is_as_told && is_well(alloc, row, first, before, subject)?;
+    Ok((is_refused, is_well))
 }
 
 /// Makes the row's call with the Nth request refused: whether one was, and whether all is as wanted.
@@ -165,10 +145,7 @@ fn try_row<S: Tried>(rt: &(impl Print + AllocGlobal), row: Row) -> Result<bool, 
 fn refuses_arguments<S: Tried>(alloc: Global, sketch: &S, equal: &[S::Item]) -> bool
     requires { S.Asks }
 {
-    let none = Rank {
-        weight: 0,
-        total: 0,
-    };
+    let none = fraction(0, 0);
     is_invalid(sketch.quantile_of(none, CRITERIA))
         && is_invalid(sketch.quantiles_of(&[none]))
         && is_invalid(sketch.cdf_of(equal, CRITERIA))
@@ -192,7 +169,7 @@ fn is_none<X: Drop>(answer: Result<Option<X>, Error>) -> bool {
 }
 
 /// Whether an empty view answers None.
-fn views_none<S: Tried>(view: &SortedView<S::Item>, points: &[S::Item], item: &S::Item) -> bool
+fn views_none<S: Tried>(view: &View<S>, points: &[S::Item], item: &S::Item) -> bool
     requires { S.Asks }
 {
     let fractions = fractions();
@@ -214,11 +191,8 @@ fn reads_quietly<S: Tried>(alloc: Global, sketch: &S) -> Result<bool, Error>
     Ok(is_told && is_read && !was_refused(alloc))
 }
 
-fn ranks_last<S: Tried>(sketch: &S, view: &SortedView<S::Item>, item: &S::Item) -> bool {
-    let whole = Some(Rank {
-        weight: 27,
-        total: 27,
-    });
+fn ranks_last<S: Tried>(sketch: &S, view: &View<S>, item: &S::Item) -> bool {
+    let whole = Some(fraction(27, 27));
     view.rank(item, CRITERIA) == whole && sketch.rank_of(item, CRITERIA) == whole
 }
 

@@ -1,5 +1,5 @@
 //! REQ sketches: what no line of the program shows of their calls.
-use super::calls::filled;
+use super::calls::{CRITERIA, filled, fraction, ranks_alike};
 use super::sketches::{Numbered, Tried};
 use sketch_base::codec::{SketchBytes, SketchSlice};
 use sketch_base::common::random::WordBits;
@@ -16,8 +16,6 @@ use sketch_req::value::ReqValue;
 use sketch_req::{RankAccuracy, serialization as layout};
 use std::alloc::Global;
 use std::test::Fail;
-
-const CRITERIA: SearchCriteria = SearchCriteria::Inclusive;
 
 #[test]
 fn sections_are_even(rt: HostRuntime) {
@@ -140,23 +138,10 @@ fn is_view_of_nothing(alloc: Global) -> Result<bool, Error> {
     Ok((view.len(), view.total_weight()) == (0, 0) && weight_of(&view, 1, CRITERIA).is_none())
 }
 
-/// Whether a view ranks the numbers up to 60 as its sketch does.
-fn ranks_alike(sketch: &ReqSketch<i32>, view: &SortedView<i32>, criteria: SearchCriteria) -> bool {
-    for item in 0..61 {
-        if view.rank(&item, criteria) != sketch.rank(&item, criteria) {
-            return false;
-        }
-    }
-    true
-}
-
 fn is_view_of_a_sketch(alloc: Global) -> Result<bool, Error> {
     let sketch: ReqSketch<i32> = filled(alloc, 4, 60)?;
     let view = sketch.sorted_view()?;
-    Ok(
-        ranks_alike(&sketch, &view, CRITERIA)
-            && ranks_alike(&sketch, &view, SearchCriteria::Exclusive),
-    )
+    Ok(ranks_alike(alloc, &sketch, &view, 61)?)
 }
 
 #[test]
@@ -175,33 +160,21 @@ fn texts(alloc: Global, coins: &mut WordBits) -> Result<ReqSketch<String>, Error
     Ok(sketch)
 }
 
-/// Merges a copy in.
-fn double(sketch: &mut ReqSketch<String>, coins: &mut WordBits) -> Result<(), Error> {
-    let copy = sketch.clone()?;
-    sketch.merge(&copy, coins)
-}
-
 /// Whether the last text is that of 3, which counts twice, and so many of so many are at most that of 12.
-fn has_texts(
-    alloc: Global,
-    sketch: &ReqSketch<String>,
-    weight: u64,
-    total: u64,
-) -> Result<bool, Error> {
+fn has_texts(alloc: Global, sketch: &ReqSketch<String>, rank: Rank) -> Result<bool, Error> {
     let (third, twelfth) = (String::numbered(alloc, 3)?, String::numbered(alloc, 12)?);
-    Ok(
-        sketch.iter().last() == Some((&third, 2))
-            && sketch.rank(&twelfth, CRITERIA) == Some(Rank { weight, total }),
-    )
+    let is_last = sketch.iter().last() == Some((&third, 2));
+    Ok(is_last && sketch.rank(&twelfth, CRITERIA) == Some(rank))
 }
 
 /// Whether a sketch of texts is compacted once by updates, under a false coin, and then merged with its copy by none.
 fn takes_texts(alloc: Global) -> Result<bool, Error> {
     let mut coins = WordBits::new(&[]);
     let mut sketch = texts(alloc, &mut coins)?;
-    let is_filled = has_texts(alloc, &sketch, 12, 24)?;
-    double(&mut sketch, &mut coins)?;
-    Ok(is_filled && has_texts(alloc, &sketch, 24, 48)? && coins.drawn() == 1)
+    let is_filled = has_texts(alloc, &sketch, fraction(12, 24))?;
+    let copy = sketch.clone()?;
+    sketch.merge(&copy, &mut coins)?;
+    Ok(is_filled && has_texts(alloc, &sketch, fraction(24, 48))? && coins.drawn() == 1)
 }
 
 #[test]

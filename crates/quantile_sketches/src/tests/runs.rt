@@ -1,6 +1,8 @@
 //! Runs and audits as rows: what is run, and what must come of it. The rows stand with `audit`.
+use super::calls::CRITERIA;
 use super::sketches::Tried;
 use crate::audit::{Audit, Command, Run};
+use crate::family::Family;
 use sketch_base::common::SearchCriteria;
 use sketch_base::error::{Error, ErrorKind};
 use std::alloc::{AllocError, Global};
@@ -101,9 +103,9 @@ pub(crate) fn audited<'a>(
     })
 }
 
-pub(crate) type Commands<S> = Vec<
-    Command<<S as crate::family::Family>::Item, <S as crate::family::Family>::Config>,
->;
+pub(crate) type Commands<S> = Vec<Command<<S as Family>::Item, <S as Family>::Config>>;
+
+pub(crate) type Steps<'a, S> = &'a [Step<<S as Family>::Config>];
 
 fn push<S: Tried>(
     commands: &mut Commands<S>,
@@ -137,7 +139,7 @@ fn push_weighted<S: Tried>(
     push::<S>(commands, Command::UpdateWeighted { slot, item, weight })
 }
 
-pub(crate) fn push_step<S: Tried>(
+pub(super) fn push_step<S: Tried>(
     alloc: Global,
     commands: &mut Commands<S>,
     step: Step<S::Config>,
@@ -154,10 +156,7 @@ pub(crate) fn push_step<S: Tried>(
     }
 }
 
-fn commands_of<S: Tried>(
-    alloc: Global,
-    steps: &[Step<S::Config>],
-) -> Result<Commands<S>, AllocError> {
+fn commands_of<S: Tried>(alloc: Global, steps: Steps<'_, S>) -> Result<Commands<S>, AllocError> {
     let mut commands = Vec::new(alloc);
     for step in steps {
         push_step::<S>(alloc, &mut commands, *step)?;
@@ -165,11 +164,7 @@ fn commands_of<S: Tried>(
     Ok(commands)
 }
 
-fn run_of<S: Tried>(
-    alloc: Global,
-    steps: &[Step<S::Config>],
-    word: &[bool],
-) -> Result<Run<S>, Error>
+fn run_of<S: Tried>(alloc: Global, steps: Steps<'_, S>, word: &[bool]) -> Result<Run<S>, Error>
     requires { S.Asks }
 {
     let commands = commands_of::<S>(alloc, steps)?;
@@ -179,7 +174,7 @@ fn run_of<S: Tried>(
 /// The weight of an item and the whole, 0 both of an empty sketch. None of an absent one.
 fn rank_in<S: Tried>(run: &Run<S>, slot: u8, item: &S::Item) -> Option<(u64, u64)> {
     let sketch = run.slots.get(&slot)?;
-    match sketch.rank_of(item, SearchCriteria::Inclusive) {
+    match sketch.rank_of(item, CRITERIA) {
         Some(rank) => Some((rank.weight, rank.total)),
         None => Some((0, 0)),
     }
@@ -199,92 +194,53 @@ fn ranks<S: Tried>(
     Ok(true)
 }
 
-fn gives<S: Tried>(
-    alloc: Global,
-    steps: &[Step<S::Config>],
-    given: &RunRow<'_>,
-) -> Result<bool, Error>
-    requires { S.Asks }
-{
-    let run = run_of::<S>(alloc, steps, given.word)?;
+fn gives<S: Tried>(alloc: Global, run: &Run<S>, given: &RunRow<'_>) -> Result<bool, AllocError> {
     let is_run = run.refused.as_slice() == given.refused && run.coins == given.coins;
-    Ok(is_run && ranks(alloc, &run, given.ranks)?)
+    Ok(is_run && ranks(alloc, run, given.ranks)?)
 }
 
-fn is_exact<S: Tried>(alloc: Global, run: &Run<S>, tail: &Tail) -> Result<bool, AllocError> {
+fn has_tail<S: Tried>(alloc: Global, run: &Run<S>, tail: &Tail) -> Result<bool, AllocError> {
     for number in tail.first..=tail.last {
         let item = S::item_of(alloc, number)?;
         if rank_in(run, tail.slot, &item) != Some((number as u64, tail.last as u64)) {
             return Ok(false);
         }
     }
-    Ok(true)
-}
-
-fn has_tail<S: Tried>(
-    alloc: Global,
-    steps: &[Step<S::Config>],
-    word: &[bool],
-    tail: &Tail,
-) -> Result<bool, Error>
-    requires { S.Asks }
-{
-    let run = run_of::<S>(alloc, steps, word)?;
-    match run.slots.get(&tail.slot) {
-        Some(sketch) => Ok(sketch.sizes().0 == tail.k && is_exact(alloc, &run, tail)?),
-        None => Ok(false),
-    }
-}
-
-fn retains<S: Tried>(
-    alloc: Global,
-    steps: &[Step<S::Config>],
-    word: &[bool],
-    slot: u8,
-    count: usize,
-) -> Result<bool, Error>
-    requires { S.Asks }
-{
-    let run = run_of::<S>(alloc, steps, word)?;
     Ok(
         run.slots
-            .get(&slot)
-            .is_some_and(|sketch| sketch.sizes().1 == count),
+            .get(&tail.slot)
+            .is_some_and(|sketch| sketch.sizes().0 == tail.k),
     )
 }
 
-/// Whether some steps leave this sketch in slot 0.
-fn leaves<S: Tried>(
-    alloc: Global,
-    steps: &[Step<S::Config>],
-    word: &[bool],
-    sketch: &S,
-) -> Result<bool, Error>
-    requires { S.Asks }
-{
-    let run = run_of::<S>(alloc, steps, word)?;
-    Ok(run.slots.get(&0).is_some_and(|left| sketch.reads_as(left)))
+fn retains<S: Tried>(run: &Run<S>, slot: u8, count: usize) -> bool {
+    run.slots
+        .get(&slot)
+        .is_some_and(|sketch| sketch.sizes().1 == count)
 }
 
 /// Whether some steps leave the same sketch in slot 0 as others do.
 pub(crate) fn leaves_alike<S: Tried>(
     alloc: Global,
-    steps: &[Step<S::Config>],
-    others: &[Step<S::Config>],
+    steps: Steps<'_, S>,
+    others: Steps<'_, S>,
     word: &[bool],
 ) -> Result<bool, Error>
     requires { S.Asks }
 {
-    let run = run_of::<S>(alloc, steps, word)?;
-    match run.slots.get(&0) {
-        Some(sketch) => leaves(alloc, others, word, sketch),
-        None => Ok(false),
-    }
+    let (run, other) = (
+        run_of::<S>(alloc, steps, word)?,
+        run_of::<S>(alloc, others, word)?,
+    );
+    Ok(match (run.slots.get(&0), other.slots.get(&0)) {
+        (Some(sketch), Some(left)) => sketch.reads_as(left),
+        _ => false,
+    })
 }
 
 fn audit_of<S: Tried>(
     alloc: Global,
-    steps: &[Step<S::Config>],
+    steps: Steps<'_, S>,
     slot: u8,
     number: u32,
     criteria: SearchCriteria,
@@ -296,20 +252,10 @@ fn audit_of<S: Tried>(
     S::audit_of(alloc, commands.as_slice(), slot, &item, criteria)
 }
 
-fn audits<S: Tried>(
-    alloc: Global,
-    steps: &[Step<S::Config>],
-    row: &AuditRow<'_>,
-) -> Result<bool, Error>
+fn audits<S: Tried>(alloc: Global, steps: Steps<'_, S>, row: &AuditRow<'_>) -> Result<bool, Error>
     requires { S.Asks }
 {
-    let audit = audit_of::<S>(
-        alloc,
-        steps,
-        row.slot,
-        row.number,
-        SearchCriteria::Inclusive,
-    )?;
+    let audit = audit_of::<S>(alloc, steps, row.slot, row.number, CRITERIA)?;
     Ok(
         audit.coins == row.coins
             && audit.weights.as_slice() == row.weights
@@ -326,39 +272,17 @@ fn is_even(audit: &Audit) -> bool {
     audit.coins == 3 && sum == audit.true_rank.wrapping_mul(8)
 }
 
-fn is_unbiased_by<S: Tried>(
-    alloc: Global,
-    steps: &[Step<S::Config>],
-    count: u32,
-    criteria: SearchCriteria,
-) -> Result<bool, Error>
+fn is_unbiased<S: Tried>(alloc: Global, steps: Steps<'_, S>, count: u32) -> Result<bool, Error>
     requires { S.Asks }
 {
-    for number in 0..count {
-        if !is_even(&audit_of::<S>(alloc, steps, 0, number, criteria)?) {
-            return Ok(false);
+    for criteria in [SearchCriteria::Inclusive, SearchCriteria::Exclusive] {
+        for number in 0..count {
+            if !is_even(&audit_of::<S>(alloc, steps, 0, number, criteria)?) {
+                return Ok(false);
+            }
         }
     }
     Ok(true)
-}
-
-fn is_unbiased<S: Tried>(
-    alloc: Global,
-    steps: &[Step<S::Config>],
-    count: u32,
-) -> Result<bool, Error>
-    requires { S.Asks }
-{
-    Ok(
-        is_unbiased_by::<S>(alloc, steps, count, SearchCriteria::Inclusive)?
-            && is_unbiased_by::<S>(alloc, steps, count, SearchCriteria::Exclusive)?,
-    )
-}
-
-fn has_too_many<S: Tried>(alloc: Global, steps: &[Step<S::Config>]) -> bool
-    requires { S.Asks }
-{
-    is_invalid(audit_of::<S>(alloc, steps, 0, 5, SearchCriteria::Inclusive))
 }
 
 pub(crate) fn is_invalid<X: Drop>(answer: Result<X, Error>) -> bool {
@@ -368,18 +292,20 @@ pub(crate) fn is_invalid<X: Drop>(answer: Result<X, Error>) -> bool {
 /// Whether it is so of these steps.
 pub(crate) fn holds<S: Tried>(
     alloc: Global,
-    steps: &[Step<S::Config>],
+    steps: Steps<'_, S>,
     trial: &Trial<'_>,
 ) -> Result<bool, Error>
     requires { S.Asks }
 {
-    match trial {
-        Trial::Gives(given) => gives::<S>(alloc, steps, given),
-        Trial::WantsMore(word) => Ok(is_invalid(run_of::<S>(alloc, steps, word))),
-        Trial::HasTail(word, tail) => has_tail::<S>(alloc, steps, word, tail),
-        Trial::Retains(word, slot, count) => retains::<S>(alloc, steps, word, *slot, *count),
-        Trial::Audits(row) => audits::<S>(alloc, steps, row),
-        Trial::IsUnbiased(count) => is_unbiased::<S>(alloc, steps, *count),
-        Trial::HasTooMany => Ok(has_too_many::<S>(alloc, steps)),
-    }
+    Ok(match trial {
+        Trial::Gives(given) => gives(alloc, &run_of::<S>(alloc, steps, given.word)?, given)?,
+        Trial::WantsMore(word) => is_invalid(run_of::<S>(alloc, steps, word)),
+        Trial::HasTail(word, tail) => has_tail(alloc, &run_of::<S>(alloc, steps, word)?, tail)?,
+        Trial::Retains(word, slot, count) => {
+            retains(&run_of::<S>(alloc, steps, word)?, *slot, *count)
+        }
+        Trial::Audits(row) => audits::<S>(alloc, steps, row)?,
+        Trial::IsUnbiased(count) => is_unbiased::<S>(alloc, steps, *count)?,
+        Trial::HasTooMany => is_invalid(audit_of::<S>(alloc, steps, 0, 5, CRITERIA)),
+    })
 }
