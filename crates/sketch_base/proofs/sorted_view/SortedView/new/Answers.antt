@@ -1,5 +1,6 @@
 use Rattle.std.proofs.Common.{◌<◌, ℕ, List, length, reverse, sym, subst, arith}
 use Rattle.std.proofs.lemmas.List.Sorted.{sum_by-IsPermutation}
+use Rattle.std.proofs.lemmas.Grind.{common_steps}
 use Rattle.sketch_base.specs.Pairs.{joined}
 use Rattle.sketch_base.specs.Views.{IsView}
 use Rattle.sketch_base.proofs.JoinedViews.{in-order, joined-distinct, joined-entries, joined-view}
@@ -36,3 +37,18 @@ returns-clause-joined g c =
     let all = reverse c.sort_from_greatest.new.weighted.items in
     let are = in-order g.met.T.Ord.total weighted all c.in_ok-sort_from_greatest.ensures.permutation c.in_ok-sort_from_greatest.ensures.sorted c.requires.weights in
     rw (c.from_cumulated-2.ensures, c.join_equal.ensures.items, c.join_equal.ensures.weights) (joined-distinct g.met.T.Ord.total weighted all are)
+
+pub from_cumulated-requires : goal.from_cumulated-requires
+from_cumulated-requires g c = grind (arith, common_steps)
+
+pub returns-then-count-eq0-clause-entries : goal.returns-then-count-eq0-clause-entries
+returns-then-count-eq0-clause-entries g c = grind (arith, common_steps)
+
+pub returns-then-count-eq0-clause-joined : goal.returns-then-count-eq0-clause-joined
+returns-then-count-eq0-clause-joined g c = grind (arith, common_steps)
+
+pub returns-then-count-eq0-clause-least : goal.returns-then-count-eq0-clause-least
+returns-then-count-eq0-clause-least g c = grind (arith, common_steps)
+
+pub returns-then-count-eq0-clause-greatest : goal.returns-then-count-eq0-clause-greatest
+returns-then-count-eq0-clause-greatest g c = grind (arith, common_steps)
