@@ -260,7 +260,9 @@ END {
         if (!--unasked[p]) check_end(p)
     }
     if (!reads_images && answered != taken) dies("the program has " answered " numbers, and not the " taken " it was given")
-    exit bad && ENVIRON["ignore"] == "" || beyond || bad_images ? 1 : 0
+    fflush("")
+    # (the script takes this, and no status of awk's own, for the end)
+    print (bad && ENVIRON["ignore"] == "" || beyond || bad_images ? 1 : 0), count > (work "/end")
 }
 
 function tell_left_out() {
