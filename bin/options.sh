@@ -1,6 +1,6 @@
 # The options of percentiles, summarize and combine, and the run of their common part. It is sourced after common.sh.
 tab=$(printf '\t')
-groups= value=1 separator= header= decimals=3 points=50,90,99,99.9 family=req k= format=table ignore= seed= reads=numbers
+groups='' value=1 separator='' header='' decimals=3 points=50,90,99,99.9 family=req k='' format=table ignore='' seed='' reads=numbers
 
 # wrong TEXT: arguments that can't be
 wrong() { dies 2 "$1; see $name -h"; }
