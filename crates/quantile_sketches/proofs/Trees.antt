@@ -1,0 +1,265 @@
+-- A slot that took updates and free slots alone took each coin in once, and no two free slots have a coin in common.
+use Rattle.std.proofs.Common.{◌≡◌, ℕ, ◌<◌, Bool, true, false, ◌&&◌, ◌==◌, if◌then◌else◌, IsTrue, List, [], ◌∷◌, ◌++◌, Option, None, Some, refl, sym, ap, ◌∙◌, subst, inl, inr, eqb-true}
+use Rattle.std.specs.Option.{option_and_then, option_map}
+use Rattle.std.proofs.lemmas.Bool.{cases_Bool, and_from, eq-eqb, ne_eqb, false≢true}
+use Rattle.sketch_base.specs.Shares.{shares_after, all_shares, share_no_coin, takes_once}
+use Rattle.sketch_base.specs.Trace.{Action, Clear, Event, Snap, At, Work, World, changed}
+use Rattle.sketch_base.proofs.Changes.{changed-there}
+use Rattle.sketch_base.proofs.Coins.{AreAsMany, as_many-after, as_many-all, products, AreApart, apart-swapped, apart-cleared, apart-acts, apart-snapped, all_shares-append, takes_once-append, once-elsewhere}
+use Rattle.sketch_kll.specs.Merge.{merge_actions}
+use Rattle.sketch_kll.specs.Schedule.{update_actions}
+use Rattle.sketch_kll.specs.Weighted.{weighted_actions}
+use Rattle.sketch_kll.proofs.RolledCoins.{update-once, merge-once}
+use Rattle.quantile_sketches.specs.declared.audit.commands.Command.{Command}
+use Rattle.quantile_sketches.specs.declared.audit.commands.Command.TheVariants.{New, Update, UpdateWeighted, Merge, Reset, RoundTrip}
+use Rattle.quantile_sketches.specs.KllRules.{KllShape, kll_rules}
+use Rattle.quantile_sketches.specs.Plan.{Plan, start_plan, actions_on, events_at, count_of, shape_after, is_refused, accepted_events, events_of, plan_after, trace_from, trace_of}
+use Rattle.quantile_sketches.specs.Rollup.{Standing, Free, Used, Mixed, joined, used, is_tree, accepted_standings, standings_after, standings_from, standing_of, TreesTakeOnce}
+use Rattle.quantile_sketches.proofs.KllRuleLaws.{kll_lawful}
+use Rattle.quantile_sketches.proofs.Plans.{changed-away, at_slot, some-there, then-there, IsSteady, steady-start, steady-after}
+
+-- ---- standings
+
+mixed-free : Mixed ≡ Free → ⊥
+mixed-free e = cc
+
+used-free : (a : Standing) → used a ≡ Free → ⊥
+used-free Free e = cc
+used-free Used e = cc
+used-free Mixed e = cc
+
+used-tree : (a : Standing) → is_tree (used a) ≡ is_tree a
+used-tree Free = refl
+used-tree Used = refl
+used-tree Mixed = refl
+
+joined-free : (a b : Standing) → joined a b ≡ Free → (a ≡ Free) × (b ≡ Free)
+joined-free Free Free e = (refl, refl)
+joined-free Free Used e = absurd (mixed-free e)
+joined-free Free Mixed e = absurd (mixed-free e)
+joined-free Used b e = absurd (mixed-free e)
+joined-free Mixed b e = absurd (mixed-free e)
+
+-- what two slots make that are merged is a tree where it is free alone
+joined-tree : (a b : Standing) → is_tree (joined a b) ≡ true → joined a b ≡ Free
+joined-tree Free Free e = refl
+joined-tree Free Used e = absurd (false≢true e)
+joined-tree Free Mixed e = absurd (false≢true e)
+joined-tree Used b e = absurd (false≢true e)
+joined-tree Mixed b e = absurd (false≢true e)
+
+-- trees took each coin in once, and free slots have none in common
+record AreTrees (stands : ℕ → Standing) (once : ℕ → Bool) (shares : ℕ → List ℕ) : Type 0 where
+  taken : (j : ℕ) → is_tree (stands j) ≡ true → once j ≡ true
+  apart : (i j : ℕ) → (i == j) ≡ false → stands i ≡ Free → stands j ≡ Free → AreApart shares i j
+
+-- after some events, by which the slots come to stand so
+abbrev TreesBy : {A : Type 0} → (ℕ → Standing) → (ℕ → Bool) → (ℕ → List ℕ) → List (Event A) → Type 0
+TreesBy stands once shares events = AreTrees stands (takes_once events shares once) (all_shares events shares)
+
+-- ---- what commands keep
+
+module _ (A : Type 0) (stands : ℕ → Standing) (once : ℕ → Bool) (shares : ℕ → List ℕ) (many : AreAsMany shares) (i : AreTrees stands once shares) where
+  -- a slot that is cleared
+  trees-clear : (s : ℕ) → AreTrees (changed stands s Free) (changed once s true) (shares_after {A = A} (At s Clear) shares)
+  trees-clear s = record {
+    taken = at_slot s (λ j. is_tree (changed stands s Free j) ≡ true → changed once s true j ≡ true)
+        (λ t. changed-there once s true)
+        (λ j e t. changed-away once s true j e ∙ i.taken j (ap is_tree (sym (changed-away stands s Free j e)) ∙ t));
+    apart = λ a b ne f g. apart-cleared A s a b shares
+        (λ e h. i.apart a b ne (sym (changed-away stands s Free a e) ∙ f) (sym (changed-away stands s Free b h) ∙ g));
+  }
+
+  -- a slot that is acted on, where no slot comes to be free
+  trees-act : (stands' : ℕ → Standing) (once' : ℕ → Bool) (s : ℕ) (actions : List (Action A)) → ((j : ℕ) → is_tree (stands' j) ≡ true → once' j ≡ true) →
+      ((j : ℕ) → stands' j ≡ Free → stands j ≡ Free) → AreTrees stands' once' (all_shares (events_at s actions) shares)
+  trees-act stands' once' s actions taken less = record {
+    taken = taken;
+    apart = λ a b ne f g. apart-acts s a b ne actions shares many (i.apart a b ne (less a f) (less b g));
+  }
+
+  -- a slot that takes an item with a weight
+  trees-mixed : (s : ℕ) (actions : List (Action A)) → TreesBy (changed stands s Mixed) once shares (events_at s actions)
+  trees-mixed s actions =
+      trees-act (changed stands s Mixed) (takes_once (events_at s actions) shares once) s actions
+      (at_slot s (λ j. is_tree (changed stands s Mixed j) ≡ true → takes_once (events_at s actions) shares once j ≡ true)
+      (λ t. absurd (false≢true (ap is_tree (sym (changed-there stands s Mixed)) ∙ t)))
+      (λ j e t. once-elsewhere s j e actions shares once ∙ i.taken j (ap is_tree (sym (changed-away stands s Mixed j e)) ∙ t)))
+      (at_slot s (λ j. changed stands s Mixed j ≡ Free → stands j ≡ Free)
+      (λ f. absurd (mixed-free (sym (changed-there stands s Mixed) ∙ f)))
+      (λ j e f. sym (changed-away stands s Mixed j e) ∙ f))
+
+  -- a slot that takes another one in
+  module _ (into source : ℕ) where
+    abbrev comes : Standing
+    comes = if into == source then Mixed else joined (stands into) (stands source)
+
+    abbrev others : ℕ → Standing
+    others = changed stands source (used (stands source))
+
+    abbrev after : ℕ → Standing
+    after = changed others into comes
+
+    abbrev snapped : ℕ → List ℕ
+    snapped = shares_after {A = A} (Snap source into) shares
+
+    abbrev kept : Bool
+    kept = once into && (once source && share_no_coin (shares into) (shares source))
+
+    -- the slots that are merged, where what they make is free
+    record WereFree : Type 0 where
+      differ : (into == source) ≡ false
+      mine : stands into ≡ Free
+      its : stands source ≡ Free
+
+    were_free : comes ≡ Free → WereFree
+    were_free e =
+        elim (cases_Bool (into == source)) [
+          | inl f ↦ absurd (mixed-free (sym (ap (λ (b : Bool). if b then Mixed else joined (stands into) (stands source)) f) ∙ e))
+          | inr f ↦
+              let both = joined-free (stands into) (stands source) (sym (ap (λ (b : Bool). if b then Mixed else joined (stands into) (stands source)) f) ∙ e) in
+              record { differ = f; mine = both.0; its = both.1 }
+        ]
+
+    comes-tree : is_tree comes ≡ true → comes ≡ Free
+    comes-tree t =
+        elim (cases_Bool (into == source)) [
+          | inl f ↦ absurd (false≢true (sym (ap (λ (b : Bool). is_tree (if b then Mixed else joined (stands into) (stands source))) f) ∙ t))
+          | inr f ↦
+              let is = ap (λ (b : Bool). if b then Mixed else joined (stands into) (stands source)) f in
+              is ∙ joined-tree (stands into) (stands source) (ap is_tree (sym is) ∙ t)
+        ]
+
+    -- another slot that is free is not the source
+    free-others : (j : ℕ) → others j ≡ Free → ((j == source) ≡ false) × (stands j ≡ Free)
+    free-others j f =
+        elim (cases_Bool (j == source)) [
+          | inl e ↦ absurd (used-free (stands source) (sym (ap (λ (b : Bool). if b then used (stands source) else stands j) e) ∙ f))
+          | inr e ↦ (e, sym (changed-away stands source (used (stands source)) j e) ∙ f)
+        ]
+
+    others-tree : (j : ℕ) → is_tree (others j) ≡ is_tree (stands j)
+    others-tree = at_slot source (λ j. is_tree (others j) ≡ is_tree (stands j))
+        (ap is_tree (changed-there stands source (used (stands source))) ∙ used-tree (stands source))
+        (λ j e. ap is_tree (changed-away stands source (used (stands source)) j e))
+
+    -- the slot that took the other one in, and a third one
+    apart-into : comes ≡ Free → (j : ℕ) → (j == into) ≡ false → others j ≡ Free → AreApart snapped into j
+    apart-into e j ne f =
+        let were = were_free e in
+        let (far, free) = free-others j f in
+        apart-snapped A source into j ne shares many (i.apart into j (turned j into ne) were.mine free) (i.apart source j (turned j source far) were.its free)
+      where
+        turned : (a b : ℕ) → (a == b) ≡ false → (b == a) ≡ false
+        turned a b e =
+            elim (cases_Bool (b == a)) [
+              | inl f ↦ absurd (false≢true (sym e ∙ eq-eqb a b (sym (eqb-true b a f))))
+              | inr f ↦ f
+            ]
+
+    apart-others : (a b : ℕ) → (a == into) ≡ false → (b == into) ≡ false → (a == b) ≡ false → others a ≡ Free → others b ≡ Free → AreApart snapped a b
+    apart-others a b e f ne g h =
+        ap (λ (l : List ℕ). products l (snapped b)) (changed-away shares into _ a e)
+        ∙ (ap (λ (l : List ℕ). products (shares a) l) (changed-away shares into _ b f)
+        ∙ i.apart a b ne (free-others a g).1 (free-others b h).1)
+
+    -- any two slots
+    apart-after : (a b : ℕ) → (a == b) ≡ false → after a ≡ Free → after b ≡ Free → AreApart snapped a b
+    apart-after a b ne f g =
+        elim (cases_Bool (a == into)) [
+          | inl e ↦
+              let is : a ≡ into = eqb-true a into e in
+              let far : (b == into) ≡ false = turned a b into ne is in
+              subst (λ (m : ℕ). AreApart snapped m b) (sym is) (apart-into (sym (here a e) ∙ f) b far (sym (changed-away others into comes b far) ∙ g))
+          | inr e ↦
+              elim (cases_Bool (b == into)) [
+                | inl h ↦
+                    let is : b ≡ into = eqb-true b into h in
+                    apart-swapped snapped b a (subst (λ (m : ℕ). AreApart snapped m a) (sym is) (apart-into (sym (here b h) ∙ g) a e (sym (changed-away others into comes a e) ∙ f)))
+                | inr h ↦ apart-others a b e h ne (sym (changed-away others into comes a e) ∙ f) (sym (changed-away others into comes b h) ∙ g)
+              ]
+        ]
+      where
+        here : (j : ℕ) → (j == into) ≡ true → after j ≡ comes
+        here j e = ap (λ (b : Bool). if b then comes else others j) e
+
+        turned : (a b c : ℕ) → (a == b) ≡ false → a ≡ c → (b == c) ≡ false
+        turned a b c ne is = ne_eqb b c (λ (f : b ≡ c). false≢true (sym ne ∙ eq-eqb a b (is ∙ sym f)))
+
+    -- by the actions of the merge
+    trees-merge : (actions : List (Action A)) → takes_once (Snap source into ∷ events_at into actions) shares once ≡ changed once into kept →
+        TreesBy after once shares (Snap source into ∷ events_at into actions)
+    trees-merge actions taken = record {
+      taken = λ j t. ap (λ (f : ℕ → Bool). f j) taken ∙ at_slot into (λ j. is_tree (after j) ≡ true → changed once into kept j ≡ true)
+          (λ t.
+          let were = were_free (comes-tree (ap is_tree (sym (changed-there others into comes)) ∙ t)) in
+          let none : share_no_coin (shares into) (shares source) ≡ true = eq-eqb (products (shares into) (shares source)) 0 (i.apart into source were.differ were.mine were.its) in
+          let mine : once into ≡ true = i.taken into (ap is_tree were.mine) in
+          let its : once source ≡ true = i.taken source (ap is_tree were.its) in
+          changed-there once into kept ∙ and_from (once into) _ mine (and_from (once source) _ its none))
+          (λ j e t. changed-away once into kept j e ∙ i.taken j (sym (others-tree j) ∙ (ap is_tree (sym (changed-away others into comes j e)) ∙ t))) j t;
+      apart = λ a b ne f g. apart-acts into a b ne actions snapped (as_many-after {A = A} (Snap source into) shares many) (apart-after a b ne f g);
+    }
+
+module _ {A : Type 0} where
+  -- an accepted command
+  accepted-trees : (plan : Plan KllShape) → IsSteady (kll_lawful {A = A}) plan → (stands : ℕ → Standing) (once : ℕ → Bool) (shares : ℕ → List ℕ) → AreAsMany shares → AreTrees stands once shares →
+      (command : Command A ℕ) (t : KllShape) → shape_after kll_rules plan.shapes command ≡ Some t →
+      TreesBy (accepted_standings kll_rules plan.shapes stands command) once shares (accepted_events kll_rules plan command)
+  accepted-trees plan st stands once shares many i (New slot k) t e = trees-clear A stands once shares many i slot
+  accepted-trees plan st stands once shares many i (Reset slot) t e = trees-clear A stands once shares many i slot
+  accepted-trees plan st stands once shares many i (RoundTrip slot) t e = i
+  accepted-trees plan st stands once shares many i (Update slot x) t e =
+      let ns = plan.lengths.slots slot in
+      let (s, held, u) = then-there (kll_rules {A = A}).updated (plan.shapes slot) t e in
+      let actions : List (Action A) = update_actions s.k ns x in
+      let P : List (Action A) → Type 0 = λ (actions : List (Action A)). TreesBy stands once shares (events_at slot actions) in
+      subst (λ (o : Option KllShape). P (actions_on o (λ shape. update_actions shape.k ns x))) (sym held)
+      (trees-act A stands once shares many i stands (takes_once (events_at slot actions) shares once) slot actions
+      (λ j t. update-once slot s.k ns x shares once (st.fits slot s held).0 j ∙ i.taken j t) (λ j f. f))
+  accepted-trees plan st stands once shares many i (UpdateWeighted slot x weight) t e =
+      trees-mixed A stands once shares many i slot (actions_on (plan.shapes slot) (λ shape. weighted_actions shape.k (plan.lengths.slots slot) x weight))
+  accepted-trees plan st stands once shares many i (Merge into source) t e =
+      let shapes = plan.shapes in
+      let (s, held, u) = then-there (λ shape. option_and_then ((kll_rules {A = A}).merged shape) (shapes source)) (shapes into) t e in
+      let (other, held_other, m) = then-there ((kll_rules {A = A}).merged s) (shapes source) t u in
+      let work : Work (List ℕ) = record { bag = plan.lengths.slots into; scratch = plan.lengths.slots source } in
+      let snap : Event A = Snap source into in
+      let actions : Option KllShape → Option KllShape → List (Action A) = λ x y. actions_on x (λ mine. actions_on y (λ its. merge_actions mine.k work)) in
+      let is : merge_actions s.k work ≡ actions (shapes into) (shapes source) = ap (λ (o : Option KllShape). actions o (Some other)) (sym held) ∙ ap (actions (shapes into)) (sym held_other) in
+      let R : Bool → List (Action A) → Type 0 = λ (b : Bool) (l : List (Action A)).
+      TreesBy (if b then stands else after A stands once shares many i into source) once shares (if b then [] else snap ∷ events_at into l) in
+      subst (R (count_of (kll_rules {A = A}) (shapes source) == 0)) is
+      (elim (count_of (kll_rules {A = A}) (shapes source) == 0) as (λ b. R b (merge_actions s.k work)) [
+        | true ↦ i
+        | false ↦ trees-merge A stands once shares many i into source (merge_actions s.k work) (merge-once A source into s.k work shares once (st.fits into s held).0)
+      ])
+
+  events-trees : (plan : Plan KllShape) → IsSteady (kll_lawful {A = A}) plan → (stands : ℕ → Standing) (once : ℕ → Bool) (shares : ℕ → List ℕ) → AreAsMany shares → AreTrees stands once shares →
+      (command : Command A ℕ) → TreesBy (standings_after kll_rules plan stands command) once shares (events_of kll_rules plan command)
+  events-trees plan st stands once shares many i command = go (is_refused kll_rules plan.shapes command) refl
+    where
+      go : (b : Bool) → is_refused kll_rules plan.shapes command ≡ b →
+          TreesBy (if b then stands else accepted_standings kll_rules plan.shapes stands command) once shares (if b then [] else accepted_events kll_rules plan command)
+      go true e = i
+      go false e = let (t, f) = some-there (shape_after kll_rules plan.shapes command) e in accepted-trees plan st stands once shares many i command t f
+
+  trees-from : (plan : Plan KllShape) → IsSteady (kll_lawful {A = A}) plan → (stands : ℕ → Standing) (once : ℕ → Bool) (shares : ℕ → List ℕ) → AreAsMany shares → AreTrees stands once shares →
+      (commands : List (Command A ℕ)) → TreesBy (standings_from kll_rules plan stands commands) once shares (trace_from kll_rules plan commands)
+  trees-from plan st stands once shares many i [] = i
+  trees-from plan st stands once shares many i (command ∷ rest) =
+      let next = plan_after kll_rules plan command in
+      let events : List (Event A) = events_of kll_rules plan command in
+      let others : List (Event A) = trace_from kll_rules next rest in
+      let stands' : ℕ → Standing = standings_after kll_rules plan stands command in
+      let once' : ℕ → Bool = takes_once events shares once in
+      let shares' : ℕ → List ℕ = all_shares events shares in
+      let R : (ℕ → Bool) → (ℕ → List ℕ) → Type 0 = λ (o : ℕ → Bool) (f : ℕ → List ℕ). AreTrees (standings_from kll_rules next stands' rest) o f in
+      subst (λ (o : ℕ → Bool). R o (all_shares (events ++ others) shares)) (sym (takes_once-append events others shares once))
+      (subst (R (takes_once others shares' once')) (sym (all_shares-append events others shares))
+      (trees-from next (steady-after kll_lawful plan st command) stands' once' shares' (as_many-all events shares many) (events-trees plan st stands once shares many i command) rest))
+
+  pub trees-take_once : TreesTakeOnce A
+  trees-take_once commands slot t =
+      (trees-from start_plan (steady-start kll_lawful) (λ s. Free) (λ s. true) (λ s. []) (λ i j. refl)
+      (record { taken = λ j t. refl; apart = λ i j ne f g. refl }) commands).taken slot t

@@ -1,0 +1,85 @@
+-- Rollups: how little a slot spreads that took each coin in once, and how commands alone show that a slot did so.
+use Rattle.std.specs.Prelude.{◌≡◌, ℕ, Bool, true, false, ◌==◌, if◌then◌else◌, IsTrue, List, [], ◌∷◌, Option, Some}
+use Rattle.sketch_base.specs.Shares.{spread, took_once}
+use Rattle.sketch_base.specs.Trace.{changed}
+use Rattle.sketch_kll.specs.Sketch.{Kll}
+use Rattle.sketch_kll.specs.Spread.{IsLittle}
+use Rattle.quantile_sketches.specs.declared.audit.commands.Command.{Command}
+use Rattle.quantile_sketches.specs.declared.audit.commands.Command.TheVariants.{New, Update, UpdateWeighted, Merge, Reset, RoundTrip}
+use Rattle.quantile_sketches.specs.KllRules.{KllShape, kll_rules}
+use Rattle.quantile_sketches.specs.Outcome.{Slots, EachSketch}
+use Rattle.quantile_sketches.specs.Plan.{Plan, start_plan, count_of, is_refused, plan_after, plan_of, trace_of}
+use Rattle.quantile_sketches.specs.Rules.{Rules}
+
+-- the spread of each sketch that took each coin in once is little for its least k and its count, whatever merges made it
+abbrev pub RollsUp : {A : Type 0} → List (Command A ℕ) → Slots (Kll A) → Type 0
+RollsUp commands = EachSketch (λ slot s.
+    IsTrue (took_once (trace_of kll_rules commands) slot) → IsLittle s.min_k s.n (spread (trace_of kll_rules commands) slot))
+
+-- the same of a slot by what is planned: its sketch's least k and count
+abbrev pub SlotRollsUp : {A : Type 0} → List (Command A ℕ) → ℕ → Type 0
+SlotRollsUp commands slot = (shape : KllShape) →
+    (plan_of kll_rules commands).shapes slot ≡ Some shape → IsTrue (took_once (trace_of kll_rules commands) slot) →
+    IsLittle shape.min_k shape.n (spread (trace_of kll_rules commands) slot)
+
+-- so it is of every list of commands
+abbrev pub RollupsSpreadLittle : Type 0 → Type 0
+RollupsSpreadLittle A = (commands : List (Command A ℕ)) (slot : ℕ) → SlotRollsUp commands slot
+
+-- how a slot stands since its New or Reset: it took updates and free slots alone, and was merged into no slot (Free) or into some (Used); or it took something else too (Mixed)
+pub data Standing : Type 0 where
+  Free : Standing
+  Used : Standing
+  Mixed : Standing
+
+-- a slot that another one was merged into
+abbrev pub joined : Standing → Standing → Standing
+joined Free Free = Free
+joined Free Used = Mixed
+joined Free Mixed = Mixed
+joined Used other = Mixed
+joined Mixed other = Mixed
+
+-- a slot that was merged into another one
+abbrev pub used : Standing → Standing
+used Free = Used
+used Used = Used
+used Mixed = Mixed
+
+-- whether it took updates and free slots alone
+abbrev pub is_tree : Standing → Bool
+is_tree Free = true
+is_tree Used = true
+is_tree Mixed = false
+
+module _ {A C Shape : Type 0} (rules : Rules A C Shape) where
+  -- how all slots stand after an accepted command: a merge of an empty sketch changes nothing, and one of a slot with itself mixes it, as an update with a weight does
+  abbrev pub accepted_standings : (ℕ → Option Shape) → (ℕ → Standing) → Command A C → ℕ → Standing
+  accepted_standings shapes stands (New slot config) = changed stands slot Free
+  accepted_standings shapes stands (Update slot x) = stands
+  accepted_standings shapes stands (UpdateWeighted slot x weight) = changed stands slot Mixed
+  accepted_standings shapes stands (Merge into source) =
+      if count_of rules (shapes source) == 0 then stands else
+      changed (changed stands source (used (stands source))) into
+      (if into == source then Mixed else joined (stands into) (stands source))
+  accepted_standings shapes stands (Reset slot) = changed stands slot Free
+  accepted_standings shapes stands (RoundTrip slot) = stands
+
+  -- after any command: a refused one leaves them
+  abbrev pub standings_after : Plan Shape → (ℕ → Standing) → Command A C → ℕ → Standing
+  standings_after plan stands command =
+      if is_refused rules plan.shapes command then stands else accepted_standings plan.shapes stands command
+
+  abbrev pub standings_from : Plan Shape → (ℕ → Standing) → List (Command A C) → ℕ → Standing
+  standings_from plan stands [] = stands
+  standings_from plan stands (command ∷ rest) =
+      standings_from (plan_after rules plan command) (standings_after plan stands command) rest
+
+  -- how a slot stands after commands from a run's start
+  abbrev pub standing_of : List (Command A C) → ℕ → Standing
+  standing_of = standings_from start_plan (λ slot. Free)
+
+-- after every list of commands, a slot that took updates and free slots alone took each coin in once
+abbrev pub TreesTakeOnce : Type 0 → Type 0
+TreesTakeOnce A = (commands : List (Command A ℕ)) (slot : ℕ) →
+    IsTrue (is_tree (standing_of kll_rules commands slot)) → IsTrue (took_once (trace_of kll_rules commands) slot)
