@@ -173,7 +173,8 @@ module _ {A : Type 0} where
           (accepted-own plan.shapes only trace streams h counts command))
 
   own-from : (plan : Plan ReqShape) (only : ℕ → Bool) (trace : List (Event A)) (streams : ℕ → List A) → AreOwn plan.shapes only trace streams →
-      AreCounted (req_lawful {A = A}) plan streams → (commands : List (ReqCommand A)) → AreOwn (plan_from req_rules plan commands).shapes (only_updated_from plan.shapes only commands) (trace ++ trace_from req_rules plan commands) (streams_from req_rules plan streams commands)
+      AreCounted (req_lawful {A = A}) plan streams → (commands : List (ReqCommand A)) →
+      AreOwn (plan_from req_rules plan commands).shapes (only_updated_from plan.shapes only commands) (trace ++ trace_from req_rules plan commands) (streams_from req_rules plan streams commands)
   own-from plan only trace streams h counts [] = subst (λ (t : List (Event A)). AreOwn plan.shapes only t streams) (sym (append-nil trace)) h
   own-from plan only trace streams h counts (command ∷ rest) =
       let next = plan_after req_rules plan command in
