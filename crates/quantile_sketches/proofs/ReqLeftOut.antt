@@ -1,19 +1,17 @@
--- The accepted commands of a REQ run give the tail numbers of all its commands, and by updates alone their trace.
-use Rattle.std.proofs.Common.{◌≡◌, ℕ, zero, suc, Bool, true, false, ◌||◌, ◌==◌, if◌then◌else◌, List, [], ◌∷◌, ◌++◌, length, Option, refl, sym, ap, ap₂, ◌∙◌, subst, arith, append_assoc, append-nil, zero-add, eqb-true, Ordering}
+-- The accepted commands of a REQ run give the tail numbers of all its commands, and their trace but for some round trips.
+use Rattle.std.proofs.Common.{◌≡◌, ℕ, zero, suc, Bool, true, false, ◌==◌, if◌then◌else◌, List, [], ◌∷◌, ◌++◌, length, Option, refl, sym, ap, ap₂, ◌∙◌, subst, arith, append_assoc, append-nil, zero-add, eqb-true, Ordering}
 use Rattle.std.specs.Prelude.{Contains}
 use Rattle.std.specs.Cmp.{IsTotalOrder}
-use Rattle.std.proofs.Math.Bool.{or-false}
-use Rattle.std.proofs.lemmas.Bool.{and_parts, and_from}
 use Rattle.std.proofs.lemmas.List.{length_push}
 use Rattle.std.proofs.lemmas.Map.Views.{Contains-from_any}
 use Rattle.sketch_base.specs.Trace.{Event}
+use Rattle.sketch_base.proofs.Picks.{Sheds, none, shed, sheds-none, sheds-append}
 use Rattle.quantile_sketches.specs.declared.audit.commands.Command.TheVariants.{New, Update, UpdateWeighted, Merge, Reset, RoundTrip}
 use Rattle.quantile_sketches.specs.Plan.{Plan, start_plan, is_refused, accepted_events, events_of, plan_after, plan_from, plan_of, trace_of}
 use Rattle.quantile_sketches.specs.Refused.{is_among, accepted_of, IsRefusedExactly, AreRefused}
 use Rattle.quantile_sketches.specs.ReqKind.{req_kind}
-use Rattle.quantile_sketches.specs.ReqPlan.{ReqCommand, accepted_tails, next_shapes, tails_after, tails_from, tails_of, no_shapes, no_tails}
+use Rattle.quantile_sketches.specs.ReqPlan.{ReqCommand, accepted_tails, tails_after, tails_from, tails_of, no_tails}
 use Rattle.quantile_sketches.specs.ReqRules.{ReqShape, req_rules}
-use Rattle.quantile_sketches.specs.ReqRun.{is_by_update, are_by_updates}
 use Rattle.quantile_sketches.proofs.LeftOut.{left-front}
 use Rattle.quantile_sketches.proofs.Plans.{trace-more}
 use Rattle.quantile_sketches.proofs.Refusals.{Ends, empty, last, ends, without-more}
@@ -21,7 +19,7 @@ use Rattle.quantile_sketches.proofs.ReqKind.{req_kind_lawful}
 
 pub record IsLeftOutReq {A : Type 0} (commands fewer : List (ReqCommand A)) : Type 0 where
   pub tails : tails_of commands ≡ tails_of fewer
-  pub trace : are_by_updates no_shapes commands ≡ true → trace_of req_rules commands ≡ trace_of req_rules fewer
+  pub trace : Sheds (trace_of req_rules commands) (trace_of req_rules fewer)
 
 module _ {A : Type 0} where
   -- one command more
@@ -29,22 +27,24 @@ module _ {A : Type 0} where
   tails-append plan tails [] c = refl
   tails-append plan tails (x ∷ xs) c = tails-append (plan_after req_rules plan x) (tails_after plan.shapes tails x) xs c
 
-  by-append : (plan : Plan ReqShape) (xs : List (ReqCommand A)) (c : ReqCommand A) → are_by_updates plan.shapes (xs ++ c ∷ []) ≡ true →
-      (are_by_updates plan.shapes xs ≡ true) × ((is_refused req_rules (plan_from req_rules plan xs).shapes c || is_by_update c) ≡ true)
-  by-append plan [] c e = (refl, (and_parts (is_refused req_rules plan.shapes c || is_by_update c) true e).0)
-  by-append plan (x ∷ xs) c e =
-      let p = and_parts (is_refused req_rules plan.shapes x || is_by_update x) (are_by_updates (next_shapes plan.shapes x) (xs ++ c ∷ [])) e in
-      let q = by-append (plan_after req_rules plan x) xs c p.1 in
-      (and_from _ _ p.0 q.0, q.1)
-
   tails-refused : (shapes : ℕ → Option ReqShape) (tails : ℕ → ℕ) (c : ReqCommand A) → is_refused req_rules shapes c ≡ true → tails_after shapes tails c ≡ tails
   tails-refused shapes tails c e = ap (λ (b : Bool). if b then tails else accepted_tails shapes tails c) e
+
+  sheds-refused : (plan : Plan ReqShape) (c : ReqCommand A) → is_refused req_rules plan.shapes c ≡ true → Sheds (events_of req_rules plan c) []
+  sheds-refused plan c e = subst (λ (b : Bool). Sheds (if b then [] else accepted_events req_rules plan c) []) (sym e) none
 
 tails-trip : (A : Type 0) (shapes : ℕ → Option ReqShape) (tails : ℕ → ℕ) (slot : ℕ) → tails_after {A = A} shapes tails (RoundTrip slot) ≡ tails
 tails-trip A shapes tails slot =
     elim (is_refused {A = A} req_rules shapes (RoundTrip slot)) as (λ b. (if b then tails else tails) ≡ tails) [
       | true ↦ refl
       | false ↦ refl
+    ]
+
+sheds-trip : (A : Type 0) (plan : Plan ReqShape) (slot : ℕ) → Sheds (events_of {A = A} req_rules plan (RoundTrip slot)) []
+sheds-trip A plan slot =
+    elim (is_refused {A = A} req_rules plan.shapes (RoundTrip slot)) as (λ b. Sheds (if b then [] else accepted_events {A = A} req_rules plan (RoundTrip slot)) []) [
+      | true ↦ none
+      | false ↦ shed slot [] [] none
     ]
 
 module _ {A : Type 0} {cmp : A → A → Ordering} (o : IsTotalOrder cmp) (spelling : A → Option (List ℕ)) (word : List Bool) (refused : List ℕ) where
@@ -57,21 +57,21 @@ module _ {A : Type 0} {cmp : A → A → Ordering} (o : IsTotalOrder cmp) (spell
   tails-left before tails (Reset slot) P h p = tails-refused {A = A} (plan_of req_rules before).shapes tails (Reset slot) (h.0 p)
   tails-left before tails (RoundTrip slot) P h p = tails-trip A (plan_of req_rules before).shapes tails slot
 
-  -- among updates alone a refused command is so by the plan
-  refused-planned : (before : List (ReqCommand A)) (c : ReqCommand A) (P : Type 0) → IsRefusedExactly (req_kind cmp spelling) word refused before c P → P → (is_refused req_rules (plan_of req_rules before).shapes c || is_by_update c) ≡ true →
-      is_refused req_rules (plan_of req_rules before).shapes c ≡ true
-  refused-planned before (New slot config) P h p by = h.0 p
-  refused-planned before (Update slot x) P h p by = h.0 p
-  refused-planned before (UpdateWeighted slot x weight) P h p by = h.0 p
-  refused-planned before (Merge into source) P h p by = h.0 p
-  refused-planned before (Reset slot) P h p by = h.0 p
-  refused-planned before (RoundTrip slot) P h p by = sym (or-false (is_refused {A = A} req_rules (plan_of req_rules before).shapes (RoundTrip slot))) ∙ by
+  -- and gives no event, but for a round trip's Forget
+  sheds-left : (before : List (ReqCommand A)) (c : ReqCommand A) (P : Type 0) → IsRefusedExactly (req_kind cmp spelling) word refused before c P → P →
+      Sheds (events_of req_rules (plan_of req_rules before) c) []
+  sheds-left before (New slot config) P h p = sheds-refused (plan_of req_rules before) (New slot config) (h.0 p)
+  sheds-left before (Update slot x) P h p = sheds-refused (plan_of req_rules before) (Update slot x) (h.0 p)
+  sheds-left before (UpdateWeighted slot x weight) P h p = sheds-refused (plan_of req_rules before) (UpdateWeighted slot x weight) (h.0 p)
+  sheds-left before (Merge into source) P h p = sheds-refused (plan_of req_rules before) (Merge into source) (h.0 p)
+  sheds-left before (Reset slot) P h p = sheds-refused (plan_of req_rules before) (Reset slot) (h.0 p)
+  sheds-left before (RoundTrip slot) P h p = sheds-trip A (plan_of req_rules before) slot
 
   pub req-left-out : (commands : List (ReqCommand A)) → AreRefused (req_kind cmp spelling) word commands refused → IsLeftOutReq commands (accepted_of refused commands)
   req-left-out commands r = go (length commands) commands (ends commands) [] refl (sym (append-nil commands))
     where
       go : (n : ℕ) (before : List (ReqCommand A)) → Ends before → (after : List (ReqCommand A)) → length before ≡ n → commands ≡ before ++ after → IsLeftOutReq before (accepted_of refused before)
-      go n _ empty after e at = record { tails = refl; trace = λ by. refl }
+      go n _ empty after e at = record { tails = refl; trace = none }
       go zero _ (last front c) after e at = absurd (omega (arith, e, length_push front c))
       go (suc n) _ (last front c) after e at =
           let whole : commands ≡ front ++ c ∷ after = at ∙ append_assoc front (c ∷ []) after in
@@ -89,12 +89,12 @@ module _ {A : Type 0} {cmp : A → A → Ordering} (o : IsTotalOrder cmp) (spell
               let plan : Plan ReqShape = plan_of req_rules front in
               subst (IsLeftOutReq (front ++ c ∷ [])) (sym (append-nil (accepted_of refused front))) (record {
                 tails = tails-append start_plan no_tails front c ∙ (tails-left front (tails_of front) c (Contains refused (length front)) exact there ∙ h.tails);
-                trace = λ by.
-                    let p = by-append start_plan front c by in
-                    let no : is_refused req_rules plan.shapes c ≡ true = refused-planned front c (Contains refused (length front)) exact there p.1 in
-                    trace-more req_rules front c
-                    ∙ (ap (λ (b : Bool). trace_of req_rules front ++ (if b then [] else accepted_events req_rules plan c)) no
-                    ∙ (append-nil (trace_of req_rules front) ∙ h.trace p.0));
+                trace =
+                    let events = events_of req_rules plan c in
+                    let left = sheds-left front c (Contains refused (length front)) exact there in
+                    subst (λ (t : List (Event A)). Sheds t (trace_of req_rules fewer)) (sym (trace-more req_rules front c))
+                    (subst (Sheds (trace_of req_rules front ++ events)) (append-nil (trace_of req_rules fewer))
+                    (sheds-append (trace_of req_rules front) (trace_of req_rules fewer) events [] h.trace left));
               })
           add false among h whole =
               let l = left-front (req_kind_lawful o spelling) word commands refused r (length front) front (ends front) (c ∷ after) refl whole in
@@ -103,9 +103,10 @@ module _ {A : Type 0} {cmp : A → A → Ordering} (o : IsTotalOrder cmp) (spell
                     tails-append start_plan no_tails front c
                     ∙ (ap₂ (λ (p : Plan ReqShape) (f : ℕ → ℕ). tails_after p.shapes f c) l.plan h.tails
                     ∙ sym (tails-append start_plan no_tails fewer c));
-                trace = λ by.
-                    let p = by-append start_plan front c by in
-                    trace-more req_rules front c
-                    ∙ (ap₂ (λ (t : List (Event A)) (p : Plan ReqShape). t ++ events_of req_rules p c) (h.trace p.0) l.plan
-                    ∙ sym (trace-more req_rules fewer c));
+                trace =
+                    let events = events_of req_rules (plan_of req_rules front) c in
+                    let same : events ≡ events_of req_rules (plan_of req_rules fewer) c = ap (λ (p : Plan ReqShape). events_of req_rules p c) l.plan in
+                    subst (λ (t : List (Event A)). Sheds t (trace_of req_rules (fewer ++ c ∷ []))) (sym (trace-more req_rules front c))
+                    (subst (Sheds (trace_of req_rules front ++ events)) (sym (trace-more req_rules fewer c))
+                    (sheds-append (trace_of req_rules front) (trace_of req_rules fewer) events _ h.trace (subst (Sheds events) same (sheds-none events))));
               }

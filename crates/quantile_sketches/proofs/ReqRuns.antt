@@ -1,15 +1,14 @@
 -- What a run on REQ sketches gives, from what every run gives.
-use Rattle.std.proofs.Common.{◌≡◌, ℕ, suc, ◌*◌, ◌^◌, ◌<◌, ◌≤◌, Bool, true, IsTrue, List, [], ◌∷◌, ◌++◌, length, sum, count_by, Option, Some, sym, ap, ◌∙◌, subst, arith, append-nil, Ordering, ap₂, ◌+◌, refl}
+use Rattle.std.proofs.Common.{◌≡◌, ℕ, suc, ◌-◌, ◌*◌, ◌^◌, ◌<◌, ◌≤◌, Bool, true, IsTrue, List, [], ◌∷◌, ◌++◌, length, count_by, Option, Some, sym, ap, ◌∙◌, subst, arith, append-nil, Ordering, ap₂, ◌+◌, refl}
 use Rattle.std.specs.Prelude.{IsSorted}
 use Rattle.std.specs.Cmp.{IsTotalOrder}
 use Rattle.std.specs.List.{AllByRecursion}
 use Rattle.std.specs.Option.{option_map}
-use Rattle.sketch_base.specs.declared.common.SearchCriteria.{SearchCriteria}
 use Rattle.sketch_base.specs.Bag.{weighted_rank, load, weight, weigh}
 use Rattle.sketch_base.specs.Lengths.{IsLegalReq, start_lengths}
 use Rattle.sketch_base.specs.Query.{counted, true_rank}
 use Rattle.sketch_base.specs.Spelling.{SpellingsTie}
-use Rattle.sketch_base.specs.Trace.{Event, play, start, coins}
+use Rattle.sketch_base.specs.Trace.{play, start, coins}
 use Rattle.sketch_base.specs.Words.{distance}
 use Rattle.sketch_base.proofs.Alikes.{rank-alike}
 use Rattle.sketch_base.proofs.Loads.{req_within_load}
@@ -29,26 +28,27 @@ use Rattle.sketch_req.proofs.Capacities.{upper_weighs}
 use Rattle.sketch_req.proofs.Layouts.{length-layouts}
 use Rattle.sketch_req.proofs.OneSketch.{one_sketch}
 use Rattle.sketch_req.proofs.Ranks.{retained_is}
+use Rattle.sketch_req.proofs.Relatives.{updates_relative, updates_relative_to_counts}
 use Rattle.sketch_req.proofs.Writings.{written_lem}
-use Rattle.quantile_sketches.specs.Audit.{word_of, rank_under, AreWeights, AreRunWeights}
 use Rattle.quantile_sketches.specs.Outcome.{Slots, sketch_at, ArePlanned, ArePlayed, AreSound}
 use Rattle.quantile_sketches.specs.Plan.{Plan, start_plan, plan_of, trace_of}
 use Rattle.quantile_sketches.specs.Refused.{accepted_of, AreRefused}
 use Rattle.quantile_sketches.specs.ReqKind.{FitsReq, req_kind, req_shape}
-use Rattle.quantile_sketches.specs.ReqOutcome.{AreInOrder, HaveFewLevels, AreBelow, AreOwnTails, AreExact, AreReadBack, AreUnbiasedByUpdates}
-use Rattle.quantile_sketches.specs.ReqPlan.{ReqCommand, shape_in, tails_of, no_shapes}
+use Rattle.quantile_sketches.specs.ReqOutcome.{AreInOrder, HaveFewLevels, AreBelow, AreOwnTails, AreExact, AreReadBack, AreUnbiasedByUpdates, AreRelative, AreRelativeToCounts}
+use Rattle.quantile_sketches.specs.ReqPlan.{ReqCommand, shape_in, tails_of}
 use Rattle.quantile_sketches.specs.ReqRules.{ReqShape, req_rules}
-use Rattle.quantile_sketches.specs.ReqRun.{off_tail, are_by_updates}
+use Rattle.sketch_req.specs.Relative.{off_tail, IsRelative, Reaches}
+use Rattle.quantile_sketches.specs.ReqUpdated.{compacted_in, squared_errors}
 use Rattle.quantile_sketches.specs.Run.{stream_of, RunIsWithinLoad}
 use Rattle.quantile_sketches.proofs.LeftOut.{left-out}
 use Rattle.quantile_sketches.proofs.Plans.{run-legal, steady-start, steady-from, along-even}
-use Rattle.quantile_sketches.proofs.ReqAlone.{run-below, run-own, run-unbiased}
+use Rattle.quantile_sketches.proofs.ReqAlone.{run-below, run-own}
 use Rattle.quantile_sketches.proofs.ReqKind.{req_kind_lawful}
 use Rattle.quantile_sketches.proofs.ReqRuleLaws.{req_lawful}
 use Rattle.quantile_sketches.proofs.ReqLeftOut.{req-left-out}
+use Rattle.quantile_sketches.proofs.ReqUpdated.{run-unbiased, run-relative, run-relative_to_counts}
 use Rattle.quantile_sketches.proofs.ReqTails.{run-exact}
 use Rattle.quantile_sketches.proofs.Streams.{run-ranks, all-counted}
-use Rattle.quantile_sketches.proofs.WordSums.{sum_up, sum-entries, sum-words}
 
 -- ---- of every list of commands
 
@@ -137,26 +137,33 @@ module _ {A : Type 0} {cmp : A → A → Ordering} (o : IsTotalOrder cmp) (spell
         sym (rank-alike o y criteria ((play cmp (trace_of req_rules fewer) word start).slots slot) (bag_of s.levels) alike.levels)
         ∙ (run-exact o y criteria fewer word slot enough ∙ sym (ap (true_rank cmp y criteria) streams))
 
-    pub run-by-updates : (n : ℕ) → coins (trace_of req_rules commands) ≤ n → AreUnbiasedByUpdates cmp (accepted_of refused commands) n
-    run-by-updates n enough by y criteria slot =
+    pub run-are_unbiased : (n : ℕ) → coins (trace_of req_rules commands) ≤ n → AreUnbiasedByUpdates cmp (accepted_of refused commands) n
+    run-are_unbiased n enough slot only test =
         let l = left-out (req_kind_lawful o spelling) word commands refused are in
-        run-unbiased cmp (counted cmp y criteria) (accepted_of refused commands) n slot by (omega (arith, enough, l.drawn))
+        run-unbiased cmp (accepted_of refused commands) slot only n (omega (arith, enough, l.drawn)) test
 
--- the weights of an audit by updates alone, under all words
-pub weights-sum : {A : Type 0} {cmp : A → A → Ordering} (o : IsTotalOrder cmp) (spelling : A → Option (List ℕ)) (y : A) (criteria : SearchCriteria) (commands : List (ReqCommand A)) (slot : ℕ) (weights : List ℕ) →
-    are_by_updates no_shapes commands ≡ true → length weights ≡ 2 ^ coins (trace_of req_rules commands) → AreRunWeights (req_kind cmp spelling) y criteria commands slot weights →
-    sum weights ≡ length weights * true_rank cmp y criteria (stream_of req_rules commands slot)
-weights-sum {A} {cmp} o spelling y criteria commands slot weights by words are =
-    let n = coins (trace_of req_rules commands) in
-    let f : List Bool → ℕ = rank_under req_rules cmp y criteria commands slot in
-    sum-entries weights (λ k. f (word_of n k)) (λ k inside. at k (omega (arith, inside, words)))
-    ∙ (ap (λ (m : ℕ). sum_up m (λ k. f (word_of n k))) words
-    ∙ (sum-words n f
-    ∙ (run-unbiased cmp (counted cmp y criteria) commands n slot by (omega arith)
-    ∙ ap (λ (m : ℕ). m * true_rank cmp y criteria (stream_of req_rules commands slot)) (sym words))))
-  where
-    at : AreWeights req_rules cmp y criteria commands slot weights
-    at number inside =
-        let (weight, there, (refused, r, e)) = are number inside in
-        let word = word_of (coins (trace_of req_rules commands)) number in
-        there ∙ ap Some (e ∙ ap (λ (t : List (Event A)). weighted_rank cmp (counted cmp y criteria) ((play cmp t word start).slots slot)) (sym ((req-left-out o spelling word refused commands r).trace by)))
+    -- a sketch's shape is planned also by the commands that are accepted
+    accepted_shape : ArePlanned (req_kind cmp spelling) commands slots → (slot : ℕ) (s : Req A) → sketch_at slots slot ≡ Some s →
+        shape_in ((plan_of req_rules (accepted_of refused commands)).shapes slot) ≡ req_shape s
+    accepted_shape planned slot s held =
+        let l = left-out (req_kind_lawful o spelling) word commands refused are in
+        ap shape_in (ap (λ (p : Plan ReqShape). p.shapes slot) (sym l.plan) ∙ there planned slot s held)
+
+    pub run-are_relative : (n : ℕ) → ArePlanned (req_kind cmp spelling) commands slots → coins (trace_of req_rules commands) ≤ n → AreRelative cmp (accepted_of refused commands) n slots
+    run-are_relative n planned enough slot s held only y criteria =
+        let fewer = accepted_of refused commands in
+        let l = left-out (req_kind_lawful o spelling) word commands refused are in
+        let stream = stream_of req_rules fewer slot in
+        let squares = squared_errors cmp y criteria fewer n slot in
+        let r = run-relative cmp fewer slot only n (omega (arith, enough, l.drawn)) y criteria (updates_relative o) in
+        subst (λ (levels : ℕ). IsRelative s.k (levels - 1) n squares (off_tail cmp s.accuracy y criteria stream)) (length-layouts s.levels)
+        (subst (λ (shape : ReqShape). IsRelative shape.k (compacted_in shape) n squares (off_tail cmp shape.accuracy y criteria stream)) (accepted_shape planned slot s held) r)
+
+    pub run-are_relative_to_counts : (n : ℕ) → ArePlanned (req_kind cmp spelling) commands slots → coins (trace_of req_rules commands) ≤ n →
+        AreRelativeToCounts cmp (accepted_of refused commands) n slots
+    run-are_relative_to_counts n planned enough slot s held only great y criteria levels reaches =
+        let fewer = accepted_of refused commands in
+        let l = left-out (req_kind_lawful o spelling) word commands refused are in
+        subst (λ (shape : ReqShape). let count = off_tail cmp shape.accuracy y criteria (stream_of req_rules fewer slot) in
+        24 ≤ shape.k → Reaches shape.k count levels → IsRelative shape.k levels n (squared_errors cmp y criteria fewer n slot) count) (accepted_shape planned slot s held)
+        (run-relative_to_counts cmp fewer slot only n (omega (arith, enough, l.drawn)) y criteria (updates_relative_to_counts o) levels) great reaches

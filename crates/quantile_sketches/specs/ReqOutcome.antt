@@ -1,5 +1,5 @@
 -- What a run on REQ sketches gives beyond what every run gives.
-use Rattle.std.specs.Prelude.{◌≡◌, ℕ, ◌*◌, ◌^◌, ◌<◌, ◌≤◌, Bool, true, IsTrue, List, [], length, Option, IsSorted}
+use Rattle.std.specs.Prelude.{◌≡◌, ℕ, ◌-◌, ◌*◌, ◌^◌, ◌<◌, ◌≤◌, Bool, true, IsTrue, List, [], length, Option, IsSorted}
 use Rattle.std.specs.List.{AllByRecursion}
 use Rattle.std.specs.declared.cmp.Ordering.{Ordering}
 use Rattle.sketch_base.specs.declared.common.SearchCriteria.{SearchCriteria}
@@ -9,14 +9,16 @@ use Rattle.sketch_req.specs.Actions.{bag_of}
 use Rattle.sketch_req.specs.Image.{BeginsImage}
 use Rattle.sketch_req.specs.ImageLaws.{without_coins}
 use Rattle.sketch_req.specs.Imaged.{IsSameSketch}
+use Rattle.sketch_req.specs.Relative.{off_tail, IsRelative, Reaches}
 use Rattle.sketch_req.specs.Schedule.{layouts_of, nominal_sum}
 use Rattle.sketch_req.specs.Sketch.{Req}
 use Rattle.sketch_req.specs.Written.{image_text}
-use Rattle.quantile_sketches.specs.Outcome.{Slots, EachSketch, AreUnbiased}
+use Rattle.quantile_sketches.specs.Outcome.{Slots, EachSketch}
 use Rattle.quantile_sketches.specs.ReqKind.{HasImage}
 use Rattle.quantile_sketches.specs.ReqPlan.{ReqCommand, tails_of, no_shapes}
 use Rattle.quantile_sketches.specs.ReqRules.{req_rules}
-use Rattle.quantile_sketches.specs.ReqRun.{unmerged_from, off_tail, are_by_updates}
+use Rattle.quantile_sketches.specs.ReqRun.{unmerged_from}
+use Rattle.quantile_sketches.specs.ReqUpdated.{was_only_updated, IsUnbiased, squared_errors}
 use Rattle.quantile_sketches.specs.Run.{stream_of}
 
 -- each level that says that it is sorted is
@@ -55,6 +57,18 @@ pub record ReadsBack {A : Type 0} (cmp : A → A → Ordering) (spelling : A →
 abbrev pub AreReadBack : {A : Type 0} → (A → A → Ordering) → (A → Option (List ℕ)) → Slots (Req A) → Type 0
 AreReadBack cmp spelling = EachSketch (λ slot s. HasImage spelling s → ReadsBack cmp spelling s)
 
--- where the commands that are accepted are New, Update and Reset alone, the ranks are unbiased
+-- each slot that was only updated is unbiased: by every test of items, and so for every query
 abbrev pub AreUnbiasedByUpdates : {A : Type 0} → (A → A → Ordering) → List (ReqCommand A) → ℕ → Type 0
-AreUnbiasedByUpdates cmp commands length = IsTrue (are_by_updates no_shapes commands) → AreUnbiased req_rules cmp commands length
+AreUnbiasedByUpdates {A} cmp commands bits = (slot : ℕ) → IsTrue (was_only_updated commands slot) → (test : A → Bool) → IsUnbiased cmp commands bits slot test
+
+-- the errors of each sketch that was only updated are relative to how many items lie on the query's accurate side
+abbrev pub AreRelative : {A : Type 0} → (A → A → Ordering) → List (ReqCommand A) → ℕ → Slots (Req A) → Type 0
+AreRelative {A} cmp commands bits = EachSketch (λ slot s. IsTrue (was_only_updated commands slot) → (y : A) (criteria : SearchCriteria) →
+    IsRelative s.k (length s.levels - 1) bits (squared_errors cmp y criteria commands bits slot)
+    (off_tail cmp s.accuracy y criteria (stream_of req_rules commands slot)))
+
+-- and for a k of at least 24 the bound hangs on k and that count alone
+abbrev pub AreRelativeToCounts : {A : Type 0} → (A → A → Ordering) → List (ReqCommand A) → ℕ → Slots (Req A) → Type 0
+AreRelativeToCounts {A} cmp commands bits = EachSketch (λ slot s. IsTrue (was_only_updated commands slot) → 24 ≤ s.k → (y : A) (criteria : SearchCriteria) (levels : ℕ) →
+    let count = off_tail cmp s.accuracy y criteria (stream_of req_rules commands slot) in
+    Reaches s.k count levels → IsRelative s.k levels bits (squared_errors cmp y criteria commands bits slot) count)

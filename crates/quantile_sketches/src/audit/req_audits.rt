@@ -8,9 +8,8 @@ ghost use Rattle.sketch_base.specs.Trace.{coins as taken};
 ghost use Rattle.quantile_sketches.specs.Audit.{AreRunWeights};
 ghost use Rattle.quantile_sketches.specs.Plan.{trace_of};
 ghost use Rattle.quantile_sketches.specs.ReqKind.{req_kind};
-ghost use Rattle.quantile_sketches.specs.ReqPlan.{no_shapes};
 ghost use Rattle.quantile_sketches.specs.ReqRules.{req_rules};
-ghost use Rattle.quantile_sketches.specs.ReqRun.{are_by_updates};
+ghost use Rattle.quantile_sketches.specs.ReqUpdated.{was_only_updated, WeightsAreRelative};
 ghost use Rattle.quantile_sketches.specs.Run.{stream_of};
 
 use super::audits::audit_family;
@@ -24,6 +23,10 @@ use std::alloc::Global;
 
 /// Runs commands on REQ sketches under every word of the coins that they take, and asks a slot for
 /// the rank of an item under each. An absent slot counts 0.
+///
+/// Where the slot was only updated since its New or Reset, the weights average out at the true
+/// rank, and their standard error is relative: small where few items lie between the item and the
+/// protected end.
 ///
 /// Values with one spelling have to compare equal, and so have an item and its clone.
 /// `InvalidArgument` exactly where more than 16 coins are taken; any other error is `OutOfMemory`.
@@ -46,8 +49,10 @@ pub fn audit_req<T: ReqValue + Clone + Ord>(
         item.now criteria commands.now slot audit.weights.items) }
     ensures true_rank { IfOk result (λ audit.
         audit.true_rank ≡ rank_in T.cmp item.now criteria (stream_of req_rules commands.now slot)) }
-    ensures sum { IsTrue (are_by_updates no_shapes commands.now) → IfOk result (λ audit.
+    ensures sum { IsTrue (was_only_updated commands.now slot) → IfOk result (λ audit.
         sum audit.weights.items ≡ length audit.weights.items * audit.true_rank) }
+    ensures relative { IfOk result (λ audit. WeightsAreRelative
+        T.cmp item.now criteria commands.now slot audit.weights.items audit.true_rank) }
 {
     audit_family::<ReqSketch<T>>(alloc, commands, slot, item, criteria)
 }

@@ -1,6 +1,6 @@
 use Rattle.std.proofs.Common.{Result, Ok, Err, IfOk, ◌*◌, ℕ, length, sym, ap, ◌∙◌}
 use Rattle.quantile_sketches.proofs.ReqKind.{req_kind_lawful}
-use Rattle.quantile_sketches.proofs.ReqRuns.{weights-sum}
+use Rattle.quantile_sketches.proofs.ReqAudits.{weights-sum, weights-relative}
 use Rattle.quantile_sketches.proofs.audit.req_audits.audit_req.Goals as goal
 
 -- what follows of what is given
@@ -12,9 +12,16 @@ pub audit_family-requires-clause-lawful : goal.audit_family-requires-clause-lawf
 audit_family-requires-clause-lawful g c = req_kind_lawful g.met.T.Ord.total g.T.ReqValue.spelling
 
 pub returns-clause-sum : goal.returns-clause-sum
-returns-clause-sum g c = λ by.
+returns-clause-sum g c = λ only.
     three c.audit_family.result
     (λ audit words weights rank.
-    weights-sum g.met.T.Ord.total g.T.ReqValue.spelling c.args.item.now c.args.criteria c.args.commands.now c.args.slot audit.weights.items by words weights
+    weights-sum g.met.T.Ord.total g.T.ReqValue.spelling c.args.item.now c.args.criteria c.args.commands.now c.args.slot audit.weights.items only words weights
     ∙ ap (λ (n : ℕ). length audit.weights.items * n) (sym rank))
+    c.audit_family.ensures.words c.audit_family.ensures.weights c.audit_family.ensures.true_rank
+
+pub returns-clause-relative : goal.returns-clause-relative
+returns-clause-relative g c =
+    three c.audit_family.result
+    (λ audit words weights rank only.
+    weights-relative g.met.T.Ord.total g.T.ReqValue.spelling c.args.item.now c.args.criteria c.args.commands.now c.args.slot audit.weights.items only words weights audit.true_rank rank)
     c.audit_family.ensures.words c.audit_family.ensures.weights c.audit_family.ensures.true_rank

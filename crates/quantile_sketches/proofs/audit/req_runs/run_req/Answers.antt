@@ -1,7 +1,7 @@
 use Rattle.std.proofs.Common.{length, Result, Ok, Err, IfOk}
 use Rattle.quantile_sketches.proofs.AfterCommands.{close-by}
 use Rattle.quantile_sketches.proofs.ReqKind.{req_kind_lawful}
-use Rattle.quantile_sketches.proofs.ReqRuns.{req-load, run-ordered, run-levels, run-small, run-tail, run-tails-own, run-images, run-by-updates}
+use Rattle.quantile_sketches.proofs.ReqRuns.{req-load, run-ordered, run-levels, run-small, run-tail, run-tails-own, run-images, run-are_unbiased, run-are_relative, run-are_relative_to_counts}
 use Rattle.quantile_sketches.proofs.audit.req_runs.run_req.Goals as goal
 
 -- what follows of what is given
@@ -60,5 +60,19 @@ pub returns-clause-unbiased : goal.returns-clause-unbiased
 returns-clause-unbiased g c =
     both c.run_family.result
     (λ run refused enough.
-    run-by-updates g.met.T.Ord.total g.T.ReqValue.spelling c.args.commands.now run.slots c.args.word.now run.refused.items refused (length c.args.word.now) enough)
+    run-are_unbiased g.met.T.Ord.total g.T.ReqValue.spelling c.args.commands.now run.slots c.args.word.now run.refused.items refused (length c.args.word.now) enough)
     c.run_family.ensures.refused c.run_family.ensures.enough
+
+pub returns-clause-relative : goal.returns-clause-relative
+returns-clause-relative g c =
+    three c.run_family.result
+    (λ run refused planned enough.
+    run-are_relative g.met.T.Ord.total g.T.ReqValue.spelling c.args.commands.now run.slots c.args.word.now run.refused.items refused (length c.args.word.now) planned enough)
+    c.run_family.ensures.refused c.run_family.ensures.planned c.run_family.ensures.enough
+
+pub returns-clause-counts : goal.returns-clause-counts
+returns-clause-counts g c =
+    three c.run_family.result
+    (λ run refused planned enough.
+    run-are_relative_to_counts g.met.T.Ord.total g.T.ReqValue.spelling c.args.commands.now run.slots c.args.word.now run.refused.items refused (length c.args.word.now) planned enough)
+    c.run_family.ensures.refused c.run_family.ensures.planned c.run_family.ensures.enough

@@ -1,0 +1,85 @@
+-- Slots of a REQ run that were only updated: their ranks are unbiased, and their errors relative.
+use Rattle.std.specs.Prelude.{◌≡◌, ℕ, ◌-◌, ◌*◌, ◌^◌, ◌≤◌, ◌==◌, ◌&&◌, Bool, true, false, IsTrue, if◌then◌else◌, List, [], ◌∷◌, length, count_by, Option}
+use Rattle.std.specs.declared.cmp.Ordering.{Ordering}
+use Rattle.sketch_base.specs.declared.common.SearchCriteria.{SearchCriteria}
+use Rattle.sketch_base.specs.Bag.{weighted_rank}
+use Rattle.sketch_base.specs.Query.{counted, true_rank}
+use Rattle.sketch_base.specs.Trace.{changed, play, start, coins}
+use Rattle.sketch_base.specs.Words.{sum_over_words, distance, square}
+use Rattle.sketch_req.specs.Relative.{off_tail, IsRelative, Reaches}
+use Rattle.quantile_sketches.specs.declared.audit.commands.Command.TheVariants.{New, Update, UpdateWeighted, Merge, Reset, RoundTrip}
+use Rattle.quantile_sketches.specs.Plan.{is_refused, trace_of}
+use Rattle.quantile_sketches.specs.ReqPlan.{ReqCommand, shape_in, shape_at, next_shapes, no_shapes}
+use Rattle.quantile_sketches.specs.ReqRules.{ReqShape, req_rules}
+use Rattle.quantile_sketches.specs.Run.{stream_of}
+use Rattle.quantile_sketches.specs.Scatter.{scatter_of}
+
+-- which slots were only updated since their New or Reset, after an accepted command: a merge of a sketch that holds items ends it, and so does a round trip, which loses the kept coins
+abbrev pub accepted_only_updated : {A : Type 0} → (ℕ → Option ReqShape) → (ℕ → Bool) → ReqCommand A → ℕ → Bool
+accepted_only_updated shapes only (New slot config) = changed only slot true
+accepted_only_updated shapes only (Update slot x) = only
+accepted_only_updated shapes only (UpdateWeighted slot x weight) = changed only slot false
+accepted_only_updated shapes only (Merge into source) =
+    let other = shape_in (shapes source) in
+    changed only into ((other.n == 0) && only into)
+accepted_only_updated shapes only (Reset slot) = changed only slot true
+accepted_only_updated shapes only (RoundTrip slot) = changed only slot false
+
+-- after any command: a refused one leaves them
+abbrev pub only_updated_after : {A : Type 0} → (ℕ → Option ReqShape) → (ℕ → Bool) → ReqCommand A → ℕ → Bool
+only_updated_after shapes only command = if is_refused req_rules shapes command then only else accepted_only_updated shapes only command
+
+abbrev pub only_updated_from : {A : Type 0} → (ℕ → Option ReqShape) → (ℕ → Bool) → List (ReqCommand A) → ℕ → Bool
+only_updated_from shapes only [] = only
+only_updated_from shapes only (command ∷ rest) = only_updated_from (next_shapes shapes command) (only_updated_after shapes only command) rest
+
+-- whether a slot was only updated since its New or Reset, after commands from a run's start
+abbrev pub was_only_updated : {A : Type 0} → List (ReqCommand A) → ℕ → Bool
+was_only_updated = only_updated_from no_shapes (λ slot. true)
+
+-- a slot's weighted ranks by a test in the plays under all words of so many bits sum to the number of words times how many items of its stream pass
+abbrev pub IsUnbiased : {A : Type 0} → (A → A → Ordering) → List (ReqCommand A) → (bits slot : ℕ) → (A → Bool) → Type 0
+IsUnbiased cmp commands bits slot test =
+    sum_over_words bits (λ word. weighted_rank cmp test ((play cmp (trace_of req_rules commands) word start).slots slot)) ≡
+    2 ^ bits * count_by test (stream_of req_rules commands slot)
+
+-- so it is where the slot was only updated, whatever the other slots took
+abbrev pub ReqRunIsUnbiased : {A : Type 0} → (A → A → Ordering) → Type 0
+ReqRunIsUnbiased {A} cmp = (test : A → Bool) (commands : List (ReqCommand A)) (bits slot : ℕ) →
+    IsTrue (was_only_updated commands slot) → coins (trace_of req_rules commands) ≤ bits → IsUnbiased cmp commands bits slot test
+
+-- how many levels of a sketch were compacted: all but the top one
+abbrev pub compacted_in : ReqShape → ℕ
+compacted_in s = length s.layouts - 1
+
+-- how many items of a slot's stream lie on the accurate side of a query
+abbrev pub off_tail_at : {A : Type 0} → (A → A → Ordering) → A → SearchCriteria → List (ReqCommand A) → ℕ → ℕ
+off_tail_at cmp y criteria commands slot =
+    let s = shape_at commands slot in off_tail cmp s.accuracy y criteria (stream_of req_rules commands slot)
+
+-- the squares of a slot's errors at a query in the plays under all words of so many bits, in all
+abbrev pub squared_errors : {A : Type 0} → (A → A → Ordering) → A → SearchCriteria → List (ReqCommand A) → (bits slot : ℕ) → ℕ
+squared_errors cmp y criteria commands bits slot = sum_over_words bits (λ word. square (distance
+    (weighted_rank cmp (counted cmp y criteria) ((play cmp (trace_of req_rules commands) word start).slots slot))
+    (true_rank cmp y criteria (stream_of req_rules commands slot))))
+
+-- where the slot was only updated they are relative to how many items lie on the query's accurate side, whatever the other slots took
+abbrev pub ReqRunIsRelative : {A : Type 0} → (A → A → Ordering) → Type 0
+ReqRunIsRelative {A} cmp = (y : A) (criteria : SearchCriteria) (commands : List (ReqCommand A)) (bits slot : ℕ) →
+    IsTrue (was_only_updated commands slot) → coins (trace_of req_rules commands) ≤ bits →
+    let s = shape_at commands slot in
+    IsRelative s.k (compacted_in s) bits (squared_errors cmp y criteria commands bits slot) (off_tail_at cmp y criteria commands slot)
+
+-- and for a k of at least 24 the bound hangs on k and that count alone
+abbrev pub ReqRunIsRelativeToCounts : {A : Type 0} → (A → A → Ordering) → Type 0
+ReqRunIsRelativeToCounts {A} cmp = (y : A) (criteria : SearchCriteria) (commands : List (ReqCommand A)) (bits slot levels : ℕ) →
+    IsTrue (was_only_updated commands slot) → coins (trace_of req_rules commands) ≤ bits →
+    let s = shape_at commands slot in
+    24 ≤ s.k → Reaches s.k (off_tail_at cmp y criteria commands slot) levels →
+    IsRelative s.k levels bits (squared_errors cmp y criteria commands bits slot) (off_tail_at cmp y criteria commands slot)
+
+-- where the slot of an audit was only updated, the squares of how far its weights lie from the true rank are relative
+abbrev pub WeightsAreRelative : {A : Type 0} → (A → A → Ordering) → A → SearchCriteria → List (ReqCommand A) → ℕ → List ℕ → ℕ → Type 0
+WeightsAreRelative cmp y criteria commands slot weights rank = IsTrue (was_only_updated commands slot) →
+    let s = shape_at commands slot in
+    IsRelative s.k (compacted_in s) (coins (trace_of req_rules commands)) (scatter_of weights rank) (off_tail_at cmp y criteria commands slot)
