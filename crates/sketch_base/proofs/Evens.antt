@@ -1,0 +1,149 @@
+-- What a trace gains by one level's compactions it loses over all words, where its turned coins are fair.
+use Rattle.std.proofs.Common.{◌≡◌, ◌≢◌, ℕ, zero, suc, ◌+◌, ◌*◌, ◌≤◌, Bool, true, false, cond, not, ◌||◌, ◌==◌, ◌⊎◌, inl, inr, List, [], ◌∷◌, refl, sym, ap, ◌∙◌, arith, if◌then◌else◌, ⊎_elim, subst, eqb-true, Ordering}
+use Rattle.std.proofs.lemmas.List.Sums.{sum_by-cons}
+use Rattle.std.proofs.lemmas.Bool.{and_parts, cases_eq, ne_eqb, or_cases, false≢true}
+use Rattle.sketch_base.specs.Bag.{Bag, Taken}
+use Rattle.sketch_base.specs.Trace.{Put, Pull, Join, Compact, Forget, Clear, Fresh, Turned, Event, Snap, At, World, changed, is_req, event_draws, coins}
+use Rattle.sketch_base.specs.Words.{sum_over_words}
+use Rattle.sketch_base.proofs.Solo.{up, down, both_up}
+use Rattle.sketch_base.proofs.Mirror.{draw_pairs, turn_pairs, turned_up}
+use Rattle.sketch_base.specs.Fair.{reaches, is_fair}
+use Rattle.sketch_base.proofs.Reached.{counts_in, counts-none, counts-both}
+use Rattle.sketch_base.proofs.Gains.{gained, lost}
+use Rattle.sketch_base.proofs.MirroredWorlds.{MirroredWorlds, compacted_at, mirrored-snap, mirrored-put, mirrored-pull, mirrored-join, mirrored-forget, mirrored-clear, mirrored-draw, mirrored-turn}
+
+module _ {A : Type 0} (es : List (Event A)) (slot s : ℕ) where
+  -- a number of one slot, as far as it counts in the other in the end; nothing at other levels
+  abbrev counts_if : Bool → ℕ → ℕ
+  counts_if here c = if here then counts_in es slot s c else 0
+
+  -- both bits of a drawn coin gain what they lose
+  draw_counts : (here : Bool) (u v d : ℕ) → u + v ≡ 2 * d → counts_if here u + counts_if here v ≡ counts_if here d + counts_if here d
+  draw_counts true u v d e = counts-both es slot s u v d d (omega (arith, e))
+  draw_counts false u v d e = refl
+
+  -- so do a turned coin and its complement, and where the one slot does not get into the other nothing counts
+  turn_counts : (here : Bool) (u v d d' : ℕ) → (here ≡ true → (u + v ≡ d + d') ⊎ (reaches es slot s ≡ false)) → counts_if here u + counts_if here v ≡ counts_if here d + counts_if here d'
+  turn_counts true u v d d' e = ⊎_elim (λ even. counts-both es slot s u v d d' even) nothing (e refl)
+    where
+      nothing : reaches es slot s ≡ false → counts_in es slot s u + counts_in es slot s v ≡ counts_in es slot s d + counts_in es slot s d'
+      nothing misses = let none = counts-none es slot s in omega (arith, none u misses, none v misses, none d misses, none d' misses)
+  turn_counts false u v d d' e = refl
+
+module _ {A : Type 0} (cmp : A → A → Ordering) (f : A → ℕ) where
+  -- the gains of level g summed over all words, and the losses
+  abbrev gained_over : ℕ → List (Event A) → ℕ → ℕ → World (Bag A) → ℕ
+  gained_over g es n slot world = sum_over_words n (λ w. gained cmp f g es slot w world)
+
+  abbrev lost_over : ℕ → List (Event A) → ℕ → ℕ → World (Bag A) → ℕ
+  lost_over g es n slot world = sum_over_words n (λ w. lost cmp f g es slot w world)
+
+  -- from two worlds they are the same
+  abbrev pub IsEven : ℕ → List (Event A) → ℕ → ℕ → World (Bag A) → World (Bag A) → Type 0
+  IsEven g es n slot world world' =
+      gained_over g es n slot world + gained_over g es n slot world' ≡ lost_over g es n slot world + lost_over g es n slot world'
+
+  -- and so from all worlds that are mirrored
+  abbrev GoesOn : ℕ → List (Event A) → ℕ → ℕ → (ℕ → ℕ → Bool) → Type 0
+  GoesOn g es n slot drawn = (world world' : World (Bag A)) → MirroredWorlds cmp f g drawn world world' → IsEven g es n slot world world'
+
+  -- the same from two worlds, each after either bit
+  abbrev AreEven : ℕ → List (Event A) → ℕ → ℕ → (a b c d : World (Bag A)) → Type 0
+  AreEven g es n slot a b c d =
+      gained_over g es n slot a + gained_over g es n slot b + (gained_over g es n slot c + gained_over g es n slot d) ≡
+      lost_over g es n slot a + lost_over g es n slot b + (lost_over g es n slot c + lost_over g es n slot d)
+
+  -- a draw, if the rest is even from all worlds that are mirrored after it
+  even-draw : (g h s : ℕ) (taken : Taken) (es : List (Event A)) (n slot : ℕ) (drawn : ℕ → ℕ → Bool) (world world' : World (Bag A)) →
+      is_req taken ≡ true → MirroredWorlds cmp f g drawn world world' → GoesOn g es n slot (changed drawn s (changed (drawn s) h true)) →
+      IsEven g (At s (Compact h Fresh taken) ∷ es) (suc n) slot world world'
+  even-draw g h s taken es n slot drawn world world' req m rest =
+      draw_pairs cmp f n _ _ _ _ _ _ _ _ _ _ _ _ _ _
+      (draw_counts es slot s (h == g) (up cmp f h taken false bag) (up cmp f h taken true bag) (down cmp f h taken bag) (both_up cmp f h taken bag))
+      (draw_counts es slot s (h == g) (up cmp f h taken false bag') (up cmp f h taken true bag') (down cmp f h taken bag') (both_up cmp f h taken bag'))
+      (⊎_elim crossed straight (cases_eq h g))
+    where
+      bag : Bag A
+      bag = world.slots s
+
+      bag' : Bag A
+      bag' = world'.slots s
+
+      row : ℕ → Bool
+      row = changed (drawn s) h true
+
+      next : Bool → World (Bag A)
+      next bit = compacted_at cmp f s h taken bit world
+
+      next' : Bool → World (Bag A)
+      next' bit = compacted_at cmp f s h taken bit world'
+
+      crossed : h ≡ g → AreEven g es n slot (next false) (next true) (next' false) (next' true)
+      crossed e =
+          let mirrored = λ (bit : Bool). mirrored-draw cmp f g drawn world world' m s h taken row bit (not bit) req (λ lt. absurd (omega (arith, e, lt))) (λ e d. refl) (λ ne d. absurd (ne e)) in
+          let pair = λ (bit : Bool). rest (next bit) (next' (not bit)) (mirrored bit) in
+          omega (arith, pair false, pair true)
+
+      straight : h ≢ g → AreEven g es n slot (next false) (next true) (next' false) (next' true)
+      straight ne =
+          let same = ap (λ (b : Bool). if b then true else drawn s g) (ne_eqb g h (λ e. ne (sym e))) in
+          let mirrored = λ (bit : Bool). mirrored-draw cmp f g drawn world world' m s h taken row bit bit req (λ lt. refl) (λ e. absurd (ne e)) (λ _ d. sym same ∙ d) in
+          let pair = λ (bit : Bool). rest (next bit) (next' bit) (mirrored bit) in
+          omega (arith, pair false, pair true)
+
+  -- a turned coin: fair, or of a slot that does not get into the asked one
+  even-turn : (g h s : ℕ) (taken : Taken) (es : List (Event A)) (n slot : ℕ) (drawn : ℕ → ℕ → Bool) (world world' : World (Bag A)) →
+      is_req taken ≡ true → (drawn s h || not (reaches es slot s)) ≡ true → MirroredWorlds cmp f g drawn world world' → GoesOn g es n slot drawn →
+      IsEven g (At s (Compact h Turned taken) ∷ es) n slot world world'
+  even-turn g h s taken es n slot drawn world world' req fair m rest =
+      turn_pairs cmp f n _ _ _ _ _ _ _ _
+      (turn_counts es slot s (h == g) _ _ _ _ (λ here. by_rule (eqb-true h g here)))
+      (rest (compacted_at cmp f s h taken bit world) (compacted_at cmp f s h taken bit' world')
+      (mirrored-turn cmp f g drawn world world' m s h taken bit bit' req (λ lt. ap not ((m.slots s).below h lt)) (λ e d. ap not (other e d))))
+    where
+      bag : Bag A
+      bag = world.slots s
+
+      bag' : Bag A
+      bag' = world'.slots s
+
+      bit : Bool
+      bit = not (bag.kept h)
+
+      bit' : Bool
+      bit' = not (bag'.kept h)
+
+      other : h ≡ g → drawn s g ≡ true → bag'.kept h ≡ not (bag.kept h)
+      other e d = subst (λ j. bag'.kept j ≡ not (bag.kept j)) (sym e) ((m.slots s).turned d)
+
+      not_true : (b : Bool) → not b ≡ true → b ≡ false
+      not_true true e = absurd (false≢true e)
+      not_true false e = refl
+
+      by_rule : h ≡ g → (up cmp f h taken bit bag + up cmp f h taken bit' bag' ≡ down cmp f h taken bag + down cmp f h taken bag') ⊎ (reaches es slot s ≡ false)
+      by_rule e =
+          ⊎_elim
+          (λ d. inl (turned_up cmp f h taken bit bit' bag bag' req (ap not (other e (ap (drawn s) (sym e) ∙ d))) ((m.slots s).levels h (omega (arith, e)))))
+          (λ misses. inr (not_true (reaches es slot s) misses))
+          (or_cases (drawn s h) (not (reaches es slot s)) fair)
+
+  -- level by level, gains and losses even out over all words
+  pub evens : (g : ℕ) (es : List (Event A)) (n slot : ℕ) (drawn : ℕ → ℕ → Bool) (world world' : World (Bag A)) →
+      coins es ≤ n → is_fair es slot drawn ≡ true → MirroredWorlds cmp f g drawn world world' → IsEven g es n slot world world'
+  evens g [] n slot drawn world world' enough fair m = refl
+  evens g (Snap s t ∷ es) n slot drawn world world' enough fair m = evens g es n slot drawn _ _ enough fair (mirrored-snap cmp f g drawn world world' m s t)
+  evens g (At s (Put h x) ∷ es) n slot drawn world world' enough fair m = evens g es n slot drawn _ _ enough fair (mirrored-put cmp f g drawn world world' m s h x)
+  evens g (At s Pull ∷ es) n slot drawn world world' enough fair m = evens g es n slot drawn _ _ enough fair (mirrored-pull cmp f g drawn world world' m s)
+  evens g (At s (Join h) ∷ es) n slot drawn world world' enough fair m = evens g es n slot drawn _ _ enough fair (mirrored-join cmp f g drawn world world' m s h)
+  evens g (At s Forget ∷ es) n slot drawn world world' enough fair m = evens g es n slot _ _ _ enough fair (mirrored-forget cmp f g drawn world world' m s)
+  evens g (At s Clear ∷ es) n slot drawn world world' enough fair m = evens g es n slot _ _ _ enough fair (mirrored-clear cmp f g drawn world world' m s)
+  evens g (At s (Compact h Fresh taken) ∷ es) zero slot drawn world world' enough fair m =
+      absurd (omega (arith, sum_by-cons (λ (e : Event A). cond (event_draws e) 1 0) (At s (Compact h Fresh taken)) es, enough))
+  evens g (At s (Compact h Fresh taken) ∷ es) (suc n) slot drawn world world' enough fair m =
+      let less : coins es ≤ n = omega (arith, sum_by-cons (λ (e : Event A). cond (event_draws e) 1 0) (At s (Compact h Fresh taken)) es, enough) in
+      let parts = and_parts (is_req taken) _ fair in
+      even-draw g h s taken es n slot drawn world world' parts.0 m (λ next next' m'. evens g es n slot _ next next' less parts.1 m')
+  evens g (At s (Compact h Turned taken) ∷ es) n slot drawn world world' enough fair m =
+      let parts = and_parts (is_req taken) _ fair in
+      let rest = and_parts (drawn s h || not (reaches es slot s)) _ parts.1 in
+      even-turn g h s taken es n slot drawn world world' parts.0 rest.0 m (λ next next' m'. evens g es n slot drawn next next' enough rest.1 m')

@@ -1,0 +1,129 @@
+-- Two worlds whose slots agree up to a level, with kept bits there that are each other's complement where a coin was drawn: the events that keep them so.
+use Rattle.std.proofs.Common.{◌≡◌, ◌≢◌, ℕ, ◌≤◌, ◌<◌, Bool, true, false, not, ◌==◌, List, [], ◌∷◌, ◌++◌, take, drop, refl, sym, ap, ap₂, ◌∙◌, arith, if◌then◌else◌, ⊎_elim, subst, eqb-true, Ordering}
+use Rattle.std.proofs.lemmas.Bool.{cases_eq, false≢true}
+use Rattle.sketch_base.specs.Bag.{Bag, Taken, empty_bag, level_at, with_level}
+use Rattle.sketch_base.specs.Trace.{Put, Pull, Join, Forget, Clear, Action, Snap, At, World, changed, is_req, happens, act}
+use Rattle.sketch_base.proofs.Solo.{compacted}
+use Rattle.sketch_base.proofs.Mirror.{Mirrored, level_at-same, level_at-other, mirror-compact}
+
+module _ {A : Type 0} where
+  -- the levels up to g are the same
+  abbrev pub Agree : ℕ → List (List A) → List (List A) → Type 0
+  Agree g levels levels' = (i : ℕ) → i ≤ g → level_at levels i ≡ level_at levels' i
+
+  agree-changed : (g h : ℕ) (change change' : List A → List A) (levels levels' : List (List A)) → Agree g levels levels' →
+      (h ≤ g → change (level_at levels h) ≡ change' (level_at levels' h)) → Agree g (with_level [] h change levels) (with_level [] h change' levels')
+  agree-changed g h change change' levels levels' agree here i le = ⊎_elim there other (cases_eq i h)
+    where
+      there : i ≡ h → level_at (with_level [] h change levels) i ≡ level_at (with_level [] h change' levels') i
+      there e =
+          subst (λ j. level_at (with_level [] h change levels) j ≡ level_at (with_level [] h change' levels') j) (sym e)
+          (level_at-same h change levels ∙ (here (omega (arith, e, le)) ∙ sym (level_at-same h change' levels')))
+
+      other : i ≢ h → level_at (with_level [] h change levels) i ≡ level_at (with_level [] h change' levels') i
+      other ne = level_at-other h i change levels ne ∙ (agree i le ∙ sym (level_at-other h i change' levels' ne))
+
+module _ {A : Type 0} (cmp : A → A → Ordering) (f : A → ℕ) where
+  -- each slot mirrored, by whether its level g has drawn a coin; of the scratch the items alone matter
+  pub record MirroredWorlds (g : ℕ) (drawn : ℕ → ℕ → Bool) (world world' : World (Bag A)) : Type 0 where
+    pub slots : (s : ℕ) → Mirrored cmp f g (drawn s g) (world.slots s) (world'.slots s)
+    pub scratch : Agree g world.scratch.levels world'.scratch.levels
+
+  -- the same items at the end of a level of both bags
+  mirror-appended : (g h : ℕ) (drawn flag flag' : Bool) (front front' : List A) (bag bag' : Bag A) → (h ≤ g → front ≡ front') → Mirrored cmp f g drawn bag bag' →
+      Mirrored cmp f g drawn
+      (record { levels = with_level [] h (λ level. level ++ front) bag.levels; is_sorted = flag; kept = bag.kept })
+      (record { levels = with_level [] h (λ level. level ++ front') bag'.levels; is_sorted = flag'; kept = bag'.kept })
+  mirror-appended g h drawn flag flag' front front' bag bag' same m = record {
+    levels = agree-changed g h (λ level. level ++ front) (λ level. level ++ front') bag.levels bag'.levels m.levels (λ le. ap₂ (λ (l r : List A). l ++ r) (m.levels h le) (same le));
+    below = m.below;
+    turned = m.turned;
+  }
+
+  -- a slot's bags replaced by mirrored ones, where its drawn levels stay
+  one-changed : (g s : ℕ) (drawn : ℕ → ℕ → Bool) (slots slots' : ℕ → Bag A) (bag bag' : Bag A) → ((i : ℕ) → Mirrored cmp f g (drawn i g) (slots i) (slots' i)) →
+      Mirrored cmp f g (drawn s g) bag bag' → (i : ℕ) → Mirrored cmp f g (drawn i g) (changed slots s bag i) (changed slots' s bag' i)
+  one-changed g s drawn slots slots' bag bag' all here i = go (i == s) refl
+    where
+      go : (b : Bool) → (i == s) ≡ b → Mirrored cmp f g (drawn i g) (if b then bag else slots i) (if b then bag' else slots' i)
+      go true e = subst (λ j. Mirrored cmp f g (drawn j g) bag bag') (sym (eqb-true i s e)) here
+      go false e = all i
+
+  -- and where they change
+  one-drawn : (g s : ℕ) (drawn : ℕ → ℕ → Bool) (row : ℕ → Bool) (slots slots' : ℕ → Bag A) (bag bag' : Bag A) → ((i : ℕ) → Mirrored cmp f g (drawn i g) (slots i) (slots' i)) →
+      Mirrored cmp f g (row g) bag bag' → (i : ℕ) → Mirrored cmp f g (changed drawn s row i g) (changed slots s bag i) (changed slots' s bag' i)
+  one-drawn g s drawn row slots slots' bag bag' all here i = go (i == s)
+    where
+      go : (b : Bool) → Mirrored cmp f g ((if b then row else drawn i) g) (if b then bag else slots i) (if b then bag' else slots' i)
+      go true = here
+      go false = all i
+
+  -- what an action that draws nothing makes of a slot's bag
+  abbrev acted : ℕ → Action A → World (Bag A) → Bag A
+  acted s action world = (act cmp action false (record { bag = world.slots s; scratch = world.scratch })).bag
+
+  -- the world after a compaction of a slot by a bit
+  abbrev pub compacted_at : ℕ → ℕ → Taken → Bool → World (Bag A) → World (Bag A)
+  compacted_at s h taken bit world = record { slots = changed world.slots s (compacted cmp f h taken bit (world.slots s)); scratch = world.scratch; target = world.target }
+
+module _ {A : Type 0} (cmp : A → A → Ordering) (f : A → ℕ) (g : ℕ) (drawn : ℕ → ℕ → Bool) (world world' : World (Bag A)) (m : MirroredWorlds cmp f g drawn world world') (s : ℕ) where
+  pub mirrored-snap : (t : ℕ) → MirroredWorlds cmp f g drawn (happens (act cmp) (Snap s t) false world) (happens (act cmp) (Snap s t) false world')
+  mirrored-snap t = record { slots = m.slots; scratch = (m.slots s).levels }
+
+  pub mirrored-put : (h : ℕ) (x : A) → MirroredWorlds cmp f g drawn (happens (act cmp) (At s (Put h x)) false world) (happens (act cmp) (At s (Put h x)) false world')
+  mirrored-put h x = record {
+    slots = one-changed cmp f g s drawn world.slots world'.slots (acted cmp f s (Put h x) world) (acted cmp f s (Put h x) world') m.slots
+        (mirror-appended cmp f g h (drawn s g) _ _ (x ∷ []) (x ∷ []) (world.slots s) (world'.slots s) (λ le. refl) (m.slots s));
+    scratch = m.scratch;
+  }
+
+  pub mirrored-pull : MirroredWorlds cmp f g drawn (happens (act cmp) (At s Pull) false world) (happens (act cmp) (At s Pull) false world')
+  mirrored-pull =
+      let top = level_at world.scratch.levels 0 in
+      let top' = level_at world'.scratch.levels 0 in
+      let same : top ≡ top' = m.scratch 0 (omega arith) in
+      record {
+        slots = one-changed cmp f g s drawn world.slots world'.slots (acted cmp f s Pull world) (acted cmp f s Pull world') m.slots
+            (mirror-appended cmp f g 0 (drawn s g) false false (take 1 top) (take 1 top') (world.slots s) (world'.slots s) (λ le. ap (λ level. take 1 level) same) (m.slots s));
+        scratch = agree-changed g 0 (λ level. drop 1 top) (λ level. drop 1 top') world.scratch.levels world'.scratch.levels m.scratch (λ le. ap (λ level. drop 1 level) same);
+      }
+
+  pub mirrored-join : (h : ℕ) → MirroredWorlds cmp f g drawn (happens (act cmp) (At s (Join h)) false world) (happens (act cmp) (At s (Join h)) false world')
+  mirrored-join h = record {
+    slots = one-changed cmp f g s drawn world.slots world'.slots (acted cmp f s (Join h) world) (acted cmp f s (Join h) world') m.slots
+        (mirror-appended cmp f g h (drawn s g) _ _ (level_at world.scratch.levels h) (level_at world'.scratch.levels h) (world.slots s) (world'.slots s) (m.scratch h) (m.slots s));
+    scratch = agree-changed g h (λ level. []) (λ level. []) world.scratch.levels world'.scratch.levels m.scratch (λ le. refl);
+  }
+
+  pub mirrored-forget : MirroredWorlds cmp f g (changed drawn s (λ h. false)) (happens (act cmp) (At s Forget) false world) (happens (act cmp) (At s Forget) false world')
+  mirrored-forget = record {
+    slots = one-drawn cmp f g s drawn (λ h. false) world.slots world'.slots (acted cmp f s Forget world) (acted cmp f s Forget world') m.slots
+        (record { levels = (m.slots s).levels; below = λ i lt. refl; turned = λ e. absurd (false≢true e) });
+    scratch = m.scratch;
+  }
+
+  pub mirrored-clear : MirroredWorlds cmp f g (changed drawn s (λ h. false)) (happens (act cmp) (At s Clear) false world) (happens (act cmp) (At s Clear) false world')
+  mirrored-clear = record {
+    slots = one-drawn cmp f g s drawn (λ h. false) world.slots world'.slots empty_bag empty_bag m.slots
+        (record { levels = λ i le. refl; below = λ i lt. refl; turned = λ e. absurd (false≢true e) });
+    scratch = m.scratch;
+  }
+
+  -- a compaction by a coin that is drawn
+  pub mirrored-draw : (h : ℕ) (taken : Taken) (row : ℕ → Bool) (bit bit' : Bool) → is_req taken ≡ true → (h < g → bit ≡ bit') → (h ≡ g → row g ≡ true → bit' ≡ not bit) →
+      (h ≢ g → row g ≡ true → drawn s g ≡ true) →
+      MirroredWorlds cmp f g (changed drawn s row) (compacted_at cmp f s h taken bit world) (compacted_at cmp f s h taken bit' world')
+  mirrored-draw h taken row bit bit' req low here other = record {
+    slots = one-drawn cmp f g s drawn row world.slots world'.slots (compacted cmp f h taken bit (world.slots s)) (compacted cmp f h taken bit' (world'.slots s)) m.slots
+        (mirror-compact cmp f g h taken (drawn s g) (row g) bit bit' (world.slots s) (world'.slots s) req low here other (m.slots s));
+    scratch = m.scratch;
+  }
+
+  -- and by one that is turned
+  pub mirrored-turn : (h : ℕ) (taken : Taken) (bit bit' : Bool) → is_req taken ≡ true → (h < g → bit ≡ bit') → (h ≡ g → drawn s g ≡ true → bit' ≡ not bit) →
+      MirroredWorlds cmp f g drawn (compacted_at cmp f s h taken bit world) (compacted_at cmp f s h taken bit' world')
+  mirrored-turn h taken bit bit' req low here = record {
+    slots = one-changed cmp f g s drawn world.slots world'.slots (compacted cmp f h taken bit (world.slots s)) (compacted cmp f h taken bit' (world'.slots s)) m.slots
+        (mirror-compact cmp f g h taken (drawn s g) (drawn s g) bit bit' (world.slots s) (world'.slots s) req low here (λ ne d. d) (m.slots s));
+    scratch = m.scratch;
+  }

@@ -1,0 +1,93 @@
+-- What a rank in one slot before some events counts in another slot after them.
+use Rattle.std.proofs.Common.{◌≡◌, ℕ, ◌+◌, ◌^◌, Bool, true, false, not, ◌&&◌, ◌||◌, ◌==◌, List, [], ◌∷◌, refl, sym, ap, ap₂, ◌∙◌, arith, if◌then◌else◌, eqb-true}
+use Rattle.std.proofs.lemmas.Bool.{false≢true, eq-eqb}
+use Rattle.sketch_base.specs.Trace.{Put, Pull, Join, Compact, Forget, Clear, Event, Snap, At, changed}
+use Rattle.sketch_base.specs.Ranks.{true_ranks}
+use Rattle.sketch_base.specs.Fair.{reaches}
+use Rattle.sketch_base.proofs.Worlds.{true_ranks-related, true_ranks-same}
+
+-- c in slot s, and nothing in the others
+abbrev pub only : ℕ → ℕ → ℕ → ℕ
+only s c i = if i == s then c else 0
+
+module _ {A : Type 0} where
+  -- what c in slot s before the events counts in the slot in the end
+  abbrev pub counts_in : List (Event A) → ℕ → ℕ → ℕ → ℕ
+  counts_in es slot s c = true_ranks (λ x. false) es (only s c) slot
+
+  -- ranks of slots that don't get into the slot count nothing in it
+  counts-unreached : (es : List (Event A)) (slot : ℕ) (ranks : ℕ → ℕ) → ((i : ℕ) → reaches es slot i ≡ true → ranks i ≡ 0) → true_ranks (λ x. false) es ranks slot ≡ 0
+  counts-unreached [] slot ranks none = none slot (eq-eqb slot slot refl)
+  counts-unreached (Snap s t ∷ es) slot ranks none = counts-unreached es slot (changed ranks t (ranks t + ranks s)) each
+    where
+      from : (i : ℕ) → reaches es slot i ≡ true → ranks i ≡ 0
+      from i e = none i (ap (λ (b : Bool). b || (i == s && reaches es slot t)) e)
+
+      source : reaches es slot t ≡ true → ranks s ≡ 0
+      source e = none s (ap₂ (λ (b c : Bool). reaches es slot s || (b && c)) (eq-eqb s s refl) e ∙ or_true (reaches es slot s))
+        where
+          or_true : (b : Bool) → (b || true) ≡ true
+          or_true true = refl
+          or_true false = refl
+
+      each : (i : ℕ) → reaches es slot i ≡ true → changed ranks t (ranks t + ranks s) i ≡ 0
+      each i e = go (i == t) refl
+        where
+          go : (b : Bool) → (i == t) ≡ b → (if b then ranks t + ranks s else ranks i) ≡ 0
+          go true k = let there = ap (λ j. reaches es slot j) (sym (eqb-true i t k)) ∙ e in omega (arith, from t there, source there)
+          go false k = from i e
+  counts-unreached (At s (Put h x) ∷ es) slot ranks none = counts-unreached es slot (changed ranks s (ranks s + 0)) each
+    where
+      each : (i : ℕ) → reaches es slot i ≡ true → changed ranks s (ranks s + 0) i ≡ 0
+      each i e = go (i == s) refl
+        where
+          go : (b : Bool) → (i == s) ≡ b → (if b then ranks s + 0 else ranks i) ≡ 0
+          go true k = omega (arith, none s (ap (λ j. reaches es slot j) (sym (eqb-true i s k)) ∙ e))
+          go false k = none i e
+  counts-unreached (At s Clear ∷ es) slot ranks none = counts-unreached es slot (changed ranks s 0) each
+    where
+      each : (i : ℕ) → reaches es slot i ≡ true → changed ranks s 0 i ≡ 0
+      each i e = go (i == s) refl
+        where
+          go : (b : Bool) → (i == s) ≡ b → (if b then 0 else ranks i) ≡ 0
+          go true k = refl
+          go false k = none i (ap₂ (λ (b c : Bool). not b && c) k e)
+  counts-unreached (At s Pull ∷ es) slot ranks none = counts-unreached es slot ranks none
+  counts-unreached (At s (Join h) ∷ es) slot ranks none = counts-unreached es slot ranks none
+  counts-unreached (At s (Compact h coin taken) ∷ es) slot ranks none = counts-unreached es slot ranks none
+  counts-unreached (At s Forget ∷ es) slot ranks none = counts-unreached es slot ranks none
+
+  pub counts-none : (es : List (Event A)) (slot s c : ℕ) → reaches es slot s ≡ false → counts_in es slot s c ≡ 0
+  counts-none es slot s c misses = counts-unreached es slot (only s c) each
+    where
+      each : (i : ℕ) → reaches es slot i ≡ true → only s c i ≡ 0
+      each i e = go (i == s) refl
+        where
+          go : (b : Bool) → (i == s) ≡ b → (if b then c else 0) ≡ 0
+          go true k = absurd (false≢true (sym misses ∙ (ap (λ j. reaches es slot j) (sym (eqb-true i s k)) ∙ e)))
+          go false k = refl
+
+  -- true ranks add up
+  ranks-add : (test : A → Bool) (es : List (Event A)) (a b : ℕ → ℕ) (slot : ℕ) → true_ranks test es a slot + true_ranks (λ x. false) es b slot ≡ true_ranks test es (λ i. a i + b i) slot
+  ranks-add test es a b slot =
+      true_ranks-related (λ x y z. x + y ≡ z) refl (λ a b c a' b' c' e e'. omega (arith, e, e'))
+      test (λ x. false) test (λ h x. put (test x) h) es a b (λ i. a i + b i) (λ i. refl) slot
+    where
+      put : (passes : Bool) (h : ℕ) → (if passes then 2 ^ h else 0) + 0 ≡ (if passes then 2 ^ h else 0)
+      put passes h = omega arith
+
+  counts-add : (es : List (Event A)) (slot s a b : ℕ) → counts_in es slot s a + counts_in es slot s b ≡ counts_in es slot s (a + b)
+  counts-add es slot s a b = ranks-add (λ x. false) es (only s a) (only s b) slot ∙ true_ranks-same (λ x. false) es _ _ (λ i. each (i == s)) slot
+    where
+      each : (here : Bool) → (if here then a else 0) + (if here then b else 0) ≡ (if here then a + b else 0)
+      each true = refl
+      each false = refl
+
+  -- equal sums count the same
+  pub counts-both : (es : List (Event A)) (slot s a b c d : ℕ) → a + b ≡ c + d → counts_in es slot s a + counts_in es slot s b ≡ counts_in es slot s c + counts_in es slot s d
+  counts-both es slot s a b c d e = counts-add es slot s a b ∙ (ap (λ m. counts_in es slot s m) e ∙ sym (counts-add es slot s c d))
+
+  -- true ranks that differ in one slot alone
+  pub counts-moved : (test : A → Bool) (es : List (Event A)) (a b : ℕ → ℕ) (slot s c d : ℕ) → ((i : ℕ) → a i + only s c i ≡ b i + only s d i) →
+      true_ranks test es a slot + counts_in es slot s c ≡ true_ranks test es b slot + counts_in es slot s d
+  counts-moved test es a b slot s c d e = ranks-add test es a (only s c) slot ∙ (true_ranks-same test es _ _ e slot ∙ sym (ranks-add test es b (only s d) slot))
