@@ -3,7 +3,7 @@ use Rattle.std.proofs.lemmas.Bool.{lt-leb}
 use Rattle.std.proofs.lemmas.Result.{on_ok_weaker}
 use Rattle.sketch_req.specs.Level.{Level}
 use Rattle.sketch_req.specs.Schedule.{layouts_of, are_full, nominal_sum, retained_of, room_layouts}
-use Rattle.sketch_req.specs.Walk.{AreActed, appended_first, room_of}
+use Rattle.sketch_req.specs.Walk.{AreWalked, appended_first, room_of}
 use Rattle.sketch_req.proofs.Updates.{acted-spare, acted-walk, placed-appended, retained-appended, nominal-appended}
 use Rattle.sketch_req.proofs.sketch.levels.Levels.take_item.Goals as goal
 
@@ -12,7 +12,7 @@ returns-then-self-clause-acted g c =
     let after : List (Level g.row.T.Denot) = appended_first c.args.self.now.compactors.items c.args.item in
     let spare : are_full c.args.self.now.k (layouts_of after) ≡ false = lt-leb (nominal_sum c.args.self.now.k (layouts_of after)) (retained_of (layouts_of after)) (omega (arith, retained-appended c.args.self.now.compactors.items c.args.item c.requires.some, nominal-appended c.args.self.now.k c.args.self.now.compactors.items c.args.item, c.requires.retained, c.requires.capacity, c.if-self.true)) in
     on_ok_weaker c.append.result (λ e.
-    subst (λ (ls : List (Level g.row.T.Denot)). AreActed g.T.Ord.cmp g.B.RandomBits.bit g.B.RandomBits.next c.args.coins.now c.args.coins.now c.args.self.now.k c.args.self.now.rank_accuracy (room_of c.args.self.now.k c.args.self.now.rank_accuracy after) (room_layouts c.args.self.now.k (layouts_of after)) 0 after ls) (sym e)
+    subst (λ (ls : List (Level g.row.T.Denot)). AreWalked g.T.Ord.cmp g.B.RandomBits.bit g.B.RandomBits.next c.args.coins.now c.args.coins.now c.args.self.now.k c.args.self.now.rank_accuracy (room_of c.args.self.now.k c.args.self.now.rank_accuracy after) (room_layouts c.args.self.now.k (layouts_of after)) after ls) (sym e)
     (acted-spare g.met.T.Ord.total g.B.RandomBits.bit g.B.RandomBits.next c.args.coins.now c.args.self.now.k c.args.self.now.rank_accuracy after (placed-appended g.T.Ord.cmp c.args.self.now.k c.args.self.now.rank_accuracy c.args.self.now.compactors.items c.args.item c.requires.levels c.requires.few) spare)) c.append.ensures.ok
 
 pub returns-clause-acted : goal.returns-clause-acted

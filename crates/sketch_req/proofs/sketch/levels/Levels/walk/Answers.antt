@@ -1,7 +1,7 @@
 -- The loop keeps that the levels are those after the steps so far.
 use Rattle.std.proofs.Common.{◌≡◌, ℕ, length, length-set, sym, ◌∙◌, subst, arith, refl, vec_capacity}
 use Rattle.sketch_req.specs.Schedule.{layouts_of, steps_actions, steps_layouts}
-use Rattle.sketch_req.specs.Walk.{AreActed}
+use Rattle.sketch_req.specs.Walk.{AreWalked}
 use Rattle.sketch_req.proofs.Rooms.{room-empty, rooms-set, read-other, room-fits}
 use Rattle.sketch_req.proofs.Layouts.{length-layouts}
 use Rattle.sketch_req.proofs.Walks.{acted-start, walked-more}
@@ -26,7 +26,7 @@ index_mut-requires g c =
     omega (arith, c.loop-level.rooms.ok, c.loop-level.invariant.rooms_len, c.requires.fit.enough, length-map c.args.rooms.now.items (λ room. vec_capacity room.merged), length-layouts c.args.self.now.compactors.items, c.loop-level-test.true, c.len-count.ensures, c.args.self.now.compactors.ok)
 
 pub step-requires-clause-levels : goal.step-requires-clause-levels
-step-requires-clause-levels g c = rw (c.loop-level.invariant.k, c.loop-level.invariant.accuracy) c.loop-level.invariant.acted.placed
+step-requires-clause-levels g c = rw (c.loop-level.invariant.k, c.loop-level.invariant.accuracy) c.loop-level.invariant.acted.acted.placed
 
 pub step-requires-clause-legal : goal.step-requires-clause-legal
 step-requires-clause-legal g c = rw c.loop-level.invariant.k c.requires.legal
@@ -35,10 +35,10 @@ pub step-requires-clause-within : goal.step-requires-clause-within
 step-requires-clause-within g c = omega (arith, c.loop-level.invariant.len c.loop-level-test.true, c.loop-level-test.true, c.loop-level.self.compactors.ok)
 
 pub step-requires-clause-fits : goal.step-requires-clause-fits
-step-requires-clause-fits g c = omega (arith, c.loop-level.invariant.acted.weigh, c.requires.fits)
+step-requires-clause-fits g c = omega (arith, c.loop-level.invariant.acted.acted.weigh, c.requires.fits)
 
 pub step-requires-clause-few_items : goal.step-requires-clause-few_items
-step-requires-clause-few_items g c = omega (arith, c.loop-level.invariant.acted.fewer, c.requires.few_items)
+step-requires-clause-few_items g c = omega (arith, c.loop-level.invariant.acted.acted.fewer, c.requires.few_items)
 
 pub step-requires-clause-room : goal.step-requires-clause-room
 step-requires-clause-room g c =
@@ -57,7 +57,7 @@ step-requires-clause-fit g c =
     let i = c.loop-level.invariant in
     rw i.k
     (room-fits c.args.rooms.now.items c.loop-level.rooms.items c.index_mut.result.now (λ room. vec_capacity room.merged) (λ room. vec_capacity room.up) c.args.self.now.k c.loop-level.level (layouts_of c.args.self.now.compactors.items) (layouts_of c.loop-level.self.compactors.items)
-    c.requires.fit (omega (arith, length-layouts c.args.self.now.compactors.items, c.loop-level-test.true, c.len-count.ensures, c.args.self.now.compactors.ok)) i.rooms_len (i.capacities c.loop-level.level (omega arith)) (i.ups c.loop-level.level (omega arith)) c.index_mut.ensures.value i.acted.layouts_are)
+    c.requires.fit (omega (arith, length-layouts c.args.self.now.compactors.items, c.loop-level-test.true, c.len-count.ensures, c.args.self.now.compactors.ok)) i.rooms_len (i.capacities c.loop-level.level (omega arith)) (i.ups c.loop-level.level (omega arith)) c.index_mut.ensures.value i.acted.acted.layouts_are)
 
 pub loop-level-preserved : goal.loop-level-preserved
 loop-level-preserved g c =
@@ -79,13 +79,13 @@ pub returns-clause-acted : goal.returns-clause-acted
 returns-clause-acted g c =
     let n : c.loop-level.level ≡ length (layouts_of c.args.self.now.compactors.items) = omega (arith, length-layouts c.args.self.now.compactors.items, c.len-count.ensures, c.args.self.now.compactors.ok) in
     rw c.add_up.ensures.compactors
-    (subst (λ (n : ℕ). AreActed g.T.Ord.cmp g.B.RandomBits.bit g.B.RandomBits.next c.args.coins.now c.loop-level.coins c.args.self.now.k c.args.self.now.rank_accuracy (steps_actions c.args.self.now.k c.args.self.now.rank_accuracy n 0 (layouts_of c.args.self.now.compactors.items)) (steps_layouts c.args.self.now.k n 0 (layouts_of c.args.self.now.compactors.items)) 0 c.args.self.now.compactors.items c.loop-level.self.compactors.items) n c.loop-level.invariant.acted)
+    (subst (λ (n : ℕ). AreWalked g.T.Ord.cmp g.B.RandomBits.bit g.B.RandomBits.next c.args.coins.now c.loop-level.coins c.args.self.now.k c.args.self.now.rank_accuracy (steps_actions c.args.self.now.k c.args.self.now.rank_accuracy n 0 (layouts_of c.args.self.now.compactors.items)) (steps_layouts c.args.self.now.k n 0 (layouts_of c.args.self.now.compactors.items)) c.args.self.now.compactors.items c.loop-level.self.compactors.items) n c.loop-level.invariant.acted)
 
 pub add_up-requires-clause-levels : goal.add_up-requires-clause-levels
-add_up-requires-clause-levels g c = rw (c.loop-level.invariant.k, c.loop-level.invariant.accuracy) c.loop-level.invariant.acted.placed
+add_up-requires-clause-levels g c = rw (c.loop-level.invariant.k, c.loop-level.invariant.accuracy) c.loop-level.invariant.acted.acted.placed
 
 pub add_up-requires-clause-few : goal.add_up-requires-clause-few
-add_up-requires-clause-few g c = omega (arith, c.loop-level.invariant.acted.fewer, c.requires.few_items)
+add_up-requires-clause-few g c = omega (arith, c.loop-level.invariant.acted.acted.fewer, c.requires.few_items)
 
 pub returns-clause-retained : goal.returns-clause-retained
 returns-clause-retained g c = rw c.add_up.ensures.compactors c.add_up.ensures.retained

@@ -1,15 +1,15 @@
 use Rattle.std.proofs.Common.{◌≡◌, ℕ, ◌<◌, ◌≤◌, [], length, map, get_or, vec_len, vec_capacity}
 use Rattle.std.specs.List.{All}
 use Rattle.sketch_req.specs.Schedule.{layouts_of, steps_actions, steps_layouts}
-use Rattle.sketch_req.specs.Walk.{AreActed}
+use Rattle.sketch_req.specs.Walk.{AreWalked}
 use Rattle.sketch_req.proofs.sketch.levels.Levels.walk.Given as goal
 
 abbrev pub invariant-loop-level : goal.invariant-loop-level
 invariant-loop-level g l = record {
   k : l.self.k ≡ l.initial.self.k;
   accuracy : l.self.rank_accuracy ≡ l.initial.self.rank_accuracy;
-  acted : AreActed g.T.Ord.cmp g.B.RandomBits.bit g.B.RandomBits.next l.initial.coins l.coins l.initial.self.k l.initial.self.rank_accuracy
-      (steps_actions l.initial.self.k l.initial.self.rank_accuracy l.level 0 (layouts_of l.initial.self.compactors.items)) (steps_layouts l.initial.self.k l.level 0 (layouts_of l.initial.self.compactors.items)) 0 l.initial.self.compactors.items l.self.compactors.items;
+  acted : AreWalked g.T.Ord.cmp g.B.RandomBits.bit g.B.RandomBits.next l.initial.coins l.coins l.initial.self.k l.initial.self.rank_accuracy
+      (steps_actions l.initial.self.k l.initial.self.rank_accuracy l.level 0 (layouts_of l.initial.self.compactors.items)) (steps_layouts l.initial.self.k l.level 0 (layouts_of l.initial.self.compactors.items)) l.initial.self.compactors.items l.self.compactors.items;
   len : l.level < l.count → vec_len l.self.compactors ≡ l.count;
   spare : l.count < vec_capacity l.self.compactors;
   rooms : All (λ room. (room.up.items ≡ []) × (room.merged.items ≡ [])) l.rooms.items;

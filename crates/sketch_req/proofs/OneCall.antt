@@ -1,0 +1,139 @@
+-- What a call makes of a sketch under one word is one sketch, where items that compare equal are equal.
+use Rattle.std.proofs.Common.{◌≡◌, ℕ, zero, suc, ◌+◌, ◌<◌, ◌==◌, Bool, true, false, if◌then◌else◌, List, [], ◌∷◌, ◌++◌, length, get_or, Option, refl, sym, ap, ap₂, ◌∙◌, subst, arith, inl, inr, bit_or, Ordering}
+use Rattle.std.specs.Cmp.{IsTotalOrder}
+use Rattle.std.specs.List.{AllZip}
+use Rattle.std.specs.Option.{option_to_list}
+use Rattle.std.proofs.lemmas.Bool.{cases_lt}
+use Rattle.std.proofs.lemmas.List.{get_or_default}
+use Rattle.sketch_base.specs.Bag.{SameItems, AlikeReq, sort, level_at}
+use Rattle.sketch_base.specs.Tied.{TiesAreEqual}
+use Rattle.sketch_base.specs.Trace.{Action}
+use Rattle.sketch_base.proofs.Items.{SameItems-refl}
+use Rattle.sketch_base.proofs.Tied.{same-items, same-sorted, same-answers}
+use Rattle.sketch_req.specs.Actions.{bag_of}
+use Rattle.sketch_req.specs.Level.{Level, IsMerged as IsLevelMerged}
+use Rattle.sketch_req.specs.Merged.{IsMerged, item_lists, merge_of}
+use Rattle.sketch_req.specs.Moved.{AreMoved, AreMergedIn, is_moved}
+use Rattle.sketch_req.specs.Schedule.{Layout, layout_of, layouts_of, layout_at}
+use Rattle.sketch_req.specs.Sections.{grown}
+use Rattle.sketch_req.specs.Sketch.{Req, IsSound, IsUpdated, update_of, sketch_of}
+use Rattle.sketch_req.specs.Walk.{IsPlaced, AreLevels, appended_first}
+use Rattle.sketch_req.specs.declared.RankAccuracy.{RankAccuracy}
+use Rattle.sketch_req.proofs.Bags.{alike-sym, alike-trans}
+use Rattle.sketch_req.proofs.Joins.{coin-there, items-there, layout-there, placed-at-place}
+use Rattle.sketch_req.proofs.Layouts.{length-layouts}
+use Rattle.sketch_req.proofs.OneSketch.{one_least, one_greatest}
+use Rattle.sketch_req.proofs.Places.{by-place}
+
+-- a level, from its parts
+abbrev level : {A : Type 0} → List A → Bool → ℕ → ℕ → Bool → ℕ → ℕ → RankAccuracy → Level A
+level items is_sorted state doublings coin lg_weight k accuracy =
+    record { items = items; is_sorted = is_sorted; state = state; doublings = doublings; coin = coin; lg_weight = lg_weight; k = k; accuracy = accuracy }
+
+same-parts : {A : Type 0} (a b : Level A) → a.items ≡ b.items → a.is_sorted ≡ b.is_sorted → layout_of a ≡ layout_of b → a.coin ≡ b.coin → a.lg_weight ≡ b.lg_weight → a.k ≡ b.k → a.accuracy ≡ b.accuracy → a ≡ b
+same-parts {A} a b items sorted layout coin place k accuracy =
+    ap (λ (x : List A). level x a.is_sorted a.state a.doublings a.coin a.lg_weight a.k a.accuracy) items
+    ∙ (ap (λ (x : Bool). level b.items x a.state a.doublings a.coin a.lg_weight a.k a.accuracy) sorted
+    ∙ (ap (λ (x : Layout). level b.items b.is_sorted x.state x.doublings a.coin a.lg_weight a.k a.accuracy) layout
+    ∙ (ap (λ (x : Bool). level b.items b.is_sorted b.state b.doublings x a.lg_weight a.k a.accuracy) coin
+    ∙ (ap₂ (λ (x y : ℕ). level b.items b.is_sorted b.state b.doublings b.coin x y a.accuracy) place k
+    ∙ ap (λ (x : RankAccuracy). level b.items b.is_sorted b.state b.doublings b.coin b.lg_weight b.k x) accuracy))))
+
+-- the items of a place
+zip-at : {A : Type 0} (R : List A → List A → Type 0) (xs ys : List (List A)) (h : ℕ) → h < length xs → AllZip R xs ys → R (level_at xs h) (level_at ys h)
+zip-at R [] ys h i z = absurd (omega arith)
+zip-at R (x ∷ xs) [] h i z = absurd z
+zip-at R (x ∷ xs) (y ∷ ys) zero i z = z.0
+zip-at R (x ∷ xs) (y ∷ ys) (suc h) i z = zip-at R xs ys h (omega arith) z.1
+
+module _ {A : Type 0} {cmp : A → A → Ordering} (order : IsTotalOrder cmp) (tied : TiesAreEqual cmp) where
+  -- a level that was moved is told by its layout, its coin and its items in any order
+  one-moved : (k : ℕ) (accuracy : RankAccuracy) (h : ℕ) (a b : Level A) → IsPlaced cmp k accuracy h a → IsPlaced cmp k accuracy h b → layout_of a ≡ layout_of b → a.coin ≡ b.coin → a.is_sorted ≡ true → b.is_sorted ≡ true →
+      SameItems cmp (sort cmp a.items) (sort cmp b.items) → a ≡ b
+  one-moved k accuracy h a b p q layout coin c d s =
+      same-parts a b (same-sorted order tied a.items b.items s (p.sound.in_order c) (q.sound.in_order d)) (c ∙ sym d) layout coin (p.place_is ∙ sym q.place_is) (p.k_is ∙ sym q.k_is) (p.accuracy_is ∙ sym q.accuracy_is)
+
+  -- levels after the same compactions of the same levels
+  one-walk : (k : ℕ) (accuracy : RankAccuracy) (actions : List (Action A)) (ls ts us : List (Level A)) → AreMoved actions ls ts → AreMoved actions ls us →
+      layouts_of ts ≡ layouts_of us → AlikeReq cmp (bag_of ts) (bag_of us) → AreLevels cmp k accuracy 0 ts → AreLevels cmp k accuracy 0 us → ts ≡ us
+  one-walk k accuracy actions ls ts us p q layouts alike a b = by-place ts us count same
+    where
+      count : length ts ≡ length us
+      count = sym (length-layouts ts) ∙ (ap length layouts ∙ length-layouts us)
+
+      moved : (h : ℕ) (x y : Level A) → h < length ts → h < length us → x ≡ get_or ts h x → y ≡ get_or us h y → x.is_sorted ≡ true → y.is_sorted ≡ true → x ≡ y
+      moved h x y i j e f c d =
+          one-moved k accuracy h x y (placed-at-place cmp k accuracy h ts x a i e) (placed-at-place cmp k accuracy h us y b j f)
+          (sym (layout-there ts h x i e) ∙ (ap (λ (l : List Layout). layout_at l h) layouts ∙ layout-there us h y j f))
+          (sym (coin-there ts h x i e) ∙ (alike.kept h ∙ coin-there us h y j f)) c d
+          (subst (λ (xs : List A). SameItems cmp (sort cmp xs) (sort cmp y.items)) (items-there ts h x i e)
+          (subst (λ (ys : List A). SameItems cmp (sort cmp (level_at (item_lists ts) h)) (sort cmp ys)) (items-there us h y j f) (zip-at (λ xs ys. SameItems cmp (sort cmp xs) (sort cmp ys)) (item_lists ts) (item_lists us) h (many ts h i) alike.levels)))
+        where
+          many : (ls : List (Level A)) (h : ℕ) → h < length ls → h < length (item_lists ls)
+          many [] h i = absurd (omega arith)
+          many (l ∷ ls) zero i = omega arith
+          many (l ∷ ls) (suc h) i = let r = many ls h (omega arith) in omega (arith, r)
+
+      same : (h : ℕ) (none : Level A) → h < length ts → get_or ts h none ≡ get_or us h none
+      same h none i = go (is_moved actions h) refl
+        where
+          go : (m : Bool) → is_moved actions h ≡ m → get_or ts h none ≡ get_or us h none
+          go false e = p.stays h none e ∙ sym (q.stays h none e)
+          go true e =
+              let x : Level A = get_or ts h none in
+              let y : Level A = get_or us h none in
+              let j : h < length us = omega (arith, i, count) in
+              moved h x y i j (get_or_default ts h none x i) (get_or_default us h none y j) (p.sorted h none e) (q.sorted h none e)
+
+  -- a level that another one was merged into
+  one-merged : (old other a b : Level A) → IsLevelMerged cmp old other a → IsLevelMerged cmp old other b → a ≡ b
+  one-merged old other a b p q =
+      p.rest_is ∙ (ap (λ (xs : List A). level xs (if length other.items == 0 then old.is_sorted else true) (bit_or old.state other.state) (grown old.k (bit_or old.state other.state) old.doublings) old.coin old.lg_weight old.k old.accuracy)
+      (items other.items p.none_came p.some_came q.none_came q.some_came)
+      ∙ sym q.rest_is)
+    where
+      items : (os : List A) → (os ≡ [] → a.items ≡ old.items) → (0 < length os → SameItems cmp (sort cmp (old.items ++ os)) a.items) →
+          (os ≡ [] → b.items ≡ old.items) → (0 < length os → SameItems cmp (sort cmp (old.items ++ os)) b.items) → a.items ≡ b.items
+      items [] c d e f = c refl ∙ sym (e refl)
+      items (o ∷ os) c d e f = sym (same-items order tied _ a.items (d (omega arith))) ∙ same-items order tied _ b.items (f (omega arith))
+
+  one-merged-in : (k : ℕ) (accuracy : RankAccuracy) (ls others ms ns : List (Level A)) → AreMergedIn cmp k accuracy ls others ms → AreMergedIn cmp k accuracy ls others ns → ms ≡ ns
+  one-merged-in k accuracy ls others ms ns p q =
+      by-place ms ns (p.count ∙ sym q.count) (λ h none i.
+      let a = p.each h none i in
+      let b = q.each h none (omega (arith, i, p.count, q.count)) in
+      elim (cases_lt h (length others)) [
+        | inl low ↦ one-merged _ _ _ _ (a.merged none low) (b.merged none low)
+        | inr high ↦ a.kept high ∙ sym (b.kept high)
+      ])
+
+  -- a sketch, from its parts
+  same-sketch : (t u : Req A) → t.k ≡ u.k → t.accuracy ≡ u.accuracy → t.n ≡ u.n → t.levels ≡ u.levels → t.least ≡ u.least → t.greatest ≡ u.greatest → t ≡ u
+  same-sketch t u k accuracy n levels least greatest =
+      ap₂ (λ (x : ℕ) (y : RankAccuracy). sketch_of x y t.n t.levels t.least t.greatest) k accuracy
+      ∙ (ap₂ (λ (x : ℕ) (y : List (Level A)). sketch_of u.k u.accuracy x y t.least t.greatest) n levels
+      ∙ ap₂ (λ (x y : Option A). sketch_of u.k u.accuracy u.n u.levels x y) least greatest)
+
+  placed-as : (k : ℕ) (accuracy : RankAccuracy) (t : Req A) → IsSound cmp t → t.k ≡ k → t.accuracy ≡ accuracy → AreLevels cmp k accuracy 0 t.levels
+  placed-as k accuracy t sound a b = subst (λ (x : RankAccuracy). AreLevels cmp k x 0 t.levels) b (subst (λ (x : ℕ). AreLevels cmp x t.accuracy 0 t.levels) a sound.placed)
+
+  pub one-update : (s : Req A) (x : A) (word : List Bool) (t u : Req A) → IsSound cmp t → IsSound cmp u → IsUpdated cmp s x word t → IsUpdated cmp s x word u → t ≡ u
+  one-update s x word t u a b p q =
+      let ends = option_to_list s.least ++ x ∷ [] in
+      let tops = option_to_list s.greatest ++ x ∷ [] in
+      same-sketch t u (p.k ∙ sym q.k) (p.accuracy ∙ sym q.accuracy) (p.n ∙ sym q.n)
+      (one-walk s.k s.accuracy (update_of s x) (appended_first s.levels x) t.levels u.levels p.moved q.moved (p.layouts ∙ sym q.layouts) (alike-trans order _ _ _ (alike-sym order _ _ p.bag) q.bag)
+      (placed-as s.k s.accuracy t a p.k p.accuracy) (placed-as s.k s.accuracy u b q.k q.accuracy))
+      (same-answers order tied t.least u.least (one_least order ends ends t.least u.least (SameItems-refl cmp order ends) p.least q.least))
+      (same-answers order tied t.greatest u.greatest (one_greatest order tops tops t.greatest u.greatest (SameItems-refl cmp order tops) p.greatest q.greatest))
+
+  pub one-merge : (s other : Req A) (word : List Bool) (t u : Req A) → IsSound cmp t → IsSound cmp u → IsMerged cmp s other word t → IsMerged cmp s other word u → t ≡ u
+  one-merge s other word t u a b p q =
+      let ends = option_to_list s.least ++ option_to_list other.least in
+      let tops = option_to_list s.greatest ++ option_to_list other.greatest in
+      let joined : q.joined ≡ p.joined = one-merged-in s.k s.accuracy s.levels other.levels q.joined p.joined q.joined_are p.joined_are in
+      same-sketch t u (p.k ∙ sym q.k) (p.accuracy ∙ sym q.accuracy) (p.n ∙ sym q.n)
+      (one-walk s.k s.accuracy (merge_of s other) p.joined t.levels u.levels p.moved (subst (λ (ls : List (Level A)). AreMoved (merge_of s other) ls u.levels) joined q.moved) (p.layouts ∙ sym q.layouts) (alike-trans order _ _ _ (alike-sym order _ _ p.bag) q.bag)
+      (placed-as s.k s.accuracy t a p.k p.accuracy) (placed-as s.k s.accuracy u b q.k q.accuracy))
+      (same-answers order tied t.least u.least (one_least order ends ends t.least u.least (SameItems-refl cmp order ends) p.least q.least))
+      (same-answers order tied t.greatest u.greatest (one_greatest order tops tops t.greatest u.greatest (SameItems-refl cmp order tops) p.greatest q.greatest))
