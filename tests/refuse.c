@@ -8,7 +8,8 @@
 //                     Nth request from then on gets none; where it asks for 2^24 bytes, that is over, and it gets them
 //                     exactly if no request was refused since
 //   REFUSE_REPORT=FD  at the end a line goes to this file descriptor: the requests for memory made, how many of them
-//                     were refused, the bytes read, the bytes written and the greatest resident memory in KiB
+//                     were refused, the bytes read, the bytes written, the greatest resident memory in KiB and the greatest
+//                     single request in bytes
 #define _GNU_SOURCE
 #include <dlfcn.h>
 #include <errno.h>
@@ -28,6 +29,7 @@ enum { SIGN = 1 << 24, SIGNS = 1 << 12 };
 static struct traffic in, out;
 static long memory_at, many, signs, report_to = -1;
 static long requests, refused, refused_before;
+static size_t greatest;
 static int is_started;
 
 static long number(const char *name, long otherwise) {
@@ -57,6 +59,8 @@ static int is_sign_refused(size_t size) {
 static int is_refused(size_t size) {
     if (signs && size >= SIGN && size < SIGN + SIGNS)
         return is_sign_refused(size);
+    if (is_started && size > greatest)
+        greatest = size;
     if (!is_started || ++requests != memory_at)
         return 0;
     refused++;
@@ -109,7 +113,7 @@ __attribute__((destructor)) static void report(void) {
     ssize_t size = syscall(SYS_read, status, text, sizeof text - 1);
     text[size > 0 ? size : 0] = 0;
     const char *peak = strstr(text, "VmHWM:");
-    int length = snprintf(line, sizeof line, "%ld %ld %ld %ld %ld\n", requests, refused, in.bytes, out.bytes,
-                          peak ? atol(peak + 6) : -1);
+    int length = snprintf(line, sizeof line, "%ld %ld %ld %ld %ld %zu\n", requests, refused, in.bytes, out.bytes,
+                          peak ? atol(peak + 6) : -1, greatest);
     syscall(SYS_write, (int)report_to, line, (size_t)length);
 }
