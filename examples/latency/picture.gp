@@ -1,25 +1,28 @@
 # Draws latency/picture.png: gnuplot picture.gp
-set terminal pngcairo size 800,500 font ",10"
-set output "picture.png"
-set title "Latency by service: 200,000 requests, one pass, a sketch of k 4000 each"
+load "../style.gp"
+# lines 'service percentile sketch sorting', with 100 for the greatest, which no axis of this kind can show
+curves = system("mktemp")
+system("./run curves > " . curves)
+requests = int(system("./run log | wc -l"))
+services = int(system(sprintf("cut -d ' ' -f 1 %s | uniq | wc -l", curves)))
+shown = "web pay cart auth"
+colours = "#1f6fb4 #d9722b #3a8f4d #7a5195"
+of(s) = sprintf("< grep '^%s ' %s | grep -v ' 100 '", word(shown, s), curves)
+last(s) = real(system(sprintf("grep '^%s 99.97 ' %s | cut -d ' ' -f 3", word(shown, s), curves)))
+set title sprintf("%s requests, one pass: four of the %d services", grouped(requests), services)
 set logscale xy
+set xrange [2:1 / 0.0003]
+set yrange [3:3000]
 set xlabel "percentile"
 set ylabel "milliseconds"
-set xtics ("p1" 1/0.99, "p50" 2, "p90" 10, "p99" 100, "p99.9" 1000)
-set grid
-set key outside right
-# a service a line: its name and the latencies at these percentiles
-p = "0.01 0.05 0.10 0.25 0.50 0.75 0.90 0.95 0.98 0.99 0.995 0.998 0.999"
-curves = system("./run curves")
-services = words(curves) / (words(p) + 1)
-name(s) = word(curves, s * (words(p) + 1) + 1)
-set print $late
-do for [s=0:services - 1] {
-    do for [i=1:words(p)] {
-        print sprintf("%s %s", word(p, i), word(curves, s * (words(p) + 1) + 1 + i))
-    }
-    print ""
-    print ""
-}
-set print
-plot for [s=0:services - 1] $late index s using (1 / (1 - $1)):2 with linespoints linetype s % 8 + 1 dashtype 1 + s / 8 pointsize 0.3 title name(s)
+set xtics ("p50" 2, "p75" 4, "p90" 10, "p95" 20, "p99" 100, "p99.5" 200, "p99.9" 1000, "p99.97" 1 / 0.0003)
+set mxtics 1
+set ytics (3, 10, 30, 100, 300, 1000, 3000)
+set key top left reverse Left samplen 3 spacing 1.2
+set rmargin 8
+do for [s=1:4] { set label s word(shown, s) at 1 / 0.0003, last(s) offset 1.2, 0 textcolor rgb word(colours, s) }
+plot for [s=1:4] of(s) using (1 / (1 - $2 / 100)):4 with lines linewidth 7 linecolor rgb grey notitle, \
+     for [s=1:4] of(s) using (1 / (1 - $2 / 100)):3 with lines linewidth 2 linecolor rgb word(colours, s) notitle, \
+     NaN with lines linewidth 7 linecolor rgb grey title "sorting", \
+     NaN with lines linewidth 2 linecolor rgb dark title "the sketch"
+system("rm " . curves)

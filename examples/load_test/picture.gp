@@ -1,17 +1,23 @@
 # Draws load_test/picture.png: gnuplot picture.gp
-set terminal pngcairo size 800,400 font ",10"
-set output "picture.png"
-set title "100,000 requests, a REQ sketch of k 50, high ranks: how far a count of slower requests is off"
+load "../style.gp"
+# lines 'family slower', and by how much of it 95 of 100 counts are off at most, in %
+counts = system("mktemp")
+system("./run tail > " . counts)
+said(what) = system(sprintf("sed -n 's/^%s //p' %s", what, counts))
+of(family) = sprintf("< grep '^%s [0-9]' %s", family, counts)
+exact = int(said("tail"))
+requests = int(said("requests"))
+set title sprintf("%s requests: how far a count of slower requests is off, 95 of 100 times", grouped(requests))
 set logscale x
 set xlabel "requests that are truly slower"
-set ylabel "off by, hundredths of them"
-set grid
-set yrange [-1:1]
-set label "exact, whatever the coins were:\nthe 3k slowest" at 1.3,0.7
-set arrow from 150,-1 to 150,1 nohead dashtype 2
-$tail << END
-END
-set print $tail
-print system("./run tail")
-set print
-plot $tail using 1:($1 > 0 ? 100 * ($2 - $1) / $1 : 1 / 0) with linespoints pointsize 0.4 notitle, 0 linecolor "black" notitle
+set ylabel "off by, % of them"
+set xrange [50:requests]
+set yrange [0:8]
+set xtics ("100" 100, "1,000" 1000, "10,000" 10000, "100,000" 100000)
+set arrow 1 from exact, 0 to exact, 6.8 nohead dashtype 2 linecolor rgb "#888888"
+set label 1 sprintf("the %d slowest, 3k:\nREQ is exact to the left", exact) at exact, 7.5 center textcolor rgb dark
+set label 2 said("kll title") at 1300, 6.4 textcolor rgb orange
+set label 3 said("req title") at exact * 1.15, 0.55 textcolor rgb blue
+plot of("kll") using 2:3 with lines linewidth 2 linecolor rgb orange notitle, \
+     of("req") using 2:3 with lines linewidth 2.5 linecolor rgb blue notitle
+system("rm " . counts)
