@@ -1,0 +1,87 @@
+# What the commands of bin/ and the scripts of the repository share. It is sourced, by sh or bash, once 'here' is the folder
+# that this file stands in:
+#   here=$(dirname "$(readlink -f "$0")")
+#   . "$here/common.sh"
+# From then on a command that fails ends the script, numbers and order are the same in every language, and in bash a pipe
+# fails where any part of it does. In another shell a pipe's status is that of its last part, so put what can fail into a file.
+set -eu
+# shellcheck disable=SC3040
+if (set -o pipefail) 2> /dev/null; then set -o pipefail; fi
+export LC_ALL=C
+name=${0##*/}
+AWK=${AWK:-awk}
+export AWK here name
+
+# dies STATUS TEXT: tells why on standard error, and ends the script.
+dies() {
+    echo "$name: $2" >&2
+    exit "$1"
+}
+
+# usage STATUS: the comment at the head of the script.
+usage() {
+    if [ "$1" = 0 ]; then
+        sed -n '2,/^$/s/^#$\|^# //p' "$0"
+    else
+        sed -n '2,/^$/s/^#$\|^# //p' "$0" >&2
+    fi
+    exit "$1"
+}
+
+# Makes the temporary folder $work, which goes as the script ends, however it does.
+make_work() {
+    work=$(mktemp -d)
+    export work
+    child=
+    trap 'rm -rf "$work"' EXIT
+    trap 'interrupted 129' HUP
+    trap 'interrupted 130' INT
+    trap 'interrupted 143' TERM
+}
+
+interrupted() {
+    trap '' HUP INT TERM
+    [ -z "$child" ] || { kill "$child" && wait "$child"; } 2> /dev/null || :
+    exit "$1"
+}
+
+# attended COMMAND..: runs it with the script's standard input, so that a signal ends both at once.
+attended() {
+    exec 3<&0
+    "$@" <&3 3<&- &
+    child=$!
+    exec 3<&-
+    attended_status=0
+    wait "$child" || attended_status=$?
+    child=
+    return "$attended_status"
+}
+
+# Finds the program: PROGRAM where it is set, the one beside this file, the one of the repository, which is built where it must
+# be, or one on the path by the name 'sketches'.
+find_program() {
+    if [ -n "${PROGRAM:-}" ]; then
+        program=$PROGRAM
+    elif [ -x "$here/quantile_sketches" ]; then
+        program=$here/quantile_sketches
+    elif [ -x "$here/../sketches" ] && [ -d "$here/../crates/quantile_sketches" ]; then
+        "$here/../sketches" kll 0 < /dev/null || dies 3 'there is no program to run'
+        program=$here/../crates/quantile_sketches/out/quantile_sketches
+    else
+        program=$(command -v sketches) || dies 3 "there is no program: put it beside $here/common.sh, or name it by PROGRAM"
+    fi
+    [ -x "$program" ] && ! [ -d "$program" ] || dies 3 "$program is no program that can be run"
+    export program
+}
+
+# ask FAMILY SEED < COMMANDS: what the program answers to the lines of this file, but for 'ok'. At the first line that is
+# refused it stops, tells the line, and fails. It takes make_work and find_program.
+ask() {
+    cat > "$work/asked"
+    { "$program" "$@" < "$work/asked" || echo "error: status $?"; } | $AWK -f "$here/answers.awk" > "$work/answered" || {
+        set -- "$(tail -n 1 "$work/answered")"
+        set -- "$1" "$(printf '%s\n' "$1" | sed -n 's/^error: line \([0-9]*\).*/\1/p')"
+        dies 3 "$1: $(sed -n "${2:-1}p" "$work/asked" | cut -c 1-200)"
+    }
+    cat "$work/answered"
+}

@@ -1,0 +1,313 @@
+# What percentiles, summarize and combine share: numbers go into a sketch for each group, or images into one for each key, and
+# rows of percentiles or images come out. The options come by the environment, whose words awk leaves as they are.
+
+BEGIN {
+    groups = ENVIRON["groups"]; value = ENVIRON["value"]; decimals = ENVIRON["decimals"] + 0; work = ENVIRON["work"]
+    reads_images = ENVIRON["reads"] == "images"; has_header = ENVIRON["header"] != ""
+    joint = ENVIRON["separator"]
+    if (joint == "") joint = " "
+    else FS = joint == " " ? "[ ]" : joint == "\\" || joint == "^" ? "\\" joint : joint == "|" || joint == "." ? "[" joint "]" : joint
+    if (reads_images) FS = "\t"
+    zeros = sprintf("%0" decimals + 1 "d", 0); zeros = substr(zeros, 2)
+    safe = 18 - decimals
+    # (a slot of those that images go through is where each is read)
+    per_process = reads_images ? 255 : 256
+    scratch = 255
+    fields = split(groups, field, ",")
+    is_by_one = fields == 1
+    if (!has_header) find_fields()
+    is_watched = ENVIRON["watched"] != ""
+    if (is_watched) { begun = seconds(); due = begun + 5 }
+    count = processes = held = held_bytes = 0
+}
+
+function dies(text) {
+    printf "%s: %s\n", ENVIRON["name"], text > "/dev/stderr"
+    has_died = 1
+    exit 3
+}
+
+function seconds(   now) {
+    "date +%s" | getline now
+    close("date +%s")
+    return now + 0
+}
+
+function watch(   now) {
+    now = seconds()
+    if (now < due) return
+    due = now + 1
+    printf "\r%s: %d lines, %d groups", ENVIRON["name"], NR, count > "/dev/stderr"
+    fflush("/dev/stderr")
+    is_shown = 1
+}
+
+# The place of the field of this name or number, under the header of the lines where there is one.
+function place_of(name,   i, found) {
+    if (has_header)
+        for (i = 1; i <= NF; i++) if ($i == name "") { if (found) dies("the header of " file_name() " has two fields " name); found = i }
+    if (found) return found
+    if (name ~ /^[0-9]+$/ && name + 0 > 0) return name + 0
+    dies("the header of " file_name() " has no field " name)
+}
+
+function find_fields(   i) {
+    for (i = 1; i <= fields; i++) group[i] = place_of(field[i])
+    first_group = group[1]
+    item = place_of(value)
+}
+
+function file_name(   it) {
+    it = FILENAME
+    if (it == "" || it == "-") return "standard input"
+    sub(/^\.\//, "", it)
+    return it
+}
+
+# Where this line stands, and its text.
+function line_told(   it) {
+    it = $0
+    if (length(it) > 200) it = substr(it, 1, 200) ".."
+    return file_name() ", line " FNR ": " it
+}
+
+# The seed of a process: each has its own, and those of other seeds have others.
+function seed_of(process) { return ENVIRON["seed"] sprintf("%04d", process % 10000) }
+
+# A group gets a slot as it comes; each per_process slots have a process of the program, whose answers come into a file by its
+# number. (The number stands first, since some awk looks for a pipe by comparing its command with all others.)
+function begin(key, family) {
+    if (!(family in seats) || seats[family] == per_process) {
+        pipe_of[processes] = "p=" processes "; { \"$program\" " family " " seed_of(processes) \
+            "; echo \"status $?\"; } | $AWK -f \"$here/answers.awk\" > \"$work/$p\""
+        newest[family] = processes++
+        seats[family] = 0
+    }
+    process[key] = newest[family]
+    unasked[process[key]]++
+    talk[key] = pipe_of[process[key]]
+    slot[key] = seats[family]++
+    update[key] = "update " slot[key] " "
+    key_of[count++] = key
+}
+
+# --- numbers ---
+
+!reads_images {
+    if (substr($0, length($0)) == "\r") $0 = substr($0, 1, length($0) - 1)
+    if (FNR == 1) {
+        if (substr($0, 1, 3) == "\357\273\277") $0 = substr($0, 4)
+        if (has_header) { find_fields(); next }
+    }
+    x = $item
+    if (x ~ /^-?[0-9]+$/ && length(x) <= safe) x = x zeros
+    else if (x ~ /^-?[0-9]+\.[0-9]+$/ && (dot = index(x, ".")) <= safe && length(x) - dot <= decimals)
+        x = substr(x, 1, dot - 1) substr(x, dot + 1) substr(zeros, length(x) - dot + 1)
+    else {
+        x = scaled(x)
+        if (x == "") next
+    }
+    if (is_by_one) key = $first_group ""
+    else for (key = i = ""; ++i <= fields;) key = key (i > 1 ? joint : "") $group[i]
+    if (!(key in slot)) {
+        begin(key, ENVIRON["family"])
+        print "new " slot[key] " " ENVIRON["accuracy"] | talk[key]
+    }
+    taken[key]++
+    print update[key] x | talk[key]
+    if (is_watched && NR % 65536 == 0) watch()
+}
+
+# A number in any other dress, as digits with the point moved by 'decimals': '+1', '.5', '1e3', ' 7 '. It is empty where the line
+# has none, or one out of range, which is counted.
+function scaled(x,   sign, at, power, digits, point, rest, most) {
+    gsub(/^[ \t]+|[ \t]+$/, "", x)
+    if (x !~ /^[-+]?([0-9]+\.?[0-9]*|\.[0-9]+)([eE][-+]?[0-9]+)?$/) {
+        if (!bad++) first_bad = line_told()
+        return ""
+    }
+    sign = substr(x, 1, 1) == "-" ? "-" : ""
+    sub(/^[-+]/, "", x)
+    power = 0
+    if (at = match(x, /[eE]/)) { power = substr(x, at + 1) + 0; x = substr(x, 1, at - 1) }
+    point = index(x, ".")
+    if (point) digits = substr(x, 1, point - 1) substr(x, point + 1)
+    else { digits = x; point = length(x) + 1 }
+    at = match(digits, /[1-9]/)
+    if (!at) return "0"
+    # the number is 0.digits times ten to the power 'point'
+    digits = substr(digits, at)
+    point += power + decimals - at
+    if (point > 19) return far()
+    if (point < 0) { digits = "0" digits; point = 0 }
+    for (; length(digits) < point;) digits = digits "0"
+    rest = substr(digits, point + 1)
+    digits = substr(digits, 1, point)
+    if (rest ~ /[1-9]/) {
+        if (!finer++) first_finer = line_told()
+        if (rest ~ /^[5-9]/) digits = next_of(digits)
+    }
+    if (digits == "") return "0"
+    most = sign == "" ? "9223372036854775807" : "9223372036854775808"
+    if (length(digits) > 19 || length(digits) == 19 && ("x" digits) > ("x" most)) return far()
+    return sign digits
+}
+
+function far() {
+    if (!beyond++) first_beyond = line_told()
+    return ""
+}
+
+# The next greater number.
+function next_of(digits,   i, nines) {
+    for (i = length(digits); i > 0 && substr(digits, i, 1) == "9"; i--) nines = nines "0"
+    return i ? substr(digits, 1, i - 1) (substr(digits, i, 1) + 1) nines : "1" nines
+}
+
+# --- images ---
+
+reads_images {
+    if (substr($0, length($0)) == "\r") $0 = substr($0, 1, length($0) - 1)
+    hold(substr($0, 1, index($0, "\t") - 1), substr($0, index($0, "\t") + 1))
+    if (is_watched && NR % 256 == 0) watch()
+}
+
+# Images are held until the program has said of each whether it is one: only then do they go into the sketch of their key.
+function hold(key, image,   kind) {
+    kind = tolower(substr(image, 5, 2))
+    kind = kind == "0f" ? "kll" : kind == "11" ? "req" : ""
+    if (kind == "" || index($0, "\t") == 0 || image !~ /^[0-9A-Fa-f]+$/) { refuse(key, "is no image"); return }
+    held_key[held] = key; held_image[held] = image; held_kind[held] = kind; held_line[held] = file_name() ", line " FNR
+    print "load 0 " image | judge_of(kind)
+    held_bytes += length(image)
+    if (++held == 1000 || held_bytes > 4000000) release()
+}
+
+function refuse(key, why,   where) {
+    where = file_name() ", line " FNR
+    tell_refused(where, key, why)
+}
+
+function tell_refused(where, key, why) {
+    printf "%s: %s, key '%s': %s; it is left out\n", ENVIRON["name"], where, key, why > "/dev/stderr"
+    bad_images++
+}
+
+function judge_of(kind) { return "\"$program\" " kind " 0 > \"$work/verdicts." kind "\"" }
+
+function release(   i, verdict, kind, file, judge) {
+    for (i = 0; i < held; i++) if (!((kind = held_kind[i]) in judge)) {
+        judge[kind] = judge_of(kind)
+        if (close(judge[kind]) != 0) dies("the program failed as it read images")
+    }
+    for (i = 0; i < held; i++) {
+        file = work "/verdicts." held_kind[i]
+        if ((getline verdict < file) <= 0) dies("the program ended as it read images")
+        if (verdict == "error: invalid data" || verdict == "error: bad line") tell_refused(held_line[i], held_key[i], "is no image")
+        else if (verdict != "ok") dies("the program answered '" verdict "' as it read images")
+        else join(held_line[i], held_key[i], held_image[i], held_kind[i])
+    }
+    for (kind in judge) close(work "/verdicts." kind)
+    held = held_bytes = 0
+}
+
+# The one place where an image, which the program has read, goes into the sketch of its key.
+function join(line, key, image, kind,   sort_of) {
+    # (a REQ sketch's flag 8 says which end it is exact at)
+    sort_of = kind == "req" ? kind index("89abcdef", tolower(substr(image, 8, 1))) > 0 : kind
+    if (!(key in slot)) {
+        begin(key "", kind)
+        kept[key] = sort_of
+        print "load " slot[key] " " image | talk[key]
+    } else if (kept[key] != sort_of)
+        tell_refused(line, key, "is of another kind of sketch than those before")
+    else {
+        print "load " scratch " " image | talk[key]
+        print "merge " slot[key] " " scratch | talk[key]
+    }
+}
+
+# --- answers ---
+
+END {
+    if (has_died) exit 3
+    if (reads_images && held) release()
+    if (is_shown) printf "\r\033[K" > "/dev/stderr"
+    tell_left_out()
+    asks_images = ENVIRON["asks"] == "images"
+    many = split(ENVIRON["points"], point, ",")
+    for (g = 0; g < count; g++) put_questions(key_of[g])
+    for (p = 0; p < processes; p++) close(pipe_of[p])
+    for (g = 0; g < count; g++) {
+        key = key_of[g]
+        p = process[key]
+        if (asks_images) print escaped(key) "\t" answer(p)
+        else print row_of(key, p) "\t" key
+        if (!--unasked[p]) {
+            if (answer(p) != "status 0") dies("the program ended otherwise than it should")
+            close(work "/" p)
+        }
+    }
+    exit bad && ENVIRON["ignore"] == "" || beyond || bad_images ? 1 : 0
+}
+
+function tell_left_out() {
+    if (bad) tell(bad, "without a number", "left out; the first", first_bad)
+    if (beyond) tell(beyond, "with a number out of range", "left out; the first", first_beyond)
+    if (finer) tell(finer, "with more than " decimals " decimals", "rounded; the first", first_finer)
+}
+
+function tell(times, what, done, first) {
+    printf "%s: %d line%s %s %s %s: %s\n", ENVIRON["name"], times, times == 1 ? "" : "s", what, times == 1 ? "is" : "are", done, first > "/dev/stderr"
+}
+
+function put_questions(key,   s, i, ask) {
+    s = slot[key]
+    if (asks_images) { print "image " s | talk[key]; return }
+    print "rank " s " 0 incl" | talk[key]
+    for (i = 1; i <= many; i++) print "quantile " s " " fraction_of(point[i]) " incl" | talk[key]
+    print "quantile " s " 1 1 incl" | talk[key]
+}
+
+# 99.9 as '999 1000'
+function fraction_of(percent,   dot, whole) {
+    dot = index(percent, ".")
+    whole = "100"
+    if (dot) { whole = whole sprintf("%0" length(percent) - dot "d", 0); sub(/\./, "", percent) }
+    return percent " " whole
+}
+
+function answer(p,   line, file) {
+    file = work "/" p
+    if ((getline line < file) <= 0) dies("the program ended before it had answered")
+    if (line ~ /^error/) dies("the program refused a line: " line)
+    return line
+}
+
+# The number of items, the percentiles and the greatest.
+function row_of(key, p,   row, i, it) {
+    it = answer(p)
+    row = it == "none" ? 0 : substr(it, index(it, "/") + 1)
+    if (!reads_images && row != taken[key] "") dies("the program has " row " numbers of '" key "', and not the " taken[key] " it was given")
+    for (i = 1; i <= many + 1; i++) {
+        it = answer(p)
+        if (it != "none" && it !~ /^-?[0-9]+$/) dies("the program answered '" it "' in place of a number")
+        row = row "\t" (it == "none" ? "-" : pointed(it))
+    }
+    return row
+}
+
+# 12345 as 12.345, where there are three decimals
+function pointed(it,   sign) {
+    if (!decimals) return it
+    if (substr(it, 1, 1) == "-") { sign = "-"; it = substr(it, 2) }
+    for (; length(it) <= decimals;) it = "0" it
+    return sign substr(it, 1, length(it) - decimals) "." substr(it, length(it) - decimals + 1)
+}
+
+# (a key in a line 'KEY<tab>IMAGE' has no tab)
+function escaped(key,   i, c, it) {
+    if (reads_images || key !~ /[\t\\]/) return key
+    for (i = 1; i <= length(key); i++) { c = substr(key, i, 1); it = it (c == "\t" ? "\\t" : c == "\\" ? "\\\\" : c) }
+    return it
+}

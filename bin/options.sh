@@ -1,0 +1,122 @@
+# The options of percentiles, summarize and combine, and the run of their common part. It is sourced after common.sh.
+tab=$(printf '\t')
+groups= value=1 separator= header= decimals=3 points=50,90,99,99.9 family=req k= format=table ignore= seed= reads=numbers
+
+# wrong TEXT: arguments that can't be
+wrong() { dies 2 "$1; see $name -h"; }
+
+# is_number TEXT MOST: digits alone, at most so many
+is_number() {
+    case $1 in '' | *[!0-9]*) return 1 ;; esac
+    [ "${#1}" -le "$2" ]
+}
+
+# matches TEXT PATTERN: the whole text is as the pattern says.
+matches() {
+    case $1 in *'
+'*) return 1 ;; esac
+    printf '%s\n' "$1" | grep -Eqx -e "$2"
+}
+percent='([0-9]{1,2}(\.[0-9]{1,12})?|100(\.0{1,12})?)'
+
+# is_among TEXT LEAST MOST
+is_among() { is_number "$1" 9 && [ "$1" -ge "$2" ] && [ "$1" -le "$3" ]; }
+
+# read_options KNOWN ARG..: sets the variables above, and 'used' to how many arguments they were.
+read_options() {
+    of_lines=
+    known=$1
+    shift
+    OPTIND=1
+    while getopts ":$known" option; do
+        case $option in
+            g) groups=$OPTARG ;;
+            v) value=$OPTARG ;;
+            t) separator=$OPTARG ;;
+            H) header=yes ;;
+            d) decimals=$OPTARG ;;
+            p) points=$OPTARG ;;
+            f) family=$OPTARG ;;
+            k) k=$OPTARG ;;
+            o) format=$OPTARG ;;
+            i) ignore=yes ;;
+            s) seed=$OPTARG ;;
+            I) reads=images ;;
+            h) usage 0 ;;
+            :) wrong "-$OPTARG takes a word" ;;
+            *) wrong "there is no option -$OPTARG" ;;
+        esac
+        case $option in g | v | t | H | f | k | i) of_lines="$of_lines -$option" ;; esac
+    done
+    used=$((OPTIND - 1))
+    [ "$reads" = numbers ] || [ -z "$of_lines" ] || wrong "with -I there are no lines of numbers, which$of_lines would be about"
+    check_fields
+    check_rest
+}
+
+check_fields() {
+    if [ -z "$header" ]; then
+        matches "$groups" '([1-9][0-9]{0,4}(,[1-9][0-9]{0,4})*)?' || wrong "-g takes numbers of fields, and names with -H; '$groups' is neither"
+        matches "$value" '[1-9][0-9]{0,4}' || wrong "-v takes the number of a field, and a name with -H; '$value' is neither"
+    fi
+    case $separator in
+        '\t') separator=$tab ;;
+        ?? | ??*) wrong "a separator is one character, and '$separator' is more" ;;
+    esac
+}
+
+check_rest() {
+    is_among "$decimals" 0 9 || wrong "-d takes 0 to 9, and '$decimals' is none of these"
+    matches "$points" "$percent(,$percent)*" || wrong "-p takes percentiles from 0 to 100, and '$points' isn't that"
+    columns=$(printf '%s\n' "$points" | tr ',' '\n' | wc -l)
+    case $family in
+        req) accuracy="${k:=50} high"; is_among "$k" 4 1024 && [ "$((k % 2))" = 0 ] || wrong "-k of req is even, from 4 to 1024" ;;
+        kll) accuracy=${k:=200}; is_among "$k" 8 65535 || wrong '-k of kll is from 8 to 65535' ;;
+        *) wrong "a sketch is req or kll, and '$family' is none" ;;
+    esac
+    case $format in table | tsv | csv | json) ;; *) wrong "a format is table, tsv, csv or json, and '$format' is none" ;; esac
+    [ -z "$seed" ] || is_number "$seed" 15 || wrong "a seed has up to 15 digits, and '$seed' hasn't"
+}
+
+# summed FILE..: puts what the lines of these files hold into sketches, and what is asked of them into $work/rows. The status of
+# that, 0 or 1, is kept in 'summed'.
+summed() {
+    for file in "$@"; do
+        shift
+        case $file in
+            -) ;;
+            *) [ -e "$file" ] || dies 3 "$file: there is no such file"
+                ! [ -d "$file" ] || dies 3 "$file is a folder"
+                [ -r "$file" ] || dies 3 "$file can't be read" ;;
+        esac
+        # (awk takes a name with an = for an assignment)
+        case $file in - | /*) ;; *) file=./$file ;; esac
+        set -- "$@" "$file"
+    done
+    find_program
+    make_work
+    [ -n "$seed" ] || seed=$(od -An -N6 -tu8 /dev/urandom | tr -d ' ')
+    watched=
+    [ ! -t 2 ] || watched=yes
+    export groups value separator header decimals points family accuracy format ignore seed reads asks watched
+    summed=0
+    attended $AWK -f "$here/groups.awk" "$@" > "$work/rows" || summed=$?
+    case $summed in
+        0 | 1) ;;
+        *) tell_end; exit 3 ;;
+    esac
+}
+
+# Tells how processes of the program ended, where not well.
+tell_end() {
+    for file in "$work"/[0-9]*; do
+        [ -f "$file" ] || continue
+        told=$(tail -n 1 "$file" | cut -c 1-200)
+        case $told in
+            'status 0') ;;
+            'status '*) echo "$name: the program ended early, with $told" >&2; break ;;
+            'error: '*) echo "$name: the program refused a line: $told" >&2; break ;;
+        esac
+    done
+    echo "$name: nothing is printed, since not all was read" >&2
+}

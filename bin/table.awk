@@ -1,0 +1,122 @@
+# Prints rows 'COUNT<tab>PERCENTILE<tab>..<tab>GREATEST<tab>KEY' as a table, or as tsv, csv or json. All numbers get as many
+# decimals as any of them needs.
+BEGIN {
+    format = ENVIRON["format"]
+    many = split(ENVIRON["points"], point, ",")
+    has_keys = ENVIRON["groups"] != ""
+    for (i = 1; i <= many; i++) head[i + 1] = "p" point[i]
+    head[1] = "count"; head[many + 2] = "max"
+    columns = many + 2
+    most = 0
+}
+
+{
+    rest = $0
+    for (i = 1; i <= columns; i++) {
+        at = index(rest, "\t")
+        cell[NR, i] = substr(rest, 1, at - 1)
+        rest = substr(rest, at + 1)
+        if (i > 1 && (dot = index(cell[NR, i], "."))) {
+            needed = cell[NR, i]
+            sub(/0+$/, "", needed)
+            if (length(needed) - dot > most) most = length(needed) - dot
+        }
+    }
+    key[NR] = ENVIRON["reads"] == "images" ? unescaped(rest) : rest
+    if (ENVIRON["reads"] == "images" && rest != "") has_keys = 1
+}
+
+END {
+    for (r = 1; r <= NR; r++) for (i = 2; i <= columns; i++) cell[r, i] = trimmed(cell[r, i])
+    if (format == "json") print_json()
+    else if (format == "table") print_table()
+    else print_lines()
+}
+
+function trimmed(it,   dot) {
+    dot = index(it, ".")
+    return dot ? substr(it, 1, most ? dot + most : dot - 1) : it
+}
+
+function unescaped(key,   i, it, c) {
+    if (key !~ /\\/) return key
+    for (i = 1; i <= length(key); i++) {
+        c = substr(key, i, 1)
+        if (c == "\\") { c = substr(key, ++i, 1); if (c == "t") c = "\t" }
+        it = it c
+    }
+    return it
+}
+
+# How many places a text takes: UTF-8's later bytes take none.
+function places(text) {
+    gsub(/[\200-\277]/, "", text)
+    return length(text)
+}
+
+function shown(text) {
+    gsub(/\t/, " ", text)
+    return text == "" ? "\"\"" : text
+}
+
+function padded(text, width) { return sprintf("%" width - places(text) "s", "") }
+
+function print_table(   r, i, wide, width, line, text) {
+    wide = 5
+    for (r = 1; r <= NR; r++) if (places(shown(key[r])) > wide) wide = places(shown(key[r]))
+    for (i = 1; i <= columns; i++) {
+        width[i] = length(head[i])
+        for (r = 1; r <= NR; r++) if (length(cell[r, i]) > width[i]) width[i] = length(cell[r, i])
+    }
+    for (r = 0; r <= NR; r++) {
+        text = r ? shown(key[r]) : "group"
+        line = has_keys ? text padded(text, wide) "  " : ""
+        for (i = 1; i <= columns; i++) {
+            text = r ? cell[r, i] : head[i]
+            line = line (i > 1 ? "  " : "") padded(text, width[i]) text
+        }
+        print line
+    }
+}
+
+# tsv has \t and \\ for a tab and a backslash in a key; csv quotes a key where it must
+function print_lines(   r, i, line, between) {
+    between = format == "csv" ? "," : "\t"
+    for (r = 0; r <= NR; r++) {
+        line = has_keys ? (r ? (format == "csv" ? quoted(key[r]) : replaced(key[r])) : "group") between : ""
+        for (i = 1; i <= columns; i++) line = line (i > 1 ? between : "") (r ? cell[r, i] == "-" ? "" : cell[r, i] : head[i])
+        print line
+    }
+}
+
+function quoted(text) {
+    if (text !~ /[",]/) return text
+    gsub(/"/, "\"\"", text)
+    return "\"" text "\""
+}
+
+function replaced(text,   i, c, it) {
+    if (text !~ /[\t\\"\001-\037]/) return text
+    for (i = 1; i <= length(text); i++) {
+        c = substr(text, i, 1)
+        if (c == "\\" || c == "\"" && format == "json") c = "\\" c
+        else if (c == "\t") c = "\\t"
+        else if (format == "json" && c < " ") c = sprintf("\\u%04x", code_of(c))
+        it = it c
+    }
+    return it
+}
+
+function code_of(c,   i) {
+    for (i = 1; i < 32; i++) if (sprintf("%c", i) == c) return i
+}
+
+function print_json(   r, i, line) {
+    print "["
+    for (r = 1; r <= NR; r++) {
+        line = has_keys ? "\"group\":\"" replaced(key[r]) "\"," : ""
+        for (i = 1; i <= columns; i++) line = line (i > 1 ? "," : "") "\"" head[i] "\":" (cell[r, i] == "-" ? "null" : cell[r, i])
+        print "{" line "}" (r < NR ? "," : "")
+    }
+    print "]"
+}
