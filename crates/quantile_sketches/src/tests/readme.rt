@@ -1,4 +1,4 @@
-//! The library example of README.md, which `examples/check` compares with it, and a test that calls it.
+//! The library examples of README.md, which `examples/check` compares with it, and tests that call them.
 
 use std::test::Fail;
 
@@ -6,32 +6,63 @@ use std::test::Fail;
 use sketch_base::common::random::SplitMix64;
 use sketch_base::common::{Rank, SearchCriteria};
 use sketch_base::error::Error;
-use sketch_kll::sketch::KllSketch;
+use sketch_req::RankAccuracy;
+use sketch_req::sketch::ReqSketch;
 use std::alloc::Global;
 
-/// The 99th percentile of two hours of latencies, in milliseconds.
-fn slowest(alloc: Global, first: &[i64], second: &[i64]) -> Result<Option<i64>, Error> {
-    let mut coins = SplitMix64::new(1);
-    let mut day = KllSketch::new(alloc, 200)?;
-    let mut hour = KllSketch::new(alloc, 200)?;
-    for latency in first {
-        day.update(*latency, &mut coins)?;
+/// What one host sends: its latencies as the image of a sketch that is exact for the slowest.
+fn image_of(alloc: Global, seed: u64, latencies: &[i64]) -> Result<Vec<u8>, Error> {
+    let mut coins = SplitMix64::new(seed);
+    let mut sketch = ReqSketch::new(alloc, 50, RankAccuracy::HighRank)?;
+    for latency in latencies {
+        sketch.update(*latency, &mut coins)?;
     }
-    for latency in second {
-        hour.update(*latency, &mut coins)?;
-    }
-    day.merge(&hour, &mut coins)?;
+    sketch.serialize()
+}
+
+/// The 99th percentile of the latencies of two hosts.
+fn slowest(alloc: Global, first: &[u8], second: &[u8]) -> Result<Option<i64>, Error> {
+    let mut coins = SplitMix64::new(0);
+    let mut both = ReqSketch::deserialize(alloc, first)?;
+    let other = ReqSketch::deserialize(alloc, second)?;
+    both.merge(&other, &mut coins)?;
     let percentile = Rank {
         weight: 99,
         total: 100,
     };
-    day.quantile(percentile, SearchCriteria::Inclusive)
+    both.quantile(percentile, SearchCriteria::Inclusive)
+}
+// --- more
+use sketch_kll::sketch::KllSketch;
+use std::cmp::OrderedFloat;
+
+/// Milliseconds with decimals, in the order of numbers; a NaN comes last.
+#[derive(Clone, Debug, PartialEq, Eq, PartialOrd, Ord, Drop)]
+struct Millis(OrderedFloat<f64>);
+
+/// How many of the latencies are at most a limit.
+fn within(alloc: Global, latencies: &[f64], limit: f64) -> Result<Option<Rank>, Error> {
+    let mut coins = SplitMix64::new(1);
+    let mut sketch = KllSketch::new(alloc, 200)?;
+    for latency in latencies {
+        sketch.update(Millis(OrderedFloat(*latency)), &mut coins)?;
+    }
+    Ok(sketch.rank(&Millis(OrderedFloat(limit)), SearchCriteria::Inclusive))
 }
 // --- end
 
 #[test]
-fn slowest_of_two_hours(rt: HostRuntime) -> Result<(), Fail> {
-    let slowest = slowest(rt.alloc(), &[12, 15, 11, 90], &[14, 13])?;
+fn slowest_of_two_hosts(rt: HostRuntime) -> Result<(), Fail> {
+    let first = image_of(rt.alloc(), 1, &[12, 15, 11, 90])?;
+    let second = image_of(rt.alloc(), 2, &[14, 13])?;
+    let slowest = slowest(rt.alloc(), &first, &second)?;
     assert_eq!(rt; slowest, Some(90));
+    Ok(())
+}
+
+#[test]
+fn floats_are_counted(rt: HostRuntime) -> Result<(), Fail> {
+    let counted = within(rt.alloc(), &[0.5, 2.25, 1e3, -0.0], 2.25)?;
+    assert_eq!(rt; counted, Some(Rank { weight: 3, total: 4 }));
     Ok(())
 }
