@@ -63,6 +63,12 @@ fn slowest_of_two_hosts(rt: HostRuntime) -> Result<(), Fail> {
 #[test]
 fn floats_are_counted(rt: HostRuntime) -> Result<(), Fail> {
     let counted = within(rt.alloc(), &[0.5, 2.25, 1e3, -0.0], 2.25)?;
-    assert_eq!(rt; counted, Some(Rank { weight: 3, total: 4 }));
+    assert_eq!(rt;
+        counted,
+        Some(Rank {
+            weight: 3,
+            total: 4
+        })
+    );
     Ok(())
 }
