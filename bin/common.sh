@@ -61,7 +61,8 @@ attended() {
 # be, or one on the path by the name 'sketches'.
 find_program() {
     if [ -n "${PROGRAM:-}" ]; then
-        program=$PROGRAM
+        program=$(command -v "$PROGRAM") || dies 3 "$PROGRAM is no program that can be run"
+        case $program in /*) ;; *) program=$(readlink -f "$program") ;; esac
     elif [ -x "$here/quantile_sketches" ]; then
         program=$here/quantile_sketches
     elif [ -x "$here/../sketches" ] && [ -d "$here/../crates/quantile_sketches" ]; then
@@ -74,14 +75,14 @@ find_program() {
     export program
 }
 
-# ask FAMILY SEED < COMMANDS: what the program answers to the lines of this file, but for 'ok'. At the first line that is
-# refused it stops, tells the line, and fails. It takes make_work and find_program.
+# ask FAMILY SEED < COMMANDS: what the program answers to these lines, but for 'ok'. Where one is refused nothing comes, the line is
+# told, and it fails. It takes make_work and find_program.
 ask() {
-    cat > "$work/asked"
-    { "$program" "$@" < "$work/asked" || echo "error: status $?"; } | $AWK -f "$here/answers.awk" > "$work/answered" || {
-        set -- "$(tail -n 1 "$work/answered")"
+    cat > "$work/ask.lines"
+    { "$program" "$@" < "$work/ask.lines" || echo "error: status $?"; } | $AWK -f "$here/answers.awk" > "$work/ask.answers" || {
+        set -- "$(tail -n 1 "$work/ask.answers")"
         set -- "$1" "$(printf '%s\n' "$1" | sed -n 's/^error: line \([0-9]*\).*/\1/p')"
-        dies 3 "$1: $(sed -n "${2:-1}p" "$work/asked" | cut -c 1-200)"
+        dies 3 "the program's answer is '$1': $(sed -n "${2:-1}p" "$work/ask.lines" | cut -c 1-200)"
     }
-    cat "$work/answered"
+    cat "$work/ask.answers"
 }

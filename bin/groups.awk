@@ -85,10 +85,17 @@ function begin(key, family) {
     }
     process[key] = newest[family]
     unasked[process[key]]++
-    talk[key] = pipe_of[process[key]]
     slot[key] = seats[family]++
-    update[key] = "update " slot[key] " "
     key_of[count++] = key
+}
+
+# Tells the program of this key a line, after those that wait.
+function say(key, line,   p) {
+    p = process[key]
+    if (unsaid[p] != "") print substr(unsaid[p], 2) | pipe_of[p]
+    unsaid[p] = ""
+    unsaid_lines[p] = 0
+    print line | pipe_of[p]
 }
 
 # --- numbers ---
@@ -109,12 +116,20 @@ function begin(key, family) {
     }
     if (is_by_one) key = $first_group ""
     else for (key = i = ""; ++i <= fields;) key = key (i > 1 ? joint : "") $group[i]
-    if (!(key in slot)) {
+    if (!(key in process)) {
         begin(key, ENVIRON["family"])
-        print "new " slot[key] " " ENVIRON["accuracy"] | talk[key]
+        update[key] = "\nupdate " slot[key] " "
+        say(key, "new " slot[key] " " ENVIRON["accuracy"])
     }
-    taken[key]++
-    print update[key] x | talk[key]
+    # (many lines at once, since gawk and busybox write to a pipe whatever they are given)
+    p = process[key]
+    unsaid[p] = unsaid[p] update[key] x
+    if (++unsaid_lines[p] == 100) {
+        print substr(unsaid[p], 2) | pipe_of[p]
+        unsaid[p] = ""
+        unsaid_lines[p] = 0
+    }
+    taken++
     if (is_watched && NR % 65536 == 0) watch()
 }
 
@@ -143,14 +158,11 @@ function scaled(x,   sign, at, power, digits, point, rest, most) {
     for (; length(digits) < point;) digits = digits "0"
     rest = substr(digits, point + 1)
     digits = substr(digits, 1, point)
-    if (rest ~ /[1-9]/) {
-        if (!finer++) first_finer = line_told()
-        if (rest ~ /^[5-9]/) digits = next_of(digits)
-    }
-    if (digits == "") return "0"
+    if (rest ~ /^[5-9]/) digits = next_of(digits)
     most = sign == "" ? "9223372036854775807" : "9223372036854775808"
     if (length(digits) > 19 || length(digits) == 19 && ("x" digits) > ("x" most)) return far()
-    return sign digits
+    if (rest ~ /[1-9]/ && !finer++) first_finer = line_told()
+    return digits == "" ? "0" : sign digits
 }
 
 function far() {
@@ -215,15 +227,15 @@ function release(   i, verdict, kind, file, judge) {
 function join(line, key, image, kind,   sort_of) {
     # (a REQ sketch's flag 8 says which end it is exact at)
     sort_of = kind == "req" ? kind index("89abcdef", tolower(substr(image, 8, 1))) > 0 : kind
-    if (!(key in slot)) {
-        begin(key "", kind)
+    if (!(key in process)) {
+        begin(key, kind)
         kept[key] = sort_of
-        print "load " slot[key] " " image | talk[key]
+        say(key, "load " slot[key] " " image)
     } else if (kept[key] != sort_of)
         tell_refused(line, key, "is of another kind of sketch than those before")
     else {
-        print "load " scratch " " image | talk[key]
-        print "merge " slot[key] " " scratch | talk[key]
+        say(key, "load " scratch " " image)
+        say(key, "merge " slot[key] " " scratch)
     }
 }
 
@@ -241,13 +253,13 @@ END {
     for (g = 0; g < count; g++) {
         key = key_of[g]
         p = process[key]
+        number = numbers_of(answer(p))
+        answered += number
         if (asks_images) print escaped(key) "\t" answer(p)
-        else print row_of(key, p) "\t" key
-        if (!--unasked[p]) {
-            if (answer(p) != "status 0") dies("the program ended otherwise than it should")
-            close(work "/" p)
-        }
+        else print number percentiles_of(p) "\t" (reads_images ? unescaped(key) : key)
+        if (!--unasked[p]) check_end(p)
     }
+    if (!reads_images && answered != taken) dies("the program has " answered " numbers, and not the " taken " it was given")
     exit bad && ENVIRON["ignore"] == "" || beyond || bad_images ? 1 : 0
 }
 
@@ -261,12 +273,12 @@ function tell(times, what, done, first) {
     printf "%s: %d line%s %s %s %s: %s\n", ENVIRON["name"], times, times == 1 ? "" : "s", what, times == 1 ? "is" : "are", done, first > "/dev/stderr"
 }
 
-function put_questions(key,   s, i, ask) {
+function put_questions(key,   s, i) {
     s = slot[key]
-    if (asks_images) { print "image " s | talk[key]; return }
-    print "rank " s " 0 incl" | talk[key]
-    for (i = 1; i <= many; i++) print "quantile " s " " fraction_of(point[i]) " incl" | talk[key]
-    print "quantile " s " 1 1 incl" | talk[key]
+    say(key, "rank " s " 0 incl")
+    if (asks_images) { say(key, "image " s); return }
+    for (i = 1; i <= many; i++) say(key, "quantile " s " " fraction_of(point[i]) " incl")
+    say(key, "quantile " s " 1 1 incl")
 }
 
 # 99.9 as '999 1000'
@@ -281,14 +293,23 @@ function answer(p,   line, file) {
     file = work "/" p
     if ((getline line < file) <= 0) dies("the program ended before it had answered")
     if (line ~ /^error/) dies("the program refused a line: " line)
+    if (line ~ /^status/) dies("the program ended before it had answered, with " line)
     return line
 }
 
-# The number of items, the percentiles and the greatest.
-function row_of(key, p,   row, i, it) {
-    it = answer(p)
-    row = it == "none" ? 0 : substr(it, index(it, "/") + 1)
-    if (!reads_images && row != taken[key] "") dies("the program has " row " numbers of '" key "', and not the " taken[key] " it was given")
+function check_end(p,   line) {
+    if ((getline line < (work "/" p)) <= 0 || line != "status 0") dies("the program ended otherwise than it should: " line)
+    close(work "/" p)
+}
+
+# How many numbers a sketch has that answers this to a rank.
+function numbers_of(rank) {
+    if (rank == "none") return 0
+    if (rank !~ /^[0-9]+\/[0-9]+$/) dies("the program answered '" rank "' in place of a rank")
+    return substr(rank, index(rank, "/") + 1)
+}
+
+function percentiles_of(p,   row, i, it) {
     for (i = 1; i <= many + 1; i++) {
         it = answer(p)
         if (it != "none" && it !~ /^-?[0-9]+$/) dies("the program answered '" it "' in place of a number")
@@ -309,5 +330,15 @@ function pointed(it,   sign) {
 function escaped(key,   i, c, it) {
     if (reads_images || key !~ /[\t\\]/) return key
     for (i = 1; i <= length(key); i++) { c = substr(key, i, 1); it = it (c == "\t" ? "\\t" : c == "\\" ? "\\\\" : c) }
+    return it
+}
+
+function unescaped(key,   i, it, c) {
+    if (key !~ /\\/) return key
+    for (i = 1; i <= length(key); i++) {
+        c = substr(key, i, 1)
+        if (c == "\\") { c = substr(key, ++i, 1); if (c == "t") c = "\t" }
+        it = it c
+    }
     return it
 }

@@ -22,7 +22,7 @@ BEGIN {
             if (length(needed) - dot > most) most = length(needed) - dot
         }
     }
-    key[NR] = ENVIRON["reads"] == "images" ? unescaped(rest) : rest
+    key[NR] = rest
     if (ENVIRON["reads"] == "images" && rest != "") has_keys = 1
 }
 
@@ -36,16 +36,6 @@ END {
 function trimmed(it,   dot) {
     dot = index(it, ".")
     return dot ? substr(it, 1, most ? dot + most : dot - 1) : it
-}
-
-function unescaped(key,   i, it, c) {
-    if (key !~ /\\/) return key
-    for (i = 1; i <= length(key); i++) {
-        c = substr(key, i, 1)
-        if (c == "\\") { c = substr(key, ++i, 1); if (c == "t") c = "\t" }
-        it = it c
-    }
-    return it
 }
 
 # How many places a text takes: UTF-8's later bytes take none.
