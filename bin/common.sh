@@ -47,6 +47,7 @@ interrupted() {
 
 # attended COMMAND..: runs it with the script's standard input, so that a signal ends both at once.
 attended() {
+    (exec 4<&0) 2> /dev/null || dies 3 'standard input is closed'
     exec 3<&0
     "$@" <&3 3<&- &
     child=$!

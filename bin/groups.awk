@@ -17,7 +17,7 @@ BEGIN {
     is_by_one = fields == 1
     if (!has_header) find_fields()
     is_watched = ENVIRON["watched"] != ""
-    if (is_watched) { begun = seconds(); due = begun + 5 }
+    if (is_watched) { before = seconds(); due = before + 5; watch_step = 1; watch_at = 1 }
     count = processes = held = held_bytes = 0
 }
 
@@ -33,8 +33,13 @@ function seconds(   now) {
     return now + 0
 }
 
+# Says how far it is, each second from the fifth on; it asks for the time after so many lines as come in about a second.
 function watch(   now) {
     now = seconds()
+    if (now == before) watch_step *= 2
+    else if (watch_step > 1) watch_step /= 2
+    watch_at = NR + watch_step
+    before = now
     if (now < due) return
     due = now + 1
     printf "\r%s: %d lines, %d groups", ENVIRON["name"], NR, count > "/dev/stderr"
@@ -130,7 +135,7 @@ function say(key, line,   p) {
         unsaid_lines[p] = 0
     }
     taken++
-    if (is_watched && NR % 65536 == 0) watch()
+    if (is_watched && NR >= watch_at) watch()
 }
 
 # A number in any other dress, as digits with the point moved by 'decimals': '+1', '.5', '1e3', ' 7 '. It is empty where the line
@@ -181,7 +186,7 @@ function next_of(digits,   i, nines) {
 reads_images {
     if (substr($0, length($0)) == "\r") $0 = substr($0, 1, length($0) - 1)
     hold(substr($0, 1, index($0, "\t") - 1), substr($0, index($0, "\t") + 1))
-    if (is_watched && NR % 256 == 0) watch()
+    if (is_watched && NR >= watch_at) watch()
 }
 
 # Images are held until the program has said of each whether it is one: only then do they go into the sketch of their key.
@@ -260,7 +265,9 @@ END {
         if (!--unasked[p]) check_end(p)
     }
     if (!reads_images && answered != taken) dies("the program has " answered " numbers, and not the " taken " it was given")
-    exit bad && ENVIRON["ignore"] == "" || beyond || bad_images ? 1 : 0
+    fflush("")
+    # (the script takes this, and no status of awk's own, for the end)
+    print (bad && ENVIRON["ignore"] == "" || beyond || bad_images ? 1 : 0), count > (work "/end")
 }
 
 function tell_left_out() {

@@ -1,6 +1,6 @@
 # The options of percentiles, summarize and combine, and the run of their common part. It is sourced after common.sh.
 tab=$(printf '\t')
-groups= value=1 separator= header= decimals=3 points=50,90,99,99.9 family=req k= format=table ignore= seed= reads=numbers
+groups='' value=1 separator='' header='' decimals=3 points=50,90,99,99.9 family=req k='' format=table ignore='' seed='' reads=numbers
 
 # wrong TEXT: arguments that can't be
 wrong() { dies 2 "$1; see $name -h"; }
@@ -78,8 +78,8 @@ check_rest() {
     [ -z "$seed" ] || is_number "$seed" 15 || wrong "a seed has up to 15 digits, and '$seed' hasn't"
 }
 
-# summed FILE..: puts what the lines of these files hold into sketches, and what is asked of them into $work/rows. The status of
-# that, 0 or 1, is kept in 'summed'.
+# summed FILE..: puts what the lines of these files hold into sketches, and what is asked of them into $work/rows. The variable of this
+# name is then 0, or 1 where lines were left out.
 summed() {
     for file in "$@"; do
         shift
@@ -99,15 +99,20 @@ summed() {
     watched=
     [ ! -t 2 ] || watched=yes
     export groups value separator header decimals points family accuracy format ignore seed reads asks watched
-    summed=0
-    attended $AWK -f "$here/groups.awk" "$@" > "$work/rows" || summed=$?
-    case $summed in
-        0 | 1) ;;
-        *) tell_end; exit 3 ;;
-    esac
+    # (a process of the program takes a file descriptor)
+    # shellcheck disable=SC3045
+    ulimit -n "$(ulimit -H -n)" 2> /dev/null || :
+    attended $AWK -f "$here/groups.awk" "$@" > "$work/rows" || tell_end
+    [ -s "$work/end" ] && read -r summed rows < "$work/end" && [ "$rows" = "$(wc -l < "$work/rows")" ] || tell_end
 }
 
-# Tells how processes of the program ended, where not well.
+# finish FILE: prints it, and ends the script.
+finish() {
+    cat "$1" || dies 3 "standard output can't be written"
+    exit "$summed"
+}
+
+# Tells how the processes of the program ended, where not well, and ends the script.
 tell_end() {
     for file in "$work"/[0-9]*; do
         [ -f "$file" ] || continue
@@ -118,5 +123,5 @@ tell_end() {
             'error: '*) echo "$name: the program refused a line: $told" >&2; break ;;
         esac
     done
-    echo "$name: nothing is printed, since not all was read" >&2
+    dies 3 'nothing is printed, since not all was read'
 }
