@@ -1,4 +1,4 @@
-use Rattle.std.proofs.Common.{◌≡◌, ◌∷◌, [], ℕ, true, false, refl, arith}
+use Rattle.std.proofs.Common.{◌≡◌, ◌∷◌, [], true, false, refl, arith}
 use Rattle.std.specs.Int.Count.{count_trailing_zeros}
 use Rattle.sketch_base.specs.Trace.{coins}
 use Rattle.sketch_req.specs.Relative.{IsRelative, Reaches, updates_compacted}
