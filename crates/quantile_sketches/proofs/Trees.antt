@@ -1,9 +1,9 @@
 -- A slot that took updates and free slots alone took each coin in once, and no two free slots have a coin in common.
-use Rattle.std.proofs.Common.{◌≡◌, ℕ, ◌<◌, Bool, true, false, ◌&&◌, ◌==◌, if◌then◌else◌, IsTrue, List, [], ◌∷◌, ◌++◌, Option, None, Some, refl, sym, ap, ◌∙◌, subst, inl, inr, eqb-true}
-use Rattle.std.specs.Option.{option_and_then, option_map}
+use Rattle.std.proofs.Common.{◌≡◌, ℕ, Bool, true, false, ◌&&◌, ◌==◌, if◌then◌else◌, List, [], ◌∷◌, ◌++◌, Option, Some, refl, sym, ap, ◌∙◌, subst, inl, inr, eqb-true}
+use Rattle.std.specs.Option.{option_and_then}
 use Rattle.std.proofs.lemmas.Bool.{cases_Bool, and_from, eq-eqb, ne_eqb, false≢true}
 use Rattle.sketch_base.specs.Shares.{shares_after, all_shares, share_no_coin, takes_once}
-use Rattle.sketch_base.specs.Trace.{Action, Clear, Event, Snap, At, Work, World, changed}
+use Rattle.sketch_base.specs.Trace.{Action, Clear, Event, Snap, At, Work, changed}
 use Rattle.sketch_base.proofs.Changes.{changed-there}
 use Rattle.sketch_base.proofs.Coins.{AreAsMany, as_many-after, as_many-all, products, AreApart, apart-swapped, apart-cleared, apart-acts, apart-snapped, all_shares-append, takes_once-append, once-elsewhere}
 use Rattle.sketch_kll.specs.Merge.{merge_actions}
@@ -13,8 +13,8 @@ use Rattle.sketch_kll.proofs.RolledCoins.{update-once, merge-once}
 use Rattle.quantile_sketches.specs.declared.audit.commands.Command.{Command}
 use Rattle.quantile_sketches.specs.declared.audit.commands.Command.TheVariants.{New, Update, UpdateWeighted, Merge, Reset, RoundTrip}
 use Rattle.quantile_sketches.specs.KllRules.{KllShape, kll_rules}
-use Rattle.quantile_sketches.specs.Plan.{Plan, start_plan, actions_on, events_at, count_of, shape_after, is_refused, accepted_events, events_of, plan_after, trace_from, trace_of}
-use Rattle.quantile_sketches.specs.Rollup.{Standing, Free, Used, Mixed, joined, used, is_tree, accepted_standings, standings_after, standings_from, standing_of, TreesTakeOnce}
+use Rattle.quantile_sketches.specs.Plan.{Plan, start_plan, actions_on, events_at, count_of, shape_after, is_refused, accepted_events, events_of, plan_after, trace_from}
+use Rattle.quantile_sketches.specs.Rollup.{Standing, Free, Used, Mixed, joined, used, is_tree, accepted_standings, standings_after, standings_from, TreesTakeOnce}
 use Rattle.quantile_sketches.proofs.KllRuleLaws.{kll_lawful}
 use Rattle.quantile_sketches.proofs.Plans.{changed-away, at_slot, some-there, then-there, IsSteady, steady-start, steady-after}
 
