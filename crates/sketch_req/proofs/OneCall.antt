@@ -9,6 +9,7 @@ use Rattle.sketch_base.specs.Bag.{SameItems, AlikeReq, sort, level_at}
 use Rattle.sketch_base.specs.Tied.{TiesAreEqual}
 use Rattle.sketch_base.specs.Trace.{Action}
 use Rattle.sketch_base.proofs.Items.{SameItems-refl}
+use Rattle.sketch_base.proofs.OneExtreme.{one_least, one_greatest}
 use Rattle.sketch_base.proofs.Tied.{same-items, same-sorted, same-answers}
 use Rattle.sketch_req.specs.Actions.{bag_of}
 use Rattle.sketch_req.specs.Level.{Level, IsMerged as IsLevelMerged}
@@ -22,7 +23,6 @@ use Rattle.sketch_req.specs.declared.RankAccuracy.{RankAccuracy}
 use Rattle.sketch_req.proofs.Bags.{alike-sym, alike-trans}
 use Rattle.sketch_req.proofs.Joins.{coin-there, items-there, layout-there, placed-at-place}
 use Rattle.sketch_req.proofs.Layouts.{length-layouts}
-use Rattle.sketch_req.proofs.OneSketch.{one_least, one_greatest}
 use Rattle.sketch_req.proofs.Places.{by-place}
 
 -- a level, from its parts
