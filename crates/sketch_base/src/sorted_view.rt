@@ -100,7 +100,8 @@ impl<T: Clone + Ord> SortedView<T> {
         self.items.is_empty()
     }
 
-    /// How many items the sketch retained, equal ones apart.
+    /// How many items the view holds: of a KLL sketch the retained ones, of a REQ sketch the distinct
+    /// ones among them, since `new` joins equal items.
     pub fn len(&self) -> usize
         ensures { result ≡ self.now.held }
     {

@@ -9,6 +9,7 @@ use Rattle.sketch_base.specs.Bag.{SameItems, AlikeReq, sort, level_at}
 use Rattle.sketch_base.specs.Tied.{TiesAreEqual}
 use Rattle.sketch_base.specs.Trace.{Action}
 use Rattle.sketch_base.proofs.Items.{SameItems-refl}
+use Rattle.sketch_base.proofs.OneExtreme.{one_least, one_greatest}
 use Rattle.sketch_base.proofs.Tied.{same-items, same-sorted, same-answers}
 use Rattle.sketch_req.specs.Actions.{bag_of}
 use Rattle.sketch_req.specs.Level.{Level, IsMerged as IsLevelMerged}
@@ -22,7 +23,6 @@ use Rattle.sketch_req.specs.declared.RankAccuracy.{RankAccuracy}
 use Rattle.sketch_req.proofs.Bags.{alike-sym, alike-trans}
 use Rattle.sketch_req.proofs.Joins.{coin-there, items-there, layout-there, placed-at-place}
 use Rattle.sketch_req.proofs.Layouts.{length-layouts}
-use Rattle.sketch_req.proofs.OneSketch.{one_least, one_greatest}
 use Rattle.sketch_req.proofs.Places.{by-place}
 
 -- a level, from its parts
@@ -30,7 +30,8 @@ abbrev level : {A : Type 0} → List A → Bool → ℕ → ℕ → Bool → ℕ
 level items is_sorted state doublings coin lg_weight k accuracy =
     record { items = items; is_sorted = is_sorted; state = state; doublings = doublings; coin = coin; lg_weight = lg_weight; k = k; accuracy = accuracy }
 
-same-parts : {A : Type 0} (a b : Level A) → a.items ≡ b.items → a.is_sorted ≡ b.is_sorted → layout_of a ≡ layout_of b → a.coin ≡ b.coin → a.lg_weight ≡ b.lg_weight → a.k ≡ b.k → a.accuracy ≡ b.accuracy → a ≡ b
+same-parts : {A : Type 0} (a b : Level A) → a.items ≡ b.items → a.is_sorted ≡ b.is_sorted → layout_of a ≡ layout_of b →
+    a.coin ≡ b.coin → a.lg_weight ≡ b.lg_weight → a.k ≡ b.k → a.accuracy ≡ b.accuracy → a ≡ b
 same-parts {A} a b items sorted layout coin place k accuracy =
     ap (λ (x : List A). level x a.is_sorted a.state a.doublings a.coin a.lg_weight a.k a.accuracy) items
     ∙ (ap (λ (x : Bool). level b.items x a.state a.doublings a.coin a.lg_weight a.k a.accuracy) sorted
@@ -48,10 +49,12 @@ zip-at R (x ∷ xs) (y ∷ ys) (suc h) i z = zip-at R xs ys h (omega arith) z.1
 
 module _ {A : Type 0} {cmp : A → A → Ordering} (order : IsTotalOrder cmp) (tied : TiesAreEqual cmp) where
   -- a level that was moved is told by its layout, its coin and its items in any order
-  one-moved : (k : ℕ) (accuracy : RankAccuracy) (h : ℕ) (a b : Level A) → IsPlaced cmp k accuracy h a → IsPlaced cmp k accuracy h b → layout_of a ≡ layout_of b → a.coin ≡ b.coin → a.is_sorted ≡ true → b.is_sorted ≡ true →
+  one-moved : (k : ℕ) (accuracy : RankAccuracy) (h : ℕ) (a b : Level A) → IsPlaced cmp k accuracy h a → IsPlaced cmp k accuracy h b →
+      layout_of a ≡ layout_of b → a.coin ≡ b.coin → a.is_sorted ≡ true → b.is_sorted ≡ true →
       SameItems cmp (sort cmp a.items) (sort cmp b.items) → a ≡ b
   one-moved k accuracy h a b p q layout coin c d s =
-      same-parts a b (same-sorted order tied a.items b.items s (p.sound.in_order c) (q.sound.in_order d)) (c ∙ sym d) layout coin (p.place_is ∙ sym q.place_is) (p.k_is ∙ sym q.k_is) (p.accuracy_is ∙ sym q.accuracy_is)
+      same-parts a b (same-sorted order tied a.items b.items s (p.sound.in_order c) (q.sound.in_order d))
+      (c ∙ sym d) layout coin (p.place_is ∙ sym q.place_is) (p.k_is ∙ sym q.k_is) (p.accuracy_is ∙ sym q.accuracy_is)
 
   -- levels after the same compactions of the same levels
   one-walk : (k : ℕ) (accuracy : RankAccuracy) (actions : List (Action A)) (ls ts us : List (Level A)) → AreMoved actions ls ts → AreMoved actions ls us →
@@ -67,7 +70,8 @@ module _ {A : Type 0} {cmp : A → A → Ordering} (order : IsTotalOrder cmp) (t
           (sym (layout-there ts h x i e) ∙ (ap (λ (l : List Layout). layout_at l h) layouts ∙ layout-there us h y j f))
           (sym (coin-there ts h x i e) ∙ (alike.kept h ∙ coin-there us h y j f)) c d
           (subst (λ (xs : List A). SameItems cmp (sort cmp xs) (sort cmp y.items)) (items-there ts h x i e)
-          (subst (λ (ys : List A). SameItems cmp (sort cmp (level_at (item_lists ts) h)) (sort cmp ys)) (items-there us h y j f) (zip-at (λ xs ys. SameItems cmp (sort cmp xs) (sort cmp ys)) (item_lists ts) (item_lists us) h (many ts h i) alike.levels)))
+          (subst (λ (ys : List A). SameItems cmp (sort cmp (level_at (item_lists ts) h)) (sort cmp ys)) (items-there us h y j f) (zip-at (λ xs ys. SameItems cmp (sort cmp xs) (sort cmp ys))
+          (item_lists ts) (item_lists us) h (many ts h i) alike.levels)))
         where
           many : (ls : List (Level A)) (h : ℕ) → h < length ls → h < length (item_lists ls)
           many [] h i = absurd (omega arith)
@@ -88,7 +92,8 @@ module _ {A : Type 0} {cmp : A → A → Ordering} (order : IsTotalOrder cmp) (t
   -- a level that another one was merged into
   one-merged : (old other a b : Level A) → IsLevelMerged cmp old other a → IsLevelMerged cmp old other b → a ≡ b
   one-merged old other a b p q =
-      p.rest_is ∙ (ap (λ (xs : List A). level xs (if length other.items == 0 then old.is_sorted else true) (bit_or old.state other.state) (grown old.k (bit_or old.state other.state) old.doublings) old.coin old.lg_weight old.k old.accuracy)
+      p.rest_is ∙ (ap (λ (xs : List A). level xs (if length other.items == 0 then old.is_sorted else true) (bit_or old.state other.state) (grown old.k (bit_or old.state other.state) old.doublings)
+      old.coin old.lg_weight old.k old.accuracy)
       (items other.items p.none_came p.some_came q.none_came q.some_came)
       ∙ sym q.rest_is)
     where
@@ -133,7 +138,8 @@ module _ {A : Type 0} {cmp : A → A → Ordering} (order : IsTotalOrder cmp) (t
       let tops = option_to_list s.greatest ++ option_to_list other.greatest in
       let joined : q.joined ≡ p.joined = one-merged-in s.k s.accuracy s.levels other.levels q.joined p.joined q.joined_are p.joined_are in
       same-sketch t u (p.k ∙ sym q.k) (p.accuracy ∙ sym q.accuracy) (p.n ∙ sym q.n)
-      (one-walk s.k s.accuracy (merge_of s other) p.joined t.levels u.levels p.moved (subst (λ (ls : List (Level A)). AreMoved (merge_of s other) ls u.levels) joined q.moved) (p.layouts ∙ sym q.layouts) (alike-trans order _ _ _ (alike-sym order _ _ p.bag) q.bag)
+      (one-walk s.k s.accuracy (merge_of s other) p.joined t.levels u.levels p.moved (subst (λ (ls : List (Level A)). AreMoved (merge_of s other) ls u.levels) joined q.moved)
+      (p.layouts ∙ sym q.layouts) (alike-trans order _ _ _ (alike-sym order _ _ p.bag) q.bag)
       (placed-as s.k s.accuracy t a p.k p.accuracy) (placed-as s.k s.accuracy u b q.k q.accuracy))
       (same-answers order tied t.least u.least (one_least order ends ends t.least u.least (SameItems-refl cmp order ends) p.least q.least))
       (same-answers order tied t.greatest u.greatest (one_greatest order tops tops t.greatest u.greatest (SameItems-refl cmp order tops) p.greatest q.greatest))

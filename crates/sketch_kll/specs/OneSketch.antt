@@ -1,0 +1,21 @@
+-- what a call makes of a sketch under one word is one sketch, where items that compare equal are equal
+use Rattle.std.specs.Prelude.{◌≡◌, ℕ, Bool, List}
+use Rattle.std.specs.declared.cmp.Ordering.{Ordering}
+use Rattle.sketch_kll.specs.Merged.{IsMerged}
+use Rattle.sketch_kll.specs.Sketch.{Kll, IsSound, IsUpdated}
+use Rattle.sketch_kll.specs.Weighted.{IsWeighted}
+
+-- an update
+abbrev pub UpdatesMakeOne : {A : Type 0} → (A → A → Ordering) → Type 0
+UpdatesMakeOne {A} cmp = (s : Kll A) (x : A) (word : List Bool) (t u : Kll A) → IsSound cmp t → IsSound cmp u →
+    IsUpdated cmp s x word t → IsUpdated cmp s x word u → t ≡ u
+
+-- an update with a weight
+abbrev pub WeightsMakeOne : {A : Type 0} → (A → A → Ordering) → Type 0
+WeightsMakeOne {A} cmp = (s : Kll A) (x : A) (weight : ℕ) (word : List Bool) (t u : Kll A) → IsSound cmp t → IsSound cmp u →
+    IsWeighted cmp s x weight word t → IsWeighted cmp s x weight word u → t ≡ u
+
+-- a merge
+abbrev pub MergesMakeOne : {A : Type 0} → (A → A → Ordering) → Type 0
+MergesMakeOne {A} cmp = (s other : Kll A) (word : List Bool) (t u : Kll A) → IsSound cmp t → IsSound cmp u →
+    IsMerged cmp s other word t → IsMerged cmp s other word u → t ≡ u
