@@ -56,8 +56,8 @@ pub fn write_out<W: Write>(output: &mut W, waiting: &mut Vec<u8>) -> io::Result<
     output.flush()
 }
 
-// Writes all of some bytes, or on an error a beginning of them.
-fn write_bytes<W: Write>(output: &mut W, bytes: &[u8]) -> io::Result<()>
+/// Writes all of some bytes, or on an error a beginning of them.
+pub fn write_bytes<W: Write>(output: &mut W, bytes: &[u8]) -> io::Result<()>
     ensures { Writes result (W.contents output.old) (W.contents output.new) bytes.now [] }
 {
     let mut written = 0;

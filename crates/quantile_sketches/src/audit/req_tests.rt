@@ -205,6 +205,52 @@ fn ranks_are_unbiased_by_updates(rt: HostRuntime) -> Result<(), Fail> {
 }
 
 #[test]
+fn runs_in_other_slots(rt: HostRuntime) -> Result<(), Fail> {
+    let mut steps = [Step::Merge(255, 101); 16];
+    steps[0] = high(255, 4);
+    steps[1] = Step::Updates(255, 1, 24);
+    steps[2] = Step::Reset(255);
+    steps[3] = Step::Updates(255, 1, 24);
+    steps[4] = high(100, 4);
+    steps[5] = Step::Updates(100, 1, 3);
+    let refused = [54, 55, 56, 57, 58, 59, 60, 61, 62, 63];
+    let ranks = [(255, 3, 4, 24), (100, 2, 2, 3)];
+    assert!(rt;
+        is_so(
+            rt.alloc(),
+            &steps,
+            &given(&[false; 1001], 2, &refused, &ranks)
+        )?
+    );
+    assert!(rt; is_so(rt.alloc(), &[], &given(&[], 0, &[], &[]))?);
+    Ok(())
+}
+
+// 23 items, which are merged sixteen times into a new sketch, and one more each time, which takes a coin.
+fn with_sixteen_coins() -> [Steps; 50] {
+    let mut steps = [Step::Merge(255, 100); 50];
+    steps[0] = high(100, 4);
+    steps[1] = Step::Updates(100, 1, 23);
+    for i in 0..16usize {
+        steps[3 * i + 2] = high(255, 4);
+        steps[3 * i + 4] = Step::Updates(255, 24, 24);
+    }
+    steps
+}
+
+#[test]
+fn audits_sixteen_coins(rt: HostRuntime) -> Result<(), Fail> {
+    assert!(rt;
+        is_so(
+            rt.alloc(),
+            &with_sixteen_coins(),
+            &Trial::HasSixteen(255, 3)
+        )?
+    );
+    Ok(())
+}
+
+#[test]
 fn audits_at_most_sixteen_coins(rt: HostRuntime) -> Result<(), Fail> {
     let steps = [low(0, 4), Step::Updates(0, 1, 2000)];
     assert!(rt; is_so(rt.alloc(), &steps, &Trial::HasTooMany)?);

@@ -13,7 +13,7 @@ pub(super) const WORD: [bool; 8] = [false, true, false, false, true, true, false
 
 pub(super) const CRITERIA: SearchCriteria = SearchCriteria::Inclusive;
 
-#[derive(Clone, Copy, Debug, PartialEq, Eq, Drop)]
+#[derive(Clone, Copy, Debug, Drop)]
 pub(super) enum Call {
     Default,
     New,
@@ -259,7 +259,7 @@ fn make<S: Tried>(alloc: Global, row: Row, subject: &Subject<S>) -> Result<Answe
     match &subject.given {
         Given::Image(image) => Ok(Answer::Sketch(S::load(alloc, image.as_slice())?)),
         Given::Commands(commands) => run(alloc, row.0, commands, subject.points.as_slice()),
-        _ if row.0 == Call::Default => Ok(Answer::Sketch(S::default_of(alloc)?)),
+        _ if matches!(row.0, Call::Default) => Ok(Answer::Sketch(S::default_of(alloc)?)),
         _ => Ok(Answer::Sketch(S::create(alloc, S::config_of(row.1))?)),
     }
 }

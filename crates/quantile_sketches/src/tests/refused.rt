@@ -8,11 +8,13 @@ use super::calls::{
 };
 use super::runs::is_invalid;
 use super::sketches::Tried;
+use crate::lines::serve;
 use sketch_base::common::random::WordBits;
 use sketch_base::error::{Error, ErrorKind};
 use sketch_kll::sketch::KllSketch;
 use sketch_req::sketch::ReqSketch;
 use std::alloc::Global;
+use std::io::{self, Cursor};
 use std::test::Fail;
 
 /// So many bytes and more are asked of the library alone: N more have the Nth request from then on refused, and just so many are
@@ -311,4 +313,49 @@ fn kll_of_text(rt: HostRuntime) -> Result<(), Fail> {
 #[test]
 fn req_of_i64(rt: HostRuntime) -> Result<(), Fail> {
     try_all::<ReqSketch<i64>>(&rt, &REQ_ROWS)
+}
+
+/// Whether lines are served, or want of memory ends it and is said to.
+fn is_served(served: io::Result<()>) -> bool {
+    match served {
+        Ok(()) => true,
+        Err(error) => error.kind() == io::ErrorKind::OutOfMemory,
+    }
+}
+
+/// Serves two lines with the Nth request refused: whether one was, and whether all is as wanted.
+fn serve_nth(alloc: Global, nth: usize) -> (bool, bool) {
+    let mut output = Vec::new(alloc);
+    let is_told = refuse(alloc, nth);
+    let served = serve(
+        alloc,
+        false,
+        0,
+        &mut Cursor::new("new 0 8\nrank 0"),
+        &mut output,
+    );
+    let is_refused = was_refused(alloc);
+    (is_refused, (is_refused || is_told) && is_served(served))
+}
+
+/// Prints under the library how many requests of the two lines were refused.
+fn tell_lines(rt: &(impl Print + AllocGlobal), count: usize) -> Result<(), Fail> {
+    if is_tried(rt.alloc()) {
+        let refused = Some(count);
+        println!(rt; "Serve 0 2 0 {refused:?}")?;
+    }
+    Ok(())
+}
+
+#[test]
+fn lines(rt: HostRuntime) -> Result<(), Fail> {
+    for nth in 1..100usize {
+        let (is_refused, is_well) = serve_nth(rt.alloc(), nth);
+        assert!(rt; is_well, "at request {nth}");
+        if !is_refused {
+            return tell_lines(&rt, nth.wrapping_sub(1));
+        }
+    }
+    assert!(rt; false, "each request was refused");
+    Ok(())
 }

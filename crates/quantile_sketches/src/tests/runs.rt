@@ -28,7 +28,7 @@ impl<C: Copy> Clone for Step<C> {
 impl<C: Copy> Copy for Step<C> {}
 
 /// What must come of some steps.
-#[derive(Clone, Copy)]
+#[derive(Drop)]
 pub(crate) enum Trial<'a> {
     /// A run under a word gives this.
     Gives(RunRow<'a>),
@@ -41,12 +41,14 @@ pub(crate) enum Trial<'a> {
     Audits(AuditRow<'a>),
     /// An audit of the ranks of the numbers below this one is unbiased, over three coins.
     IsUnbiased(u32),
+    /// An audit of a number in a slot takes sixteen coins, and is unbiased over them.
+    HasSixteen(u8, u32),
     /// There are more coins than are audited.
     HasTooMany,
 }
 
 /// The refused commands, the coins, and inclusive ranks: slot, number, its weight and the whole.
-#[derive(Clone, Copy)]
+#[derive(Drop)]
 pub(crate) struct RunRow<'a> {
     pub(crate) word: &'a [bool],
     pub(crate) refused: &'a [usize],
@@ -55,7 +57,7 @@ pub(crate) struct RunRow<'a> {
 }
 
 /// The slot whose sketch of this k took 1, 2 and so on to the last, and weighs each from the first on exactly.
-#[derive(Clone, Copy)]
+#[derive(Drop)]
 pub(crate) struct Tail {
     pub(crate) slot: u8,
     pub(crate) k: u16,
@@ -64,7 +66,7 @@ pub(crate) struct Tail {
 }
 
 /// The inclusive weights of a number in a slot under each word, and its true rank.
-#[derive(Clone, Copy)]
+#[derive(Drop)]
 pub(crate) struct AuditRow<'a> {
     pub(crate) slot: u8,
     pub(crate) number: u32,
@@ -263,13 +265,15 @@ fn audits<S: Tried>(alloc: Global, steps: Steps<'_, S>, row: &AuditRow<'_>) -> R
     )
 }
 
-/// Whether the weights under all words of three coins sum to eight times the true rank.
-fn is_even(audit: &Audit) -> bool {
+/// Whether the weights under all words of so many coins sum to their number times the true rank.
+fn is_even(audit: &Audit, coins: usize, words: u64) -> bool {
     let mut sum = 0u64;
     for weight in audit.weights.iter() {
         sum = sum.wrapping_add(*weight);
     }
-    audit.coins == 3 && sum == audit.true_rank.wrapping_mul(8)
+    audit.coins == coins
+        && audit.weights.len() as u64 == words
+        && sum == audit.true_rank.wrapping_mul(words)
 }
 
 fn is_unbiased<S: Tried>(alloc: Global, steps: Steps<'_, S>, count: u32) -> Result<bool, Error>
@@ -277,7 +281,7 @@ fn is_unbiased<S: Tried>(alloc: Global, steps: Steps<'_, S>, count: u32) -> Resu
 {
     for criteria in [SearchCriteria::Inclusive, SearchCriteria::Exclusive] {
         for number in 0..count {
-            if !is_even(&audit_of::<S>(alloc, steps, 0, number, criteria)?) {
+            if !is_even(&audit_of::<S>(alloc, steps, 0, number, criteria)?, 3, 8) {
                 return Ok(false);
             }
         }
@@ -306,6 +310,11 @@ pub(crate) fn holds<S: Tried>(
         }
         Trial::Audits(row) => audits::<S>(alloc, steps, row)?,
         Trial::IsUnbiased(count) => is_unbiased::<S>(alloc, steps, *count)?,
+        Trial::HasSixteen(slot, number) => is_even(
+            &audit_of::<S>(alloc, steps, *slot, *number, CRITERIA)?,
+            16,
+            65536,
+        ),
         Trial::HasTooMany => is_invalid(audit_of::<S>(alloc, steps, 0, 5, CRITERIA)),
     })
 }
