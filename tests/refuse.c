@@ -3,6 +3,7 @@
 //   REFUSE_MEMORY=N   the Nth request for memory, by malloc or realloc, counted from the start of main, gets none
 //   REFUSE_READ=N     the Nth read, and each later one, fails with EIO
 //   REFUSE_WRITE=N    the Nth write, and each later one, fails with EIO
+//   REFUSE_ERROR=N    reads and writes fail with the error of this number in the place of EIO
 //   REFUSE_MANY=N     reads and writes move at most N bytes at a time
 //   REFUSE_SIGNS=1    the program says itself what is to be refused: where it asks for 2^24 + N bytes, N from 1 to 4095, the
 //                     Nth request from then on gets none; where it asks for 2^24 bytes, that is over, and it gets them
@@ -27,7 +28,7 @@ struct traffic {
 enum { SIGN = 1 << 24, SIGNS = 1 << 12 };
 
 static struct traffic in, out;
-static long memory_at, many, signs, report_to = -1;
+static long memory_at, many, signs, error, report_to = -1;
 static long requests, refused, refused_before;
 static size_t greatest;
 static int is_started;
@@ -43,6 +44,7 @@ __attribute__((constructor)) static void start(void) {
     out.fails_at = number("REFUSE_WRITE", 0);
     many = number("REFUSE_MANY", 0);
     signs = number("REFUSE_SIGNS", 0);
+    error = number("REFUSE_ERROR", EIO);
     report_to = number("REFUSE_REPORT", -1);
     is_started = 1;
 }
@@ -84,7 +86,7 @@ void *realloc(void *old, size_t size) {
 
 static ssize_t moved(long call, struct traffic *way, int file, void *bytes, size_t size) {
     if (way->fails_at && ++way->times >= way->fails_at) {
-        errno = EIO;
+        errno = (int)error;
         return -1;
     }
     ssize_t count = syscall(call, file, bytes, many && size > (size_t)many ? (size_t)many : size);

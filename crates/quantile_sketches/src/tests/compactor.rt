@@ -144,8 +144,24 @@ fn merges_two(alloc: Global) -> Result<bool, Error> {
     Ok(is_same && holds(&level, &[1, 1, 2, 2, 3], true) && has_numbers(&level, (5, 0, 3, 12, 72)))
 }
 
+/// Whether a level of the numbers from 1 to 20 merges those from 1 to 52 in.
+fn merges_many(alloc: Global) -> Result<bool, Error> {
+    let mut level = filled(alloc, 12, HIGH, 20)?;
+    level.merge(&filled(alloc, 4, LOW, 52)?)?;
+    Ok(level.is_sorted() && counts(&level, 20, 40, 38) && counts(&level, 52, 72, 71))
+}
+
+/// Whether a level of weight 8 takes an item.
+fn appends_above(alloc: Global) -> Result<bool, Error> {
+    let mut level: Level = Compactor::new(alloc, 3, 12, LOW);
+    level.append(5)?;
+    Ok(holds(&level, &[5], true) && level.weight() == 8)
+}
+
 #[test]
 fn merges_levels(rt: HostRuntime) -> Result<(), Fail> {
+    assert!(rt; merges_many(rt.alloc())?);
+    assert!(rt; appends_above(rt.alloc())?);
     assert!(rt; is_copied(&merged_in_order(rt.alloc())?)?);
     assert!(rt; merges_two(rt.alloc())?);
     Ok(())
@@ -154,6 +170,12 @@ fn merges_levels(rt: HostRuntime) -> Result<(), Fail> {
 /// A side, the greatest of the numbers from 1 on that a level of k 4 has, a coin, the items that are sent up, and the first and
 /// the last number that is kept.
 type Compaction<'a> = (RankAccuracy, i32, bool, &'a [i32], i32, i32);
+
+/// The odd numbers below 64.
+const ODD: [i32; 32] = [
+    1, 3, 5, 7, 9, 11, 13, 15, 17, 19, 21, 23, 25, 27, 29, 31, 33, 35, 37, 39, 41, 43, 45, 47, 49,
+    51, 53, 55, 57, 59, 61, 63,
+];
 
 /// Whether a compaction does so, and moves the state and draws a coin where anything goes up.
 fn compacts_to(alloc: Global, compaction: Compaction<'_>) -> Result<bool, Error> {
@@ -177,6 +199,7 @@ fn compacts(rt: HostRuntime) -> Result<(), Fail> {
     for (side, count, coin, up, first, last) in [
         (HIGH, 24, false, [1, 3].as_slice(), 5, 24),
         (HIGH, 24, true, [2, 4].as_slice(), 5, 24),
+        (HIGH, 84, false, ODD.as_slice(), 65, 84),
         (LOW, 24, false, [21, 23].as_slice(), 1, 20),
         (LOW, 24, true, [22, 24].as_slice(), 1, 20),
         (HIGH, 23, false, [1].as_slice(), 3, 23),
