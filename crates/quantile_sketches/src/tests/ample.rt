@@ -1,13 +1,14 @@
 //! Large sketches: no call gives up from some size on where memory is ample.
-use super::calls::{CRITERIA, View, are_equal, double, fill, fraction};
+use super::calls::{CRITERIA, View, are_equal, double, fill_with, fraction};
 use super::runs::{Commands, Step, push_step};
 use super::sketches::Tried;
 use crate::audit::Run;
 use crate::text::{image_bytes, image_text};
-use sketch_base::common::Rank;
 use sketch_base::common::random::SplitMix64;
+use sketch_base::common::{Rank, SearchCriteria};
 use sketch_base::error::Error;
 use sketch_kll::sketch::KllSketch;
+use sketch_req::RankAccuracy;
 use sketch_req::sketch::ReqSketch;
 use std::alloc::{AllocError, Global};
 use std::test::Fail;
@@ -59,14 +60,20 @@ fn distributes_alike<S: Tried>(alloc: Global, sketch: &S, view: &View<S>) -> Res
 }
 
 /// Whether a view has the quantiles of its sketch, one for each fraction.
-fn finds_alike<S: Tried>(alloc: Global, sketch: &S, view: &View<S>) -> Result<bool, Error>
+fn finds_alike<S: Tried>(
+    alloc: Global,
+    sketch: &S,
+    view: &View<S>,
+    criteria: SearchCriteria,
+) -> Result<bool, Error>
     requires { S.Asks }
 {
     let fractions = fractions(alloc)?;
     let fractions = fractions.as_slice();
-    let found = sketch.quantiles_of(fractions)?;
+    let found = sketch.quantiles_of(fractions, criteria)?;
     let count = found.as_ref().map_or(0, |found| found.len());
-    Ok(count == fractions.len() && are_equal(Ok(found), S::quantiles_in(view, fractions))?)
+    let others = S::quantiles_in(view, fractions, criteria);
+    Ok(count == fractions.len() && are_equal(Ok(found), others)?)
 }
 
 /// Whether the text of an image reads as the image.
@@ -121,7 +128,11 @@ fn answers_many<S: Tried>(alloc: Global, sketch: &S) -> Result<bool, Error>
     requires { S.Asks }
 {
     let view = S::copy_of(&sketch.view_of()?)?;
-    Ok(distributes_alike(alloc, sketch, &view)? && finds_alike(alloc, sketch, &view)?)
+    Ok(
+        distributes_alike(alloc, sketch, &view)?
+            && finds_alike(alloc, sketch, &view, SearchCriteria::Inclusive)?
+            && finds_alike(alloc, sketch, &view, SearchCriteria::Exclusive)?,
+    )
 }
 
 /// Whether a large sketch answers all that it is asked, also where a copy was merged into it.
@@ -138,10 +149,10 @@ fn answers_all<S: Tried>(alloc: Global, sketch: &mut S) -> Result<bool, Error>
     )
 }
 
-fn holds_many<S: Tried>(alloc: Global, k: u16) -> Result<bool, Error>
+fn holds_many<S: Tried>(alloc: Global, config: S::Config) -> Result<bool, Error>
     requires { S.Asks }
 {
-    let mut sketch: S = fill(alloc, k, MANY, &mut SplitMix64::new(1))?;
+    let mut sketch: S = fill_with(alloc, config, MANY, &mut SplitMix64::new(1))?;
     Ok(S::default_of(alloc).is_ok() && answers_all(alloc, &mut sketch)?)
 }
 
@@ -159,7 +170,13 @@ fn large_kll_of_text_answers(rt: HostRuntime) -> Result<(), Fail> {
 
 #[test]
 fn large_req_answers(rt: HostRuntime) -> Result<(), Fail> {
-    assert!(rt; holds_many::<ReqSketch<i32>>(rt.alloc(), 1024)?);
+    assert!(rt; holds_many::<ReqSketch<i32>>(rt.alloc(), (1024, RankAccuracy::HighRank))?);
+    Ok(())
+}
+
+#[test]
+fn large_req_of_low_ranks_answers(rt: HostRuntime) -> Result<(), Fail> {
+    assert!(rt; holds_many::<ReqSketch<i32>>(rt.alloc(), (1024, RankAccuracy::LowRank))?);
     Ok(())
 }
 

@@ -72,7 +72,22 @@ pub(super) enum Answer<S: Tried> {
     Audit(Audit),
 }
 
-/// A sketch of the items from 1 on.
+/// A sketch of these settings and of the items from 1 on.
+pub(super) fn fill_with<S: Tried, B: RandomBits>(
+    alloc: Global,
+    config: S::Config,
+    count: u32,
+    coins: &mut B,
+) -> Result<S, Error>
+    requires { S.Asks }
+{
+    let mut sketch = S::create(alloc, config)?;
+    for number in 0..count {
+        sketch.update(S::item_of(alloc, number.wrapping_add(1))?, coins)?;
+    }
+    Ok(sketch)
+}
+
 pub(super) fn fill<S: Tried, B: RandomBits>(
     alloc: Global,
     k: u16,
@@ -81,11 +96,7 @@ pub(super) fn fill<S: Tried, B: RandomBits>(
 ) -> Result<S, Error>
     requires { S.Asks }
 {
-    let mut sketch = S::create(alloc, S::config_of(k))?;
-    for number in 0..count {
-        sketch.update(S::item_of(alloc, number.wrapping_add(1))?, coins)?;
-    }
-    Ok(sketch)
+    fill_with(alloc, S::config_of(k), count, coins)
 }
 
 pub(super) fn filled<S: Tried>(alloc: Global, k: u16, count: u32) -> Result<S, Error>
@@ -227,7 +238,7 @@ fn ask<S: Tried>(call: Call, subject: &Subject<S>) -> Result<Answer<S>, Error>
     Ok(match call {
         Call::Clone => Answer::Sketch(sketch.copy()?),
         Call::Quantile => Answer::Item(sketch.quantile_of(fractions[1], CRITERIA)?),
-        Call::Quantiles => Answer::Items(sketch.quantiles_of(&fractions)?),
+        Call::Quantiles => Answer::Items(sketch.quantiles_of(&fractions, CRITERIA)?),
         Call::Cdf => Answer::Ranks(sketch.cdf_of(points.as_slice(), CRITERIA)?),
         Call::Pmf => Answer::Ranks(sketch.pmf_of(points.as_slice(), CRITERIA)?),
         Call::SortedView => Answer::View(sketch.view_of()?),
@@ -337,7 +348,10 @@ fn are_views_alike<S: Tried>(a: &View<S>, b: &View<S>, points: &[S::Item]) -> Re
     Ok(
         a.len() == b.len()
             && are_equal(a.cdf(points, CRITERIA), b.cdf(points, CRITERIA))?
-            && are_equal(S::quantiles_in(a, &asked), S::quantiles_in(b, &asked))?,
+            && are_equal(
+                S::quantiles_in(a, &asked, CRITERIA),
+                S::quantiles_in(b, &asked, CRITERIA),
+            )?,
     )
 }
 

@@ -149,7 +149,7 @@ fn refuses_arguments<S: Tried>(alloc: Global, sketch: &S, equal: &[S::Item]) -> 
 {
     let none = fraction(0, 0);
     is_invalid(sketch.quantile_of(none, CRITERIA))
-        && is_invalid(sketch.quantiles_of(&[none]))
+        && is_invalid(sketch.quantiles_of(&[none], CRITERIA))
         && is_invalid(sketch.cdf_of(equal, CRITERIA))
         && is_invalid(sketch.pmf_of(equal, CRITERIA))
         && is_invalid(S::create(alloc, S::config_of(3)))
@@ -161,7 +161,7 @@ fn answers_none<S: Tried>(sketch: &S, points: &[S::Item]) -> bool
 {
     let fractions = fractions();
     is_none(sketch.quantile_of(fractions[1], CRITERIA))
-        && is_none(sketch.quantiles_of(&fractions))
+        && is_none(sketch.quantiles_of(&fractions, CRITERIA))
         && is_none(sketch.cdf_of(points, CRITERIA))
         && is_none(sketch.pmf_of(points, CRITERIA))
 }
@@ -176,8 +176,8 @@ fn views_none<S: Tried>(view: &View<S>, points: &[S::Item], item: &S::Item) -> b
 {
     let fractions = fractions();
     view.rank(item, CRITERIA).is_none()
-        && is_none(S::quantile_in(view, fractions[1]))
-        && is_none(S::quantiles_in(view, &fractions))
+        && is_none(S::quantile_in(view, fractions[1], CRITERIA))
+        && is_none(S::quantiles_in(view, &fractions, CRITERIA))
         && is_none(view.cdf(points, CRITERIA))
         && is_none(view.pmf(points, CRITERIA))
 }

@@ -1,10 +1,12 @@
 //! REQ sketches: what no line of the program shows of their calls.
-use super::calls::{CRITERIA, filled, fraction, ranks_alike};
+use super::calls::{CRITERIA, WORD, fill_with, filled, fraction, ranks_alike};
 use super::sketches::{Numbered, Tried};
 use sketch_base::codec::{SketchBytes, SketchSlice};
 use sketch_base::common::random::WordBits;
 use sketch_base::common::{Rank, SearchCriteria};
 use sketch_base::error::Error;
+use sketch_kll::sketch::KllSketch;
+use sketch_req::compactor::Compactor;
 use sketch_req::iter::ReqSketchIterator;
 use sketch_req::serialization::{
     check_preamble_ints, check_serial_version, nearest_even_section_size, section_size,
@@ -14,7 +16,8 @@ use sketch_req::sketch::ReqSketch;
 use sketch_req::sorted_view::SortedView;
 use sketch_req::value::ReqValue;
 use sketch_req::{RankAccuracy, serialization as layout};
-use std::alloc::Global;
+use std::alloc::{AllocError, Global};
+use std::fmt::Debug;
 use std::test::Fail;
 
 #[test]
@@ -35,6 +38,40 @@ fn constants(rt: HostRuntime) {
     assert!(rt; layout::FLAG_IS_EMPTY == 4 && layout::FLAG_IS_HIGH_RANK == 8);
     assert!(rt; layout::FLAG_RAW_ITEMS == 16 && layout::FLAG_IS_LEVEL_ZERO_SORTED == 32);
     assert!(rt; RankAccuracy::default() == RankAccuracy::HighRank);
+}
+
+/// Whether a sketch of each legal k is made.
+fn makes_each(alloc: Global, rank_accuracy: RankAccuracy) -> bool {
+    for half in 2..=512u16 {
+        if ReqSketch::<i32>::new(alloc, half.wrapping_mul(2), rank_accuracy).is_err() {
+            return false;
+        }
+    }
+    true
+}
+
+#[test]
+fn every_legal_k_is_taken(rt: HostRuntime) {
+    assert!(rt; makes_each(rt.alloc(), RankAccuracy::HighRank));
+    assert!(rt; makes_each(rt.alloc(), RankAccuracy::LowRank));
+}
+
+/// Whether a value is shown under this name.
+fn is_shown<X: Debug>(alloc: Global, value: &X, name: &str) -> Result<bool, AllocError> {
+    let text = format!(in alloc; "{value:?}")?;
+    Ok(text.as_str().starts_with(name))
+}
+
+#[test]
+fn all_are_shown(rt: HostRuntime) -> Result<(), Fail> {
+    let req: ReqSketch<i32> = filled(rt.alloc(), 8, 60)?;
+    assert!(rt; is_shown(rt.alloc(), &req, "ReqSketch")?);
+    assert!(rt; is_shown(rt.alloc(), &req.sorted_view()?, "SortedView")?);
+    let kll: KllSketch<i64> = filled(rt.alloc(), 8, 60)?;
+    assert!(rt; is_shown(rt.alloc(), &kll, "KllSketch")?);
+    let level: Compactor<i32> = Compactor::new(rt.alloc(), 0, 4, RankAccuracy::LowRank);
+    assert!(rt; is_shown(rt.alloc(), &level, "Compactor")?);
+    Ok(())
 }
 
 /// Whether an image of this version and preamble and so many levels may be read.
@@ -138,8 +175,9 @@ fn is_view_of_nothing(alloc: Global) -> Result<bool, Error> {
     Ok((view.len(), view.total_weight()) == (0, 0) && weight_of(&view, 1, CRITERIA).is_none())
 }
 
-fn is_view_of_a_sketch(alloc: Global) -> Result<bool, Error> {
-    let sketch: ReqSketch<i32> = filled(alloc, 4, 60)?;
+fn is_view_of_a_sketch(alloc: Global, rank_accuracy: RankAccuracy) -> Result<bool, Error> {
+    let config = (4, rank_accuracy);
+    let sketch: ReqSketch<i32> = fill_with(alloc, config, 60, &mut WordBits::new(&WORD))?;
     let view = sketch.sorted_view()?;
     Ok(ranks_alike(alloc, &sketch, &view, 61)?)
 }
@@ -147,7 +185,8 @@ fn is_view_of_a_sketch(alloc: Global) -> Result<bool, Error> {
 #[test]
 fn views_rank(rt: HostRuntime) -> Result<(), Fail> {
     assert!(rt; is_view_of_weights(rt.alloc())? && is_view_of_nothing(rt.alloc())?);
-    assert!(rt; is_view_of_a_sketch(rt.alloc())?);
+    assert!(rt; is_view_of_a_sketch(rt.alloc(), RankAccuracy::HighRank)?);
+    assert!(rt; is_view_of_a_sketch(rt.alloc(), RankAccuracy::LowRank)?);
     Ok(())
 }
 

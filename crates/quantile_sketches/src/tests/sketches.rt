@@ -65,7 +65,11 @@ pub(crate) trait Tried: Family {
     fn view_of(&self) -> Result<SortedView<Self::Item>, Error>
         requires { Self.Asks };
 
-    fn quantiles_of(&self, fractions: &[Rank]) -> Result<Option<Vec<Self::Item>>, Error>
+    fn quantiles_of(
+        &self,
+        fractions: &[Rank],
+        criteria: SearchCriteria,
+    ) -> Result<Option<Vec<Self::Item>>, Error>
         requires { Self.Asks };
 
     // (calls of a view that clone, which no clause of a family's allows for any view)
@@ -75,12 +79,14 @@ pub(crate) trait Tried: Family {
     fn quantile_in(
         view: &SortedView<Self::Item>,
         fraction: Rank,
+        criteria: SearchCriteria,
     ) -> Result<Option<Self::Item>, Error>
         requires { Self.Asks };
 
     fn quantiles_in(
         view: &SortedView<Self::Item>,
         fractions: &[Rank],
+        criteria: SearchCriteria,
     ) -> Result<Option<Vec<Self::Item>>, Error>
         requires { Self.Asks };
 
@@ -131,8 +137,12 @@ impl<T: KllValue + Ord + Numbered> Tried for KllSketch<T> {
         self.sorted_view()
     }
 
-    fn quantiles_of(&self, fractions: &[Rank]) -> Result<Option<Vec<T>>, Error> {
-        self.quantiles(fractions, SearchCriteria::Inclusive)
+    fn quantiles_of(
+        &self,
+        fractions: &[Rank],
+        criteria: SearchCriteria,
+    ) -> Result<Option<Vec<T>>, Error> {
+        self.quantiles(fractions, criteria)
     }
 
     fn copy_of(view: &SortedView<T>) -> Result<SortedView<T>, Error> {
@@ -140,12 +150,20 @@ impl<T: KllValue + Ord + Numbered> Tried for KllSketch<T> {
         Ok(copy)
     }
 
-    fn quantile_in(view: &SortedView<T>, fraction: Rank) -> Result<Option<T>, Error> {
-        view.quantile(fraction, SearchCriteria::Inclusive)
+    fn quantile_in(
+        view: &SortedView<T>,
+        fraction: Rank,
+        criteria: SearchCriteria,
+    ) -> Result<Option<T>, Error> {
+        view.quantile(fraction, criteria)
     }
 
-    fn quantiles_in(view: &SortedView<T>, fractions: &[Rank]) -> Result<Option<Vec<T>>, Error> {
-        view.quantiles(fractions, SearchCriteria::Inclusive)
+    fn quantiles_in(
+        view: &SortedView<T>,
+        fractions: &[Rank],
+        criteria: SearchCriteria,
+    ) -> Result<Option<Vec<T>>, Error> {
+        view.quantiles(fractions, criteria)
     }
 
     fn run_of(
@@ -201,8 +219,12 @@ impl<T: ReqValue + Clone + Ord + Numbered> Tried for ReqSketch<T> {
         self.sorted_view()
     }
 
-    fn quantiles_of(&self, fractions: &[Rank]) -> Result<Option<Vec<T>>, Error> {
-        self.quantiles(fractions, SearchCriteria::Inclusive)
+    fn quantiles_of(
+        &self,
+        fractions: &[Rank],
+        criteria: SearchCriteria,
+    ) -> Result<Option<Vec<T>>, Error> {
+        self.quantiles(fractions, criteria)
     }
 
     fn copy_of(view: &SortedView<T>) -> Result<SortedView<T>, Error> {
@@ -210,12 +232,20 @@ impl<T: ReqValue + Clone + Ord + Numbered> Tried for ReqSketch<T> {
         Ok(copy)
     }
 
-    fn quantile_in(view: &SortedView<T>, fraction: Rank) -> Result<Option<T>, Error> {
-        view.quantile(fraction, SearchCriteria::Inclusive)
+    fn quantile_in(
+        view: &SortedView<T>,
+        fraction: Rank,
+        criteria: SearchCriteria,
+    ) -> Result<Option<T>, Error> {
+        view.quantile(fraction, criteria)
     }
 
-    fn quantiles_in(view: &SortedView<T>, fractions: &[Rank]) -> Result<Option<Vec<T>>, Error> {
-        view.quantiles(fractions, SearchCriteria::Inclusive)
+    fn quantiles_in(
+        view: &SortedView<T>,
+        fractions: &[Rank],
+        criteria: SearchCriteria,
+    ) -> Result<Option<Vec<T>>, Error> {
+        view.quantiles(fractions, criteria)
     }
 
     fn run_of(
