@@ -244,7 +244,7 @@ module _ {A : Type 0} (cmp : A → A → Ordering) (commands : List (ReqCommand 
 
   -- so it is whatever round trips are left out
   pub bag-shed : (fewer : List (Event A)) → Sheds trace fewer → (word : List Bool) → (play cmp fewer word start).slots slot ≡ (play cmp trace word start).slots slot
-  bag-shed fewer shed word = play-shed cmp slot trace fewer shed plain word start
+  bag-shed fewer sheds word = play-shed cmp slot trace fewer sheds plain word start
 
   -- what is said of its bag, summed over all words, is the fresh sketch's sum, once for each word of the other bits
   record IsShare (bits : ℕ) (f : Bag A → ℕ) : Type 0 where
