@@ -4,7 +4,7 @@ use Rattle.std.proofs.lemmas.List.{map-append}
 use Rattle.std.proofs.lemmas.List.Sums.{sum_by-cons}
 use Rattle.std.specs.Option.{option_and_then, option_map}
 use Rattle.sketch_base.specs.Lengths.{acts_on_lengths}
-use Rattle.sketch_base.specs.Trace.{Action, Put, Pull, Join, Compact, Forget, Clear, Fresh, Turned, Event, Snap, At, Work, World, changed, coins, event_draws, joins_actions}
+use Rattle.sketch_base.specs.Trace.{Action, Put, Pull, Join, Compact, Forget, Redraw, Clear, Fresh, Turned, Event, Snap, At, Work, World, changed, coins, event_draws, joins_actions}
 use Rattle.quantile_sketches.specs.declared.audit.commands.Command.{Command}
 use Rattle.quantile_sketches.specs.declared.audit.commands.Command.TheVariants.{New, Update, UpdateWeighted, Merge, Reset, RoundTrip}
 use Rattle.quantile_sketches.specs.RuleLaws.{lengths_by}
@@ -19,6 +19,7 @@ bare_action Pull = Pull
 bare_action (Join h) = Join h
 bare_action (Compact h coin taken) = Compact h coin taken
 bare_action Forget = Forget
+bare_action (Redraw h) = Redraw h
 bare_action Clear = Clear
 
 abbrev pub bare_event : {A : Type 0} → Event A → Event Unit
@@ -37,6 +38,7 @@ module _ {A : Type 0} where
   acts-bare (Join h ∷ rest) work = acts-bare rest _
   acts-bare (Compact h coin taken ∷ rest) work = acts-bare rest _
   acts-bare (Forget ∷ rest) work = acts-bare rest _
+  acts-bare (Redraw h ∷ rest) work = acts-bare rest _
   acts-bare (Clear ∷ rest) work = acts-bare rest _
 
   lengths-bare : (trace : List (Event A)) (world : World (List ℕ)) → lengths_by world (map bare_event trace) ≡ lengths_by world trace
@@ -47,6 +49,7 @@ module _ {A : Type 0} where
   lengths-bare (At s (Join h) ∷ rest) world = lengths-bare rest _
   lengths-bare (At s (Compact h coin taken) ∷ rest) world = lengths-bare rest _
   lengths-bare (At s Forget ∷ rest) world = lengths-bare rest _
+  lengths-bare (At s (Redraw h) ∷ rest) world = lengths-bare rest _
   lengths-bare (At s Clear ∷ rest) world = lengths-bare rest _
 
   draws-bare : (e : Event A) → event_draws (bare_event e) ≡ event_draws e
@@ -57,6 +60,7 @@ module _ {A : Type 0} where
   draws-bare (At s (Compact h Fresh taken)) = refl
   draws-bare (At s (Compact h Turned taken)) = refl
   draws-bare (At s Forget) = refl
+  draws-bare (At s (Redraw h)) = refl
   draws-bare (At s Clear) = refl
 
   coins-bare : (trace : List (Event A)) → coins (map bare_event trace) ≡ coins trace

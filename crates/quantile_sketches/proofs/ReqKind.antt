@@ -5,7 +5,7 @@ use Rattle.std.proofs.lemmas.List.Elements.{length_all_zip}
 use Rattle.std.specs.Cmp.{IsTotalOrder}
 use Rattle.std.specs.declared.cmp.Ordering.TheVariants.{Equal}
 use Rattle.sketch_base.specs.Bag.{Bag, AlikeReq, sort, with_level, empty_bag}
-use Rattle.sketch_base.specs.Trace.{Action, Put, Pull, Join, Compact, Forget, Clear, Fresh, Turned, Work, act, acts, alone, bag_after, next_bit}
+use Rattle.sketch_base.specs.Trace.{Action, Put, Pull, Join, Compact, Forget, Redraw, Clear, Fresh, Turned, Work, act, acts, alone, bag_after, next_bit}
 use Rattle.sketch_base.proofs.Alikes.{acts-req}
 use Rattle.sketch_base.proofs.Fixed.{length-sort}
 use Rattle.sketch_base.proofs.Items.{SameItems-last}
@@ -29,6 +29,7 @@ module _ {A : Type 0} (cmp : A → A → Ordering) where
   own-bag (Put h x ∷ rest) word work o = own-bag rest word (act cmp (Put h x) (next_bit word) work) o.1 ∙ sym (own-bag rest word (act cmp (Put h x) (next_bit word) (alone work.bag)) o.1)
   own-bag (Compact h Fresh part ∷ rest) word work o = own-bag rest (drop 1 word) (act cmp (Compact h Fresh part) (next_bit word) work) o.1 ∙ sym (own-bag rest (drop 1 word) (act cmp (Compact h Fresh part) (next_bit word) (alone work.bag)) o.1)
   own-bag (Compact h Turned part ∷ rest) word work o = own-bag rest word (act cmp (Compact h Turned part) (next_bit word) work) o.1 ∙ sym (own-bag rest word (act cmp (Compact h Turned part) (next_bit word) (alone work.bag)) o.1)
+  own-bag (Redraw h ∷ rest) word work o = own-bag rest (drop 1 word) (act cmp (Redraw h) (next_bit word) work) o.1 ∙ sym (own-bag rest (drop 1 word) (act cmp (Redraw h) (next_bit word) (alone work.bag)) o.1)
   own-bag (Pull ∷ rest) word work o = absurd (false≢true o.0)
   own-bag (Join h ∷ rest) word work o = absurd (false≢true o.0)
   own-bag (Forget ∷ rest) word work o = absurd (false≢true o.0)
@@ -41,6 +42,7 @@ own-compacts (Put h x ∷ rest) c = absurd c
 own-compacts (Pull ∷ rest) c = absurd c
 own-compacts (Join h ∷ rest) c = absurd c
 own-compacts (Forget ∷ rest) c = absurd c
+own-compacts (Redraw h ∷ rest) c = absurd c
 own-compacts (Clear ∷ rest) c = absurd c
 
 module _ {A : Type 0} {cmp : A → A → Ordering} (o : IsTotalOrder cmp) where

@@ -4,7 +4,7 @@ use Rattle.std.proofs.lemmas.Bool.{cases_Bool, false≢true, ltb-false, and_part
 use Rattle.sketch_base.specs.Bag.{Taken, AllButLeftover, Lowest, Greatest}
 use Rattle.sketch_base.specs.Lengths.{acts_on_lengths, lengths_after, Along, TakesFew, LeavesTail}
 use Rattle.sketch_base.specs.Ranks.{true_ranks}
-use Rattle.sketch_base.specs.Trace.{Action, Put, Pull, Join, Compact, Forget, Clear, Event, Snap, At, Work, World, joins_actions}
+use Rattle.sketch_base.specs.Trace.{Action, Put, Pull, Join, Compact, Forget, Redraw, Clear, Event, Snap, At, Work, World, joins_actions}
 use Rattle.sketch_base.proofs.Changes.{changed-there, changed-itself}
 use Rattle.sketch_base.proofs.Lengths.{obeys}
 use Rattle.sketch_req.specs.Schedule.{Layout, counts_of, retained_of, update_actions, update_layouts, joined_layouts, merge_actions, merge_layouts, room_actions}
@@ -139,6 +139,7 @@ module _ {A : Type 0} where
   leaves-less k (At s Pull) world f = tt
   leaves-less k (At s (Join h)) world f = tt
   leaves-less k (At s Forget) world f = tt
+  leaves-less k (At s (Redraw h)) world f = tt
   leaves-less k (At s Clear) world f = tt
   leaves-less k (Snap s t) world f = tt
 
@@ -161,6 +162,7 @@ module _ {A : Type 0} where
   ranks-compacts test s (Pull ∷ more) ranks c = absurd c
   ranks-compacts test s (Join h ∷ more) ranks c = absurd c
   ranks-compacts test s (Forget ∷ more) ranks c = absurd c
+  ranks-compacts test s (Redraw h ∷ more) ranks c = absurd c
   ranks-compacts test s (Clear ∷ more) ranks c = absurd c
 
   ranks-joins : (test : A → Bool) (s more h : ℕ) (actions : List (Action A)) (ranks : ℕ → ℕ) → true_ranks test (events_at s (joins_actions more h ++ actions)) ranks ≡ true_ranks test (events_at s actions) ranks

@@ -6,7 +6,7 @@ use Rattle.std.proofs.lemmas.Nat.{pow-add}
 use Rattle.sketch_base.specs.declared.common.SearchCriteria.{SearchCriteria}
 use Rattle.sketch_base.specs.Bag.{Bag, empty_bag, weighted_rank}
 use Rattle.sketch_base.specs.Query.{counted, true_rank}
-use Rattle.sketch_base.specs.Trace.{Action, Put, Pull, Join, Compact, Clear, Forget, Event, At, World, changed, bag_after, draws_of, coins, play, start}
+use Rattle.sketch_base.specs.Trace.{Action, Put, Pull, Join, Compact, Clear, Forget, Redraw, Event, At, World, changed, bag_after, draws_of, coins, play, start}
 use Rattle.sketch_base.specs.Words.{sum_over_words, distance, square}
 use Rattle.sketch_base.proofs.AllParts.{all-append}
 use Rattle.sketch_base.proofs.Average.{sum_over_words-same}
@@ -52,6 +52,7 @@ module _ {A : Type 0} where
   compacts_plain (Pull ∷ rest) c = absurd c
   compacts_plain (Join h ∷ rest) c = absurd c
   compacts_plain (Forget ∷ rest) c = absurd c
+  compacts_plain (Redraw h ∷ rest) c = absurd c
   compacts_plain (Clear ∷ rest) c = absurd c
 
   plain-update : (k : ℕ) (accuracy : RankAccuracy) (ls : List Layout) (x : A) → ArePlain (update_actions k accuracy ls x)

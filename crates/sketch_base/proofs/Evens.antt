@@ -1,16 +1,17 @@
 -- What a trace gains by one level's compactions it loses over all words, where its turned coins are fair.
-use Rattle.std.proofs.Common.{◌≡◌, ◌≢◌, ℕ, zero, suc, ◌+◌, ◌*◌, ◌≤◌, Bool, true, false, cond, not, ◌||◌, ◌==◌, ◌⊎◌, inl, inr, List, [], ◌∷◌, refl, sym, ap, ◌∙◌, arith, if◌then◌else◌, ⊎_elim, subst, eqb-true, Ordering}
+use Rattle.std.proofs.Common.{◌≡◌, ◌≢◌, ℕ, zero, suc, ◌+◌, ◌*◌, ◌≤◌, ◌<◌, Bool, true, false, cond, not, ◌||◌, ◌==◌, ◌⊎◌, inl, inr, List, [], ◌∷◌, refl, sym, ap, ◌∙◌, arith, if◌then◌else◌, ⊎_elim, subst, eqb-true, Ordering}
 use Rattle.std.proofs.lemmas.List.Sums.{sum_by-cons}
-use Rattle.std.proofs.lemmas.Bool.{and_parts, cases_eq, ne_eqb, or_cases, false≢true}
+use Rattle.std.proofs.lemmas.Bool.{and_parts, cases_eq, or_cases, false≢true}
 use Rattle.sketch_base.specs.Bag.{Bag, Taken}
-use Rattle.sketch_base.specs.Trace.{Put, Pull, Join, Compact, Forget, Clear, Fresh, Turned, Event, Snap, At, World, changed, is_req, event_draws, coins}
+use Rattle.sketch_base.specs.Trace.{Put, Pull, Join, Compact, Forget, Redraw, Clear, Fresh, Turned, Event, Snap, At, World, changed, is_req, event_draws, coins, happens, act}
 use Rattle.sketch_base.specs.Words.{sum_over_words}
+use Rattle.sketch_base.proofs.Average.{sum_over_words-add}
 use Rattle.sketch_base.proofs.Solo.{up, down, both_up}
 use Rattle.sketch_base.proofs.Mirror.{draw_pairs, turn_pairs, turned_up}
 use Rattle.sketch_base.specs.Fair.{reaches, is_fair}
 use Rattle.sketch_base.proofs.Reached.{counts_in, counts-none, counts-both}
 use Rattle.sketch_base.proofs.Gains.{gained, lost}
-use Rattle.sketch_base.proofs.MirroredWorlds.{MirroredWorlds, compacted_at, mirrored-snap, mirrored-put, mirrored-pull, mirrored-join, mirrored-forget, mirrored-clear, mirrored-draw, mirrored-turn}
+use Rattle.sketch_base.proofs.MirroredWorlds.{MirroredWorlds, compacted_at, still_drawn, mirrored-snap, mirrored-put, mirrored-pull, mirrored-join, mirrored-forget, mirrored-redraw, mirrored-clear, mirrored-draw, mirrored-turn}
 
 module _ {A : Type 0} (es : List (Event A)) (slot s : ℕ) where
   -- a number of one slot, as far as it counts in the other in the end; nothing at other levels
@@ -53,6 +54,48 @@ module _ {A : Type 0} (cmp : A → A → Ordering) (f : A → ℕ) where
       gained_over g es n slot a + gained_over g es n slot b + (gained_over g es n slot c + gained_over g es n slot d) ≡
       lost_over g es n slot a + lost_over g es n slot b + (lost_over g es n slot c + lost_over g es n slot d)
 
+  -- so from mirrored worlds that take either bit: unlike bits where level g draws, the same bits else
+  even-bits : (g h : ℕ) (es : List (Event A)) (n slot : ℕ) (drawn : ℕ → ℕ → Bool) (next next' : Bool → World (Bag A)) →
+      ((bit bit' : Bool) → (h < g → bit ≡ bit') → (h ≡ g → bit' ≡ not bit) → MirroredWorlds cmp f g drawn (next bit) (next' bit')) →
+      GoesOn g es n slot drawn → AreEven g es n slot (next false) (next true) (next' false) (next' true)
+  even-bits g h es n slot drawn next next' mirrored rest = ⊎_elim crossed straight (cases_eq h g)
+    where
+      crossed : h ≡ g → AreEven g es n slot (next false) (next true) (next' false) (next' true)
+      crossed e =
+          let pair = λ (bit : Bool). rest (next bit) (next' (not bit)) (mirrored bit (not bit) (λ lt. absurd (omega (arith, e, lt))) (λ _. refl)) in
+          omega (arith, pair false, pair true)
+
+      straight : h ≢ g → AreEven g es n slot (next false) (next true) (next' false) (next' true)
+      straight ne =
+          let pair = λ (bit : Bool). rest (next bit) (next' bit) (mirrored bit bit (λ lt. refl) (λ e. absurd (ne e))) in
+          omega (arith, pair false, pair true)
+
+  -- a kept coin drawn anew, if the rest is even from all worlds that are mirrored after it
+  even-redraw : (g h s : ℕ) (es : List (Event A)) (n slot : ℕ) (drawn : ℕ → ℕ → Bool) (world world' : World (Bag A)) →
+      MirroredWorlds cmp f g drawn world world' → GoesOn g es n slot (changed drawn s (changed (drawn s) h true)) →
+      IsEven g (At s (Redraw h) ∷ es) (suc n) slot world world'
+  even-redraw g h s es n slot drawn world world' m rest =
+      omega (
+        arith,
+        even-bits g h es n slot (changed drawn s (changed (drawn s) h true)) next next' (mirrored-redraw cmp f g drawn world world' m s h) rest,
+        gains (next false) (next true),
+        gains (next' false) (next' true),
+        losses (next false) (next true),
+        losses (next' false) (next' true),
+      )
+    where
+      next : Bool → World (Bag A)
+      next bit = happens (act cmp) (At s (Redraw h)) bit world
+
+      next' : Bool → World (Bag A)
+      next' bit = happens (act cmp) (At s (Redraw h)) bit world'
+
+      gains : (a b : World (Bag A)) → sum_over_words n (λ w. gained cmp f g es slot w a + gained cmp f g es slot w b) ≡ gained_over g es n slot a + gained_over g es n slot b
+      gains a b = sum_over_words-add n (λ w. gained cmp f g es slot w a) (λ w. gained cmp f g es slot w b)
+
+      losses : (a b : World (Bag A)) → sum_over_words n (λ w. lost cmp f g es slot w a + lost cmp f g es slot w b) ≡ lost_over g es n slot a + lost_over g es n slot b
+      losses a b = sum_over_words-add n (λ w. lost cmp f g es slot w a) (λ w. lost cmp f g es slot w b)
+
   -- a draw, if the rest is even from all worlds that are mirrored after it
   even-draw : (g h s : ℕ) (taken : Taken) (es : List (Event A)) (n slot : ℕ) (drawn : ℕ → ℕ → Bool) (world world' : World (Bag A)) →
       is_req taken ≡ true → MirroredWorlds cmp f g drawn world world' → GoesOn g es n slot (changed drawn s (changed (drawn s) h true)) →
@@ -61,7 +104,8 @@ module _ {A : Type 0} (cmp : A → A → Ordering) (f : A → ℕ) where
       draw_pairs cmp f n _ _ _ _ _ _ _ _ _ _ _ _ _ _
       (draw_counts es slot s (h == g) (up cmp f h taken false bag) (up cmp f h taken true bag) (down cmp f h taken bag) (both_up cmp f h taken bag))
       (draw_counts es slot s (h == g) (up cmp f h taken false bag') (up cmp f h taken true bag') (down cmp f h taken bag') (both_up cmp f h taken bag'))
-      (⊎_elim crossed straight (cases_eq h g))
+      (even-bits g h es n slot (changed drawn s row) (λ bit. compacted_at cmp f s h taken bit world) (λ bit. compacted_at cmp f s h taken bit world')
+      (λ bit bit' low here. mirrored-draw cmp f g drawn world world' m s h taken row bit bit' req low (λ e d. here e) (still_drawn (drawn s) g h)) rest)
     where
       bag : Bag A
       bag = world.slots s
@@ -71,25 +115,6 @@ module _ {A : Type 0} (cmp : A → A → Ordering) (f : A → ℕ) where
 
       row : ℕ → Bool
       row = changed (drawn s) h true
-
-      next : Bool → World (Bag A)
-      next bit = compacted_at cmp f s h taken bit world
-
-      next' : Bool → World (Bag A)
-      next' bit = compacted_at cmp f s h taken bit world'
-
-      crossed : h ≡ g → AreEven g es n slot (next false) (next true) (next' false) (next' true)
-      crossed e =
-          let mirrored = λ (bit : Bool). mirrored-draw cmp f g drawn world world' m s h taken row bit (not bit) req (λ lt. absurd (omega (arith, e, lt))) (λ e d. refl) (λ ne d. absurd (ne e)) in
-          let pair = λ (bit : Bool). rest (next bit) (next' (not bit)) (mirrored bit) in
-          omega (arith, pair false, pair true)
-
-      straight : h ≢ g → AreEven g es n slot (next false) (next true) (next' false) (next' true)
-      straight ne =
-          let same = ap (λ (b : Bool). if b then true else drawn s g) (ne_eqb g h (λ e. ne (sym e))) in
-          let mirrored = λ (bit : Bool). mirrored-draw cmp f g drawn world world' m s h taken row bit bit req (λ lt. refl) (λ e. absurd (ne e)) (λ _ d. sym same ∙ d) in
-          let pair = λ (bit : Bool). rest (next bit) (next' bit) (mirrored bit) in
-          omega (arith, pair false, pair true)
 
   -- a turned coin: fair, or of a slot that does not get into the asked one
   even-turn : (g h s : ℕ) (taken : Taken) (es : List (Event A)) (n slot : ℕ) (drawn : ℕ → ℕ → Bool) (world world' : World (Bag A)) →
@@ -136,6 +161,11 @@ module _ {A : Type 0} (cmp : A → A → Ordering) (f : A → ℕ) where
   evens g (At s Pull ∷ es) n slot drawn world world' enough fair m = evens g es n slot drawn _ _ enough fair (mirrored-pull cmp f g drawn world world' m s)
   evens g (At s (Join h) ∷ es) n slot drawn world world' enough fair m = evens g es n slot drawn _ _ enough fair (mirrored-join cmp f g drawn world world' m s h)
   evens g (At s Forget ∷ es) n slot drawn world world' enough fair m = evens g es n slot _ _ _ enough fair (mirrored-forget cmp f g drawn world world' m s)
+  evens g (At s (Redraw h) ∷ es) zero slot drawn world world' enough fair m =
+      absurd (omega (arith, sum_by-cons (λ (e : Event A). cond (event_draws e) 1 0) (At s (Redraw h)) es, enough))
+  evens g (At s (Redraw h) ∷ es) (suc n) slot drawn world world' enough fair m =
+      let less : coins es ≤ n = omega (arith, sum_by-cons (λ (e : Event A). cond (event_draws e) 1 0) (At s (Redraw h)) es, enough) in
+      even-redraw g h s es n slot drawn world world' m (λ next next' m'. evens g es n slot _ next next' less fair m')
   evens g (At s Clear ∷ es) n slot drawn world world' enough fair m = evens g es n slot _ _ _ enough fair (mirrored-clear cmp f g drawn world world' m s)
   evens g (At s (Compact h Fresh taken) ∷ es) zero slot drawn world world' enough fair m =
       absurd (omega (arith, sum_by-cons (λ (e : Event A). cond (event_draws e) 1 0) (At s (Compact h Fresh taken)) es, enough))

@@ -2,12 +2,12 @@
 use Rattle.std.proofs.Common.{◌≡◌, ℕ, drop, suc, ◌+◌, ◌≤◌, ◌<◌, Bool, true, false, ◌==◌, List, [], ◌∷◌, refl, sym, ap, ◌∙◌, arith, if◌then◌else◌, subst, eqb-true, Ordering}
 use Rattle.std.specs.Prelude.{⊤}
 use Rattle.sketch_base.specs.Bag.{Bag, Taken}
-use Rattle.sketch_base.specs.Trace.{Put, Pull, Join, Compact, Forget, Clear, Coin, Event, Snap, At, World, happens, event_draws, next_bit, bit_of, play, act}
+use Rattle.sketch_base.specs.Trace.{Put, Pull, Join, Compact, Forget, Redraw, Clear, Coin, Event, Snap, At, World, happens, event_draws, next_bit, bit_of, play, act}
 use Rattle.sketch_base.specs.Ranks.{true_ranks}
 use Rattle.sketch_base.specs.Lengths.{world_lengths, ObeysScratch, Along, TakesEven}
 use Rattle.sketch_base.proofs.Fixed.{lengths-happens}
 use Rattle.sketch_base.proofs.Acts.{rank}
-use Rattle.sketch_base.proofs.Worlds.{one, held, true_ranks-same, held-ended, held-snap, held-put, held-clear, held-pull, held-join, held-forget}
+use Rattle.sketch_base.proofs.Worlds.{one, held, true_ranks-same, held-ended, held-snap, held-put, held-clear, held-pull, held-join, held-forget, held-redraw}
 use Rattle.sketch_base.proofs.Solo.{sum_below, sum_below-add, sum_below-pick, up, down, compacted, compacted-moves}
 use Rattle.sketch_base.proofs.Reached.{only, counts_in, counts-moved}
 
@@ -19,7 +19,7 @@ module _ {A : Type 0} (cmp : A → A → Ordering) (f : A → ℕ) where
       let e : Event A = At s (Compact h coin taken) in
       (if h == g then counts_in es slot s (up cmp f h taken (bit_of coin h (next_bit word) (world.slots s)) (world.slots s)) else 0) +
       gained g es slot (if event_draws e then drop 1 word else word) (happens (act cmp) e (next_bit word) world)
-  gained g (e ∷ es) slot word world = gained g es slot word (happens (act cmp) e (next_bit word) world)
+  gained g (e ∷ es) slot word world = gained g es slot (if event_draws e then drop 1 word else word) (happens (act cmp) e (next_bit word) world)
 
   -- and what they lose
   abbrev pub lost : ℕ → List (Event A) → ℕ → List Bool → World (Bag A) → ℕ
@@ -28,7 +28,7 @@ module _ {A : Type 0} (cmp : A → A → Ordering) (f : A → ℕ) where
       let e : Event A = At s (Compact h coin taken) in
       (if h == g then counts_in es slot s (down cmp f h taken (world.slots s)) else 0) +
       lost g es slot (if event_draws e then drop 1 word else word) (happens (act cmp) e (next_bit word) world)
-  lost g (e ∷ es) slot word world = lost g es slot word (happens (act cmp) e (next_bit word) world)
+  lost g (e ∷ es) slot word world = lost g es slot (if event_draws e then drop 1 word else word) (happens (act cmp) e (next_bit word) world)
 
 module _ {A : Type 0} where
   -- all levels that are compacted are below top
@@ -50,6 +50,7 @@ module _ {A : Type 0} where
   below-more m n (At s Pull ∷ es) le b = below-more m n es le b
   below-more m n (At s (Join h) ∷ es) le b = below-more m n es le b
   below-more m n (At s Forget ∷ es) le b = below-more m n es le b
+  below-more m n (At s (Redraw h) ∷ es) le b = below-more m n es le b
   below-more m n (At s Clear ∷ es) le b = below-more m n es le b
   below-more m n (Snap s t ∷ es) le b = below-more m n es le b
 
@@ -60,6 +61,7 @@ module _ {A : Type 0} where
   below_top (At s Pull ∷ es) = below_top es
   below_top (At s (Join h) ∷ es) = below_top es
   below_top (At s Forget ∷ es) = below_top es
+  below_top (At s (Redraw h) ∷ es) = below_top es
   below_top (At s Clear ∷ es) = below_top es
   below_top (Snap s t ∷ es) = below_top es
 
@@ -141,6 +143,9 @@ module _ {A : Type 0} (cmp : A → A → Ordering) (test : A → Bool) where
   accounted top (At s Forget ∷ es) slot word world rules below =
       let next = next_bit word in
       from_ranks top es slot word _ _ (accounted top es slot word _ (go_on (At s Forget) es next world rules) below) (held-forget test cmp s next world)
+  accounted top (At s (Redraw h) ∷ es) slot word world rules below =
+      let next = next_bit word in
+      from_ranks top es slot (drop 1 word) _ _ (accounted top es slot (drop 1 word) _ (go_on (At s (Redraw h)) es next world rules) below) (held-redraw test cmp s h next world)
   accounted top (At s Clear ∷ es) slot word world rules below =
       let next = next_bit word in
       from_ranks top es slot word _ _ (accounted top es slot word _ (go_on (At s Clear) es next world rules) below) (held-clear test cmp s next world rules.scratch.0)

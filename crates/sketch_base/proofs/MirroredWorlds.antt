@@ -1,10 +1,14 @@
 -- Two worlds whose slots agree up to a level, with kept bits there that are each other's complement where a coin was drawn: the events that keep them so.
 use Rattle.std.proofs.Common.{◌≡◌, ◌≢◌, ℕ, ◌≤◌, ◌<◌, Bool, true, false, not, ◌==◌, List, [], ◌∷◌, ◌++◌, take, drop, refl, sym, ap, ap₂, ◌∙◌, arith, if◌then◌else◌, ⊎_elim, subst, eqb-true, Ordering}
-use Rattle.std.proofs.lemmas.Bool.{cases_eq, false≢true}
+use Rattle.std.proofs.lemmas.Bool.{cases_eq, ne_eqb, false≢true}
 use Rattle.sketch_base.specs.Bag.{Bag, Taken, empty_bag, level_at, with_level}
-use Rattle.sketch_base.specs.Trace.{Put, Pull, Join, Forget, Clear, Action, Snap, At, World, changed, is_req, happens, act}
+use Rattle.sketch_base.specs.Trace.{Put, Pull, Join, Forget, Redraw, Clear, Action, Snap, At, World, changed, is_req, happens, act}
 use Rattle.sketch_base.proofs.Solo.{compacted}
-use Rattle.sketch_base.proofs.Mirror.{Mirrored, level_at-same, level_at-other, mirror-compact}
+use Rattle.sketch_base.proofs.Mirror.{Mirrored, level_at-same, level_at-other, mirror-kept, mirror-compact}
+
+-- a coin drawn for one level leaves which others have drawn one
+pub still_drawn : (row : ℕ → Bool) (g h : ℕ) → h ≢ g → changed row h true g ≡ true → row g ≡ true
+still_drawn row g h ne d = sym (ap (λ (b : Bool). if b then true else row g) (ne_eqb g h (λ e. ne (sym e)))) ∙ d
 
 module _ {A : Type 0} where
   -- the levels up to g are the same
@@ -101,6 +105,16 @@ module _ {A : Type 0} (cmp : A → A → Ordering) (f : A → ℕ) (g : ℕ) (dr
         (record { levels = (m.slots s).levels; below = λ i lt. refl; turned = λ e. absurd (false≢true e) });
     scratch = m.scratch;
   }
+
+  pub mirrored-redraw : (h : ℕ) (bit bit' : Bool) → (h < g → bit ≡ bit') → (h ≡ g → bit' ≡ not bit) →
+      MirroredWorlds cmp f g (changed drawn s (changed (drawn s) h true)) (happens (act cmp) (At s (Redraw h)) bit world) (happens (act cmp) (At s (Redraw h)) bit' world')
+  mirrored-redraw h bit bit' low here =
+      let row = changed (drawn s) h true in
+      record {
+        slots = one-drawn cmp f g s drawn row world.slots world'.slots (record (world.slots s) { kept = changed (world.slots s).kept h bit }) (record (world'.slots s) { kept = changed (world'.slots s).kept h bit' }) m.slots
+            (mirror-kept cmp f g h (drawn s g) (row g) bit bit' (world.slots s) (world'.slots s) low (λ e d. here e) (still_drawn (drawn s) g h) (m.slots s));
+        scratch = m.scratch;
+      }
 
   pub mirrored-clear : MirroredWorlds cmp f g (changed drawn s (λ h. false)) (happens (act cmp) (At s Clear) false world) (happens (act cmp) (At s Clear) false world')
   mirrored-clear = record {

@@ -1,7 +1,7 @@
 -- What a rank in one slot before some events counts in another slot after them.
 use Rattle.std.proofs.Common.{◌≡◌, ℕ, ◌+◌, ◌^◌, Bool, true, false, not, ◌&&◌, ◌||◌, ◌==◌, List, [], ◌∷◌, refl, sym, ap, ap₂, ◌∙◌, arith, if◌then◌else◌, eqb-true}
 use Rattle.std.proofs.lemmas.Bool.{false≢true, eq-eqb}
-use Rattle.sketch_base.specs.Trace.{Put, Pull, Join, Compact, Forget, Clear, Event, Snap, At, changed}
+use Rattle.sketch_base.specs.Trace.{Put, Pull, Join, Compact, Forget, Redraw, Clear, Event, Snap, At, changed}
 use Rattle.sketch_base.specs.Ranks.{true_ranks}
 use Rattle.sketch_base.specs.Fair.{reaches}
 use Rattle.sketch_base.proofs.Worlds.{true_ranks-related, true_ranks-same}
@@ -56,6 +56,7 @@ module _ {A : Type 0} where
   counts-unreached (At s (Join h) ∷ es) slot ranks none = counts-unreached es slot ranks none
   counts-unreached (At s (Compact h coin taken) ∷ es) slot ranks none = counts-unreached es slot ranks none
   counts-unreached (At s Forget ∷ es) slot ranks none = counts-unreached es slot ranks none
+  counts-unreached (At s (Redraw h) ∷ es) slot ranks none = counts-unreached es slot ranks none
 
   pub counts-none : (es : List (Event A)) (slot s c : ℕ) → reaches es slot s ≡ false → counts_in es slot s c ≡ 0
   counts-none es slot s c misses = counts-unreached es slot (only s c) each

@@ -2,7 +2,7 @@
 use Rattle.std.specs.Prelude.{◌≡◌, ℕ, ◌*◌, ◌^◌, ◌≤◌, ◌==◌, Bool, true, false, not, ◌&&◌, ◌||◌, IsTrue, List, [], ◌∷◌}
 use Rattle.std.specs.declared.cmp.Ordering.{Ordering}
 use Rattle.sketch_base.specs.Bag.{weighted_rank}
-use Rattle.sketch_base.specs.Trace.{Put, Pull, Join, Compact, Forget, Clear, Fresh, Turned, Event, Snap, At, changed, is_req, play, start, coins}
+use Rattle.sketch_base.specs.Trace.{Put, Pull, Join, Compact, Forget, Redraw, Clear, Fresh, Turned, Event, Snap, At, changed, is_req, play, start, coins}
 use Rattle.sketch_base.specs.Lengths.{start_lengths, ObeysScratch, Along, TakesEven}
 use Rattle.sketch_base.specs.Ranks.{rank_of_trace}
 use Rattle.sketch_base.specs.Words.{sum_over_words}
@@ -17,6 +17,7 @@ reaches (At i Pull ∷ es) slot s = reaches es slot s
 reaches (At i (Join h) ∷ es) slot s = reaches es slot s
 reaches (At i (Compact h coin taken) ∷ es) slot s = reaches es slot s
 reaches (At i Forget ∷ es) slot s = reaches es slot s
+reaches (At i (Redraw h) ∷ es) slot s = reaches es slot s
 
 -- whether a REQ trace is fair to the slot: each turned coin of a slot that may get into it complements one that was drawn for that level of that slot, since it was last cleared or made to forget; `drawn` says for which levels one was before the events
 abbrev pub is_fair : {A : Type 0} → List (Event A) → (slot : ℕ) → (drawn : ℕ → ℕ → Bool) → Bool
@@ -26,6 +27,7 @@ is_fair (At s (Put h x) ∷ es) slot drawn = is_fair es slot drawn
 is_fair (At s Pull ∷ es) slot drawn = is_fair es slot drawn
 is_fair (At s (Join h) ∷ es) slot drawn = is_fair es slot drawn
 is_fair (At s Forget ∷ es) slot drawn = is_fair es slot (changed drawn s (λ h. false))
+is_fair (At s (Redraw h) ∷ es) slot drawn = is_fair es slot (changed drawn s (changed (drawn s) h true))
 is_fair (At s Clear ∷ es) slot drawn = is_fair es slot (changed drawn s (λ h. false))
 is_fair (At s (Compact h Fresh taken) ∷ es) slot drawn =
     is_req taken && is_fair es slot (changed drawn s (changed (drawn s) h true))

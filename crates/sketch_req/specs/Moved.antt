@@ -1,7 +1,7 @@
 -- which levels a call's compactions move, and that the others stay as they are, in list order
 use Rattle.std.specs.Prelude.{◌≡◌, ℕ, suc, ◌<◌, ◌≤◌, ◌==◌, ◌||◌, max, Bool, true, false, List, [], ◌∷◌, length, slice_index_or}
 use Rattle.std.specs.declared.cmp.Ordering.{Ordering}
-use Rattle.sketch_base.specs.Trace.{Action, Put, Pull, Join, Compact, Forget, Clear}
+use Rattle.sketch_base.specs.Trace.{Action, Put, Pull, Join, Compact, Forget, Redraw, Clear}
 use Rattle.sketch_req.specs.Level.{Level, fresh, IsMerged}
 use Rattle.sketch_req.specs.declared.RankAccuracy.{RankAccuracy}
 
@@ -12,6 +12,7 @@ moves h (Put i x) = false
 moves h Pull = false
 moves h (Join i) = false
 moves h Forget = false
+moves h (Redraw i) = false
 moves h Clear = false
 
 abbrev pub is_moved : {A : Type 0} → List (Action A) → ℕ → Bool
