@@ -260,7 +260,12 @@ fn reread(alloc: Global, redraws: bool, coins: &mut WordBits) -> Result<ReqSketc
 }
 
 /// The weights of 1 to 5 in such sketches, summed over so many words, and how many coins the last one took.
-fn weights(alloc: Global, is_read: bool, redraws: bool, words: usize) -> Result<(u64, usize), Error> {
+fn weights(
+    alloc: Global,
+    is_read: bool,
+    redraws: bool,
+    words: usize,
+) -> Result<(u64, usize), Error> {
     let all = [[false, false], [true, false], [false, true], [true, true]];
     let (mut sum, mut drawn) = (0u64, 0);
     for word in all.iter().take(words) {
