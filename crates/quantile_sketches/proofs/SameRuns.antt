@@ -156,7 +156,6 @@ module _ {A C Shape S Source : Type 0} (behaviour : Behaviour S A C) (kind : Kin
     settled-trip : IsSettled {Source = Source} (RoundTrips Full) (λ s. kind.HasImage s → ⊥)
     settled-trip = record { one = trip-one; accepts = trip-accepts; refuses = trip-refuses }
 
-
     -- a merge of a sketch with its copy
     copy-one : IsOne (JoinsCopy Full bit next)
     copy-one s t u coins left left' (inl (too, err, same, stays)) h' = absurd (no-err tt InvalidArgument err)
