@@ -65,7 +65,7 @@ module _ {A : Type 0} {cmp : A → A → Ordering} (o : IsTotalOrder cmp) where
   same-bag : (xs ys : List (Level A)) → AreSame xs ys → AlikeReq cmp (bag_of xs) (bag_of ys)
   same-bag xs ys c = record { levels = same-levels xs ys c; kept = same-coins xs ys c }
 
-  copied-levels : (xs ys : List (Level A)) → AllZip (IsLevelCopy cmp) xs ys → AreSame xs ys
+  pub copied-levels : (xs ys : List (Level A)) → AllZip (IsLevelCopy cmp) xs ys → AreSame xs ys
   copied-levels [] [] c = tt
   copied-levels [] (y ∷ ys) c = absurd c
   copied-levels (x ∷ xs) [] c = absurd c

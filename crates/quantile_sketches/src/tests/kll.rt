@@ -51,7 +51,7 @@ fn take_text(alloc: Global, sketch: &mut Texts, text: &str) -> Result<(), Error>
 }
 
 // A sketch of some texts.
-fn texts_of(alloc: Global, k: u16, texts: &[&str]) -> Result<Texts, Error> {
+pub(crate) fn texts_of(alloc: Global, k: u16, texts: &[&str]) -> Result<Texts, Error> {
     let mut sketch = KllSketch::new(alloc, k)?;
     for text in texts {
         take_text(alloc, &mut sketch, text)?;

@@ -18,6 +18,7 @@ use sketch_req::value::ReqValue;
 use sketch_req::{RankAccuracy, serialization as layout};
 use std::alloc::{AllocError, Global};
 use std::fmt::Debug;
+use std::iter::FusedIterator;
 use std::test::Fail;
 
 #[test]
@@ -148,10 +149,16 @@ fn iterates_over(sketch: &ReqSketch<i32>) -> bool {
         && is_at_its_end(&mut pairs)
 }
 
+/// Whether std may take it that nothing comes after the end.
+fn is_fused<I: FusedIterator>(_items: &I) -> bool {
+    true
+}
+
 #[test]
 fn iterates(rt: HostRuntime) -> Result<(), Fail> {
     let sketch: ReqSketch<i32> = filled(rt.alloc(), 4, 24)?;
     assert!(rt; iterates_over(&sketch));
+    assert!(rt; is_fused(&sketch.iter()));
     Ok(())
 }
 

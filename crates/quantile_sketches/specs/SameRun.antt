@@ -1,0 +1,20 @@
+-- The same commands, under the same coins, make the same sketches.
+use Rattle.std.specs.Prelude.{◌≡◌, ◌≢◌, Bool, List, [], ◌∷◌, Err}
+use Rattle.sketch_base.specs.declared.error.ErrorKind.TheVariants.{OutOfMemory}
+use Rattle.quantile_sketches.specs.Behaviour.{Behaviour}
+use Rattle.quantile_sketches.specs.declared.answer.Refusal.TheVariants.{Sketch}
+use Rattle.quantile_sketches.specs.declared.audit.commands.Command.{Command}
+use Rattle.quantile_sketches.specs.Step.{Slots, Verdict, CarriesOutItem}
+
+module _ {S A C Source : Type 0} (kind : Behaviour S A C) (bit : Source → Bool) (next : Source → Source) where
+  -- commands are carried out one after the other, from some sketches and coins on to others; some may be refused, but none for want of memory
+  abbrev pub AreCarriedOut : List (Command A C) → Slots S → Source → Slots S → Source → Type 0
+  AreCarriedOut [] slots coins slots' coins' = (slots' ≡ slots) × (coins' ≡ coins)
+  AreCarriedOut (command ∷ rest) slots coins slots' coins' =
+      (verdict : Verdict) × (verdict ≢ Err (Sketch OutOfMemory)) × (between : Slots S) × (left : Source)
+      × CarriesOutItem kind bit next command slots coins verdict between left × AreCarriedOut rest between left slots' coins'
+
+  -- this makes one sketch in each slot, by the same coins
+  abbrev pub CommandsMakeOne : Type 0
+  CommandsMakeOne = (commands : List (Command A C)) (slots ts us : Slots S) (coins left left' : Source) →
+      AreCarriedOut commands slots coins ts left → AreCarriedOut commands slots coins us left' → (ts ≡ us) × (left ≡ left')
