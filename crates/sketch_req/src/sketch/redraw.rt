@@ -1,0 +1,48 @@
+//! Coins drawn anew, for a sketch that may keep some that were never drawn.
+ghost use Rattle.std.specs.Prelude.{◌≡◌, vec_capacity};
+ghost use Rattle.sketch_base.specs.Random.{bits_from, after_draws};
+ghost use Rattle.sketch_req.specs.Redrawn.{redrawn, redrawn_sketch, coins_of_redraw};
+ghost use Rattle.sketch_req.specs.Schedule.{layouts_of, turning_levels};
+ghost use Rattle.sketch_req.specs.Sketch.{IsSound};
+
+use super::ReqSketch;
+use super::levels::Levels;
+use sketch_base::common::random::RandomBits;
+
+impl<T: Clone + Ord> ReqSketch<T> {
+    /// Draws a coin for each level at an odd state, from level 0 up, and keeps it. Nothing else
+    /// changes, and it takes no memory.
+    ///
+    /// At an odd state a level's next compaction turns the coin that the one before it drew. An image
+    /// holds no coins, so that a sketch that was read from one would turn a coin that was never
+    /// drawn: the compaction always sends up the same half, and ranks are biased. Call this after
+    /// `deserialize`, before the next update. A merge may compact at once, so in its place call
+    /// `merge_redrawn`.
+    pub fn redraw_coins<B: RandomBits>(&mut self, coins: &mut B)
+        ensures value { self.new ≡ redrawn_sketch
+            (bits_from B.bit B.next coins.old (coins_of_redraw self.old)) self.old }
+        ensures coins { coins.new ≡ after_draws B.next coins.old (coins_of_redraw self.old) }
+        ensures sound { IsSound T.cmp self.new }
+    {
+        self.levels.redraw_coins(coins);
+    }
+}
+
+impl<T: Clone + Ord> Levels<T> {
+    // Draws a coin for each level at an odd state, from level 0 up.
+    pub(super) fn redraw_coins<B: RandomBits>(&mut self, coins: &mut B)
+        ensures k { self.new.k ≡ self.old.k }
+        ensures accuracy { self.new.rank_accuracy ≡ self.old.rank_accuracy }
+        ensures levels { self.new.compactors.items ≡ redrawn (bits_from B.bit B.next coins.old
+            (turning_levels (layouts_of self.old.compactors.items))) self.old.compactors.items }
+        ensures coins { coins.new ≡ after_draws B.next coins.old
+            (turning_levels (layouts_of self.old.compactors.items)) }
+        ensures retained { self.new.num_retained ≡ self.old.num_retained }
+        ensures capacity { self.new.capacity ≡ self.old.capacity }
+        ensures room { vec_capacity self.new.compactors ≡ vec_capacity self.old.compactors }
+    {
+        for level in 0..self.compactors.len() {
+            self.compactors[level].redraw_coin(coins);
+        }
+    }
+}
