@@ -1,12 +1,23 @@
 -- Coins of levels that are drawn anew, level by level.
-use Rattle.std.proofs.Common.{◌≡◌, ℕ, suc, ◌+◌, ◌-◌, ◌<◌, ◌≤◌, Bool, true, false, cond, if◌then◌else◌, List, [], ◌∷◌, ◌++◌, length, take, drop, get_or, set, refl, sym, ap, ap₂, ◌∙◌, arith, append_assoc, append-nil}
+use Rattle.std.proofs.Common.{◌≡◌, ℕ, zero, suc, ◌+◌, ◌-◌, ◌<◌, ◌≤◌, Bool, true, false, cond, if◌then◌else◌, List, [], ◌∷◌, ◌++◌, length, map, flat_map, take, drop, get_or, set, refl, sym, ap, ap₂, ◌∙◌, subst, arith, append_assoc, append-nil, Ordering}
+use Rattle.std.specs.Cmp.{IsTotalOrder}
 use Rattle.std.proofs.lemmas.List.{drop-set-lt, drop_all, drop_more, take_all, take_more_set}
 use Rattle.std.proofs.lemmas.List.Sums.{sum_by-cons}
+use Rattle.sketch_base.specs.Bag.{Bag, AlikeReq}
 use Rattle.sketch_base.specs.Random.{bits_from, after_draws}
-use Rattle.sketch_base.specs.Trace.{next_bit}
+use Rattle.sketch_base.specs.Trace.{Action, Redraw, Work, changed, act, acts, alone, bag_after, draws, draws_of, next_bit}
+use Rattle.sketch_base.proofs.Changes.{changed-there, changed-other}
+use Rattle.sketch_req.specs.Actions.{bag_of, coins_of}
 use Rattle.sketch_req.specs.Level.{Level, turns_coin, redrawn_level}
+use Rattle.sketch_req.specs.Merged.{redrawn_if, redraws_of}
+use Rattle.sketch_req.specs.Moved.{is_moved}
 use Rattle.sketch_req.specs.Redrawn.{redrawn}
-use Rattle.sketch_req.specs.Schedule.{Layout, layout_of, layouts_of, turning_levels}
+use Rattle.sketch_req.specs.Schedule.{Layout, layout_of, layouts_of, turning_levels, redraws_from, redraw_actions, retained_of, weight_of}
+use Rattle.sketch_req.specs.Sketch.{items_in}
+use Rattle.sketch_req.specs.Walk.{AreLevels, AreOwn, AreActed}
+use Rattle.sketch_req.specs.declared.RankAccuracy.{RankAccuracy}
+use Rattle.sketch_req.proofs.Bags.{AlikeLevels, levels-refl}
+use Rattle.sketch_req.proofs.Walks.{acted-start}
 
 -- one level more
 pub turning-first : {A : Type 0} (x : Level A) (rest : List (Level A)) → turning_levels (layouts_of (x ∷ rest)) ≡ cond (turns_coin x.state) 1 0 + turning_levels (layouts_of rest)
@@ -79,3 +90,172 @@ module _ {A S : Type 0} (bit : S → Bool) (next : S → S) where
   redrawn-all source i ls h =
       let none : drop i ls ≡ [] = drop_all i ls h in
       (ap₂ (λ (a b : List (Level A)). a ++ redrawn_by source b) (take_all i ls h) none ∙ append-nil ls, ap (source_by source) none)
+
+
+-- ---- what stays
+
+pub layouts-redrawn : {A : Type 0} (word : List Bool) (ls : List (Level A)) → layouts_of (redrawn word ls) ≡ layouts_of ls
+layouts-redrawn word [] = refl
+layouts-redrawn word (x ∷ rest) = ap (λ (l : List Layout). layout_of x ∷ l) (layouts-redrawn (if turns_coin x.state then drop 1 word else word) rest)
+
+pub items-redrawn : {A : Type 0} (word : List Bool) (ls : List (Level A)) → map (λ level. level.items) (redrawn word ls) ≡ map (λ level. level.items) ls
+items-redrawn word [] = refl
+items-redrawn {A} word (x ∷ rest) = ap (λ (l : List (List A)). x.items ∷ l) (items-redrawn (if turns_coin x.state then drop 1 word else word) rest)
+
+pub flat-items : {A : Type 0} (ls : List (Level A)) → items_in ls ≡ flat_map (λ xs. xs) (map (λ level. level.items) ls)
+flat-items [] = refl
+flat-items (x ∷ rest) = ap (λ xs. x.items ++ xs) (flat-items rest)
+
+pub placed-redrawn : {A : Type 0} (cmp : A → A → Ordering) (k : ℕ) (accuracy : RankAccuracy) (h : ℕ) (word : List Bool) (ls : List (Level A)) → AreLevels cmp k accuracy h ls → AreLevels cmp k accuracy h (redrawn word ls)
+placed-redrawn cmp k accuracy h word [] a = tt
+placed-redrawn cmp k accuracy h word (x ∷ rest) a =
+    let s = a.0.sound in (
+      record {
+        sound = record {
+          legal_k = s.legal_k;
+          state_fits = s.state_fits;
+          few_doublings = s.few_doublings;
+          reached = s.reached;
+          size_at_least = s.size_at_least;
+          weight_fits = s.weight_fits;
+          few_items = s.few_items;
+          in_order = s.in_order;
+        };
+        k_is = a.0.k_is;
+        accuracy_is = a.0.accuracy_is;
+        place_is = a.0.place_is;
+        marked = a.0.marked;
+      },
+      placed-redrawn cmp k accuracy (suc h) (if turns_coin x.state then drop 1 word else word) rest a.1,
+    )
+
+-- ---- the actions
+
+pub redraws-draw : (A : Type 0) (h : ℕ) (ls : List Layout) → draws_of (redraws_from {A = A} h ls) ≡ turning_levels ls
+redraws-draw A h [] = refl
+redraws-draw A h (l ∷ ls) = go (turns_coin l.state) refl (redraws-draw A (suc h) ls)
+  where
+    first : turning_levels (l ∷ ls) ≡ cond (turns_coin l.state) 1 0 + turning_levels ls
+    first = sum_by-cons (λ (l : Layout). cond (turns_coin l.state) 1 0) l ls
+
+    all : Bool → List (Action A)
+    all b = (if b then Redraw h ∷ [] else []) ++ redraws_from (suc h) ls
+
+    go : (b : Bool) → turns_coin l.state ≡ b → draws_of (redraws_from {A = A} (suc h) ls) ≡ turning_levels ls → draws_of (all (turns_coin l.state)) ≡ turning_levels (l ∷ ls)
+    go true e r =
+        let n = ap {B = ℕ} (λ (b : Bool). cond b 1 0) e in
+        ap (λ (b : Bool). draws_of (all b)) e ∙ omega (arith, sum_by-cons (λ (a : Action A). cond (draws a) 1 0) (Redraw h) (redraws_from (suc h) ls), r, first, n)
+    go false e r =
+        let n = ap {B = ℕ} (λ (b : Bool). cond b 1 0) e in
+        ap (λ (b : Bool). draws_of (all b)) e ∙ omega (arith, r, first, n)
+
+own-redraws : (A : Type 0) (h : ℕ) (ls : List Layout) → AreOwn {A = A} (redraws_from h ls)
+own-redraws A h [] = tt
+own-redraws A h (l ∷ ls) = go (turns_coin l.state) (own-redraws A (suc h) ls)
+  where
+    go : (b : Bool) → AreOwn {A = A} (redraws_from (suc h) ls) → AreOwn {A = A} ((if b then Redraw h ∷ [] else []) ++ redraws_from (suc h) ls)
+    go true o = (refl, o)
+    go false o = o
+
+-- they move nothing
+pub redraws-move : {A : Type 0} (h : ℕ) (ls : List Layout) (rest : List (Action A)) (i : ℕ) → is_moved (redraws_from h ls ++ rest) i ≡ is_moved rest i
+redraws-move h [] rest i = refl
+redraws-move {A} h (l ∷ ls) rest i = go (turns_coin l.state) (redraws-move (suc h) ls rest i)
+  where
+    go : (b : Bool) → is_moved (redraws_from (suc h) ls ++ rest) i ≡ is_moved rest i → is_moved {A = A} (((if b then Redraw h ∷ [] else []) ++ redraws_from (suc h) ls) ++ rest) i ≡ is_moved rest i
+    go true e = e
+    go false e = e
+
+-- a bag of the same items, whose kept bits from level h up are the coins of some levels
+record IsKept {A : Type 0} (h : ℕ) (ns : List (Level A)) (old new : Bag A) : Type 0 where
+  levels : new.levels ≡ old.levels
+  kept : (i : ℕ) → new.kept (h + i) ≡ coins_of ns i
+  below : (i : ℕ) → i < h → new.kept i ≡ old.kept i
+
+kept-all : {A : Type 0} (h : ℕ) (f : ℕ → Bool) (y : Level A) (rest : List (Level A)) → f h ≡ y.coin → ((i : ℕ) → f (suc h + i) ≡ coins_of rest i) → (i : ℕ) → f (h + i) ≡ coins_of (y ∷ rest) i
+kept-all h f y rest here above zero = let e : h + 0 ≡ h = omega arith in ap f e ∙ here
+kept-all h f y rest here above (suc i) = let e : h + suc i ≡ suc h + i = omega arith in ap f e ∙ above i
+
+redraws-keep : {A : Type 0} (cmp : A → A → Ordering) (h : ℕ) (word : List Bool) (ls : List (Level A)) (work : Work (Bag A)) → ((i : ℕ) → work.bag.kept (h + i) ≡ coins_of ls i) →
+    IsKept h (redrawn word ls) work.bag (acts cmp (redraws_from h (layouts_of ls)) word work).bag
+redraws-keep cmp h word [] work kept = record { levels = refl; kept = kept; below = λ i l. refl }
+redraws-keep {A} cmp h word (x ∷ rest) work kept = go (turns_coin x.state) (λ word work. redraws-keep cmp (suc h) word rest work)
+  where
+    up : (i : ℕ) → suc h + i ≡ h + suc i
+    up i = omega arith
+
+    above : (i : ℕ) → work.bag.kept (suc h + i) ≡ coins_of rest i
+    above i = ap (λ (j : ℕ). work.bag.kept j) (up i) ∙ kept (suc i)
+
+    go : (b : Bool) →
+        ((word : List Bool) (work : Work (Bag A)) → ((i : ℕ) → work.bag.kept (suc h + i) ≡ coins_of rest i) → IsKept (suc h) (redrawn word rest) work.bag (acts cmp (redraws_from (suc h) (layouts_of rest)) word work).bag) →
+        let y : Level A = record x { coin = if b then next_bit word else x.coin } in
+        IsKept h (y ∷ redrawn (if b then drop 1 word else word) rest) work.bag (acts cmp ((if b then Redraw h ∷ [] else []) ++ redraws_from (suc h) (layouts_of rest)) word work).bag
+    go true more =
+        let v : Bool = next_bit word in
+        let f : ℕ → Bool = work.bag.kept in
+        let r = more (drop 1 word) (act cmp (Redraw h) v work) (λ i. changed-other f h v (suc h + i) (λ e. absurd (omega (arith, e))) ∙ above i) in
+        record {
+          levels = r.levels;
+          kept = kept-all h (acts cmp (redraws_from (suc h) (layouts_of rest)) (drop 1 word) (act cmp (Redraw h) v work)).bag.kept (record x { coin = v }) (redrawn (drop 1 word) rest) (r.below h (omega arith) ∙ changed-there f h v) r.kept;
+          below = λ i l. r.below i (omega (arith, l)) ∙ changed-other f h v i (λ e. absurd (omega (arith, e, l)));
+        }
+    go false more =
+        let r = more word work above in
+        let here : h ≡ h + 0 = omega arith in
+        record {
+          levels = r.levels;
+          kept = kept-all h (acts cmp (redraws_from (suc h) (layouts_of rest)) word work).bag.kept x (redrawn word rest) (r.below h (omega arith) ∙ (ap (λ (j : ℕ). work.bag.kept j) here ∙ kept 0)) r.kept;
+          below = λ i l. r.below i (omega (arith, l));
+        }
+
+module _ {A : Type 0} {cmp : A → A → Ordering} (order : IsTotalOrder cmp) where
+  -- the actions make of a bag what is made of the levels
+  pub redraws-are : (word : List Bool) (ls : List (Level A)) → AlikeReq cmp (bag_after cmp (redraw_actions (layouts_of ls)) word (bag_of ls)) (bag_of (redrawn word ls))
+  redraws-are word ls =
+      let r = redraws-keep cmp 0 word ls (alone (bag_of ls)) (λ i. let e : 0 + i ≡ i = omega arith in ap (coins_of ls) e) in
+      let item : Level A → List A = λ level. level.items in
+      let new : Bag A = bag_after cmp (redraw_actions (layouts_of ls)) word (bag_of ls) in
+      record {
+        levels = subst (λ (l : List (List A)). AlikeLevels order new.levels l) (r.levels ∙ sym (items-redrawn word ls)) (levels-refl order new.levels);
+        kept = λ i. let e : i ≡ 0 + i = omega arith in ap new.kept e ∙ r.kept i;
+      }
+
+  pub acted-redrawn : {S : Type 0} (bit : S → Bool) (next : S → S) (source : S) (k : ℕ) (accuracy : RankAccuracy) (ls : List (Level A)) → AreLevels cmp k accuracy 0 ls →
+      AreActed cmp bit next source (source_by bit next source ls) k accuracy (redraw_actions (layouts_of ls)) (layouts_of ls) 0 ls (redrawn_by bit next source ls)
+  acted-redrawn bit next source k accuracy ls a =
+      let n = redraws-draw A 0 (layouts_of ls) in
+      let word = bits_from bit next source (turning_levels (layouts_of ls)) in
+      let same = layouts-redrawn word ls in
+      record {
+        bag = subst (λ (i : ℕ). AlikeReq cmp (bag_after cmp (redraw_actions (layouts_of ls)) (bits_from bit next source i) (bag_of ls)) (bag_of (redrawn word ls))) (sym n) (redraws-are word ls);
+        own = own-redraws A 0 (layouts_of ls);
+        source_is = ap (after_draws next source) (sym n);
+        layouts_are = same;
+        placed = placed-redrawn cmp k accuracy 0 word ls a;
+        weigh = omega (arith, ap weight_of same);
+        fewer = omega (arith, ap retained_of same);
+      }
+
+-- ---- drawn anew or not
+
+pub layouts-ready : {A : Type 0} (redraws : Bool) (word : List Bool) (ls : List (Level A)) → layouts_of (redrawn_if redraws word ls) ≡ layouts_of ls
+layouts-ready true word ls = layouts-redrawn word ls
+layouts-ready false word ls = refl
+
+pub items-ready : {A : Type 0} (redraws : Bool) (word : List Bool) (ls : List (Level A)) → map (λ level. level.items) (redrawn_if redraws word ls) ≡ map (λ level. level.items) ls
+items-ready true word ls = items-redrawn word ls
+items-ready false word ls = refl
+
+pub placed-ready : {A : Type 0} (cmp : A → A → Ordering) (k : ℕ) (accuracy : RankAccuracy) (redraws : Bool) (word : List Bool) (ls : List (Level A)) → AreLevels cmp k accuracy 0 ls → AreLevels cmp k accuracy 0 (redrawn_if redraws word ls)
+placed-ready cmp k accuracy true word ls a = placed-redrawn cmp k accuracy 0 word ls a
+placed-ready cmp k accuracy false word ls a = a
+
+-- the actions of it
+abbrev pub redraws_if : {A : Type 0} → Bool → List Layout → List (Action A)
+redraws_if redraws layouts = if redraws then redraw_actions layouts else []
+
+pub acted-ready : {A S : Type 0} {cmp : A → A → Ordering} (order : IsTotalOrder cmp) (bit : S → Bool) (next : S → S) (source : S) (k : ℕ) (accuracy : RankAccuracy) (redraws : Bool) (ls : List (Level A)) → AreLevels cmp k accuracy 0 ls →
+    AreActed cmp bit next source (after_draws next source (redraws_of redraws ls)) k accuracy (redraws_if redraws (layouts_of ls)) (layouts_of ls) 0 ls (redrawn_if redraws (bits_from bit next source (redraws_of redraws ls)) ls)
+acted-ready order bit next source k accuracy true ls a = acted-redrawn order bit next source k accuracy ls a
+acted-ready order bit next source k accuracy false ls a = (acted-start order bit next source k accuracy ls a).acted

@@ -1,7 +1,7 @@
 -- what a call makes of a sketch under one word is one sketch, where items that compare equal are equal
 use Rattle.std.specs.Prelude.{◌≡◌, Bool, List}
 use Rattle.std.specs.declared.cmp.Ordering.{Ordering}
-use Rattle.sketch_req.specs.Merged.{IsMerged}
+use Rattle.sketch_req.specs.Merged.{IsMergedBy}
 use Rattle.sketch_req.specs.Sketch.{Req, IsSound, IsUpdated}
 
 -- an update
@@ -9,7 +9,7 @@ abbrev pub UpdatesMakeOne : {A : Type 0} → (A → A → Ordering) → Type 0
 UpdatesMakeOne {A} cmp = (s : Req A) (x : A) (word : List Bool) (t u : Req A) → IsSound cmp t → IsSound cmp u →
     IsUpdated cmp s x word t → IsUpdated cmp s x word u → t ≡ u
 
--- a merge
+-- a merge of either kind
 abbrev pub MergesMakeOne : {A : Type 0} → (A → A → Ordering) → Type 0
-MergesMakeOne {A} cmp = (s other : Req A) (word : List Bool) (t u : Req A) → IsSound cmp t → IsSound cmp u →
-    IsMerged cmp s other word t → IsMerged cmp s other word u → t ≡ u
+MergesMakeOne {A} cmp = (redraws : Bool) (s other : Req A) (word : List Bool) (t u : Req A) → IsSound cmp t → IsSound cmp u →
+    IsMergedBy cmp redraws s other word t → IsMergedBy cmp redraws s other word u → t ≡ u

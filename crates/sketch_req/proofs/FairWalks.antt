@@ -1,0 +1,121 @@
+-- What updates, redraws and merges give to fair traces: they turn drawn coins alone, where each level whose next compaction turns its coin has drawn one.
+use Rattle.std.proofs.Common.{◌≡◌, ℕ, zero, suc, ◌+◌, Bool, true, false, not, ◌&&◌, ◌||◌, if◌then◌else◌, List, [], ◌∷◌, ◌++◌, length, refl, sym, ap, ap₂, ◌∙◌, subst, arith, inl, inr}
+use Rattle.std.proofs.lemmas.Bool.{cases_Bool, false≢true}
+use Rattle.std.proofs.lemmas.List.{append-nil}
+use Rattle.sketch_base.specs.Fair.{reaches, is_fair}
+use Rattle.sketch_base.specs.Trace.{Action, Put, Pull, Join, Compact, Forget, Redraw, Clear, Fresh, Turned, Event, joins_actions}
+use Rattle.sketch_req.specs.Level.{turns_coin}
+use Rattle.sketch_req.specs.Schedule.{Layout, layout_at, joined_layouts, redraws_from, redraw_actions, room_actions, update_actions, update_layouts, merge_redrawn_actions, merge_layouts}
+use Rattle.sketch_req.specs.ScheduleLaws.{events_at, AreDrawn}
+use Rattle.sketch_req.specs.Walk.{AreOwn}
+use Rattle.sketch_req.specs.declared.RankAccuracy.{RankAccuracy}
+use Rattle.sketch_req.proofs.Drawn.{Rises, with_drawn, rises-with, drawn-there, HoldsByDrawn, by-room, by-update}
+use Rattle.sketch_req.proofs.Layouts.{empty-layout}
+
+module _ {A : Type 0} (slot : ℕ) where
+  -- the events are fair to the slot, from what was drawn before them
+  abbrev pub IsFair : List (Event A) → (ℕ → ℕ → Bool) → Type 0
+  IsFair es drawn = is_fair es slot drawn ≡ true
+
+  are_fair : (s : ℕ) → HoldsByDrawn s IsFair
+  are_fair s = record {
+    put = λ x es drawn p. p;
+    fresh = λ h taken es drawn r p. ap₂ (λ (a b : Bool). a && b) r p;
+    turned = λ h taken es drawn r d p. ap₂ (λ (a b : Bool). a && b) r (ap₂ (λ (a b : Bool). (a || not (reaches es slot s)) && b) d p);
+  }
+
+  -- what comes after is fair, whatever was drawn since
+  abbrev pub GoesFair : (s : ℕ) (rest : List (Event A)) → List Layout → (ℕ → ℕ → Bool) → Type 0
+  GoesFair s rest after drawn = (more : ℕ → ℕ → Bool) → Rises drawn more → AreDrawn after (more s) → IsFair rest more
+
+  -- an update
+  pub fair-update : (k : ℕ) (accuracy : RankAccuracy) (s : ℕ) (rest : List (Event A)) (ls : List Layout) (x : A) (drawn : ℕ → ℕ → Bool) → AreDrawn ls (drawn s) →
+      GoesFair s rest (update_layouts k ls) drawn → IsFair (events_at s (update_actions k accuracy ls x) ++ rest) drawn
+  fair-update k accuracy s rest ls x drawn a go = by-update IsFair k accuracy s (are_fair s) rest ls x drawn a go
+
+  -- Joins
+  pub fair-joins : (s more h : ℕ) (actions : List (Action A)) (rest : List (Event A)) (drawn : ℕ → ℕ → Bool) →
+      is_fair (events_at s (joins_actions more h ++ actions) ++ rest) slot drawn ≡ is_fair (events_at s actions ++ rest) slot drawn
+  fair-joins s zero h actions rest drawn = refl
+  fair-joins s (suc more) h actions rest drawn = fair-joins s more (suc h) actions rest drawn
+
+  -- after coins were drawn anew each level that turns its coin has drawn one, whatever was drawn before
+  fair-redraws : (s h : ℕ) (ls : List Layout) (actions : List (Action A)) (rest : List (Event A)) (drawn : ℕ → ℕ → Bool) →
+      ((more : ℕ → ℕ → Bool) → Rises drawn more → ((j : ℕ) → turns_coin (layout_at ls j).state ≡ true → more s (h + j) ≡ true) → IsFair (events_at s actions ++ rest) more) →
+      IsFair (events_at s (redraws_from h ls ++ actions) ++ rest) drawn
+  fair-redraws s h [] actions rest drawn go = go drawn (λ t j e. e) (λ j e. absurd (false≢true (ap (λ (l : Layout). turns_coin l.state) (sym (empty-layout j)) ∙ e)))
+  fair-redraws s h (l ∷ ls) actions rest drawn go =
+      let R : Bool → Type 0 = λ (b : Bool). IsFair (events_at s (((if b then Redraw h ∷ [] else []) ++ redraws_from (suc h) ls) ++ actions) ++ rest) drawn in
+      elim (cases_Bool (turns_coin l.state)) [
+        | inl e ↦ subst R (sym e) (fair-redraws s (suc h) ls actions rest (with_drawn drawn s h) (λ more up above. go more (λ t j d. up t j (rises-with drawn s h t j d)) (λ j. there more up above j)))
+        | inr e ↦ subst R (sym e) (fair-redraws s (suc h) ls actions rest drawn (λ more up above. go more up (λ j. other e more above j)))
+      ]
+    where
+      Above : (ℕ → ℕ → Bool) → Type 0
+      Above more = (j : ℕ) → turns_coin (layout_at ls j).state ≡ true → more s (suc h + j) ≡ true
+
+      next : (more : ℕ → ℕ → Bool) (j : ℕ) → more s (suc h + j) ≡ true → more s (h + suc j) ≡ true
+      next more j e = let p : suc h + j ≡ h + suc j = omega arith in subst (λ (i : ℕ). more s i ≡ true) p e
+
+      there : (more : ℕ → ℕ → Bool) → Rises (with_drawn drawn s h) more → Above more → (j : ℕ) → turns_coin (layout_at (l ∷ ls) j).state ≡ true → more s (h + j) ≡ true
+      there more up above zero e = let p : h ≡ h + 0 = omega arith in subst (λ (i : ℕ). more s i ≡ true) p (up s h (drawn-there drawn s h))
+      there more up above (suc j) e = next more j (above j e)
+
+      other : turns_coin l.state ≡ false → (more : ℕ → ℕ → Bool) → Above more → (j : ℕ) → turns_coin (layout_at (l ∷ ls) j).state ≡ true → more s (h + j) ≡ true
+      other f more above zero e = absurd (false≢true (sym f ∙ e))
+      other f more above (suc j) e = next more j (above j e)
+
+  fair-redrawn : (s : ℕ) (ls : List Layout) (actions : List (Action A)) (rest : List (Event A)) (drawn : ℕ → ℕ → Bool) →
+      ((more : ℕ → ℕ → Bool) → Rises drawn more → AreDrawn ls (more s) → IsFair (events_at s actions ++ rest) more) →
+      IsFair (events_at s (redraw_actions ls ++ actions) ++ rest) drawn
+  fair-redrawn s ls actions rest drawn go =
+      fair-redraws s 0 ls actions rest drawn (λ more up a. go more up (λ j e. let p : 0 + j ≡ j = omega arith in subst (λ (i : ℕ). more s i ≡ true) p (a j e)))
+
+  -- a redraw alone
+  pub fair-redraw : (s : ℕ) (rest : List (Event A)) (ls : List Layout) (drawn : ℕ → ℕ → Bool) → GoesFair s rest ls drawn → IsFair (events_at s (redraw_actions ls) ++ rest) drawn
+  fair-redraw s rest ls drawn go =
+      subst (λ (actions : List (Action A)). IsFair (events_at s actions ++ rest) drawn) (append-nil (redraw_actions ls)) (fair-redrawn s ls [] rest drawn go)
+
+  -- a merge that draws coins anew, whatever was drawn before
+  pub fair-merge_redrawn : (k : ℕ) (accuracy : RankAccuracy) (s : ℕ) (rest : List (Event A)) (ls others : List Layout) (drawn : ℕ → ℕ → Bool) →
+      GoesFair s rest (merge_layouts k ls others) drawn → IsFair (events_at s (merge_redrawn_actions k accuracy ls others) ++ rest) drawn
+  fair-merge_redrawn k accuracy s rest ls others drawn go =
+      let joined = joined_layouts k ls others in
+      let room : List (Action A) = room_actions k accuracy joined in
+      fair-joins s (length others) 0 (redraw_actions joined ++ room) rest drawn
+      ∙ fair-redrawn s joined room rest drawn
+      (λ more up a. by-room IsFair k accuracy s (are_fair s) rest joined more a (λ m up' a'. go m (λ t j d. up' t j (up t j d)) a'))
+
+  -- ---- a slot that does not get into the asked one
+
+  reaches-own : (s : ℕ) (actions : List (Action A)) (rest : List (Event A)) → AreOwn actions → reaches (events_at s actions ++ rest) slot s ≡ reaches rest slot s
+  reaches-own s [] rest o = refl
+  reaches-own s (Put h x ∷ more) rest o = reaches-own s more rest o.1
+  reaches-own s (Compact h coin taken ∷ more) rest o = reaches-own s more rest o.1
+  reaches-own s (Redraw h ∷ more) rest o = reaches-own s more rest o.1
+  reaches-own s (Pull ∷ more) rest o = absurd (false≢true o.0)
+  reaches-own s (Join h ∷ more) rest o = absurd (false≢true o.0)
+  reaches-own s (Forget ∷ more) rest o = absurd (false≢true o.0)
+  reaches-own s (Clear ∷ more) rest o = absurd (false≢true o.0)
+
+  -- what is done to it is fair, whatever it turns
+  pub fair-apart : (s : ℕ) (actions : List (Action A)) (rest : List (Event A)) (drawn : ℕ → ℕ → Bool) → AreOwn actions → reaches rest slot s ≡ false →
+      ((more : ℕ → ℕ → Bool) → Rises drawn more → IsFair rest more) → IsFair (events_at s actions ++ rest) drawn
+  fair-apart s [] rest drawn o apart go = go drawn (λ t j e. e)
+  fair-apart s (Put h x ∷ more) rest drawn o apart go = fair-apart s more rest drawn o.1 apart go
+  fair-apart s (Compact h Fresh taken ∷ more) rest drawn o apart go =
+      ap₂ (λ (a b : Bool). a && b) o.0 (fair-apart s more rest (with_drawn drawn s h) o.1 apart (λ m up. go m (λ t j d. up t j (rises-with drawn s h t j d))))
+  fair-apart s (Compact h Turned taken ∷ more) rest drawn o apart go =
+      let misses = reaches-own s more rest o.1 ∙ apart in
+      ap₂ (λ (a b : Bool). a && b) o.0
+      (ap₂ (λ (a b : Bool). (drawn s h || not a) && b) misses (fair-apart s more rest drawn o.1 apart go) ∙ or_true (drawn s h))
+    where
+      or_true : (b : Bool) → ((b || true) && true) ≡ true
+      or_true true = refl
+      or_true false = refl
+  fair-apart s (Redraw h ∷ more) rest drawn o apart go =
+      fair-apart s more rest (with_drawn drawn s h) o.1 apart (λ m up. go m (λ t j d. up t j (rises-with drawn s h t j d)))
+  fair-apart s (Pull ∷ more) rest drawn o apart go = absurd (false≢true o.0)
+  fair-apart s (Join h ∷ more) rest drawn o apart go = absurd (false≢true o.0)
+  fair-apart s (Forget ∷ more) rest drawn o apart go = absurd (false≢true o.0)
+  fair-apart s (Clear ∷ more) rest drawn o apart go = absurd (false≢true o.0)
