@@ -5,12 +5,36 @@ use Rattle.std.proofs.lemmas.List.{append-nil}
 use Rattle.sketch_base.specs.Fair.{reaches, is_fair}
 use Rattle.sketch_base.specs.Trace.{Action, Put, Pull, Join, Compact, Forget, Redraw, Clear, Fresh, Turned, Event, joins_actions}
 use Rattle.sketch_req.specs.Level.{turns_coin}
-use Rattle.sketch_req.specs.Schedule.{Layout, layout_at, joined_layouts, redraws_from, redraw_actions, room_actions, update_actions, update_layouts, merge_redrawn_actions, merge_layouts}
+use Rattle.sketch_req.specs.Schedule.{Layout, layout_at, joined_layouts, redraws_from, redraw_actions, step_actions, step_layouts, steps_actions, are_full, room_actions, put_layouts, update_actions, update_layouts, merge_redrawn_actions, merge_layouts}
 use Rattle.sketch_req.specs.ScheduleLaws.{events_at, AreDrawn}
 use Rattle.sketch_req.specs.Walk.{AreOwn}
 use Rattle.sketch_req.specs.declared.RankAccuracy.{RankAccuracy}
 use Rattle.sketch_req.proofs.Drawn.{Rises, with_drawn, rises-with, drawn-there, HoldsByDrawn, by-room, by-update}
 use Rattle.sketch_req.proofs.Layouts.{empty-layout}
+use Rattle.sketch_req.proofs.Walks.{own-step, own-append}
+
+module _ (A : Type 0) where
+  own-steps : (k : ℕ) (accuracy : RankAccuracy) (more h : ℕ) (ls : List Layout) → AreOwn {A = A} (steps_actions k accuracy more h ls)
+  own-steps k accuracy zero h ls = tt
+  own-steps k accuracy (suc more) h ls = own-append (step_actions k accuracy h ls) (steps_actions k accuracy more (suc h) (step_layouts k h ls)) (own-step A k accuracy h ls) (own-steps k accuracy more (suc h) (step_layouts k h ls))
+
+  pub own-room : (k : ℕ) (accuracy : RankAccuracy) (ls : List Layout) → AreOwn {A = A} (room_actions k accuracy ls)
+  own-room k accuracy ls =
+      elim (are_full k ls) as (λ b. AreOwn {A = A} (if b then steps_actions k accuracy (length ls) 0 ls else [])) [
+        | true ↦ own-steps k accuracy (length ls) 0 ls
+        | false ↦ tt
+      ]
+
+  pub own-update : (k : ℕ) (accuracy : RankAccuracy) (ls : List Layout) (x : A) → AreOwn (update_actions k accuracy ls x)
+  own-update k accuracy ls x = (refl, own-room k accuracy (put_layouts ls))
+
+  pub own-redraws : (h : ℕ) (ls : List Layout) → AreOwn {A = A} (redraws_from h ls)
+  own-redraws h [] = tt
+  own-redraws h (l ∷ ls) = go (turns_coin l.state) (own-redraws (suc h) ls)
+    where
+      go : (b : Bool) → AreOwn {A = A} (redraws_from (suc h) ls) → AreOwn {A = A} ((if b then Redraw h ∷ [] else []) ++ redraws_from (suc h) ls)
+      go true above = (refl, above)
+      go false above = above
 
 module _ {A : Type 0} (slot : ℕ) where
   -- the events are fair to the slot, from what was drawn before them
@@ -86,19 +110,25 @@ module _ {A : Type 0} (slot : ℕ) where
       ∙ fair-redrawn s joined room rest drawn
       (λ more up a. by-room IsFair k accuracy s (are_fair s) rest joined more a (λ m up' a'. go m (λ t j d. up' t j (up t j d)) a'))
 
-  -- ---- a slot that does not get into the asked one
+  -- ---- what gets into the asked slot
 
-  reaches-own : (s : ℕ) (actions : List (Action A)) (rest : List (Event A)) → AreOwn actions → reaches (events_at s actions ++ rest) slot s ≡ reaches rest slot s
-  reaches-own s [] rest o = refl
-  reaches-own s (Put h x ∷ more) rest o = reaches-own s more rest o.1
-  reaches-own s (Compact h coin taken ∷ more) rest o = reaches-own s more rest o.1
-  reaches-own s (Redraw h ∷ more) rest o = reaches-own s more rest o.1
-  reaches-own s (Pull ∷ more) rest o = absurd (false≢true o.0)
-  reaches-own s (Join h ∷ more) rest o = absurd (false≢true o.0)
-  reaches-own s (Forget ∷ more) rest o = absurd (false≢true o.0)
-  reaches-own s (Clear ∷ more) rest o = absurd (false≢true o.0)
+  -- what is done to a slot lets no other slot in
+  pub reaches-own : (s i : ℕ) (actions : List (Action A)) (rest : List (Event A)) → AreOwn actions → reaches (events_at s actions ++ rest) slot i ≡ reaches rest slot i
+  reaches-own s i [] rest o = refl
+  reaches-own s i (Put h x ∷ more) rest o = reaches-own s i more rest o.1
+  reaches-own s i (Compact h coin taken ∷ more) rest o = reaches-own s i more rest o.1
+  reaches-own s i (Redraw h ∷ more) rest o = reaches-own s i more rest o.1
+  reaches-own s i (Pull ∷ more) rest o = absurd (false≢true o.0)
+  reaches-own s i (Join h ∷ more) rest o = absurd (false≢true o.0)
+  reaches-own s i (Forget ∷ more) rest o = absurd (false≢true o.0)
+  reaches-own s i (Clear ∷ more) rest o = absurd (false≢true o.0)
 
-  -- what is done to it is fair, whatever it turns
+  pub reaches-joins : (s i more h : ℕ) (actions : List (Action A)) (rest : List (Event A)) →
+      reaches (events_at s (joins_actions more h ++ actions) ++ rest) slot i ≡ reaches (events_at s actions ++ rest) slot i
+  reaches-joins s i zero h actions rest = refl
+  reaches-joins s i (suc more) h actions rest = reaches-joins s i more (suc h) actions rest
+
+  -- what is done to a slot that does not get into the asked one is fair, whatever it turns
   pub fair-apart : (s : ℕ) (actions : List (Action A)) (rest : List (Event A)) (drawn : ℕ → ℕ → Bool) → AreOwn actions → reaches rest slot s ≡ false →
       ((more : ℕ → ℕ → Bool) → Rises drawn more → IsFair rest more) → IsFair (events_at s actions ++ rest) drawn
   fair-apart s [] rest drawn o apart go = go drawn (λ t j e. e)
@@ -106,7 +136,7 @@ module _ {A : Type 0} (slot : ℕ) where
   fair-apart s (Compact h Fresh taken ∷ more) rest drawn o apart go =
       ap₂ (λ (a b : Bool). a && b) o.0 (fair-apart s more rest (with_drawn drawn s h) o.1 apart (λ m up. go m (λ t j d. up t j (rises-with drawn s h t j d))))
   fair-apart s (Compact h Turned taken ∷ more) rest drawn o apart go =
-      let misses = reaches-own s more rest o.1 ∙ apart in
+      let misses = reaches-own s s more rest o.1 ∙ apart in
       ap₂ (λ (a b : Bool). a && b) o.0
       (ap₂ (λ (a b : Bool). (drawn s h || not a) && b) misses (fair-apart s more rest drawn o.1 apart go) ∙ or_true (drawn s h))
     where

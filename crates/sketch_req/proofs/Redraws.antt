@@ -81,8 +81,8 @@ module _ {A S : Type 0} (bit : S → Bool) (next : S → S) where
       let up : i < i + 1 = omega arith in
       let after : drop (i + 1) (set ls i y) ≡ rest = drop-set-lt (i + 1) ls i y up in (
         ap₂ (λ (a b : List (Level A)). a ++ redrawn_by (source_past source x) b) (take_more_set ls i y h) after
-        ∙ (append_assoc (take i ls) (y ∷ []) (redrawn_by (source_past source x) rest)
-        ∙ (ap (λ l. take i ls ++ l) (sym (redrawn-first source x rest)) ∙ ap (λ (l : List (Level A)). take i ls ++ redrawn_by source l) (sym left))),
+            ∙ (append_assoc (take i ls) (y ∷ []) (redrawn_by (source_past source x) rest)
+            ∙ (ap (λ l. take i ls ++ l) (sym (redrawn-first source x rest)) ∙ ap (λ (l : List (Level A)). take i ls ++ redrawn_by source l) (sym left))),
         ap (source_by (source_past source x)) after ∙ (sym (source-first source x rest) ∙ ap (source_by source) (sym left)),
       )
 
@@ -90,7 +90,6 @@ module _ {A S : Type 0} (bit : S → Bool) (next : S → S) where
   redrawn-all source i ls h =
       let none : drop i ls ≡ [] = drop_all i ls h in
       (ap₂ (λ (a b : List (Level A)). a ++ redrawn_by source b) (take_all i ls h) none ∙ append-nil ls, ap (source_by source) none)
-
 
 -- ---- what stays
 

@@ -221,3 +221,73 @@ fn takes_text_without_a_codec(rt: HostRuntime) -> Result<(), Fail> {
     assert!(rt; takes_texts(rt.alloc())?);
     Ok(())
 }
+
+/// Takes the numbers from one on up to another one in.
+fn take_from(
+    sketch: &mut ReqSketch<i32>,
+    first: i32,
+    last: i32,
+    coins: &mut WordBits,
+) -> Result<(), Error> {
+    for number in first..=last {
+        sketch.update(number, coins)?;
+    }
+    Ok(())
+}
+
+/// A sketch of k 4 of the numbers from 28 to 50 that then took one of those below in, by either merge.
+fn merged(alloc: Global, redraws: bool, coins: &mut WordBits) -> Result<ReqSketch<i32>, Error> {
+    let first: ReqSketch<i32> = fill_with(alloc, (4, RankAccuracy::HighRank), 27, coins)?;
+    let mut sketch = ReqSketch::new(alloc, 4, RankAccuracy::HighRank)?;
+    take_from(&mut sketch, 28, 50, coins)?;
+    if redraws {
+        sketch.merge_redrawn(&first, coins)?;
+    } else {
+        sketch.merge(&first, coins)?;
+    }
+    Ok(sketch)
+}
+
+/// A sketch of k 4 of the numbers from 1 to 24 that was read from its image, and then took those up to 50 in.
+fn reread(alloc: Global, redraws: bool, coins: &mut WordBits) -> Result<ReqSketch<i32>, Error> {
+    let first: ReqSketch<i32> = fill_with(alloc, (4, RankAccuracy::HighRank), 24, coins)?;
+    let mut sketch = ReqSketch::deserialize(alloc, first.serialize()?.as_slice())?;
+    if redraws {
+        sketch.redraw_coins(coins);
+    }
+    take_from(&mut sketch, 25, 50, coins)?;
+    Ok(sketch)
+}
+
+/// The weights of 1 to 5 in such sketches, summed over so many words, and how many coins the last one took.
+fn weights(
+    alloc: Global,
+    is_read: bool,
+    redraws: bool,
+    words: usize,
+) -> Result<(u64, usize), Error> {
+    let all = [[false, false], [true, false], [false, true], [true, true]];
+    let (mut sum, mut drawn) = (0u64, 0);
+    for word in all.iter().take(words) {
+        let mut coins = WordBits::new(word.as_slice());
+        let sketch = if is_read {
+            reread(alloc, redraws, &mut coins)?
+        } else {
+            merged(alloc, redraws, &mut coins)?
+        };
+        let weight = sketch.rank(&5, CRITERIA).map_or(0, |rank| rank.weight);
+        sum = sum.wrapping_add(weight);
+        drawn = coins.drawn();
+    }
+    Ok((sum, drawn))
+}
+
+/// The true weight is 5 in each word: a coin that was never drawn leaves 8 of 10, and drawn anew 20 of 20.
+#[test]
+fn coins_drawn_anew_keep_ranks_unbiased(rt: HostRuntime) -> Result<(), Fail> {
+    assert!(rt; weights(rt.alloc(), false, false, 2)? == (8, 1));
+    assert!(rt; weights(rt.alloc(), false, true, 4)? == (20, 2));
+    assert!(rt; weights(rt.alloc(), true, false, 2)? == (8, 1));
+    assert!(rt; weights(rt.alloc(), true, true, 4)? == (20, 2));
+    Ok(())
+}

@@ -14,11 +14,10 @@ impl<T: Clone + Ord> ReqSketch<T> {
     /// Draws a coin for each level at an odd state, from level 0 up, and keeps it. Nothing else
     /// changes, and it takes no memory.
     ///
-    /// At an odd state a level's next compaction turns the coin that the one before it drew. An image
-    /// holds no coins, so that a sketch that was read from one would turn a coin that was never
-    /// drawn: the compaction always sends up the same half, and ranks are biased. Call this after
-    /// `deserialize`, before the next update. A merge may compact at once, so in its place call
-    /// `merge_redrawn`.
+    /// Call it after `deserialize`, before the next update. At an odd state a level's next compaction
+    /// turns the coin that it keeps, and an image holds no coins: it would turn one that was never
+    /// drawn, always send up the same half, and so bias ranks. After `merge` it may come too late,
+    /// since that may compact at once: call `merge_redrawn` in its place.
     pub fn redraw_coins<B: RandomBits>(&mut self, coins: &mut B)
         ensures value { self.new ≡ redrawn_sketch
             (bits_from B.bit B.next coins.old (coins_of_redraw self.old)) self.old }

@@ -1,0 +1,198 @@
+-- Which slots stay ready and fair along the events of commands. Ready: each level whose next compaction turns its coin has drawn one. Fair: of what is in the slot no coin was turned that complements none.
+use Rattle.std.proofs.Common.{◌≡◌, ◌≢◌, ℕ, Bool, true, false, not, ◌&&◌, ◌||◌, ◌==◌, if◌then◌else◌, List, [], ◌∷◌, ◌++◌, length, refl, sym, ap, ap₂, ◌∙◌, subst, inl, inr, eqb-true}
+use Rattle.std.proofs.lemmas.Bool.{cases_Bool, cases_eq, and_left, and_right, false≢true}
+use Rattle.sketch_base.specs.Fair.{reaches}
+use Rattle.sketch_base.specs.Trace.{Action, Forget, Clear, Event, Snap, At, changed, joins_actions}
+use Rattle.sketch_base.proofs.Changes.{changed-there, changed-other}
+use Rattle.sketch_req.specs.Schedule.{Layout, new_layout, joined_layouts, are_full, redraw_actions, room_actions, walk_actions, update_actions, update_layouts, merge_redrawn_actions, merge_layouts}
+use Rattle.sketch_req.specs.ScheduleLaws.{events_at, merge_events, AreDrawn}
+use Rattle.sketch_req.specs.Walk.{AreOwn}
+use Rattle.sketch_req.specs.declared.RankAccuracy.{RankAccuracy}
+use Rattle.sketch_req.proofs.ByUpdates.{none_drawn}
+use Rattle.sketch_req.proofs.Drawn.{Rises}
+use Rattle.sketch_req.proofs.FairWalks.{IsFair, fair-update, fair-joins, fair-redraw, fair-merge_redrawn, fair-apart, reaches-own, reaches-joins, own-update, own-room, own-redraws}
+use Rattle.sketch_req.proofs.Walks.{own-append}
+
+-- the ready slots have drawn the coins that they turn next
+abbrev pub AreReady : (layouts : ℕ → List Layout) (ready : ℕ → Bool) (drawn : ℕ → ℕ → Bool) → Type 0
+AreReady layouts ready drawn = (j : ℕ) → ready j ≡ true → AreDrawn (layouts j) (drawn j)
+
+-- after one slot's command
+ready-after : (s : ℕ) (layouts layouts' : ℕ → List Layout) (ready ready' : ℕ → Bool) (drawn more : ℕ → ℕ → Bool) → AreReady layouts ready drawn →
+    ((j : ℕ) → j ≢ s → (layouts' j ≡ layouts j) × (ready' j ≡ ready j) × ((h : ℕ) → drawn j h ≡ true → more j h ≡ true)) →
+    (ready' s ≡ true → AreDrawn (layouts' s) (more s)) → AreReady layouts' ready' more
+ready-after s layouts layouts' ready ready' drawn more a others here j r =
+    elim (cases_eq j s) [
+      | inl p ↦ subst (λ (i : ℕ). AreDrawn (layouts' i) (more i)) (sym p) (here (ap ready' (sym p) ∙ r))
+      | inr ne ↦
+          let o = others j ne in
+          let was : AreDrawn (layouts j) (drawn j) = a j (sym o.1 ∙ r) in
+          subst (λ (ls : List Layout). AreDrawn ls (more j)) (sym o.0) (λ h t. o.2 h (was h t))
+    ]
+
+-- a flag that is false where it was
+lowered : (flags : ℕ → Bool) (s : ℕ) (b : Bool) (j : ℕ) → (flags s ≡ false → b ≡ false) → flags j ≡ false → changed flags s b j ≡ false
+lowered flags s b j here e =
+    elim (cases_Bool (j == s)) as (λ _. changed flags s b j ≡ false) [
+      | inl t ↦ ap (λ (c : Bool). if c then b else flags j) t ∙ here (ap flags (sym (eqb-true j s t)) ∙ e)
+      | inr t ↦ ap (λ (c : Bool). if c then b else flags j) t ∙ e
+    ]
+
+module _ {A : Type 0} (slot : ℕ) where
+  -- what comes after is fair to the asked slot, if the ready slots are so; and no slot that is not fair gets into it
+  pub record Stands (layouts : ℕ → List Layout) (ready fair : ℕ → Bool) (rest : List (Event A)) : Type 0 where
+    pub fairs : (drawn : ℕ → ℕ → Bool) → AreReady layouts ready drawn → IsFair slot rest drawn
+    pub apart : (j : ℕ) → fair j ≡ false → reaches rest slot j ≡ false
+
+  -- at the end, if the slot is fair
+  pub stands-end : (layouts : ℕ → List Layout) (ready fair : ℕ → Bool) → fair slot ≡ true → Stands layouts ready fair []
+  stands-end layouts ready fair e = record { fairs = λ drawn a. refl; apart = other }
+    where
+      other : (j : ℕ) → fair j ≡ false → (j == slot) ≡ false
+      other j f = elim (cases_Bool (j == slot)) [
+        | inl t ↦ absurd (false≢true (sym f ∙ (ap fair (eqb-true j slot t) ∙ e)))
+        | inr t ↦ t
+      ]
+
+  -- flags and layouts that are the same
+  pub stands-same : (layouts layouts' : ℕ → List Layout) (ready ready' fair fair' : ℕ → Bool) (rest : List (Event A)) →
+      ((j : ℕ) → layouts j ≡ layouts' j) → ((j : ℕ) → ready j ≡ ready' j) → ((j : ℕ) → fair j ≡ fair' j) → Stands layouts ready fair rest → Stands layouts' ready' fair' rest
+  stands-same layouts layouts' ready ready' fair fair' rest l r f n = record {
+    fairs = λ drawn a. n.fairs drawn (λ j e. subst (λ (ls : List Layout). AreDrawn ls (drawn j)) (sym (l j)) (a j (sym (r j) ∙ e)));
+    apart = λ j e. n.apart j (f j ∙ e);
+  }
+
+  -- a sketch that is made or emptied
+  pub stands-clear : (s : ℕ) (layouts : ℕ → List Layout) (ready fair : ℕ → Bool) (rest : List (Event A)) →
+      Stands (changed layouts s (new_layout ∷ [])) (changed ready s true) (changed fair s true) rest → Stands layouts ready fair (At s Clear ∷ rest)
+  stands-clear s layouts ready fair rest n = record {
+    fairs = λ drawn a. n.fairs (changed drawn s (λ h. false))
+        (ready-after s layouts _ ready _ drawn _ a
+        (λ j e. (changed-other layouts s _ j e, changed-other ready s true j e, λ h d. ap (λ (f : ℕ → Bool). f h) (changed-other drawn s (λ h. false) j e) ∙ d))
+        (λ _. subst (λ (ls : List Layout). AreDrawn ls (changed drawn s (λ h. false) s)) (sym (changed-there layouts s (new_layout ∷ []))) (none_drawn (changed drawn s (λ h. false) s))));
+    apart = other;
+  }
+    where
+      other : (j : ℕ) → fair j ≡ false → (not (j == s) && reaches rest slot j) ≡ false
+      other j f = elim (cases_Bool (j == s)) [
+        | inl t ↦ and_left (not (j == s)) (reaches rest slot j) (ap not t)
+        | inr t ↦ and_right (not (j == s)) (reaches rest slot j) (n.apart j (ap (λ (b : Bool). if b then true else fair j) t ∙ f))
+      ]
+
+  -- a round trip
+  pub stands-forget : (s : ℕ) (layouts : ℕ → List Layout) (ready fair : ℕ → Bool) (rest : List (Event A)) →
+      Stands layouts (changed ready s false) fair rest → Stands layouts ready fair (At s Forget ∷ rest)
+  stands-forget s layouts ready fair rest n = record {
+    fairs = λ drawn a. n.fairs (changed drawn s (λ h. false))
+        (ready-after s layouts layouts ready _ drawn _ a
+        (λ j e. (refl, changed-other ready s false j e, λ h d. ap (λ (f : ℕ → Bool). f h) (changed-other drawn s (λ h. false) j e) ∙ d))
+        (λ r. absurd (false≢true (sym (changed-there ready s false) ∙ r))));
+    apart = n.apart;
+  }
+
+  -- coins drawn anew
+  pub stands-redraw : (s : ℕ) (layouts : ℕ → List Layout) (ready fair : ℕ → Bool) (rest : List (Event A)) →
+      Stands layouts (changed ready s true) fair rest → Stands layouts ready fair (events_at s (redraw_actions (layouts s)) ++ rest)
+  stands-redraw s layouts ready fair rest n = record {
+    fairs = λ drawn a. fair-redraw slot s rest (layouts s) drawn
+        (λ more up d. n.fairs more (ready-after s layouts layouts ready _ drawn more a (λ j e. (refl, changed-other ready s true j e, up j)) (λ _. d)));
+    apart = λ j f. reaches-own slot s j (redraw_actions (layouts s)) rest (own-redraws A 0 (layouts s)) ∙ n.apart j f;
+  }
+
+  -- an update: of a slot that is not ready it may turn a coin that complements none
+  pub stands-update : (k : ℕ) (accuracy : RankAccuracy) (s : ℕ) (x : A) (layouts : ℕ → List Layout) (ready fair : ℕ → Bool) (rest : List (Event A)) →
+      Stands (changed layouts s (update_layouts k (layouts s))) ready (changed fair s (fair s && ready s)) rest →
+      Stands layouts ready fair (events_at s (update_actions k accuracy (layouts s) x) ++ rest)
+  stands-update k accuracy s x layouts ready fair rest n = record { fairs = fairs; apart = apart }
+    where
+      actions : List (Action A)
+      actions = update_actions k accuracy (layouts s) x
+
+      fairs : (drawn : ℕ → ℕ → Bool) → AreReady layouts ready drawn → IsFair slot (events_at s actions ++ rest) drawn
+      fairs drawn a = elim (cases_Bool (ready s)) [
+        | inl e ↦
+            fair-update slot k accuracy s rest (layouts s) x drawn (a s e)
+            (λ more up d. n.fairs more (ready-after s layouts _ ready ready drawn more a (λ j t. (changed-other layouts s _ j t, refl, up j))
+            (λ _. subst (λ (ls : List Layout). AreDrawn ls (more s)) (sym (changed-there layouts s _)) d)))
+        | inr e ↦
+            fair-apart slot s actions rest drawn (own-update A k accuracy (layouts s) x) (n.apart s (changed-there fair s _ ∙ and_right (fair s) (ready s) e))
+            (λ more up. n.fairs more (ready-after s layouts _ ready ready drawn more a (λ j t. (changed-other layouts s _ j t, refl, up j)) (λ r. absurd (false≢true (sym e ∙ r)))))
+      ]
+
+      apart : (j : ℕ) → fair j ≡ false → reaches (events_at s actions ++ rest) slot j ≡ false
+      apart j f =
+          reaches-own slot s j actions rest (own-update A k accuracy (layouts s) x)
+          ∙ n.apart j (lowered fair s (fair s && ready s) j (λ e. and_left (fair s) (ready s) e) f)
+
+  -- a merge: neither the one slot nor the other gets in where it is not fair
+  merged-apart : (source into : ℕ) (fair : ℕ → Bool) (b : Bool) (actions : List (Action A)) (rest : List (Event A)) → AreOwn actions → (more : ℕ) →
+      (fair into ≡ false → b ≡ false) → (fair source ≡ false → b ≡ false) → ((j : ℕ) → changed fair into b j ≡ false → reaches rest slot j ≡ false) →
+      (j : ℕ) → fair j ≡ false → reaches (Snap source into ∷ events_at into (joins_actions more 0 ++ actions) ++ rest) slot j ≡ false
+  merged-apart source into fair b actions rest own more mine its next j f =
+      ap₂ (λ (x y : Bool). x || (j == source && y)) (passed j) (passed into)
+      ∙ (ap (λ (x : Bool). x || (j == source && reaches rest slot into)) (next j (lowered fair into b j mine f)) ∙ other)
+    where
+      passed : (i : ℕ) → reaches (events_at into (joins_actions more 0 ++ actions) ++ rest) slot i ≡ reaches rest slot i
+      passed i = reaches-joins slot into i more 0 actions rest ∙ reaches-own slot into i actions rest own
+
+      other : (j == source && reaches rest slot into) ≡ false
+      other = elim (cases_Bool (j == source)) [
+        | inl t ↦ and_right (j == source) (reaches rest slot into) (next into (changed-there fair into b ∙ its (ap fair (sym (eqb-true j source t)) ∙ f)))
+        | inr t ↦ and_left (j == source) (reaches rest slot into) t
+      ]
+
+  -- a merge that draws coins anew
+  pub stands-merge_redrawn : (k : ℕ) (accuracy : RankAccuracy) (source into : ℕ) (layouts : ℕ → List Layout) (ready fair : ℕ → Bool) (rest : List (Event A)) →
+      Stands (changed layouts into (merge_layouts k (layouts into) (layouts source))) (changed ready into true) (changed fair into (fair into && fair source)) rest →
+      Stands layouts ready fair (Snap source into ∷ events_at into (merge_redrawn_actions k accuracy (layouts into) (layouts source)) ++ rest)
+  stands-merge_redrawn k accuracy source into layouts ready fair rest n = record {
+    fairs = λ drawn a. fair-merge_redrawn slot k accuracy into rest (layouts into) (layouts source) drawn
+        (λ more up d. n.fairs more (ready-after into layouts _ ready _ drawn more a (λ j t. (changed-other layouts into _ j t, changed-other ready into true j t, up j))
+        (λ _. subst (λ (ls : List Layout). AreDrawn ls (more into)) (sym (changed-there layouts into _)) d)));
+    apart = merged-apart source into fair (fair into && fair source) (redraw_actions joined ++ room_actions k accuracy joined) rest
+        (own-append (redraw_actions joined) (room_actions k accuracy joined) (own-redraws A 0 joined) (own-room A k accuracy joined)) (length (layouts source))
+        (λ e. and_left (fair into) (fair source) e) (λ e. and_right (fair into) (fair source) e) n.apart;
+  }
+    where
+      joined : List Layout
+      joined = joined_layouts k (layouts into) (layouts source)
+
+  -- another merge: fair where it does not walk
+  pub stands-merge : (k : ℕ) (accuracy : RankAccuracy) (source into : ℕ) (layouts : ℕ → List Layout) (ready fair : ℕ → Bool) (rest : List (Event A)) →
+      Stands (changed layouts into (merge_layouts k (layouts into) (layouts source))) (changed ready into false)
+      (changed fair into (not (are_full k (joined_layouts k (layouts into) (layouts source))) && (fair into && fair source))) rest →
+      Stands layouts ready fair (merge_events k accuracy source into (layouts into) (layouts source) ++ rest)
+  stands-merge k accuracy source into layouts ready fair rest n = record {
+    fairs = fairs;
+    apart = merged-apart source into fair kept (room_actions k accuracy joined) rest (own-room A k accuracy joined) (length (layouts source))
+        (λ e. and_right walks (fair into && fair source) (and_left (fair into) (fair source) e)) (λ e. and_right walks (fair into && fair source) (and_right (fair into) (fair source) e)) n.apart;
+  }
+    where
+      joined : List Layout
+      joined = joined_layouts k (layouts into) (layouts source)
+
+      walks : Bool
+      walks = not (are_full k joined)
+
+      kept : Bool
+      kept = walks && (fair into && fair source)
+
+      room : List (Action A)
+      room = room_actions k accuracy joined
+
+      goes : (drawn more : ℕ → ℕ → Bool) → AreReady layouts ready drawn → Rises drawn more → IsFair slot rest more
+      goes drawn more a up =
+          n.fairs more (ready-after into layouts _ ready _ drawn more a (λ j t. (changed-other layouts into _ j t, changed-other ready into false j t, up j))
+          (λ r. absurd (false≢true (sym (changed-there ready into false) ∙ r))))
+
+      fairs : (drawn : ℕ → ℕ → Bool) → AreReady layouts ready drawn → IsFair slot (merge_events k accuracy source into (layouts into) (layouts source) ++ rest) drawn
+      fairs drawn a =
+          fair-joins slot into (length (layouts source)) 0 room rest drawn
+          ∙ elim (cases_Bool (are_full k joined)) [
+            | inl e ↦
+                fair-apart slot into room rest drawn (own-room A k accuracy joined) (n.apart into (changed-there fair into kept ∙ and_left walks (fair into && fair source) (ap not e)))
+                (λ more up. goes drawn more a up)
+            | inr e ↦
+                subst (λ (actions : List (Action A)). IsFair slot (events_at into actions ++ rest) drawn) (sym (ap (λ (b : Bool). if b then walk_actions k accuracy joined else []) e))
+                (goes drawn drawn a (λ t j d. d))
+          ]
