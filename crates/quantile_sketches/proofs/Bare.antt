@@ -6,9 +6,9 @@ use Rattle.std.specs.Option.{option_and_then, option_map}
 use Rattle.sketch_base.specs.Lengths.{acts_on_lengths}
 use Rattle.sketch_base.specs.Trace.{Action, Put, Pull, Join, Compact, Forget, Redraw, Clear, Fresh, Turned, Event, Snap, At, Work, World, changed, coins, event_draws, joins_actions}
 use Rattle.quantile_sketches.specs.declared.audit.commands.Command.{Command}
-use Rattle.quantile_sketches.specs.declared.audit.commands.Command.TheVariants.{New, Update, UpdateWeighted, Merge, Reset, RoundTrip}
+use Rattle.quantile_sketches.specs.declared.audit.commands.Command.TheVariants.{New, Update, UpdateWeighted, Merge, Reset, RoundTrip, Redraw, MergeRedrawn}
 use Rattle.quantile_sketches.specs.RuleLaws.{lengths_by}
-use Rattle.quantile_sketches.specs.Plan.{Plan, start_plan, slot_of, actions_on, events_at, count_of, shape_after, is_refused, accepted_events, events_of, plan_after, plan_from, trace_from, plan_of, trace_of}
+use Rattle.quantile_sketches.specs.Plan.{Plan, start_plan, slot_of, actions_on, events_at, count_of, shape_merged, shape_after, is_refused, merge_events, accepted_events, events_of, plan_after, plan_from, trace_from, plan_of, trace_of}
 use Rattle.quantile_sketches.specs.Rules.{Rules}
 use Rattle.quantile_sketches.specs.Run.{bare}
 
@@ -81,20 +81,28 @@ pub record AreBare {A C Shape : Type 0} (rules : Rules A C Shape) (bare_rules : 
   pub emptied : rules.emptied ≡ bare_rules.emptied
   pub updated : rules.updated ≡ bare_rules.updated
   pub updated_weighted : rules.updated_weighted ≡ bare_rules.updated_weighted
+  pub redrawn : rules.redrawn ≡ bare_rules.redrawn
   pub merged : rules.merged ≡ bare_rules.merged
   pub update : (s : Shape) (lengths : List ℕ) (x : A) → map bare_action (rules.update_actions s lengths x) ≡ bare_rules.update_actions s lengths tt
   pub weighted : (s : Shape) (lengths : List ℕ) (x : A) (weight : ℕ) → map bare_action (rules.weighted_actions s lengths x weight) ≡ bare_rules.weighted_actions s lengths tt weight
-  pub merge : (s other : Shape) (work : Work (List ℕ)) → map bare_action (rules.merge_actions s other work) ≡ bare_rules.merge_actions s other work
+  pub redraw : (s : Shape) → map bare_action (rules.redraw_actions s) ≡ bare_rules.redraw_actions s
+  pub merge : (redraws : Bool) (s other : Shape) (work : Work (List ℕ)) → map bare_action (rules.merge_actions redraws s other work) ≡ bare_rules.merge_actions redraws s other work
   pub read_back : map bare_action rules.read_back_actions ≡ bare_rules.read_back_actions
 
 module _ {A C Shape : Type 0} {rules : Rules A C Shape} {bare_rules : Rules Unit C Shape} (are : AreBare rules bare_rules) where
+  merged-bare : (redraws : Bool) (shapes : ℕ → Option Shape) (into source : ℕ) → shape_merged rules redraws shapes into source ≡ shape_merged bare_rules redraws shapes into source
+  merged-bare redraws shapes into source =
+      ap (λ (f : Bool → Shape → Shape → Option Shape). option_and_then (λ s. option_and_then (f redraws s) (shapes source)) (shapes into)) are.merged
+
   shape-bare : (shapes : ℕ → Option Shape) (c : Command A C) → shape_after rules shapes c ≡ shape_after bare_rules shapes (bare c)
   shape-bare shapes (New slot config) = ap (λ (f : C → Option Shape). f config) are.made
   shape-bare shapes (Update slot x) = ap (λ (f : Shape → Option Shape). option_and_then f (shapes slot)) are.updated
   shape-bare shapes (UpdateWeighted slot x weight) = ap (λ (f : Shape → ℕ → Option Shape). option_and_then (λ s. f s weight) (shapes slot)) are.updated_weighted
-  shape-bare shapes (Merge into source) = ap (λ (f : Shape → Shape → Option Shape). option_and_then (λ s. option_and_then (f s) (shapes source)) (shapes into)) are.merged
+  shape-bare shapes (Merge into source) = merged-bare false shapes into source
   shape-bare shapes (Reset slot) = ap (λ (f : Shape → Shape). option_map f (shapes slot)) are.emptied
   shape-bare shapes (RoundTrip slot) = refl
+  shape-bare shapes (Redraw slot) = ap (λ (f : Shape → Option Shape). option_and_then f (shapes slot)) are.redrawn
+  shape-bare shapes (MergeRedrawn into source) = merged-bare true shapes into source
 
   slot-bare : (c : Command A C) → slot_of c ≡ slot_of (bare c)
   slot-bare (New slot config) = refl
@@ -103,6 +111,8 @@ module _ {A C Shape : Type 0} {rules : Rules A C Shape} {bare_rules : Rules Unit
   slot-bare (Merge into source) = refl
   slot-bare (Reset slot) = refl
   slot-bare (RoundTrip slot) = refl
+  slot-bare (Redraw slot) = refl
+  slot-bare (MergeRedrawn into source) = refl
 
   refused-bare : (shapes : ℕ → Option Shape) (c : Command A C) → is_refused rules shapes c ≡ is_refused bare_rules shapes (bare c)
   refused-bare shapes c = ap (λ (o : Option Shape). not (is_some o)) (shape-bare shapes c)
@@ -111,13 +121,8 @@ module _ {A C Shape : Type 0} {rules : Rules A C Shape} {bare_rules : Rules Unit
   actions-on None f g h = refl
   actions-on (Some s) f g h = h s
 
-  accepted-bare : (plan : Plan Shape) (c : Command A C) → map bare_event (accepted_events rules plan c) ≡ accepted_events bare_rules plan (bare c)
-  accepted-bare plan (New slot config) = refl
-  accepted-bare plan (Update slot x) =
-      events-at slot _ ∙ ap (events_at slot) (actions-on (plan.shapes slot) _ _ (λ s. are.update s (plan.lengths.slots slot) x))
-  accepted-bare plan (UpdateWeighted slot x weight) =
-      events-at slot _ ∙ ap (events_at slot) (actions-on (plan.shapes slot) _ _ (λ s. are.weighted s (plan.lengths.slots slot) x weight))
-  accepted-bare plan (Merge into source) =
+  merge-bare : (redraws : Bool) (plan : Plan Shape) (into source : ℕ) → map bare_event (merge_events rules redraws plan into source) ≡ merge_events bare_rules redraws plan into source
+  merge-bare redraws plan into source =
       go (count_of rules (plan.shapes source) == 0) (count_of bare_rules (plan.shapes source) == 0) (ap (λ (n : ℕ). n == 0) (count (plan.shapes source)))
     where
       count : (o : Option Shape) → count_of rules o ≡ count_of bare_rules o
@@ -128,13 +133,13 @@ module _ {A C Shape : Type 0} {rules : Rules A C Shape} {bare_rules : Rules Unit
       work = record { bag = plan.lengths.slots into; scratch = plan.lengths.slots source }
 
       actions : List (Action A)
-      actions = actions_on (plan.shapes into) (λ shape. actions_on (plan.shapes source) (λ other. rules.merge_actions shape other work))
+      actions = actions_on (plan.shapes into) (λ shape. actions_on (plan.shapes source) (λ other. rules.merge_actions redraws shape other work))
 
       actions' : List (Action Unit)
-      actions' = actions_on (plan.shapes into) (λ shape. actions_on (plan.shapes source) (λ other. bare_rules.merge_actions shape other work))
+      actions' = actions_on (plan.shapes into) (λ shape. actions_on (plan.shapes source) (λ other. bare_rules.merge_actions redraws shape other work))
 
       same : map bare_action actions ≡ actions'
-      same = actions-on (plan.shapes into) _ _ (λ s. actions-on (plan.shapes source) _ _ (λ other. are.merge s other work))
+      same = actions-on (plan.shapes into) _ _ (λ s. actions-on (plan.shapes source) _ _ (λ other. are.merge redraws s other work))
 
       joined : map bare_event (events_at into actions) ≡ events_at into actions'
       joined = events-at into actions ∙ ap (events_at into) same
@@ -144,8 +149,18 @@ module _ {A C Shape : Type 0} {rules : Rules A C Shape} {bare_rules : Rules Unit
       go false b' e =
           ap (λ (l : List (Event Unit)). Snap source into ∷ l) joined
           ∙ ap (λ (b : Bool). if b then [] else Snap source into ∷ events_at into actions') e
+
+  accepted-bare : (plan : Plan Shape) (c : Command A C) → map bare_event (accepted_events rules plan c) ≡ accepted_events bare_rules plan (bare c)
+  accepted-bare plan (New slot config) = refl
+  accepted-bare plan (Update slot x) =
+      events-at slot _ ∙ ap (events_at slot) (actions-on (plan.shapes slot) _ _ (λ s. are.update s (plan.lengths.slots slot) x))
+  accepted-bare plan (UpdateWeighted slot x weight) =
+      events-at slot _ ∙ ap (events_at slot) (actions-on (plan.shapes slot) _ _ (λ s. are.weighted s (plan.lengths.slots slot) x weight))
+  accepted-bare plan (Merge into source) = merge-bare false plan into source
   accepted-bare plan (Reset slot) = refl
   accepted-bare plan (RoundTrip slot) = events-at slot rules.read_back_actions ∙ ap (events_at slot) are.read_back
+  accepted-bare plan (Redraw slot) = events-at slot _ ∙ ap (events_at slot) (actions-on (plan.shapes slot) _ _ are.redraw)
+  accepted-bare plan (MergeRedrawn into source) = merge-bare true plan into source
 
   events-bare : (plan : Plan Shape) (c : Command A C) → map bare_event (events_of rules plan c) ≡ events_of bare_rules plan (bare c)
   events-bare plan c =

@@ -17,11 +17,13 @@ use Rattle.quantile_sketches.specs.Behaviour.{Behaviour, Change}
 use Rattle.quantile_sketches.specs.Calls.{Obeys, in_full}
 use Rattle.quantile_sketches.specs.declared.answer.Refusal.TheVariants.{BadLine, AbsentSlot, Sketch}
 use Rattle.quantile_sketches.specs.declared.audit.commands.Command.{Command}
-use Rattle.quantile_sketches.specs.declared.audit.commands.Command.TheVariants.{New, Update, UpdateWeighted, Merge, Reset, RoundTrip}
+use Rattle.quantile_sketches.specs.declared.audit.commands.Command.TheVariants.{New, Update, UpdateWeighted, Merge, Reset, RoundTrip, Redraw, MergeRedrawn}
+use Rattle.quantile_sketches.specs.Outcome.{shapes_in}
+use Rattle.quantile_sketches.specs.Plan.{shape_merged}
 use Rattle.quantile_sketches.specs.RuleLaws.{IsLawful}
 use Rattle.quantile_sketches.specs.Rules.{Kind}
 use Rattle.quantile_sketches.specs.Step.{Slots, in_slot, Holds, Verdict, Turns, Changes, Cloned, Empties, RoundTrips, JoinsCopy, Merges, CarriesOut, CarriesOutItem, CarriesOutClone}
-use Rattle.quantile_sketches.specs.Steps.{Held, Puts, AreSame, Refuses, IsCopied, IsUpdated, IsWeighted, IsMerged, IsMergedIn, IsDecided, IsDone, IsExecuted}
+use Rattle.quantile_sketches.specs.Steps.{Held, Puts, AreSame, Refuses, IsCopied, IsUpdated, IsWeighted, IsRedrawn, IsMerged, IsMergedIn, IsDecided, IsDone, IsExecuted}
 
 -- ---- slots
 
@@ -280,67 +282,76 @@ module _ {A C Shape S Source : Type 0} {kind : Kind A C Shape S} (lawful : IsLaw
         refused s t e held (inr (f, written, is, same), stays) =
             (unwritten s e held (subst (λ e. ((e ≡ InvalidArgument) × (¬ kind.HasImage s)) ⊎ (e ≡ OutOfMemory)) (same-err e f _ refl is) written.3), same, stays)
 
-    -- a merge
-    abbrev merged-by : Option Shape → Option Shape → Option Shape
-    merged-by x y = option_and_then (λ shape. option_and_then (kind.rules.merged shape) y) x
+    -- a merge with coins drawn anew or not, by the command that asks for it
+    module _ (redraws : Bool) (into from : ℕ) (command : Command A C)
+        (decide : (accepted : Bool) → accepted ≡ not (not (is_some (shape_merged kind.rules redraws (shapes_in kind.shape (in_slot slots)) into from))) → IsDecided kind command (in_slot slots) accepted)
+        (does : IsMergedIn kind bit next redraws into from (in_slot slots) source (in_slot slots') source' → IsDone kind bit next command (in_slot slots) source (in_slot slots') source') where
+      abbrev merged-by : Option S → Option S → Option Shape
+      merged-by x y = option_and_then (λ shape. option_and_then (kind.rules.merged redraws shape) (option_map kind.shape y)) (option_map kind.shape x)
 
-    merged-at : (into from : ℕ) (s p : S) → in_slot slots into ≡ Some s → in_slot slots from ≡ Some p → merged-by (option_map kind.shape (in_slot slots into)) (option_map kind.shape (in_slot slots from)) ≡ kind.rules.merged (kind.shape s) (kind.shape p)
-    merged-at into from s p held its = ap₂ (λ x y. merged-by (option_map kind.shape x) (option_map kind.shape y)) held its
+      merged-at : (s p : S) → in_slot slots into ≡ Some s → in_slot slots from ≡ Some p → merged-by (in_slot slots into) (in_slot slots from) ≡ kind.rules.merged redraws (kind.shape s) (kind.shape p)
+      merged-at s p held its = ap₂ merged-by held its
 
-    merged-none : (x : Option Shape) → merged-by x None ≡ None
-    merged-none None = refl
-    merged-none (Some shape) = refl
+      merged-none : (x : Option S) → merged-by x None ≡ None
+      merged-none None = refl
+      merged-none (Some shape) = refl
 
-    -- a sketch takes another in that stands in a slot, or a copy of it
-    takes-in : (into from : ℕ) (s p copy t : S) → in_slot slots into ≡ Some s → in_slot slots from ≡ Some p → IsCopied kind p copy → IsMerged kind bit next s copy source t source' → kind.IsSound t → Puts (in_slot slots) into t (in_slot slots') →
-        IsDecided kind (Merge into from) (in_slot slots) true × IsMergedIn kind bit next into from (in_slot slots) source (in_slot slots') source'
-    takes-in into from s p copy t held its copied merged sound puts = (
-      given _ (kind.shape t) (merged-at into from s p held its ∙ (ap (kind.rules.merged (kind.shape s)) (sym copied.shape_is) ∙ merged.shape_is)),
-      record { old = s; other = p; copy = copy; made = t; held = held; held_other = its; copied = copied; merged = merged; sound = sound; puts = puts },
-    )
+      merge-absent : in_slot slots into ≡ None → IsDecided kind command (in_slot slots) false
+      merge-absent h = decide false (not-given _ (ap (λ x. merged-by x (in_slot slots from)) h))
 
-    refuses-it : (into from : ℕ) (s p : S) → in_slot slots into ≡ Some s → in_slot slots from ≡ Some p → kind.rules.merged (kind.shape s) (kind.shape p) ≡ None → IsDecided kind (Merge into from) (in_slot slots) false
-    refuses-it into from s p held its none = not-given _ (merged-at into from s p held its ∙ none)
+      -- a sketch takes another in that stands in a slot, or a copy of it
+      takes-in : (s p copy t : S) → in_slot slots into ≡ Some s → in_slot slots from ≡ Some p → IsCopied kind p copy → IsMerged kind bit next redraws s copy source t source' → kind.IsSound t → Puts (in_slot slots) into t (in_slot slots') →
+          IsDecided kind command (in_slot slots) true × IsDone kind bit next command (in_slot slots) source (in_slot slots') source'
+      takes-in s p copy t held its copied merged sound puts = (
+        decide true (given _ (kind.shape t) (merged-at s p held its ∙ (ap (kind.rules.merged redraws (kind.shape s)) (sym copied.shape_is) ∙ merged.shape_is))),
+        does (record { old = s; other = p; copy = copy; made = t; held = held; held_other = its; copied = copied; merged = merged; sound = sound; puts = puts }),
+      )
 
-    merge-copy : (into from : ℕ) → into ≡ from → Turned kind bit next (Merge into from) slots slots' source source' into (JoinsCopy Full bit next)
-    merge-copy into from same = record {
-      absent = λ h. not-given _ (ap (λ x. merged-by (option_map kind.shape x) (option_map kind.shape (in_slot slots from))) h);
-      done = done;
-      refused = refused;
-    }
-      where
-        also : {s : S} → in_slot slots into ≡ Some s → in_slot slots from ≡ Some s
-        also held = ap (in_slot slots) (sym same) ∙ held
+      refuses-it : (s p : S) → in_slot slots into ≡ Some s → in_slot slots from ≡ Some p → kind.rules.merged redraws (kind.shape s) (kind.shape p) ≡ None → IsDecided kind command (in_slot slots) false
+      refuses-it s p held its none = decide false (not-given _ (merged-at s p held its ∙ none))
 
-        done : (s t : S) → in_slot slots into ≡ Some s → JoinsCopy Full bit next s source (Ok tt) t source' → Puts (in_slot slots) into t (in_slot slots') →
-            IsDecided kind (Merge into from) (in_slot slots) true × IsDone kind bit next (Merge into from) (in_slot slots) source (in_slot slots') source'
-        done s t held (inl (refuses, is, kept, stays)) puts = ok-no-err tt InvalidArgument is
-        done s t held (inr (fits, inl (p, copied, joined))) puts = takes-in into from s s p t held (also held) copied.1 joined.1.0 joined.3 puts
-        done s t held (inr (fits, inr (e, copied, is, kept, stays))) puts = ok-no-err tt e is
+      merge-copy : into ≡ from → Turned kind bit next command slots slots' source source' into (JoinsCopy Full bit next redraws)
+      merge-copy same = record { absent = merge-absent; done = done; refused = refused }
+        where
+          also : {s : S} → in_slot slots into ≡ Some s → in_slot slots from ≡ Some s
+          also held = ap (in_slot slots) (sym same) ∙ held
 
-        refused : (s t : S) (e : ErrorKind) → in_slot slots into ≡ Some s → JoinsCopy Full bit next s source (Err e) t source' → Unless e (IsDecided kind (Merge into from) (in_slot slots) false) × (t ≡ s) × (source' ≡ source)
-        refused s t e held (inl (refuses, is, kept, stays)) =
-            (subst (λ e. Unless e (IsDecided kind (Merge into from) (in_slot slots) false)) (same-err e InvalidArgument _ refl is) (refuses-it into from s s held (also held) (refuses.1.0 refl)), kept, stays)
-        refused s t e held (inr (fits, inl (p, copied, joined))) =
-            (unless-refused _ e joined.1.1 (λ none. refuses-it into from s s held (also held) (ap (kind.rules.merged (kind.shape s)) (sym copied.1.shape_is) ∙ none)), joined.1.2.0, joined.1.2.1)
-        refused s t e held (inr (fits, inr (f, copied, is, kept, stays))) = (unless-memory _ e (sym (same-err e f _ refl is) ∙ copied.2), kept, stays)
+          done : (s t : S) → in_slot slots into ≡ Some s → JoinsCopy Full bit next redraws s source (Ok tt) t source' → Puts (in_slot slots) into t (in_slot slots') →
+              IsDecided kind command (in_slot slots) true × IsDone kind bit next command (in_slot slots) source (in_slot slots') source'
+          done s t held (inl (refuses, is, kept, stays)) puts = ok-no-err tt InvalidArgument is
+          done s t held (inr (fits, inl (p, copied, joined))) puts = takes-in s s p t held (also held) copied.1 joined.1.0 joined.3 puts
+          done s t held (inr (fits, inr (e, copied, is, kept, stays))) puts = ok-no-err tt e is
 
-    merge-other : (into from : ℕ) (p : S) → in_slot slots from ≡ Some p → Turned kind bit next (Merge into from) slots slots' source source' into (Full.joined p Source bit next)
-    merge-other into from p its = record {
-      absent = λ h. not-given _ (ap (λ x. merged-by (option_map kind.shape x) (option_map kind.shape (in_slot slots from))) h);
-      done = λ s t held h puts. takes-in into from s p p t held its (copied-itself p h.2) h.1.0 h.3 puts;
-      refused = λ s t e held h. (unless-refused _ e h.1.1 (refuses-it into from s p held its), h.1.2.0, h.1.2.1);
-    }
+          refused : (s t : S) (e : ErrorKind) → in_slot slots into ≡ Some s → JoinsCopy Full bit next redraws s source (Err e) t source' → Unless e (IsDecided kind command (in_slot slots) false) × (t ≡ s) × (source' ≡ source)
+          refused s t e held (inl (refuses, is, kept, stays)) =
+              (subst (λ e. Unless e (IsDecided kind command (in_slot slots) false)) (same-err e InvalidArgument _ refl is) (refuses-it s s held (also held) (refuses.1.0 refl)), kept, stays)
+          refused s t e held (inr (fits, inl (p, copied, joined))) =
+              (unless-refused _ e joined.1.1 (λ none. refuses-it s s held (also held) (ap (kind.rules.merged redraws (kind.shape s)) (sym copied.1.shape_is) ∙ none)), joined.1.2.0, joined.1.2.1)
+          refused s t e held (inr (fits, inr (f, copied, is, kept, stays))) = (unless-memory _ e (sym (same-err e f _ refl is) ∙ copied.2), kept, stays)
 
-    comes-merge : (into from : ℕ) (b : Bool) → (into == from) ≡ b → (r : Verdict) → Merges Full bit next b into from slots source r slots' source' → Goes r (Merge into from)
-    comes-merge into from true e r h = changes (Merge into from) into (JoinsCopy Full bit next) (merge-copy into from (eqb-true into from e)) r h
-    comes-merge into from false e r (None, its, (o, new, held, (is, same, stays), set_is)) =
-        subst (λ r. Goes r (Merge into from)) (sym is)
-        (no kind bit next (Merge into from) (in_slot slots) source (in_slot slots') source'
-        (not-given _ (ap (λ y. merged-by (option_map kind.shape (in_slot slots into)) (option_map kind.shape y)) (in_slot-held slots from None its) ∙ merged-none _))
-        (in_slot-same slots slots' into o new held same set_is) stays)
-    comes-merge into from false e r (Some p, its, (o, new, held, turns, set_is)) =
-        turned kind bit next (Merge into from) slots slots' source source' into (Full.joined p Source bit next) (merge-other into from p (in_slot-held slots from (Some p) its)) o new r held turns set_is
+      merge-other : (p : S) → in_slot slots from ≡ Some p → Turned kind bit next command slots slots' source source' into (Full.joined redraws p Source bit next)
+      merge-other p its = record {
+        absent = merge-absent;
+        done = λ s t held h puts. takes-in s p p t held its (copied-itself p h.2) h.1.0 h.3 puts;
+        refused = λ s t e held h. (unless-refused _ e h.1.1 (refuses-it s p held its), h.1.2.0, h.1.2.1);
+      }
+
+      comes-merge : (b : Bool) → (into == from) ≡ b → (r : Verdict) → Merges Full bit next redraws b into from slots source r slots' source' → Goes r command
+      comes-merge true e r h = changes command into (JoinsCopy Full bit next redraws) (merge-copy (eqb-true into from e)) r h
+      comes-merge false e r (None, its, (o, new, held, (is, same, stays), set_is)) =
+          subst (λ r. Goes r command) (sym is)
+          (no kind bit next command (in_slot slots) source (in_slot slots') source'
+          (decide false (not-given _ (ap (λ y. merged-by (in_slot slots into) y) (in_slot-held slots from None its) ∙ merged-none _)))
+          (in_slot-same slots slots' into o new held same set_is) stays)
+      comes-merge false e r (Some p, its, (o, new, held, turns, set_is)) =
+          turned kind bit next command slots slots' source source' into (Full.joined redraws p Source bit next) (merge-other p (in_slot-held slots from (Some p) its)) o new r held turns set_is
+
+    -- coins that are drawn anew
+    comes-redraw : (slot : ℕ) (r : Verdict) → Changes (Turns (Full.redrawn Source bit next)) slot slots source r slots' source' → Goes r (Redraw slot)
+    comes-redraw slot =
+        changes (Redraw slot) slot (Full.redrawn Source bit next)
+        (ruled kind bit next (Redraw slot) slots slots' source source' slot kind.rules.redrawn (λ accepted e. e) (Full.redrawn Source bit next) (λ s t. IsRedrawn kind bit next s source t source') (λ s t r h. h.1)
+        (λ s t d. d.0.shape_is) (λ s t held d puts. record { old = s; made = t; held = held; after = d; puts = puts }))
 
     -- any command, by how its item is taken
     comes : (taken : A → Change Source S) (weighted : A → ℕ → Change Source S) →
@@ -350,9 +361,11 @@ module _ {A C Shape S Source : Type 0} {kind : Kind A C Shape S} (lawful : IsLaw
     comes taken weighted f g (New slot config) r h = comes-new slot config r h
     comes taken weighted f g (Update slot x) r h = comes-update slot x (taken x) (f x) r h
     comes taken weighted f g (UpdateWeighted slot x weight) r h = comes-weighted slot x weight (weighted x weight) (g x weight) r h
-    comes taken weighted f g (Merge into from) r h = comes-merge into from (into == from) refl r h
+    comes taken weighted f g (Merge into from) r h = comes-merge false into from (Merge into from) (λ accepted e. e) (λ m. m) (into == from) refl r h
     comes taken weighted f g (Reset slot) r h = comes-reset slot r h
     comes taken weighted f g (RoundTrip slot) r h = comes-trip slot r h
+    comes taken weighted f g (Redraw slot) r h = comes-redraw slot r h
+    comes taken weighted f g (MergeRedrawn into from) r h = comes-merge true into from (MergeRedrawn into from) (λ accepted e. e) (λ m. m) (into == from) refl r h
 
     pub comes-clone : (IsClone : A → A → Type 0) → ((x y : A) → IsClone x y → kind.cmp x y ≡ Equal) → (command : Command A C) (r : Verdict) →
         CarriesOutClone Full bit next IsClone command slots source r slots' source' → Goes r command

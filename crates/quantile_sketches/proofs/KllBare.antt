@@ -120,9 +120,11 @@ module _ (A : Type 0) where
     emptied = refl;
     updated = refl;
     updated_weighted = refl;
+    redrawn = refl;
     merged = refl;
     update = λ s. bare-update s.k;
     weighted = λ s. bare-weighted s.k;
-    merge = λ s other. bare-merge s.k;
+    redraw = λ s. refl;
+    merge = λ redraws s other. bare-merge s.k;
     read_back = refl;
   }

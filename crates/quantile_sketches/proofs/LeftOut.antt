@@ -9,7 +9,7 @@ use Rattle.sketch_base.specs.Trace.{Event, World, coins}
 use Rattle.sketch_base.proofs.Calls.{coins-at}
 use Rattle.sketch_base.proofs.Changes.{changed-own}
 use Rattle.quantile_sketches.specs.declared.audit.commands.Command.{Command}
-use Rattle.quantile_sketches.specs.declared.audit.commands.Command.TheVariants.{New, Update, UpdateWeighted, Merge, Reset, RoundTrip}
+use Rattle.quantile_sketches.specs.declared.audit.commands.Command.TheVariants.{New, Update, UpdateWeighted, Merge, Reset, RoundTrip, Redraw, MergeRedrawn}
 use Rattle.quantile_sketches.specs.RuleLaws.{IsLawful}
 use Rattle.quantile_sketches.specs.Plan.{Plan, start_plan, events_at, is_refused, accepted_shapes, accepted_events, events_of, plan_after, plan_of, trace_of}
 use Rattle.quantile_sketches.specs.Refused.{is_among, accepted_of, IsRefusedExactly, AreRefused}
@@ -96,6 +96,8 @@ module _ {A C Shape S : Type 0} {kind : Kind A C Shape S} (lawful : IsLawful kin
   leaves word refused before (UpdateWeighted slot x weight) P h p = leaves-refused kind.rules (plan_of kind.rules before) (UpdateWeighted slot x weight) (h.0 p)
   leaves word refused before (Merge into source) P h p = leaves-refused kind.rules (plan_of kind.rules before) (Merge into source) (h.0 p)
   leaves word refused before (Reset slot) P h p = leaves-refused kind.rules (plan_of kind.rules before) (Reset slot) (h.0 p)
+  leaves word refused before (Redraw slot) P h p = leaves-refused kind.rules (plan_of kind.rules before) (Redraw slot) (h.0 p)
+  leaves word refused before (MergeRedrawn into source) P h p = leaves-refused kind.rules (plan_of kind.rules before) (MergeRedrawn into source) (h.0 p)
   leaves word refused before (RoundTrip slot) P h p = leaves-trip (plan_of kind.rules before) slot
 
   -- refused commands may as well be left out, among the first commands of a run and among all

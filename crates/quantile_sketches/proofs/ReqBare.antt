@@ -1,10 +1,11 @@
 -- REQ's actions hang on items in their Puts alone.
 use Rattle.std.proofs.Common.{◌≡◌, ℕ, zero, suc, Bool, true, false, if◌then◌else◌, List, [], ◌∷◌, ◌++◌, length, map, refl, ap, ap₂, ◌∙◌}
 use Rattle.std.proofs.lemmas.List.{map-append}
-use Rattle.sketch_base.specs.Trace.{Action, Put, joins_actions}
-use Rattle.sketch_req.specs.Schedule.{Layout, is_full, are_full, layout_at, put_layouts, joined_layouts, compact_level, step_actions, step_layouts, steps_actions, room_actions, walk_actions}
+use Rattle.sketch_base.specs.Trace.{Action, Put, Redraw, joins_actions}
+use Rattle.sketch_req.specs.Schedule.{Layout, is_full, are_full, layout_at, put_layouts, joined_layouts, compact_level, step_actions, step_layouts, steps_actions, room_actions, walk_actions, redraws_from, redraw_actions}
+use Rattle.sketch_req.specs.Level.{turns_coin}
 use Rattle.sketch_req.specs.declared.RankAccuracy.{RankAccuracy}
-use Rattle.quantile_sketches.specs.ReqRules.{req_rules}
+use Rattle.quantile_sketches.specs.ReqRules.{merge_actions_by, req_rules}
 use Rattle.quantile_sketches.proofs.Bare.{bare_action, AreBare, bare-joins}
 
 module _ (A : Type 0) where
@@ -28,6 +29,30 @@ module _ (A : Type 0) where
       go true = bare-steps k accuracy (length layouts) 0 layouts
       go false = refl
 
+  bare-redraws : (h : ℕ) (layouts : List Layout) → map bare_action (redraws_from {A = A} h layouts) ≡ redraws_from h layouts
+  bare-redraws h [] = refl
+  bare-redraws h (layout ∷ above) =
+      map-append bare_action (if turns_coin layout.state then Redraw h ∷ [] else []) (redraws_from (suc h) above)
+      ∙ ap₂ (λ (xs ys : List (Action Unit)). xs ++ ys) (go (turns_coin layout.state)) (bare-redraws (suc h) above)
+    where
+      go : (b : Bool) → map (bare_action {A = A}) (if b then Redraw h ∷ [] else []) ≡ (if b then Redraw h ∷ [] else [])
+      go true = refl
+      go false = refl
+
+  -- of either merge
+  bare-merge : (redraws : Bool) (k : ℕ) (accuracy : RankAccuracy) (layouts others : List Layout) →
+      map bare_action (merge_actions_by {A = A} redraws k accuracy layouts others) ≡ merge_actions_by redraws k accuracy layouts others
+  bare-merge true k accuracy layouts others =
+      let joined = joined_layouts k layouts others in
+      map-append bare_action (joins_actions (length others) 0) (redraw_actions joined ++ room_actions k accuracy joined)
+      ∙ ap₂ (λ (xs ys : List (Action Unit)). xs ++ ys) (bare-joins A (length others) 0)
+      (map-append bare_action (redraw_actions joined) (room_actions k accuracy joined)
+      ∙ ap₂ (λ (xs ys : List (Action Unit)). xs ++ ys) (bare-redraws 0 joined) (bare-room k accuracy joined))
+  bare-merge false k accuracy layouts others =
+      let joined = joined_layouts k layouts others in
+      map-append bare_action (joins_actions (length others) 0) (room_actions k accuracy joined)
+      ∙ ap₂ (λ (xs ys : List (Action Unit)). xs ++ ys) (bare-joins A (length others) 0) (bare-room k accuracy joined)
+
   pub req-bare : AreBare {A = A} req_rules req_rules
   req-bare = record {
     count = refl;
@@ -35,11 +60,11 @@ module _ (A : Type 0) where
     emptied = refl;
     updated = refl;
     updated_weighted = refl;
+    redrawn = refl;
     merged = refl;
     update = λ s lengths x. ap (λ (l : List (Action Unit)). Put 0 tt ∷ l) (bare-room s.k s.accuracy (put_layouts s.layouts));
     weighted = λ s lengths x weight. refl;
-    merge = λ s other work.
-        map-append bare_action (joins_actions (length other.layouts) 0) (room_actions s.k s.accuracy (joined_layouts s.k s.layouts other.layouts))
-        ∙ ap₂ (λ (xs ys : List (Action Unit)). xs ++ ys) (bare-joins A (length other.layouts) 0) (bare-room s.k s.accuracy (joined_layouts s.k s.layouts other.layouts));
+    redraw = λ s. bare-redraws 0 s.layouts;
+    merge = λ redraws s other work. bare-merge redraws s.k s.accuracy s.layouts other.layouts;
     read_back = refl;
   }

@@ -21,10 +21,10 @@ use Rattle.quantile_sketches.specs.ReqRules.{ReqShape}
 use Rattle.quantile_sketches.specs.Steps.{IsCopied, IsReadBack}
 
 -- shapes by their parts
-abbrev shape : ℕ → RankAccuracy → ℕ → List Layout → ReqShape
+abbrev pub shape : ℕ → RankAccuracy → ℕ → List Layout → ReqShape
 shape k accuracy n layouts = record { k = k; accuracy = accuracy; n = n; layouts = layouts }
 
-same-shape : (k k' : ℕ) (a a' : RankAccuracy) (n n' : ℕ) (ls ls' : List Layout) → k ≡ k' → a ≡ a' → n ≡ n' → ls ≡ ls' → shape k a n ls ≡ shape k' a' n' ls'
+pub same-shape : (k k' : ℕ) (a a' : RankAccuracy) (n n' : ℕ) (ls ls' : List Layout) → k ≡ k' → a ≡ a' → n ≡ n' → ls ≡ ls' → shape k a n ls ≡ shape k' a' n' ls'
 same-shape k k' a a' n n' ls ls' p q r l = λ i. shape (p i) (q i) (r i) (l i)
 
 -- a level in place of another

@@ -10,16 +10,19 @@ use Rattle.sketch_base.proofs.Alikes.{acts-req}
 use Rattle.sketch_base.proofs.Fixed.{length-sort}
 use Rattle.sketch_base.proofs.Items.{SameItems-last}
 use Rattle.sketch_base.proofs.Sorting.{SameItems-sort}
-use Rattle.sketch_req.specs.Schedule.{Layout, put_layouts, room_actions, update_actions, merge_actions}
+use Rattle.sketch_req.specs.Schedule.{Layout, put_layouts, redraw_actions, room_actions, update_actions}
 use Rattle.sketch_req.specs.Walk.{AreOwn}
 use Rattle.sketch_req.specs.declared.RankAccuracy.{RankAccuracy}
 use Rattle.sketch_req.proofs.Bags.{alike-refl, alike-trans, AlikeLevels, levels-refl}
 use Rattle.sketch_req.proofs.Ranks.{weight_is}
-use Rattle.sketch_req.proofs.Unbiased.{AreCompacts, room_compacts, merge_req}
+use Rattle.sketch_req.proofs.Redraws.{own-redraws}
+use Rattle.sketch_req.proofs.Unbiased.{AreCompacts, room_compacts}
 use Rattle.sketch_req.proofs.Walks.{own-req}
 use Rattle.quantile_sketches.specs.RuleLaws.{IsLawful}
 use Rattle.quantile_sketches.specs.ReqKind.{req_kind}
+use Rattle.quantile_sketches.specs.ReqRules.{merge_actions_by}
 use Rattle.quantile_sketches.proofs.Plans.{not-none}
+use Rattle.quantile_sketches.proofs.ReqMerges.{redraw-req, merge-req}
 use Rattle.quantile_sketches.proofs.ReqRuleLaws.{req_lawful}
 
 module _ {A : Type 0} (cmp : A → A → Ordering) where
@@ -89,7 +92,13 @@ module _ {A : Type 0} {cmp : A → A → Ordering} (o : IsTotalOrder cmp) where
     update_alike = λ x y tie s word a b fits was. update-alike x y tie s.k s.accuracy s.layouts word a b was;
     weighted_draws = λ x y tie s weight bag fits. refl;
     weighted_alike = λ x y tie s weight word a b fits was. was;
-    merge_alike = λ s other word a b fits was sides.
-        acts-req o (merge_actions s.k s.accuracy s.layouts other.layouts) word a b (merge_req A s.k s.accuracy s.layouts other.layouts) was sides;
+    redraw_alike = λ s word a b fits was.
+        let actions : List (Action A) = redraw_actions s.layouts in
+        let own = own-redraws A 0 s.layouts in
+        subst (λ (v : Bag A). AlikeReq cmp v (acts cmp actions word b).bag) (sym (own-bag cmp actions word a own))
+        (subst (λ (v : Bag A). AlikeReq cmp (bag_after cmp actions word a.bag) v) (sym (own-bag cmp actions word b own))
+        (acts-req o actions word (alone a.bag) (alone b.bag) (redraw-req A s.layouts) was (alike-refl o empty_bag)));
+    merge_alike = λ redraws s other word a b fits was sides.
+        acts-req o (merge_actions_by redraws s.k s.accuracy s.layouts other.layouts) word a b (merge-req A redraws s.k s.accuracy s.layouts other.layouts) was sides;
     read_alike = λ word a b was. record { levels = was.levels; kept = λ h. refl };
   }

@@ -6,7 +6,7 @@ use Rattle.std.proofs.lemmas.List.{length_push}
 use Rattle.std.proofs.lemmas.Map.Views.{Contains-from_any}
 use Rattle.sketch_base.specs.Trace.{Event}
 use Rattle.sketch_base.proofs.Picks.{Sheds, none, shed, sheds-none, sheds-append}
-use Rattle.quantile_sketches.specs.declared.audit.commands.Command.TheVariants.{New, Update, UpdateWeighted, Merge, Reset, RoundTrip}
+use Rattle.quantile_sketches.specs.declared.audit.commands.Command.TheVariants.{New, Update, UpdateWeighted, Merge, Reset, RoundTrip, Redraw, MergeRedrawn}
 use Rattle.quantile_sketches.specs.Plan.{Plan, start_plan, is_refused, accepted_events, events_of, plan_after, plan_from, plan_of, trace_of}
 use Rattle.quantile_sketches.specs.Refused.{is_among, accepted_of, IsRefusedExactly, AreRefused}
 use Rattle.quantile_sketches.specs.ReqKind.{req_kind}
@@ -55,6 +55,8 @@ module _ {A : Type 0} {cmp : A → A → Ordering} (o : IsTotalOrder cmp) (spell
   tails-left before tails (UpdateWeighted slot x weight) P h p = tails-refused {A = A} (plan_of req_rules before).shapes tails (UpdateWeighted slot x weight) (h.0 p)
   tails-left before tails (Merge into source) P h p = tails-refused {A = A} (plan_of req_rules before).shapes tails (Merge into source) (h.0 p)
   tails-left before tails (Reset slot) P h p = tails-refused {A = A} (plan_of req_rules before).shapes tails (Reset slot) (h.0 p)
+  tails-left before tails (Redraw slot) P h p = tails-refused {A = A} (plan_of req_rules before).shapes tails (Redraw slot) (h.0 p)
+  tails-left before tails (MergeRedrawn into source) P h p = tails-refused {A = A} (plan_of req_rules before).shapes tails (MergeRedrawn into source) (h.0 p)
   tails-left before tails (RoundTrip slot) P h p = tails-trip A (plan_of req_rules before).shapes tails slot
 
   -- and gives no event, but for a round trip's Forget
@@ -65,6 +67,8 @@ module _ {A : Type 0} {cmp : A → A → Ordering} (o : IsTotalOrder cmp) (spell
   sheds-left before (UpdateWeighted slot x weight) P h p = sheds-refused (plan_of req_rules before) (UpdateWeighted slot x weight) (h.0 p)
   sheds-left before (Merge into source) P h p = sheds-refused (plan_of req_rules before) (Merge into source) (h.0 p)
   sheds-left before (Reset slot) P h p = sheds-refused (plan_of req_rules before) (Reset slot) (h.0 p)
+  sheds-left before (Redraw slot) P h p = sheds-refused (plan_of req_rules before) (Redraw slot) (h.0 p)
+  sheds-left before (MergeRedrawn into source) P h p = sheds-refused (plan_of req_rules before) (MergeRedrawn into source) (h.0 p)
   sheds-left before (RoundTrip slot) P h p = sheds-trip A (plan_of req_rules before) slot
 
   pub req-left-out : (commands : List (ReqCommand A)) → AreRefused (req_kind cmp spelling) word commands refused → IsLeftOutReq commands (accepted_of refused commands)

@@ -1,28 +1,29 @@
 -- REQ's rules are lawful.
-use Rattle.std.proofs.Common.{◌≡◌, ℕ, zero, suc, ◌+◌, ◌-◌, ◌*◌, ◌%◌, ◌^◌, ◌<◌, ◌≤◌, Bool, true, false, ◌||◌, ◌&&◌, ◌==◌, not, nat_le, nat_lt, if◌then◌else◌, List, [], ◌∷◌, ◌++◌, length, append-nil, sum, slice_index, Some, refl, sym, ap, ap₂, ◌∙◌, subst, arith, inl, inr, leb-true, eqb-true}
+use Rattle.std.proofs.Common.{◌≡◌, ℕ, ◌+◌, ◌-◌, ◌*◌, ◌%◌, ◌^◌, ◌<◌, ◌≤◌, Bool, true, false, ◌||◌, ◌&&◌, ◌==◌, not, nat_le, nat_lt, if◌then◌else◌, List, [], ◌∷◌, append-nil, sum, slice_index, Some, refl, sym, ap, ap₂, ◌∙◌, subst, arith, inl, inr, leb-true, eqb-true}
 use Rattle.std.proofs.lemmas.Bool.{cases_Bool, false≢true, ltb-false, and_parts, or_parts}
 use Rattle.sketch_base.specs.Bag.{Taken, AllButLeftover, Lowest, Greatest}
 use Rattle.sketch_base.specs.Lengths.{acts_on_lengths, lengths_after, Along, TakesFew, LeavesTail}
 use Rattle.sketch_base.specs.Ranks.{true_ranks}
-use Rattle.sketch_base.specs.Trace.{Action, Put, Pull, Join, Compact, Forget, Redraw, Clear, Event, Snap, At, Work, World, joins_actions}
+use Rattle.sketch_base.specs.Trace.{Action, Put, Pull, Join, Compact, Forget, Redraw, Clear, Event, Snap, At, Work, World}
 use Rattle.sketch_base.proofs.Changes.{changed-there, changed-itself}
 use Rattle.sketch_base.proofs.Lengths.{obeys}
-use Rattle.sketch_req.specs.Schedule.{Layout, counts_of, retained_of, update_actions, update_layouts, joined_layouts, merge_actions, merge_layouts, room_actions}
-use Rattle.sketch_req.specs.ScheduleLaws.{IsLegalFrom, merge_events}
+use Rattle.sketch_req.specs.Schedule.{Layout, counts_of, retained_of, update_actions, update_layouts, redraw_actions, merge_layouts}
+use Rattle.sketch_req.specs.ScheduleLaws.{IsLegalFrom}
 use Rattle.sketch_req.specs.Sections.{IsLegalK}
 use Rattle.sketch_req.specs.declared.RankAccuracy.{RankAccuracy}
 use Rattle.sketch_req.specs.declared.RankAccuracy.TheVariants.{HighRank, LowRank}
 use Rattle.sketch_req.proofs.Capacities.{update_weighs, merge_weighs, update_two, merge_two, update_few, merge_few, update_retains, merge_retains}
 use Rattle.sketch_req.proofs.LegalLayouts.{new_is, filled_are, joined_are}
-use Rattle.sketch_req.proofs.LegalTraces.{lengths_at, along-even, update_legal, update_lengths, merge_legal, merge_lengths}
+use Rattle.sketch_req.proofs.LegalTraces.{lengths_at, along-even, fits-legal, update_legal, update_lengths}
 use Rattle.sketch_req.proofs.LegalWalks.{room_leads}
-use Rattle.sketch_req.proofs.Unbiased.{AreCompacts, room_compacts, ranks-update}
+use Rattle.sketch_req.proofs.Unbiased.{ranks-update}
 use Rattle.quantile_sketches.specs.RuleLaws.{lengths_by, IsLegalBy, DoWell, AreLawful}
 use Rattle.quantile_sketches.specs.Plan.{events_at}
 use Rattle.quantile_sketches.specs.ReqKind.{FitsReq, MeetsReq}
-use Rattle.quantile_sketches.specs.ReqRules.{ReqShape, new_shape, may_be_k, is_same, is_too_much, req_rules}
+use Rattle.quantile_sketches.specs.ReqRules.{ReqShape, new_shape, may_be_k, is_same, is_too_much, merge_actions_by, req_rules}
 use Rattle.quantile_sketches.proofs.KllRuleLaws.{unless-there}
-use Rattle.quantile_sketches.proofs.Plans.{not-none}
+use Rattle.quantile_sketches.proofs.Plans.{not-none, some-one}
+use Rattle.quantile_sketches.proofs.ReqMerges.{legal-by, lengths-by, redraw-leads, ranks-redraw, ranks-merge}
 
 pub not-false : (b : Bool) → not b ≡ false → b ≡ true
 not-false true e = refl
@@ -154,26 +155,6 @@ module _ {A : Type 0} where
   lengths-there : (actions : List (Action A)) (world : World (List ℕ)) (s : ℕ) (lengths : List ℕ) → (acts_on_lengths actions (record { bag = world.slots s; scratch = world.scratch })).bag ≡ lengths → (lengths_by world (events_at s actions)).slots s ≡ lengths
   lengths-there actions world s lengths e = ap (λ (w : World (List ℕ)). w.slots s) (lengths_at actions world s) ∙ (changed-there world.slots s _ ∙ e)
 
-  -- compactions and Joins leave the true ranks
-  ranks-compacts : (test : A → Bool) (s : ℕ) (actions : List (Action A)) (ranks : ℕ → ℕ) → AreCompacts actions → true_ranks test (events_at s actions) ranks ≡ ranks
-  ranks-compacts test s [] ranks c = refl
-  ranks-compacts test s (Compact h coin taken ∷ more) ranks c = ranks-compacts test s more ranks c.1
-  ranks-compacts test s (Put h x ∷ more) ranks c = absurd c
-  ranks-compacts test s (Pull ∷ more) ranks c = absurd c
-  ranks-compacts test s (Join h ∷ more) ranks c = absurd c
-  ranks-compacts test s (Forget ∷ more) ranks c = absurd c
-  ranks-compacts test s (Redraw h ∷ more) ranks c = absurd c
-  ranks-compacts test s (Clear ∷ more) ranks c = absurd c
-
-  ranks-joins : (test : A → Bool) (s more h : ℕ) (actions : List (Action A)) (ranks : ℕ → ℕ) → true_ranks test (events_at s (joins_actions more h ++ actions)) ranks ≡ true_ranks test (events_at s actions) ranks
-  ranks-joins test s zero h actions ranks = refl
-  ranks-joins test s (suc more) h actions ranks = ranks-joins test s more (suc h) actions ranks
-
-  ranks-merge : (test : A → Bool) (s k : ℕ) (accuracy : RankAccuracy) (ls others : List Layout) (ranks : ℕ → ℕ) → true_ranks test (events_at s (merge_actions k accuracy ls others)) ranks ≡ ranks
-  ranks-merge test s k accuracy ls others ranks =
-      let room : List (Action A) = room_actions k accuracy (joined_layouts k ls others) in
-      ranks-joins test s (length others) 0 room ranks ∙ ranks-compacts test s room ranks (room_compacts A k accuracy (joined_layouts k ls others))
-
   ranks-one : (test : A → Bool) (s k : ℕ) (accuracy : RankAccuracy) (ls : List Layout) (x : A) (ranks : ℕ → ℕ) → true_ranks test (events_at s (update_actions k accuracy ls x)) ranks s ≡ ranks s + (if test x then 1 else 0)
   ranks-one test s k accuracy ls x ranks =
       let actions : List (Action A) = update_actions k accuracy ls x in
@@ -198,41 +179,55 @@ module _ {A : Type 0} where
         ranks = λ test ranks. ranks-one test slot s.k s.accuracy s.layouts x ranks;
       })
 
-module _ (A : Type 0) where
-  abbrev MergesWell : ReqShape → ReqShape → (into source : ℕ) → World (List ℕ) → ReqShape → Type 0
-  MergesWell s other into source world t = DoWell {A = A} MeetsReq FitsReq into (merge_actions s.k s.accuracy s.layouts other.layouts) (lengths_after {A = A} (Snap source into) world) t (λ test. 0)
+  redraw-well : (s t : ReqShape) → (req_rules {A = A}).redrawn s ≡ Some t → (slot : ℕ) (world : World (List ℕ)) → FitsReq s (world.slots slot) → sum world.scratch ≡ 0 →
+      DoWell {A = A} MeetsReq FitsReq slot (redraw_actions s.layouts) world t (λ test. 0)
+  redraw-well s t e slot world h z =
+      let actions : List (Action A) = redraw_actions s.layouts in
+      let leads = redraw-leads {A = A} s.k s.accuracy s.layouts h.are in
+      let lengths : (acts_on_lengths actions (record { bag = world.slots slot; scratch = world.scratch })).bag ≡ counts_of s.layouts =
+      ap (λ (ns : List ℕ). (acts_on_lengths actions (record { bag = ns; scratch = world.scratch })).bag) h.lengths_are
+      ∙ ap (λ (w : Work (List ℕ)). w.bag) (leads.lengths world.scratch) in
+      subst (λ (shape : ReqShape). DoWell {A = A} MeetsReq FitsReq slot actions world shape (λ test. 0)) (some-one s t e) (record {
+        legal = legal (λ i. s.k) (events_at slot actions) world (fits-legal (λ i. s.k) s.accuracy actions slot (counts_of s.layouts) world leads.fits h.lengths_are z);
+        fits = fits-by s (world.slots slot) _ (lengths-there actions world slot _ lengths ∙ sym h.lengths_are) h;
+        ranks = λ test ranks. ap (λ (f : ℕ → ℕ). f slot) (ranks-redraw test slot s.layouts ranks) ∙ (let n : ranks slot ≡ ranks slot + 0 = omega arith in n);
+      })
 
-  merge-well : (s other t : ReqShape) → (req_rules {A = A}).merged s other ≡ Some t → (into source : ℕ) (world : World (List ℕ)) → FitsReq s (world.slots into) → FitsReq other (world.slots source) → sum world.scratch ≡ 0 → 0 < other.n →
-      MergesWell s other into source world t
-  merge-well s other t e into source world h o z some =
+module _ (A : Type 0) where
+  abbrev MergesWell : (redraws : Bool) → ReqShape → ReqShape → (into source : ℕ) → World (List ℕ) → ReqShape → Type 0
+  MergesWell redraws s other into source world t = DoWell {A = A} MeetsReq FitsReq into (merge_actions_by redraws s.k s.accuracy s.layouts other.layouts) (lengths_after {A = A} (Snap source into) world) t (λ test. 0)
+
+  merge-well : (redraws : Bool) (s other t : ReqShape) → (req_rules {A = A}).merged redraws s other ≡ Some t → (into source : ℕ) (world : World (List ℕ)) → FitsReq s (world.slots into) → FitsReq other (world.slots source) → sum world.scratch ≡ 0 → 0 < other.n →
+      MergesWell redraws s other into source world t
+  merge-well redraws s other t e into source world h o z some =
       let u = unless-there _ _ t e in
       let some_n : (other.n == 0) ≡ false = go (other.n == 0) refl in
-      let actions : List (Action A) = merge_actions s.k s.accuracy s.layouts other.layouts in
+      let actions : List (Action A) = merge_actions_by redraws s.k s.accuracy s.layouts other.layouts in
       let snapped : World (List ℕ) = lengths_after {A = A} (Snap source into) world in
-      let l = legal (λ i. s.k) (merge_events s.k s.accuracy source into s.layouts other.layouts) world (merge_legal A (λ i. s.k) s.accuracy source into s.layouts other.layouts world h.legal h.are h.lengths_are o.lengths_are z) in
+      let l = legal (λ i. s.k) (Snap source into ∷ events_at into actions) world (legal-by A redraws (λ i. s.k) s.accuracy source into s.layouts other.layouts world h.legal h.are h.lengths_are o.lengths_are z) in
       let lengths : (acts_on_lengths actions (record { bag = world.slots into; scratch = world.slots source })).bag ≡ counts_of (merge_layouts s.k s.layouts other.layouts) =
       ap₂ (λ (ns ms : List ℕ). (acts_on_lengths actions (record { bag = ns; scratch = ms })).bag) h.lengths_are o.lengths_are
-      ∙ (merge_lengths A s.k s.accuracy s.layouts other.layouts h.legal h.are).1 in
+      ∙ lengths-by A redraws s.k s.accuracy s.layouts other.layouts h.legal h.are in
       let is : merged_as s other (merge_layouts s.k s.layouts other.layouts) ≡ t = ap (λ (b : Bool). merged_as s other (if b then s.layouts else merge_layouts s.k s.layouts other.layouts)) (sym some_n) ∙ u.1 in
-      subst (MergesWell s other into source world) is (record {
+      subst (MergesWell redraws s other into source world) is (record {
         legal = record { scratch = l.scratch.1; meets = l.meets.1 };
         fits = fits-by _ _ _ (lengths-there actions snapped into _ lengths) (merged_fits s other (world.slots into) (world.slots source) h o (not-much s other u.0 some_n));
-        ranks = λ test ranks. ap (λ (f : ℕ → ℕ). f into) (ranks-merge test into s.k s.accuracy s.layouts other.layouts ranks) ∙ (let n : ranks into ≡ ranks into + 0 = omega arith in n);
+        ranks = λ test ranks. ap (λ (f : ℕ → ℕ). f into) (ranks-merge test into redraws s.k s.accuracy s.layouts other.layouts ranks) ∙ (let n : ranks into ≡ ranks into + 0 = omega arith in n);
       })
     where
       go : (b : Bool) → (other.n == 0) ≡ b → b ≡ false
       go true e = absurd (omega (arith, some, eqb-true other.n 0 e))
       go false e = refl
 
-  merge-none : (s other t : ReqShape) → (req_rules {A = A}).merged s other ≡ Some t → other.n ≡ 0 → (lengths : List ℕ) → FitsReq s lengths → FitsReq t lengths
-  merge-none s other t e z lengths h =
+  merge-none : (redraws : Bool) (s other t : ReqShape) → (req_rules {A = A}).merged redraws s other ≡ Some t → other.n ≡ 0 → (lengths : List ℕ) → FitsReq s lengths → FitsReq t lengths
+  merge-none redraws s other t e z lengths h =
       let u = unless-there _ _ t e in
       let is : merged_as s other s.layouts ≡ t = ap (λ (n : ℕ). merged_as s other (if n == 0 then s.layouts else merge_layouts s.k s.layouts other.layouts)) (sym z) ∙ u.1 in
       subst (λ (shape : ReqShape). FitsReq shape lengths) is (none_fits s other lengths h z)
 
-  merge-counts : (s other t : ReqShape) → (req_rules {A = A}).merged s other ≡ Some t → (t.n ≡ s.n + other.n) × (s.n < 2 ^ 64 → t.n < 2 ^ 64)
-  merge-counts s other t e =
-      let u = unless-there _ _ t e in
+  merge-counts : (redraws : Bool) (s other t : ReqShape) → (req_rules {A = A}).merged redraws s other ≡ Some t → (t.n ≡ s.n + other.n) × (s.n < 2 ^ 64 → t.n < 2 ^ 64)
+  merge-counts redraws s other t e =
+      let u = unless-there (no_merge s other) (merged_as s other (if other.n == 0 then s.layouts else merge_layouts s.k s.layouts other.layouts)) t e in
       let n : t.n ≡ s.n + other.n = ap (λ (shape : ReqShape). shape.n) (sym u.1) in (
         n,
         λ few. elim (cases_Bool (other.n == 0)) [
@@ -257,9 +252,11 @@ module _ {A : Type 0} where
         let n : t.n ≡ s.n + 1 = ap (λ (shape : ReqShape). shape.n) (sym u.1) in
         (n, λ few. let r : (s.n + 1 < 2 ^ 64) × (retained_of s.layouts + 1 ≤ 4294967295) = enough_room (s.n + 1) (retained_of s.layouts + 1) u.0 in omega (arith, n, r.0));
     weighted = λ s t weight e. absurd (not-none t e);
+    redrawn = λ s t e. ap (λ (shape : ReqShape). shape.n) (sym (some-one s t e));
     merged = merge-counts A;
     update_well = update-well;
     weighted_well = λ s t weight e. absurd (not-none t e);
+    redraw_well = redraw-well;
     merge_well = merge-well A;
     merge_none = merge-none A;
     read_well = λ s slot world h z. record {

@@ -15,18 +15,19 @@ use Rattle.sketch_base.proofs.Changes.{changed-there, changed-own}
 use Rattle.sketch_base.proofs.Picks.{is_plain, ArePlain, stays, picked, pick, Sheds, play-picked, play-shed, sum-picked, picked-cleared, picked-away, picked-joined, picked-more}
 use Rattle.sketch_base.proofs.Runs.{play-at}
 use Rattle.sketch_req.specs.Relative.{IsRelative, UpdatesAreRelative, Reaches, UpdatesAreRelativeToCounts}
-use Rattle.sketch_req.specs.Schedule.{Layout, new_layout, room_actions, put_layouts, update_actions, update_layouts, merge_actions, merge_layouts}
-use Rattle.sketch_req.specs.ScheduleLaws.{events_at, updates_actions, updates_layouts, updates_trace, merge_events}
+use Rattle.sketch_req.specs.Schedule.{Layout, new_layout, room_actions, put_layouts, update_actions, update_layouts, redraw_actions, merge_layouts}
+use Rattle.sketch_req.specs.ScheduleLaws.{events_at, updates_actions, updates_layouts, updates_trace}
 use Rattle.sketch_req.specs.Sections.{IsLegalK}
 use Rattle.sketch_req.specs.declared.RankAccuracy.{RankAccuracy}
 use Rattle.sketch_req.proofs.Unbiased.{AreCompacts, room_compacts, unbiased_list}
-use Rattle.quantile_sketches.specs.declared.audit.commands.Command.TheVariants.{New, Update, UpdateWeighted, Merge, Reset, RoundTrip}
+use Rattle.quantile_sketches.specs.declared.audit.commands.Command.TheVariants.{New, Update, UpdateWeighted, Merge, Reset, RoundTrip, Redraw, MergeRedrawn}
 use Rattle.quantile_sketches.specs.Plan.{Plan, start_plan, count_of, is_refused, accepted_shapes, accepted_events, events_of, plan_after, plan_from, trace_from, trace_of, plan_of}
 use Rattle.quantile_sketches.specs.ReqPlan.{ReqCommand, shape_in, shape_at, next_shapes}
-use Rattle.quantile_sketches.specs.ReqRules.{ReqShape, new_shape, req_rules}
+use Rattle.quantile_sketches.specs.ReqRules.{ReqShape, new_shape, merge_actions_by, req_rules}
+use Rattle.quantile_sketches.specs.ReqRun.{merged_in}
 use Rattle.quantile_sketches.specs.ReqUpdated.{accepted_only_updated, only_updated_after, only_updated_from, was_only_updated, IsUnbiased, compacted_in, off_tail_at, squared_errors}
 use Rattle.quantile_sketches.specs.Run.{accepted_streams, streams_after, streams_from, stream_of}
-use Rattle.quantile_sketches.proofs.ReqPlan.{accepted_req_events, accepted_req_shapes, updated_shape, next-shapes, same-events}
+use Rattle.quantile_sketches.proofs.ReqPlan.{events_merged, req_merge_events, accepted_req_events, req_merge_shapes, accepted_req_shapes, updated_shape, next-shapes, same-events}
 use Rattle.quantile_sketches.proofs.ReqPlans.{run-fits}
 use Rattle.quantile_sketches.proofs.ReqRuleLaws.{req_lawful, merged_as}
 use Rattle.quantile_sketches.proofs.Streams.{AreCounted, counts-after, streams-fit}
@@ -107,6 +108,39 @@ module _ {A : Type 0} where
   no_stream None (x ∷ xs) e z = absurd (omega (arith, e))
   no_stream (Some s) (x ∷ xs) e z = absurd (omega (arith, e, eqb-true s.n 0 z))
 
+  -- a slot that took a sketch in
+  merge-own : (redraws : Bool) (shapes : ℕ → Option ReqShape) (only : ℕ → Bool) (trace : List (Event A)) (streams : ℕ → List A) → AreOwn shapes only trace streams →
+      ((j : ℕ) → count_of (req_rules {A = A}) (shapes j) ≡ length (streams j)) → (into source : ℕ) →
+      AreOwn (req_merge_shapes shapes into source) (merged_in shapes only into source) (trace ++ req_merge_events redraws shapes into source) (changed streams into (streams into ++ streams source))
+  merge-own redraws shapes only trace streams h counts into source = go ((shape_in (shapes source)).n == 0) refl
+    where
+      go : (b : Bool) → ((shape_in (shapes source)).n == 0) ≡ b →
+          let s = shape_in (shapes into) in
+          let other = shape_in (shapes source) in
+          AreOwn (changed shapes into (Some (merged_as s other (if b then s.layouts else merge_layouts s.k s.layouts other.layouts)))) (changed only into (b && only into))
+          (trace ++ (if b then [] else events_merged redraws s other into source)) (changed streams into (streams into ++ streams source))
+      go true z =
+          let s = shape_in (shapes into) in
+          let merged = merged_as s (shape_in (shapes source)) s.layouts in
+          let same : streams into ++ streams source ≡ streams into =
+          ap (λ (l : List A). streams into ++ l) (no_stream (shapes source) (streams source) (counts source) z) ∙ append-nil (streams into) in
+          own-changed shapes only trace streams h into [] (Some merged) (only into) (streams into ++ streams source) (λ j e. ap (picked j) (append-nil trace))
+          (λ t. subst (IsFresh merged (picked into (trace ++ []))) (sym same)
+          (let f = h into t in record { actions_are = ap (picked into) (append-nil trace) ∙ f.actions_are; layouts_are = f.layouts_are }))
+      go false z =
+          let s = shape_in (shapes into) in
+          let other = shape_in (shapes source) in
+          own-changed shapes only trace streams h into (events_merged redraws s other into source) _ false (streams into ++ streams source)
+          (λ j e. picked-joined j source into trace (merge_actions_by redraws s.k s.accuracy s.layouts other.layouts) e) (λ t. absurd (false≢true t))
+
+  -- a slot that is no longer only updated, by actions that leave its stream
+  ended-own : (shapes : ℕ → Option ReqShape) (only : ℕ → Bool) (trace : List (Event A)) (streams : ℕ → List A) → AreOwn shapes only trace streams → (slot : ℕ) (actions : List (Action A)) →
+      AreOwn shapes (changed only slot false) (trace ++ events_at slot actions) streams
+  ended-own shapes only trace streams h slot actions = λ j.
+      subst (λ (o : Option ReqShape). IsOwn o (changed only slot false j) (picked j (trace ++ events_at slot actions)) (streams j)) (changed-own shapes slot j)
+      (subst (λ (l : List A). IsOwn (changed shapes slot (shapes slot) j) (changed only slot false j) (picked j (trace ++ events_at slot actions)) l) (changed-own streams slot j)
+      (own-changed shapes only trace streams h slot (events_at slot actions) (shapes slot) false (streams slot) (λ i e. picked-away i slot trace actions e) (λ t. absurd (false≢true t)) j))
+
   accepted-own : (shapes : ℕ → Option ReqShape) (only : ℕ → Bool) (trace : List (Event A)) (streams : ℕ → List A) → AreOwn shapes only trace streams →
       ((j : ℕ) → count_of (req_rules {A = A}) (shapes j) ≡ length (streams j)) → (command : ReqCommand A) →
       AreOwn (accepted_req_shapes shapes command) (accepted_only_updated shapes only command) (trace ++ accepted_req_events shapes command) (accepted_streams streams command)
@@ -124,35 +158,15 @@ module _ {A : Type 0} where
       let stream : List A = streams slot ++ replicate weight x in
       subst (λ (o : Option ReqShape). IsOwn o (changed only slot false j) (picked j (trace ++ [])) (changed streams slot stream j)) (changed-own shapes slot j)
       (own-changed shapes only trace streams h slot [] (shapes slot) false stream (λ i e. ap (picked i) (append-nil trace)) (λ t. absurd (false≢true t)) j)
-  accepted-own shapes only trace streams h counts (Merge into source) = go ((shape_in (shapes source)).n == 0) refl
-    where
-      go : (b : Bool) → ((shape_in (shapes source)).n == 0) ≡ b →
-          let s = shape_in (shapes into) in
-          let other = shape_in (shapes source) in
-          AreOwn (changed shapes into (Some (merged_as s other (if b then s.layouts else merge_layouts s.k s.layouts other.layouts)))) (changed only into (b && only into))
-          (trace ++ (if b then [] else merge_events s.k s.accuracy source into s.layouts other.layouts)) (changed streams into (streams into ++ streams source))
-      go true z =
-          let s = shape_in (shapes into) in
-          let merged = merged_as s (shape_in (shapes source)) s.layouts in
-          let same : streams into ++ streams source ≡ streams into =
-          ap (λ (l : List A). streams into ++ l) (no_stream (shapes source) (streams source) (counts source) z) ∙ append-nil (streams into) in
-          own-changed shapes only trace streams h into [] (Some merged) (only into) (streams into ++ streams source) (λ j e. ap (picked j) (append-nil trace))
-          (λ t. subst (IsFresh merged (picked into (trace ++ []))) (sym same)
-          (let f = h into t in record { actions_are = ap (picked into) (append-nil trace) ∙ f.actions_are; layouts_are = f.layouts_are }))
-      go false z =
-          let s = shape_in (shapes into) in
-          let other = shape_in (shapes source) in
-          own-changed shapes only trace streams h into (merge_events s.k s.accuracy source into s.layouts other.layouts) _ false (streams into ++ streams source)
-          (λ j e. picked-joined j source into trace (merge_actions s.k s.accuracy s.layouts other.layouts) e) (λ t. absurd (false≢true t))
+  accepted-own shapes only trace streams h counts (Merge into source) = merge-own false shapes only trace streams h counts into source
   accepted-own shapes only trace streams h counts (Reset slot) =
       let s = shape_in (shapes slot) in
       own-changed shapes only trace streams h slot (At slot Clear ∷ []) (Some (new_shape s.k s.accuracy)) true [] (λ j e. picked-away j slot trace (Clear ∷ []) e)
       (λ t. fresh-cleared slot s.k s.accuracy trace)
-  accepted-own shapes only trace streams h counts (RoundTrip slot) = λ j.
-      let trip : List (Action A) = Forget ∷ [] in
-      subst (λ (o : Option ReqShape). IsOwn o (changed only slot false j) (picked j (trace ++ events_at slot trip)) (streams j)) (changed-own shapes slot j)
-      (subst (λ (l : List A). IsOwn (changed shapes slot (shapes slot) j) (changed only slot false j) (picked j (trace ++ events_at slot trip)) l) (changed-own streams slot j)
-      (own-changed shapes only trace streams h slot (events_at slot trip) (shapes slot) false (streams slot) (λ i e. picked-away i slot trace trip e) (λ t. absurd (false≢true t)) j))
+  accepted-own shapes only trace streams h counts (RoundTrip slot) = ended-own shapes only trace streams h slot (Forget ∷ [])
+  accepted-own shapes only trace streams h counts (Redraw slot) =
+      let s = shape_in (shapes slot) in ended-own shapes only trace streams h slot (redraw_actions s.layouts)
+  accepted-own shapes only trace streams h counts (MergeRedrawn into source) = merge-own true shapes only trace streams h counts into source
 
   -- ---- command by command
 

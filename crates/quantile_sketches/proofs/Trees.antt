@@ -11,12 +11,12 @@ use Rattle.sketch_kll.specs.Schedule.{update_actions}
 use Rattle.sketch_kll.specs.Weighted.{weighted_actions}
 use Rattle.sketch_kll.proofs.RolledCoins.{update-once, merge-once}
 use Rattle.quantile_sketches.specs.declared.audit.commands.Command.{Command}
-use Rattle.quantile_sketches.specs.declared.audit.commands.Command.TheVariants.{New, Update, UpdateWeighted, Merge, Reset, RoundTrip}
+use Rattle.quantile_sketches.specs.declared.audit.commands.Command.TheVariants.{New, Update, UpdateWeighted, Merge, Reset, RoundTrip, Redraw, MergeRedrawn}
 use Rattle.quantile_sketches.specs.KllRules.{KllShape, kll_rules}
 use Rattle.quantile_sketches.specs.Plan.{Plan, start_plan, actions_on, events_at, count_of, shape_after, is_refused, accepted_events, events_of, plan_after, trace_from}
 use Rattle.quantile_sketches.specs.Rollup.{Standing, Free, Used, Mixed, joined, used, is_tree, accepted_standings, standings_after, standings_from, TreesTakeOnce}
 use Rattle.quantile_sketches.proofs.KllRuleLaws.{kll_lawful}
-use Rattle.quantile_sketches.proofs.Plans.{changed-away, at_slot, some-there, then-there, IsSteady, steady-start, steady-after}
+use Rattle.quantile_sketches.proofs.Plans.{changed-away, at_slot, not-none, some-there, then-there, IsSteady, steady-start, steady-after}
 
 -- ---- standings
 
@@ -221,8 +221,8 @@ module _ {A : Type 0} where
       trees-mixed A stands once shares many i slot (actions_on (plan.shapes slot) (λ shape. weighted_actions shape.k (plan.lengths.slots slot) x weight))
   accepted-trees plan st stands once shares many i (Merge into source) t e =
       let shapes = plan.shapes in
-      let (s, held, u) = then-there (λ shape. option_and_then ((kll_rules {A = A}).merged shape) (shapes source)) (shapes into) t e in
-      let (other, held_other, m) = then-there ((kll_rules {A = A}).merged s) (shapes source) t u in
+      let (s, held, u) = then-there (λ shape. option_and_then ((kll_rules {A = A}).merged false shape) (shapes source)) (shapes into) t e in
+      let (other, held_other, m) = then-there ((kll_rules {A = A}).merged false s) (shapes source) t u in
       let work : Work (List ℕ) = record { bag = plan.lengths.slots into; scratch = plan.lengths.slots source } in
       let snap : Event A = Snap source into in
       let actions : Option KllShape → Option KllShape → List (Action A) = λ x y. actions_on x (λ mine. actions_on y (λ its. merge_actions mine.k work)) in
@@ -234,6 +234,12 @@ module _ {A : Type 0} where
         | true ↦ i
         | false ↦ trees-merge A stands once shares many i into source (merge_actions s.k work) (merge-once A source into s.k work shares once (st.fits into s held).0)
       ])
+  accepted-trees plan st stands once shares many i (Redraw slot) t e =
+      let (s, held, none) = then-there (kll_rules {A = A}).redrawn (plan.shapes slot) t e in absurd (not-none t none)
+  accepted-trees plan st stands once shares many i (MergeRedrawn into source) t e =
+      let (s, held, u) = then-there (λ shape. option_and_then ((kll_rules {A = A}).merged true shape) (plan.shapes source)) (plan.shapes into) t e in
+      let (other, held_other, none) = then-there ((kll_rules {A = A}).merged true s) (plan.shapes source) t u in
+      absurd (not-none t none)
 
   events-trees : (plan : Plan KllShape) → IsSteady (kll_lawful {A = A}) plan → (stands : ℕ → Standing) (once : ℕ → Bool) (shares : ℕ → List ℕ) → AreAsMany shares → AreTrees stands once shares →
       (command : Command A ℕ) → TreesBy (standings_after kll_rules plan stands command) once shares (events_of kll_rules plan command)

@@ -4,7 +4,7 @@ use Rattle.sketch_base.specs.declared.error.ErrorKind.{ErrorKind}
 use Rattle.sketch_base.specs.declared.error.ErrorKind.TheVariants.{InvalidArgument, InvalidData, OutOfMemory}
 use Rattle.quantile_sketches.specs.Behaviour.{Behaviour, Change}
 use Rattle.quantile_sketches.specs.Rules.{Kind}
-use Rattle.quantile_sketches.specs.Steps.{Refuses, IsFresh, IsCopied, IsReadBack, IsUpdated, IsWeighted, IsMerged}
+use Rattle.quantile_sketches.specs.Steps.{Refuses, IsFresh, IsCopied, IsReadBack, IsUpdated, IsWeighted, IsRedrawn, IsMerged}
 
 -- a call does so, or gives an error as the rules have it and changes nothing
 abbrev pub Obeys : {S Source Shape : Type 0} → Option Shape → (S → Source → Type 0) → S → Source → Result Unit ErrorKind → S → Source → Type 0
@@ -26,12 +26,15 @@ module _ {A C Shape S : Type 0} (behaviour : Behaviour S A C) (kind : Kind A C S
     taken_weighted = λ x weight Source bit next s coins r t coins'.
         behaviour.taken_weighted x weight Source bit next s coins r t coins'
         × Obeys (kind.rules.updated_weighted (kind.shape s) weight) (IsWeighted kind bit next s x weight coins) s coins r t coins';
-    joined = λ p Source bit next s coins r t coins'.
-        behaviour.joined p Source bit next s coins r t coins'
-        × Obeys (kind.rules.merged (kind.shape s) (kind.shape p)) (IsMerged kind bit next s p coins) s coins r t coins'
+    redrawn = λ Source bit next s coins r t coins'.
+        behaviour.redrawn Source bit next s coins r t coins'
+        × Obeys (kind.rules.redrawn (kind.shape s)) (IsRedrawn kind bit next s coins) s coins r t coins';
+    joined = λ redraws p Source bit next s coins r t coins'.
+        behaviour.joined redraws p Source bit next s coins r t coins'
+        × Obeys (kind.rules.merged redraws (kind.shape s) (kind.shape p)) (IsMerged kind bit next redraws s p coins) s coins r t coins'
         × kind.IsSound p × kind.IsSound t;
-    refuses = λ s p answer.
-        behaviour.refuses s p answer × (IsTrue answer ↔ (kind.rules.merged (kind.shape s) (kind.shape p) ≡ None));
+    refuses = λ redraws s p answer.
+        behaviour.refuses redraws s p answer × (IsTrue answer ↔ (kind.rules.merged redraws (kind.shape s) (kind.shape p) ≡ None));
     rank = behaviour.rank;
     quantile = behaviour.quantile;
     cdf = behaviour.cdf;

@@ -12,7 +12,8 @@ use Rattle.sketch_req.specs.Actions.{bag_of}
 use Rattle.sketch_req.specs.Copy.{IsCopy}
 use Rattle.sketch_req.specs.Image.{BeginsImage, NoImage}
 use Rattle.sketch_req.specs.Level.{fresh}
-use Rattle.sketch_req.specs.Merged.{IsMerged, coins_of_merge}
+use Rattle.sketch_req.specs.Merged.{IsMergedBy, coins_of_merge_by}
+use Rattle.sketch_req.specs.Redrawn.{redrawn_sketch, coins_of_redraw}
 use Rattle.sketch_req.specs.Sections.{IsLegalK}
 use Rattle.sketch_req.specs.Sketch.{Req, IsUpdated, coins_of_update}
 use Rattle.sketch_req.specs.Written.{image_text}
@@ -78,15 +79,21 @@ module _ {A : Type 0} (cmp : A → A → Ordering) (spelling : A → Option (Lis
     abbrev pub TakesNone : Req A → Source → Result Unit ErrorKind → Req A → Source → Type 0
     TakesNone s coins r t rest = IsErrOf r InvalidArgument × (t ≡ s) × (rest ≡ coins)
 
-    -- another sketch is taken in, or refused, or not taken in for memory
-    abbrev pub JoinsIn : Req A → Req A → Source → Result Unit ErrorKind → Req A → Source → Type 0
-    JoinsIn o s coins r t rest =
+    -- the levels at odd states have their kept coins drawn anew
+    abbrev pub DrawsAnew : Req A → Source → Result Unit ErrorKind → Req A → Source → Type 0
+    DrawsAnew s coins r t rest =
+        IsOk r × (t ≡ redrawn_sketch (bits_from bit next coins (coins_of_redraw s)) s)
+        × (rest ≡ after_draws next coins (coins_of_redraw s))
+
+    -- another sketch is taken in, with coins drawn anew or not, or refused, or not taken in for memory
+    abbrev pub JoinsIn : (redraws : Bool) → Req A → Req A → Source → Result Unit ErrorKind → Req A → Source → Type 0
+    JoinsIn redraws o s coins r t rest =
         (IsErrOf r InvalidArgument ↔ IsUnfit s o)
         × IfErr r (λ e. s.accuracy ≡ o.accuracy → s.n + o.n < 2 ^ 64
         → retained (bag_of s.levels) + retained (bag_of o.levels) < 2 ^ 32 → e ≡ OutOfMemory)
         × (s.accuracy ≡ o.accuracy → o.n ≡ 0 → IsOk r × (t ≡ s) × (rest ≡ coins))
-        × OnOk r (0 < o.n → IsMerged cmp s o (bits_from bit next coins (coins_of_merge s o)) t)
-        × OnOk r (0 < o.n → rest ≡ after_draws next coins (coins_of_merge s o))
+        × OnOk r (0 < o.n → IsMergedBy cmp redraws s o (bits_from bit next coins (coins_of_merge_by redraws s o)) t)
+        × OnOk r (0 < o.n → rest ≡ after_draws next coins (coins_of_merge_by redraws s o))
         × OnErr r ((t ≡ s) × (rest ≡ coins))
 
   -- how REQ sketches behave
@@ -97,8 +104,9 @@ module _ {A : Type 0} (cmp : A → A → Ordering) (spelling : A → Option (Lis
     emptied = IsEmptied;
     taken = λ x Source bit next s. TakesIn bit next s x;
     taken_weighted = λ x weight Source bit next. TakesNone bit next;
-    joined = λ other Source bit next. JoinsIn bit next other;
-    refuses = λ s o answer. IsTrue answer ↔ IsUnfit s o;
+    redrawn = λ Source bit next. DrawsAnew bit next;
+    joined = λ redraws other Source bit next. JoinsIn bit next redraws other;
+    refuses = λ redraws s o answer. IsTrue answer ↔ IsUnfit s o;
     rank = λ s. IsRank cmp s.n (bag_of s.levels);
     quantile = λ s. IsQuantile cmp s.n (bag_of s.levels) s.least s.greatest;
     cdf = λ s points criteria. AreRanks cmp s.n points (cdf_of cmp criteria (expanded cmp (bag_of s.levels)) points);

@@ -1,5 +1,5 @@
 -- Slots of a REQ run that were only updated: their ranks are unbiased, and their errors relative.
-use Rattle.std.specs.Prelude.{◌≡◌, ℕ, ◌-◌, ◌*◌, ◌^◌, ◌≤◌, ◌==◌, ◌&&◌, Bool, true, false, IsTrue, if◌then◌else◌, List, [], ◌∷◌, length, count_by, Option}
+use Rattle.std.specs.Prelude.{◌≡◌, ℕ, ◌-◌, ◌*◌, ◌^◌, ◌≤◌, Bool, true, false, IsTrue, if◌then◌else◌, List, [], ◌∷◌, length, count_by, Option}
 use Rattle.std.specs.declared.cmp.Ordering.{Ordering}
 use Rattle.sketch_base.specs.declared.common.SearchCriteria.{SearchCriteria}
 use Rattle.sketch_base.specs.Bag.{weighted_rank}
@@ -7,23 +7,24 @@ use Rattle.sketch_base.specs.Query.{counted, true_rank}
 use Rattle.sketch_base.specs.Trace.{changed, play, start, coins}
 use Rattle.sketch_base.specs.Words.{sum_over_words, distance, square}
 use Rattle.sketch_req.specs.Relative.{off_tail, IsRelative, Reaches}
-use Rattle.quantile_sketches.specs.declared.audit.commands.Command.TheVariants.{New, Update, UpdateWeighted, Merge, Reset, RoundTrip}
+use Rattle.quantile_sketches.specs.declared.audit.commands.Command.TheVariants.{New, Update, UpdateWeighted, Merge, Reset, RoundTrip, Redraw, MergeRedrawn}
 use Rattle.quantile_sketches.specs.Plan.{is_refused, trace_of}
-use Rattle.quantile_sketches.specs.ReqPlan.{ReqCommand, shape_in, shape_at, next_shapes, no_shapes}
+use Rattle.quantile_sketches.specs.ReqPlan.{ReqCommand, shape_at, next_shapes, no_shapes}
 use Rattle.quantile_sketches.specs.ReqRules.{ReqShape, req_rules}
+use Rattle.quantile_sketches.specs.ReqRun.{merged_in}
 use Rattle.quantile_sketches.specs.Run.{stream_of}
 use Rattle.quantile_sketches.specs.Scatter.{scatter_of}
 
--- which slots were only updated since their New or Reset, after an accepted command: a merge of a sketch that holds items ends it, and so does a round trip, which loses the kept coins
+-- which slots were only updated since their New or Reset, after an accepted command: a merge of a sketch that holds items ends it, and so do a round trip, which loses the kept coins, and the drawing of new ones
 abbrev pub accepted_only_updated : {A : Type 0} → (ℕ → Option ReqShape) → (ℕ → Bool) → ReqCommand A → ℕ → Bool
 accepted_only_updated shapes only (New slot config) = changed only slot true
 accepted_only_updated shapes only (Update slot x) = only
 accepted_only_updated shapes only (UpdateWeighted slot x weight) = changed only slot false
-accepted_only_updated shapes only (Merge into source) =
-    let other = shape_in (shapes source) in
-    changed only into ((other.n == 0) && only into)
+accepted_only_updated shapes only (Merge into source) = merged_in shapes only into source
 accepted_only_updated shapes only (Reset slot) = changed only slot true
 accepted_only_updated shapes only (RoundTrip slot) = changed only slot false
+accepted_only_updated shapes only (Redraw slot) = changed only slot false
+accepted_only_updated shapes only (MergeRedrawn into source) = merged_in shapes only into source
 
 -- after any command: a refused one leaves them
 abbrev pub only_updated_after : {A : Type 0} → (ℕ → Option ReqShape) → (ℕ → Bool) → ReqCommand A → ℕ → Bool

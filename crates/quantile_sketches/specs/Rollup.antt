@@ -5,7 +5,7 @@ use Rattle.sketch_base.specs.Trace.{changed}
 use Rattle.sketch_kll.specs.Sketch.{Kll}
 use Rattle.sketch_kll.specs.Spread.{IsLittle}
 use Rattle.quantile_sketches.specs.declared.audit.commands.Command.{Command}
-use Rattle.quantile_sketches.specs.declared.audit.commands.Command.TheVariants.{New, Update, UpdateWeighted, Merge, Reset, RoundTrip}
+use Rattle.quantile_sketches.specs.declared.audit.commands.Command.TheVariants.{New, Update, UpdateWeighted, Merge, Reset, RoundTrip, Redraw, MergeRedrawn}
 use Rattle.quantile_sketches.specs.KllRules.{KllShape, kll_rules}
 use Rattle.quantile_sketches.specs.Outcome.{Slots, EachSketch}
 use Rattle.quantile_sketches.specs.Plan.{Plan, start_plan, count_of, is_refused, plan_after, plan_of, trace_of}
@@ -53,17 +53,23 @@ is_tree Used = true
 is_tree Mixed = false
 
 module _ {A C Shape : Type 0} (rules : Rules A C Shape) where
-  -- how all slots stand after an accepted command: a merge of an empty sketch changes nothing, and one of a slot with itself mixes it, as an update with a weight does
+  -- how all slots stand after a merge: that of an empty sketch changes nothing, and one of a slot with itself mixes it
+  abbrev pub merged_standings : (ℕ → Option Shape) → (ℕ → Standing) → (into source : ℕ) → ℕ → Standing
+  merged_standings shapes stands into source =
+      if count_of rules (shapes source) == 0 then stands else
+      changed (changed stands source (used (stands source))) into
+      (if into == source then Mixed else joined (stands into) (stands source))
+
+  -- after an accepted command; an update with a weight mixes a slot too
   abbrev pub accepted_standings : (ℕ → Option Shape) → (ℕ → Standing) → Command A C → ℕ → Standing
   accepted_standings shapes stands (New slot config) = changed stands slot Free
   accepted_standings shapes stands (Update slot x) = stands
   accepted_standings shapes stands (UpdateWeighted slot x weight) = changed stands slot Mixed
-  accepted_standings shapes stands (Merge into source) =
-      if count_of rules (shapes source) == 0 then stands else
-      changed (changed stands source (used (stands source))) into
-      (if into == source then Mixed else joined (stands into) (stands source))
+  accepted_standings shapes stands (Merge into source) = merged_standings shapes stands into source
   accepted_standings shapes stands (Reset slot) = changed stands slot Free
   accepted_standings shapes stands (RoundTrip slot) = stands
+  accepted_standings shapes stands (Redraw slot) = stands
+  accepted_standings shapes stands (MergeRedrawn into source) = merged_standings shapes stands into source
 
   -- after any command: a refused one leaves them
   abbrev pub standings_after : Plan Shape → (ℕ → Standing) → Command A C → ℕ → Standing

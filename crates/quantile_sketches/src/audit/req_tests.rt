@@ -143,8 +143,13 @@ fn refuses_what_no_sketch_takes(rt: HostRuntime) -> Result<(), Fail> {
         Step::Updates(7, 1, 1),
         Step::RoundTrip(7),
         Step::RoundTrip(0),
+        Step::Redraw(7),
+        Step::Redraw(0),
+        Step::MergeRedrawn(0, 1),
+        Step::MergeRedrawn(0, 7),
+        Step::MergeRedrawn(0, 0),
     ];
-    let refused = given(&[], 0, &[0, 1, 2, 6, 7, 8, 9], &[]);
+    let refused = given(&[], 0, &[0, 1, 2, 6, 7, 8, 9, 11, 13, 14], &[]);
     assert!(rt; is_so(rt.alloc(), &steps, &refused)?);
     Ok(())
 }
@@ -189,6 +194,36 @@ fn audits_every_word(rt: HostRuntime) -> Result<(), Fail> {
 #[test]
 fn audits_every_word_past_a_round_trip(rt: HostRuntime) -> Result<(), Fail> {
     assert!(rt; audits_as(rt.alloc(), &with_round_trip(), 5, [4, 4])?);
+    Ok(())
+}
+
+// A sketch that drew a coin, and one that drew none, whose merge compacts at once.
+fn before_a_merge() -> [Steps; 5] {
+    [
+        high(0, 4),
+        high(1, 4),
+        Step::Updates(1, 1, 27),
+        Step::Updates(0, 28, 50),
+        Step::Merge(0, 1),
+    ]
+}
+
+// 5 goes up or stays behind as the second coin is, which is drawn anew.
+#[test]
+fn audits_every_word_of_redrawn_coins(rt: HostRuntime) -> Result<(), Fail> {
+    assert!(rt; audits_as(rt.alloc(), &before_a_merge(), 5, [4, 4])?);
+    let mut steps = before_a_merge();
+    steps[4] = Step::MergeRedrawn(0, 1);
+    let unbiased = audited(0, 5, 2, &[4, 4, 6, 6], 5);
+    assert!(rt; is_so(rt.alloc(), &steps, &unbiased)?);
+    let steps = [
+        high(0, 4),
+        Step::Updates(0, 1, 24),
+        Step::RoundTrip(0),
+        Step::Redraw(0),
+        Step::Updates(0, 25, 50),
+    ];
+    assert!(rt; is_so(rt.alloc(), &steps, &unbiased)?);
     Ok(())
 }
 

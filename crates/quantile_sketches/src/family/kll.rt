@@ -9,7 +9,7 @@ ghost use Rattle.quantile_sketches.specs.KllRules.{KllShape, kll_kind};
 use super::Family;
 use sketch_base::common::random::RandomBits;
 use sketch_base::common::{Rank, SearchCriteria};
-use sketch_base::error::Error;
+use sketch_base::error::{Error, ErrorKind};
 use sketch_kll::sketch::KllSketch;
 use sketch_kll::value::KllValue;
 use std::alloc::Global;
@@ -53,8 +53,8 @@ impl<T: KllValue + Ord> Family for KllSketch<T> {
         self.refuses_weight(weight)
     }
 
-    fn refuses(&self, other: &Self) -> bool {
-        self.refuses(other)
+    fn refuses(&self, other: &Self, redraws: bool) -> bool {
+        redraws || self.refuses(other)
     }
 
     fn update<B: RandomBits>(&mut self, item: T, coins: &mut B) -> Result<(), Error> {
@@ -72,8 +72,20 @@ impl<T: KllValue + Ord> Family for KllSketch<T> {
         Ok(self.update_weighted(item, weight, coins)?)
     }
 
-    fn merge<B: RandomBits>(&mut self, other: &Self, coins: &mut B) -> Result<(), Error> {
+    fn redraw<B: RandomBits>(&mut self, _coins: &mut B) -> Result<(), Error> {
+        Err(Error::new(ErrorKind::InvalidArgument))
+    }
+
+    fn merge<B: RandomBits>(
+        &mut self,
+        other: &Self,
+        redraws: bool,
+        coins: &mut B,
+    ) -> Result<(), Error> {
         let (_n, _others) = (self.n(), other.n());
+        if redraws {
+            return Err(Error::new(ErrorKind::InvalidArgument));
+        }
         self.merge(other, coins)
     }
 

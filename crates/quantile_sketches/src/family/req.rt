@@ -56,7 +56,7 @@ impl<T: ReqValue + Clone + Ord> Family for ReqSketch<T> {
         true
     }
 
-    fn refuses(&self, other: &Self) -> bool {
+    fn refuses(&self, other: &Self, _redraws: bool) -> bool {
         let (_n, _others) = (self.n(), other.n());
         let (_items, _more) = (self.num_retained(), other.num_retained());
         self.refuses(other)
@@ -76,9 +76,23 @@ impl<T: ReqValue + Clone + Ord> Family for ReqSketch<T> {
         Err(Error::new(ErrorKind::InvalidArgument))
     }
 
-    fn merge<B: RandomBits>(&mut self, other: &Self, coins: &mut B) -> Result<(), Error> {
+    fn redraw<B: RandomBits>(&mut self, coins: &mut B) -> Result<(), Error> {
+        self.redraw_coins(coins);
+        Ok(())
+    }
+
+    fn merge<B: RandomBits>(
+        &mut self,
+        other: &Self,
+        redraws: bool,
+        coins: &mut B,
+    ) -> Result<(), Error> {
         let (_n, _others) = (self.n(), other.n());
-        self.merge(other, coins)
+        if redraws {
+            self.merge_redrawn(other, coins)
+        } else {
+            self.merge(other, coins)
+        }
     }
 
     fn rank_of(&self, item: &T, criteria: SearchCriteria) -> Option<Rank> {

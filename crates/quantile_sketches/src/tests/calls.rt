@@ -110,7 +110,7 @@ pub(super) fn double<S: Tried, B: RandomBits>(sketch: &mut S, coins: &mut B) -> 
     requires { S.Asks }
 {
     let copy = sketch.copy()?;
-    sketch.merge(&copy, coins)
+    sketch.merge(&copy, false, coins)
 }
 
 /// Whether a view ranks so many items, from 0 on, as its sketch does.
@@ -216,7 +216,9 @@ fn change<S: Tried>(row: Row, subject: &mut Subject<S>) -> Result<(), Error>
 {
     match &mut subject.given {
         Given::Items(items) => take(row, &mut subject.sketch, items.pop()),
-        Given::Other(other) => subject.sketch.merge(other, &mut WordBits::new(&WORD)),
+        Given::Other(other) => subject
+            .sketch
+            .merge(other, false, &mut WordBits::new(&WORD)),
         _ => bad_row(),
     }
 }

@@ -226,7 +226,9 @@ fn empties_quietly<S: Tried>(
 {
     let empty: S = filled(alloc, 8, 0)?;
     let is_told = refuse(alloc, 1);
-    let is_merged = sketch.merge(&empty, &mut WordBits::new(&WORD)).is_ok();
+    let is_merged = sketch
+        .merge(&empty, false, &mut WordBits::new(&WORD))
+        .is_ok();
     sketch.reset();
     let is_nothing = answers_none(&sketch, points);
     Ok(is_told && is_merged && is_nothing && !was_refused(alloc))

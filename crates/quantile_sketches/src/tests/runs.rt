@@ -16,6 +16,8 @@ pub(crate) enum Step<C> {
     Merge(u8, u8),
     Reset(u8),
     RoundTrip(u8),
+    Redraw(u8),
+    MergeRedrawn(u8, u8),
 }
 
 // (by hand, since it is proved sooner than a derived one)
@@ -155,6 +157,10 @@ pub(super) fn push_step<S: Tried>(
         Step::Merge(into, source) => push::<S>(commands, Command::Merge { into, source }),
         Step::Reset(slot) => push::<S>(commands, Command::Reset { slot }),
         Step::RoundTrip(slot) => push::<S>(commands, Command::RoundTrip { slot }),
+        Step::Redraw(slot) => push::<S>(commands, Command::Redraw { slot }),
+        Step::MergeRedrawn(into, source) => {
+            push::<S>(commands, Command::MergeRedrawn { into, source })
+        }
     }
 }
 

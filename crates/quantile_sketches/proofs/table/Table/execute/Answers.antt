@@ -29,3 +29,10 @@ returns-in-RoundTrip g c =
     let within : c.in-RoundTrip.slot < 256 = omega arith in
     let held = slice_get_read c.self-in-RoundTrip.inside.slots.items 256 c.in-RoundTrip.slot c.index_mut-in-RoundTrip.result.now l within c.index_mut-in-RoundTrip.ensures.value in
     rw c.in-RoundTrip.is (rw (← c.self-in-RoundTrip.view_is) (c.index_mut-in-RoundTrip.result.now, c.round_trip.new.slot, held, c.round_trip.ensures c.args.coins.now, refl))
+
+pub returns-in-Redraw : goal.returns-in-Redraw
+returns-in-Redraw g c =
+    let l : 256 ≡ length c.self-in-Redraw.inside.slots.items = omega (arith, c.self-in-Redraw.invariant, c.self-in-Redraw.inside.slots.ok) in
+    let within : c.in-Redraw.slot < 256 = omega arith in
+    let held = slice_get_read c.self-in-Redraw.inside.slots.items 256 c.in-Redraw.slot c.index_mut-in-Redraw.result.now l within c.index_mut-in-Redraw.ensures.value in
+    rw c.in-Redraw.is (rw (← c.self-in-Redraw.view_is) (c.index_mut-in-Redraw.result.now, c.redraw.new.slot, held, c.redraw.ensures, refl))

@@ -1,12 +1,9 @@
 use Rattle.std.proofs.Common.{ℕ, List, Ok, Err, Some, inl, inr, ap, subst, ◌∙◌, rules, ◌≡◌, length, arith, refl}
 use Rattle.std.proofs.lemmas.Option.{slice_get_read}
 use Rattle.hex.specs.Hex.{encode_lower}
-use Rattle.sketch_base.specs.Random.{next_state}
 use Rattle.sketch_base.specs.declared.error.ErrorKind.TheVariants.{OutOfMemory}
 use Rattle.quantile_sketches.specs.declared.answer.Refusal.TheVariants.{Sketch}
-use Rattle.quantile_sketches.specs.Behaviour.{coin_of}
 use Rattle.quantile_sketches.specs.Calls.{in_full}
-use Rattle.quantile_sketches.proofs.Slots.{item_of_clone}
 use Rattle.quantile_sketches.proofs.table.Table.reply.Goals as goal
 
 pub returns-in_err-bytes-in-Load : goal.returns-in_err-bytes-in-Load
