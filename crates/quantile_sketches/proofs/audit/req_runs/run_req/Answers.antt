@@ -2,6 +2,7 @@ use Rattle.std.proofs.Common.{length, Result, Ok, Err, IfOk}
 use Rattle.quantile_sketches.proofs.AfterCommands.{close-by}
 use Rattle.quantile_sketches.proofs.ReqFair.{accepted-unbiased_where_fair}
 use Rattle.quantile_sketches.proofs.ReqKind.{req_kind_lawful}
+use Rattle.quantile_sketches.proofs.ReqReady.{accepted-unbiased_where_redrawn}
 use Rattle.quantile_sketches.proofs.ReqRuns.{req-load, run-ordered, run-levels, run-small, run-tail, run-tails-own, run-images, run-are_unbiased, run-are_relative, run-are_relative_to_counts}
 use Rattle.quantile_sketches.proofs.audit.req_runs.run_req.Goals as goal
 
@@ -56,6 +57,13 @@ returns-clause-fair g c =
     both c.run_family.result
     (λ run refused enough.
     accepted-unbiased_where_fair g.met.T.Ord.total g.T.ReqValue.spelling c.args.commands.now c.args.word.now run.refused.items refused (length c.args.word.now) enough)
+    c.run_family.ensures.refused c.run_family.ensures.enough
+
+pub returns-clause-redrawn : goal.returns-clause-redrawn
+returns-clause-redrawn g c =
+    both c.run_family.result
+    (λ run refused enough.
+    accepted-unbiased_where_redrawn g.met.T.Ord.total g.T.ReqValue.spelling c.args.commands.now c.args.word.now run.refused.items refused (length c.args.word.now) enough)
     c.run_family.ensures.refused c.run_family.ensures.enough
 
 pub returns-clause-images : goal.returns-clause-images

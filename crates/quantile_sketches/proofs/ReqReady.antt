@@ -1,0 +1,136 @@
+-- A slot of a REQ run that stays fair by its commands is fair, and so unbiased.
+use Rattle.std.proofs.Common.{◌≡◌, ℕ, ◌≤◌, Bool, true, false, ◌==◌, if◌then◌else◌, List, [], ◌∷◌, ◌++◌, Option, Some, refl, sym, ◌∙◌, subst, Ordering}
+use Rattle.std.specs.Cmp.{IsTotalOrder}
+use Rattle.sketch_base.specs.Fair.{none_drawn}
+use Rattle.sketch_base.specs.Trace.{Event, changed, coins}
+use Rattle.sketch_base.proofs.Changes.{changed-own, changed-through}
+use Rattle.sketch_req.specs.Schedule.{Layout, merge_layouts}
+use Rattle.sketch_req.proofs.ByUpdates.{none_drawn as new-drawn}
+use Rattle.sketch_req.proofs.FairSlots.{Stands, stands-end, stands-same, stands-clear, stands-forget, stands-redraw, stands-update, stands-merge, stands-merge_redrawn}
+use Rattle.quantile_sketches.specs.declared.audit.commands.Command.TheVariants.{New, Update, UpdateWeighted, Merge, Reset, RoundTrip, Redraw, MergeRedrawn}
+use Rattle.quantile_sketches.specs.Plan.{Plan, start_plan, is_refused, accepted_shapes, accepted_events, events_of, plan_after, trace_from, trace_of}
+use Rattle.quantile_sketches.specs.Refused.{accepted_of, AreRefused}
+use Rattle.quantile_sketches.specs.ReqFair.{is_fair_slot}
+use Rattle.quantile_sketches.specs.ReqKind.{req_kind}
+use Rattle.quantile_sketches.specs.ReqPlan.{ReqCommand, shape_in, next_shapes}
+use Rattle.quantile_sketches.specs.ReqReady.{Fairness, new_fairness, updated_fairness, with_ready, merged_fairness, fairness_in, accepted_fairness, fairness_after, fairness_from, stays_fair, AreUnbiasedWhereRedrawn, ReqRunIsUnbiasedWhereRedrawn}
+use Rattle.quantile_sketches.specs.ReqRules.{ReqShape, new_shape, req_rules}
+use Rattle.quantile_sketches.proofs.ReqFair.{run-unbiased_where_fair, accepted-unbiased_where_fair}
+use Rattle.quantile_sketches.proofs.ReqPlan.{updated_shape, events_merged, req_merge_events, accepted_req_events, req_merge_shapes, accepted_req_shapes, next-shapes, same-events}
+use Rattle.quantile_sketches.proofs.ReqRuleLaws.{merged_as}
+
+abbrev layouts_in : (ℕ → Option ReqShape) → ℕ → List Layout
+layouts_in shapes j = (shape_in (shapes j)).layouts
+
+module _ {A : Type 0} (slot : ℕ) where
+  -- what comes after is fair to the asked slot, by what the commands before it show of all slots
+  abbrev Stand : (ℕ → Option ReqShape) → (ℕ → Fairness) → List (Event A) → Type 0
+  Stand shapes fairs rest = Stands slot (layouts_in shapes) (λ j. (fairs j).is_ready) (λ j. (fairs j).is_fair) rest
+
+  -- where one slot changes
+  at-one : (shapes : ℕ → Option ReqShape) (fairs : ℕ → Fairness) (s : ℕ) (shape : ReqShape) (f : Fairness) (rest : List (Event A)) →
+      Stand (changed shapes s (Some shape)) (changed fairs s f) rest →
+      Stands slot (changed (layouts_in shapes) s shape.layouts) (changed (λ j. (fairs j).is_ready) s f.is_ready) (changed (λ j. (fairs j).is_fair) s f.is_fair) rest
+  at-one shapes fairs s shape f rest n =
+      stands-same slot _ _ _ _ _ _ rest
+      (changed-through shapes (λ (o : Option ReqShape). (shape_in o).layouts) s (Some shape))
+      (changed-through fairs (λ (g : Fairness). g.is_ready) s f)
+      (changed-through fairs (λ (g : Fairness). g.is_fair) s f) n
+
+  -- where one slot is ready or not from now on
+  ready-one : (shapes : ℕ → Option ReqShape) (fairs : ℕ → Fairness) (s : ℕ) (b : Bool) (rest : List (Event A)) →
+      Stand shapes (changed fairs s (with_ready (fairs s) b)) rest →
+      Stands slot (layouts_in shapes) (changed (λ j. (fairs j).is_ready) s b) (λ j. (fairs j).is_fair) rest
+  ready-one shapes fairs s b rest n =
+      stands-same slot _ _ _ _ _ _ rest (λ j. refl)
+      (changed-through fairs (λ (g : Fairness). g.is_ready) s (with_ready (fairs s) b))
+      (λ j. changed-through fairs (λ (g : Fairness). g.is_fair) s (with_ready (fairs s) b) j ∙ changed-own (λ i. (fairs i).is_fair) s j) n
+
+  -- a merge, with coins drawn anew or not
+  merge-stands : (redraws : Bool) (shapes : ℕ → Option ReqShape) (fairs : ℕ → Fairness) (into source : ℕ) (rest : List (Event A)) →
+      Stand (req_merge_shapes shapes into source) (fairness_in redraws shapes fairs into source) rest → Stand shapes fairs (req_merge_events redraws shapes into source ++ rest)
+  merge-stands redraws shapes fairs into source rest = go ((shape_in (shapes source)).n == 0)
+    where
+      s : ReqShape
+      s = shape_in (shapes into)
+
+      other : ReqShape
+      other = shape_in (shapes source)
+
+      taken : (redraws : Bool) → Stand (changed shapes into (Some (merged_as s other (merge_layouts s.k s.layouts other.layouts)))) (changed fairs into (merged_fairness redraws s other (fairs into) (fairs source))) rest →
+          Stand shapes fairs (events_merged redraws s other into source ++ rest)
+      taken true n =
+          stands-merge_redrawn slot s.k s.accuracy source into (layouts_in shapes) (λ j. (fairs j).is_ready) (λ j. (fairs j).is_fair) rest
+          (at-one shapes fairs into _ (merged_fairness true s other (fairs into) (fairs source)) rest n)
+      taken false n =
+          stands-merge slot s.k s.accuracy source into (layouts_in shapes) (λ j. (fairs j).is_ready) (λ j. (fairs j).is_fair) rest
+          (at-one shapes fairs into _ (merged_fairness false s other (fairs into) (fairs source)) rest n)
+
+      go : (b : Bool) → Stand (changed shapes into (Some (merged_as s other (if b then s.layouts else merge_layouts s.k s.layouts other.layouts))))
+          (if b then fairs else changed fairs into (merged_fairness redraws s other (fairs into) (fairs source))) rest →
+          Stand shapes fairs ((if b then [] else events_merged redraws s other into source) ++ rest)
+      go true n =
+          stands-same slot _ _ _ _ _ _ rest
+          (λ j. changed-through shapes (λ (o : Option ReqShape). (shape_in o).layouts) into (Some (merged_as s other s.layouts)) j ∙ changed-own (layouts_in shapes) into j)
+          (λ j. refl) (λ j. refl) n
+      go false n = taken redraws n
+
+  accepted-stands : (shapes : ℕ → Option ReqShape) (fairs : ℕ → Fairness) (command : ReqCommand A) (rest : List (Event A)) →
+      Stand (accepted_req_shapes shapes command) (accepted_fairness shapes fairs command) rest → Stand shapes fairs (accepted_req_events shapes command ++ rest)
+  accepted-stands shapes fairs (New s config) rest n =
+      stands-clear slot s (layouts_in shapes) (λ j. (fairs j).is_ready) (λ j. (fairs j).is_fair) rest
+      (at-one shapes fairs s (new_shape config.0 config.1) new_fairness rest n)
+  accepted-stands shapes fairs (Update s x) rest n =
+      let shape = shape_in (shapes s) in
+      let f = updated_fairness (fairs s) in
+      stands-update slot shape.k shape.accuracy s x (layouts_in shapes) (λ j. (fairs j).is_ready) (λ j. (fairs j).is_fair) rest
+      (stands-same slot _ _ _ _ _ _ rest (λ j. refl) (changed-own (λ i. (fairs i).is_ready) s) (λ j. refl)
+      (at-one shapes fairs s (updated_shape shape) f rest n))
+  accepted-stands shapes fairs (UpdateWeighted s x weight) rest n = n
+  accepted-stands shapes fairs (Merge into source) rest n = merge-stands false shapes fairs into source rest n
+  accepted-stands shapes fairs (Reset s) rest n =
+      let shape = shape_in (shapes s) in
+      stands-clear slot s (layouts_in shapes) (λ j. (fairs j).is_ready) (λ j. (fairs j).is_fair) rest
+      (at-one shapes fairs s (new_shape shape.k shape.accuracy) new_fairness rest n)
+  accepted-stands shapes fairs (RoundTrip s) rest n =
+      stands-forget slot s (layouts_in shapes) (λ j. (fairs j).is_ready) (λ j. (fairs j).is_fair) rest (ready-one shapes fairs s false rest n)
+  accepted-stands shapes fairs (Redraw s) rest n =
+      stands-redraw slot s (layouts_in shapes) (λ j. (fairs j).is_ready) (λ j. (fairs j).is_fair) rest (ready-one shapes fairs s true rest n)
+  accepted-stands shapes fairs (MergeRedrawn into source) rest n = merge-stands true shapes fairs into source rest n
+
+  stands-before : (plan : Plan ReqShape) (fairs : ℕ → Fairness) (command : ReqCommand A) (rest : List (Event A)) →
+      Stand (next_shapes plan.shapes command) (fairness_after plan.shapes fairs command) rest → Stand plan.shapes fairs (events_of req_rules plan command ++ rest)
+  stands-before plan fairs command rest = go (is_refused req_rules plan.shapes command) refl
+    where
+      go : (b : Bool) → is_refused req_rules plan.shapes command ≡ b →
+          Stand (if b then plan.shapes else accepted_shapes req_rules plan.shapes command) (if b then fairs else accepted_fairness plan.shapes fairs command) rest →
+          Stand plan.shapes fairs ((if b then [] else accepted_events req_rules plan command) ++ rest)
+      go true e n = n
+      go false e n =
+          subst (λ (events : List (Event A)). Stand plan.shapes fairs (events ++ rest)) (same-events plan command e)
+          (accepted-stands plan.shapes fairs command rest
+          (subst (λ (f : ℕ → Option ReqShape). Stand f (accepted_fairness plan.shapes fairs command) rest) (sym (next-shapes plan.shapes command e)) n))
+
+  stands-from : (plan : Plan ReqShape) (fairs : ℕ → Fairness) (commands : List (ReqCommand A)) → (fairness_from plan.shapes fairs commands slot).is_fair ≡ true →
+      Stand plan.shapes fairs (trace_from req_rules plan commands)
+  stands-from plan fairs [] e = stands-end slot (layouts_in plan.shapes) (λ j. (fairs j).is_ready) (λ j. (fairs j).is_fair) e
+  stands-from plan fairs (command ∷ rest) e =
+      let next = plan_after req_rules plan command in
+      stands-before plan fairs command (trace_from req_rules next rest) (stands-from next (fairness_after plan.shapes fairs command) rest e)
+
+module _ {A : Type 0} where
+  -- a slot that stays fair is fair
+  pub run-stays_fair : (commands : List (ReqCommand A)) (slot : ℕ) → stays_fair commands slot ≡ true → is_fair_slot commands slot ≡ true
+  run-stays_fair commands slot e = (stands-from slot start_plan (λ s. new_fairness) commands e).fairs none_drawn (λ j r. new-drawn (none_drawn j))
+
+-- so it is unbiased
+pub run-unbiased_where_redrawn : {A : Type 0} (cmp : A → A → Ordering) → ReqRunIsUnbiasedWhereRedrawn cmp
+run-unbiased_where_redrawn cmp commands length enough slot fair =
+    run-unbiased_where_fair cmp commands length enough slot (run-stays_fair commands slot fair)
+
+-- and by those commands of a run that are accepted
+pub accepted-unbiased_where_redrawn : {A : Type 0} {cmp : A → A → Ordering} (o : IsTotalOrder cmp) (spelling : A → Option (List ℕ)) →
+    (commands : List (ReqCommand A)) (word : List Bool) (refused : List ℕ) →
+    AreRefused (req_kind cmp spelling) word commands refused → (n : ℕ) → coins (trace_of req_rules commands) ≤ n → AreUnbiasedWhereRedrawn cmp (accepted_of refused commands) n
+accepted-unbiased_where_redrawn {A} {cmp} o spelling commands word refused are n enough slot fair =
+    accepted-unbiased_where_fair o spelling commands word refused are n enough slot (run-stays_fair (accepted_of refused commands) slot fair)

@@ -1,0 +1,86 @@
+-- Slots of a REQ run that stay fair by their commands alone: merged with coins drawn anew, and redrawn after a round trip.
+use Rattle.std.specs.Prelude.{◌≡◌, ℕ, ◌*◌, ◌^◌, ◌≤◌, ◌==◌, ◌&&◌, not, Bool, true, false, IsTrue, if◌then◌else◌, List, [], ◌∷◌, count_by, Option}
+use Rattle.std.specs.declared.cmp.Ordering.{Ordering}
+use Rattle.sketch_base.specs.Bag.{weighted_rank}
+use Rattle.sketch_base.specs.Trace.{changed, play, start, coins}
+use Rattle.sketch_base.specs.Words.{sum_over_words}
+use Rattle.sketch_req.specs.Schedule.{joined_layouts, are_full}
+use Rattle.quantile_sketches.specs.declared.audit.commands.Command.TheVariants.{New, Update, UpdateWeighted, Merge, Reset, RoundTrip, Redraw, MergeRedrawn}
+use Rattle.quantile_sketches.specs.Plan.{is_refused, trace_of}
+use Rattle.quantile_sketches.specs.ReqFair.{is_fair_slot}
+use Rattle.quantile_sketches.specs.ReqPlan.{ReqCommand, shape_in, next_shapes, no_shapes}
+use Rattle.quantile_sketches.specs.ReqRules.{ReqShape, req_rules}
+use Rattle.quantile_sketches.specs.Run.{stream_of}
+
+-- what commands alone show of a slot. It is ready: each level that turns its kept coin when it is compacted next has drawn that coin. It is fair: no coin was turned in what got into it that complements none
+pub record Fairness : Type 0 where
+  pub is_ready : Bool
+  pub is_fair : Bool
+
+-- a sketch that took nothing
+abbrev pub new_fairness : Fairness
+new_fairness = record { is_ready = true; is_fair = true }
+
+-- after an update, which may compact levels
+abbrev pub updated_fairness : Fairness → Fairness
+updated_fairness f = record { is_ready = f.is_ready; is_fair = f.is_fair && f.is_ready }
+
+-- after a round trip, and after coins were drawn anew
+abbrev pub with_ready : Fairness → Bool → Fairness
+with_ready f ready = record { is_ready = ready; is_fair = f.is_fair }
+
+-- whether a merge compacts levels: both sketches together are at or over the nominal capacities
+abbrev pub merge_compacts : ReqShape → ReqShape → Bool
+merge_compacts s other = are_full s.k (joined_layouts s.k s.layouts other.layouts)
+
+-- after a merge of a sketch that holds items: where coins are drawn anew the slot is ready and as fair as both were; else it isn't ready, and is as fair as both were only where no level is compacted
+abbrev pub merged_fairness : (redraws : Bool) → ReqShape → ReqShape → Fairness → Fairness → Fairness
+merged_fairness redraws s other f g = record {
+  is_ready = redraws;
+  is_fair = if redraws then f.is_fair && g.is_fair else not (merge_compacts s other) && (f.is_fair && g.is_fair);
+}
+
+-- of all slots after a merge: that of an empty sketch changes nothing
+abbrev pub fairness_in : (redraws : Bool) → (ℕ → Option ReqShape) → (ℕ → Fairness) → (into source : ℕ) → ℕ → Fairness
+fairness_in redraws shapes fairs into source =
+    let s = shape_in (shapes into) in
+    let other = shape_in (shapes source) in
+    if other.n == 0 then fairs else changed fairs into (merged_fairness redraws s other (fairs into) (fairs source))
+
+-- after an accepted command
+abbrev pub accepted_fairness : {A : Type 0} → (ℕ → Option ReqShape) → (ℕ → Fairness) → ReqCommand A → ℕ → Fairness
+accepted_fairness shapes fairs (New slot config) = changed fairs slot new_fairness
+accepted_fairness shapes fairs (Update slot x) = changed fairs slot (updated_fairness (fairs slot))
+accepted_fairness shapes fairs (UpdateWeighted slot x weight) = fairs
+accepted_fairness shapes fairs (Merge into source) = fairness_in false shapes fairs into source
+accepted_fairness shapes fairs (Reset slot) = changed fairs slot new_fairness
+accepted_fairness shapes fairs (RoundTrip slot) = changed fairs slot (with_ready (fairs slot) false)
+accepted_fairness shapes fairs (Redraw slot) = changed fairs slot (with_ready (fairs slot) true)
+accepted_fairness shapes fairs (MergeRedrawn into source) = fairness_in true shapes fairs into source
+
+-- after any command: a refused one leaves them
+abbrev pub fairness_after : {A : Type 0} → (ℕ → Option ReqShape) → (ℕ → Fairness) → ReqCommand A → ℕ → Fairness
+fairness_after shapes fairs command = if is_refused req_rules shapes command then fairs else accepted_fairness shapes fairs command
+
+abbrev pub fairness_from : {A : Type 0} → (ℕ → Option ReqShape) → (ℕ → Fairness) → List (ReqCommand A) → ℕ → Fairness
+fairness_from shapes fairs [] = fairs
+fairness_from shapes fairs (command ∷ rest) = fairness_from (next_shapes shapes command) (fairness_after shapes fairs command) rest
+
+-- whether a slot stays fair by the commands from a run's start
+abbrev pub stays_fair : {A : Type 0} → List (ReqCommand A) → ℕ → Bool
+stays_fair commands slot = let f = fairness_from no_shapes (λ s. new_fairness) commands slot in f.is_fair
+
+-- after every list of commands the slots that stay fair are fair
+abbrev pub ReqStaysFair : Type 0 → Type 0
+ReqStaysFair A = (commands : List (ReqCommand A)) (slot : ℕ) → IsTrue (stays_fair commands slot) → IsTrue (is_fair_slot commands slot)
+
+-- so their weighted ranks by any test, summed over all words of a length, are the number of words times the true rank in the stream
+abbrev pub AreUnbiasedWhereRedrawn : {A : Type 0} → (A → A → Ordering) → List (ReqCommand A) → (length : ℕ) → Type 0
+AreUnbiasedWhereRedrawn {A} cmp commands length = (slot : ℕ) → IsTrue (stays_fair commands slot) → (test : A → Bool) →
+    sum_over_words length (λ word. weighted_rank cmp test ((play cmp (trace_of req_rules commands) word start).slots slot)) ≡
+    2 ^ length * count_by test (stream_of req_rules commands slot)
+
+-- so it is of every list of commands
+abbrev pub ReqRunIsUnbiasedWhereRedrawn : {A : Type 0} → (A → A → Ordering) → Type 0
+ReqRunIsUnbiasedWhereRedrawn {A} cmp = (commands : List (ReqCommand A)) (length : ℕ) →
+    coins (trace_of req_rules commands) ≤ length → AreUnbiasedWhereRedrawn cmp commands length
