@@ -4,7 +4,8 @@ use Rattle.sketch_kll.specs.Flat.{levels_in}
 use Rattle.sketch_kll.specs.Levels.{retained, SameLevels}
 use Rattle.sketch_kll.specs.Stored.{Stored}
 use Rattle.sketch_kll.proofs.Flats.{length-bounds, length-items}
-use Rattle.sketch_kll.proofs.Sketches.{Raised, raised_is, few_compacted}
+use Rattle.sketch_kll.proofs.NoMoreLevels.{few_compacted}
+use Rattle.sketch_kll.proofs.RaisedLevels.{Raised, raised_is}
 use Rattle.sketch_kll.proofs.levels.Levels.compact.Goals as goal
 
 pub raise-requires-clause-spare : goal.raise-requires-clause-spare

@@ -7,7 +7,7 @@ use Rattle.sketch_kll.proofs.Alikes.{UpperSorted-same, first-same}
 use Rattle.sketch_kll.proofs.Flats.{length-bounds}
 use Rattle.sketch_kll.proofs.Merged.{merged_by_calls, merged_only, joined_size, JoinedSize, joined-first}
 use Rattle.sketch_kll.proofs.MergedSketches.{merged_same}
-use Rattle.sketch_kll.proofs.Sketches.{alike_size}
+use Rattle.sketch_kll.proofs.CompactedSizes.{alike_size}
 use Rattle.sketch_kll.proofs.levels.Levels.merge.Goals as goal
 
 pub take_items-requires-clause-light : goal.take_items-requires-clause-light
