@@ -2,6 +2,7 @@
 use Rattle.std.proofs.Common.{eqb, eqb-true, ◌≡◌, ℕ, zero, suc, ◌+◌, ◌*◌, ◌<◌, Bool, cond, List, [], ◌∷◌, ◌++◌, length, refl, sym, ap, ap₂, ◌∙◌, subst, arith, Ordering, length-append, inl, inr}
 use Rattle.std.proofs.lemmas.Bool.{cases_Bool, eqb-false}
 use Rattle.sketch_kll.specs.Levels.{retained, weight, compacted, AllSorted, UpperSorted}
+use Rattle.sketch_kll.specs.Stored.{AreStored}
 use Rattle.sketch_kll.specs.Flat.{flat, marks, levels_in, IsFlat}
 use Rattle.sketch_kll.proofs.Flats.{is_flat, levels_of_flat, length-bounds}
 
@@ -54,25 +55,26 @@ pub record Raised {A : Type 0} (cmp : A → A → Ordering) (last coin : Bool) (
   pub same : compacted cmp last coin level (levels_in items new) ≡ compacted cmp last coin level (levels_in items old)
   pub sorted : UpperSorted cmp (levels_in items old) → UpperSorted cmp (levels_in items new)
 
-pub raised_is : {A : Type 0} (cmp : A → A → Ordering) (last coin : Bool) (level : ℕ) (items : List A) (old new : List ℕ) → IsFlat items old → level + 1 < length old →
-    new ≡ raised level old → Raised cmp last coin level items old new
-raised_is {A} cmp last coin level items old new f h e =
-    let R : List ℕ → Type 0 = λ (b : List ℕ). Raised cmp last coin level items old b in
-    subst R (sym e) (
+pub raised_is : {A : Type 0} {cmp : A → A → Ordering} {k total level : ℕ} {items : List A} {old new : List ℕ} {ls : List (List A)} (last coin : Bool) →
+    AreStored cmp k items old total → levels_in items old ≡ ls → level < length ls → new ≡ raised level old → Raised cmp last coin level items old new
+raised_is {A} {cmp} {k} {total} {level} {items} {old} {new} {ls} last coin stored own inside new_is =
+    let Goal : List ℕ → Type 0 = λ (b : List ℕ). Raised cmp last coin level items old b in
+    let bounds_len = length-bounds items old stored.flat in
+    let levels_len = ap length own in
+    subst Goal (sym new_is) (
     elim (cases_Bool (eqb (level + 2) (length old))) [
-      | inl t ↦
-          let n = eqb-true (level + 2) (length old) t in
-          let l = length-bounds items old f in
-          let w = levels_with_top items old f in
-          let r : R (old ++ 0 ∷ []) = record {
-            flat = w.0;
-            within = omega (arith, length-append old (0 ∷ []), n);
-            same = ap (compacted cmp last coin level) w.1 ∙ compacted-top cmp last coin level (levels_in items old) (omega (arith, n, l));
-            sorted = λ u. subst (λ (x : List (List A)). UpperSorted cmp x) (sym w.1) (UpperSorted-top cmp (levels_in items old) u);
+      | inl is_top ↦
+          let top = eqb-true (level + 2) (length old) is_top in
+          let above = levels_with_top items old stored.flat in
+          let one_more : Goal (old ++ 0 ∷ []) = record {
+            flat = above.0;
+            within = omega (arith, length-append old (0 ∷ []), top);
+            same = ap (compacted cmp last coin level) above.1 ∙ compacted-top cmp last coin level (levels_in items old) (omega (arith, top, bounds_len));
+            sorted = λ u. subst (λ (x : List (List A)). UpperSorted cmp x) (sym above.1) (UpperSorted-top cmp (levels_in items old) u);
           } in
-          rw t r
-      | inr t ↦
-          let n = eqb-false (level + 2) (length old) t in
-          let r : R old = record { flat = f; within = omega (arith, h, n); same = refl; sorted = λ u. u } in
-          rw t r
+          rw is_top one_more
+      | inr is_below ↦
+          let below = eqb-false (level + 2) (length old) is_below in
+          let as_many : Goal old = record { flat = stored.flat; within = omega (arith, inside, bounds_len, levels_len, below); same = refl; sorted = λ u. u } in
+          rw is_below as_many
     ])
