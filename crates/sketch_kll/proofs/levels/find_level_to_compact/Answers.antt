@@ -3,7 +3,7 @@ use Rattle.sketch_kll.specs.Capacity.{capacity_at}
 use Rattle.sketch_kll.specs.Levels.{first_level}
 use Rattle.sketch_kll.specs.Flat.{levels_in}
 use Rattle.sketch_kll.proofs.Flats.{bound_falls_to, length-bounds}
-use Rattle.sketch_kll.proofs.Sketches.{full_by_lengths, seeks_start, seeks_found, seeks_more, seeks_never}
+use Rattle.sketch_kll.proofs.FullLevels.{full_by_lengths, seeks_start, seeks_found, seeks_more, seeks_never}
 use Rattle.sketch_kll.proofs.levels.find_level_to_compact.Goals as goal
 
 pub returns-then-items-total-clause-full : goal.returns-then-items-total-clause-full

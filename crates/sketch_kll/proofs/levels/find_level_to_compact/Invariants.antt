@@ -1,5 +1,5 @@
 use Rattle.sketch_kll.specs.Flat.{levels_in}
-use Rattle.sketch_kll.proofs.Sketches.{SeeksFull}
+use Rattle.sketch_kll.proofs.FullLevels.{SeeksFull}
 use Rattle.sketch_kll.proofs.levels.find_level_to_compact.Given as goal
 
 abbrev pub invariant-loop-level : goal.invariant-loop-level

@@ -1,6 +1,6 @@
 use Rattle.std.proofs.Common.{◌≡◌, ℕ, ◌≤◌, List, [], ◌∷◌, length, set, take, arith, refl, ap, ◌∙◌}
 use Rattle.sketch_kll.proofs.Flats.{length-bounds}
-use Rattle.sketch_kll.proofs.Sketches.{empty_stored, new_levels}
+use Rattle.sketch_kll.proofs.StoredLevels.{empty_stored, new_levels}
 use Rattle.sketch_kll.proofs.levels.Levels.clear.Goals as goal
 
 two_bounds : (bs : List ℕ) → 2 ≤ length bs → set (set (take 2 bs) 0 0) 1 0 ≡ 0 ∷ 0 ∷ []

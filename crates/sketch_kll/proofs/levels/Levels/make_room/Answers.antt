@@ -6,7 +6,8 @@ use Rattle.sketch_kll.specs.Flat.{levels_in}
 use Rattle.sketch_kll.specs.Steps.{is_full, full_level}
 use Rattle.sketch_kll.specs.Stored.{Stored}
 use Rattle.sketch_kll.proofs.Flats.{length-bounds, SameLevels-refl}
-use Rattle.sketch_kll.proofs.Sketches.{full_level_low, with_room_full, with_room_spare}
+use Rattle.sketch_kll.proofs.FullLevels.{with_room_full, with_room_spare}
+use Rattle.sketch_kll.proofs.NoMoreLevels.{full_level_low}
 use Rattle.sketch_kll.proofs.levels.Levels.make_room.Goals as goal
 
 pub find_level_to_compact-requires-clause-total : goal.find_level_to_compact-requires-clause-total

@@ -1,5 +1,5 @@
 use Rattle.std.proofs.Common.{refl, rules}
-use Rattle.sketch_kll.proofs.Sketches.{empty_stored, new_levels}
+use Rattle.sketch_kll.proofs.StoredLevels.{empty_stored, new_levels}
 use Rattle.sketch_kll.proofs.levels.Levels.new.Goals as goal
 
 pub invariant_of-result : goal.invariant_of-result

@@ -4,7 +4,7 @@ use Rattle.sketch_kll.specs.Flat.{levels_in}
 use Rattle.sketch_kll.specs.Levels.{retained, UpperSorted}
 use Rattle.sketch_kll.specs.Stored.{Stored}
 use Rattle.sketch_kll.proofs.Flats.{length-items}
-use Rattle.sketch_kll.proofs.Sketches.{put_flat, length-put, UpperSorted-put}
+use Rattle.sketch_kll.proofs.PutItems.{put_flat, length-put, UpperSorted-put}
 use Rattle.sketch_kll.proofs.levels.Levels.push.Goals as goal
 
 pub unwrap-requires : goal.unwrap-requires

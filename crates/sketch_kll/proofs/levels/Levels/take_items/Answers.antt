@@ -3,7 +3,7 @@ use Rattle.std.proofs.lemmas.Iterator.Adapters.{YieldsList-from_vec}
 use Rattle.std.proofs.lemmas.Iterator.Consumers.{YieldsList-turn}
 use Rattle.sketch_kll.specs.Levels.{retained, weight, SameLevels}
 use Rattle.sketch_kll.specs.Steps.{is_full, with_room}
-use Rattle.sketch_kll.proofs.Sketches.{retained-put}
+use Rattle.sketch_kll.proofs.PutItems.{retained-put}
 use Rattle.sketch_kll.proofs.Takes.{Taking, taking_none, taking_more}
 use Rattle.sketch_kll.proofs.levels.Levels.take_items.Goals as goal
 

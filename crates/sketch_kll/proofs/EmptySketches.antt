@@ -1,0 +1,30 @@
+-- an empty sketch is sound
+use Rattle.std.proofs.Common.{Option, None, ◌≡◌, ℕ, ◌<◌, ◌≤◌, ◌^◌, Bool, false, List, [], ◌∷◌, refl, sym, subst, arith, Ordering}
+use Rattle.sketch_kll.specs.Sketch.{IsSound, sketch_of, empty_sketch}
+
+pub empty_sound : {A : Type 0} (cmp : A → A → Ordering) (k : ℕ) (flag : Bool) → 8 ≤ k → k < 2 ^ 16 → IsSound cmp (empty_sketch {A = A} k flag)
+empty_sound cmp k flag h w = record {
+  eight_below_min_k = h;
+  min_k_below_k = omega arith;
+  k_fits = w;
+  weighs_n = refl;
+  has_level = omega arith;
+  has_few_levels = omega arith;
+  within_capacity = omega arith;
+  upper_sorted = tt;
+  flag_holds = λ _ i d low lt. absurd (omega arith);
+  least_there = refl;
+  greatest_there = refl;
+  extremes_in_order = tt;
+  items_between = (tt, tt);
+  one_level_at_first = λ h. refl;
+  min_k_at_first = λ h. refl;
+  one_item_ties = λ h. absurd (omega arith);
+}
+
+-- a sketch of no item is the empty sketch
+pub new_empty : {A : Type 0} (k k0 : ℕ) (flag : Bool) (levels : List (List A)) → k ≡ k0 → flag ≡ false → levels ≡ [] ∷ [] → sketch_of k k0 0 flag levels None None ≡ empty_sketch k0 false
+new_empty k k0 flag levels ek ef e = λ j. record { k = ek j; min_k = k0; n = 0; is_sorted = ef j; levels = e j; least = None; greatest = None }
+
+pub new_sound : {A : Type 0} (cmp : A → A → Ordering) (k k0 : ℕ) (flag : Bool) (levels : List (List A)) → 8 ≤ k0 → k0 < 2 ^ 16 → k ≡ k0 → flag ≡ false → levels ≡ [] ∷ [] → IsSound cmp (sketch_of k k0 0 flag levels None None)
+new_sound cmp k k0 flag levels h w ek ef e = subst (IsSound cmp) (sym (new_empty k k0 flag levels ek ef e)) (empty_sound cmp k0 false h w)

@@ -1,0 +1,113 @@
+-- a compaction never makes a 62nd level, since a full level 60 would weigh too much
+use Rattle.std.proofs.Common.{◌≡◌, ℕ, suc, ◌+◌, ◌-◌, ◌*◌, ◌^◌, ◌<◌, ◌≤◌, Bool, false, nat_le, List, [], ◌∷◌, length, refl, sym, ap, ◌∙◌, subst, arith, Ordering, leb-true, leb-false, inl, inr}
+use Rattle.std.proofs.Math.Nat.{pow-succ'}
+use Rattle.std.proofs.lemmas.Bool.{cases_Bool, lt-leb, cases_lt, cases_eq}
+use Rattle.sketch_kll.specs.Capacity.{capacity_at, total_of}
+use Rattle.sketch_kll.specs.Levels.{retained, weight, compacted, SameLevels}
+use Rattle.sketch_kll.specs.Steps.{full_level, is_full, with_room, keeps_last}
+use Rattle.sketch_kll.proofs.Capacities.{capacity_eight}
+use Rattle.sketch_kll.proofs.CompactedSizes.{compacted_size, alike_size}
+use Rattle.sketch_kll.proofs.FullLevels.{full_level_at, with_room_spare}
+
+-- a top level that is the lowest full one weighs much: all below it lack an item at least
+pub heavy_top : {A : Type 0} (k extra : ℕ) (ls : List (List A)) → 0 < length ls → total_of k 8 (length ls) + extra ≤ retained ls → length ls ≤ full_level k ls + 1 →
+    2 ^ (length ls - 1) * (capacity_at k 8 0 + extra + (length ls - 1)) ≤ weight ls
+heavy_top k extra [] h t f = absurd (omega arith)
+heavy_top k extra (l ∷ []) h t f = omega arith
+heavy_top k extra (l ∷ m ∷ ls) h t f =
+    let short : length l < capacity_at k 8 (suc (length ls)) =
+    elim (cases_Bool (nat_le (capacity_at k 8 (suc (length ls))) (length l))) [
+      | inl e ↦ let z : full_level k (l ∷ m ∷ ls) ≡ 0 = rw e refl in absurd (omega (arith, z))
+      | inr e ↦ leb-false _ _ e
+    ] in
+    let z : full_level k (l ∷ m ∷ ls) ≡ suc (full_level k (m ∷ ls)) = rw (lt-leb (capacity_at k 8 (suc (length ls))) (length l) short) refl in
+    let ih = heavy_top k (extra + 1) (m ∷ ls) (omega arith) (omega arith) (omega (arith, z)) in
+    let p : 2 ^ (suc (suc (length ls)) - 1) ≡ 2 * 2 ^ (suc (length ls) - 1) =
+    (let a : suc (suc (length ls)) - 1 ≡ suc (suc (length ls) - 1) = omega arith in ap (λ (i : ℕ). 2 ^ i) a ∙ pow-succ' 2 (suc (length ls) - 1)) in
+    let q : capacity_at k 8 0 + extra + (suc (suc (length ls)) - 1) ≡ capacity_at k 8 0 + (extra + 1) + (suc (length ls) - 1) = omega arith in
+    rw (p, q) (omega (arith, ih))
+
+pub total_grows : (k m n : ℕ) → m ≤ n → n ≤ m + 1 → total_of k 8 m ≤ total_of k 8 n
+total_grows k m n h l =
+    elim (cases_eq m n) [
+      | inl e ↦ let f = ap (total_of k 8) e in omega (arith, f)
+      | inr e ↦ let d : n ≡ suc m = omega arith in let f = ap (total_of k 8) d in omega (arith, f)
+    ]
+
+no_more_levels : {A : Type 0} (k : ℕ) (ls : List (List A)) → length ls ≤ 61 → 0 < length ls → weight ls < 2 ^ 64 → total_of k 8 (length ls) ≤ retained ls → length ls ≤ full_level k ls + 1 → length ls ≤ 60
+no_more_levels k ls few h w t f =
+    elim (cases_lt (length ls) 61) [
+      | inl b ↦ omega arith
+      | inr b ↦
+          let e : length ls ≡ 61 = omega arith in
+          let g = heavy_top k 0 ls h (omega (arith, t)) f in
+          let g' = subst (λ (n : ℕ). 2 ^ (n - 1) * (capacity_at k 8 0 + 0 + (n - 1)) ≤ weight ls) e g in
+          absurd (omega (arith, g', capacity_eight k 0))
+    ]
+
+pub still_few : {A : Type 0} (cmp : A → A → Ordering) (k : ℕ) (last coin : Bool) (ls : List (List A)) → 0 < length ls → length ls ≤ 61 → weight ls < 2 ^ 64 →
+    total_of k 8 (length ls) ≤ retained ls → length (compacted cmp last coin (full_level k ls) ls) ≤ 61
+still_few cmp k last coin ls h few w f =
+    let a = full_level_at k ls h f in
+    let s = compacted_size cmp last coin (full_level k ls) ls a.0 in
+    elim (cases_lt (suc (full_level k ls)) (length ls)) [
+      | inl b ↦ omega (arith, s.same b)
+      | inr b ↦ let n = no_more_levels k ls few h w f (omega arith) in omega (arith, n, s.at_most)
+    ]
+
+-- a compaction below level 60 leaves some levels, and at most 61
+pub few_compacted : {A : Type 0} (cmp : A → A → Ordering) (level : ℕ) (last coin : Bool) (ls raised ms : List (List A)) → length ls ≤ 61 → level < length ls → level < 60 →
+    compacted cmp last coin level raised ≡ compacted cmp last coin level ls → SameLevels cmp (compacted cmp last coin level raised) ms → (0 < length ms) × (length ms ≤ 61)
+few_compacted cmp level last coin ls raised ms few h low e alike =
+    let s = compacted_size cmp last coin level ls h in
+    let z = alike_size cmp (compacted cmp last coin level raised) ms alike in
+    let c = ap length e in
+    elim (cases_lt (suc level) (length ls)) [
+      | inl b ↦ let n = s.same b in (omega (arith, n, z.counts, c), omega (arith, n, z.counts, c))
+      | inr b ↦ (omega (arith, s.at_least, z.counts, c), omega (arith, s.at_most, z.counts, c, b, low))
+    ]
+
+-- a level 60 is never the lowest full one
+pub full_level_low : {A : Type 0} (k : ℕ) (ls : List (List A)) → 0 < length ls → length ls ≤ 61 → weight ls < 2 ^ 64 → total_of k 8 (length ls) ≤ retained ls → full_level k ls < 60
+full_level_low k ls h few w f =
+    let a = full_level_at k ls h f in
+    elim (cases_lt (suc (full_level k ls)) (length ls)) [
+      | inl b ↦ omega (arith, few)
+      | inr b ↦ let n = no_more_levels k ls few h w f (omega arith) in omega (arith, n, a.0)
+    ]
+
+-- what room for one more item leaves
+pub record RoomMade {A : Type 0} (k : ℕ) (ls ms : List (List A)) : Type 0 where
+  pub weighs : weight ms ≡ weight ls
+  pub few : length ms ≤ 61
+  pub some : 0 < length ms
+  pub within : retained ms + 1 ≤ total_of k 8 (length ms)
+
+pub room_made : {A : Type 0} (cmp : A → A → Ordering) (k : ℕ) (is_sorted coin : Bool) (ls : List (List A)) → 0 < length ls → length ls ≤ 61 → weight ls < 2 ^ 64 →
+    retained ls ≤ total_of k 8 (length ls) → RoomMade k ls (with_room cmp k is_sorted coin ls)
+room_made cmp k is_sorted coin ls h few w t =
+    elim (cases_Bool (is_full k ls)) [
+      | inl e ↦
+          let f : total_of k 8 (length ls) ≤ retained ls = leb-true _ _ e in
+          let a = full_level_at k ls h f in
+          let s = compacted_size cmp (keeps_last is_sorted (full_level k ls)) coin (full_level k ls) ls a.0 in
+          let c = capacity_eight k (length ls - 1 - full_level k ls) in
+          let g = total_grows k (length ls) (length (compacted cmp (keeps_last is_sorted (full_level k ls)) coin (full_level k ls) ls)) s.at_least s.at_most in
+          let m : length (compacted cmp (keeps_last is_sorted (full_level k ls)) coin (full_level k ls) ls) ≤ 61 =
+          still_few cmp k (keeps_last is_sorted (full_level k ls)) coin ls h few w f in
+          rw e (record { weighs = s.weighs; few = m; some = omega (arith, s.at_least); within = omega (arith, s.retains, a.1, c, g) })
+      | inr e ↦ let f : retained ls < total_of k 8 (length ls) = leb-false _ _ e in rw e (record { weighs = refl; few = few; some = h; within = omega arith })
+    ]
+
+retained-weight : {A : Type 0} (ls : List (List A)) → retained ls ≤ weight ls
+retained-weight [] = omega arith
+retained-weight (l ∷ ls) = let h = retained-weight ls in omega (arith, h)
+
+-- room for the first two items takes no level
+pub one_level_left : {A : Type 0} (cmp : A → A → Ordering) (k : ℕ) (is_sorted coin : Bool) (ls : List (List A)) → length ls ≡ 1 → weight ls ≤ 1 → length (with_room cmp k is_sorted coin ls) ≡ 1
+one_level_left cmp k is_sorted coin ls e w =
+    let r = retained-weight ls in
+    let t : total_of k 8 (length ls) ≡ 0 + capacity_at k 8 0 = ap (total_of k 8) e in
+    let c = capacity_eight k 0 in
+    let f : false ≡ is_full k ls = sym (lt-leb (total_of k 8 (length ls)) (retained ls) (omega (arith, r, t, c))) in
+    ap length (with_room_spare cmp k is_sorted coin ls f) ∙ e

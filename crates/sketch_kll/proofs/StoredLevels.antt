@@ -1,0 +1,99 @@
+-- levels as they are stored: empty, those of a sound sketch, after a compaction, and after a merge
+use Rattle.std.proofs.Common.{Option, ◌≡◌, ℕ, ◌+◌, ◌-◌, ◌<◌, ◌≤◌, Bool, List, [], ◌∷◌, ◌++◌, length, drop, replicate, sym, ap, ◌∙◌, subst, arith, Ordering, length-drop}
+use Rattle.sketch_kll.specs.Capacity.{total_of}
+use Rattle.sketch_kll.specs.Flat.{levels_in, IsFlat}
+use Rattle.sketch_kll.specs.Join.{joined, joined_bounds}
+use Rattle.sketch_kll.specs.Levels.{compacted, SameLevels, UpperSorted}
+use Rattle.sketch_kll.specs.Sketch.{IsSound, sketch_of}
+use Rattle.sketch_kll.specs.Stored.{AreStored}
+use Rattle.sketch_kll.proofs.Flats.{is_flat, levels_of_flat, length-bounds}
+use Rattle.sketch_kll.proofs.Joins.{prepared}
+use Rattle.sketch_kll.proofs.Merged.{JoinedSize, joined_size}
+use Rattle.sketch_kll.proofs.NoMoreLevels.{few_compacted}
+use Rattle.sketch_kll.proofs.RaisedLevels.{raised, raised_is}
+
+pub new_levels : {A : Type 0} (items : List A) (bounds : List ℕ) → items ≡ [] → bounds ≡ 0 ∷ 0 ∷ [] →
+    IsFlat items bounds × (levels_in items bounds ≡ [] ∷ [])
+new_levels items bounds e f = (is_flat items bounds ([] ∷ []) e f, levels_of_flat items bounds ([] ∷ []) e f)
+
+-- one empty level as it is stored
+pub empty_stored : {A : Type 0} (cmp : A → A → Ordering) (k : ℕ) (items : List A) (bounds : List ℕ) (total : ℕ) → 8 ≤ k → items ≡ [] → bounds ≡ 0 ∷ 0 ∷ [] → total ≡ total_of k 8 1 → AreStored cmp k items bounds total
+empty_stored {A} cmp k items bounds total h e f t =
+    let n = new_levels items bounds e f in
+    let c = ap length n.1 in
+    record {
+      k_above = h;
+      flat = n.0;
+      total_is = t ∙ ap (λ (ls : List (List A)). total_of k 8 (length ls)) (sym n.1);
+      some = omega (arith, c);
+      few = omega (arith, c);
+      sorted = subst (λ (ls : List (List A)). UpperSorted cmp ls) (sym n.1) tt;
+    }
+
+-- the levels of a sketch as they are stored
+pub sound_stored : {A : Type 0} (cmp : A → A → Ordering) (k min_k n : ℕ) (flag : Bool) (items : List A) (bounds : List ℕ) (total : ℕ) (least greatest : Option A) → IsFlat items bounds → total ≡ total_of k 8 (length (levels_in items bounds)) →
+    IsSound cmp (sketch_of k min_k n flag (levels_in items bounds) least greatest) → AreStored cmp k items bounds total
+sound_stored cmp k min_k n flag items bounds total least greatest f t s =
+    record { k_above = omega (arith, s.eight_below_min_k, s.min_k_below_k); flat = f; total_is = t; some = s.has_level; few = s.has_few_levels; sorted = s.upper_sorted }
+
+-- the total capacity goes by the number of bounds
+pub known_total : {A : Type 0} {cmp : A → A → Ordering} {k total : ℕ} {items : List A} {bounds : List ℕ} → AreStored cmp k items bounds total →
+    (len : ℕ) → len ≡ length bounds → total ≡ total_of k 8 (len - 1)
+known_total {k = k} {items = items} {bounds = bounds} stored len len_is =
+    let bounds_len = length-bounds items bounds stored.flat in
+    stored.total_is ∙ ap (total_of k 8) (omega (arith, bounds_len, len_is))
+
+-- what a compaction leaves in the vectors is stored once the total capacity fits it
+pub record CompactedStored {A : Type 0} (cmp : A → A → Ordering) (last coin : Bool) (k level : ℕ) (ls : List (List A)) (items : List A) (bounds : List ℕ) : Type 0 where
+  pub few : length bounds ≤ 62
+  pub same : SameLevels cmp (compacted cmp last coin level ls) (levels_in items bounds)
+  pub sorted : UpperSorted cmp (levels_in items bounds)
+  pub stored : (total len : ℕ) → len ≡ length bounds → total ≡ total_of k 8 (len - 1) → AreStored cmp k items bounds total
+
+pub compacted_stored : {A : Type 0} {cmp : A → A → Ordering} {k total level : ℕ} {items items' : List A} {bounds wide bounds' : List ℕ} {ls : List (List A)} (last coin : Bool) →
+    AreStored cmp k items bounds total → levels_in items bounds ≡ ls → level < length ls → level < 60 → wide ≡ raised level bounds → IsFlat items' bounds' →
+    SameLevels cmp (compacted cmp last coin level (levels_in items wide)) (levels_in items' bounds') →
+    (UpperSorted cmp (levels_in items wide) → UpperSorted cmp (levels_in items' bounds')) → CompactedStored cmp last coin k level ls items' bounds'
+compacted_stored {A} {cmp} {k} {total} {level} {items} {items'} {bounds} {wide} {bounds'} {ls} last coin stored own within low widened flat alike ordered =
+    let up = raised_is last coin stored own within widened in
+    let inside : level < length (levels_in items bounds) = omega (arith, ap length own, within) in
+    let few = few_compacted cmp level last coin (levels_in items bounds) (levels_in items wide) (levels_in items' bounds') stored.few inside low up.same alike in
+    let bounds_len = length-bounds items' bounds' flat in
+    let Alike : List (List A) → Type 0 = λ (ms : List (List A)). SameLevels cmp ms (levels_in items' bounds') in
+    let sorted = ordered (up.sorted stored.sorted) in
+    record {
+      few = omega (arith, bounds_len, few.1);
+      same = subst Alike (up.same ∙ ap (compacted cmp last coin level) own) alike;
+      sorted = sorted;
+      stored = λ total' len len_is total_is.
+          record { k_above = stored.k_above; flat = flat; total_is = total_is ∙ ap (total_of k 8) (omega (arith, bounds_len, len_is)); some = few.0; few = few.1; sorted = sorted };
+    }
+
+-- levels that others were merged into from level 1 up
+pub record JoinedStored {A : Type 0} (cmp : A → A → Ordering) (k : ℕ) (ls us : List (List A)) (items : List A) (bounds : List ℕ) (total : ℕ) : Type 0 where
+  pub stored : AreStored cmp k items bounds total
+  pub same : SameLevels cmp (joined cmp ls us) (levels_in items bounds)
+
+pub joined_stored : {A : Type 0} {cmp : A → A → Ordering} {k total total' : ℕ} {items upper taken merged items' : List A} {bounds wide bounds' : List ℕ} (runs : List ℕ) →
+    AreStored cmp k items bounds total → IsFlat upper (drop 1 runs) → 2 ≤ length runs → length runs ≤ 62 → wide ≡ bounds ++ replicate (length runs - length bounds) 0 → taken ≡ items →
+    IsFlat merged (joined_bounds wide runs) →
+    SameLevels cmp (joined cmp (levels_in taken wide) (levels_in upper (drop 1 runs))) (levels_in merged (joined_bounds wide runs)) →
+    UpperSorted cmp (levels_in merged (joined_bounds wide runs)) →
+    items' ≡ merged → bounds' ≡ joined_bounds wide runs → (len : ℕ) → len ≡ length bounds' → total' ≡ total_of k 8 (len - 1) →
+    JoinedStored cmp k (levels_in items bounds) (levels_in upper (drop 1 runs)) items' bounds' total'
+joined_stored {A} {cmp} {k} {total} {total'} {items} {upper} {taken} {merged} {items'} {bounds} {wide} {bounds'} runs stored flat_upper two few widened took flat alike sorted items_are bounds_are len len_is total_is =
+    let wide_is = prepared runs stored flat_upper two few widened took in
+    let ls : List (List A) = levels_in items bounds in
+    let us : List (List A) = levels_in upper (drop 1 runs) in
+    let Fit : List A → List ℕ → Type 0 = λ (xs : List A) (bs : List ℕ). IsFlat xs bs × SameLevels cmp (joined cmp ls us) (levels_in xs bs) × UpperSorted cmp (levels_in xs bs) in
+    let Alike : List (List A) → Type 0 = λ (ms : List (List A)). SameLevels cmp ms (levels_in merged (joined_bounds wide runs)) in
+    let here : Fit merged (joined_bounds wide runs) = (flat, subst Alike wide_is.same alike, sorted) in
+    let there : Fit items' bounds' = subst (λ (xs : List A). Fit xs bounds') (sym items_are) (subst (λ (bs : List ℕ). Fit merged bs) (sym bounds_are) here) in
+    let upper_len = length-bounds upper (drop 1 runs) flat_upper in
+    let bounds_len = length-bounds items' bounds' there.0 in
+    let sizes : JoinedSize ls us (levels_in items' bounds') =
+    joined_size cmp ls us (levels_in items' bounds') stored.some stored.few (omega (arith, upper_len, length-drop 1 runs, few)) there.1 in
+    record {
+      stored = record { k_above = stored.k_above; flat = there.0; total_is = total_is ∙ ap (total_of k 8) (omega (arith, bounds_len, len_is)); some = sizes.some; few = sizes.few; sorted = there.2 };
+      same = there.1;
+    }
