@@ -148,7 +148,8 @@ redraws-draw A h (l ∷ ls) = go (turns_coin l.state) refl (redraws-draw A (suc 
         let n = ap {B = ℕ} (λ (b : Bool). cond b 1 0) e in
         ap (λ (b : Bool). draws_of (all b)) e ∙ omega (arith, r, first, n)
 
-own-redraws : (A : Type 0) (h : ℕ) (ls : List Layout) → AreOwn {A = A} (redraws_from h ls)
+-- they leave the scratch alone
+pub own-redraws : (A : Type 0) (h : ℕ) (ls : List Layout) → AreOwn {A = A} (redraws_from h ls)
 own-redraws A h [] = tt
 own-redraws A h (l ∷ ls) = go (turns_coin l.state) (own-redraws A (suc h) ls)
   where
