@@ -10,7 +10,8 @@ use Rattle.sketch_req.specs.Walk.{AreOwn}
 use Rattle.sketch_req.specs.declared.RankAccuracy.{RankAccuracy}
 use Rattle.sketch_req.proofs.ByUpdates.{none_drawn}
 use Rattle.sketch_req.proofs.Drawn.{Rises}
-use Rattle.sketch_req.proofs.FairWalks.{IsFair, fair-update, fair-joins, fair-redraw, fair-merge_redrawn, fair-apart, reaches-own, reaches-joins, own-update, own-room, own-redraws}
+use Rattle.sketch_req.proofs.FairWalks.{IsFair, fair-update, fair-joins, fair-redraw, fair-merge_redrawn, fair-apart, reaches-own, reaches-joins, own-update, own-room}
+use Rattle.sketch_req.proofs.Redraws.{own-redraws}
 use Rattle.sketch_req.proofs.Walks.{own-append}
 
 -- the ready slots have drawn the coins that they turn next

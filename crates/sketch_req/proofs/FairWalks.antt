@@ -28,14 +28,6 @@ module _ (A : Type 0) where
   pub own-update : (k : ℕ) (accuracy : RankAccuracy) (ls : List Layout) (x : A) → AreOwn (update_actions k accuracy ls x)
   own-update k accuracy ls x = (refl, own-room k accuracy (put_layouts ls))
 
-  pub own-redraws : (h : ℕ) (ls : List Layout) → AreOwn {A = A} (redraws_from h ls)
-  own-redraws h [] = tt
-  own-redraws h (l ∷ ls) = go (turns_coin l.state) (own-redraws (suc h) ls)
-    where
-      go : (b : Bool) → AreOwn {A = A} (redraws_from (suc h) ls) → AreOwn {A = A} ((if b then Redraw h ∷ [] else []) ++ redraws_from (suc h) ls)
-      go true above = (refl, above)
-      go false above = above
-
 module _ {A : Type 0} (slot : ℕ) where
   -- the events are fair to the slot, from what was drawn before them
   abbrev pub IsFair : List (Event A) → (ℕ → ℕ → Bool) → Type 0

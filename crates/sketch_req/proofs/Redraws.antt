@@ -5,7 +5,7 @@ use Rattle.std.proofs.lemmas.List.{drop-set-lt, drop_all, drop_more, take_all, t
 use Rattle.std.proofs.lemmas.List.Sums.{sum_by-cons}
 use Rattle.sketch_base.specs.Bag.{Bag, AlikeReq}
 use Rattle.sketch_base.specs.Random.{bits_from, after_draws}
-use Rattle.sketch_base.specs.Trace.{Action, Redraw, Work, changed, act, acts, alone, bag_after, draws, draws_of, next_bit}
+use Rattle.sketch_base.specs.Trace.{Action, Redraw, Work, act, acts, alone, bag_after, draws, draws_of, next_bit}
 use Rattle.sketch_base.proofs.Changes.{changed-there, changed-other}
 use Rattle.sketch_req.specs.Actions.{bag_of, coins_of}
 use Rattle.sketch_req.specs.Level.{Level, turns_coin, redrawn_level}
@@ -148,6 +148,7 @@ redraws-draw A h (l ∷ ls) = go (turns_coin l.state) refl (redraws-draw A (suc 
         let n = ap {B = ℕ} (λ (b : Bool). cond b 1 0) e in
         ap (λ (b : Bool). draws_of (all b)) e ∙ omega (arith, r, first, n)
 
+-- they leave the scratch alone
 pub own-redraws : (A : Type 0) (h : ℕ) (ls : List Layout) → AreOwn {A = A} (redraws_from h ls)
 own-redraws A h [] = tt
 own-redraws A h (l ∷ ls) = go (turns_coin l.state) (own-redraws A (suc h) ls)

@@ -1,4 +1,4 @@
-use Rattle.std.proofs.Common.{◌≡◌, ◌≤◌, drop, length}
+use Rattle.std.proofs.Common.{◌≡◌, drop, length}
 use Rattle.sketch_req.proofs.Redraws.{drawn_so_far, redrawn_by, source_by}
 use Rattle.sketch_req.proofs.sketch.levels.Levels.redraw_coins.Given as goal
 
