@@ -236,11 +236,13 @@ function join(line, key, image, kind,   sort_of) {
         begin(key, kind)
         kept[key] = sort_of
         say(key, "load " slot[key] " " image)
+        # (an image holds no coins: what its levels are to turn is drawn first)
+        if (kind == "req") say(key, "redraw " slot[key])
     } else if (kept[key] != sort_of)
         tell_refused(line, key, "is of another kind of sketch than those before")
     else {
         say(key, "load " scratch " " image)
-        say(key, "merge " slot[key] " " scratch)
+        say(key, (kind == "req" ? "mergeu " : "merge ") slot[key] " " scratch)
     }
 }
 

@@ -25,7 +25,7 @@ fn slowest(alloc: Global, first: &[u8], second: &[u8]) -> Result<Option<i64>, Er
     let mut coins = SplitMix64::new(0);
     let mut both = ReqSketch::deserialize(alloc, first)?;
     let other = ReqSketch::deserialize(alloc, second)?;
-    both.merge(&other, &mut coins)?;
+    both.merge_redrawn(&other, &mut coins)?;
     let percentile = Rank {
         weight: 99,
         total: 100,
