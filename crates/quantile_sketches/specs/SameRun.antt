@@ -1,10 +1,14 @@
 -- The same commands, under the same coins, make the same sketches.
-use Rattle.std.specs.Prelude.{◌≡◌, ◌≢◌, Bool, List, [], ◌∷◌, Err}
+use Rattle.std.specs.Prelude.{◌≡◌, ◌≢◌, ℕ, ℤ, Bool, List, [], ◌∷◌, ◌++◌, Err}
 use Rattle.sketch_base.specs.declared.error.ErrorKind.TheVariants.{OutOfMemory}
+use Rattle.quantile_sketches.specs.Answer.{answer_text}
 use Rattle.quantile_sketches.specs.Behaviour.{Behaviour}
+use Rattle.quantile_sketches.specs.Command.{command_of}
 use Rattle.quantile_sketches.specs.declared.answer.Refusal.TheVariants.{Sketch}
 use Rattle.quantile_sketches.specs.declared.audit.commands.Command.{Command}
-use Rattle.quantile_sketches.specs.Step.{Slots, Verdict, CarriesOutItem}
+use Rattle.quantile_sketches.specs.Reader.{Grammar}
+use Rattle.quantile_sketches.specs.Step.{Slots, Verdict, Reply, Answers, CarriesOutItem}
+use Rattle.quantile_sketches.specs.Words.{words}
 
 module _ {S A C Source : Type 0} (kind : Behaviour S A C) (bit : Source → Bool) (next : Source → Source) where
   -- commands are carried out one after the other, from some sketches and coins on to others; some may be refused, but none for want of memory
@@ -18,3 +22,17 @@ module _ {S A C Source : Type 0} (kind : Behaviour S A C) (bit : Source → Bool
   abbrev pub CommandsMakeOne : Type 0
   CommandsMakeOne = (commands : List (Command A C)) (slots ts us : Slots S) (coins left left' : Source) →
       AreCarriedOut commands slots coins ts left → AreCarriedOut commands slots coins us left' → (ts ≡ us) × (left ≡ left')
+
+module _ {S C : Type 0} (grammar : Grammar C) (kind : Behaviour S ℤ C) where
+  -- what is written for lines, as `Serves` has it, where none wants memory
+  abbrev pub ServesAmply : Slots S → ℕ → List (List ℕ) → List ℕ → Type 0
+  ServesAmply slots coins [] out = out ≡ []
+  ServesAmply slots coins (l ∷ ls) out =
+      (reply : Reply) × (reply ≢ Err (Sketch OutOfMemory)) × (slots' : Slots S) × (coins' : ℕ) × (rest : List ℕ)
+      × Answers kind (command_of grammar (words l)) (words l) slots coins reply slots' coins'
+      × ServesAmply slots' coins' ls rest × (out ≡ answer_text reply ++ (10 ∷ rest))
+
+  -- it is one text
+  abbrev pub LinesAnswerOne : Type 0
+  LinesAnswerOne = (slots : Slots S) (coins : ℕ) (ls : List (List ℕ)) (out out' : List ℕ) →
+      ServesAmply slots coins ls out → ServesAmply slots coins ls out' → out ≡ out'
