@@ -1,5 +1,5 @@
 -- KLL sketches that the same commands make are the same, where items that compare equal are equal.
-use Rattle.std.proofs.Common.{◌≡◌, ◌<◌, ◌==◌, ℕ, Bool, true, List, [], ◌∷◌, Option, Ok, refl, sym, ap, ap₂, ◌∙◌, subst, arith, inl, inr, eqb-true, Ordering}
+use Rattle.std.proofs.Common.{◌≡◌, ◌<◌, ◌==◌, ℕ, Bool, true, false, List, [], ◌∷◌, Option, Ok, refl, sym, ap, ap₂, ◌∙◌, subst, arith, inl, inr, eqb-true, Ordering}
 use Rattle.std.proofs.lemmas.Bool.{and_parts, cases_Bool, eqb-false, false≢true}
 use Rattle.std.proofs.lemmas.Option.{same_Some}
 use Rattle.std.specs.Cmp.{IsTotalOrder, tied_itself}
@@ -7,6 +7,7 @@ use Rattle.std.specs.Cmp.Lexicographic.{pointwise_decides}
 use Rattle.std.specs.Ordering.{is_eq}
 use Rattle.std.specs.declared.cmp.Ordering.TheVariants.{Less, Equal, Greater}
 use Rattle.sketch_base.specs.Bag.{Bag}
+use Rattle.sketch_base.specs.declared.error.ErrorKind.TheVariants.{InvalidArgument}
 use Rattle.sketch_base.specs.Spelling.{SpellingsTie}
 use Rattle.sketch_base.specs.Tied.{TiesAreEqual}
 use Rattle.sketch_base.proofs.SpelledItems.{IsPrefixFree}
@@ -23,7 +24,7 @@ use Rattle.quantile_sketches.specs.Kll.{kll}
 use Rattle.quantile_sketches.specs.KllRules.{KllShape, kll_kind, kll_shape}
 use Rattle.quantile_sketches.specs.SameRun.{CommandsMakeOne}
 use Rattle.quantile_sketches.specs.Steps.{IsFresh}
-use Rattle.quantile_sketches.proofs.SameRuns.{IsOne, MakesOne, one-run}
+use Rattle.quantile_sketches.proofs.SameRuns.{IsOne, MakesOne, no-err, one-run}
 
 -- a sketch, from its parts
 from-parts : {A : Type 0} (s t : Kll A) → s.k ≡ t.k → s.min_k ≡ t.min_k → s.n ≡ t.n → s.is_sorted ≡ t.is_sorted → s.levels ≡ t.levels → s.least ≡ t.least → s.greatest ≡ t.greatest → s ≡ t
@@ -82,8 +83,9 @@ module _ {A : Type 0} {cmp : A → A → Ordering} (order : IsTotalOrder cmp) (t
 
       module _ {Source : Type 0} (bit : Source → Bool) (next : Source → Source) where
         -- a merge of an empty sketch, and of one that holds items
-        joined-one : (p : Kll A) → IsOne (Of.joined p Source bit next)
-        joined-one p s t u coins left left' h h' =
+        joined-one : (redraws : Bool) (p : Kll A) → IsOne (Of.joined redraws p Source bit next)
+        joined-one true p s t u coins left left' h h' = absurd (no-err tt InvalidArgument h.0.0)
+        joined-one false p s t u coins left left' h h' =
             elim (cases_Bool (p.n == 0)) [
               | inl e ↦
                   let none : p.n ≡ 0 = eqb-true p.n 0 e in
@@ -104,6 +106,7 @@ module _ {A : Type 0} {cmp : A → A → Ordering} (order : IsTotalOrder cmp) (t
               (one-update order tied s x _ t u h.1.0.0.sound h'.1.0.0.sound h.0.2.0 h'.0.2.0, h.0.2.1 ∙ sym h'.0.2.1);
           weighted = λ x weight s t u coins left left' h h'.
               (one-weighted order tied s x weight _ t u h.1.0.0.sound h'.1.0.0.sound h.0.2 h'.0.2, h.0.3 ∙ sym h'.0.3);
+          redrawn = λ s t u coins left left' h h'. absurd (no-err tt InvalidArgument h.0.0);
           joined = joined-one;
           imaged = λ s v w h h'. h.0.0 ∙ sym h'.0.0;
           read = λ bytes t u h h'. same-copy t u (one_sketch_lem order eq eq_is spelling free ties bytes t u h.0.0 h'.0.0).copied;

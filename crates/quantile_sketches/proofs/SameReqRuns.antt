@@ -61,8 +61,8 @@ module _ {A : Type 0} {cmp : A → A → Ordering} (order : IsTotalOrder cmp) (t
 
     module _ {Source : Type 0} (bit : Source → Bool) (next : Source → Source) where
       -- a merge of an empty sketch, and of one that holds items
-      joined-one : (p : Req A) → IsOne (Of.joined p Source bit next)
-      joined-one p s t u coins left left' h h' =
+      joined-one : (redraws : Bool) (p : Req A) → IsOne (Of.joined redraws p Source bit next)
+      joined-one redraws p s t u coins left left' h h' =
           elim (cases_Bool (p.n == 0)) [
             | inl e ↦
                 let none : p.n ≡ 0 = eqb-true p.n 0 e in
@@ -71,7 +71,7 @@ module _ {A : Type 0} {cmp : A → A → Ordering} (order : IsTotalOrder cmp) (t
                 (a.0 ∙ sym b.0, a.1 ∙ sym b.1)
             | inr e ↦
                 let some : 0 < p.n = omega (arith, eqb-false p.n 0 e) in
-                (one-merge order tied s p _ t u h.3 h'.3 (h.0.3 some) (h'.0.3 some), h.0.4 some ∙ sym (h'.0.4 some))
+                (one-merge order tied redraws s p _ t u h.3 h'.3 (h.0.3 some) (h'.0.3 some), h.0.4 some ∙ sym (h'.0.4 some))
           ]
 
       pub makes-one : MakesOne (req cmp spelling) (req_kind cmp spelling) (λ bytes s. BeginsImage cmp spelling bytes (without_coins s) []) bit next
@@ -81,6 +81,7 @@ module _ {A : Type 0} {cmp : A → A → Ordering} (order : IsTotalOrder cmp) (t
         emptied = λ s t u h h'. empty-one s.k s.accuracy t u h.0 h'.0;
         taken = λ x s t u coins left left' h h'. (one-update order tied s x _ t u h.1.0.0.sound h'.1.0.0.sound h.0.2 h'.0.2, h.0.3 ∙ sym h'.0.3);
         weighted = λ x weight s t u coins left left' h h'. absurd (no-err tt InvalidArgument h.0.0);
+        redrawn = λ s t u coins left left' h h'. (h.0.1 ∙ sym h'.0.1, h.0.2 ∙ sym h'.0.2);
         joined = joined-one;
         imaged = λ s v w h h'. h.0.0 ∙ sym h'.0.0;
         read = λ bytes t u h h'. same-sketch t u (one_sketch order spelling free ties bytes t u h.0.0.0 h'.0.0.0 h.0.0.1 h'.0.0.1).0;

@@ -9,7 +9,7 @@ use Rattle.quantile_sketches.specs.Behaviour.{Behaviour, Change}
 use Rattle.quantile_sketches.specs.Calls.{Obeys, in_full}
 use Rattle.quantile_sketches.specs.declared.answer.Refusal.TheVariants.{BadLine, AbsentSlot, Sketch}
 use Rattle.quantile_sketches.specs.declared.audit.commands.Command.{Command}
-use Rattle.quantile_sketches.specs.declared.audit.commands.Command.TheVariants.{New, Update, UpdateWeighted, Merge, Reset, RoundTrip}
+use Rattle.quantile_sketches.specs.declared.audit.commands.Command.TheVariants.{New, Update, UpdateWeighted, Merge, Reset, RoundTrip, Redraw, MergeRedrawn}
 use Rattle.quantile_sketches.specs.Rules.{Kind}
 use Rattle.quantile_sketches.specs.SameRun.{AreCarriedOut, CommandsMakeOne}
 use Rattle.quantile_sketches.specs.Step.{Slots, Verdict, Turns, Joins, Changes, Makes, Empties, RoundTrips, JoinsCopy, Merges, CarriesOutItem}
@@ -96,7 +96,8 @@ module _ {A C Shape S Source : Type 0} (behaviour : Behaviour S A C) (kind : Kin
     pub emptied : (s t u : S) → Full.emptied s t → Full.emptied s u → t ≡ u
     pub taken : (x : A) → IsOne (Full.taken x Source bit next)
     pub weighted : (x : A) (weight : ℕ) → IsOne (Full.taken_weighted x weight Source bit next)
-    pub joined : (p : S) → IsOne (Full.joined p Source bit next)
+    pub redrawn : IsOne (Full.redrawn Source bit next)
+    pub joined : (redraws : Bool) (p : S) → IsOne (Full.joined redraws p Source bit next)
     pub imaged : (s : S) (v w : Vec ℕ Global) → Full.imaged s (Ok v) → Full.imaged s (Ok w) → v.items ≡ w.items
     pub read : (bytes : List ℕ) (t u : S) → Full.loaded bytes (Ok t) → Full.loaded bytes (Ok u) → t ≡ u
 
@@ -123,8 +124,12 @@ module _ {A C Shape S Source : Type 0} (behaviour : Behaviour S A C) (kind : Kin
     settled-weighted x weight =
         by-rules (Full.taken_weighted x weight Source bit next) (λ s. kind.rules.updated_weighted (kind.shape s) weight) _ (λ s t coins left r h. h.1) (λ s t coins left d. d.0.shape_is) (one.weighted x weight)
 
-    settled-merge : (p : S) → IsSettled (Full.joined p Source bit next) (λ s. kind.rules.merged (kind.shape s) (kind.shape p) ≡ None)
-    settled-merge p = by-rules (Full.joined p Source bit next) (λ s. kind.rules.merged (kind.shape s) (kind.shape p)) _ (λ s t coins left r h. h.1) (λ s t coins left d. d.shape_is) (one.joined p)
+    settled-redraw : IsSettled (Full.redrawn Source bit next) (λ s. kind.rules.redrawn (kind.shape s) ≡ None)
+    settled-redraw = by-rules (Full.redrawn Source bit next) (λ s. kind.rules.redrawn (kind.shape s)) _ (λ s t coins left r h. h.1) (λ s t coins left d. d.0.shape_is) one.redrawn
+
+    settled-merge : (redraws : Bool) (p : S) → IsSettled (Full.joined redraws p Source bit next) (λ s. kind.rules.merged redraws (kind.shape s) (kind.shape p) ≡ None)
+    settled-merge redraws p =
+        by-rules (Full.joined redraws p Source bit next) (λ s. kind.rules.merged redraws (kind.shape s) (kind.shape p)) _ (λ s t coins left r h. h.1) (λ s t coins left d. d.shape_is) (one.joined redraws p)
 
     settled-reset : IsSettled {Source = Source} (Empties Full) (λ s. ⊥)
     settled-reset = record {
@@ -163,30 +168,30 @@ module _ {A C Shape S Source : Type 0} (behaviour : Behaviour S A C) (kind : Kin
     settled-trip = record { one = trip-one; accepts = trip-accepts; refuses = trip-refuses }
 
     -- a merge of a sketch with its copy
-    copy-one : IsOne (JoinsCopy Full bit next)
-    copy-one s t u coins left left' (inl (too, err, same, stays)) h' = absurd (no-err tt InvalidArgument err)
-    copy-one s t u coins left left' (inr h) (inl (too, err, same, stays)) = absurd (no-err tt InvalidArgument err)
-    copy-one s t u coins left left' (inr (f, inl (p, c, h))) (inr (f', inl (q, c', h'))) =
-        one.joined p s t u coins left left' h (subst (λ (x : S). Full.joined x Source bit next s coins (Ok tt) u left') (one.copied s q p c' c) h')
-    copy-one s t u coins left left' (inr (f, inl h)) (inr (f', inr (e, c, err, same, stays))) = absurd (no-err tt e err)
-    copy-one s t u coins left left' (inr (f, inr (e, c, err, same, stays))) h' = absurd (no-err tt e err)
+    copy-one : (redraws : Bool) → IsOne (JoinsCopy Full bit next redraws)
+    copy-one redraws s t u coins left left' (inl (too, err, same, stays)) h' = absurd (no-err tt InvalidArgument err)
+    copy-one redraws s t u coins left left' (inr h) (inl (too, err, same, stays)) = absurd (no-err tt InvalidArgument err)
+    copy-one redraws s t u coins left left' (inr (f, inl (p, c, h))) (inr (f', inl (q, c', h'))) =
+        one.joined redraws p s t u coins left left' h (subst (λ (x : S). Full.joined redraws x Source bit next s coins (Ok tt) u left') (one.copied s q p c' c) h')
+    copy-one redraws s t u coins left left' (inr (f, inl h)) (inr (f', inr (e, c, err, same, stays))) = absurd (no-err tt e err)
+    copy-one redraws s t u coins left left' (inr (f, inr (e, c, err, same, stays))) h' = absurd (no-err tt e err)
 
-    copy-accepts : (s t : S) (coins left : Source) → JoinsCopy Full bit next s coins (Ok tt) t left → kind.rules.merged (kind.shape s) (kind.shape s) ≡ None → ⊥
-    copy-accepts s t coins left (inl (too, err, same, stays)) none = no-err tt InvalidArgument err
-    copy-accepts s t coins left (inr (f, inl (p, c, h))) none =
-        (settled-merge p).accepts s t coins left h (ap (λ (x : Shape). kind.rules.merged (kind.shape s) x) c.1.shape_is ∙ none)
-    copy-accepts s t coins left (inr (f, inr (e, c, err, same, stays))) none = no-err tt e err
+    copy-accepts : (redraws : Bool) (s t : S) (coins left : Source) → JoinsCopy Full bit next redraws s coins (Ok tt) t left → kind.rules.merged redraws (kind.shape s) (kind.shape s) ≡ None → ⊥
+    copy-accepts redraws s t coins left (inl (too, err, same, stays)) none = no-err tt InvalidArgument err
+    copy-accepts redraws s t coins left (inr (f, inl (p, c, h))) none =
+        (settled-merge redraws p).accepts s t coins left h (ap (λ (x : Shape). kind.rules.merged redraws (kind.shape s) x) c.1.shape_is ∙ none)
+    copy-accepts redraws s t coins left (inr (f, inr (e, c, err, same, stays))) none = no-err tt e err
 
-    copy-refuses : (s t : S) (coins left : Source) (e : ErrorKind) → JoinsCopy Full bit next s coins (Err e) t left → (e ≡ OutOfMemory → ⊥) →
-        (e ≡ InvalidArgument) × (kind.rules.merged (kind.shape s) (kind.shape s) ≡ None) × (t ≡ s) × (left ≡ coins)
-    copy-refuses s t coins left e (inl (too, err, same, stays)) n = (same-err {T = Unit} e InvalidArgument (Err e) refl err, too.1.0 refl, same, stays)
-    copy-refuses s t coins left e (inr (f, inl (p, c, h))) n =
-        let r = (settled-merge p).refuses s t coins left e h n in
-        (r.0, ap (λ (x : Shape). kind.rules.merged (kind.shape s) x) (sym c.1.shape_is) ∙ r.1, r.2, r.3)
-    copy-refuses s t coins left e (inr (f, inr (e', c, err, same, stays))) n = absurd (n (same-err {T = Unit} e e' (Err e) refl err ∙ c.2))
+    copy-refuses : (redraws : Bool) (s t : S) (coins left : Source) (e : ErrorKind) → JoinsCopy Full bit next redraws s coins (Err e) t left → (e ≡ OutOfMemory → ⊥) →
+        (e ≡ InvalidArgument) × (kind.rules.merged redraws (kind.shape s) (kind.shape s) ≡ None) × (t ≡ s) × (left ≡ coins)
+    copy-refuses redraws s t coins left e (inl (too, err, same, stays)) n = (same-err {T = Unit} e InvalidArgument (Err e) refl err, too.1.0 refl, same, stays)
+    copy-refuses redraws s t coins left e (inr (f, inl (p, c, h))) n =
+        let r = (settled-merge redraws p).refuses s t coins left e h n in
+        (r.0, ap (λ (x : Shape). kind.rules.merged redraws (kind.shape s) x) (sym c.1.shape_is) ∙ r.1, r.2, r.3)
+    copy-refuses redraws s t coins left e (inr (f, inr (e', c, err, same, stays))) n = absurd (n (same-err {T = Unit} e e' (Err e) refl err ∙ c.2))
 
-    settled-copy : IsSettled (JoinsCopy Full bit next) (λ s. kind.rules.merged (kind.shape s) (kind.shape s) ≡ None)
-    settled-copy = record { one = copy-one; accepts = copy-accepts; refuses = copy-refuses }
+    settled-copy : (redraws : Bool) → IsSettled (JoinsCopy Full bit next redraws) (λ s. kind.rules.merged redraws (kind.shape s) (kind.shape s) ≡ None)
+    settled-copy redraws = record { one = copy-one redraws; accepts = copy-accepts redraws; refuses = copy-refuses redraws }
 
     -- a new sketch
     abbrev Made : C → ℕ → Slots S → Verdict → Slots S → Type 0
@@ -209,14 +214,14 @@ module _ {A C Shape S Source : Type 0} (behaviour : Behaviour S A C) (kind : Kin
 
     -- ---- each command
 
-    one-merge : (b : Bool) (into source : ℕ) (slots ts us : Slots S) (coins left left' : Source) (v w : Verdict) → Ample v → Ample w →
-        Merges Full bit next b into source slots coins v ts left → Merges Full bit next b into source slots coins w us left' → (v ≡ w) × (ts ≡ us) × (left ≡ left')
-    one-merge true into source slots ts us coins left left' v w n m h h' =
-        one-change (Turns (JoinsCopy Full bit next)) (one-turn (JoinsCopy Full bit next) _ settled-copy) into slots ts us coins left left' v w n m h h'
-    one-merge false into source slots ts us coins left left' v w n m (o, held, h) (o', held', h') =
+    one-merge : (redraws b : Bool) (into source : ℕ) (slots ts us : Slots S) (coins left left' : Source) (v w : Verdict) → Ample v → Ample w →
+        Merges Full bit next redraws b into source slots coins v ts left → Merges Full bit next redraws b into source slots coins w us left' → (v ≡ w) × (ts ≡ us) × (left ≡ left')
+    one-merge redraws true into source slots ts us coins left left' v w n m h h' =
+        one-change (Turns (JoinsCopy Full bit next redraws)) (one-turn (JoinsCopy Full bit next redraws) _ (settled-copy redraws)) into slots ts us coins left left' v w n m h h'
+    one-merge redraws false into source slots ts us coins left left' v w n m (o, held, h) (o', held', h') =
         let same : o' ≡ o = same_Some o' o (sym held' ∙ held) in
-        one-change (Joins (λ p. Full.joined p Source bit next) o) (one-join (λ p. Full.joined p Source bit next) _ settled-merge o) into slots ts us coins left left' v w n m h
-        (subst (λ (x : Option S). Changes (Joins (λ p. Full.joined p Source bit next) x) into slots coins w us left') same h')
+        one-change (Joins (λ p. Full.joined redraws p Source bit next) o) (one-join (λ p. Full.joined redraws p Source bit next) _ (settled-merge redraws) o) into slots ts us coins left left' v w n m h
+        (subst (λ (x : Option S). Changes (Joins (λ p. Full.joined redraws p Source bit next) x) into slots coins w us left') same h')
 
     pub one-command : (command : Command A C) (slots ts us : Slots S) (coins left left' : Source) (v w : Verdict) → Ample v → Ample w →
         CarriesOutItem Full bit next command slots coins v ts left → CarriesOutItem Full bit next command slots coins w us left' → (v ≡ w) × (ts ≡ us) × (left ≡ left')
@@ -226,9 +231,12 @@ module _ {A C Shape S Source : Type 0} (behaviour : Behaviour S A C) (kind : Kin
         one-change _ (one-turn (Full.taken x Source bit next) _ (settled-update x)) slot slots ts us coins left left' v w n m h h'
     one-command (UpdateWeighted slot x weight) slots ts us coins left left' v w n m h h' =
         one-change _ (one-turn (Full.taken_weighted x weight Source bit next) _ (settled-weighted x weight)) slot slots ts us coins left left' v w n m h h'
-    one-command (Merge into source) slots ts us coins left left' v w n m h h' = one-merge (into == source) into source slots ts us coins left left' v w n m h h'
+    one-command (Merge into source) slots ts us coins left left' v w n m h h' = one-merge false (into == source) into source slots ts us coins left left' v w n m h h'
     one-command (Reset slot) slots ts us coins left left' v w n m h h' = one-change _ (one-turn {Source = Source} (Empties Full) _ settled-reset) slot slots ts us coins left left' v w n m h h'
     one-command (RoundTrip slot) slots ts us coins left left' v w n m h h' = one-change _ (one-turn {Source = Source} (RoundTrips Full) _ settled-trip) slot slots ts us coins left left' v w n m h h'
+    one-command (Redraw slot) slots ts us coins left left' v w n m h h' =
+        one-change _ (one-turn (Full.redrawn Source bit next) _ settled-redraw) slot slots ts us coins left left' v w n m h h'
+    one-command (MergeRedrawn into source) slots ts us coins left left' v w n m h h' = one-merge true (into == source) into source slots ts us coins left left' v w n m h h'
 
     pub one-run : CommandsMakeOne Full bit next
     one-run [] slots ts us coins left left' h h' = (h.0 ∙ sym h'.0, h.1 ∙ sym h'.1)
