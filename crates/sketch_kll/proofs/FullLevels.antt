@@ -69,7 +69,8 @@ full_level_at {A} k (l ∷ ls) h t =
 
 -- fullness by lengths
 pub full_by_lengths : {A : Type 0} (items : List A) (bounds : List ℕ) → IsFlat items bounds → (k n : ℕ) → n ≡ total_of k 8 (length bounds - 1) →
-    (length items < n → false ≡ is_full k (levels_in items bounds)) × (n ≤ length items → (true ≡ is_full k (levels_in items bounds)) × (total_of k 8 (length (levels_in items bounds)) ≤ retained (levels_in items bounds)))
+    (length items < n → false ≡ is_full k (levels_in items bounds)) ×
+    (n ≤ length items → (true ≡ is_full k (levels_in items bounds)) × (total_of k 8 (length (levels_in items bounds)) ≤ retained (levels_in items bounds)))
 full_by_lengths {A} items bounds f k n e =
     let m : length bounds - 1 ≡ length (levels_in items bounds) = let h = length-bounds items bounds f in omega (arith, h) in
     let t : n ≡ total_of k 8 (length (levels_in items bounds)) = e ∙ ap (total_of k 8) m in

@@ -33,13 +33,15 @@ pub UpperSorted-put : {A : Type 0} (cmp : A → A → Ordering) (x : A) (ls : Li
 UpperSorted-put cmp x [] u = tt
 UpperSorted-put cmp x (l ∷ ls) u = u
 
-pub SameLevels-put : {A : Type 0} (cmp : A → A → Ordering) → IsTotalOrder cmp → (x : A) (ls ms : List (List A)) → SameLevels cmp ls ms → SameLevels cmp (put x ls) (put x ms)
+pub SameLevels-put : {A : Type 0} (cmp : A → A → Ordering) → IsTotalOrder cmp → (x : A) (ls ms : List (List A)) → SameLevels cmp ls ms →
+    SameLevels cmp (put x ls) (put x ms)
 SameLevels-put cmp o x [] [] s = ((tied_itself o x, tt), tt)
 SameLevels-put cmp o x (l ∷ ls) (m ∷ ms) s = (SameItems-append cmp l m (x ∷ []) (x ∷ []) s.0 (tied_itself o x, tt), s.1)
 SameLevels-put cmp o x [] (m ∷ ms) s = absurd s
 SameLevels-put cmp o x (l ∷ ls) [] s = absurd s
 
-pub put_flat : {A : Type 0} (x : A) (items items' : List A) (bounds : List ℕ) (n : ℕ) → IsFlat items bounds → 0 < length (levels_in items bounds) → items' ≡ items ++ x ∷ [] → n ≡ length items' →
+pub put_flat : {A : Type 0} (x : A) (items items' : List A) (bounds : List ℕ) (n : ℕ) → IsFlat items bounds → 0 < length (levels_in items bounds) →
+    items' ≡ items ++ x ∷ [] → n ≡ length items' →
     IsFlat items' (set bounds 0 n) × (levels_in items' (set bounds 0 n) ≡ put x (levels_in items bounds))
 put_flat {A} x items items' bounds n f h e m =
     let ls : List (List A) = levels_in items bounds in

@@ -28,10 +28,12 @@ pub levels_with_top : {A : Type 0} (items : List A) (bounds : List ℕ) → IsFl
 levels_with_top items bounds f =
     let ls = levels_in items bounds in
     let e : items ≡ flat (levels_in items bounds ++ [] ∷ []) = sym (flat-top (levels_in items bounds) ∙ f.items_are) in
-    let g : bounds ++ 0 ∷ [] ≡ marks (levels_in items bounds ++ [] ∷ []) = sym (marks-top (levels_in items bounds) ∙ ap (λ (b : List ℕ). b ++ 0 ∷ []) f.bounds_are) in
+    let g : bounds ++ 0 ∷ [] ≡ marks (levels_in items bounds ++ [] ∷ []) =
+    sym (marks-top (levels_in items bounds) ∙ ap (λ (b : List ℕ). b ++ 0 ∷ []) f.bounds_are) in
     (is_flat items (bounds ++ 0 ∷ []) (levels_in items bounds ++ [] ∷ []) e g, levels_of_flat items (bounds ++ 0 ∷ []) (levels_in items bounds ++ [] ∷ []) e g)
 
-pub compacted-top : {A : Type 0} (cmp : A → A → Ordering) (last coin : Bool) (h : ℕ) (ls : List (List A)) → suc h ≡ length ls → compacted cmp last coin h (ls ++ [] ∷ []) ≡ compacted cmp last coin h ls
+pub compacted-top : {A : Type 0} (cmp : A → A → Ordering) (last coin : Bool) (h : ℕ) (ls : List (List A)) → suc h ≡ length ls →
+    compacted cmp last coin h (ls ++ [] ∷ []) ≡ compacted cmp last coin h ls
 compacted-top cmp last coin h [] e = absurd (omega arith)
 compacted-top cmp last coin zero (l ∷ []) e = refl
 compacted-top cmp last coin zero (l ∷ m ∷ ls) e = absurd (omega arith)
