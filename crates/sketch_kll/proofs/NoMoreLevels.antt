@@ -28,6 +28,7 @@ heavy_top k extra (l ∷ m ∷ ls) h t f =
     let q : capacity_at k 8 0 + extra + (suc (suc (length ls)) - 1) ≡ capacity_at k 8 0 + (extra + 1) + (suc (length ls) - 1) = omega arith in
     rw (p, q) (omega (arith, ih))
 
+-- one more level takes nothing from the total capacity
 pub total_grows : (k m n : ℕ) → m ≤ n → n ≤ m + 1 → total_of k 8 m ≤ total_of k 8 n
 total_grows k m n h l =
     elim (cases_eq m n) [
@@ -47,6 +48,7 @@ no_more_levels k ls few h w t f =
           absurd (omega (arith, g', capacity_eight k 0))
     ]
 
+-- a compaction of the lowest full level leaves at most 61 levels
 pub still_few : {A : Type 0} (cmp : A → A → Ordering) (k : ℕ) (last coin : Bool) (ls : List (List A)) → 0 < length ls → length ls ≤ 61 → weight ls < 2 ^ 64 →
     total_of k 8 (length ls) ≤ retained ls → length (compacted cmp last coin (full_level k ls) ls) ≤ 61
 still_few cmp k last coin ls h few w f =
@@ -88,6 +90,7 @@ pub record RoomMade {A : Type 0} (k : ℕ) (ls ms : List (List A)) : Type 0 wher
   pub some : 0 < length ms
   pub within : retained ms + 1 ≤ total_of k 8 (length ms)
 
+-- room for an item is made so
 pub room_made : {A : Type 0} (cmp : A → A → Ordering) (k : ℕ) (is_sorted coin : Bool) (ls : List (List A)) → 0 < length ls → length ls ≤ 61 →
     weight ls < 2 ^ 64 →
     retained ls ≤ total_of k 8 (length ls) → RoomMade k ls (with_room cmp k is_sorted coin ls)

@@ -12,6 +12,7 @@ use Rattle.sketch_kll.proofs.Merged.{JoinedSize, joined_size}
 use Rattle.sketch_kll.proofs.NoMoreLevels.{few_compacted}
 use Rattle.sketch_kll.proofs.RaisedLevels.{raised, raised_is}
 
+-- no item between two bounds is one empty level
 pub new_levels : {A : Type 0} (items : List A) (bounds : List ℕ) → items ≡ [] → bounds ≡ 0 ∷ 0 ∷ [] →
     IsFlat items bounds × (levels_in items bounds ≡ [] ∷ [])
 new_levels items bounds e f = (is_flat items bounds ([] ∷ []) e f, levels_of_flat items bounds ([] ∷ []) e f)
@@ -52,6 +53,7 @@ pub record CompactedStored {A : Type 0} (cmp : A → A → Ordering) (last coin 
   pub sorted : UpperSorted cmp (levels_in items bounds)
   pub stored : (total len : ℕ) → len ≡ length bounds → total ≡ total_of k 8 (len - 1) → AreStored cmp k items bounds total
 
+-- a compaction leaves such vectors
 pub compacted_stored : {A : Type 0} {cmp : A → A → Ordering} {k total level : ℕ} {items items' : List A} {bounds wide bounds' : List ℕ} {ls : List (List A)} (last coin : Bool) →
     AreStored cmp k items bounds total → levels_in items bounds ≡ ls → level < length ls → level < 60 → wide ≡ raised level bounds → IsFlat items' bounds' →
     SameLevels cmp (compacted cmp last coin level (levels_in items wide)) (levels_in items' bounds') →
@@ -77,6 +79,7 @@ pub record JoinedStored {A : Type 0} (cmp : A → A → Ordering) (k : ℕ) (ls 
   pub stored : AreStored cmp k items bounds total
   pub same : SameLevels cmp (joined cmp ls us) (levels_in items bounds)
 
+-- a merge of the levels from 1 up leaves such levels
 pub joined_stored : {A : Type 0} {cmp : A → A → Ordering} {k total total' : ℕ} {items upper taken merged items' : List A} {bounds wide bounds' : List ℕ} (runs : List ℕ) →
     AreStored cmp k items bounds total → IsFlat upper (drop 1 runs) → 2 ≤ length runs → length runs ≤ 62 →
     wide ≡ bounds ++ replicate (length runs - length bounds) 0 → taken ≡ items →

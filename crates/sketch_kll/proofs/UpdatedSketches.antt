@@ -15,6 +15,7 @@ there : {A : Type 0} (cmp : A → A → Ordering) (x : A) (o : Option A) (n : �
 there cmp x None n t = absurd t
 there cmp x (Some y) n t = omega arith
 
+-- a sketch of no item has no extremes
 pub none_at_first : {A : Type 0} (extreme : Option A) (n : ℕ) → n ≡ 0 → MatchOption extreme (n ≡ 0) (λ _. 0 < n) → extreme ≡ None
 none_at_first None n e h = refl
 none_at_first (Some x) n e h = absurd (omega (arith, e))
@@ -29,6 +30,7 @@ pub record Stepped {A : Type 0} (cmp : A → A → Ordering) (s : Kll A) (x : A)
   pub least : Ties cmp (least_with cmp x s.least) t.least
   pub greatest : Ties cmp (greatest_with cmp x s.greatest) t.greatest
 
+-- an update makes such a sketch, and it is sound
 pub updated_sketch : {A : Type 0} (cmp : A → A → Ordering) → IsTotalOrder cmp →
     (s : Kll A) (x : A) (coin : Bool) (ls ms : List (List A)) (least greatest : Option A) →
     IsSound cmp s → s.n < 2 ^ 64 → SameLevels cmp (with_room cmp s.k s.is_sorted coin s.levels) ls → UpperSorted cmp ls →
