@@ -13,9 +13,11 @@ pub record SeeksFull {A : Type 0} (k : ℕ) (ls : List (List A)) (level : ℕ) :
   pub same : full_level k ls ≡ level + full_level k (drop level ls)
   pub more : total_of k 8 (length (drop level ls)) + level ≤ retained (drop level ls)
 
+-- before the first level
 pub seeks_start : {A : Type 0} (k : ℕ) (ls : List (List A)) → total_of k 8 (length ls) ≤ retained ls → SeeksFull k ls 0
 seeks_start k ls h = record { same = omega arith; more = omega arith }
 
+-- a level that is full is the lowest full one
 pub seeks_found : {A : Type 0} (k : ℕ) (ls : List (List A)) (level : ℕ) → level < length ls → SeeksFull k ls level →
     capacity_at k 8 (length ls - 1 - level) ≤ length (first_level (drop level ls)) → full_level k ls ≡ level
 seeks_found k ls level h s c =
@@ -27,6 +29,7 @@ seeks_found k ls level h s c =
     let g : full_level k (drop level ls) ≡ 0 = ap (full_level k) e ∙ f in
     omega (arith, s.same, g)
 
+-- a level that is not full is passed over
 pub seeks_more : {A : Type 0} (k : ℕ) (ls : List (List A)) (level : ℕ) → level < length ls → SeeksFull k ls level →
     length (first_level (drop level ls)) < capacity_at k 8 (length ls - 1 - level) → SeeksFull k ls (suc level)
 seeks_more k ls level h s c =
@@ -43,9 +46,11 @@ seeks_more k ls level h s c =
       more = omega (arith, s.more, t, r, d);
     }
 
+-- the loop finds a level before it has passed the top
 pub seeks_never : {A : Type 0} (k : ℕ) (ls : List (List A)) (level : ℕ) → 0 < length ls → length ls ≤ level → SeeksFull k ls level → ⊥
 seeks_never k ls level h l s = let e = drop_all level ls l in let r = ap retained e in omega (arith, s.more, r)
 
+-- where the levels are full, one of them is
 pub full_level_at : {A : Type 0} (k : ℕ) (ls : List (List A)) → 0 < length ls → total_of k 8 (length ls) ≤ retained ls →
     (full_level k ls < length ls) × (capacity_at k 8 (length ls - 1 - full_level k ls) ≤ length (first_level (drop (full_level k ls) ls)))
 full_level_at k [] h t = absurd (omega arith)
@@ -69,7 +74,8 @@ full_level_at {A} k (l ∷ ls) h t =
 
 -- fullness by lengths
 pub full_by_lengths : {A : Type 0} (items : List A) (bounds : List ℕ) → IsFlat items bounds → (k n : ℕ) → n ≡ total_of k 8 (length bounds - 1) →
-    (length items < n → false ≡ is_full k (levels_in items bounds)) × (n ≤ length items → (true ≡ is_full k (levels_in items bounds)) × (total_of k 8 (length (levels_in items bounds)) ≤ retained (levels_in items bounds)))
+    (length items < n → false ≡ is_full k (levels_in items bounds)) ×
+    (n ≤ length items → (true ≡ is_full k (levels_in items bounds)) × (total_of k 8 (length (levels_in items bounds)) ≤ retained (levels_in items bounds)))
 full_by_lengths {A} items bounds f k n e =
     let m : length bounds - 1 ≡ length (levels_in items bounds) = let h = length-bounds items bounds f in omega (arith, h) in
     let t : n ≡ total_of k 8 (length (levels_in items bounds)) = e ∙ ap (total_of k 8) m in
@@ -79,10 +85,12 @@ full_by_lengths {A} items bounds f k n e =
           (sym (le-leb (total_of k 8 (length (levels_in items bounds))) (retained (levels_in items bounds)) g), g),
     )
 
+-- room for an item in full levels comes by a compaction
 pub with_room_full : {A : Type 0} (cmp : A → A → Ordering) (k level : ℕ) (is_sorted coin last : Bool) (ls : List (List A)) →
     true ≡ is_full k ls → level ≡ full_level k ls → last ≡ keeps_last is_sorted level → with_room cmp k is_sorted coin ls ≡ compacted cmp last coin level ls
 with_room_full cmp k level is_sorted coin last ls f e l = rw (← f, l, e) refl
 
+-- levels that are not full stay as they are
 pub with_room_spare : {A : Type 0} (cmp : A → A → Ordering) (k : ℕ) (is_sorted coin : Bool) (ls : List (List A)) →
     false ≡ is_full k ls → with_room cmp k is_sorted coin ls ≡ ls
 with_room_spare cmp k is_sorted coin ls f = rw (← f) refl

@@ -10,7 +10,8 @@ use Rattle.sketch_kll.proofs.CompactedSizes.{compacted_size, alike_size}
 use Rattle.sketch_kll.proofs.FullLevels.{full_level_at, with_room_spare}
 
 -- a top level that is the lowest full one weighs much: all below it lack an item at least
-pub heavy_top : {A : Type 0} (k extra : ℕ) (ls : List (List A)) → 0 < length ls → total_of k 8 (length ls) + extra ≤ retained ls → length ls ≤ full_level k ls + 1 →
+pub heavy_top : {A : Type 0} (k extra : ℕ) (ls : List (List A)) → 0 < length ls → total_of k 8 (length ls) + extra ≤ retained ls →
+    length ls ≤ full_level k ls + 1 →
     2 ^ (length ls - 1) * (capacity_at k 8 0 + extra + (length ls - 1)) ≤ weight ls
 heavy_top k extra [] h t f = absurd (omega arith)
 heavy_top k extra (l ∷ []) h t f = omega arith
@@ -27,6 +28,7 @@ heavy_top k extra (l ∷ m ∷ ls) h t f =
     let q : capacity_at k 8 0 + extra + (suc (suc (length ls)) - 1) ≡ capacity_at k 8 0 + (extra + 1) + (suc (length ls) - 1) = omega arith in
     rw (p, q) (omega (arith, ih))
 
+-- one more level takes nothing from the total capacity
 pub total_grows : (k m n : ℕ) → m ≤ n → n ≤ m + 1 → total_of k 8 m ≤ total_of k 8 n
 total_grows k m n h l =
     elim (cases_eq m n) [
@@ -34,7 +36,8 @@ total_grows k m n h l =
       | inr e ↦ let d : n ≡ suc m = omega arith in let f = ap (total_of k 8) d in omega (arith, f)
     ]
 
-no_more_levels : {A : Type 0} (k : ℕ) (ls : List (List A)) → length ls ≤ 61 → 0 < length ls → weight ls < 2 ^ 64 → total_of k 8 (length ls) ≤ retained ls → length ls ≤ full_level k ls + 1 → length ls ≤ 60
+no_more_levels : {A : Type 0} (k : ℕ) (ls : List (List A)) → length ls ≤ 61 → 0 < length ls → weight ls < 2 ^ 64 →
+    total_of k 8 (length ls) ≤ retained ls → length ls ≤ full_level k ls + 1 → length ls ≤ 60
 no_more_levels k ls few h w t f =
     elim (cases_lt (length ls) 61) [
       | inl b ↦ omega arith
@@ -45,6 +48,7 @@ no_more_levels k ls few h w t f =
           absurd (omega (arith, g', capacity_eight k 0))
     ]
 
+-- a compaction of the lowest full level leaves at most 61 levels
 pub still_few : {A : Type 0} (cmp : A → A → Ordering) (k : ℕ) (last coin : Bool) (ls : List (List A)) → 0 < length ls → length ls ≤ 61 → weight ls < 2 ^ 64 →
     total_of k 8 (length ls) ≤ retained ls → length (compacted cmp last coin (full_level k ls) ls) ≤ 61
 still_few cmp k last coin ls h few w f =
@@ -56,8 +60,10 @@ still_few cmp k last coin ls h few w f =
     ]
 
 -- a compaction below level 60 leaves some levels, and at most 61
-pub few_compacted : {A : Type 0} (cmp : A → A → Ordering) (level : ℕ) (last coin : Bool) (ls raised ms : List (List A)) → length ls ≤ 61 → level < length ls → level < 60 →
-    compacted cmp last coin level raised ≡ compacted cmp last coin level ls → SameLevels cmp (compacted cmp last coin level raised) ms → (0 < length ms) × (length ms ≤ 61)
+pub few_compacted : {A : Type 0} (cmp : A → A → Ordering) (level : ℕ) (last coin : Bool) (ls raised ms : List (List A)) → length ls ≤ 61 →
+    level < length ls → level < 60 →
+    compacted cmp last coin level raised ≡ compacted cmp last coin level ls →
+    SameLevels cmp (compacted cmp last coin level raised) ms → (0 < length ms) × (length ms ≤ 61)
 few_compacted cmp level last coin ls raised ms few h low e alike =
     let s = compacted_size cmp last coin level ls h in
     let z = alike_size cmp (compacted cmp last coin level raised) ms alike in
@@ -68,7 +74,8 @@ few_compacted cmp level last coin ls raised ms few h low e alike =
     ]
 
 -- a level 60 is never the lowest full one
-pub full_level_low : {A : Type 0} (k : ℕ) (ls : List (List A)) → 0 < length ls → length ls ≤ 61 → weight ls < 2 ^ 64 → total_of k 8 (length ls) ≤ retained ls → full_level k ls < 60
+pub full_level_low : {A : Type 0} (k : ℕ) (ls : List (List A)) → 0 < length ls → length ls ≤ 61 → weight ls < 2 ^ 64 →
+    total_of k 8 (length ls) ≤ retained ls → full_level k ls < 60
 full_level_low k ls h few w f =
     let a = full_level_at k ls h f in
     elim (cases_lt (suc (full_level k ls)) (length ls)) [
@@ -83,7 +90,9 @@ pub record RoomMade {A : Type 0} (k : ℕ) (ls ms : List (List A)) : Type 0 wher
   pub some : 0 < length ms
   pub within : retained ms + 1 ≤ total_of k 8 (length ms)
 
-pub room_made : {A : Type 0} (cmp : A → A → Ordering) (k : ℕ) (is_sorted coin : Bool) (ls : List (List A)) → 0 < length ls → length ls ≤ 61 → weight ls < 2 ^ 64 →
+-- room for an item is made so
+pub room_made : {A : Type 0} (cmp : A → A → Ordering) (k : ℕ) (is_sorted coin : Bool) (ls : List (List A)) → 0 < length ls → length ls ≤ 61 →
+    weight ls < 2 ^ 64 →
     retained ls ≤ total_of k 8 (length ls) → RoomMade k ls (with_room cmp k is_sorted coin ls)
 room_made cmp k is_sorted coin ls h few w t =
     elim (cases_Bool (is_full k ls)) [
@@ -104,7 +113,8 @@ retained-weight [] = omega arith
 retained-weight (l ∷ ls) = let h = retained-weight ls in omega (arith, h)
 
 -- room for the first two items takes no level
-pub one_level_left : {A : Type 0} (cmp : A → A → Ordering) (k : ℕ) (is_sorted coin : Bool) (ls : List (List A)) → length ls ≡ 1 → weight ls ≤ 1 → length (with_room cmp k is_sorted coin ls) ≡ 1
+pub one_level_left : {A : Type 0} (cmp : A → A → Ordering) (k : ℕ) (is_sorted coin : Bool) (ls : List (List A)) → length ls ≡ 1 → weight ls ≤ 1 →
+    length (with_room cmp k is_sorted coin ls) ≡ 1
 one_level_left cmp k is_sorted coin ls e w =
     let r = retained-weight ls in
     let t : total_of k 8 (length ls) ≡ 0 + capacity_at k 8 0 = ap (total_of k 8) e in

@@ -23,15 +23,19 @@ marks-top : {A : Type 0} (ls : List (List A)) → marks (ls ++ [] ∷ []) ≡ ma
 marks-top [] = refl
 marks-top (l ∷ ls) = ap₂ (λ (x : ℕ) (y : List ℕ). x ∷ y) (retained-top (l ∷ ls)) (marks-top ls)
 
+-- one more bound adds an empty level above the top
 pub levels_with_top : {A : Type 0} (items : List A) (bounds : List ℕ) → IsFlat items bounds →
     IsFlat items (bounds ++ 0 ∷ []) × (levels_in items (bounds ++ 0 ∷ []) ≡ levels_in items bounds ++ [] ∷ [])
 levels_with_top items bounds f =
     let ls = levels_in items bounds in
     let e : items ≡ flat (levels_in items bounds ++ [] ∷ []) = sym (flat-top (levels_in items bounds) ∙ f.items_are) in
-    let g : bounds ++ 0 ∷ [] ≡ marks (levels_in items bounds ++ [] ∷ []) = sym (marks-top (levels_in items bounds) ∙ ap (λ (b : List ℕ). b ++ 0 ∷ []) f.bounds_are) in
+    let g : bounds ++ 0 ∷ [] ≡ marks (levels_in items bounds ++ [] ∷ []) =
+    sym (marks-top (levels_in items bounds) ∙ ap (λ (b : List ℕ). b ++ 0 ∷ []) f.bounds_are) in
     (is_flat items (bounds ++ 0 ∷ []) (levels_in items bounds ++ [] ∷ []) e g, levels_of_flat items (bounds ++ 0 ∷ []) (levels_in items bounds ++ [] ∷ []) e g)
 
-pub compacted-top : {A : Type 0} (cmp : A → A → Ordering) (last coin : Bool) (h : ℕ) (ls : List (List A)) → suc h ≡ length ls → compacted cmp last coin h (ls ++ [] ∷ []) ≡ compacted cmp last coin h ls
+-- a compaction of the top level makes the level above it, whether an empty one stands there or not
+pub compacted-top : {A : Type 0} (cmp : A → A → Ordering) (last coin : Bool) (h : ℕ) (ls : List (List A)) → suc h ≡ length ls →
+    compacted cmp last coin h (ls ++ [] ∷ []) ≡ compacted cmp last coin h ls
 compacted-top cmp last coin h [] e = absurd (omega arith)
 compacted-top cmp last coin zero (l ∷ []) e = refl
 compacted-top cmp last coin zero (l ∷ m ∷ ls) e = absurd (omega arith)
@@ -41,6 +45,7 @@ AllSorted-top : {A : Type 0} (cmp : A → A → Ordering) (ls : List (List A)) �
 AllSorted-top cmp [] u = ((λ k d l b. absurd (omega arith)), tt)
 AllSorted-top cmp (l ∷ ls) u = (u.0, AllSorted-top cmp ls u.1)
 
+-- an empty level is in order
 pub UpperSorted-top : {A : Type 0} (cmp : A → A → Ordering) (ls : List (List A)) → UpperSorted cmp ls → UpperSorted cmp (ls ++ [] ∷ [])
 UpperSorted-top cmp [] u = tt
 UpperSorted-top cmp (l ∷ ls) u = AllSorted-top cmp ls u
@@ -55,6 +60,7 @@ pub record Raised {A : Type 0} (cmp : A → A → Ordering) (last coin : Bool) (
   pub same : compacted cmp last coin level (levels_in items new) ≡ compacted cmp last coin level (levels_in items old)
   pub sorted : UpperSorted cmp (levels_in items old) → UpperSorted cmp (levels_in items new)
 
+-- what `raise` makes of the bounds
 pub raised_is : {A : Type 0} {cmp : A → A → Ordering} {k total level : ℕ} {items : List A} {old new : List ℕ} {ls : List (List A)} (last coin : Bool) →
     AreStored cmp k items old total → levels_in items old ≡ ls → level < length ls → new ≡ raised level old → Raised cmp last coin level items old new
 raised_is {A} {cmp} {k} {total} {level} {items} {old} {new} {ls} last coin stored own inside new_is =

@@ -1,5 +1,5 @@
 -- levels as they are stored: empty, those of a sound sketch, after a compaction, and after a merge
-use Rattle.std.proofs.Common.{Option, ◌≡◌, ℕ, ◌+◌, ◌-◌, ◌<◌, ◌≤◌, Bool, List, [], ◌∷◌, ◌++◌, length, drop, replicate, sym, ap, ◌∙◌, subst, arith, Ordering, length-drop}
+use Rattle.std.proofs.Common.{Option, ◌≡◌, ℕ, ◌-◌, ◌<◌, ◌≤◌, Bool, List, [], ◌∷◌, ◌++◌, length, drop, replicate, sym, ap, ◌∙◌, subst, arith, Ordering, length-drop}
 use Rattle.sketch_kll.specs.Capacity.{total_of}
 use Rattle.sketch_kll.specs.Flat.{levels_in, IsFlat}
 use Rattle.sketch_kll.specs.Join.{joined, joined_bounds}
@@ -12,12 +12,14 @@ use Rattle.sketch_kll.proofs.Merged.{JoinedSize, joined_size}
 use Rattle.sketch_kll.proofs.NoMoreLevels.{few_compacted}
 use Rattle.sketch_kll.proofs.RaisedLevels.{raised, raised_is}
 
+-- no item between two bounds is one empty level
 pub new_levels : {A : Type 0} (items : List A) (bounds : List ℕ) → items ≡ [] → bounds ≡ 0 ∷ 0 ∷ [] →
     IsFlat items bounds × (levels_in items bounds ≡ [] ∷ [])
 new_levels items bounds e f = (is_flat items bounds ([] ∷ []) e f, levels_of_flat items bounds ([] ∷ []) e f)
 
 -- one empty level as it is stored
-pub empty_stored : {A : Type 0} (cmp : A → A → Ordering) (k : ℕ) (items : List A) (bounds : List ℕ) (total : ℕ) → 8 ≤ k → items ≡ [] → bounds ≡ 0 ∷ 0 ∷ [] → total ≡ total_of k 8 1 → AreStored cmp k items bounds total
+pub empty_stored : {A : Type 0} (cmp : A → A → Ordering) (k : ℕ) (items : List A) (bounds : List ℕ) (total : ℕ) → 8 ≤ k → items ≡ [] →
+    bounds ≡ 0 ∷ 0 ∷ [] → total ≡ total_of k 8 1 → AreStored cmp k items bounds total
 empty_stored {A} cmp k items bounds total h e f t =
     let n = new_levels items bounds e f in
     let c = ap length n.1 in
@@ -31,7 +33,8 @@ empty_stored {A} cmp k items bounds total h e f t =
     }
 
 -- the levels of a sketch as they are stored
-pub sound_stored : {A : Type 0} (cmp : A → A → Ordering) (k min_k n : ℕ) (flag : Bool) (items : List A) (bounds : List ℕ) (total : ℕ) (least greatest : Option A) → IsFlat items bounds → total ≡ total_of k 8 (length (levels_in items bounds)) →
+pub sound_stored : {A : Type 0} (cmp : A → A → Ordering) (k min_k n : ℕ) (flag : Bool) (items : List A) (bounds : List ℕ) (total : ℕ) (least greatest : Option A) →
+    IsFlat items bounds → total ≡ total_of k 8 (length (levels_in items bounds)) →
     IsSound cmp (sketch_of k min_k n flag (levels_in items bounds) least greatest) → AreStored cmp k items bounds total
 sound_stored cmp k min_k n flag items bounds total least greatest f t s =
     record { k_above = omega (arith, s.eight_below_min_k, s.min_k_below_k); flat = f; total_is = t; some = s.has_level; few = s.has_few_levels; sorted = s.upper_sorted }
@@ -50,6 +53,7 @@ pub record CompactedStored {A : Type 0} (cmp : A → A → Ordering) (last coin 
   pub sorted : UpperSorted cmp (levels_in items bounds)
   pub stored : (total len : ℕ) → len ≡ length bounds → total ≡ total_of k 8 (len - 1) → AreStored cmp k items bounds total
 
+-- a compaction leaves such vectors
 pub compacted_stored : {A : Type 0} {cmp : A → A → Ordering} {k total level : ℕ} {items items' : List A} {bounds wide bounds' : List ℕ} {ls : List (List A)} (last coin : Bool) →
     AreStored cmp k items bounds total → levels_in items bounds ≡ ls → level < length ls → level < 60 → wide ≡ raised level bounds → IsFlat items' bounds' →
     SameLevels cmp (compacted cmp last coin level (levels_in items wide)) (levels_in items' bounds') →
@@ -57,7 +61,8 @@ pub compacted_stored : {A : Type 0} {cmp : A → A → Ordering} {k total level 
 compacted_stored {A} {cmp} {k} {total} {level} {items} {items'} {bounds} {wide} {bounds'} {ls} last coin stored own within low widened flat alike ordered =
     let up = raised_is last coin stored own within widened in
     let inside : level < length (levels_in items bounds) = omega (arith, ap length own, within) in
-    let few = few_compacted cmp level last coin (levels_in items bounds) (levels_in items wide) (levels_in items' bounds') stored.few inside low up.same alike in
+    let few = few_compacted cmp level last coin (levels_in items bounds) (levels_in items wide) (levels_in items' bounds') stored.few inside low
+    up.same alike in
     let bounds_len = length-bounds items' bounds' flat in
     let Alike : List (List A) → Type 0 = λ (ms : List (List A)). SameLevels cmp ms (levels_in items' bounds') in
     let sorted = ordered (up.sorted stored.sorted) in
@@ -74,18 +79,22 @@ pub record JoinedStored {A : Type 0} (cmp : A → A → Ordering) (k : ℕ) (ls 
   pub stored : AreStored cmp k items bounds total
   pub same : SameLevels cmp (joined cmp ls us) (levels_in items bounds)
 
+-- a merge of the levels from 1 up leaves such levels
 pub joined_stored : {A : Type 0} {cmp : A → A → Ordering} {k total total' : ℕ} {items upper taken merged items' : List A} {bounds wide bounds' : List ℕ} (runs : List ℕ) →
-    AreStored cmp k items bounds total → IsFlat upper (drop 1 runs) → 2 ≤ length runs → length runs ≤ 62 → wide ≡ bounds ++ replicate (length runs - length bounds) 0 → taken ≡ items →
+    AreStored cmp k items bounds total → IsFlat upper (drop 1 runs) → 2 ≤ length runs → length runs ≤ 62 →
+    wide ≡ bounds ++ replicate (length runs - length bounds) 0 → taken ≡ items →
     IsFlat merged (joined_bounds wide runs) →
     SameLevels cmp (joined cmp (levels_in taken wide) (levels_in upper (drop 1 runs))) (levels_in merged (joined_bounds wide runs)) →
     UpperSorted cmp (levels_in merged (joined_bounds wide runs)) →
     items' ≡ merged → bounds' ≡ joined_bounds wide runs → (len : ℕ) → len ≡ length bounds' → total' ≡ total_of k 8 (len - 1) →
     JoinedStored cmp k (levels_in items bounds) (levels_in upper (drop 1 runs)) items' bounds' total'
-joined_stored {A} {cmp} {k} {total} {total'} {items} {upper} {taken} {merged} {items'} {bounds} {wide} {bounds'} runs stored flat_upper two few widened took flat alike sorted items_are bounds_are len len_is total_is =
+joined_stored {A} {cmp} {k} {total} {total'} {items} {upper} {taken} {merged} {items'} {bounds} {wide} {bounds'} runs
+    stored flat_upper two few widened took flat alike sorted items_are bounds_are len len_is total_is =
     let wide_is = prepared runs stored flat_upper two few widened took in
     let ls : List (List A) = levels_in items bounds in
     let us : List (List A) = levels_in upper (drop 1 runs) in
-    let Fit : List A → List ℕ → Type 0 = λ (xs : List A) (bs : List ℕ). IsFlat xs bs × SameLevels cmp (joined cmp ls us) (levels_in xs bs) × UpperSorted cmp (levels_in xs bs) in
+    let Fit : List A → List ℕ → Type 0 =
+    λ (xs : List A) (bs : List ℕ). IsFlat xs bs × SameLevels cmp (joined cmp ls us) (levels_in xs bs) × UpperSorted cmp (levels_in xs bs) in
     let Alike : List (List A) → Type 0 = λ (ms : List (List A)). SameLevels cmp ms (levels_in merged (joined_bounds wide runs)) in
     let here : Fit merged (joined_bounds wide runs) = (flat, subst Alike wide_is.same alike, sorted) in
     let there : Fit items' bounds' = subst (λ (xs : List A). Fit xs bounds') (sym items_are) (subst (λ (bs : List ℕ). Fit merged bs) (sym bounds_are) here) in

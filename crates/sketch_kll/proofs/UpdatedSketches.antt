@@ -15,6 +15,7 @@ there : {A : Type 0} (cmp : A → A → Ordering) (x : A) (o : Option A) (n : �
 there cmp x None n t = absurd t
 there cmp x (Some y) n t = omega arith
 
+-- a sketch of no item has no extremes
 pub none_at_first : {A : Type 0} (extreme : Option A) (n : ℕ) → n ≡ 0 → MatchOption extreme (n ≡ 0) (λ _. 0 < n) → extreme ≡ None
 none_at_first None n e h = refl
 none_at_first (Some x) n e h = absurd (omega (arith, e))
@@ -29,7 +30,9 @@ pub record Stepped {A : Type 0} (cmp : A → A → Ordering) (s : Kll A) (x : A)
   pub least : Ties cmp (least_with cmp x s.least) t.least
   pub greatest : Ties cmp (greatest_with cmp x s.greatest) t.greatest
 
-pub updated_sketch : {A : Type 0} (cmp : A → A → Ordering) → IsTotalOrder cmp → (s : Kll A) (x : A) (coin : Bool) (ls ms : List (List A)) (least greatest : Option A) →
+-- an update makes such a sketch, and it is sound
+pub updated_sketch : {A : Type 0} (cmp : A → A → Ordering) → IsTotalOrder cmp →
+    (s : Kll A) (x : A) (coin : Bool) (ls ms : List (List A)) (least greatest : Option A) →
     IsSound cmp s → s.n < 2 ^ 64 → SameLevels cmp (with_room cmp s.k s.is_sorted coin s.levels) ls → UpperSorted cmp ls →
     ms ≡ put x ls → Ties cmp (least_with cmp x s.least) least → Ties cmp (greatest_with cmp x s.greatest) greatest →
     IsSound cmp (sketch_of s.k s.min_k (s.n + 1) false ms least greatest) × Stepped cmp s x coin (sketch_of s.k s.min_k (s.n + 1) false ms least greatest)
@@ -42,7 +45,8 @@ updated_sketch {A} cmp o s x coin ls ms least greatest sound small alike sorted 
     let q = retained-put x ls in
     let t = ap (total_of s.k 8) (n ∙ sym z.counts) in
     let b = bounded o s.k s.is_sorted coin x s.least s.greatest least greatest s.levels ls tl tg sound.items_between alike in
-    let S : List (List A) → Type 0 = λ (ls : List (List A)). IsSound cmp (record { k = s.k; min_k = s.min_k; n = s.n + 1; is_sorted = false; levels = ls; least = least; greatest = greatest }) in
+    let S : List (List A) → Type 0 =
+    λ (ls : List (List A)). IsSound cmp (record { k = s.k; min_k = s.min_k; n = s.n + 1; is_sorted = false; levels = ls; least = least; greatest = greatest }) in
     let v : S (put x ls) = record {
       eight_below_min_k = sound.eight_below_min_k;
       min_k_below_k = sound.min_k_below_k;

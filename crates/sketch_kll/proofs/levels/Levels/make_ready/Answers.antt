@@ -27,3 +27,15 @@ returns-clause-ready g c =
       merged_room = omega (arith, same, n, held, c.reserve.new.self.ok, merged);
       merged_empty = search rules;
     }
+
+pub invariant_of-self : goal.invariant_of-self
+invariant_of-self g c = rw c.reserve.ensures.items c.self.invariant
+
+pub invariant_of-self-in_err-reserve-2 : goal.invariant_of-self-in_err-reserve-2
+invariant_of-self-in_err-reserve-2 g c = rw (c.reserve.ensures.items, c.reserve-2.ensures.items) c.self.invariant
+
+pub invariant_of-self-in_err-merged : goal.invariant_of-self-in_err-merged
+invariant_of-self-in_err-merged g c = rw (c.reserve.ensures.items, c.reserve-2.ensures.items) c.self.invariant
+
+pub invariant_of-self-2 : goal.invariant_of-self-2
+invariant_of-self-2 g c = rw (c.reserve.ensures.items, c.reserve-2.ensures.items) c.self.invariant

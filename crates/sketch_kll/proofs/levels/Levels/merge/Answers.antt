@@ -1,4 +1,4 @@
-use Rattle.std.proofs.Common.{◌∷◌, List, Bool, IsTrue, drop, ap, subst, arith, rules, ◌∙◌}
+use Rattle.std.proofs.Common.{List, Bool, IsTrue, drop, ap, subst, arith, rules, ◌∙◌}
 use Rattle.sketch_kll.specs.Flat.{levels_in}
 use Rattle.sketch_kll.specs.Join.{joined}
 use Rattle.sketch_kll.specs.Stored.{Stored}
@@ -30,7 +30,8 @@ pub compress-requires-clause-light : goal.compress-requires-clause-light
 compress-requires-clause-light g c =
     let clones = cloned_runs g.met.T.Ord.total c.others.invariant (ap (λ (y : Stored g.row.T.Denot). y.levels) c.others.view_is) c.as_slice-runs.ensures.value c.requires.clones in
     let taken = c.take_items.ensures.taken in
-    let sizes = joined_size g.T.Ord.cmp c.take_items.new.self.levels (levels_in c.args.incoming.upper.items (drop 1 c.as_slice-runs.result.now)) c.merge_higher_levels.new.self.levels taken.kept.some taken.kept.few (omega (arith, clones.upper_are, clones.few)) c.merge_higher_levels.ensures.levels in
+    let sizes = joined_size g.T.Ord.cmp c.take_items.new.self.levels (levels_in c.args.incoming.upper.items (drop 1 c.as_slice-runs.result.now))
+    c.merge_higher_levels.new.self.levels taken.kept.some taken.kept.few (omega (arith, clones.upper_are, clones.few)) c.merge_higher_levels.ensures.levels in
     omega (arith, sizes.weighs, taken.weighs, clones.weighs, c.requires.light)
 
 pub compress-requires-clause-flag : goal.compress-requires-clause-flag
