@@ -36,7 +36,7 @@ module _ {A : Type 0} (cmp : A → A → Ordering) (spelling : A → Option (Lis
       × IfErr r (λ e. IsLegalK config.0 → e ≡ OutOfMemory)
       × IfOk r (IsEmptyOf config.0 config.1)
 
-  -- an equal sketch, or want of memory
+  -- an equal sketch, or out of memory
   abbrev pub IsCopied : Req A → Result (Req A) ErrorKind → Type 0
   IsCopied s r = IfOk r (IsCopy cmp s) × IfErr r (λ e. e ≡ OutOfMemory)
 

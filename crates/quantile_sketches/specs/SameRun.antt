@@ -11,7 +11,7 @@ use Rattle.quantile_sketches.specs.Step.{Slots, Verdict, Reply, Answers, Carries
 use Rattle.quantile_sketches.specs.Words.{words}
 
 module _ {S A C Source : Type 0} (kind : Behaviour S A C) (bit : Source → Bool) (next : Source → Source) where
-  -- commands are carried out one after the other, from some sketches and coins on to others; some may be refused, but none for want of memory
+  -- commands are carried out one after the other, from some sketches and coins on to others; some may be refused, but none because memory ran out
   abbrev pub AreCarriedOut : List (Command A C) → Slots S → Source → Slots S → Source → Type 0
   AreCarriedOut [] slots coins slots' coins' = (slots' ≡ slots) × (coins' ≡ coins)
   AreCarriedOut (command ∷ rest) slots coins slots' coins' =

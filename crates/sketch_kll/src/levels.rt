@@ -218,7 +218,7 @@ fn keeps_last_item(is_sorted: bool, level: usize) -> bool
     level == 0 && !is_sorted
 }
 
-// Sees to it that there is a level above a level.
+// Adds a level above a level where there is none.
 fn raise(bounds: &mut Vec<usize>, level: usize)
     requires spare { vec_len bounds.old < vec_capacity bounds.old }
     requires within { level + 2 < 2 ^ 64 }

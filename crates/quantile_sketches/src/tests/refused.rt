@@ -317,7 +317,7 @@ fn req_of_i64(rt: HostRuntime) -> Result<(), Fail> {
     try_all::<ReqSketch<i64>>(&rt, &REQ_ROWS)
 }
 
-/// Whether lines are served, or want of memory ends it and is said to.
+/// Whether lines are served, or memory runs out and that is said.
 fn is_served(served: io::Result<()>) -> bool {
     match served {
         Ok(()) => true,

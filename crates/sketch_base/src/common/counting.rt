@@ -68,8 +68,8 @@ fn counts<T: Ord>(item: &T, query: &T, criteria: SearchCriteria) -> bool
     }
 }
 
-// A part of items in order, from `known` on, in which the count of a query ends that is at least
-// `known`. The parts that are tried get twice as long each time.
+// A range of items in order, starting at or after `known`, that contains the query's count, which is
+// at least `known`. The parts that are tried get twice as long each time.
 fn part_from<T: Ord>(
     items: &[T],
     known: usize,
@@ -104,8 +104,8 @@ fn count_in_part<T: Ord>(items: &[T], query: &T, criteria: SearchCriteria) -> us
     }
 }
 
-/// How many items in order a query counts that is known to count so many at least. It takes the
-/// fewer comparisons the nearer they are.
+/// Counts the items of a sorted slice that the query counts, given that it counts at least `known`.
+/// Cheaper the closer the result is to `known`.
 pub fn count_onward<T: Ord>(items: &[T], known: usize, query: &T, criteria: SearchCriteria) -> usize
     requires sorted { IsSorted T.cmp items.now }
     requires known { known ≤ count_by (counted T.cmp query.now criteria) items.now }
