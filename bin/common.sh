@@ -1,9 +1,9 @@
-# What the commands of bin/ and the scripts of the repository share. It is sourced, by sh or bash, once 'here' is the folder
-# that this file stands in:
+# What the commands of bin/ and the scripts of the repository share. Source it, from sh or bash, after 'here' is set to the folder
+# of this file:
 #   here=$(dirname "$(readlink -f "$0")")
 #   . "$here/common.sh"
 # From then on a command that fails ends the script, numbers and order are the same in every language, and in bash a pipe
-# fails where any part of it does. In another shell a pipe's status is that of its last part, so put what can fail into a file.
+# fails if any part of it does. In another shell a pipe's status is that of its last part, so write what can fail to a file.
 set -eu
 # shellcheck disable=SC3040
 if (set -o pipefail) 2> /dev/null; then set -o pipefail; fi
@@ -12,7 +12,7 @@ name=${0##*/}
 AWK=${AWK:-awk}
 export AWK here name
 
-# dies STATUS TEXT: tells why on standard error, and ends the script.
+# dies STATUS TEXT: says why on standard error, and ends the script.
 dies() {
     echo "$name: $2" >&2
     exit "$1"
@@ -28,7 +28,7 @@ usage() {
     exit "$1"
 }
 
-# Makes the temporary folder $work, which goes as the script ends, however it does.
+# Makes the temporary folder $work, which is removed when the script ends, however it does.
 make_work() {
     work=$(mktemp -d)
     export work
@@ -58,8 +58,8 @@ attended() {
     return "$attended_status"
 }
 
-# Finds the program: PROGRAM where it is set, the one beside this file, the one of the repository, which is built where it must
-# be, or one on the path by the name 'sketches'.
+# Finds the program: PROGRAM if it is set, the one beside this file, the one of the repository, which is built if needed, or one
+# on the path by the name 'sketches'.
 find_program() {
     if [ -n "${PROGRAM:-}" ]; then
         program=$(command -v "$PROGRAM") || dies 3 "$PROGRAM is no program that can be run"
@@ -76,8 +76,8 @@ find_program() {
     export program
 }
 
-# ask FAMILY SEED < COMMANDS: what the program answers to these lines, but for 'ok'. Where one is refused nothing comes, the line is
-# told, and it fails. It takes make_work and find_program.
+# ask FAMILY SEED < COMMANDS: prints what the program answers to these lines, except 'ok'. If one is refused it prints nothing,
+# reports the line, and fails. Call make_work and find_program first.
 ask() {
     cat > "$work/ask.lines"
     { "$program" "$@" < "$work/ask.lines" || echo "error: status $?"; } | $AWK -f "$here/answers.awk" > "$work/ask.answers" || {

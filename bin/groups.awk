@@ -1,5 +1,5 @@
 # What percentiles, summarize and combine share: numbers go into a sketch for each group, or images into one for each key, and
-# rows of percentiles or images come out. The options come by the environment, whose words awk leaves as they are.
+# rows of percentiles or images come out. The options come from the environment, whose values awk doesn't change.
 
 BEGIN {
     groups = ENVIRON["groups"]; value = ENVIRON["value"]; decimals = ENVIRON["decimals"] + 0; work = ENVIRON["work"]

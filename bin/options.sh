@@ -2,16 +2,16 @@
 tab=$(printf '\t')
 groups='' value=1 separator='' header='' decimals=3 points=50,90,99,99.9 family=req k='' format=table ignore='' seed='' reads=numbers
 
-# wrong TEXT: arguments that can't be
+# wrong TEXT: ends the script for wrong arguments
 wrong() { dies 2 "$1; see $name -h"; }
 
-# is_number TEXT MOST: digits alone, at most so many
+# is_number TEXT MOST: only digits, at most MOST
 is_number() {
     case $1 in '' | *[!0-9]*) return 1 ;; esac
     [ "${#1}" -le "$2" ]
 }
 
-# matches TEXT PATTERN: the whole text is as the pattern says.
+# matches TEXT PATTERN: the whole text matches the pattern.
 matches() {
     case $1 in *'
 '*) return 1 ;; esac
@@ -22,7 +22,7 @@ percent='([0-9]{1,2}(\.[0-9]{1,12})?|100(\.0{1,12})?)'
 # is_among TEXT LEAST MOST
 is_among() { is_number "$1" 9 && [ "$1" -ge "$2" ] && [ "$1" -le "$3" ]; }
 
-# read_options KNOWN ARG..: sets the variables above, and 'used' to how many arguments they were.
+# read_options KNOWN ARG..: sets the variables above, and 'used' to the number of arguments that it read.
 read_options() {
     of_lines=
     known=$1
@@ -78,8 +78,8 @@ check_rest() {
     [ -z "$seed" ] || is_number "$seed" 15 || wrong "a seed has up to 15 digits, and '$seed' hasn't"
 }
 
-# summed FILE..: puts what the lines of these files hold into sketches, and what is asked of them into $work/rows. The variable of this
-# name is then 0, or 1 where lines were left out.
+# summed FILE..: puts the numbers or images of these files into sketches, and the rows asked for into $work/rows. The variable of this
+# name is then 0, or 1 if lines were left out.
 summed() {
     for file in "$@"; do
         shift
@@ -89,7 +89,7 @@ summed() {
                 ! [ -d "$file" ] || dies 3 "$file is a folder"
                 [ -r "$file" ] || dies 3 "$file can't be read" ;;
         esac
-        # (awk takes a name with an = for an assignment)
+        # (awk reads a name with an = as an assignment)
         case $file in - | /*) ;; *) file=./$file ;; esac
         set -- "$@" "$file"
     done
@@ -99,7 +99,7 @@ summed() {
     watched=
     [ ! -t 2 ] || watched=yes
     export groups value separator header decimals points family accuracy format ignore seed reads asks watched
-    # (a process of the program takes a file descriptor)
+    # (each process of the program takes a file descriptor)
     # shellcheck disable=SC3045
     ulimit -n "$(ulimit -H -n)" 2> /dev/null || :
     attended $AWK -f "$here/groups.awk" "$@" > "$work/rows" || tell_end
@@ -112,7 +112,7 @@ finish() {
     exit "$summed"
 }
 
-# Tells how the processes of the program ended, where not well, and ends the script.
+# Reports how the processes of the program ended, if not well, and ends the script.
 tell_end() {
     for file in "$work"/[0-9]*; do
         [ -f "$file" ] || continue
