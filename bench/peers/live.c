@@ -5,16 +5,16 @@
 #include <malloc.h>
 #include <stdio.h>
 #include <stdlib.h>
-#include <string.h>
 
 static size_t live, greatest;
-static void *(*given)(size_t), *(*given_more)(void *, size_t);
+static void *(*given)(size_t), *(*given_zeros)(size_t, size_t), *(*given_more)(void *, size_t);
 static void (*taken_back)(void *);
 
 static void find(void) {
     if (given)
         return;
     given = (void *(*)(size_t))dlsym(RTLD_NEXT, "malloc");
+    given_zeros = (void *(*)(size_t, size_t))dlsym(RTLD_NEXT, "calloc");
     given_more = (void *(*)(void *, size_t))dlsym(RTLD_NEXT, "realloc");
     taken_back = (void (*)(void *))dlsym(RTLD_NEXT, "free");
 }
@@ -33,8 +33,10 @@ void *malloc(size_t size) {
 }
 
 void *calloc(size_t count, size_t size) {
-    void *block = malloc(count * size);
-    return block ? memset(block, 0, count * size) : NULL;
+    find();
+    void *block = given_zeros(count, size);
+    add(block ? malloc_usable_size(block) : 0);
+    return block;
 }
 
 void *realloc(void *old, size_t size) {
