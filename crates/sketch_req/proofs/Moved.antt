@@ -1,5 +1,5 @@
 -- Which levels a walk moves, and that the others stay as they are.
-use Rattle.std.proofs.Common.{◌≡◌, ℕ, zero, suc, ◌+◌, ◌==◌, ◌||◌, ◌⊎◌, inl, inr, eq-eqb, eqb-true, Bool, true, false, List, [], ◌∷◌, ◌++◌, length, get_or, refl, sym, ap, ◌∙◌, arith}
+use Rattle.std.proofs.Common.{◌≡◌, ℕ, zero, suc, ◌==◌, ◌||◌, ◌⊎◌, inl, inr, eq-eqb, eqb-true, Bool, true, false, List, [], ◌∷◌, ◌++◌, length, get_or, refl, sym, ap, ◌∙◌, arith}
 use Rattle.std.proofs.lemmas.Bool.{false≢true, or_parts}
 use Rattle.sketch_base.specs.Trace.{Action, Compact, Coin, joins_actions}
 use Rattle.sketch_base.specs.Bag.{Taken}

@@ -1,17 +1,17 @@
 -- A sketch of which coins are drawn anew keeps what every sketch keeps.
-use Rattle.std.proofs.Common.{◌≡◌, ℕ, Bool, List, length, flat_map, sym, ap, ◌∙◌, subst, arith, Ordering}
+use Rattle.std.proofs.Common.{◌≡◌, Bool, List, length, flat_map, sym, ap, ◌∙◌, subst, arith, Ordering}
 use Rattle.std.specs.Cmp.{IsTotalOrder}
 use Rattle.std.specs.List.{AllByRecursion}
 use Rattle.sketch_base.specs.Extremes.{IsBetween, IsLeastOf, IsGreatestOf}
 use Rattle.sketch_req.specs.Redrawn.{redrawn, redrawn_sketch}
-use Rattle.sketch_req.specs.Schedule.{layouts_of, retained_of, weight_of, nominal_sum}
-use Rattle.sketch_req.specs.Sketch.{Req, IsSketch, IsSound, items_in}
+use Rattle.sketch_req.specs.Schedule.{layouts_of, retained_of, weight_of}
+use Rattle.sketch_req.specs.Sketch.{Req, IsSound, items_in}
 use Rattle.sketch_req.proofs.Holding.{news}
 use Rattle.sketch_req.proofs.Layouts.{length-layouts}
 use Rattle.sketch_req.proofs.Redraws.{flat-items, items-redrawn, layouts-redrawn, placed-redrawn}
 
 module _ {A : Type 0} {cmp : A → A → Ordering} (order : IsTotalOrder cmp) (word : List Bool) (s : Req A) where
-  redrawn-sound : IsSound cmp s → IsSound cmp (redrawn_sketch word s)
+  pub redrawn-sound : IsSound cmp s → IsSound cmp (redrawn_sketch word s)
   redrawn-sound sound =
       let same : layouts_of (redrawn word s.levels) ≡ layouts_of s.levels = layouts-redrawn word s.levels in
       let count : length (redrawn word s.levels) ≡ length s.levels = omega (arith, ap length same, length-layouts (redrawn word s.levels), length-layouts s.levels) in
@@ -43,14 +43,4 @@ module _ {A : Type 0} {cmp : A → A → Ordering} (order : IsTotalOrder cmp) (w
               greatest_is = subst (λ (xs : List A). IsGreatestOf cmp xs s.greatest) (sym items) small.greatest_is;
               fresh_if_few = λ few. news order s.levels (redrawn word s.levels) same (small.fresh_if_few few);
             };
-      }
-
-  pub redrawn-kept : {R : Type 0} (HoldsNothing : R → Type 0) (num capacity : ℕ) (rooms : List R) → IsSketch cmp num capacity HoldsNothing rooms s → IsSketch cmp num capacity HoldsNothing rooms (redrawn_sketch word s)
-  redrawn-kept HoldsNothing num capacity rooms i =
-      let same = layouts-redrawn word s.levels in
-      record {
-        retained_is = i.retained_is ∙ sym (ap retained_of same);
-        capacity_is = i.capacity_is ∙ sym (ap (nominal_sum s.k) same);
-        rooms_are = i.rooms_are;
-        sound = redrawn-sound i.sound;
       }

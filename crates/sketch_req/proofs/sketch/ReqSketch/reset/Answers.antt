@@ -40,7 +40,6 @@ invariant_of-self g c =
     record {
       retained_is = search rules;
       capacity_is = search rules;
-      rooms_are = c.self.invariant.rooms_are;
       sound = rw (c.add_up.ensures.k, c.add_up.ensures.accuracy, c.add_level.ensures.k, c.add_level.ensures.accuracy, e) (sound-first g.T.Ord.cmp c.self.inside.levels.k c.self.inside.levels.rank_accuracy c.self.invariant.sound.legal_k);
     }
 

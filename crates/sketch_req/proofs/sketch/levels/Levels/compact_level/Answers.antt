@@ -1,5 +1,6 @@
 -- The goals are what a step of a walk says of the levels.
 use Rattle.std.proofs.Common.{ap, arith}
+use Rattle.sketch_req.specs.Buffers.{Space}
 use Rattle.sketch_req.specs.Schedule.{Layout, taken}
 use Rattle.sketch_req.proofs.Steps.{opened, gives_up-there, upper-there, within-raised, stepped, length-up, coins-there}
 use Rattle.sketch_req.proofs.sketch.levels.Levels.compact_level.Goals as goal
@@ -8,7 +9,7 @@ pub compact_reserved-requires-clause-room : goal.compact_reserved-requires-claus
 compact_reserved-requires-clause-room g c =
     let o = opened c.args.self.now.k c.args.self.now.rank_accuracy c.args.level c.args.self.now.compactors.items c.index_mut.result.now c.requires.levels c.requires.within c.index_mut.ensures.value in
     let u = gives_up-there g.met.T.Ord.total c.args.self.now.k c.args.self.now.rank_accuracy c.args.level c.args.self.now.compactors.items c.index_mut.result.now o c.requires.full in
-    omega (arith, u.count, ap (taken c.args.self.now.k) o.layout, c.requires.up)
+    omega (arith, u.count, ap (taken c.args.self.now.k) o.layout, c.requires.promoted, ap (λ (b : Space g.row.T.Denot). b.promoted_space) c.buffers.view_is)
 
 pub absorb-requires-clause-capacity : goal.absorb-requires-clause-capacity
 absorb-requires-clause-capacity g c =
@@ -16,7 +17,7 @@ absorb-requires-clause-capacity g c =
     let u = gives_up-there g.met.T.Ord.total c.args.self.now.k c.args.self.now.rank_accuracy c.args.level c.args.self.now.compactors.items c.index_mut.result.now o c.requires.full in
     let n = length-up c.args.self.now.k c.index_mut.result.now c.compact_reserved.new.self _ c.compact_reserved.new.out.items u c.compact_reserved.ensures.done in
     let a = upper-there c.args.self.now.k c.args.self.now.rank_accuracy c.args.level c.args.self.now.compactors.items c.add_level.new.self.compactors.items c.index_mut.result.now c.compact_reserved.new.self c.index_mut-2.result.now c.requires.within c.index_mut.ensures.value c.add_level.ensures.items c.index_mut-2.ensures.value in
-    omega (arith, n.1, a.count, u.even, ap (taken c.args.self.now.k) o.layout, c.requires.above)
+    omega (arith, n.1, a.count, u.even, ap (taken c.args.self.now.k) o.layout, c.requires.above, ap (λ (b : Space g.row.T.Denot). b.merged_space) c.buffers.view_is)
 
 pub absorb-requires-clause-few : goal.absorb-requires-clause-few
 absorb-requires-clause-few g c =

@@ -1,11 +1,10 @@
 -- The loop keeps that the levels below are joined, and that there are clones and room for the others.
-use Rattle.std.proofs.Common.{◌≡◌, ℕ, ◌+◌, ◌<◌, ◌≤◌, true, [], length, length-set, ap, sym, ◌∙◌, subst, refl, arith, vec_capacity}
+use Rattle.std.proofs.Common.{◌≡◌, ℕ, ◌+◌, ◌<◌, ◌≤◌, true, [], length, length-set, ap, sym, ◌∙◌, subst, refl, arith}
 use Rattle.std.proofs.Math.Seq.{map-set_same}
-use Rattle.std.proofs.lemmas.List.{length-map}
+use Rattle.sketch_req.specs.Buffers.{Space}
 use Rattle.sketch_req.specs.Level.{fresh}
 use Rattle.sketch_req.proofs.Clones.{cloned-above, is-ready}
 use Rattle.sketch_req.proofs.Joins.{AreJoinedTo, all-joined-to, is-added, joined-none, joined-there, next-copied, next-joined, placed-at-place}
-use Rattle.sketch_req.proofs.Rooms.{room-empty, rooms-set}
 use Rattle.sketch_req.proofs.Updates.{few-placed}
 use Rattle.sketch_req.proofs.sketch.levels.Levels.join_levels.Goals as goal
 
@@ -16,11 +15,10 @@ loop-level-init g c =
       accuracy = refl;
       joined = joined-none g.T.Ord.cmp c.args.self.now.k c.args.self.now.rank_accuracy c.args.self.now.compactors.items c.args.others.now.compactors.items;
       spare = c.requires.spare;
-      rooms = c.requires.rooms;
-      enough = omega (arith, length-map c.args.rooms.now.items (λ room. room.clones.items), c.requires.cloned.enough);
+      enough = c.requires.cloned.enough;
       cloned = λ h l m. c.requires.cloned.cloned h m;
-      merged_capacities = refl;
-      up_capacities = refl;
+      merged_spaces = refl;
+      promoted_spaces = refl;
     }
 
 pub add_level-requires-clause-legal : goal.add_level-requires-clause-legal
@@ -61,7 +59,7 @@ join-requires-clause-clones g c =
     let items = c.add_level.ensures.items in
     let added = is-added c.loop-level.level (fresh [] true c.loop-level.level c.args.self.now.k c.args.self.now.rank_accuracy) c.loop-level.self.compactors.items c.add_level.new.self.compactors.items (omega (arith, i.joined.len)) (rw (c.loop-level.invariant.k, c.loop-level.invariant.accuracy) at items) in
     let copied = next-copied g.met.T.Ord.total c.args.self.now.k c.args.self.now.rank_accuracy c.args.self.now.compactors.items c.args.others.now.compactors.items c.requires.levels c.loop-level.level c.loop-level.self.compactors.items c.add_level.new.self.compactors.items c.index_mut.result.now c.requires.legal (omega (arith, few, c.loop-level-test.true)) i.joined added c.index_mut.ensures.value in
-    let ready = is-ready g.T.Ord.cmp c.args.self.now.compactors.items c.args.others.now.compactors.items (λ room. room.clones.items) (λ room. vec_capacity room.clones) (λ room. vec_capacity room.up) c.args.self.now.k c.args.self.now.rank_accuracy c.loop-level.level c.loop-level.rooms.items c.index_mut-in-loop-level.result.now c.index_mut.result.now c.index.result.now
+    let ready = is-ready g.T.Ord.cmp c.args.self.now.compactors.items c.args.others.now.compactors.items c.args.self.now.k c.args.self.now.rank_accuracy c.loop-level.level c.loop-level.buffers.items c.index_mut-in-loop-level.result.now c.index_mut.result.now c.index.result.now
     copied inside c.index.ensures (omega (arith, i.enough, c.loop-level-test.true)) c.index_mut-in-loop-level.ensures.value (i.cloned c.loop-level.level (omega arith) inside) in
     ready.same
 
@@ -73,7 +71,7 @@ join-requires-clause-space g c =
     let items = c.add_level.ensures.items in
     let added = is-added c.loop-level.level (fresh [] true c.loop-level.level c.args.self.now.k c.args.self.now.rank_accuracy) c.loop-level.self.compactors.items c.add_level.new.self.compactors.items (omega (arith, i.joined.len)) (rw (c.loop-level.invariant.k, c.loop-level.invariant.accuracy) at items) in
     let copied = next-copied g.met.T.Ord.total c.args.self.now.k c.args.self.now.rank_accuracy c.args.self.now.compactors.items c.args.others.now.compactors.items c.requires.levels c.loop-level.level c.loop-level.self.compactors.items c.add_level.new.self.compactors.items c.index_mut.result.now c.requires.legal (omega (arith, few, c.loop-level-test.true)) i.joined added c.index_mut.ensures.value in
-    let ready = is-ready g.T.Ord.cmp c.args.self.now.compactors.items c.args.others.now.compactors.items (λ room. room.clones.items) (λ room. vec_capacity room.clones) (λ room. vec_capacity room.up) c.args.self.now.k c.args.self.now.rank_accuracy c.loop-level.level c.loop-level.rooms.items c.index_mut-in-loop-level.result.now c.index_mut.result.now c.index.result.now
+    let ready = is-ready g.T.Ord.cmp c.args.self.now.compactors.items c.args.others.now.compactors.items c.args.self.now.k c.args.self.now.rank_accuracy c.loop-level.level c.loop-level.buffers.items c.index_mut-in-loop-level.result.now c.index_mut.result.now c.index.result.now
     copied inside c.index.ensures (omega (arith, i.enough, c.loop-level-test.true)) c.index_mut-in-loop-level.ensures.value (i.cloned c.loop-level.level (omega arith) inside) in
     ready.space
 
@@ -85,31 +83,21 @@ join-requires-clause-few g c =
     let items = c.add_level.ensures.items in
     let added = is-added c.loop-level.level (fresh [] true c.loop-level.level c.args.self.now.k c.args.self.now.rank_accuracy) c.loop-level.self.compactors.items c.add_level.new.self.compactors.items (omega (arith, i.joined.len)) (rw (c.loop-level.invariant.k, c.loop-level.invariant.accuracy) at items) in
     let copied = next-copied g.met.T.Ord.total c.args.self.now.k c.args.self.now.rank_accuracy c.args.self.now.compactors.items c.args.others.now.compactors.items c.requires.levels c.loop-level.level c.loop-level.self.compactors.items c.add_level.new.self.compactors.items c.index_mut.result.now c.requires.legal (omega (arith, few, c.loop-level-test.true)) i.joined added c.index_mut.ensures.value in
-    let ready = is-ready g.T.Ord.cmp c.args.self.now.compactors.items c.args.others.now.compactors.items (λ room. room.clones.items) (λ room. vec_capacity room.clones) (λ room. vec_capacity room.up) c.args.self.now.k c.args.self.now.rank_accuracy c.loop-level.level c.loop-level.rooms.items c.index_mut-in-loop-level.result.now c.index_mut.result.now c.index.result.now
+    let ready = is-ready g.T.Ord.cmp c.args.self.now.compactors.items c.args.others.now.compactors.items c.args.self.now.k c.args.self.now.rank_accuracy c.loop-level.level c.loop-level.buffers.items c.index_mut-in-loop-level.result.now c.index_mut.result.now c.index.result.now
     copied inside c.index.ensures (omega (arith, i.enough, c.loop-level-test.true)) c.index_mut-in-loop-level.ensures.value (i.cloned c.loop-level.level (omega arith) inside) in
     omega (arith, ready.few, c.requires.few)
 
-pub join-requires-clause-room : goal.join-requires-clause-room
-join-requires-clause-room g c =
+pub join-requires-clause-promoted : goal.join-requires-clause-promoted
+join-requires-clause-promoted g c =
     let few : 0 + length c.args.others.now.compactors.items ≤ 64 = few-placed g.T.Ord.cmp c.args.others.now.k c.args.self.now.rank_accuracy 0 c.args.others.now.compactors.items (omega arith) c.requires.others in
     let i = c.loop-level.invariant in
     let inside : c.loop-level.level < length c.args.others.now.compactors.items = omega (arith, c.loop-level-test.true, c.len-level-end.ensures, c.args.others.now.compactors.ok) in
     let items = c.add_level.ensures.items in
     let added = is-added c.loop-level.level (fresh [] true c.loop-level.level c.args.self.now.k c.args.self.now.rank_accuracy) c.loop-level.self.compactors.items c.add_level.new.self.compactors.items (omega (arith, i.joined.len)) (rw (c.loop-level.invariant.k, c.loop-level.invariant.accuracy) at items) in
     let copied = next-copied g.met.T.Ord.total c.args.self.now.k c.args.self.now.rank_accuracy c.args.self.now.compactors.items c.args.others.now.compactors.items c.requires.levels c.loop-level.level c.loop-level.self.compactors.items c.add_level.new.self.compactors.items c.index_mut.result.now c.requires.legal (omega (arith, few, c.loop-level-test.true)) i.joined added c.index_mut.ensures.value in
-    let ready = is-ready g.T.Ord.cmp c.args.self.now.compactors.items c.args.others.now.compactors.items (λ room. room.clones.items) (λ room. vec_capacity room.clones) (λ room. vec_capacity room.up) c.args.self.now.k c.args.self.now.rank_accuracy c.loop-level.level c.loop-level.rooms.items c.index_mut-in-loop-level.result.now c.index_mut.result.now c.index.result.now
+    let ready = is-ready g.T.Ord.cmp c.args.self.now.compactors.items c.args.others.now.compactors.items c.args.self.now.k c.args.self.now.rank_accuracy c.loop-level.level c.loop-level.buffers.items c.index_mut-in-loop-level.result.now c.index_mut.result.now c.index.result.now
     copied inside c.index.ensures (omega (arith, i.enough, c.loop-level-test.true)) c.index_mut-in-loop-level.ensures.value (i.cloned c.loop-level.level (omega arith) inside) in
-    ready.fits
-
-pub join-requires-clause-up : goal.join-requires-clause-up
-join-requires-clause-up g c =
-    let i = c.loop-level.invariant in
-    (room-empty c.loop-level.rooms.items c.loop-level.level c.index_mut-in-loop-level.result.now (λ room. room.up.items) (λ room. room.merged.items) i.rooms (omega (arith, i.enough, c.loop-level-test.true)) c.index_mut-in-loop-level.ensures.value).0
-
-pub join-requires-clause-merged : goal.join-requires-clause-merged
-join-requires-clause-merged g c =
-    let i = c.loop-level.invariant in
-    (room-empty c.loop-level.rooms.items c.loop-level.level c.index_mut-in-loop-level.result.now (λ room. room.up.items) (λ room. room.merged.items) i.rooms (omega (arith, i.enough, c.loop-level-test.true)) c.index_mut-in-loop-level.ensures.value).1
+    ready.promoted
 
 pub loop-level-preserved : goal.loop-level-preserved
 loop-level-preserved g c =
@@ -119,9 +107,9 @@ loop-level-preserved g c =
     let items = c.add_level.ensures.items in
     let added = is-added c.loop-level.level (fresh [] true c.loop-level.level c.args.self.now.k c.args.self.now.rank_accuracy) c.loop-level.self.compactors.items c.add_level.new.self.compactors.items (omega (arith, i.joined.len)) (rw (c.loop-level.invariant.k, c.loop-level.invariant.accuracy) at items) in
     let copied = next-copied g.met.T.Ord.total c.args.self.now.k c.args.self.now.rank_accuracy c.args.self.now.compactors.items c.args.others.now.compactors.items c.requires.levels c.loop-level.level c.loop-level.self.compactors.items c.add_level.new.self.compactors.items c.index_mut.result.now c.requires.legal (omega (arith, few, c.loop-level-test.true)) i.joined added c.index_mut.ensures.value in
-    let rooms = c.loop-level.rooms.items in
+    let buffers = c.loop-level.buffers.items in
     let old = c.index_mut-in-loop-level.result.now in
-    let room = c.join.new.room in
+    let own = c.join.new.buffers in
     let there = c.index_mut-in-loop-level.ensures.value in
     record {
       k = c.add_level.ensures.k ∙ i.k;
@@ -129,11 +117,10 @@ loop-level-preserved g c =
       joined = next-joined g.met.T.Ord.total c.args.self.now.k c.args.self.now.rank_accuracy c.args.self.now.compactors.items c.args.others.now.compactors.items c.requires.levels c.loop-level.level c.loop-level.self.compactors.items c.add_level.new.self.compactors.items _ c.join.new.self i.joined added
           (joined-there g.met.T.Ord.total c.args.self.now.k c.args.others.now.k c.args.self.now.rank_accuracy c.loop-level.level c.args.self.now.compactors.items c.args.others.now.compactors.items c.index_mut.result.now c.index.result.now c.join.new.self copied inside c.index.ensures c.join.ensures.ok c.join.ensures.sound);
       spare = omega (arith, i.spare, c.add_level.ensures.capacity);
-      rooms = rooms-set rooms c.loop-level.level room (λ room. room.up.items) (λ room. room.merged.items) i.rooms c.join.ensures.up c.join.ensures.merged;
       enough = simp length-set i.enough;
-      cloned = λ h l m. cloned-above g.T.Ord.cmp c.args.self.now.compactors.items c.args.others.now.compactors.items (λ room. room.clones.items) (λ room. vec_capacity room.clones) (λ room. vec_capacity room.up) rooms c.loop-level.level room h (omega (arith, l)) (i.cloned h (omega (arith, l)) m);
-      merged_capacities = map-set_same (λ room. vec_capacity room.merged) rooms c.loop-level.level room old (c.join.ensures.merged_capacity ∙ ap (λ room. vec_capacity room.merged) there) ∙ i.merged_capacities;
-      up_capacities = map-set_same (λ room. vec_capacity room.up) rooms c.loop-level.level room old (c.join.ensures.up_capacity ∙ ap (λ room. vec_capacity room.up) there) ∙ i.up_capacities;
+      cloned = λ h l m. cloned-above g.T.Ord.cmp c.args.self.now.compactors.items c.args.others.now.compactors.items buffers c.loop-level.level own h (omega (arith, l)) (i.cloned h (omega (arith, l)) m);
+      merged_spaces = map-set_same (λ b. b.merged_space) buffers c.loop-level.level own old (ap (λ (b : Space g.row.T.Denot). b.merged_space) c.join.ensures.rest ∙ ap (λ (b : Space g.row.T.Denot). b.merged_space) there) ∙ i.merged_spaces;
+      promoted_spaces = map-set_same (λ b. b.promoted_space) buffers c.loop-level.level own old (ap (λ (b : Space g.row.T.Denot). b.promoted_space) c.join.ensures.rest ∙ ap (λ (b : Space g.row.T.Denot). b.promoted_space) there) ∙ i.promoted_spaces;
     }
 
 pub returns-clause-joined : goal.returns-clause-joined

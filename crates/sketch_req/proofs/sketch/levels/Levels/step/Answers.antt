@@ -17,11 +17,11 @@ compact_level-requires-clause-full g c =
     let o = opened c.args.self.now.k c.args.self.now.rank_accuracy c.args.level c.args.self.now.compactors.items c.index-here.result.now c.requires.levels c.requires.within c.index-here.ensures in
     is-full-there c.args.self.now.k c.args.self.now.rank_accuracy c.args.level c.args.self.now.compactors.items c.index-here.result.now o ∙ le-leb (nominal_of c.index-here.result.now) (length c.index-here.result.now.items) (omega (arith, c.num_items.ensures, c.nominal_capacity.ensures, c.if-num_items-nominal_capacity.true))
 
-pub compact_level-requires-clause-up : goal.compact_level-requires-clause-up
-compact_level-requires-clause-up g c =
+pub compact_level-requires-clause-promoted : goal.compact_level-requires-clause-promoted
+compact_level-requires-clause-promoted g c =
     let o = opened c.args.self.now.k c.args.self.now.rank_accuracy c.args.level c.args.self.now.compactors.items c.index-here.result.now c.requires.levels c.requires.within c.index-here.ensures in
     let full = is-full-there c.args.self.now.k c.args.self.now.rank_accuracy c.args.level c.args.self.now.compactors.items c.index-here.result.now o ∙ le-leb (nominal_of c.index-here.result.now) (length c.index-here.result.now.items) (omega (arith, c.num_items.ensures, c.nominal_capacity.ensures, c.if-num_items-nominal_capacity.true)) in
-    (step-needs g.met.T.Ord.total c.args.self.now.k c.args.self.now.rank_accuracy c.args.level _ _ c.args.self.now.compactors.items c.index-here.result.now c.requires.legal c.requires.levels c.requires.within c.index-here.ensures full c.requires.fits c.requires.fit).up
+    (step-needs g.met.T.Ord.total c.args.self.now.k c.args.self.now.rank_accuracy c.args.level _ _ c.args.self.now.compactors.items c.index-here.result.now c.requires.legal c.requires.levels c.requires.within c.index-here.ensures full c.requires.fits c.requires.fit).promoted
 
 pub compact_level-requires-clause-above : goal.compact_level-requires-clause-above
 compact_level-requires-clause-above g c =

@@ -1,11 +1,10 @@
 -- The loop keeps that the levels are those after the steps so far.
-use Rattle.std.proofs.Common.{◌≡◌, ℕ, length, length-set, sym, ◌∙◌, subst, arith, refl, vec_capacity}
+use Rattle.std.proofs.Common.{◌≡◌, ℕ, length, length-set, sym, ◌∙◌, subst, arith, refl}
 use Rattle.sketch_req.specs.Schedule.{layouts_of, steps_actions, steps_layouts}
 use Rattle.sketch_req.specs.Walk.{AreWalked}
-use Rattle.sketch_req.proofs.Rooms.{room-empty, rooms-set, read-other, room-fits}
+use Rattle.sketch_req.proofs.Buffers.{read-above, space-there}
 use Rattle.sketch_req.proofs.Layouts.{length-layouts}
 use Rattle.sketch_req.proofs.Walks.{acted-start, walked-more}
-use Rattle.std.proofs.lemmas.List.{length-map}
 use Rattle.sketch_req.proofs.sketch.levels.Levels.walk.Goals as goal
 
 pub loop-level-init : goal.loop-level-init
@@ -15,15 +14,14 @@ loop-level-init g c = record {
   acted = acted-start g.met.T.Ord.total g.B.RandomBits.bit g.B.RandomBits.next c.args.coins.now c.args.self.now.k c.args.self.now.rank_accuracy c.args.self.now.compactors.items c.requires.levels;
   len = λ _. sym c.len-count.ensures;
   spare = omega (arith, c.requires.spare, c.len-count.ensures);
-  rooms = c.requires.rooms;
-  rooms_len = refl;
-  capacities = λ j _. refl;
-  ups = λ j _. refl;
+  as_many = refl;
+  merged = λ j _. refl;
+  promoted = λ j _. refl;
 }
 
 pub index_mut-requires : goal.index_mut-requires
 index_mut-requires g c =
-    omega (arith, c.loop-level.rooms.ok, c.loop-level.invariant.rooms_len, c.requires.fit.enough, length-map c.args.rooms.now.items (λ room. vec_capacity room.merged), length-layouts c.args.self.now.compactors.items, c.loop-level-test.true, c.len-count.ensures, c.args.self.now.compactors.ok)
+    omega (arith, c.loop-level.buffers.ok, c.loop-level.invariant.as_many, c.requires.fit.enough, length-layouts c.args.self.now.compactors.items, c.loop-level-test.true, c.len-count.ensures, c.args.self.now.compactors.ok)
 
 pub step-requires-clause-levels : goal.step-requires-clause-levels
 step-requires-clause-levels g c = rw (c.loop-level.invariant.k, c.loop-level.invariant.accuracy) c.loop-level.invariant.acted.acted.placed
@@ -40,24 +38,12 @@ step-requires-clause-fits g c = omega (arith, c.loop-level.invariant.acted.acted
 pub step-requires-clause-few_items : goal.step-requires-clause-few_items
 step-requires-clause-few_items g c = omega (arith, c.loop-level.invariant.acted.acted.fewer, c.requires.few_items)
 
-pub step-requires-clause-room : goal.step-requires-clause-room
-step-requires-clause-room g c =
-    (room-empty c.loop-level.rooms.items c.loop-level.level c.index_mut.result.now (λ room. room.up.items) (λ room. room.merged.items) c.loop-level.invariant.rooms
-    (omega (arith, c.loop-level.invariant.rooms_len, c.requires.fit.enough, length-map c.args.rooms.now.items (λ room. vec_capacity room.merged), length-layouts c.args.self.now.compactors.items, c.loop-level-test.true, c.len-count.ensures, c.args.self.now.compactors.ok))
-    c.index_mut.ensures.value).0
-
-pub step-requires-clause-merged : goal.step-requires-clause-merged
-step-requires-clause-merged g c =
-    (room-empty c.loop-level.rooms.items c.loop-level.level c.index_mut.result.now (λ room. room.up.items) (λ room. room.merged.items) c.loop-level.invariant.rooms
-    (omega (arith, c.loop-level.invariant.rooms_len, c.requires.fit.enough, length-map c.args.rooms.now.items (λ room. vec_capacity room.merged), length-layouts c.args.self.now.compactors.items, c.loop-level-test.true, c.len-count.ensures, c.args.self.now.compactors.ok))
-    c.index_mut.ensures.value).1
-
 pub step-requires-clause-fit : goal.step-requires-clause-fit
 step-requires-clause-fit g c =
     let i = c.loop-level.invariant in
     rw i.k
-    (room-fits c.args.rooms.now.items c.loop-level.rooms.items c.index_mut.result.now (λ room. vec_capacity room.merged) (λ room. vec_capacity room.up) c.args.self.now.k c.loop-level.level (layouts_of c.args.self.now.compactors.items) (layouts_of c.loop-level.self.compactors.items)
-    c.requires.fit (omega (arith, length-layouts c.args.self.now.compactors.items, c.loop-level-test.true, c.len-count.ensures, c.args.self.now.compactors.ok)) i.rooms_len (i.capacities c.loop-level.level (omega arith)) (i.ups c.loop-level.level (omega arith)) c.index_mut.ensures.value i.acted.acted.layouts_are)
+    (space-there c.args.self.now.k c.loop-level.level (layouts_of c.args.self.now.compactors.items) (layouts_of c.loop-level.self.compactors.items) c.args.buffers.now.items c.loop-level.buffers.items c.index_mut.result.now
+    c.requires.fit (omega (arith, length-layouts c.args.self.now.compactors.items, c.loop-level-test.true, c.len-count.ensures, c.args.self.now.compactors.ok)) i.as_many (i.merged c.loop-level.level (omega arith)) (i.promoted c.loop-level.level (omega arith)) c.index_mut.ensures.value i.acted.acted.layouts_are)
 
 pub loop-level-preserved : goal.loop-level-preserved
 loop-level-preserved g c =
@@ -69,10 +55,9 @@ loop-level-preserved g c =
       acted = walked-more g.met.T.Ord.total g.B.RandomBits.bit g.B.RandomBits.next c.args.coins.now c.loop-level.coins c.step.new.coins c.args.self.now.k c.args.self.now.rank_accuracy c.loop-level.level c.args.self.now.compactors.items c.loop-level.self.compactors.items c.step.new.self.compactors.items i.acted (rw (i.k, i.accuracy) at acted);
       len = λ h. c.step.ensures.same_len (omega (arith, h, i.len c.loop-level-test.true, c.loop-level.self.compactors.ok)) ∙ i.len c.loop-level-test.true;
       spare = omega (arith, i.spare, c.step.ensures.capacity);
-      rooms = rooms-set c.loop-level.rooms.items c.loop-level.level c.step.new.room (λ room. room.up.items) (λ room. room.merged.items) i.rooms c.step.ensures.room c.step.ensures.merged;
-      rooms_len = simp length-set i.rooms_len;
-      capacities = λ j h. read-other _ 0 c.loop-level.rooms.items c.loop-level.level j c.step.new.room (omega (arith, h)) ∙ i.capacities j (omega (arith, h));
-      ups = λ j h. read-other _ 0 c.loop-level.rooms.items c.loop-level.level j c.step.new.room (omega (arith, h)) ∙ i.ups j (omega (arith, h));
+      as_many = simp length-set i.as_many;
+      merged = λ j h. read-above (λ b. b.merged_space) 0 c.loop-level.buffers.items c.loop-level.level c.step.new.buffers j (omega (arith, h)) ∙ i.merged j (omega (arith, h));
+      promoted = λ j h. read-above (λ b. b.promoted_space) 0 c.loop-level.buffers.items c.loop-level.level c.step.new.buffers j (omega (arith, h)) ∙ i.promoted j (omega (arith, h));
     }
 
 pub returns-clause-acted : goal.returns-clause-acted

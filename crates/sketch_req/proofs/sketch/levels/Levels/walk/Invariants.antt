@@ -1,5 +1,5 @@
-use Rattle.std.proofs.Common.{◌≡◌, ℕ, ◌<◌, ◌≤◌, [], length, map, get_or, vec_len, vec_capacity}
-use Rattle.std.specs.List.{All}
+use Rattle.std.proofs.Common.{◌≡◌, ℕ, ◌<◌, ◌≤◌, length, get_or, vec_len, vec_capacity}
+use Rattle.sketch_req.specs.Buffers.{merged_spaces, promoted_spaces}
 use Rattle.sketch_req.specs.Schedule.{layouts_of, steps_actions, steps_layouts}
 use Rattle.sketch_req.specs.Walk.{AreWalked}
 use Rattle.sketch_req.proofs.sketch.levels.Levels.walk.Given as goal
@@ -12,8 +12,7 @@ invariant-loop-level g l = record {
       (steps_actions l.initial.self.k l.initial.self.rank_accuracy l.level 0 (layouts_of l.initial.self.compactors.items)) (steps_layouts l.initial.self.k l.level 0 (layouts_of l.initial.self.compactors.items)) l.initial.self.compactors.items l.self.compactors.items;
   len : l.level < l.count → vec_len l.self.compactors ≡ l.count;
   spare : l.count < vec_capacity l.self.compactors;
-  rooms : All (λ room. (room.up.items ≡ []) × (room.merged.items ≡ [])) l.rooms.items;
-  rooms_len : length l.rooms.items ≡ length l.initial.rooms.items;
-  capacities : (j : ℕ) → l.level ≤ j → get_or (map (λ room. vec_capacity room.merged) l.rooms.items) j 0 ≡ get_or (map (λ room. vec_capacity room.merged) l.initial.rooms.items) j 0;
-  ups : (j : ℕ) → l.level ≤ j → get_or (map (λ room. vec_capacity room.up) l.rooms.items) j 0 ≡ get_or (map (λ room. vec_capacity room.up) l.initial.rooms.items) j 0;
+  as_many : length l.buffers.items ≡ length l.initial.buffers.items;
+  merged : (j : ℕ) → l.level ≤ j → get_or (merged_spaces l.buffers.items) j 0 ≡ get_or (merged_spaces l.initial.buffers.items) j 0;
+  promoted : (j : ℕ) → l.level ≤ j → get_or (promoted_spaces l.buffers.items) j 0 ≡ get_or (promoted_spaces l.initial.buffers.items) j 0;
 }

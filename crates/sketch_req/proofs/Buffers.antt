@@ -1,0 +1,59 @@
+-- The buffers of a walk's turns: what stays of them where those of one turn are set.
+use Rattle.std.proofs.Common.{◌≡◌, ℕ, ◌+◌, ◌<◌, List, length, map, get_or, set, sym, ap, ◌∙◌, subst, arith, inl, inr}
+use Rattle.std.proofs.lemmas.Bool.{cases_lt}
+use Rattle.std.proofs.lemmas.List.{map-set, length-map, get_or-map, get_or-set_other, get_or-set_same}
+use Rattle.sketch_req.specs.Buffers.{Space, merged_spaces, promoted_spaces}
+use Rattle.sketch_req.specs.Schedule.{Layout, steps_layouts}
+use Rattle.sketch_req.specs.Walk.{HasSpace, HaveSpace}
+
+-- what is read of the buffers of each turn, at one place
+module _ {R B : Type 0} (read : R → B) (d : B) (rooms : List R) (h : ℕ) (room : R) where
+  pub read-there : h < length rooms → room ≡ get_or rooms h room → get_or (map read rooms) h d ≡ read room
+  read-there within e = get_or-map read rooms h room d within ∙ ap read (sym e)
+
+  pub read-above : (j : ℕ) → h < j → get_or (map read (set rooms h room)) j d ≡ get_or (map read rooms) j d
+  read-above j above = ap (λ (xs : List B). get_or xs j d) (map-set read rooms h room) ∙ get_or-set_other (map read rooms) h j (read room) d (λ e. absurd (omega (arith, e, above)))
+
+  pub read-below : (j : ℕ) → j < h → get_or (map read (set rooms h room)) j d ≡ get_or (map read rooms) j d
+  read-below j low = ap (λ (xs : List B). get_or xs j d) (map-set read rooms h room) ∙ get_or-set_other (map read rooms) h j (read room) d (λ e. absurd (omega (arith, e, low)))
+
+  pub read-here : h < length rooms → get_or (map read (set rooms h room)) h d ≡ read room
+  read-here inside = ap (λ (xs : List B). get_or xs h d) (map-set read rooms h room) ∙ get_or-set_same (map read rooms) h (read room) d (omega (arith, inside, length-map rooms read))
+
+module _ {A : Type 0} where
+  -- space for the turn of level h, in the buffers of its place
+  abbrev pub SpaceAt : ℕ → ℕ → List Layout → List (Space A) → Type 0
+  SpaceAt k h layouts buffers = HasSpace k h layouts (get_or (merged_spaces buffers) h 0) (get_or (promoted_spaces buffers) h 0)
+
+  -- buffers with as much space at a place
+  pub space-same : (k h : ℕ) (layouts : List Layout) (buffers news : List (Space A)) → get_or (merged_spaces news) h 0 ≡ get_or (merged_spaces buffers) h 0 → get_or (promoted_spaces news) h 0 ≡ get_or (promoted_spaces buffers) h 0 →
+      SpaceAt k h layouts buffers → SpaceAt k h layouts news
+  space-same k h layouts buffers news merged promoted has = rw (merged, promoted) has
+
+  -- there is space for the turns up to one, where the buffers of this one are set
+  pub space-more : (k h : ℕ) (layouts : ℕ → List Layout) (buffers : List (Space A)) (own : Space A) → h < length buffers → ((j : ℕ) → j < h → SpaceAt k j (layouts j) buffers) → HasSpace k h (layouts h) own.merged_space own.promoted_space →
+      (j : ℕ) → j < h + 1 → SpaceAt k j (layouts j) (set buffers h own)
+  space-more k h layouts buffers own inside below here j within =
+      elim (cases_lt j h) [
+        | inl low ↦ space-same k j (layouts j) buffers (set buffers h own) (read-below (λ b. b.merged_space) 0 buffers h own j low) (read-below (λ b. b.promoted_space) 0 buffers h own j low) (below j low)
+        | inr high ↦
+            let place : h ≡ j = omega (arith, within, high) in
+            subst (λ (n : ℕ). SpaceAt k n (layouts n) (set buffers h own)) place
+            (rw (read-here (λ b. b.merged_space) 0 buffers h own inside, read-here (λ b. b.promoted_space) 0 buffers h own inside) here)
+      ]
+
+  -- there is space for a step of a walk whose later buffers are as at its start
+  pub space-there : (k h : ℕ) (layouts now : List Layout) (start buffers : List (Space A)) (own : Space A) → HaveSpace k layouts start → h < length layouts → length buffers ≡ length start →
+      get_or (merged_spaces buffers) h 0 ≡ get_or (merged_spaces start) h 0 → get_or (promoted_spaces buffers) h 0 ≡ get_or (promoted_spaces start) h 0 → own ≡ get_or buffers h own → now ≡ steps_layouts k h 0 layouts →
+      HasSpace k h now own.merged_space own.promoted_space
+  space-there k h layouts now start buffers own fit within len merged promoted there now_is =
+      let inside : h < length buffers = omega (arith, fit.enough, len, within) in
+      rw (now_is, ← read-there (λ b. b.merged_space) 0 buffers h own inside there, ← read-there (λ b. b.promoted_space) 0 buffers h own inside there)
+      (space-same k h (steps_layouts k h 0 layouts) start buffers merged promoted (fit.fits h within))
+
+  -- so it is of other buffers that have as much
+  pub space-kept : (k : ℕ) (layouts : List Layout) (buffers news : List (Space A)) → merged_spaces news ≡ merged_spaces buffers → promoted_spaces news ≡ promoted_spaces buffers → HaveSpace k layouts buffers → HaveSpace k layouts news
+  space-kept k layouts buffers news merged promoted fit = record {
+    enough = omega (arith, fit.enough, ap length merged, length-map news (λ (b : Space A). b.merged_space), length-map buffers (λ (b : Space A). b.merged_space));
+    fits = λ h within. space-same k h (steps_layouts k h 0 layouts) buffers news (ap (λ (spaces : List ℕ). get_or spaces h 0) merged) (ap (λ (spaces : List ℕ). get_or spaces h 0) promoted) (fit.fits h within);
+  }

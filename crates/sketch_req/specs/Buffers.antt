@@ -1,0 +1,22 @@
+-- The buffers of a level's turn, as their model.
+use Rattle.std.specs.Prelude.{ℕ, List, map}
+
+-- the clones that they hold, and how many items each buffer has space for
+pub record Space (A : Type 0) : Type 0 where
+  pub clones : List A
+  pub clones_space : ℕ
+  pub promoted_space : ℕ
+  pub merged_space : ℕ
+
+-- of the buffers of each level
+abbrev pub clones_of : {A : Type 0} → List (Space A) → List (List A)
+clones_of buffers = map (λ b. b.clones) buffers
+
+abbrev pub clones_spaces : {A : Type 0} → List (Space A) → List ℕ
+clones_spaces buffers = map (λ b. b.clones_space) buffers
+
+abbrev pub promoted_spaces : {A : Type 0} → List (Space A) → List ℕ
+promoted_spaces buffers = map (λ b. b.promoted_space) buffers
+
+abbrev pub merged_spaces : {A : Type 0} → List (Space A) → List ℕ
+merged_spaces buffers = map (λ b. b.merged_space) buffers
