@@ -1,17 +1,20 @@
 -- The accepted commands of a REQ run give the tail numbers of all its commands, and their trace but for some round trips.
-use Rattle.std.proofs.Common.{◌≡◌, ℕ, zero, suc, Bool, true, false, ◌==◌, if◌then◌else◌, List, [], ◌∷◌, ◌++◌, length, Option, refl, sym, ap, ap₂, ◌∙◌, subst, arith, append_assoc, append-nil, zero-add, eqb-true, Ordering}
+use Rattle.std.proofs.Common.{◌≡◌, ℕ, zero, suc, ◌-◌, ◌^◌, ◌<◌, ◌≤◌, Bool, true, false, ◌==◌, if◌then◌else◌, List, [], ◌∷◌, ◌++◌, length, Option, refl, sym, ap, ap₂, ◌∙◌, subst, arith, append_assoc, append-nil, zero-add, eqb-true, Ordering}
 use Rattle.std.specs.Prelude.{Contains}
 use Rattle.std.specs.Cmp.{IsTotalOrder}
 use Rattle.std.proofs.lemmas.List.{length_push}
 use Rattle.std.proofs.lemmas.Map.Views.{Contains-from_any}
-use Rattle.sketch_base.specs.Trace.{Event}
+use Rattle.sketch_base.specs.Trace.{Event, coins}
+use Rattle.sketch_req.specs.Sketch.{Req}
 use Rattle.sketch_base.proofs.Picks.{Sheds, none, shed, sheds-none, sheds-append}
 use Rattle.quantile_sketches.specs.declared.audit.commands.Command.TheVariants.{New, Update, UpdateWeighted, Merge, Reset, RoundTrip, Redraw, MergeRedrawn}
 use Rattle.quantile_sketches.specs.Plan.{Plan, start_plan, is_refused, accepted_events, events_of, plan_after, plan_from, plan_of, trace_of}
-use Rattle.quantile_sketches.specs.Refused.{is_among, accepted_of, IsRefusedExactly, AreRefused}
+use Rattle.quantile_sketches.specs.Refused.{is_among, accepted_of, LeadTo, IsRefusedExactly, AreRefused}
 use Rattle.quantile_sketches.specs.ReqKind.{req_kind}
 use Rattle.quantile_sketches.specs.ReqPlan.{ReqCommand, accepted_tails, tails_after, tails_from, tails_of, no_tails}
 use Rattle.quantile_sketches.specs.ReqRules.{ReqShape, req_rules}
+use Rattle.quantile_sketches.specs.Steps.{Held}
+use Rattle.quantile_sketches.proofs.AfterCommands.{arrives}
 use Rattle.quantile_sketches.proofs.LeftOut.{left-front}
 use Rattle.quantile_sketches.proofs.Plans.{trace-more}
 use Rattle.quantile_sketches.proofs.Refusals.{Ends, empty, last, ends, without-more}
@@ -114,3 +117,12 @@ module _ {A : Type 0} {cmp : A → A → Ordering} (o : IsTotalOrder cmp) (spell
                     (subst (Sheds (trace_of req_rules front ++ events)) (sym (trace-more req_rules fewer c))
                     (sheds-append (trace_of req_rules front) (trace_of req_rules fewer) events _ h.trace (subst (Sheds events) same (sheds-none events))));
               }
+
+-- so it is where commands lead to sketches
+pub led-sheds : {A : Type 0} {cmp : A → A → Ordering} (o : IsTotalOrder cmp) (spelling : A → Option (List ℕ)) (commands : List (ReqCommand A)) (word : List Bool) (refused : List ℕ) (slots : Held (Req A)) →
+    LeadTo (req_kind cmp spelling) word commands refused slots → coins (trace_of req_rules commands) ≤ length word → length word < 2 ^ 64 - 1 →
+    Sheds (trace_of req_rules commands) (trace_of req_rules (accepted_of refused commands))
+led-sheds {A} o spelling commands word refused slots lead enough few =
+    let arrived = arrives (req_kind_lawful o spelling) word commands refused slots lead enough few in
+    subst (λ (l : List (ReqCommand A)). Sheds (trace_of req_rules commands) (trace_of req_rules l)) arrived.accepted
+    (req-left-out o spelling word arrived.numbers commands arrived.going.refused_are).trace

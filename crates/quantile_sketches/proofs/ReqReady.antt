@@ -1,21 +1,19 @@
 -- A slot of a REQ run that stays fair by its commands is fair, and so unbiased.
-use Rattle.std.proofs.Common.{◌≡◌, ℕ, ◌≤◌, Bool, true, false, ◌==◌, if◌then◌else◌, List, [], ◌∷◌, ◌++◌, Option, Some, refl, sym, ◌∙◌, subst, Ordering}
-use Rattle.std.specs.Cmp.{IsTotalOrder}
+use Rattle.std.proofs.Common.{◌≡◌, ℕ, Bool, true, false, ◌==◌, if◌then◌else◌, List, [], ◌∷◌, ◌++◌, Option, Some, refl, sym, ◌∙◌, subst, Ordering}
 use Rattle.sketch_base.specs.Fair.{none_drawn}
-use Rattle.sketch_base.specs.Trace.{Event, changed, coins}
+use Rattle.sketch_base.specs.Trace.{Event, changed}
 use Rattle.sketch_base.proofs.Changes.{changed-own, changed-through}
 use Rattle.sketch_req.specs.Schedule.{Layout, merge_layouts}
 use Rattle.sketch_req.proofs.ByUpdates.{none_drawn as new-drawn}
 use Rattle.sketch_req.proofs.FairSlots.{Stands, stands-end, stands-same, stands-clear, stands-forget, stands-redraw, stands-update, stands-merge, stands-merge_redrawn}
 use Rattle.quantile_sketches.specs.declared.audit.commands.Command.TheVariants.{New, Update, UpdateWeighted, Merge, Reset, RoundTrip, Redraw, MergeRedrawn}
-use Rattle.quantile_sketches.specs.Plan.{Plan, start_plan, is_refused, accepted_shapes, accepted_events, events_of, plan_after, trace_from, trace_of}
-use Rattle.quantile_sketches.specs.Refused.{accepted_of, AreRefused}
+use Rattle.quantile_sketches.specs.Plan.{Plan, start_plan, is_refused, accepted_shapes, accepted_events, events_of, plan_after, trace_from}
 use Rattle.quantile_sketches.specs.ReqFair.{is_fair_slot}
-use Rattle.quantile_sketches.specs.ReqKind.{req_kind}
 use Rattle.quantile_sketches.specs.ReqPlan.{ReqCommand, shape_in, next_shapes}
-use Rattle.quantile_sketches.specs.ReqReady.{Fairness, new_fairness, updated_fairness, with_ready, merged_fairness, fairness_in, accepted_fairness, fairness_after, fairness_from, stays_fair, AreUnbiasedWhereRedrawn, ReqRunIsUnbiasedWhereRedrawn}
+use Rattle.quantile_sketches.specs.ReqReady.{Fairness, new_fairness, updated_fairness, with_ready, merged_fairness, fairness_in, accepted_fairness, fairness_after, fairness_from, stays_fair}
 use Rattle.quantile_sketches.specs.ReqRules.{ReqShape, new_shape, req_rules}
-use Rattle.quantile_sketches.proofs.ReqFair.{run-unbiased_where_fair, accepted-unbiased_where_fair}
+use Rattle.quantile_sketches.specs.Run.{RunIsUnbiasedWhere}
+use Rattle.quantile_sketches.proofs.ReqFair.{run-unbiased_where_fair}
 use Rattle.quantile_sketches.proofs.ReqPlan.{updated_shape, events_merged, req_merge_events, accepted_req_events, req_merge_shapes, accepted_req_shapes, next-shapes, same-events}
 use Rattle.quantile_sketches.proofs.ReqRuleLaws.{merged_as}
 
@@ -123,14 +121,7 @@ module _ {A : Type 0} where
   pub run-stays_fair : (commands : List (ReqCommand A)) (slot : ℕ) → stays_fair commands slot ≡ true → is_fair_slot commands slot ≡ true
   run-stays_fair commands slot e = (stands-from slot start_plan (λ s. new_fairness) commands e).fairs none_drawn (λ j r. new-drawn (none_drawn j))
 
--- so it is unbiased
-pub run-unbiased_where_redrawn : {A : Type 0} (cmp : A → A → Ordering) → ReqRunIsUnbiasedWhereRedrawn cmp
-run-unbiased_where_redrawn cmp commands length enough slot fair =
-    run-unbiased_where_fair cmp commands length enough slot (run-stays_fair commands slot fair)
-
--- and by those commands of a run that are accepted
-pub accepted-unbiased_where_redrawn : {A : Type 0} {cmp : A → A → Ordering} (o : IsTotalOrder cmp) (spelling : A → Option (List ℕ)) →
-    (commands : List (ReqCommand A)) (word : List Bool) (refused : List ℕ) →
-    AreRefused (req_kind cmp spelling) word commands refused → (n : ℕ) → coins (trace_of req_rules commands) ≤ n → AreUnbiasedWhereRedrawn cmp (accepted_of refused commands) n
-accepted-unbiased_where_redrawn {A} {cmp} o spelling commands word refused are n enough slot fair =
-    accepted-unbiased_where_fair o spelling commands word refused are n enough slot (run-stays_fair (accepted_of refused commands) slot fair)
+  -- so it is unbiased
+  pub run-unbiased_where_redrawn : (cmp : A → A → Ordering) → RunIsUnbiasedWhere (req_rules {A = A}) cmp stays_fair
+  run-unbiased_where_redrawn cmp test commands length slot fair enough =
+      run-unbiased_where_fair cmp test commands length slot (run-stays_fair commands slot fair) enough

@@ -4,14 +4,16 @@ use Rattle.std.specs.Prelude.{IsSorted}
 use Rattle.std.specs.Cmp.{IsTotalOrder}
 use Rattle.std.specs.List.{AllByRecursion}
 use Rattle.std.specs.Option.{option_map}
-use Rattle.sketch_base.specs.Bag.{weighted_rank, load, weight, weigh}
+use Rattle.sketch_base.specs.Bag.{repeated, sort, weighted_rank, load, weight, weigh}
 use Rattle.sketch_base.specs.Lengths.{IsLegalReq, start_lengths}
+use Rattle.sketch_base.specs.declared.common.SearchCriteria.{SearchCriteria}
 use Rattle.sketch_base.specs.Query.{counted, true_rank}
 use Rattle.sketch_base.specs.Spelling.{SpellingsTie}
-use Rattle.sketch_base.specs.Trace.{play, start, coins}
-use Rattle.sketch_base.specs.Words.{distance}
+use Rattle.sketch_base.specs.Trace.{Event, play, start, coins}
+use Rattle.sketch_base.specs.Words.{sum_over_words, distance, square}
 use Rattle.sketch_base.proofs.Alikes.{rank-alike}
 use Rattle.sketch_base.proofs.Loads.{req_within_load}
+use Rattle.sketch_base.proofs.Picks.{Sheds}
 use Rattle.sketch_base.proofs.SpelledItems.{IsPrefixFree}
 use Rattle.sketch_base.proofs.Sums.{sum_by-expanded}
 use Rattle.sketch_base.proofs.Tails.{weight_is}
@@ -30,25 +32,34 @@ use Rattle.sketch_req.proofs.OneSketch.{one_sketch}
 use Rattle.sketch_req.proofs.Ranks.{retained_is}
 use Rattle.sketch_req.proofs.Relatives.{updates_relative, updates_relative_to_counts}
 use Rattle.sketch_req.proofs.Writings.{written_lem}
+use Rattle.quantile_sketches.specs.AllWords.{rank_of, AllRuns, ShowIn, IsUnbiasedIn, squares_in, AreUnbiasedWhere}
+use Rattle.quantile_sketches.specs.Audit.{rank_under}
 use Rattle.quantile_sketches.specs.Outcome.{Slots, sketch_at, ArePlanned, ArePlayed, AreSound}
 use Rattle.quantile_sketches.specs.Plan.{Plan, start_plan, plan_of, trace_of}
 use Rattle.quantile_sketches.specs.Refused.{accepted_of, AreRefused}
 use Rattle.quantile_sketches.specs.ReqKind.{FitsReq, req_kind, req_shape}
-use Rattle.quantile_sketches.specs.ReqOutcome.{AreInOrder, HaveFewLevels, AreBelow, AreOwnTails, AreExact, AreReadBack, AreUnbiasedByUpdates, AreRelative, AreRelativeToCounts}
+use Rattle.quantile_sketches.specs.ReqOutcome.{AreInOrder, HaveFewLevels, AreBelow, AreOwnTails, AreExact, AreReadBack, AreRelative, AreRelativeToCounts}
 use Rattle.quantile_sketches.specs.ReqPlan.{ReqCommand, shape_in, tails_of}
 use Rattle.quantile_sketches.specs.ReqRules.{ReqShape, req_rules}
 use Rattle.sketch_req.specs.Relative.{off_tail, IsRelative, Reaches}
-use Rattle.quantile_sketches.specs.ReqUpdated.{compacted_in, squared_errors}
-use Rattle.quantile_sketches.specs.Run.{stream_of, RunIsWithinLoad}
-use Rattle.quantile_sketches.proofs.LeftOut.{left-out}
+use Rattle.quantile_sketches.specs.ReqFair.{is_fair_slot}
+use Rattle.quantile_sketches.specs.ReqReady.{stays_fair}
+use Rattle.quantile_sketches.specs.ReqUpdated.{was_only_updated, compacted_in, squared_errors}
+use Rattle.quantile_sketches.specs.Run.{stream_of, RunIsUnbiasedWhere, RunIsWithinLoad}
+use Rattle.quantile_sketches.proofs.AllWords.{led-left-out, led-rank}
+use Rattle.quantile_sketches.proofs.LeftOut.{IsLeftOut, left-out}
 use Rattle.quantile_sketches.proofs.Plans.{run-legal, steady-start, steady-from, along-even}
 use Rattle.quantile_sketches.proofs.ReqAlone.{run-below, run-own}
+use Rattle.quantile_sketches.proofs.ReqFair.{run-unbiased_where_fair, fair-shed}
 use Rattle.quantile_sketches.proofs.ReqKind.{req_kind_lawful}
+use Rattle.quantile_sketches.proofs.ReqReady.{run-stays_fair, run-unbiased_where_redrawn}
 use Rattle.quantile_sketches.proofs.ReqRuleLaws.{req_lawful}
-use Rattle.quantile_sketches.proofs.ReqLeftOut.{req-left-out}
-use Rattle.quantile_sketches.proofs.ReqUpdated.{run-unbiased, run-relative, run-relative_to_counts}
+use Rattle.quantile_sketches.proofs.ReqLeftOut.{req-left-out, led-sheds}
+use Rattle.quantile_sketches.proofs.ReqUpdated.{bag-shed, run-unbiased, run-relative, run-relative_to_counts}
 use Rattle.quantile_sketches.proofs.ReqTails.{run-exact}
 use Rattle.quantile_sketches.proofs.Streams.{run-ranks, all-counted}
+use Rattle.quantile_sketches.proofs.Trips.{shorn, sheds-shorn}
+use Rattle.quantile_sketches.proofs.WordSums.{sum-long}
 
 -- ---- of every list of commands
 
@@ -77,6 +88,11 @@ req-weight {A} {cmp} order commands word slot =
     ∙ (sym (sum_by-expanded (λ x. 1) cmp bag)
     ∙ (weight_is order (trace_of req_rules commands) word slot legal.scratch (along-even (req_lawful {A = A}) (trace_of req_rules commands) start_lengths legal.meets)
     ∙ (run-ranks (req_lawful {A = A}) any commands slot ∙ all-counted (stream_of req_rules commands slot))))
+
+-- the items of a slot that was only updated hang on no round trip
+updated-shed : {A : Type 0} (cmp : A → A → Ordering) (own : List (ReqCommand A)) (slot : ℕ) → was_only_updated own slot ≡ true → (fewer : List (Event A)) → Sheds (trace_of req_rules own) fewer → (word : List Bool) →
+    ((play cmp (trace_of req_rules own) word start).slots slot).levels ≡ ((play cmp fewer word start).slots slot).levels
+updated-shed cmp own slot only fewer sheds word = ap (λ bag. bag.levels) (sym (bag-shed cmp own slot only fewer sheds word))
 
 -- ---- of a run
 
@@ -137,33 +153,119 @@ module _ {A : Type 0} {cmp : A → A → Ordering} (o : IsTotalOrder cmp) (spell
         sym (rank-alike o y criteria ((play cmp (trace_of req_rules fewer) word start).slots slot) (bag_of s.levels) alike.levels)
         ∙ (run-exact o y criteria fewer word slot enough ∙ sym (ap (true_rank cmp y criteria) streams))
 
-    pub run-are_unbiased : (n : ℕ) → coins (trace_of req_rules commands) ≤ n → AreUnbiasedByUpdates cmp (accepted_of refused commands) n
-    run-are_unbiased n enough slot only test =
-        let l = left-out (req_kind_lawful o spelling) word commands refused are in
-        run-unbiased cmp (accepted_of refused commands) slot only n (omega (arith, enough, l.drawn)) test
+  -- ---- over the runs under all words
 
-    -- a sketch's shape is planned also by the commands that are accepted
-    accepted_shape : ArePlanned (req_kind cmp spelling) commands slots → (slot : ℕ) (s : Req A) → sketch_at slots slot ≡ Some s →
-        shape_in ((plan_of req_rules (accepted_of refused commands)).shapes slot) ≡ req_shape s
-    accepted_shape planned slot s held =
-        let l = left-out (req_kind_lawful o spelling) word commands refused are in
-        ap shape_in (ap (λ (p : Plan ReqShape). p.shapes slot) (sym l.plan) ∙ there planned slot s held)
+  module _ (word : List Bool) (enough : coins (trace_of req_rules commands) ≤ length word) (few : length word < 2 ^ 64 - 1) where
+    abbrev Family : Type 0
+    Family = AllRuns (req_kind cmp spelling) commands word slots
 
-    pub run-are_relative : (n : ℕ) → ArePlanned (req_kind cmp spelling) commands slots → coins (trace_of req_rules commands) ≤ n → AreRelative cmp (accepted_of refused commands) n slots
-    run-are_relative n planned enough slot s held only y criteria =
-        let fewer = accepted_of refused commands in
-        let l = left-out (req_kind_lawful o spelling) word commands refused are in
-        let stream = stream_of req_rules fewer slot in
-        let squares = squared_errors cmp y criteria fewer n slot in
-        let r = run-relative cmp fewer slot only n (omega (arith, enough, l.drawn)) y criteria (updates_relative o) in
-        subst (λ (levels : ℕ). IsRelative s.k (levels - 1) n squares (off_tail cmp s.accuracy y criteria stream)) (length-layouts s.levels)
-        (subst (λ (shape : ReqShape). IsRelative shape.k (compacted_in shape) n squares (off_tail cmp shape.accuracy y criteria stream)) (accepted_shape planned slot s held) r)
+    -- the commands that the run under a word accepts
+    abbrev accepted : Family → List Bool → List (ReqCommand A)
+    accepted runs other = accepted_of (runs.refused other) commands
 
-    pub run-are_relative_to_counts : (n : ℕ) → ArePlanned (req_kind cmp spelling) commands slots → coins (trace_of req_rules commands) ≤ n →
-        AreRelativeToCounts cmp (accepted_of refused commands) n slots
-    run-are_relative_to_counts n planned enough slot s held only great y criteria levels reaches =
-        let fewer = accepted_of refused commands in
-        let l = left-out (req_kind_lawful o spelling) word commands refused are in
-        subst (λ (shape : ReqShape). let count = off_tail cmp shape.accuracy y criteria (stream_of req_rules fewer slot) in
-        24 ≤ shape.k → Reaches shape.k count levels → IsRelative shape.k levels n (squared_errors cmp y criteria fewer n slot) count) (accepted_shape planned slot s held)
-        (run-relative_to_counts cmp fewer slot only n (omega (arith, enough, l.drawn)) y criteria (updates_relative_to_counts o) levels) great reaches
+    module _ (runs : Family) (other : List Bool) (long : length other ≡ length word) where
+      own-enough : coins (trace_of req_rules commands) ≤ length other
+      own-enough = omega (arith, enough, long)
+
+      own-few : length other < 2 ^ 64 - 1
+      own-few = omega (arith, few, long)
+
+      other-left-out : IsLeftOut req_rules commands (accepted runs other)
+      other-left-out = led-left-out (req_kind_lawful o spelling) commands other (runs.refused other) (runs.held other) (runs.lead other long) own-enough own-few
+
+      other-sheds : Sheds (trace_of req_rules commands) (trace_of req_rules (accepted runs other))
+      other-sheds = led-sheds o spelling commands other (runs.refused other) (runs.held other) (runs.lead other long) own-enough own-few
+
+      other-rank : (y : A) (criteria : SearchCriteria) (slot : ℕ) → rank_of (req_kind cmp spelling) y criteria (runs.held other slot) ≡ rank_under req_rules cmp y criteria (accepted runs other) slot other
+      other-rank = led-rank (req_kind_lawful o spelling) commands other (runs.refused other) (runs.held other) (runs.lead other long) own-enough own-few
+
+    -- where a slot's items hang on no round trip, under no word, its ranks are those of the plays of one list of commands
+    module _ (shows : List (ReqCommand A) → ℕ → Bool)
+        (same : (own : List (ReqCommand A)) (slot : ℕ) → shows own slot ≡ true → (fewer : List (Event A)) → Sheds (trace_of req_rules own) fewer → (other : List Bool) →
+        ((play cmp (trace_of req_rules own) other start).slots slot).levels ≡ ((play cmp fewer other start).slots slot).levels)
+        (runs : Family) (slot : ℕ) (show : ShowIn (req_kind cmp spelling) commands word slots shows runs slot) where
+      abbrev without_trips : List (Event A)
+      without_trips = shorn (trace_of req_rules commands)
+
+      -- by either list of accepted commands
+      same-rank : (y : A) (criteria : SearchCriteria) (own : List (ReqCommand A)) → shows own slot ≡ true → Sheds (trace_of req_rules commands) (trace_of req_rules own) → (other : List Bool) →
+          rank_under req_rules cmp y criteria own slot other ≡ weighted_rank cmp (counted cmp y criteria) ((play cmp without_trips other start).slots slot)
+      same-rank y criteria own shown sheds other =
+          ap (λ (levels : List (List A)). count_by (counted cmp y criteria) (sort cmp (repeated 0 levels)))
+          (same own slot shown without_trips (sheds-shorn (trace_of req_rules commands) (trace_of req_rules own) sheds) other)
+
+      as-played : (measure : ℕ → ℕ) (y : A) (criteria : SearchCriteria) →
+          sum_over_words (length word) (λ other. measure (rank_of (req_kind cmp spelling) y criteria (runs.held other slot))) ≡
+          sum_over_words (length word) (λ other. measure (rank_under req_rules cmp y criteria (accepted runs word) slot other))
+      as-played measure y criteria = sum-long (length word) _ (λ other. measure (rank_under req_rules cmp y criteria (accepted runs word) slot other)) (λ other long.
+          ap measure (
+          other-rank runs other long y criteria slot
+          ∙ (same-rank y criteria (accepted runs other) (show other long) (other-sheds runs other long) other
+          ∙ sym (same-rank y criteria (accepted runs word) (show word refl) (other-sheds runs word refl) other))
+          ))
+
+      accepted-enough : coins (trace_of req_rules (accepted runs word)) ≤ length word
+      accepted-enough = let l = other-left-out runs word refl in omega (arith, enough, l.drawn)
+
+      accepted-stream : stream_of req_rules (accepted runs word) slot ≡ stream_of req_rules commands slot
+      accepted-stream = sym (ap (λ (f : ℕ → List A). f slot) (other-left-out runs word refl).streams)
+
+      by-law : RunIsUnbiasedWhere req_rules cmp shows → IsUnbiasedIn (req_kind cmp spelling) commands word slots runs slot
+      by-law law y criteria =
+          as-played (λ rank. rank) y criteria
+          ∙ (law (counted cmp y criteria) (accepted runs word) (length word) slot (show word refl) accepted-enough
+          ∙ ap (λ (l : List A). 2 ^ length word * true_rank cmp y criteria l) accepted-stream)
+
+      -- the squares of its errors
+      same-squares : (y : A) (criteria : SearchCriteria) →
+          squared_errors cmp y criteria (accepted runs word) (length word) slot ≡ squares_in (req_kind cmp spelling) commands word slots runs slot y criteria
+      same-squares y criteria =
+          ap (λ (l : List A). sum_over_words (length word) (λ other. square (distance (rank_under req_rules cmp y criteria (accepted runs word) slot other) (true_rank cmp y criteria l)))) accepted-stream
+          ∙ sym (as-played (λ rank. square (distance rank (true_rank cmp y criteria (stream_of req_rules commands slot)))) y criteria)
+
+    pub runs-unbiased : AreUnbiasedWhere (req_kind cmp spelling) commands word slots was_only_updated
+    runs-unbiased runs slot show = by-law was_only_updated (updated-shed cmp) runs slot show (λ test own bits slot only enough. run-unbiased cmp own slot only bits enough test)
+
+    pub runs-fair : AreUnbiasedWhere (req_kind cmp spelling) commands word slots is_fair_slot
+    runs-fair runs slot show = by-law is_fair_slot (fair-shed cmp) runs slot show (run-unbiased_where_fair cmp)
+
+    pub runs-redrawn : AreUnbiasedWhere (req_kind cmp spelling) commands word slots stays_fair
+    runs-redrawn runs slot show =
+        by-law stays_fair (λ own slot stays. fair-shed cmp own slot (run-stays_fair own slot stays)) runs slot show (run-unbiased_where_redrawn cmp)
+
+    module _ (planned : ArePlanned (req_kind cmp spelling) commands slots) (runs : Family) (slot : ℕ) (s : Req A) (held : sketch_at slots slot ≡ Some s)
+        (show : ShowIn (req_kind cmp spelling) commands word slots was_only_updated runs slot) (y : A) (criteria : SearchCriteria) where
+      -- a sketch's shape is planned also by the commands that are accepted
+      accepted-shape : shape_in ((plan_of req_rules (accepted runs word)).shapes slot) ≡ req_shape s
+      accepted-shape = ap shape_in (ap (λ (p : Plan ReqShape). p.shapes slot) (sym (other-left-out runs word refl).plan) ∙ there planned slot s held)
+
+      abbrev squares : ℕ
+      squares = squares_in (req_kind cmp spelling) commands word slots runs slot y criteria
+
+      -- what is said of its shape, its stream and the squares of the plays
+      as-run : (P : ReqShape → List A → ℕ → Type 0) →
+          P (shape_in ((plan_of req_rules (accepted runs word)).shapes slot)) (stream_of req_rules (accepted runs word) slot) (squared_errors cmp y criteria (accepted runs word) (length word) slot) →
+          P (req_shape s) (stream_of req_rules commands slot) squares
+      as-run P is =
+          subst (P (req_shape s) (stream_of req_rules commands slot)) (same-squares was_only_updated (updated-shed cmp) runs slot show y criteria)
+          (subst (λ (l : List A). P (req_shape s) l (squared_errors cmp y criteria (accepted runs word) (length word) slot)) (accepted-stream was_only_updated (updated-shed cmp) runs slot show)
+          (subst (λ (shape : ReqShape). P shape (stream_of req_rules (accepted runs word) slot) (squared_errors cmp y criteria (accepted runs word) (length word) slot)) accepted-shape is))
+
+      own-relative : IsRelative s.k (length s.levels - 1) (length word) squares (off_tail cmp s.accuracy y criteria (stream_of req_rules commands slot))
+      own-relative =
+          subst (λ (levels : ℕ). IsRelative s.k (levels - 1) (length word) squares (off_tail cmp s.accuracy y criteria (stream_of req_rules commands slot))) (length-layouts s.levels)
+          (as-run (λ shape stream n. IsRelative shape.k (compacted_in shape) (length word) n (off_tail cmp shape.accuracy y criteria stream))
+          (run-relative cmp (accepted runs word) slot (show word refl) (length word) (accepted-enough was_only_updated (updated-shed cmp) runs slot show) y criteria (updates_relative o)))
+
+      own-relative_to_counts : 24 ≤ s.k → (levels : ℕ) → let count = off_tail cmp s.accuracy y criteria (stream_of req_rules commands slot) in
+          Reaches s.k count levels → IsRelative s.k levels (length word) squares count
+      own-relative_to_counts great levels =
+          as-run (λ shape stream n. let count = off_tail cmp shape.accuracy y criteria stream in 24 ≤ shape.k → Reaches shape.k count levels → IsRelative shape.k levels (length word) n count)
+          (run-relative_to_counts cmp (accepted runs word) slot (show word refl) (length word) (accepted-enough was_only_updated (updated-shed cmp) runs slot show) y criteria (updates_relative_to_counts o) levels)
+          great
+
+    pub runs-relative : ArePlanned (req_kind cmp spelling) commands slots → AreRelative cmp spelling commands word slots
+    runs-relative planned runs slot s held show y criteria = own-relative planned runs slot s held show y criteria
+
+    pub runs-relative_to_counts : ArePlanned (req_kind cmp spelling) commands slots → AreRelativeToCounts cmp spelling commands word slots
+    runs-relative_to_counts planned runs slot s held show great y criteria levels = own-relative_to_counts planned runs slot s held show y criteria great levels

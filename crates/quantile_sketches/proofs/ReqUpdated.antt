@@ -25,8 +25,8 @@ use Rattle.quantile_sketches.specs.Plan.{Plan, start_plan, count_of, is_refused,
 use Rattle.quantile_sketches.specs.ReqPlan.{ReqCommand, shape_in, shape_at, next_shapes}
 use Rattle.quantile_sketches.specs.ReqRules.{ReqShape, new_shape, merge_actions_by, req_rules}
 use Rattle.quantile_sketches.specs.ReqRun.{merged_in}
-use Rattle.quantile_sketches.specs.ReqUpdated.{accepted_only_updated, only_updated_after, only_updated_from, was_only_updated, IsUnbiased, compacted_in, off_tail_at, squared_errors}
-use Rattle.quantile_sketches.specs.Run.{accepted_streams, streams_after, streams_from, stream_of}
+use Rattle.quantile_sketches.specs.ReqUpdated.{accepted_only_updated, only_updated_after, only_updated_from, was_only_updated, compacted_in, off_tail_at, squared_errors}
+use Rattle.quantile_sketches.specs.Run.{accepted_streams, streams_after, streams_from, stream_of, IsUnbiased}
 use Rattle.quantile_sketches.proofs.ReqPlan.{events_merged, req_merge_events, accepted_req_events, req_merge_shapes, accepted_req_shapes, updated_shape, next-shapes, same-events}
 use Rattle.quantile_sketches.proofs.ReqPlans.{run-fits}
 use Rattle.quantile_sketches.proofs.ReqRuleLaws.{req_lawful, merged_as}
@@ -283,7 +283,7 @@ module _ {A : Type 0} (cmp : A → A → Ordering) (commands : List (ReqCommand 
 
   -- ---- unbiased
 
-  pub run-unbiased : (bits : ℕ) → coins trace ≤ bits → (test : A → Bool) → IsUnbiased cmp commands bits slot test
+  pub run-unbiased : (bits : ℕ) → coins trace ≤ bits → (test : A → Bool) → IsUnbiased req_rules cmp commands bits slot test
   run-unbiased bits enough test =
       let s = share bits enough (weighted_rank cmp test) in
       let own = unbiased_list test cmp slot shape.k (draws_of updates) shape.accuracy stream drawn in

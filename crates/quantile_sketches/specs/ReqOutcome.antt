@@ -14,11 +14,12 @@ use Rattle.sketch_req.specs.Schedule.{layouts_of, nominal_sum}
 use Rattle.sketch_req.specs.Sketch.{Req}
 use Rattle.sketch_req.specs.Written.{image_text}
 use Rattle.quantile_sketches.specs.Outcome.{Slots, EachSketch}
-use Rattle.quantile_sketches.specs.ReqKind.{HasImage}
+use Rattle.quantile_sketches.specs.AllWords.{AllRuns, ShowIn, squares_in}
+use Rattle.quantile_sketches.specs.ReqKind.{HasImage, req_kind}
 use Rattle.quantile_sketches.specs.ReqPlan.{ReqCommand, tails_of, no_shapes}
 use Rattle.quantile_sketches.specs.ReqRules.{req_rules}
 use Rattle.quantile_sketches.specs.ReqRun.{unmerged_from}
-use Rattle.quantile_sketches.specs.ReqUpdated.{was_only_updated, IsUnbiased, squared_errors}
+use Rattle.quantile_sketches.specs.ReqUpdated.{was_only_updated}
 use Rattle.quantile_sketches.specs.Run.{stream_of}
 
 -- each level that says that it is sorted is
@@ -57,18 +58,17 @@ pub record ReadsBack {A : Type 0} (cmp : A → A → Ordering) (spelling : A →
 abbrev pub AreReadBack : {A : Type 0} → (A → A → Ordering) → (A → Option (List ℕ)) → Slots (Req A) → Type 0
 AreReadBack cmp spelling = EachSketch (λ slot s. HasImage spelling s → ReadsBack cmp spelling s)
 
--- each slot that was only updated is unbiased: by every test of items, and so for every query
-abbrev pub AreUnbiasedByUpdates : {A : Type 0} → (A → A → Ordering) → List (ReqCommand A) → ℕ → Type 0
-AreUnbiasedByUpdates {A} cmp commands bits = (slot : ℕ) → IsTrue (was_only_updated commands slot) → (test : A → Bool) → IsUnbiased cmp commands bits slot test
+module _ {A : Type 0} (cmp : A → A → Ordering) (spelling : A → Option (List ℕ)) (commands : List (ReqCommand A)) (word : List Bool) (slots : Slots (Req A)) where
+  -- over the runs under all words, the errors of each sketch that was only updated are relative to how many items lie on the query's accurate side
+  abbrev pub AreRelative : Type 0
+  AreRelative = (runs : AllRuns (req_kind cmp spelling) commands word slots) → EachSketch (λ slot s.
+      ShowIn (req_kind cmp spelling) commands word slots was_only_updated runs slot → (y : A) (criteria : SearchCriteria) →
+      IsRelative s.k (length s.levels - 1) (length word) (squares_in (req_kind cmp spelling) commands word slots runs slot y criteria)
+      (off_tail cmp s.accuracy y criteria (stream_of req_rules commands slot))) slots
 
--- the errors of each sketch that was only updated are relative to how many items lie on the query's accurate side
-abbrev pub AreRelative : {A : Type 0} → (A → A → Ordering) → List (ReqCommand A) → ℕ → Slots (Req A) → Type 0
-AreRelative {A} cmp commands bits = EachSketch (λ slot s. IsTrue (was_only_updated commands slot) → (y : A) (criteria : SearchCriteria) →
-    IsRelative s.k (length s.levels - 1) bits (squared_errors cmp y criteria commands bits slot)
-    (off_tail cmp s.accuracy y criteria (stream_of req_rules commands slot)))
-
--- and for a k of at least 24 the bound hangs on k and that count alone
-abbrev pub AreRelativeToCounts : {A : Type 0} → (A → A → Ordering) → List (ReqCommand A) → ℕ → Slots (Req A) → Type 0
-AreRelativeToCounts {A} cmp commands bits = EachSketch (λ slot s. IsTrue (was_only_updated commands slot) → 24 ≤ s.k → (y : A) (criteria : SearchCriteria) (levels : ℕ) →
-    let count = off_tail cmp s.accuracy y criteria (stream_of req_rules commands slot) in
-    Reaches s.k count levels → IsRelative s.k levels bits (squared_errors cmp y criteria commands bits slot) count)
+  -- and for a k of at least 24 the bound hangs on k and that count alone
+  abbrev pub AreRelativeToCounts : Type 0
+  AreRelativeToCounts = (runs : AllRuns (req_kind cmp spelling) commands word slots) → EachSketch (λ slot s.
+      ShowIn (req_kind cmp spelling) commands word slots was_only_updated runs slot → 24 ≤ s.k → (y : A) (criteria : SearchCriteria) (levels : ℕ) →
+      let count = off_tail cmp s.accuracy y criteria (stream_of req_rules commands slot) in
+      Reaches s.k count levels → IsRelative s.k levels (length word) (squares_in (req_kind cmp spelling) commands word slots runs slot y criteria) count) slots

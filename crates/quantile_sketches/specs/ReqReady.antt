@@ -1,16 +1,12 @@
 -- Slots of a REQ run that stay fair by their commands alone: merged with coins drawn anew, and redrawn after a round trip.
-use Rattle.std.specs.Prelude.{◌≡◌, ℕ, ◌*◌, ◌^◌, ◌≤◌, ◌==◌, ◌&&◌, not, Bool, true, false, IsTrue, if◌then◌else◌, List, [], ◌∷◌, count_by, Option}
-use Rattle.std.specs.declared.cmp.Ordering.{Ordering}
-use Rattle.sketch_base.specs.Bag.{weighted_rank}
-use Rattle.sketch_base.specs.Trace.{changed, play, start, coins}
-use Rattle.sketch_base.specs.Words.{sum_over_words}
+use Rattle.std.specs.Prelude.{ℕ, ◌==◌, ◌&&◌, not, Bool, true, false, IsTrue, if◌then◌else◌, List, [], ◌∷◌, Option}
+use Rattle.sketch_base.specs.Trace.{changed}
 use Rattle.sketch_req.specs.Schedule.{joined_layouts, are_full}
 use Rattle.quantile_sketches.specs.declared.audit.commands.Command.TheVariants.{New, Update, UpdateWeighted, Merge, Reset, RoundTrip, Redraw, MergeRedrawn}
-use Rattle.quantile_sketches.specs.Plan.{is_refused, trace_of}
+use Rattle.quantile_sketches.specs.Plan.{is_refused}
 use Rattle.quantile_sketches.specs.ReqFair.{is_fair_slot}
 use Rattle.quantile_sketches.specs.ReqPlan.{ReqCommand, shape_in, next_shapes, no_shapes}
 use Rattle.quantile_sketches.specs.ReqRules.{ReqShape, req_rules}
-use Rattle.quantile_sketches.specs.Run.{stream_of}
 
 -- what commands alone show of a slot. It is ready: each level that turns its kept coin when it is compacted next has drawn that coin. It is fair: no coin was turned in what got into it that complements none
 pub record Fairness : Type 0 where
@@ -73,14 +69,3 @@ stays_fair commands slot = let f = fairness_from no_shapes (λ s. new_fairness) 
 -- after every list of commands the slots that stay fair are fair
 abbrev pub ReqStaysFair : Type 0 → Type 0
 ReqStaysFair A = (commands : List (ReqCommand A)) (slot : ℕ) → IsTrue (stays_fair commands slot) → IsTrue (is_fair_slot commands slot)
-
--- so their weighted ranks by any test, summed over all words of a length, are the number of words times the true rank in the stream
-abbrev pub AreUnbiasedWhereRedrawn : {A : Type 0} → (A → A → Ordering) → List (ReqCommand A) → (length : ℕ) → Type 0
-AreUnbiasedWhereRedrawn {A} cmp commands length = (slot : ℕ) → IsTrue (stays_fair commands slot) → (test : A → Bool) →
-    sum_over_words length (λ word. weighted_rank cmp test ((play cmp (trace_of req_rules commands) word start).slots slot)) ≡
-    2 ^ length * count_by test (stream_of req_rules commands slot)
-
--- so it is of every list of commands
-abbrev pub ReqRunIsUnbiasedWhereRedrawn : {A : Type 0} → (A → A → Ordering) → Type 0
-ReqRunIsUnbiasedWhereRedrawn {A} cmp = (commands : List (ReqCommand A)) (length : ℕ) →
-    coins (trace_of req_rules commands) ≤ length → AreUnbiasedWhereRedrawn cmp commands length

@@ -1,5 +1,5 @@
--- Slots of a REQ run that were only updated: their ranks are unbiased, and their errors relative.
-use Rattle.std.specs.Prelude.{◌≡◌, ℕ, ◌-◌, ◌*◌, ◌^◌, ◌≤◌, Bool, true, false, IsTrue, if◌then◌else◌, List, [], ◌∷◌, length, count_by, Option}
+-- Slots of a REQ run that were only updated, and that their errors are relative.
+use Rattle.std.specs.Prelude.{ℕ, ◌-◌, ◌≤◌, Bool, true, false, IsTrue, if◌then◌else◌, List, [], ◌∷◌, length, Option}
 use Rattle.std.specs.declared.cmp.Ordering.{Ordering}
 use Rattle.sketch_base.specs.declared.common.SearchCriteria.{SearchCriteria}
 use Rattle.sketch_base.specs.Bag.{weighted_rank}
@@ -37,17 +37,6 @@ only_updated_from shapes only (command ∷ rest) = only_updated_from (next_shape
 -- whether a slot was only updated since its New or Reset, after commands from a run's start
 abbrev pub was_only_updated : {A : Type 0} → List (ReqCommand A) → ℕ → Bool
 was_only_updated = only_updated_from no_shapes (λ slot. true)
-
--- a slot's weighted ranks by a test in the plays under all words of so many bits sum to the number of words times how many items of its stream pass
-abbrev pub IsUnbiased : {A : Type 0} → (A → A → Ordering) → List (ReqCommand A) → (bits slot : ℕ) → (A → Bool) → Type 0
-IsUnbiased cmp commands bits slot test =
-    sum_over_words bits (λ word. weighted_rank cmp test ((play cmp (trace_of req_rules commands) word start).slots slot)) ≡
-    2 ^ bits * count_by test (stream_of req_rules commands slot)
-
--- so it is where the slot was only updated, whatever the other slots took
-abbrev pub ReqRunIsUnbiased : {A : Type 0} → (A → A → Ordering) → Type 0
-ReqRunIsUnbiased {A} cmp = (test : A → Bool) (commands : List (ReqCommand A)) (bits slot : ℕ) →
-    IsTrue (was_only_updated commands slot) → coins (trace_of req_rules commands) ≤ bits → IsUnbiased cmp commands bits slot test
 
 -- how many levels of a sketch were compacted: all but the top one
 abbrev pub compacted_in : ReqShape → ℕ

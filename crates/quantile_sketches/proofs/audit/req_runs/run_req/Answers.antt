@@ -1,9 +1,7 @@
-use Rattle.std.proofs.Common.{length, Result, Ok, Err, IfOk}
+use Rattle.std.proofs.Common.{◌<◌, ◌-◌, ◌^◌, length, Result, Ok, Err, IfOk, arith}
 use Rattle.quantile_sketches.proofs.AfterCommands.{close-by}
-use Rattle.quantile_sketches.proofs.ReqFair.{accepted-unbiased_where_fair}
 use Rattle.quantile_sketches.proofs.ReqKind.{req_kind_lawful}
-use Rattle.quantile_sketches.proofs.ReqReady.{accepted-unbiased_where_redrawn}
-use Rattle.quantile_sketches.proofs.ReqRuns.{req-load, run-ordered, run-levels, run-small, run-tail, run-tails-own, run-images, run-are_unbiased, run-are_relative, run-are_relative_to_counts}
+use Rattle.quantile_sketches.proofs.ReqRuns.{req-load, run-ordered, run-levels, run-small, run-tail, run-tails-own, run-images, runs-unbiased, runs-fair, runs-redrawn, runs-relative, runs-relative_to_counts}
 use Rattle.quantile_sketches.proofs.audit.req_runs.run_req.Goals as goal
 
 -- what follows of what is given
@@ -54,17 +52,13 @@ returns-clause-own g c =
 
 pub returns-clause-fair : goal.returns-clause-fair
 returns-clause-fair g c =
-    both c.run_family.result
-    (λ run refused enough.
-    accepted-unbiased_where_fair g.met.T.Ord.total g.T.ReqValue.spelling c.args.commands.now c.args.word.now run.refused.items refused (length c.args.word.now) enough)
-    c.run_family.ensures.refused c.run_family.ensures.enough
+    let few : length c.args.word.now < 2 ^ 64 - 1 = omega arith in
+    given c.run_family.result (λ run enough. runs-fair g.met.T.Ord.total g.T.ReqValue.spelling c.args.commands.now run.slots c.args.word.now enough few) c.run_family.ensures.enough
 
 pub returns-clause-redrawn : goal.returns-clause-redrawn
 returns-clause-redrawn g c =
-    both c.run_family.result
-    (λ run refused enough.
-    accepted-unbiased_where_redrawn g.met.T.Ord.total g.T.ReqValue.spelling c.args.commands.now c.args.word.now run.refused.items refused (length c.args.word.now) enough)
-    c.run_family.ensures.refused c.run_family.ensures.enough
+    let few : length c.args.word.now < 2 ^ 64 - 1 = omega arith in
+    given c.run_family.result (λ run enough. runs-redrawn g.met.T.Ord.total g.T.ReqValue.spelling c.args.commands.now run.slots c.args.word.now enough few) c.run_family.ensures.enough
 
 pub returns-clause-images : goal.returns-clause-images
 returns-clause-images g c =
@@ -74,21 +68,17 @@ returns-clause-images g c =
 
 pub returns-clause-unbiased : goal.returns-clause-unbiased
 returns-clause-unbiased g c =
-    both c.run_family.result
-    (λ run refused enough.
-    run-are_unbiased g.met.T.Ord.total g.T.ReqValue.spelling c.args.commands.now run.slots c.args.word.now run.refused.items refused (length c.args.word.now) enough)
-    c.run_family.ensures.refused c.run_family.ensures.enough
+    let few : length c.args.word.now < 2 ^ 64 - 1 = omega arith in
+    given c.run_family.result (λ run enough. runs-unbiased g.met.T.Ord.total g.T.ReqValue.spelling c.args.commands.now run.slots c.args.word.now enough few) c.run_family.ensures.enough
 
 pub returns-clause-relative : goal.returns-clause-relative
 returns-clause-relative g c =
-    three c.run_family.result
-    (λ run refused planned enough.
-    run-are_relative g.met.T.Ord.total g.T.ReqValue.spelling c.args.commands.now run.slots c.args.word.now run.refused.items refused (length c.args.word.now) planned enough)
-    c.run_family.ensures.refused c.run_family.ensures.planned c.run_family.ensures.enough
+    let few : length c.args.word.now < 2 ^ 64 - 1 = omega arith in
+    both c.run_family.result (λ run planned enough. runs-relative g.met.T.Ord.total g.T.ReqValue.spelling c.args.commands.now run.slots c.args.word.now enough few planned)
+    c.run_family.ensures.planned c.run_family.ensures.enough
 
 pub returns-clause-counts : goal.returns-clause-counts
 returns-clause-counts g c =
-    three c.run_family.result
-    (λ run refused planned enough.
-    run-are_relative_to_counts g.met.T.Ord.total g.T.ReqValue.spelling c.args.commands.now run.slots c.args.word.now run.refused.items refused (length c.args.word.now) planned enough)
-    c.run_family.ensures.refused c.run_family.ensures.planned c.run_family.ensures.enough
+    let few : length c.args.word.now < 2 ^ 64 - 1 = omega arith in
+    both c.run_family.result (λ run planned enough. runs-relative_to_counts g.met.T.Ord.total g.T.ReqValue.spelling c.args.commands.now run.slots c.args.word.now enough few planned)
+    c.run_family.ensures.planned c.run_family.ensures.enough

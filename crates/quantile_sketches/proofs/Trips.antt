@@ -1,0 +1,278 @@
+-- A slot to which a REQ trace is fair holds the same items whatever round trips of the trace are left out.
+use Rattle.std.proofs.Common.{◌≡◌, ℕ, Bool, true, false, not, ◌&&◌, ◌||◌, ◌==◌, if◌then◌else◌, List, [], ◌∷◌, ◌++◌, length, map, sum, take, drop, refl, sym, ap, ap₂, ◌∙◌, subst, arith, eqb-true, ⊎_elim, Ordering}
+use Rattle.std.proofs.lemmas.Bool.{and_parts, or_cases, or_left, or_right, false≢true, eq-eqb}
+use Rattle.std.proofs.lemmas.List.Sums.{sum_by-cons}
+use Rattle.sketch_base.specs.Bag.{Bag, Taken, level_at, with_level, compaction}
+use Rattle.sketch_base.specs.Fair.{reaches, is_fair}
+use Rattle.sketch_base.specs.Lengths.{ObeysScratch, Along, TakesEven, lengths_after, world_lengths}
+use Rattle.sketch_base.specs.Trace.{Action, Put, Pull, Join, Compact, Forget, Redraw, Clear, Fresh, Turned, Event, Snap, At, Work, World, changed, act, happens, is_req, next_bit, play}
+use Rattle.sketch_base.proofs.Changes.{changed-itself}
+use Rattle.sketch_base.proofs.Fixed.{lengths-happens}
+use Rattle.sketch_base.proofs.Picks.{Sheds, none, kept, shed}
+
+module _ {A : Type 0} where
+  -- a trace without its Forgets
+  abbrev pub shorn : List (Event A) → List (Event A)
+  shorn [] = []
+  shorn (Snap s t ∷ es) = Snap s t ∷ shorn es
+  shorn (At s Forget ∷ es) = shorn es
+  shorn (At s (Put h x) ∷ es) = At s (Put h x) ∷ shorn es
+  shorn (At s Pull ∷ es) = At s Pull ∷ shorn es
+  shorn (At s (Join h) ∷ es) = At s (Join h) ∷ shorn es
+  shorn (At s (Compact h coin taken) ∷ es) = At s (Compact h coin taken) ∷ shorn es
+  shorn (At s (Redraw h) ∷ es) = At s (Redraw h) ∷ shorn es
+  shorn (At s Clear ∷ es) = At s Clear ∷ shorn es
+
+  -- where some Forgets are left out, the others may be
+  pub sheds-shorn : (es es' : List (Event A)) → Sheds es es' → Sheds es' (shorn es)
+  sheds-shorn _ _ none = none
+  sheds-shorn _ _ (shed s es es' sheds) = sheds-shorn es es' sheds
+  sheds-shorn _ _ (kept (Snap s t) es es' sheds) = kept (Snap s t) es' (shorn es) (sheds-shorn es es' sheds)
+  sheds-shorn _ _ (kept (At s Forget) es es' sheds) = shed s es' (shorn es) (sheds-shorn es es' sheds)
+  sheds-shorn _ _ (kept (At s (Put h x)) es es' sheds) = kept (At s (Put h x)) es' (shorn es) (sheds-shorn es es' sheds)
+  sheds-shorn _ _ (kept (At s Pull) es es' sheds) = kept (At s Pull) es' (shorn es) (sheds-shorn es es' sheds)
+  sheds-shorn _ _ (kept (At s (Join h)) es es' sheds) = kept (At s (Join h)) es' (shorn es) (sheds-shorn es es' sheds)
+  sheds-shorn _ _ (kept (At s (Compact h coin taken)) es es' sheds) = kept (At s (Compact h coin taken)) es' (shorn es) (sheds-shorn es es' sheds)
+  sheds-shorn _ _ (kept (At s (Redraw h)) es es' sheds) = kept (At s (Redraw h)) es' (shorn es) (sheds-shorn es es' sheds)
+  sheds-shorn _ _ (kept (At s Clear) es es' sheds) = kept (At s Clear) es' (shorn es) (sheds-shorn es es' sheds)
+
+  -- bags that differ in kept bits alone, and in none that was drawn
+  pub record AreSame (drawn : ℕ → Bool) (bag bag' : Bag A) : Type 0 where
+    pub levels : bag.levels ≡ bag'.levels
+    pub sorted : bag.is_sorted ≡ bag'.is_sorted
+    pub kept : (h : ℕ) → drawn h ≡ true → bag.kept h ≡ bag'.kept h
+
+  -- one slot's bags replaced by such bags
+  one-same : (drawn : ℕ → ℕ → Bool) (slots slots' : ℕ → Bag A) (reach reach' : ℕ → Bool) → ((i : ℕ) → reach i ≡ true → AreSame (drawn i) (slots i) (slots' i)) →
+      (s : ℕ) (row : ℕ → Bool) (bag bag' : Bag A) → ((i : ℕ) → (i == s) ≡ false → reach' i ≡ true → reach i ≡ true) → (reach' s ≡ true → AreSame row bag bag') →
+      (i : ℕ) → reach' i ≡ true → AreSame (changed drawn s row i) (changed slots s bag i) (changed slots' s bag' i)
+  one-same drawn slots slots' reach reach' all s row bag bag' back here i reached = go (i == s) refl
+    where
+      go : (b : Bool) → (i == s) ≡ b → AreSame (if b then row else drawn i) (if b then bag else slots i) (if b then bag' else slots' i)
+      go true e = here (ap reach' (sym (eqb-true i s e)) ∙ reached)
+      go false e = all i (back i e reached)
+
+  -- levels without items
+  no-items : (levels levels' : List (List A)) → map length levels ≡ map length levels' → sum (map length levels) ≡ 0 → levels ≡ levels'
+  no-items [] [] e zero_sum = refl
+  no-items [] (level' ∷ above') e zero_sum = cc
+  no-items (level ∷ above) [] e zero_sum = cc
+  no-items (level ∷ above) (level' ∷ above') e zero_sum =
+      let first : length level ≡ length level' = cc in
+      let rest : map length above ≡ map length above' = cc in
+      let total = sum_by-cons (λ n. n) (length level) (map length above) in
+      ap₂ (λ (l : List A) (ls : List (List A)). l ∷ ls) (empty level level' first (omega (arith, total, zero_sum))) (no-items above above' rest (omega (arith, total, zero_sum)))
+    where
+      empty : (level level' : List A) → length level ≡ length level' → length level ≡ 0 → level ≡ level'
+      empty [] [] e z = refl
+      empty [] (x ∷ xs) e z = absurd (omega (arith, e))
+      empty (x ∷ xs) level' e z = absurd (omega (arith, z))
+
+-- one bit kept anew
+kept-changed : (row bits bits' : ℕ → Bool) (h : ℕ) (bit bit' : Bool) → bit ≡ bit' → ((j : ℕ) → (j == h) ≡ false → row j ≡ true → bits j ≡ bits' j) →
+    (j : ℕ) → row j ≡ true → changed bits h bit j ≡ changed bits' h bit' j
+kept-changed row bits bits' h bit bit' same others j drawn = go (j == h) refl
+  where
+    go : (b : Bool) → (j == h) ≡ b → (if b then bit else bits j) ≡ (if b then bit' else bits' j)
+    go true e = same
+    go false e = others j e drawn
+
+-- which others were drawn
+drawn-others : (drawn : ℕ → Bool) (h j : ℕ) → (j == h) ≡ false → changed drawn h true j ≡ true → drawn j ≡ true
+drawn-others drawn h j e d = sym (ap (λ (b : Bool). if b then true else drawn j) e) ∙ d
+
+module _ {A : Type 0} (cmp : A → A → Ordering) (slot : ℕ) where
+  -- two worlds of the same level lengths that agree so in what gets into the asked slot
+  pub record Agree (es : List (Event A)) (drawn : ℕ → ℕ → Bool) (lengths : World (List ℕ)) (world world' : World (Bag A)) : Type 0 where
+    pub lengths_are : world_lengths world ≡ lengths
+    pub lengths_are' : world_lengths world' ≡ lengths
+    pub slots : (i : ℕ) → reaches es slot i ≡ true → AreSame (drawn i) (world.slots i) (world'.slots i)
+    pub scratch : reaches es slot lengths.target ≡ true → world.scratch.levels ≡ world'.scratch.levels
+
+  module _ (es : List (Event A)) (drawn : ℕ → ℕ → Bool) (lengths : World (List ℕ)) (world world' : World (Bag A)) where
+    -- the bags after an action on a slot
+    abbrev acted : ℕ → Action A → Bool → World (Bag A) → Work (Bag A)
+    acted s action bit w = act cmp action bit (record { bag = w.slots s; scratch = w.scratch })
+
+    -- where an action leaves them so
+    at-slot : (s : ℕ) (action : Action A) (row : ℕ → Bool) (bit : Bool) → TakesEven (At s action) lengths → Agree (At s action ∷ es) drawn lengths world world' →
+        ((i : ℕ) → (i == s) ≡ false → reaches es slot i ≡ true → reaches (At s action ∷ es) slot i ≡ true) →
+        (reaches es slot s ≡ true → AreSame row (acted s action bit world).bag (acted s action bit world').bag) →
+        (reaches es slot lengths.target ≡ true → (acted s action bit world).scratch.levels ≡ (acted s action bit world').scratch.levels) →
+        Agree es (changed drawn s row) (lengths_after (At s action) lengths) (happens (act cmp) (At s action) bit world) (happens (act cmp) (At s action) bit world')
+    at-slot s action row bit even agree back here scratch = record {
+      lengths_are = lengths-happens cmp (At s action) bit world (subst (TakesEven (At s action)) (sym agree.lengths_are) even) ∙ ap (lengths_after (At s action)) agree.lengths_are;
+      lengths_are' = lengths-happens cmp (At s action) bit world' (subst (TakesEven (At s action)) (sym agree.lengths_are') even) ∙ ap (lengths_after (At s action)) agree.lengths_are';
+      slots = one-same drawn world.slots world'.slots (reaches (At s action ∷ es) slot) (reaches es slot) agree.slots s row (acted s action bit world).bag (acted s action bit world').bag back here;
+      scratch = scratch;
+    }
+
+    -- an action that leaves which bits were drawn
+    at-own : (s : ℕ) (action : Action A) (bit : Bool) → TakesEven (At s action) lengths → Agree (At s action ∷ es) drawn lengths world world' →
+        ((i : ℕ) → (i == s) ≡ false → reaches es slot i ≡ true → reaches (At s action ∷ es) slot i ≡ true) →
+        (reaches es slot s ≡ true → AreSame (drawn s) (acted s action bit world).bag (acted s action bit world').bag) →
+        (reaches es slot lengths.target ≡ true → (acted s action bit world).scratch.levels ≡ (acted s action bit world').scratch.levels) →
+        Agree es drawn (lengths_after (At s action) lengths) (happens (act cmp) (At s action) bit world) (happens (act cmp) (At s action) bit world')
+    at-own s action bit even agree back here scratch =
+        subst (λ (d : ℕ → ℕ → Bool). Agree es d (lengths_after (At s action) lengths) (happens (act cmp) (At s action) bit world) (happens (act cmp) (At s action) bit world'))
+        (changed-itself drawn s) (at-slot s action (drawn s) bit even agree back here scratch)
+
+    -- an empty scratch
+    no-scratch : {e : Event A} → Agree (e ∷ es) drawn lengths world world' → sum lengths.scratch ≡ 0 → world.scratch.levels ≡ world'.scratch.levels
+    no-scratch agree empty =
+        let own = ap (λ (w : World (List ℕ)). w.scratch) agree.lengths_are in
+        let other = ap (λ (w : World (List ℕ)). w.scratch) agree.lengths_are' in
+        no-items world.scratch.levels world'.scratch.levels (own ∙ sym other) (ap (λ (l : List ℕ). sum l) own ∙ empty)
+
+    -- the scratch of a slot that it is worked into
+    own-scratch : (s : ℕ) {e : Event A} → Agree (e ∷ es) drawn lengths world world' → (reaches es slot lengths.target ≡ true → reaches (e ∷ es) slot lengths.target ≡ true) →
+        (sum lengths.scratch == 0 || s == lengths.target) ≡ true → reaches es slot s ≡ true → world.scratch.levels ≡ world'.scratch.levels
+    own-scratch s agree back obeys reached =
+        ⊎_elim (λ empty. no-scratch agree (eqb-true (sum lengths.scratch) 0 empty)) (λ here. agree.scratch (back (ap (reaches es slot) (sym (eqb-true s lengths.target here)) ∙ reached)))
+        (or_cases (sum lengths.scratch == 0) (s == lengths.target) obeys)
+
+    agree-snap : (s t : ℕ) → Agree (Snap s t ∷ es) drawn lengths world world' →
+        Agree es drawn (lengths_after {A = A} (Snap s t) lengths) (happens (act cmp) (Snap s t) false world) (happens (act cmp) (Snap s t) false world')
+    agree-snap s t agree = record {
+      lengths_are = ap (lengths_after {A = A} (Snap s t)) agree.lengths_are;
+      lengths_are' = ap (lengths_after {A = A} (Snap s t)) agree.lengths_are';
+      slots = λ i reached. agree.slots i (or_left _ _ reached);
+      scratch = λ reached. (agree.slots s (or_right (reaches es slot s) _ (ap₂ (λ (b c : Bool). b && c) (eq-eqb s s refl) reached))).levels;
+    }
+
+    agree-put : (s h : ℕ) (x : A) (bit : Bool) → Agree (At s (Put h x) ∷ es) drawn lengths world world' →
+        Agree es drawn (lengths_after (At s (Put h x)) lengths) (happens (act cmp) (At s (Put h x)) bit world) (happens (act cmp) (At s (Put h x)) bit world')
+    agree-put s h x bit agree = at-own s (Put h x) bit tt agree (λ i e reached. reached)
+        (λ reached. let same = agree.slots s reached in record {
+          levels = ap (with_level [] h (λ level. level ++ x ∷ [])) same.levels;
+          sorted = ap (λ (b : Bool). b && not (h == 0)) same.sorted;
+          kept = same.kept;
+        })
+        agree.scratch
+
+    agree-pull : (s : ℕ) (bit : Bool) → (sum lengths.scratch == 0 || s == lengths.target) ≡ true → Agree (At s Pull ∷ es) drawn lengths world world' →
+        Agree es drawn (lengths_after {A = A} (At s Pull) lengths) (happens (act cmp) (At s Pull) bit world) (happens (act cmp) (At s Pull) bit world')
+    agree-pull s bit obeys agree = at-own s Pull bit tt agree (λ i e reached. reached)
+        (λ reached. let same = agree.slots s reached in record {
+          levels = ap₂ (λ (ls from : List (List A)). with_level [] 0 (λ level. level ++ take 1 (level_at from 0)) ls) same.levels (own-scratch s agree (λ r. r) obeys reached);
+          sorted = refl;
+          kept = same.kept;
+        })
+        (λ reached. ap (λ (from : List (List A)). with_level [] 0 (λ level. drop 1 (level_at from 0)) from) (agree.scratch reached))
+
+    agree-join : (s h : ℕ) (bit : Bool) → (sum lengths.scratch == 0 || s == lengths.target) ≡ true → Agree (At s (Join h) ∷ es) drawn lengths world world' →
+        Agree es drawn (lengths_after {A = A} (At s (Join h)) lengths) (happens (act cmp) (At s (Join h)) bit world) (happens (act cmp) (At s (Join h)) bit world')
+    agree-join s h bit obeys agree = at-own s (Join h) bit tt agree (λ i e reached. reached)
+        (λ reached. let same = agree.slots s reached in record {
+          levels = ap₂ (λ (ls from : List (List A)). with_level [] h (λ level. level ++ level_at from h) ls) same.levels (own-scratch s agree (λ r. r) obeys reached);
+          sorted = same.sorted;
+          kept = same.kept;
+        })
+        (λ reached. ap (with_level [] h (λ level. [])) (agree.scratch reached))
+
+    agree-forget : (s : ℕ) (bit : Bool) → Agree (At s Forget ∷ es) drawn lengths world world' →
+        Agree es (changed drawn s (λ h. false)) (lengths_after {A = A} (At s Forget) lengths) (happens (act cmp) (At s Forget) bit world) (happens (act cmp) (At s Forget) bit world')
+    agree-forget s bit agree = at-slot s Forget (λ h. false) bit tt agree (λ i e reached. reached)
+        (λ reached. let same = agree.slots s reached in record { levels = same.levels; sorted = same.sorted; kept = λ h e. absurd (false≢true e) })
+        agree.scratch
+
+    agree-redraw : (s h : ℕ) (bit : Bool) → Agree (At s (Redraw h) ∷ es) drawn lengths world world' →
+        Agree es (changed drawn s (changed (drawn s) h true)) (lengths_after {A = A} (At s (Redraw h)) lengths) (happens (act cmp) (At s (Redraw h)) bit world) (happens (act cmp) (At s (Redraw h)) bit world')
+    agree-redraw s h bit agree = at-slot s (Redraw h) (changed (drawn s) h true) bit tt agree (λ i e reached. reached)
+        (λ reached. let same = agree.slots s reached in record {
+          levels = same.levels;
+          sorted = same.sorted;
+          kept = kept-changed (changed (drawn s) h true) (world.slots s).kept (world'.slots s).kept h bit bit refl (λ j e d. same.kept j (drawn-others (drawn s) h j e d));
+        })
+        agree.scratch
+
+    agree-clear : (s : ℕ) (bit : Bool) → (sum lengths.scratch == 0 || false) ≡ true → Agree (At s Clear ∷ es) drawn lengths world world' →
+        Agree es (changed drawn s (λ h. false)) (lengths_after {A = A} (At s Clear) lengths) (happens (act cmp) (At s Clear) bit world) (happens (act cmp) (At s Clear) bit world')
+    agree-clear s bit obeys agree = at-slot s Clear (λ h. false) bit tt agree
+        (λ i e reached. ap₂ (λ (b c : Bool). not b && c) e reached)
+        (λ reached. record { levels = refl; sorted = refl; kept = λ h e. absurd (false≢true e) })
+        (λ reached. ⊎_elim (λ empty. no-scratch agree (eqb-true (sum lengths.scratch) 0 empty)) (λ e. absurd (false≢true e)) (or_cases (sum lengths.scratch == 0) false obeys))
+
+    -- bags after compactions by the same bit
+    same-compacted : (s h : ℕ) (taken : Taken) (row : ℕ → Bool) (bit bit' : Bool) → bit ≡ bit' → AreSame (drawn s) (world.slots s) (world'.slots s) →
+        ((j : ℕ) → (j == h) ≡ false → row j ≡ true → drawn s j ≡ true) →
+        AreSame row (record (compaction cmp h taken bit (world.slots s)) { kept = changed (world.slots s).kept h bit })
+        (record (compaction cmp h taken bit' (world'.slots s)) { kept = changed (world'.slots s).kept h bit' })
+    same-compacted s h taken row bit bit' bits same others = record {
+      levels = ap₂ (λ (ls : List (List A)) (b : Bool). after ls b bit) same.levels same.sorted ∙ ap (after (world'.slots s).levels (world'.slots s).is_sorted) bits;
+      sorted = same.sorted;
+      kept = kept-changed row (world.slots s).kept (world'.slots s).kept h bit bit' bits (λ j e d. same.kept j (others j e d));
+    }
+      where
+        after : List (List A) → Bool → Bool → List (List A)
+        after levels sorted bit = (compaction cmp h taken bit (record { levels = levels; is_sorted = sorted; kept = λ h. false })).levels
+
+    agree-draw : (s h : ℕ) (taken : Taken) (bit : Bool) → TakesEven {A = A} (At s (Compact h Fresh taken)) lengths → Agree (At s (Compact h Fresh taken) ∷ es) drawn lengths world world' →
+        Agree es (changed drawn s (changed (drawn s) h true)) (lengths_after {A = A} (At s (Compact h Fresh taken)) lengths)
+        (happens (act cmp) (At s (Compact h Fresh taken)) bit world) (happens (act cmp) (At s (Compact h Fresh taken)) bit world')
+    agree-draw s h taken bit even agree = at-slot s (Compact h Fresh taken) (changed (drawn s) h true) bit even agree (λ i e reached. reached)
+        (λ reached. same-compacted s h taken (changed (drawn s) h true) bit bit refl (agree.slots s reached) (drawn-others (drawn s) h))
+        agree.scratch
+
+    agree-turn : (s h : ℕ) (taken : Taken) (bit : Bool) → TakesEven {A = A} (At s (Compact h Turned taken)) lengths → (drawn s h || not (reaches es slot s)) ≡ true →
+        Agree (At s (Compact h Turned taken) ∷ es) drawn lengths world world' →
+        Agree es drawn (lengths_after {A = A} (At s (Compact h Turned taken)) lengths)
+        (happens (act cmp) (At s (Compact h Turned taken)) bit world) (happens (act cmp) (At s (Compact h Turned taken)) bit world')
+    agree-turn s h taken bit even fair agree = at-own s (Compact h Turned taken) bit even agree (λ i e reached. reached)
+        (λ reached.
+        let same = agree.slots s reached in
+        let was_drawn : drawn s h ≡ true = ⊎_elim (λ d. d) (λ misses. absurd (false≢true (sym (ap not reached) ∙ misses))) (or_cases (drawn s h) (not (reaches es slot s)) fair) in
+        same-compacted s h taken (drawn s) (not ((world.slots s).kept h)) (not ((world'.slots s).kept h)) (ap not (same.kept h was_drawn)) same (λ j e d. d))
+        agree.scratch
+
+    -- a Forget of the one alone
+    agree-shed : (s : ℕ) (bit : Bool) → Agree (At s Forget ∷ es) drawn lengths world world' →
+        Agree es (changed drawn s (λ h. false)) (lengths_after {A = A} (At s Forget) lengths) (happens (act cmp) (At s Forget) bit world) world'
+    agree-shed s bit agree =
+        let forgotten = agree-forget s bit agree in
+        record {
+          lengths_are = forgotten.lengths_are;
+          lengths_are' =
+              agree.lengths_are'
+              ∙ sym (ap (λ (f : ℕ → List ℕ). let w : World (List ℕ) = record { slots = f; scratch = lengths.scratch; target = lengths.target } in w) (changed-itself lengths.slots s));
+          slots = λ i reached. left i (i == s) refl reached;
+          scratch = agree.scratch;
+        }
+      where
+        left : (i : ℕ) (b : Bool) → (i == s) ≡ b → reaches es slot i ≡ true →
+            AreSame ((if b then (λ h. false) else drawn i)) (if b then (acted s Forget bit world).bag else world.slots i) (world'.slots i)
+        left i true e reached =
+            let same = agree.slots i reached in
+            let here : (world.slots i).levels ≡ (world.slots s).levels = ap (λ (j : ℕ). (world.slots j).levels) (eqb-true i s e) in
+            let flag : (world.slots i).is_sorted ≡ (world.slots s).is_sorted = ap (λ (j : ℕ). (world.slots j).is_sorted) (eqb-true i s e) in
+            record { levels = sym here ∙ same.levels; sorted = sym flag ∙ same.sorted; kept = λ h d. absurd (false≢true d) }
+        left i false e reached = agree.slots i reached
+
+  -- so the slot holds the same items in the end
+  pub shed-same : (es es' : List (Event A)) → Sheds es es' → (drawn : ℕ → ℕ → Bool) (lengths : World (List ℕ)) → is_fair es slot drawn ≡ true → ObeysScratch es lengths → Along TakesEven es lengths →
+      (word : List Bool) (world world' : World (Bag A)) → Agree es drawn lengths world world' →
+      ((play cmp es word world).slots slot).levels ≡ ((play cmp es' word world').slots slot).levels
+  shed-same _ _ none drawn lengths fair obeys even word world world' agree = (agree.slots slot (eq-eqb slot slot refl)).levels
+  shed-same _ _ (shed s es es' sheds) drawn lengths fair obeys even word world world' agree =
+      shed-same es es' sheds _ _ fair obeys.1 even.1 word _ world' (agree-shed es drawn lengths world world' s (next_bit word) agree)
+  shed-same _ _ (kept (Snap s t) es es' sheds) drawn lengths fair obeys even word world world' agree =
+      shed-same es es' sheds _ _ fair obeys.1 even.1 word _ _ (agree-snap es drawn lengths world world' s t agree)
+  shed-same _ _ (kept (At s (Put h x)) es es' sheds) drawn lengths fair obeys even word world world' agree =
+      shed-same es es' sheds _ _ fair obeys.1 even.1 word _ _ (agree-put es drawn lengths world world' s h x (next_bit word) agree)
+  shed-same _ _ (kept (At s Pull) es es' sheds) drawn lengths fair obeys even word world world' agree =
+      shed-same es es' sheds _ _ fair obeys.1 even.1 word _ _ (agree-pull es drawn lengths world world' s (next_bit word) obeys.0 agree)
+  shed-same _ _ (kept (At s (Join h)) es es' sheds) drawn lengths fair obeys even word world world' agree =
+      shed-same es es' sheds _ _ fair obeys.1 even.1 word _ _ (agree-join es drawn lengths world world' s h (next_bit word) obeys.0 agree)
+  shed-same _ _ (kept (At s Forget) es es' sheds) drawn lengths fair obeys even word world world' agree =
+      shed-same es es' sheds _ _ fair obeys.1 even.1 word _ _ (agree-forget es drawn lengths world world' s (next_bit word) agree)
+  shed-same _ _ (kept (At s (Redraw h)) es es' sheds) drawn lengths fair obeys even word world world' agree =
+      shed-same es es' sheds _ _ fair obeys.1 even.1 (drop 1 word) _ _ (agree-redraw es drawn lengths world world' s h (next_bit word) agree)
+  shed-same _ _ (kept (At s Clear) es es' sheds) drawn lengths fair obeys even word world world' agree =
+      shed-same es es' sheds _ _ fair obeys.1 even.1 word _ _ (agree-clear es drawn lengths world world' s (next_bit word) obeys.0 agree)
+  shed-same _ _ (kept (At s (Compact h Fresh taken)) es es' sheds) drawn lengths fair obeys even word world world' agree =
+      let parts = and_parts (is_req taken) _ fair in
+      shed-same es es' sheds _ _ parts.1 obeys.1 even.1 (drop 1 word) _ _ (agree-draw es drawn lengths world world' s h taken (next_bit word) even.0 agree)
+  shed-same _ _ (kept (At s (Compact h Turned taken)) es es' sheds) drawn lengths fair obeys even word world world' agree =
+      let parts = and_parts (is_req taken) _ fair in
+      let turned = and_parts (drawn s h || not (reaches es slot s)) _ parts.1 in
+      shed-same es es' sheds _ _ turned.1 obeys.1 even.1 word _ _ (agree-turn es drawn lengths world world' s h taken (next_bit word) even.0 turned.0 agree)

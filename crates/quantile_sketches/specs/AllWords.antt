@@ -1,0 +1,56 @@
+-- Runs of the same commands under all words of coins: what the sketches that they lead to rank on average, and how far off.
+use Rattle.std.specs.Prelude.{◌≡◌, ℕ, ◌*◌, ◌^◌, ◌≤◌, Bool, IsTrue, List, length, Option, None, Some}
+use Rattle.sketch_base.specs.declared.common.SearchCriteria.{SearchCriteria}
+use Rattle.sketch_base.specs.Bag.{weighted_rank}
+use Rattle.sketch_base.specs.Query.{counted, true_rank}
+use Rattle.sketch_base.specs.Shares.{spread}
+use Rattle.sketch_base.specs.Words.{sum_over_words, distance, square}
+use Rattle.quantile_sketches.specs.declared.audit.commands.Command.{Command}
+use Rattle.quantile_sketches.specs.Outcome.{Slots, sketch_at}
+use Rattle.quantile_sketches.specs.Plan.{trace_of}
+use Rattle.quantile_sketches.specs.Refused.{LeadTo, accepted_of}
+use Rattle.quantile_sketches.specs.Rules.{Kind}
+use Rattle.quantile_sketches.specs.Run.{stream_of}
+use Rattle.quantile_sketches.specs.Steps.{Held}
+
+-- the weight that a sketch ranks an item with, as its `rank` does; 0 where there is no sketch
+abbrev pub rank_of : {A C Shape S : Type 0} → Kind A C Shape S → A → SearchCriteria → Option S → ℕ
+rank_of kind y criteria None = 0
+rank_of kind y criteria (Some s) = weighted_rank kind.cmp (counted kind.cmp y criteria) (kind.bag s)
+
+module _ {A C Shape S : Type 0} (kind : Kind A C Shape S) (commands : List (Command A C)) where
+  -- a run of the commands under each word as long as the given one: the numbers of the commands that it refuses, and the sketches that it leads to. Under the given word these are the given sketches
+  pub record AllRuns (word : List Bool) (slots : Slots S) : Type 0 where
+    pub refused : List Bool → List ℕ
+    pub held : List Bool → Held S
+    pub lead : (other : List Bool) → length other ≡ length word → LeadTo kind other commands (refused other) (held other)
+    pub own : held word ≡ sketch_at slots
+
+  module _ (word : List Bool) (slots : Slots S) where
+    -- the ranks of a slot, whichever sketches the runs lead to, sum to the number of words times its true rank, for every query
+    abbrev pub IsUnbiasedIn : AllRuns word slots → ℕ → Type 0
+    IsUnbiasedIn runs slot = (y : A) (criteria : SearchCriteria) →
+        sum_over_words (length word) (λ other. rank_of kind y criteria (runs.held other slot)) ≡
+        2 ^ length word * true_rank kind.cmp y criteria (stream_of kind.rules commands slot)
+
+    -- the squares of its errors at a query, in all
+    abbrev pub squares_in : AllRuns word slots → ℕ → A → SearchCriteria → ℕ
+    squares_in runs slot y criteria = sum_over_words (length word) (λ other. square (distance
+        (rank_of kind y criteria (runs.held other slot)) (true_rank kind.cmp y criteria (stream_of kind.rules commands slot))))
+
+    -- a slot of which the commands that a run accepts show something, under every word
+    abbrev pub ShowIn : (List (Command A C) → ℕ → Bool) → AllRuns word slots → ℕ → Type 0
+    ShowIn shows runs slot = (other : List Bool) → length other ≡ length word → IsTrue (shows (accepted_of (runs.refused other) commands) slot)
+
+    -- each slot is unbiased
+    abbrev pub AreUnbiased : Type 0
+    AreUnbiased = (runs : AllRuns word slots) (slot : ℕ) → IsUnbiasedIn runs slot
+
+    -- each slot of which the accepted commands show so much is
+    abbrev pub AreUnbiasedWhere : (List (Command A C) → ℕ → Bool) → Type 0
+    AreUnbiasedWhere shows = (runs : AllRuns word slots) (slot : ℕ) → ShowIn shows runs slot → IsUnbiasedIn runs slot
+
+    -- the squares of each slot's errors sum to at most the number of words times its spread, for every query
+    abbrev pub AreScattered : Type 0
+    AreScattered = (runs : AllRuns word slots) (slot : ℕ) (y : A) (criteria : SearchCriteria) →
+        squares_in runs slot y criteria ≤ 2 ^ length word * spread (trace_of kind.rules commands) slot
