@@ -9,7 +9,7 @@ use Rattle.sketch_base.specs.Lengths.{start_lengths}
 use Rattle.sketch_base.proofs.Acts.{rank}
 use Rattle.sketch_base.proofs.Sums.{sum_by-expanded}
 use Rattle.sketch_base.proofs.Average.{sum_over_words-same, sum_over_words-add, sum_over_words-const}
-use Rattle.sketch_base.proofs.Updates.{equal_below}
+use Rattle.sketch_base.proofs.Updates.{equal_below, equal_sums}
 use Rattle.sketch_base.proofs.Worlds.{one, held, true_ranks-same, held-settled}
 use Rattle.sketch_base.specs.Fair.{is_fair, none_drawn, FairIsUnbiased}
 use Rattle.sketch_base.proofs.Gains.{KeepsRules, gained, lost, all_gained, all_lost, top_of, below_top, accounted}
@@ -34,11 +34,8 @@ module _ {A : Type 0} (cmp : A → A → Ordering) (test : A → Bool) where
       equal_below top n (λ g w. gained cmp (one test) g trace slot w start) (λ g w. lost cmp (one test) g trace slot w start) (λ g. omega (arith, level g)) in
       let summed = sum_over_words-same n (λ w. ranks w + losses w) (λ w. truth + gains w) (λ w. accounted cmp test top trace slot w start rules (below_top trace)) in
       sum_over_words-same n _ ranks (λ w. sum_by-expanded (one test) cmp ((play cmp trace w start).slots slot)) ∙
-      together (2 ^ n) _ _ _ _ _ _ _ summed (sum_over_words-add n ranks losses) (sum_over_words-add n (λ w. truth) gains) (sum_over_words-const n truth) balanced
+      equal_sums (2 ^ n) _ _ _ _ _ _ _ summed (sum_over_words-add n ranks losses) (sum_over_words-add n (λ w. truth) gains) (sum_over_words-const n truth) balanced
       (true_ranks-same test trace (held test start) (λ s. 0) (held-settled test start refl) slot)
-    where
-      together : (w ranks losses gains t consts left right : ℕ) → left ≡ right → left ≡ ranks + losses → right ≡ consts + gains → consts ≡ w * t → gains ≡ losses → {m : ℕ} → t ≡ m → ranks ≡ w * m
-      together w ranks losses gains t consts left right a b c d e g = omega (arith, a, b, c, d, e, ap (λ n. w * n) g)
 
 -- the law
 pub fair_is_unbiased : {A : Type 0} (cmp : A → A → Ordering) → FairIsUnbiased cmp
