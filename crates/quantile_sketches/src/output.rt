@@ -70,7 +70,7 @@ pub fn write_bytes<W: Write>(output: &mut W, bytes: &[u8]) -> io::Result<()>
     Err(io::Error::from(ErrorKind::Other))
 }
 
-// Writes once, and says how many bytes were taken: none where a signal came between.
+/// Writes once, and says how many bytes were taken: none where a signal came between.
 fn write_some<W: Write>(output: &mut W, bytes: &[u8]) -> io::Result<usize>
     ensures within { IfOk result (λ count. count ≤ length bytes.now) }
     ensures out { IfOk result (λ count. Appends (W.contents output.old) (W.contents output.new)

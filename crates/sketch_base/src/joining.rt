@@ -18,7 +18,7 @@ pub(crate) fn sort_from_greatest<T: Ord>(weighted: &mut Vec<(T, u64)>) -> Result
     Ok(())
 }
 
-// Whether an item is below the last of weighted items, if there is one.
+/// Whether an item is below the last of weighted items, if there is one.
 fn is_below_last<T: Ord>(item: &T, weighted: &[(T, u64)]) -> bool
     ensures { result ≡ is_below_next T.cmp item.now (reverse weighted.now) }
 {
@@ -28,7 +28,7 @@ fn is_below_last<T: Ord>(item: &T, weighted: &[(T, u64)]) -> bool
     }
 }
 
-// Puts an item and the weight up to it last, where it is wanted.
+/// Puts an item and the weight up to it last, where it is wanted.
 fn push_if<T: Drop>(
     is_wanted: bool,
     item: T,

@@ -212,7 +212,7 @@ impl<T: Clone + Ord> SortedView<T> {
         })
     }
 
-    // The entries that fractions name.
+    /// The entries that fractions name.
     fn entries_of_all(
         &self,
         fractions: &[Rank],
@@ -231,7 +231,7 @@ impl<T: Clone + Ord> SortedView<T> {
         Ok(found)
     }
 
-    // A clone of the entry that a fraction names.
+    /// A clone of the entry that a fraction names.
     fn clone_of_entry(&self, fraction: &Rank, criteria: SearchCriteria) -> Result<T, AllocError>
         requires clones { (x y : T) → T.is_clone x y → T.cmp x y ≡ Equal }
         requires fraction { IsFraction fraction.now }
@@ -242,7 +242,7 @@ impl<T: Clone + Ord> SortedView<T> {
         self.entry_of(*fraction, criteria).unwrap().clone()
     }
 
-    // The entry that a fraction names.
+    /// The entry that a fraction names.
     fn entry_of(&self, fraction: Rank, criteria: SearchCriteria) -> Option<&T>
         requires { IsFraction fraction }
         ensures entry { option_copied result ≡ quantile_of self.now fraction criteria }

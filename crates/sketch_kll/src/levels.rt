@@ -45,7 +45,7 @@ impl<T: Ord> Model for Levels<T> {
 }
 
 impl<T: Ord + Drop> Levels<T> {
-    // One level with nothing in it, which does not count as sorted.
+    /// One level with nothing in it, which does not count as sorted.
     pub(crate) fn new(alloc: Global, k: u16) -> Result<Self, AllocError>
         requires k { 8 ≤ k }
         ensures k { IfOk result (λ x. x.k ≡ k) }
@@ -61,7 +61,7 @@ impl<T: Ord + Drop> Levels<T> {
         })
     }
 
-    // Makes the levels what `new` gives.
+    /// Makes the levels what `new` gives.
     pub(crate) fn clear(&mut self)
         ensures k { self.new.k ≡ self.old.k }
         ensures flag { self.new.is_sorted ≡ false }
@@ -75,7 +75,7 @@ impl<T: Ord + Drop> Levels<T> {
         self.total_capacity = total_capacity(self.k, MINIMUM_CAPACITY, 1);
     }
 
-    // Compacts one level, where the levels are at or over their total capacity.
+    /// Compacts one level, where the levels are at or over their total capacity.
     #[inline(always)]
     pub(crate) fn make_room<B: RandomBits>(&mut self, coins: &mut B)
         requires light { weight_in self.old.levels < 2 ^ 64 }
@@ -95,7 +95,7 @@ impl<T: Ord + Drop> Levels<T> {
         }
     }
 
-    // Compacts one level under the next coin; above the top one a level is added.
+    /// Compacts one level under the next coin; above the top one a level is added.
     fn compact<B: RandomBits>(&mut self, level: usize, coins: &mut B)
         requires within { level < length self.old.levels }
         requires few { level < 60 }
@@ -118,7 +118,7 @@ impl<T: Ord + Drop> Levels<T> {
         self.total_capacity = total_at(self.k, self.total_capacity, known, num_levels);
     }
 
-    // Puts an item last into level 0.
+    /// Puts an item last into level 0.
     pub(crate) fn push(&mut self, item: T)
         requires spare { retained self.old.levels < self.old.items_room }
         ensures k { self.new.k ≡ self.old.k }
@@ -133,7 +133,7 @@ impl<T: Ord + Drop> Levels<T> {
     }
 }
 
-// The items of one level.
+/// The items of one level.
 pub(crate) fn level_slice<'a, T>(items: &'a [T], bounds: &[usize], level: usize) -> &'a [T]
     requires flat { IsFlat items.now bounds.now }
     requires within { level + 1 < length bounds.now }
@@ -150,7 +150,7 @@ fn run_between<T>(items: &[T], start: usize, end: usize) -> &[T]
     &items[start..end]
 }
 
-// The weight of the items that a query counts.
+/// The weight of the items that a query counts.
 pub(crate) fn weight_counted<T: Ord>(
     items: &[T],
     bounds: &[usize],
@@ -172,7 +172,7 @@ pub(crate) fn weight_counted<T: Ord>(
     weight
 }
 
-// The lowest level at or over its capacity, where the levels are at or over their total capacity.
+/// The lowest level at or over its capacity, where the levels are at or over their total capacity.
 fn find_level_to_compact<T>(k: u16, total: u32, items: &[T], bounds: &[usize]) -> Option<usize>
     requires k { 8 ≤ k }
     requires total { total ≡ total_of k 8 (length bounds.now - 1) }
@@ -197,7 +197,7 @@ fn find_level_to_compact<T>(k: u16, total: u32, items: &[T], bounds: &[usize]) -
     unreachable!()
 }
 
-// The total capacity at so many levels, from that at another number of them.
+/// The total capacity at so many levels, from that at another number of them.
 fn total_at(k: u16, total: u32, known: usize, num_levels: usize) -> u32
     requires k { 8 ≤ k }
     requires total { total ≡ total_of k 8 known }
@@ -211,14 +211,14 @@ fn total_at(k: u16, total: u32, known: usize, num_levels: usize) -> u32
     }
 }
 
-// Whether a level that is compacted keeps its last item or its first.
+/// Whether a level that is compacted keeps its last item or its first.
 fn keeps_last_item(is_sorted: bool, level: usize) -> bool
     ensures { result ≡ keeps_last is_sorted level }
 {
     level == 0 && !is_sorted
 }
 
-// Adds a level above a level where there is none.
+/// Adds a level above a level where there is none.
 fn raise(bounds: &mut Vec<usize>, level: usize)
     requires spare { vec_len bounds.old < vec_capacity bounds.old }
     requires within { level + 2 < 2 ^ 64 }
@@ -231,7 +231,7 @@ fn raise(bounds: &mut Vec<usize>, level: usize)
     }
 }
 
-// Compacts a level that has a level above it, and drops what has to go.
+/// Compacts a level that has a level above it, and drops what has to go.
 fn compact_in_place<T: Ord + Drop>(
     items: &mut Vec<T>,
     bounds: &mut Vec<usize>,

@@ -19,7 +19,7 @@ pub fn count_counted<T: Ord>(items: &[T], query: &T, criteria: SearchCriteria) -
     }
 }
 
-// How many items are at most an item.
+/// How many items are at most an item.
 fn count_up_to<T: Ord>(items: &[T], query: &T) -> usize
     ensures { result ≡ count_by (counted T.cmp query.now Inclusive) items.now }
 {
@@ -32,7 +32,7 @@ fn count_up_to<T: Ord>(items: &[T], query: &T) -> usize
     count
 }
 
-// How many items are below an item.
+/// How many items are below an item.
 fn count_below<T: Ord>(items: &[T], query: &T) -> usize
     ensures { result ≡ count_by (counted T.cmp query.now Exclusive) items.now }
 {
@@ -58,7 +58,7 @@ pub fn count_in_order<T: Ord>(items: &[T], query: &T, criteria: SearchCriteria) 
     }
 }
 
-// Whether a query counts an item.
+/// Whether a query counts an item.
 fn counts<T: Ord>(item: &T, query: &T, criteria: SearchCriteria) -> bool
     ensures { result ≡ counted T.cmp query.now criteria item.now }
 {
@@ -68,8 +68,8 @@ fn counts<T: Ord>(item: &T, query: &T, criteria: SearchCriteria) -> bool
     }
 }
 
-// A range of items in order, starting at or after `known`, that contains the query's count, which is
-// at least `known`. The parts that are tried get twice as long each time.
+/// A range of items in order, starting at or after `known`, that contains the query's count, which is
+/// at least `known`. The parts that are tried get twice as long each time.
 fn part_from<T: Ord>(
     items: &[T],
     known: usize,
@@ -92,7 +92,7 @@ fn part_from<T: Ord>(
     (start, start + rest.min(step))
 }
 
-// How many items in order a query counts: all of them are looked at where they are few.
+/// How many items in order a query counts: all of them are looked at where they are few.
 fn count_in_part<T: Ord>(items: &[T], query: &T, criteria: SearchCriteria) -> usize
     requires sorted { IsSorted T.cmp items.now }
     ensures { result ≡ count_by (counted T.cmp query.now criteria) items.now }

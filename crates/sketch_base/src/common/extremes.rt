@@ -65,7 +65,7 @@ pub fn are_between<T: Ord>(items: &[T], least: &T, greatest: &T) -> bool
     true
 }
 
-// Whether an item is below the least item so far.
+/// Whether an item is below the least item so far.
 fn is_new_least<T: Ord>(item: &T, least: &Option<T>) -> bool
     ensures { result ≡ is_new is_lt T.cmp item.now least.now }
 {
@@ -75,7 +75,7 @@ fn is_new_least<T: Ord>(item: &T, least: &Option<T>) -> bool
     }
 }
 
-// Whether an item is above the greatest item so far.
+/// Whether an item is above the greatest item so far.
 fn is_new_greatest<T: Ord>(item: &T, greatest: &Option<T>) -> bool
     ensures { result ≡ is_new is_gt T.cmp item.now greatest.now }
 {
@@ -85,7 +85,7 @@ fn is_new_greatest<T: Ord>(item: &T, greatest: &Option<T>) -> bool
     }
 }
 
-// The item's clone, where it is wanted.
+/// The item's clone, where it is wanted.
 fn clone_if<T: Clone + Ord>(is_wanted: bool, item: &T) -> Result<Option<T>, AllocError>
     requires clones { (x y : T) → T.is_clone x y → T.cmp x y ≡ Equal }
     ensures { IfOk result (SameAnswer T.cmp (if is_wanted then Some item.now else None)) }

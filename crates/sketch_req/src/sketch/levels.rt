@@ -22,7 +22,7 @@ pub(crate) struct Levels<T: Clone + Ord> {
 }
 
 impl<T: Clone + Ord> Levels<T> {
-    // These levels, with their sums.
+    /// These levels, with their sums.
     pub(crate) fn new(k: u16, rank_accuracy: RankAccuracy, compactors: Vec<Compactor<T>>) -> Self
         requires levels { AreLevels T.cmp k rank_accuracy 0 compactors.items }
         requires few { retained_of (layouts_of compactors.items) < 2 ^ 64 }
@@ -44,7 +44,7 @@ impl<T: Clone + Ord> Levels<T> {
         levels
     }
 
-    // Adds up how many items the levels hold, and their nominal capacities.
+    /// Adds up how many items the levels hold, and their nominal capacities.
     pub(crate) fn add_up(&mut self)
         requires levels { AreLevels T.cmp self.old.k self.old.rank_accuracy 0
             self.old.compactors.items }
@@ -65,7 +65,7 @@ impl<T: Clone + Ord> Levels<T> {
         (self.num_retained, self.capacity) = (count, sum);
     }
 
-    // The weight of the items that a query counts.
+    /// The weight of the items that a query counts.
     pub(crate) fn weight_counted(&self, item: &T, criteria: SearchCriteria) -> u64
         requires { weight_of (layouts_of self.now.compactors.items) < 2 ^ 64 }
         ensures { result

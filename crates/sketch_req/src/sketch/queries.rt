@@ -43,7 +43,7 @@ impl<T: Clone + Ord> ReqSketch<T> {
         SortedView::new(weighted, least, greatest)
     }
 
-    // Clones of the retained items, each with its weight.
+    /// Clones of the retained items, each with its weight.
     fn clone_pairs(&self) -> Result<Vec<(T, u64)>, AllocError>
         requires clones { (x y : T) → T.is_clone x y → T.cmp x y ≡ Equal }
         ensures pairs { IfOk result (λ pairs.
@@ -78,8 +78,8 @@ impl<T: Clone + Ord> ReqSketch<T> {
         self.sorted_view()?.quantile(fraction, criteria)
     }
 
-    // The item that a fraction names, where it is an extreme or a level in order holds it. The
-    // highest level comes first, since it weighs most.
+    /// The item that a fraction names, where it is an extreme or a level in order holds it. The
+    /// highest level comes first, since it weighs most.
     fn find(&self, fraction: Rank, criteria: SearchCriteria) -> Option<&T>
         requires { IsFraction fraction }
         ensures same { IfSome result (λ x. SameAnswer T.cmp
@@ -94,7 +94,7 @@ impl<T: Clone + Ord> ReqSketch<T> {
         }
     }
 
-    // The item at a place of all entries in order, where a level in order holds it.
+    /// The item at a place of all entries in order, where a level in order holds it.
     fn find_at(&self, place: u64) -> Option<&T>
         ensures { IfSome result (λ x. SameAnswer T.cmp
             (slice_get (expanded T.cmp (bag_of self.now.levels)) place) (Some x.now)) }
@@ -103,7 +103,7 @@ impl<T: Clone + Ord> ReqSketch<T> {
         levels.find_map(|level| self.find_in(level, place))
     }
 
-    // The item at a place of all entries in order, where a level is in order and holds it.
+    /// The item at a place of all entries in order, where a level is in order and holds it.
     fn find_in<'a>(&self, level: &'a Compactor<T>, place: u64) -> Option<&'a T>
         ensures { IfSome result (λ x. SameAnswer T.cmp
             (slice_get (expanded T.cmp (bag_of self.now.levels)) place) (Some x.now)) }

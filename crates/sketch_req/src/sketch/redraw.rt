@@ -29,7 +29,7 @@ impl<T: Clone + Ord> ReqSketch<T> {
 }
 
 impl<T: Clone + Ord> Levels<T> {
-    // Draws a coin for each level at an odd state, from level 0 up.
+    /// Draws a coin for each level at an odd state, from level 0 up.
     pub(super) fn redraw_coins<B: RandomBits>(&mut self, coins: &mut B)
         ensures k { self.new.k ≡ self.old.k }
         ensures accuracy { self.new.rank_accuracy ≡ self.old.rank_accuracy }
@@ -46,7 +46,7 @@ impl<T: Clone + Ord> Levels<T> {
         }
     }
 
-    // So it does where it is told to, and else nothing.
+    /// So it does where it is told to, and else nothing.
     pub(super) fn redraw_if<B: RandomBits>(&mut self, redraws: bool, coins: &mut B)
         ensures k { self.new.k ≡ self.old.k }
         ensures accuracy { self.new.rank_accuracy ≡ self.old.rank_accuracy }
