@@ -49,6 +49,7 @@ impl<T: KllValue + Ord> Family for KllSketch<T> {
     }
 
     fn refuses_weight<B: RandomBits>(&self, weight: u64) -> bool {
+        // Read so that the proof knows the invariant.
         let _n = self.n();
         self.refuses_weight(weight)
     }
@@ -58,6 +59,7 @@ impl<T: KllValue + Ord> Family for KllSketch<T> {
     }
 
     fn update<B: RandomBits>(&mut self, item: T, coins: &mut B) -> Result<(), Error> {
+        // Read so that the proof knows the invariant.
         let _n = self.n();
         Ok(self.update(item, coins)?)
     }
@@ -68,6 +70,7 @@ impl<T: KllValue + Ord> Family for KllSketch<T> {
         weight: u64,
         coins: &mut B,
     ) -> Result<(), Error> {
+        // Read so that the proof knows the invariant.
         let _n = self.n();
         Ok(self.update_weighted(item, weight, coins)?)
     }

@@ -63,6 +63,7 @@ impl<T: ReqValue + Clone + Ord> Family for ReqSketch<T> {
     }
 
     fn update<B: RandomBits>(&mut self, item: T, coins: &mut B) -> Result<(), Error> {
+        // Read so that the proof knows the invariant.
         let _n = self.n();
         Ok(self.update(item, coins)?)
     }

@@ -77,6 +77,7 @@ impl<T: Ord + Drop> Levels<T> {
         ensures few { length self.new.levels ≤ 61 }
         ensures sorted { UpperSorted T.cmp self.new.levels }
     {
+        // Read so that the proof knows the invariant.
         let _k = self.k;
         let mut level = 0;
         while self.walk_reaches(level) {

@@ -175,6 +175,7 @@ impl<T: Clone + Ord> ReqSketch<T> {
         ensures there { IfOk result (IsFoundAmong self.now.n) }
         ensures refused { IsRefusedUnless (IsIncreasing T.cmp points.now) self.now.n result }
     {
+        // Read so that the proof knows the invariant.
         let _n = self.n();
         let Some(mut ranks) = self.cdf(points, criteria)? else {
             return Ok(None);
