@@ -28,7 +28,7 @@ loop-level-init g c =
 pub pour_greater-requires : goal.pour_greater-requires
 pour_greater-requires g c =
     let i = c.loop-level.invariant in
-    let r = next_runs g.T.Ord.cmp c.loop-level.level c.args.items.now.items c.args.upper.now.items c.loop-level.items.items c.loop-level.upper.items c.loop-level.merged.items c.args.bounds.now c.args.runs.now c.requires.flat c.requires.runs c.requires.sorted c.requires.runs_sorted i.within i.joining in
+    let r = next_runs c.loop-level.level c.args.runs.now c.requires.flat c.requires.runs c.requires.sorted c.requires.runs_sorted i.within i.joining in
     record {
       left = r.left_at.within;
       right = r.right_at.within;
@@ -53,7 +53,7 @@ loop-level-preserved g c =
     let left : List g.row.T.Denot = c.pour_greater.new.left.items in
     let to : List g.row.T.Denot = c.pour_greater.new.to.items in
     let rest : List g.row.T.Denot = drop kl left in
-    let r = next_runs g.T.Ord.cmp c.loop-level.level c.args.items.now.items c.args.upper.now.items c.loop-level.items.items c.loop-level.upper.items c.loop-level.merged.items c.args.bounds.now c.args.runs.now c.requires.flat c.requires.runs c.requires.sorted c.requires.runs_sorted i.within i.joining in
+    let r = next_runs c.loop-level.level c.args.runs.now c.requires.flat c.requires.runs c.requires.sorted c.requires.runs_sorted i.within i.joining in
     let next = joining_more g.T.Ord.cmp g.met.T.Ord.total h ls us c.loop-level.items.items c.loop-level.upper.items c.loop-level.merged.items c.move_back-in-loop-level.new.from.items c.pour_greater.new.right.items c.move_back-in-loop-level.new.to.items
     (drop kl c.loop-level.items.items) (drop kr c.loop-level.upper.items) (rest ++ reverse (drop (length c.loop-level.merged.items) to))
     (omega (arith, n, c.requires.fewer, i.within)) (omega (arith, m, d, i.within)) (f.from ∙ (e.left ∙ r.left_at.rest)) (e.right ∙ r.right_at.rest)
