@@ -58,18 +58,17 @@ from_level-requires g c =
 
 pub returns-clause-found : goal.returns-clause-found
 returns-clause-found g c =
-    let cmp = g.T.Ord.cmp in
-    let f = g.T.ReqValue.spelling in
-    let h = c.args.header.now in
     let rest = c.deserialize.new.input in
+    let place = first_place c.args.header.now in
     let level = read g (goal.at.returns-clause-found g c).In_ok-level in
     let many = ltb-true _ _ (c.in_ok-unless-2.ensures.ok.0 refl) in
-    IfOk-weaker c.from_level.result (λ s. (s.levels ≡ c.in_ok-level.level ∷ []) × IsTold cmp h s) (λ s. IsOneBody cmp f h c.args.text.now s rest) (λ s t.
+    IfOk-weaker c.from_level.result _ _ (λ s t.
     let its = ap length (alone _ c.in_ok-level.level t.0).items in
     record {
       none_raw = eqb-true _ _ (c.in_ok-unless.ensures.ok.0 refl);
       one_level = ap length t.0;
-      levels = subst (λ (ls : List (Level g.row.T.Denot)). BeginsLevels cmp f (first_place h) c.args.text.now ls rest) (sym t.0) (rest, level, refl);
+      levels = subst (λ (ls : List (Level g.row.T.Denot)). BeginsLevels g.T.Ord.cmp g.T.ReqValue.spelling place c.args.text.now ls rest)
+          (sym t.0) (rest, level, refl);
       many_items = omega (arith, its, c.num_items.ensures, many);
       told = t.1;
     }) c.from_level.ensures.told
