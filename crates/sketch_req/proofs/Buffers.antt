@@ -8,15 +8,19 @@ use Rattle.sketch_req.specs.Walk.{HasSpace, HaveSpace}
 
 -- what is read of the buffers of each turn, at one place
 module _ {R B : Type 0} (read : R → B) (d : B) (rooms : List R) (h : ℕ) (room : R) where
+  -- a number of the buffers of a place
   pub read-there : h < length rooms → room ≡ get_or rooms h room → get_or (map read rooms) h d ≡ read room
   read-there within e = get_or-map read rooms h room d within ∙ ap read (sym e)
 
+  -- those above stay where others are set
   pub read-above : (j : ℕ) → h < j → get_or (map read (set rooms h room)) j d ≡ get_or (map read rooms) j d
   read-above j above = ap (λ (xs : List B). get_or xs j d) (map-set read rooms h room) ∙ get_or-set_other (map read rooms) h j (read room) d (λ e. absurd (omega (arith, e, above)))
 
+  -- those below stay too
   pub read-below : (j : ℕ) → j < h → get_or (map read (set rooms h room)) j d ≡ get_or (map read rooms) j d
   read-below j low = ap (λ (xs : List B). get_or xs j d) (map-set read rooms h room) ∙ get_or-set_other (map read rooms) h j (read room) d (λ e. absurd (omega (arith, e, low)))
 
+  -- what was set
   pub read-here : h < length rooms → get_or (map read (set rooms h room)) h d ≡ read room
   read-here inside = ap (λ (xs : List B). get_or xs h d) (map-set read rooms h room) ∙ get_or-set_same (map read rooms) h (read room) d (omega (arith, inside, length-map rooms read))
 

@@ -43,6 +43,7 @@ module _ {A : Type 0} (cmp : A → A → Ordering) (ls others : List (Level A)) 
   pub cloned-above : (buffers : List (Space A)) (h : ℕ) (own : Space A) (j : ℕ) → h < j → HasClones buffers j → HasClones (set buffers h own) j
   cloned-above buffers h own j high = has-same buffers (set buffers h own) j (read-above (λ b. b.clones) [] buffers h own j high) (read-above (λ b. b.clones_space) 0 buffers h own j high) (read-above (λ b. b.promoted_space) 0 buffers h own j high)
 
+  -- clones and space are ready for it
   pub is-ready : (k : ℕ) (accuracy : RankAccuracy) (h : ℕ) (buffers : List (Space A)) (own : Space A) (old o : Level A) → IsCopied cmp k accuracy h ls old → h < length others → o ≡ get_or others h o → h < length buffers → own ≡ get_or buffers h own →
       HasClones buffers h → IsReady cmp ls others old o own
   is-ready k accuracy h buffers own old o c i e j f a =

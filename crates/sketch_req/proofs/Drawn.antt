@@ -63,9 +63,11 @@ rises-with drawn s h t j e =
       | inr b ↦ subst (λ (c : Bool). (if c then changed (drawn s) h true else drawn t) j ≡ true) (sym b) e
     ]
 
+-- a coin that was drawn is drawn
 pub drawn-there : (drawn : ℕ → ℕ → Bool) (s h : ℕ) → with_drawn drawn s h s h ≡ true
 drawn-there drawn s h = ap (λ (f : ℕ → Bool). f h) (changed-there drawn s (changed (drawn s) h true)) ∙ changed-there (drawn s) h true
 
+-- the side that is taken is REQ's
 pub takes_req : (accuracy : RankAccuracy) (n : ℕ) → is_req (taken_side accuracy n) ≡ true
 takes_req HighRank n = refl
 takes_req LowRank n = refl
@@ -116,6 +118,7 @@ module _ {A : Type 0} (Holds : List (Event A) → (ℕ → ℕ → Bool) → Typ
             subst R (sym e) r go
       ]
 
+  -- a walk goes by what was drawn
   pub by-room : (ls : List Layout) (drawn : ℕ → ℕ → Bool) → AreDrawn ls (drawn s) → Goes (room_layouts k ls) drawn → Holds (events_at s (room_actions k accuracy ls) ++ rest) drawn
   by-room ls drawn a go =
       (elim (are_full k ls) as (λ b. Goes (if b then steps_layouts k (length ls) 0 ls else ls) drawn → Holds (events_at s (if b then steps_actions k accuracy (length ls) 0 ls else []) ++ rest) drawn) [
@@ -123,6 +126,7 @@ module _ {A : Type 0} (Holds : List (Event A) → (ℕ → ℕ → Bool) → Typ
         | false ↦ λ go'. go' drawn (λ t j q. q) a
       ]) go
 
+  -- so does an update
   pub by-update : (ls : List Layout) (x : A) (drawn : ℕ → ℕ → Bool) → AreDrawn ls (drawn s) → Goes (update_layouts k ls) drawn → Holds (events_at s (update_actions k accuracy ls x) ++ rest) drawn
   by-update ls x drawn a go =
       by_drawn.put x (events_at s (room_actions k accuracy (put_layouts ls)) ++ rest) drawn (by-room (put_layouts ls) drawn (drawn_put ls (drawn s) a) go)

@@ -18,6 +18,7 @@ module _ (A : Type 0) where
   own-steps k accuracy zero h ls = tt
   own-steps k accuracy (suc more) h ls = own-append (step_actions k accuracy h ls) (steps_actions k accuracy more (suc h) (step_layouts k h ls)) (own-step A k accuracy h ls) (own-steps k accuracy more (suc h) (step_layouts k h ls))
 
+  -- a walk leaves the scratch alone
   pub own-room : (k : ℕ) (accuracy : RankAccuracy) (ls : List Layout) → AreOwn {A = A} (room_actions k accuracy ls)
   own-room k accuracy ls =
       elim (are_full k ls) as (λ b. AreOwn {A = A} (if b then steps_actions k accuracy (length ls) 0 ls else [])) [
@@ -25,6 +26,7 @@ module _ (A : Type 0) where
         | false ↦ tt
       ]
 
+  -- so does an update
   pub own-update : (k : ℕ) (accuracy : RankAccuracy) (ls : List Layout) (x : A) → AreOwn (update_actions k accuracy ls x)
   own-update k accuracy ls x = (refl, own-room k accuracy (put_layouts ls))
 
@@ -115,6 +117,7 @@ module _ {A : Type 0} (slot : ℕ) where
   reaches-own s i (Forget ∷ more) rest o = absurd (false≢true o.0)
   reaches-own s i (Clear ∷ more) rest o = absurd (false≢true o.0)
 
+  -- joins change nothing of what is reached
   pub reaches-joins : (s i more h : ℕ) (actions : List (Action A)) (rest : List (Event A)) →
       reaches (events_at s (joins_actions more h ++ actions) ++ rest) slot i ≡ reaches (events_at s actions ++ rest) slot i
   reaches-joins s i zero h actions rest = refl

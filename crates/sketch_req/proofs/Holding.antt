@@ -105,6 +105,7 @@ module _ {A : Type 0} {cmp : A → A → Ordering} (order : IsTotalOrder cmp) wh
       ]
 
   module _ {S : Type 0} {bit : S → Bool} {next : S → S} {source after : S} (k : ℕ) (accuracy : RankAccuracy) (ms ns : List (Level A)) (room : AreActed cmp bit next source after k accuracy (room_of k accuracy ms) (room_layouts k (layouts_of ms)) 0 ms ns) where
+    -- what items keep that compare equal holds after actions too
     pub acted-all : (P : A → Type 0) → Keeps P → AllByRecursion P (items_in ms) → AllByRecursion P (items_in ns)
     acted-all P keeps a =
         let item : Level A → List A = λ level. level.items in
@@ -122,9 +123,11 @@ module _ {A : Type 0} {cmp : A → A → Ordering} (order : IsTotalOrder cmp) wh
 
   -- ---- extremes that bound
 
+  -- an item lies between two extremes
   abbrev pub Holds : Option A → Option A → A → Type 0
   Holds least greatest x = IsFrom cmp least x × IsUpTo cmp greatest x
 
+  -- that is kept by items that compare equal
   pub holds-same : (least greatest : Option A) → Keeps (Holds least greatest)
   holds-same None greatest x y e h = absurd h.0
   holds-same (Some l) None x y e h = absurd h.1
@@ -154,12 +157,15 @@ module _ {A : Type 0} {cmp : A → A → Ordering} (order : IsTotalOrder cmp) wh
 
   -- the extremes of two sketches together bound what either's do
   module _ (a b least c d greatest : Option A) (il : IsLeastOf cmp (option_to_list a ++ option_to_list b) least) (ig : IsGreatestOf cmp (option_to_list c ++ option_to_list d) greatest) where
+    -- what lay between the first extremes lies between those of both
     pub held-left : (xs : List A) → AllByRecursion (Holds a c) xs → AllByRecursion (Holds least greatest) xs
     held-left xs h = all-map (Holds a c) (Holds least greatest) (λ x p. (from-left a b least il x p.0, up-left c d greatest ig x p.1)) xs h
 
+    -- so does what lay between the others
     pub held-right : (xs : List A) → AllByRecursion (Holds b d) xs → AllByRecursion (Holds least greatest) xs
     held-right xs h = all-map (Holds b d) (Holds least greatest) (λ x p. (from-right a b least il x p.0, up-right c d greatest ig x p.1)) xs h
 
+  -- the items of a sketch lie between its extremes
   pub held : (s : Req A) → IsSound cmp s → AllByRecursion (Holds s.least s.greatest) (items_in s.levels)
   held s sound = go s.n refl
     where
@@ -171,6 +177,7 @@ module _ {A : Type 0} {cmp : A → A → Ordering} (order : IsTotalOrder cmp) wh
           let h = sound.ends (omega (arith, e)) in
           rw (h.least_is, h.greatest_is) h.ends.between
 
+  -- a sketch whose items do, and which has one, has both extremes
   pub has-ends : (s : Req A) (x : A) → Holds s.least s.greatest x → AllByRecursion (Holds s.least s.greatest) (items_in s.levels) → HasEnds cmp s
   has-ends s x h all = go s.least s.greatest refl refl h all
     where
@@ -235,9 +242,11 @@ module _ {A : Type 0} {cmp : A → A → Ordering} (order : IsTotalOrder cmp) wh
   up-same : (x : A) → Keeps (λ y. IsAtMost cmp y x)
   up-same x y z e h = ap is_gt (sym (order.congr y z x e)) ∙ h
 
+  -- the least of items is that of items alike
   pub least-moved : (xs ys : List A) → Moves xs ys → Moves ys xs → (x y : Option A) → SameAnswer cmp x y → IsLeastOf cmp xs x → IsLeastOf cmp ys y
   least-moved xs ys to from x y s i = extreme-tied (λ x y. IsAtMost cmp x y) from-same ys x y (λ a b c e h. up-same c a b e h) s (extreme-moved (λ x y. IsAtMost cmp x y) from-same xs ys to from x i)
 
+  -- so is the greatest
   pub greatest-moved : (xs ys : List A) → Moves xs ys → Moves ys xs → (x y : Option A) → SameAnswer cmp x y → IsGreatestOf cmp xs x → IsGreatestOf cmp ys y
   greatest-moved xs ys to from x y s i = extreme-tied (λ x y. IsAtMost cmp y x) up-same ys x y (λ a b c e h. from-same c a b e h) s (extreme-moved (λ x y. IsAtMost cmp y x) up-same xs ys to from x i)
 
@@ -253,9 +262,11 @@ module _ {A : Type 0} {cmp : A → A → Ordering} (order : IsTotalOrder cmp) wh
 
   -- ---- one level left
 
+  -- a level that was never compacted
   abbrev pub IsNew : Level A → Type 0
   IsNew level = (level.state ≡ 0) × (level.doublings ≡ 0)
 
+  -- levels of the same layouts are as new
   pub news : (ls ms : List (Level A)) → layouts_of ms ≡ layouts_of ls → AllByRecursion IsNew ls → AllByRecursion IsNew ms
   news [] [] e n = tt
   news [] (m ∷ ms) e n = let z = ap length e in absurd (omega (arith, z))
@@ -266,12 +277,14 @@ module _ {A : Type 0} {cmp : A → A → Ordering} (order : IsTotalOrder cmp) wh
       ((ap (λ (x : Layout). x.state) head ∙ n.0.0, ap (λ (x : Layout). x.doublings) head ∙ n.0.1), news ls ms (ap (λ (xs : List Layout). drop 1 xs) e) n.1)
 
   module _ {S : Type 0} {bit : S → Bool} {next : S → S} {source after : S} (k : ℕ) (accuracy : RankAccuracy) (ms ns : List (Level A)) (room : AreActed cmp bit next source after k accuracy (room_of k accuracy ms) (room_layouts k (layouts_of ms)) 0 ms ns) where
+    -- where one level is left, one stood before
     pub one-before : 0 < length ms → length ns ≡ 1 → length ms ≡ 1
     one-before some one =
         let a = longer-room k (layouts_of ms) in
         let b = ap length room.layouts_are in
         omega (arith, some, one, a, b, length-layouts ms, length-layouts ns)
 
+    -- and it tells the extremes as before
     pub small-acted : (n : ℕ) (least greatest : Option A) → 0 < length ms → length ns ≡ 1 → IsLeastOf cmp (items_in ms) least → IsGreatestOf cmp (items_in ms) greatest → (n ≤ 4 → AllByRecursion IsNew ms) → IsSmall cmp (sketch_of k accuracy n ns least greatest)
     small-acted n least greatest some one l g new =
         let full = one-left k (layouts_of ms) (omega (arith, some, length-layouts ms)) (sym (ap length room.layouts_are) ∙ (length-layouts ns ∙ one)) in

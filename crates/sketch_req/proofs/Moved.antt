@@ -37,6 +37,7 @@ pub joins-move : {A : Type 0} (n i : ℕ) (rest : List (Action A)) (h : ℕ) →
 joins-move zero i rest h = refl
 joins-move (suc n) i rest h = joins-move n (suc i) rest h
 
+-- actions that move the same levels
 pub moved-alike : {A : Type 0} (xs ys : List (Action A)) (ls ns : List (Level A)) → ((h : ℕ) → is_moved ys h ≡ is_moved xs h) → AreMoved xs ls ns → AreMoved ys ls ns
 moved-alike xs ys ls ns e m = record {
   stays = λ h none off. m.stays h none (sym (e h) ∙ off);

@@ -122,6 +122,7 @@ module _ {A : Type 0} {cmp : A → A → Ordering} (order : IsTotalOrder cmp) (t
   placed-as : (k : ℕ) (accuracy : RankAccuracy) (t : Req A) → IsSound cmp t → t.k ≡ k → t.accuracy ≡ accuracy → AreLevels cmp k accuracy 0 t.levels
   placed-as k accuracy t sound a b = subst (λ (x : RankAccuracy). AreLevels cmp k x 0 t.levels) b (subst (λ (x : ℕ). AreLevels cmp x t.accuracy 0 t.levels) a sound.placed)
 
+  -- one sketch comes of an update
   pub one-update : (s : Req A) (x : A) (word : List Bool) (t u : Req A) → IsSound cmp t → IsSound cmp u → IsUpdated cmp s x word t → IsUpdated cmp s x word u → t ≡ u
   one-update s x word t u a b p q =
       let ends = option_to_list s.least ++ x ∷ [] in
@@ -132,6 +133,7 @@ module _ {A : Type 0} {cmp : A → A → Ordering} (order : IsTotalOrder cmp) (t
       (same-answers order tied t.least u.least (one_least order ends ends t.least u.least (SameItems-refl cmp order ends) p.least q.least))
       (same-answers order tied t.greatest u.greatest (one_greatest order tops tops t.greatest u.greatest (SameItems-refl cmp order tops) p.greatest q.greatest))
 
+  -- one sketch comes of a merge
   pub one-merge : (redraws : Bool) (s other : Req A) (word : List Bool) (t u : Req A) → IsSound cmp t → IsSound cmp u → IsMergedBy cmp redraws s other word t → IsMergedBy cmp redraws s other word u → t ≡ u
   one-merge redraws s other word t u a b p q =
       let ends = option_to_list s.least ++ option_to_list other.least in

@@ -11,6 +11,7 @@ use Rattle.sketch_req.proofs.Layouts.{length-layouts}
 use Rattle.sketch_req.proofs.Redraws.{flat-items, items-redrawn, layouts-redrawn, placed-redrawn}
 
 module _ {A : Type 0} {cmp : A → A → Ordering} (order : IsTotalOrder cmp) (word : List Bool) (s : Req A) where
+  -- a sketch keeps what it has to where coins are drawn
   pub redrawn-sound : IsSound cmp s → IsSound cmp (redrawn_sketch word s)
   redrawn-sound sound =
       let same : layouts_of (redrawn word s.levels) ≡ layouts_of s.levels = layouts-redrawn word s.levels in

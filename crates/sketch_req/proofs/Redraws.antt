@@ -93,18 +93,22 @@ module _ {A S : Type 0} (bit : S → Bool) (next : S → S) where
 
 -- ---- what stays
 
+-- coins that are drawn leave the layouts
 pub layouts-redrawn : {A : Type 0} (word : List Bool) (ls : List (Level A)) → layouts_of (redrawn word ls) ≡ layouts_of ls
 layouts-redrawn word [] = refl
 layouts-redrawn word (x ∷ rest) = ap (λ (l : List Layout). layout_of x ∷ l) (layouts-redrawn (if turns_coin x.state then drop 1 word else word) rest)
 
+-- and the items
 pub items-redrawn : {A : Type 0} (word : List Bool) (ls : List (Level A)) → map (λ level. level.items) (redrawn word ls) ≡ map (λ level. level.items) ls
 items-redrawn word [] = refl
 items-redrawn {A} word (x ∷ rest) = ap (λ (l : List (List A)). x.items ∷ l) (items-redrawn (if turns_coin x.state then drop 1 word else word) rest)
 
+-- all items, level by level
 pub flat-items : {A : Type 0} (ls : List (Level A)) → items_in ls ≡ flat_map (λ xs. xs) (map (λ level. level.items) ls)
 flat-items [] = refl
 flat-items (x ∷ rest) = ap (λ xs. x.items ++ xs) (flat-items rest)
 
+-- and the places
 pub placed-redrawn : {A : Type 0} (cmp : A → A → Ordering) (k : ℕ) (accuracy : RankAccuracy) (h : ℕ) (word : List Bool) (ls : List (Level A)) → AreLevels cmp k accuracy h ls → AreLevels cmp k accuracy h (redrawn word ls)
 placed-redrawn cmp k accuracy h word [] a = tt
 placed-redrawn cmp k accuracy h word (x ∷ rest) a =
@@ -130,6 +134,7 @@ placed-redrawn cmp k accuracy h word (x ∷ rest) a =
 
 -- ---- the actions
 
+-- as many coins as levels at an odd state
 pub redraws-draw : (A : Type 0) (h : ℕ) (ls : List Layout) → draws_of (redraws_from {A = A} h ls) ≡ turning_levels ls
 redraws-draw A h [] = refl
 redraws-draw A h (l ∷ ls) = go (turns_coin l.state) refl (redraws-draw A (suc h) ls)
@@ -239,14 +244,17 @@ module _ {A : Type 0} {cmp : A → A → Ordering} (order : IsTotalOrder cmp) wh
 
 -- ---- drawn anew or not
 
+-- so it is of levels whose coins were drawn or not
 pub layouts-ready : {A : Type 0} (redraws : Bool) (word : List Bool) (ls : List (Level A)) → layouts_of (redrawn_if redraws word ls) ≡ layouts_of ls
 layouts-ready true word ls = layouts-redrawn word ls
 layouts-ready false word ls = refl
 
+-- their items
 pub items-ready : {A : Type 0} (redraws : Bool) (word : List Bool) (ls : List (Level A)) → map (λ level. level.items) (redrawn_if redraws word ls) ≡ map (λ level. level.items) ls
 items-ready true word ls = items-redrawn word ls
 items-ready false word ls = refl
 
+-- their places
 pub placed-ready : {A : Type 0} (cmp : A → A → Ordering) (k : ℕ) (accuracy : RankAccuracy) (redraws : Bool) (word : List Bool) (ls : List (Level A)) → AreLevels cmp k accuracy 0 ls → AreLevels cmp k accuracy 0 (redrawn_if redraws word ls)
 placed-ready cmp k accuracy true word ls a = placed-redrawn cmp k accuracy 0 word ls a
 placed-ready cmp k accuracy false word ls a = a
@@ -255,6 +263,7 @@ placed-ready cmp k accuracy false word ls a = a
 abbrev pub redraws_if : {A : Type 0} → Bool → List Layout → List (Action A)
 redraws_if redraws layouts = if redraws then redraw_actions layouts else []
 
+-- what was done to them
 pub acted-ready : {A S : Type 0} {cmp : A → A → Ordering} (order : IsTotalOrder cmp) (bit : S → Bool) (next : S → S) (source : S) (k : ℕ) (accuracy : RankAccuracy) (redraws : Bool) (ls : List (Level A)) → AreLevels cmp k accuracy 0 ls →
     AreActed cmp bit next source (after_draws next source (redraws_of redraws ls)) k accuracy (redraws_if redraws (layouts_of ls)) (layouts_of ls) 0 ls (redrawn_if redraws (bits_from bit next source (redraws_of redraws ls)) ls)
 acted-ready order bit next source k accuracy true ls a = acted-redrawn order bit next source k accuracy ls a

@@ -110,12 +110,15 @@ module _ {A : Type 0} {cmp : A → A → Ordering} (order : IsTotalOrder cmp) wh
   same-there (Some x) (Some y) s h = refl
 
   module _ (s : Req A) (pairs : List (A × ℕ)) (sound : IsSound cmp s) (same : SamePairs cmp (pairs_of s.levels) pairs) where
+    -- each clone weighs something
     pub clones-all_weigh : All (λ (pair : A × ℕ). 0 < pair.1) pairs
     clones-all_weigh = all-places pairs (clones-weigh (pairs_of s.levels) pairs same (pairs-weigh s.levels))
 
+    -- they weigh n together
     pub clones-weigh_n : sum_by (λ (pair : A × ℕ). pair.1) pairs ≡ s.n
     clones-weigh_n = sum-clones (pairs_of s.levels) pairs same ∙ (weigh-pairs cmp s.k s.accuracy s.levels sound.placed ∙ sound.weighs_n)
 
+    -- an extreme is there where a clone is
     pub clones-there : (extreme found : Option A) → IsThere extreme s.n → SameAnswer cmp extreme found → 0 < length pairs → IsSome found
     clones-there extreme found there e l =
         same-there extreme found e (some-there extreme s.n there (omega (arith, l, weigh-enough pairs (clones-weigh (pairs_of s.levels) pairs same (pairs-weigh s.levels)), clones-weigh_n)))

@@ -7,72 +7,68 @@ use Rattle.sketch_req.specs.Image.{first_place, IsTold, IsOneBody}
 use Rattle.sketch_req.specs.declared.RankAccuracy.{RankAccuracy}
 use Rattle.sketch_req.proofs.Sounds.{one_of, alone, imaged_at}
 use Rattle.sketch_req.proofs.OneSketch.{same_levels, same_numbers}
+use Rattle.sketch_req.proofs.sketch.ReqSketch.read_one.Given.{Over}
+use Rattle.sketch_req.proofs.sketch.ReqSketch.read_one.Goals.{In_ok-level}
 use Rattle.sketch_req.proofs.sketch.ReqSketch.read_one.Goals as goal
+
+-- the level that was read, at its place
+read : (g : Over) (c : In_ok-level g) →
+    BeginsLevel g.T.Ord.cmp g.T.ReqValue.spelling (first_place c.args.header.now) c.args.text.now c.in_ok-level.level c.deserialize.new.input
+read g c =
+    subst (λ (p : Place). BeginsLevel g.T.Ord.cmp g.T.ReqValue.spelling p c.args.text.now c.in_ok-level.level c.deserialize.new.input)
+    (ap₂ (λ (a : RankAccuracy) (z : Bool). place_at c.args.header.now.k a 0 z) c.rank_accuracy-accuracy.ensures c.has_flag-sorted.ensures)
+    c.in_ok-level.ensures.found
 
 pub returns-in_err-level-clause-refused : goal.returns-in_err-level-clause-refused
 returns-in_err-level-clause-refused g c =
     let p = err_from_is_err_and c.from_residual-in_err-level.result c.from_residual-in_err-level.ensures.1 in
-    let cmp = g.T.Ord.cmp in
     let f = g.T.ReqValue.spelling in
-    let h = c.args.header.now in
-    let place : Place = first_place h in
-    let e : place_at h.k c.rank_accuracy-accuracy.result 0 c.has_flag-sorted.result ≡ place = ap₂ (λ (a : RankAccuracy) (z : Bool). place_at h.k a 0 z) c.rank_accuracy-accuracy.ensures c.has_flag-sorted.ensures in
+    let text = c.args.text.now in
+    let place = ap₂ (λ (a : RankAccuracy) (z : Bool). place_at c.args.header.now.k a 0 z) c.rank_accuracy-accuracy.ensures c.has_flag-sorted.ensures in
     rw (p.1, p.2) (λ k s rest b.
     let one = one_of s.levels b.one_level in
-    let all : BeginsLevels cmp f place c.args.text.now (one.0 ∷ []) rest = subst (λ (ls : List (Level g.row.T.Denot)). BeginsLevels cmp f place c.args.text.now ls rest) one.1 b.levels in
-    c.in_err-level.ensures.refused k one.0 all.0 (subst (λ (q : Place). BeginsLevel cmp f q c.args.text.now one.0 all.0) (sym e) all.1))
+    let all = subst (λ (ls : List (Level g.row.T.Denot)). BeginsLevels g.T.Ord.cmp f (first_place c.args.header.now) text ls rest) one.1 b.levels in
+    c.in_err-level.ensures.refused k one.0 all.0 (subst (λ (q : Place). BeginsLevel g.T.Ord.cmp f q text one.0 all.0) (sym place) all.1))
 
 pub returns-in_err-unless-2-clause-refused : goal.returns-in_err-unless-2-clause-refused
 returns-in_err-unless-2-clause-refused g c =
     let p = err_from_is_err_and c.from_residual-in_err-unless-2.result c.from_residual-in_err-unless-2.ensures.1 in
-    rw (p.1, p.2) (λ k s rest b.
-    let cmp = g.T.Ord.cmp in
-    let f = g.T.ReqValue.spelling in
-    let h = c.args.header.now in
-    let place : Place = first_place h in
-    let e : place_at h.k c.rank_accuracy-accuracy.result 0 c.has_flag-sorted.result ≡ place = ap₂ (λ (a : RankAccuracy) (z : Bool). place_at h.k a 0 z) c.rank_accuracy-accuracy.ensures c.has_flag-sorted.ensures in
-    let read : BeginsLevel cmp f place c.args.text.now c.in_ok-level.level c.deserialize.new.input = subst (λ (p : Place). BeginsLevel cmp f p c.args.text.now c.in_ok-level.level c.deserialize.new.input) e c.in_ok-level.ensures.found in
+    let level = read g (goal.at.returns-in_err-unless-2-clause-refused g c).In_ok-level in
     let xs : List (Level g.row.T.Denot) = c.in_ok-level.level ∷ [] in
-    let same = same_levels cmp f g.met.T.ReqValue.is_prefix_free place c.requires.head.legal_k c.args.text.now xs s.levels c.deserialize.new.input rest (sym b.one_level) (c.deserialize.new.input, read, refl) b.levels in
-    let n = same_numbers f xs s.levels same.0 in
+    rw (p.1, p.2) (λ k s rest b.
+    let same = same_levels g.T.Ord.cmp g.T.ReqValue.spelling g.met.T.ReqValue.is_prefix_free (first_place c.args.header.now) c.requires.head.legal_k
+    c.args.text.now xs s.levels c.deserialize.new.input rest (sym b.one_level) (c.deserialize.new.input, level, refl) b.levels in
+    let n = same_numbers g.T.ReqValue.spelling xs s.levels same.0 in
     let its = ap length (alone xs c.in_ok-level.level refl).items in
     let z : false ≡ true = c.in_err-unless-2.ensures.ok.1 (lt-ltb _ _ (omega (arith, n.items, its, b.many_items, c.num_items.ensures))) in
     absurd cc)
 
 pub from_level-requires : goal.from_level-requires
 from_level-requires g c =
-    let cmp = g.T.Ord.cmp in
-    let f = g.T.ReqValue.spelling in
-    let h = c.args.header.now in
-    let place : Place = first_place h in
-    let e : place_at h.k c.rank_accuracy-accuracy.result 0 c.has_flag-sorted.result ≡ place = ap₂ (λ (a : RankAccuracy) (z : Bool). place_at h.k a 0 z) c.rank_accuracy-accuracy.ensures c.has_flag-sorted.ensures in
-    let read : BeginsLevel cmp f place c.args.text.now c.in_ok-level.level c.deserialize.new.input = subst (λ (p : Place). BeginsLevel cmp f p c.args.text.now c.in_ok-level.level c.deserialize.new.input) e c.in_ok-level.ensures.found in
+    let level = read g (goal.at.from_level-requires g c).In_ok-level in
     let many = ltb-true _ _ (c.in_ok-unless-2.ensures.ok.0 refl) in
     record {
       legal = c.requires.head.legal_k;
       clones = c.requires.clones;
-      placed = imaged_at cmp place c.in_ok-level.level c.requires.head.legal_k (omega arith) (λ above. absurd (omega (arith, above))) read.imaged;
+      placed = imaged_at g.T.Ord.cmp (first_place c.args.header.now) c.in_ok-level.level c.requires.head.legal_k (omega arith)
+          (λ above. absurd (omega (arith, above))) level.imaged;
       some = omega (arith, c.num_items.ensures, many);
       fresh = λ few. absurd (omega (arith, few, c.num_items.ensures, many));
     }
 
 pub returns-clause-found : goal.returns-clause-found
 returns-clause-found g c =
-    let cmp = g.T.Ord.cmp in
-    let f = g.T.ReqValue.spelling in
-    let h = c.args.header.now in
-    let place : Place = first_place h in
-    let e : place_at h.k c.rank_accuracy-accuracy.result 0 c.has_flag-sorted.result ≡ place = ap₂ (λ (a : RankAccuracy) (z : Bool). place_at h.k a 0 z) c.rank_accuracy-accuracy.ensures c.has_flag-sorted.ensures in
-    let read : BeginsLevel cmp f place c.args.text.now c.in_ok-level.level c.deserialize.new.input = subst (λ (p : Place). BeginsLevel cmp f p c.args.text.now c.in_ok-level.level c.deserialize.new.input) e c.in_ok-level.ensures.found in
     let rest = c.deserialize.new.input in
-    let level : Level g.row.T.Denot = c.in_ok-level.level in
+    let place = first_place c.args.header.now in
+    let level = read g (goal.at.returns-clause-found g c).In_ok-level in
     let many = ltb-true _ _ (c.in_ok-unless-2.ensures.ok.0 refl) in
-    IfOk-weaker c.from_level.result (λ s. (s.levels ≡ level ∷ []) × IsTold cmp h s) (λ s. IsOneBody cmp f h c.args.text.now s rest) (λ s t.
-    let its = ap length (alone _ level t.0).items in
+    IfOk-weaker c.from_level.result _ _ (λ s t.
+    let its = ap length (alone _ c.in_ok-level.level t.0).items in
     record {
       none_raw = eqb-true _ _ (c.in_ok-unless.ensures.ok.0 refl);
       one_level = ap length t.0;
-      levels = subst (λ (ls : List (Level g.row.T.Denot)). BeginsLevels cmp f place c.args.text.now ls rest) (sym t.0) (rest, read, refl);
+      levels = subst (λ (ls : List (Level g.row.T.Denot)). BeginsLevels g.T.Ord.cmp g.T.ReqValue.spelling place c.args.text.now ls rest)
+          (sym t.0) (rest, level, refl);
       many_items = omega (arith, its, c.num_items.ensures, many);
       told = t.1;
     }) c.from_level.ensures.told
