@@ -26,11 +26,13 @@ abbrev pub bare_event : {A : Type 0} → Event A → Event Unit
 bare_event (At s action) = At s (bare_action action)
 bare_event (Snap s t) = Snap s t
 
+-- joins hold no item
 pub bare-joins : (A : Type 0) (more level : ℕ) → map bare_action (joins_actions {A = A} more level) ≡ joins_actions more level
 bare-joins A zero level = refl
 bare-joins A (suc more) level = ap (λ (l : List (Action Unit)). Join level ∷ l) (bare-joins A more (suc level))
 
 module _ {A : Type 0} where
+  -- actions make the same lengths without their items
   pub acts-bare : (actions : List (Action A)) (work : Work (List ℕ)) → acts_on_lengths (map bare_action actions) work ≡ acts_on_lengths actions work
   acts-bare [] work = refl
   acts-bare (Put h x ∷ rest) work = acts-bare rest _
@@ -193,6 +195,7 @@ module _ {A C Shape : Type 0} {rules : Rules A C Shape} {bare_rules : Rules Unit
   pub same-plan : (commands commands' : List (Command A C)) → map bare commands ≡ map bare commands' → plan_of rules commands ≡ plan_of rules commands'
   same-plan commands commands' e = plan_from-bare start_plan commands ∙ (ap (plan_from bare_rules start_plan) e ∙ sym (plan_from-bare start_plan commands'))
 
+  -- commands that differ in their items alone take as many coins
   pub same-coins : (commands commands' : List (Command A C)) → map bare commands ≡ map bare commands' → coins (trace_of rules commands) ≡ coins (trace_of rules commands')
   same-coins commands commands' e =
       sym (coins-bare (trace_of rules commands))

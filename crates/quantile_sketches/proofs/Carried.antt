@@ -24,6 +24,7 @@ use Rattle.quantile_sketches.specs.RuleLaws.{IsLawful}
 use Rattle.quantile_sketches.specs.Rules.{Kind}
 use Rattle.quantile_sketches.specs.Step.{Slots, in_slot, Holds, Verdict, Turns, Changes, Cloned, Empties, RoundTrips, JoinsCopy, Merges, CarriesOut, CarriesOutItem, CarriesOutClone}
 use Rattle.quantile_sketches.specs.Steps.{Held, Puts, AreSame, Refuses, IsCopied, IsUpdated, IsWeighted, IsRedrawn, IsMerged, IsMergedIn, IsDecided, IsDone, IsExecuted}
+use Rattle.quantile_sketches.proofs.SameRuns.{no-err, same-err}
 
 -- ---- slots
 
@@ -79,12 +80,6 @@ unless-memory P InvalidArgument r = absurd (no-memory r)
 unless-memory P InvalidData r = absurd (no-data r)
 unless-memory P OutOfMemory r = tt
 
-ok-no-err : {T E : Type 0} {P : Type 0} (x : T) (e : E) → Ok x ≡ Err e → P
-ok-no-err x e same = absurd (cc)
-
-same-err : {T E : Type 0} (x y : E) (r : Result T E) → r ≡ Err x → r ≡ Err y → y ≡ x
-same-err x y r is also = cc
-
 -- ---- a command
 
 module _ {A C Shape S Source : Type 0} (kind : Kind A C Shape S) (bit : Source → Bool) (next : Source → Source) where
@@ -105,7 +100,7 @@ module _ {A C Shape S Source : Type 0} (kind : Kind A C Shape S) (bit : Source �
   no command slots source slots' source' d same stays = record { decided = d; done = λ f. absurd (false≢true f); left = λ f. (same, stays) }
 
   -- a command that is no want of memory
-  pub executed : (r : Verdict) (command : Command A C) (slots : Held S) (source : Source) (slots' : Held S) (source' : Source) → r ≢ Err (Sketch OutOfMemory) →
+  executed : (r : Verdict) (command : Command A C) (slots : Held S) (source : Source) (slots' : Held S) (source' : Source) → r ≢ Err (Sketch OutOfMemory) →
       Comes r command slots source slots' source' → IsExecuted kind bit next command slots source (is_ok r) slots' source'
   executed (Ok done) command slots source slots' source' n h = h
   executed (Err BadLine) command slots source slots' source' n h = h
@@ -243,7 +238,7 @@ module _ {A C Shape S Source : Type 0} {kind : Kind A C Shape S} (lawful : IsLaw
         given _ (kind.rules.emptied (kind.shape s)) (ap (λ o. option_map kind.rules.emptied (option_map kind.shape o)) held),
         (record { old = s; held = held; made = record { made = t; fresh = h.1.1; puts = puts } }, h.2),
       );
-      refused = λ s t e held h. absurd (ok-no-err tt e (sym h.0));
+      refused = λ s t e held h. absurd (no-err tt e (sym h.0));
     })
 
     -- a round trip
@@ -263,7 +258,7 @@ module _ {A C Shape S Source : Type 0} {kind : Kind A C Shape S} (lawful : IsLaw
           trip-decided slot true s held (λ y. written.2, λ has. refl),
           (record { old = s; made = t; held = held; copied = read.1 s written.1; puts = puts }, stays),
         )
-        done s t held (inr (e, written, is, same), stays) puts = ok-no-err tt e is
+        done s t held (inr (e, written, is, same), stays) puts = absurd (no-err tt e is)
 
         unread : (s : S) (e : ErrorKind) → kind.HasImage s → (e ≡ OutOfMemory) ⊎ ((e ≡ InvalidData) × ⊥) → Unless e (IsDecided kind (RoundTrip slot) (in_slot slots) false)
         unread s e has (inl m) = unless-memory _ e m
@@ -280,7 +275,7 @@ module _ {A C Shape S Source : Type 0} {kind : Kind A C Shape S} (lawful : IsLaw
             go (inl m) = inl m
             go (inr b) = inr (b.0, b.1 s written.1)
         refused s t e held (inr (f, written, is, same), stays) =
-            (unwritten s e held (subst (λ e. ((e ≡ InvalidArgument) × (¬ kind.HasImage s)) ⊎ (e ≡ OutOfMemory)) (same-err e f _ refl is) written.3), same, stays)
+            (unwritten s e held (subst (λ e. ((e ≡ InvalidArgument) × (¬ kind.HasImage s)) ⊎ (e ≡ OutOfMemory)) (sym (same-err e f _ refl is)) written.3), same, stays)
 
     -- a merge with coins drawn anew or not, by the command that asks for it
     module _ (redraws : Bool) (into from : ℕ) (command : Command A C)
@@ -318,16 +313,16 @@ module _ {A C Shape S Source : Type 0} {kind : Kind A C Shape S} (lawful : IsLaw
 
           done : (s t : S) → in_slot slots into ≡ Some s → JoinsCopy Full bit next redraws s source (Ok tt) t source' → Puts (in_slot slots) into t (in_slot slots') →
               IsDecided kind command (in_slot slots) true × IsDone kind bit next command (in_slot slots) source (in_slot slots') source'
-          done s t held (inl (refuses, is, kept, stays)) puts = ok-no-err tt InvalidArgument is
+          done s t held (inl (refuses, is, kept, stays)) puts = absurd (no-err tt InvalidArgument is)
           done s t held (inr (fits, inl (p, copied, joined))) puts = takes-in s s p t held (also held) copied.1 joined.1.0 joined.3 puts
-          done s t held (inr (fits, inr (e, copied, is, kept, stays))) puts = ok-no-err tt e is
+          done s t held (inr (fits, inr (e, copied, is, kept, stays))) puts = absurd (no-err tt e is)
 
           refused : (s t : S) (e : ErrorKind) → in_slot slots into ≡ Some s → JoinsCopy Full bit next redraws s source (Err e) t source' → Unless e (IsDecided kind command (in_slot slots) false) × (t ≡ s) × (source' ≡ source)
           refused s t e held (inl (refuses, is, kept, stays)) =
-              (subst (λ e. Unless e (IsDecided kind command (in_slot slots) false)) (same-err e InvalidArgument _ refl is) (refuses-it s s held (also held) (refuses.1.0 refl)), kept, stays)
+              (subst (λ e. Unless e (IsDecided kind command (in_slot slots) false)) (sym (same-err e InvalidArgument _ refl is)) (refuses-it s s held (also held) (refuses.1.0 refl)), kept, stays)
           refused s t e held (inr (fits, inl (p, copied, joined))) =
               (unless-refused _ e joined.1.1 (λ none. refuses-it s s held (also held) (ap (kind.rules.merged redraws (kind.shape s)) (sym copied.1.shape_is) ∙ none)), joined.1.2.0, joined.1.2.1)
-          refused s t e held (inr (fits, inr (f, copied, is, kept, stays))) = (unless-memory _ e (sym (same-err e f _ refl is) ∙ copied.2), kept, stays)
+          refused s t e held (inr (fits, inr (f, copied, is, kept, stays))) = (unless-memory _ e (same-err e f _ refl is ∙ copied.2), kept, stays)
 
       merge-other : (p : S) → in_slot slots from ≡ Some p → Turned kind bit next command slots slots' source source' into (Full.joined redraws p Source bit next)
       merge-other p its = record {
@@ -367,13 +362,21 @@ module _ {A C Shape S Source : Type 0} {kind : Kind A C Shape S} (lawful : IsLaw
     comes taken weighted f g (Redraw slot) r h = comes-redraw slot r h
     comes taken weighted f g (MergeRedrawn into from) r h = comes-merge true into from (MergeRedrawn into from) (λ accepted e. e) (λ m. m) (into == from) refl r h
 
-    pub comes-clone : (IsClone : A → A → Type 0) → ((x y : A) → IsClone x y → kind.cmp x y ≡ Equal) → (command : Command A C) (r : Verdict) →
+    comes-clone : (IsClone : A → A → Type 0) → ((x y : A) → IsClone x y → kind.cmp x y ≡ Equal) → (command : Command A C) (r : Verdict) →
         CarriesOutClone Full bit next IsClone command slots source r slots' source' → Goes r command
     comes-clone IsClone ties =
         comes (λ x. Cloned (IsClone x) (λ y. Full.taken y Source bit next)) (λ x weight. Cloned (IsClone x) (λ y. Full.taken_weighted y weight Source bit next))
         (λ x s t r. clone-obeys (IsClone x) x (ties x) (λ y. behaviour.taken y Source bit next) (λ s. kind.rules.updated (kind.shape s)) (λ y s. IsUpdated kind bit next s y) s source r t source')
         (λ x weight s t r. clone-obeys (IsClone x) x (ties x) (λ y. behaviour.taken_weighted y weight Source bit next) (λ s. kind.rules.updated_weighted (kind.shape s) weight) (λ y s. IsWeighted kind bit next s y weight) s source r t source')
 
+    -- a command whose items are cloned is a step
+    pub clone-executed : (IsClone : A → A → Type 0) → ((x y : A) → IsClone x y → kind.cmp x y ≡ Equal) → (command : Command A C) (r : Verdict) →
+        CarriesOutClone Full bit next IsClone command slots source r slots' source' → r ≢ Err (Sketch OutOfMemory) →
+        IsExecuted kind bit next command (in_slot slots) source (is_ok r) (in_slot slots') source'
+    clone-executed IsClone ties command r h n =
+        executed kind bit next r command (in_slot slots) source (in_slot slots') source' n (comes-clone IsClone ties command r h)
+
+    -- a command whose items compare equal to the given ones
     pub comes-item : (command : Command A C) (r : Verdict) → CarriesOutItem Full bit next command slots source r slots' source' → Goes r command
     comes-item =
         comes (λ x. Full.taken x Source bit next) (λ x weight. Full.taken_weighted x weight Source bit next)

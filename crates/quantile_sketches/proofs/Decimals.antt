@@ -8,6 +8,7 @@ use lib.Signed.{lt_z}
 use Rattle.std.proofs.lemmas.List.{append_assoc, drop-set}
 use Rattle.std.specs.Fmt.{decimal, signed_decimal}
 
+-- one more digit is put before the others
 pub put_more : (text : List ℕ) (rest start : ℕ) (room : List ℕ) → 10 ≤ rest → rest < 2 ^ 64 → start < length room → text ≡ decimal rest ++ drop (start + 1) room →
     text ≡ decimal (rest / 10) ++ drop start (set room start (48 + rest % 10))
 put_more text rest start room h l s e =
@@ -15,6 +16,7 @@ put_more text rest start room h l s e =
     ∙ (append_assoc (decimal (rest / 10)) ((48 + rest % 10) ∷ []) (drop (start + 1) room)
     ∙ ap (λ (t : List ℕ). decimal (rest / 10) ++ t) (sym (drop-set room start (48 + rest % 10) s))))
 
+-- the last digit to be put, which is the first
 pub put_last : (text : List ℕ) (rest start : ℕ) (room : List ℕ) → rest < 10 → start < length room → text ≡ decimal rest ++ drop (start + 1) room →
     text ≡ drop start (set room start (48 + rest))
 put_last text rest start room h s e =

@@ -107,12 +107,15 @@ module _ (A : Type 0) where
   pub update-lengths : (k : ℕ) (lengths : List ℕ) (x : A) → updated_lengths k lengths x ≡ updated_lengths {A = Unit} k lengths tt
   update-lengths k lengths x = ap (λ (w : Work (List ℕ)). w.bag) (lengths-by (update_actions k lengths x) (update_actions {A = Unit} k lengths tt) _ (bare-update k lengths x))
 
+  -- the lengths after a weighted update
   pub weighted-lengths : (k : ℕ) (lengths : List ℕ) (x : A) (weight : ℕ) → weighted_lengths k lengths x weight ≡ weighted_lengths {A = Unit} k lengths tt weight
   weighted-lengths k lengths x weight = ap (λ (w : Work (List ℕ)). w.bag) (lengths-by (weighted_actions k lengths x weight) (weighted_actions {A = Unit} k lengths tt weight) _ (bare-weighted k lengths x weight))
 
+  -- after a merge
   pub merge-lengths : (k : ℕ) (work : Work (List ℕ)) → (acts_on_lengths {A = A} (merge_actions k work) work).bag ≡ (acts_on_lengths {A = Unit} (merge_actions k work) work).bag
   merge-lengths k work = ap (λ (w : Work (List ℕ)). w.bag) (lengths-by (merge_actions k work) (merge_actions k work) work (bare-merge k work))
 
+  -- KLL's rules hang on no item
   pub kll-bare : AreBare {A = A} kll_rules kll_rules
   kll-bare = record {
     count = refl;

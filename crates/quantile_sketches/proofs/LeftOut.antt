@@ -117,5 +117,6 @@ module _ {A C Shape S : Type 0} {kind : Kind A C Shape S} (lawful : IsLawful kin
           (left-same kind.rules front (accepted_of refused front) h c (leaves word refused front c (Contains refused (length front)) (r.exact front after c (at ∙ append_assoc front (c ∷ []) after)) there))
       add false among h = left-more kind.rules front (accepted_of refused front) h c
 
+  -- all refused commands may be left out
   pub left-out : (word : List Bool) (commands : List (Command A C)) (refused : List ℕ) → AreRefused kind word commands refused → IsLeftOut kind.rules commands (accepted_of refused commands)
   left-out word commands refused r = left-front word commands refused r (length commands) commands (ends commands) [] refl (sym (append-nil commands))

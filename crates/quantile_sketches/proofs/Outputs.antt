@@ -5,6 +5,7 @@ use Rattle.std.specs.Io.KnownBytes.{Appends, Keeps}
 use Rattle.std.proofs.lemmas.List.{append_assoc, append-nil, take-append-drop, take_rest, length-drop}
 use Rattle.quantile_sketches.specs.Output.{Writes}
 
+-- nothing is appended
 pub appends_none : (w : Option (List ℕ)) → Appends w w []
 appends_none None = tt
 appends_none (Some xs) = sym (append-nil xs)
@@ -21,6 +22,7 @@ appends_kept (Some xs) None w' a h k = absurd h
 appends_kept (Some xs) (Some ys) None a h k = absurd k
 appends_kept (Some xs) (Some ys) (Some zs) a h k = k ∙ h
 
+-- what stays is kept
 pub keeps_same : (c : Option (List ℕ)) → Keeps c c
 keeps_same None = tt
 keeps_same (Some xs) = refl

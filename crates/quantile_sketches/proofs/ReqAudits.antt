@@ -41,6 +41,7 @@ module _ {A : Type 0} {cmp : A → A → Ordering} (o : IsTotalOrder cmp) (spell
       let left = (req-left-out o spelling word refused commands r).trace in
       there ∙ ap Some (e ∙ ap (weighted_rank cmp (counted cmp y criteria)) (bag-shed cmp commands slot only (trace_of req_rules (accepted_of refused commands)) left word))
 
+  -- the weights of an audit sum to the true rank, once for each word
   pub weights-sum : sum weights ≡ length weights * true_rank cmp y criteria (stream_of req_rules commands slot)
   weights-sum =
       sum-entries weights (λ k. under (word_of bits k)) (λ k inside. weights-are k (omega (arith, inside, words)))
@@ -49,6 +50,7 @@ module _ {A : Type 0} {cmp : A → A → Ordering} (o : IsTotalOrder cmp) (spell
       ∙ (run-unbiased cmp commands slot only bits (omega arith) (counted cmp y criteria)
       ∙ ap (λ (m : ℕ). m * true_rank cmp y criteria (stream_of req_rules commands slot)) (sym words))))
 
+  -- and where the slot was only updated their errors are relative
   pub weights-relative : (rank : ℕ) → rank ≡ true_rank cmp y criteria (stream_of req_rules commands slot) →
       IsRelative (shape_at commands slot).k (compacted_in (shape_at commands slot)) bits (scatter_of weights rank) (off_tail_at cmp y criteria commands slot)
   weights-relative rank is =

@@ -53,6 +53,7 @@ module _ (A : Type 0) where
       map-append bare_action (joins_actions (length others) 0) (room_actions k accuracy joined)
       ∙ ap₂ (λ (xs ys : List (Action Unit)). xs ++ ys) (bare-joins A (length others) 0) (bare-room k accuracy joined)
 
+  -- REQ's rules hang on no item
   pub req-bare : AreBare {A = A} req_rules req_rules
   req-bare = record {
     count = refl;

@@ -24,9 +24,10 @@ use Rattle.quantile_sketches.specs.KllRules.{unless}
 use Rattle.quantile_sketches.specs.ReqKind.{req_kind, req_shape}
 use Rattle.quantile_sketches.specs.ReqRules.{ReqShape, is_same}
 use Rattle.quantile_sketches.specs.Steps.{IsRedrawn, IsMerged}
-use Rattle.quantile_sketches.proofs.KllKind.{not-less, ok-no-err}
+use Rattle.quantile_sketches.proofs.KllKind.{not-less, not-great}
 use Rattle.quantile_sketches.proofs.ReqCopies.{same-shape}
 use Rattle.quantile_sketches.proofs.ReqRuleLaws.{same_accuracy, merged_as, no_merge}
+use Rattle.quantile_sketches.proofs.SameRuns.{no-err}
 
 module _ {A : Type 0} {cmp : A → A → Ordering} (o : IsTotalOrder cmp) where
   -- an extreme is that of itself
@@ -58,6 +59,7 @@ module _ {A : Type 0} {cmp : A → A → Ordering} (o : IsTotalOrder cmp) where
           ap (after_draws next source) (sym n),
         )
 
+    -- kept coins drawn anew
     pub redrawn_by : (s t : Req A) (source source' : Source) → IsSound cmp t → t ≡ redrawn_sketch (bits_from bit next source (coins_of_redraw s)) s → source' ≡ after_draws next source (coins_of_redraw s) →
         IsRedrawn (req_kind cmp spelling) bit next s source t source'
     redrawn_by s t source source' sound is drawn =
@@ -91,22 +93,20 @@ module _ {A : Type 0} {cmp : A → A → Ordering} (o : IsTotalOrder cmp) where
         side =
             elim (cases_Bool (is_same s.accuracy other.accuracy)) [
               | inl e ↦ e
-              | inr e ↦ absurd (ok-no-err u InvalidArgument (refused.1 (inl (λ same. false≢true (sym e ∙ (ap (is_same s.accuracy) (sym same) ∙ is-same s.accuracy))))))
+              | inr e ↦ absurd (no-err u InvalidArgument (refused.1 (inl (λ same. false≢true (sym e ∙ (ap (is_same s.accuracy) (sym same) ∙ is-same s.accuracy))))))
             ]
 
         same : s.accuracy ≡ other.accuracy
         same = same_accuracy s.accuracy other.accuracy side
 
-        light : nat_lt (2 ^ 64 - 1) (s.n + other.n) ≡ false
-        light = not-less (2 ^ 64 - 1) (s.n + other.n) (λ h. ok-no-err u InvalidArgument (refused.1 (inr (inl (omega (arith, h))))))
-
         few : nat_lt 4294967295 (retained_of (layouts_of s.levels) + retained_of (layouts_of other.levels)) ≡ false
         few =
             not-less 4294967295 (retained_of (layouts_of s.levels) + retained_of (layouts_of other.levels))
-            (λ h. ok-no-err u InvalidArgument (refused.1 (inr (inr (omega (arith, h, retained_is s.levels, retained_is other.levels))))))
+            (λ h. no-err u InvalidArgument (refused.1 (inr (inr (omega (arith, h, retained_is s.levels, retained_is other.levels))))))
 
         taken : no_merge (req_shape s) (req_shape other) ≡ false
         taken =
+            let light = not-great (s.n + other.n) (λ h. no-err u InvalidArgument (refused.1 (inr (inl h)))) in
             ap₂ (λ (b c : Bool). not b || (not (other.n == 0) && c)) side (ap₂ (λ (b c : Bool). b || c) light few)
             ∙ none (not (other.n == 0))
           where

@@ -24,6 +24,7 @@ use Rattle.quantile_sketches.specs.Steps.{IsCopied, IsReadBack}
 abbrev pub shape : ℕ → RankAccuracy → ℕ → List Layout → ReqShape
 shape k accuracy n layouts = record { k = k; accuracy = accuracy; n = n; layouts = layouts }
 
+-- shapes with the same parts
 pub same-shape : (k k' : ℕ) (a a' : RankAccuracy) (n n' : ℕ) (ls ls' : List Layout) → k ≡ k' → a ≡ a' → n ≡ n' → ls ≡ ls' → shape k a n ls ≡ shape k' a' n' ls'
 same-shape k k' a a' n n' ls ls' p q r l = λ i. shape (p i) (q i) (r i) (l i)
 
@@ -65,6 +66,7 @@ module _ {A : Type 0} {cmp : A → A → Ordering} (o : IsTotalOrder cmp) where
   same-bag : (xs ys : List (Level A)) → AreSame xs ys → AlikeReq cmp (bag_of xs) (bag_of ys)
   same-bag xs ys c = record { levels = same-levels xs ys c; kept = same-coins xs ys c }
 
+  -- copied levels are the same
   pub copied-levels : (xs ys : List (Level A)) → AllZip (IsLevelCopy cmp) xs ys → AreSame xs ys
   copied-levels [] [] c = tt
   copied-levels [] (y ∷ ys) c = absurd c
@@ -89,6 +91,7 @@ module _ {A : Type 0} {cmp : A → A → Ordering} (o : IsTotalOrder cmp) where
   forgotten-layouts (x ∷ xs) = ap (λ ls. layout_of x ∷ ls) (forgotten-layouts xs)
 
   module _ (spelling : A → Option (List ℕ)) where
+    -- a copy
     pub copy_is : (s t : Req A) → IsCopy cmp s t → IsSound cmp t → IsCopied (req_kind cmp spelling) s t
     copy_is s t c sound =
         let levels = copied-levels s.levels t.levels c.levels in
@@ -100,6 +103,7 @@ module _ {A : Type 0} {cmp : A → A → Ordering} (o : IsTotalOrder cmp) where
           sound = sound;
         }
 
+    -- what is read back
     pub read_is : (s t : Req A) → IsSameSketch cmp (without_coins s) t → IsSound cmp t → IsReadBack (req_kind cmp spelling) s t
     read_is s t c sound = record {
       shape_is = same-shape _ _ _ _ _ _ _ _ c.k c.accuracy c.n (same-layouts (map forgotten s.levels) t.levels c.levels ∙ forgotten-layouts s.levels);

@@ -77,6 +77,7 @@ module _ {A : Type 0} {cmp : A → A → Ordering} (o : IsTotalOrder cmp) where
       subst (λ (v : Bag A). AlikeReq cmp v (acts cmp (actions y) word b).bag) (sym (own-bag cmp (actions x) word a (refl, own)))
       (subst (λ (v : Bag A). AlikeReq cmp (bag_after cmp (actions x) word a.bag) v) (sym (own-bag cmp (actions y) word b (refl, own))) (alike-trans o _ _ _ kept other))
 
+  -- REQ sketches are a lawful kind
   pub req_kind_lawful : (spelling : A → Option (List ℕ)) → IsLawful (req_kind cmp spelling)
   req_kind_lawful spelling = record {
     total = o;

@@ -74,6 +74,7 @@ module _ {A : Type 0} {cmp : A → A → Ordering} (o : IsTotalOrder cmp) (spell
   sheds-left before (MergeRedrawn into source) P h p = sheds-refused (plan_of req_rules before) (MergeRedrawn into source) (h.0 p)
   sheds-left before (RoundTrip slot) P h p = sheds-trip A (plan_of req_rules before) slot
 
+  -- all refused commands may be left out, for all that is known of REQ slots
   pub req-left-out : (commands : List (ReqCommand A)) → AreRefused (req_kind cmp spelling) word commands refused → IsLeftOutReq commands (accepted_of refused commands)
   req-left-out commands r = go (length commands) commands (ends commands) [] refl (sym (append-nil commands))
     where

@@ -1,5 +1,5 @@
 -- A slot of a REQ run that stays fair by its commands is fair, and so unbiased.
-use Rattle.std.proofs.Common.{◌≡◌, ℕ, Bool, true, false, ◌==◌, if◌then◌else◌, List, [], ◌∷◌, ◌++◌, Option, Some, refl, sym, ◌∙◌, subst, Ordering}
+use Rattle.std.proofs.Common.{◌≡◌, ℕ, Bool, true, false, ◌==◌, if◌then◌else◌, List, [], ◌∷◌, ◌++◌, Option, Some, refl, ◌∙◌, Ordering}
 use Rattle.sketch_base.specs.Fair.{none_drawn}
 use Rattle.sketch_base.specs.Trace.{Event, changed}
 use Rattle.sketch_base.proofs.Changes.{changed-own, changed-through}
@@ -7,14 +7,14 @@ use Rattle.sketch_req.specs.Schedule.{Layout, merge_layouts}
 use Rattle.sketch_req.proofs.ByUpdates.{none_drawn as new-drawn}
 use Rattle.sketch_req.proofs.FairSlots.{Stands, stands-end, stands-same, stands-clear, stands-forget, stands-redraw, stands-update, stands-merge, stands-merge_redrawn}
 use Rattle.quantile_sketches.specs.declared.audit.commands.Command.TheVariants.{New, Update, UpdateWeighted, Merge, Reset, RoundTrip, Redraw, MergeRedrawn}
-use Rattle.quantile_sketches.specs.Plan.{Plan, start_plan, is_refused, accepted_shapes, accepted_events, events_of, plan_after, trace_from}
+use Rattle.quantile_sketches.specs.Plan.{Plan, start_plan, events_of, plan_after, trace_from}
 use Rattle.quantile_sketches.specs.ReqFair.{is_fair_slot}
 use Rattle.quantile_sketches.specs.ReqPlan.{ReqCommand, shape_in, next_shapes}
 use Rattle.quantile_sketches.specs.ReqReady.{Fairness, new_fairness, updated_fairness, with_ready, merged_fairness, fairness_in, accepted_fairness, fairness_after, fairness_from, stays_fair}
 use Rattle.quantile_sketches.specs.ReqRules.{ReqShape, new_shape, req_rules}
 use Rattle.quantile_sketches.specs.Run.{RunIsUnbiasedWhere}
 use Rattle.quantile_sketches.proofs.ReqFair.{run-unbiased_where_fair}
-use Rattle.quantile_sketches.proofs.ReqPlan.{updated_shape, events_merged, req_merge_events, accepted_req_events, req_merge_shapes, accepted_req_shapes, next-shapes, same-events}
+use Rattle.quantile_sketches.proofs.ReqPlan.{updated_shape, events_merged, req_merge_events, accepted_req_events, req_merge_shapes, accepted_req_shapes, either-way}
 use Rattle.quantile_sketches.proofs.ReqRuleLaws.{merged_as}
 
 abbrev layouts_in : (ℕ → Option ReqShape) → ℕ → List Layout
@@ -98,16 +98,11 @@ module _ {A : Type 0} (slot : ℕ) where
 
   stands-before : (plan : Plan ReqShape) (fairs : ℕ → Fairness) (command : ReqCommand A) (rest : List (Event A)) →
       Stand (next_shapes plan.shapes command) (fairness_after plan.shapes fairs command) rest → Stand plan.shapes fairs (events_of req_rules plan command ++ rest)
-  stands-before plan fairs command rest = go (is_refused req_rules plan.shapes command) refl
-    where
-      go : (b : Bool) → is_refused req_rules plan.shapes command ≡ b →
-          Stand (if b then plan.shapes else accepted_shapes req_rules plan.shapes command) (if b then fairs else accepted_fairness plan.shapes fairs command) rest →
-          Stand plan.shapes fairs ((if b then [] else accepted_events req_rules plan command) ++ rest)
-      go true e n = n
-      go false e n =
-          subst (λ (events : List (Event A)). Stand plan.shapes fairs (events ++ rest)) (same-events plan command e)
-          (accepted-stands plan.shapes fairs command rest
-          (subst (λ (f : ℕ → Option ReqShape). Stand f (accepted_fairness plan.shapes fairs command) rest) (sym (next-shapes plan.shapes command e)) n))
+  stands-before plan fairs command rest =
+      either-way plan command
+      (λ (refused : Bool) (shapes : ℕ → Option ReqShape) (events : List (Event A)).
+      Stand shapes (if refused then fairs else accepted_fairness plan.shapes fairs command) rest → Stand plan.shapes fairs (events ++ rest))
+      (λ n. n) (λ e. accepted-stands plan.shapes fairs command rest)
 
   stands-from : (plan : Plan ReqShape) (fairs : ℕ → Fairness) (commands : List (ReqCommand A)) → (fairness_from plan.shapes fairs commands slot).is_fair ≡ true →
       Stand plan.shapes fairs (trace_from req_rules plan commands)

@@ -25,16 +25,19 @@ use Rattle.quantile_sketches.proofs.KllRuleLaws.{unless-there}
 use Rattle.quantile_sketches.proofs.Plans.{not-none, some-one}
 use Rattle.quantile_sketches.proofs.ReqMerges.{legal-by, lengths-by, redraw-leads, ranks-redraw, ranks-merge}
 
+-- a test that isn't false
 pub not-false : (b : Bool) → not b ≡ false → b ≡ true
 not-false true e = refl
 not-false false e = sym e
 
+-- accuracies that are found to be the same
 pub same_accuracy : (a b : RankAccuracy) → is_same a b ≡ true → a ≡ b
 same_accuracy HighRank HighRank e = refl
 same_accuracy HighRank LowRank e = absurd (false≢true e)
 same_accuracy LowRank HighRank e = absurd (false≢true e)
 same_accuracy LowRank LowRank e = refl
 
+-- a k that may be one
 pub legal_k : (k : ℕ) → may_be_k k ≡ true → IsLegalK k
 legal_k k e =
     let p = and_parts (nat_le 4 k && nat_le k 1024) (k % 2 == 0) e in
@@ -49,6 +52,7 @@ enough_room n retained e =
 
 -- ---- what the shape of a sketch keeps
 
+-- a new shape fits
 pub new_fits : (k : ℕ) (accuracy : RankAccuracy) → IsLegalK k → FitsReq (new_shape k accuracy) (0 ∷ [])
 new_fits k accuracy l = record {
   lengths_are = refl;
@@ -115,6 +119,7 @@ fits-by s lengths others e h = subst (FitsReq s) (sym e) h
 abbrev pub too_much : ReqShape → ReqShape → Bool
 too_much s other = is_too_much (s.n + other.n) (retained_of s.layouts + retained_of other.layouts)
 
+-- whether the rules refuse a merge
 abbrev pub no_merge : ReqShape → ReqShape → Bool
 no_merge s other = not (is_same s.accuracy other.accuracy) || (not (other.n == 0) && too_much s other)
 
@@ -237,6 +242,7 @@ module _ (A : Type 0) where
       )
 
 module _ {A : Type 0} where
+  -- REQ's rules are lawful
   pub req_lawful : AreLawful {A = A} req_rules MeetsReq FitsReq
   req_lawful = record {
     even = λ e world f. (along-even (λ s. 0) (e ∷ []) world (f, tt)).0;

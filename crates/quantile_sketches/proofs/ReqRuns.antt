@@ -68,6 +68,7 @@ module _ {A : Type 0} where
   req-legal commands = let r = run-legal req_lawful commands in record { scratch = r.scratch; sizes = r.meets }
 
 module _ {A : Type 0} {cmp : A → A → Ordering} (o : IsTotalOrder cmp) where
+  -- each run is within a quarter of its load
   pub req-load : RunIsWithinLoad req_rules 4 cmp
   req-load y criteria commands word slot =
       let bag = (play cmp (trace_of req_rules commands) word start).slots slot in
@@ -79,6 +80,7 @@ weigh-any : {A : Type 0} (h : ℕ) (levels : List (List A)) → weigh (count_by 
 weigh-any h [] = refl
 weigh-any h (level ∷ above) = ap₂ (λ (m n : ℕ). 2 ^ h * m + n) (all-counted level) (weigh-any (suc h) above)
 
+-- a slot weighs as much as its stream
 pub req-weight : {A : Type 0} {cmp : A → A → Ordering} → IsTotalOrder cmp → (commands : List (ReqCommand A)) (word : List Bool) (slot : ℕ) → weight ((play cmp (trace_of req_rules commands) word start).slots slot) ≡ length (stream_of req_rules commands slot)
 req-weight {A} {cmp} order commands word slot =
     let any : A → Bool = λ x. true in
@@ -108,9 +110,11 @@ module _ {A : Type 0} {cmp : A → A → Ordering} (o : IsTotalOrder cmp) (spell
   fits : ArePlanned (req_kind cmp spelling) commands slots → (slot : ℕ) (s : Req A) → sketch_at slots slot ≡ Some s → FitsReq (req_shape s) ((plan_of req_rules commands).lengths.slots slot)
   fits planned slot s held = (steady-from req_lawful start_plan (steady-start req_lawful) commands).fits slot (req_shape s) (there planned slot s held)
 
+  -- levels are in order
   pub run-ordered : AreSound (req_kind cmp spelling) slots → AreInOrder cmp slots
   run-ordered sound slot s held = in-order cmp s.k s.accuracy 0 s.levels (sound slot s held).placed
 
+  -- they are few
   pub run-levels : ArePlanned (req_kind cmp spelling) commands slots → HaveFewLevels slots
   run-levels planned slot s held many =
       let f = fits planned slot s held in
@@ -118,14 +122,17 @@ module _ {A : Type 0} {cmp : A → A → Ordering} (o : IsTotalOrder cmp) (spell
       let l = upper_weighs (layouts_of s.levels) f.two (omega (arith, many, n)) in
       subst (λ (m : ℕ). 2 ^ m ≤ s.n) n (omega (arith, l, f.weighs))
 
+  -- few items are kept where nothing was merged
   pub run-small : ArePlanned (req_kind cmp spelling) commands slots → AreBelow commands slots
   run-small planned slot s held alone =
       let h = subst (λ (p : Option ReqShape). retained_of (shape_in p).layouts < nominal_sum (shape_in p).k (shape_in p).layouts) (there planned slot s held) (run-below commands slot alone) in
       omega (arith, h, retained_is s.levels)
 
+  -- and tail numbers are their k
   pub run-tails-own : ArePlanned (req_kind cmp spelling) commands slots → AreOwnTails commands slots
   run-tails-own planned slot s held alone = run-own commands slot alone (req_shape s) (there planned slot s held)
 
+  -- images read back
   pub run-images : IsPrefixFree spelling → SpellingsTie cmp spelling → AreSound (req_kind cmp spelling) slots → AreReadBack cmp spelling slots
   run-images free ties sound slot s held has =
       let text : List ℕ = image_text spelling s in
@@ -137,6 +144,7 @@ module _ {A : Type 0} {cmp : A → A → Ordering} (o : IsTotalOrder cmp) (spell
       }
 
   module _ (word : List Bool) (refused : List ℕ) (are : AreRefused (req_kind cmp spelling) word commands refused) where
+    -- the tail is exact
     pub run-tail : ArePlanned (req_kind cmp spelling) commands slots → ArePlayed (req_kind cmp spelling) (accepted_of refused commands) word slots → AreExact cmp commands slots
     run-tail planned played slot s held y criteria few =
         let fewer = accepted_of refused commands in
@@ -223,12 +231,15 @@ module _ {A : Type 0} {cmp : A → A → Ordering} (o : IsTotalOrder cmp) (spell
           ap (λ (l : List A). sum_over_words (length word) (λ other. square (distance (rank_under req_rules cmp y criteria (accepted runs word) slot other) (true_rank cmp y criteria l)))) accepted-stream
           ∙ sym (as-played (λ rank. square (distance rank (true_rank cmp y criteria (stream_of req_rules commands slot)))) y criteria)
 
+    -- slots that were only updated are unbiased
     pub runs-unbiased : AreUnbiasedWhere (req_kind cmp spelling) commands word slots was_only_updated
     runs-unbiased runs slot show = by-law was_only_updated (updated-shed cmp) runs slot show (λ test own bits slot only enough. run-unbiased cmp own slot only bits enough test)
 
+    -- so are fair slots
     pub runs-fair : AreUnbiasedWhere (req_kind cmp spelling) commands word slots is_fair_slot
     runs-fair runs slot show = by-law is_fair_slot (fair-shed cmp) runs slot show (run-unbiased_where_fair cmp)
 
+    -- and those that stay fair by their commands
     pub runs-redrawn : AreUnbiasedWhere (req_kind cmp spelling) commands word slots stays_fair
     runs-redrawn runs slot show =
         by-law stays_fair (λ own slot stays. fair-shed cmp own slot (run-stays_fair own slot stays)) runs slot show (run-unbiased_where_redrawn cmp)
@@ -264,8 +275,10 @@ module _ {A : Type 0} {cmp : A → A → Ordering} (o : IsTotalOrder cmp) (spell
           (run-relative_to_counts cmp (accepted runs word) slot (show word refl) (length word) (accepted-enough was_only_updated (updated-shed cmp) runs slot show) y criteria (updates_relative_to_counts o) levels)
           great
 
+    -- errors are relative where slots were only updated
     pub runs-relative : ArePlanned (req_kind cmp spelling) commands slots → AreRelative cmp spelling commands word slots
     runs-relative planned runs slot s held show y criteria = own-relative planned runs slot s held show y criteria
 
+    -- for a k of at least 24, to counts alone
     pub runs-relative_to_counts : ArePlanned (req_kind cmp spelling) commands slots → AreRelativeToCounts cmp spelling commands word slots
     runs-relative_to_counts planned runs slot s held show great y criteria levels = own-relative_to_counts planned runs slot s held show y criteria great levels

@@ -21,13 +21,13 @@ use Rattle.sketch_req.specs.Sections.{IsLegalK}
 use Rattle.sketch_req.specs.declared.RankAccuracy.{RankAccuracy}
 use Rattle.sketch_req.proofs.Unbiased.{AreCompacts, room_compacts, unbiased_list}
 use Rattle.quantile_sketches.specs.declared.audit.commands.Command.TheVariants.{New, Update, UpdateWeighted, Merge, Reset, RoundTrip, Redraw, MergeRedrawn}
-use Rattle.quantile_sketches.specs.Plan.{Plan, start_plan, count_of, is_refused, accepted_shapes, accepted_events, events_of, plan_after, plan_from, trace_from, trace_of, plan_of}
+use Rattle.quantile_sketches.specs.Plan.{Plan, start_plan, count_of, events_of, plan_after, plan_from, trace_from, trace_of, plan_of}
 use Rattle.quantile_sketches.specs.ReqPlan.{ReqCommand, shape_in, shape_at, next_shapes}
 use Rattle.quantile_sketches.specs.ReqRules.{ReqShape, new_shape, merge_actions_by, req_rules}
 use Rattle.quantile_sketches.specs.ReqRun.{merged_in}
 use Rattle.quantile_sketches.specs.ReqUpdated.{accepted_only_updated, only_updated_after, only_updated_from, was_only_updated, compacted_in, off_tail_at, squared_errors}
 use Rattle.quantile_sketches.specs.Run.{accepted_streams, streams_after, streams_from, stream_of, IsUnbiased}
-use Rattle.quantile_sketches.proofs.ReqPlan.{events_merged, req_merge_events, accepted_req_events, req_merge_shapes, accepted_req_shapes, updated_shape, next-shapes, same-events}
+use Rattle.quantile_sketches.proofs.ReqPlan.{events_merged, req_merge_events, accepted_req_events, req_merge_shapes, accepted_req_shapes, updated_shape, either-way}
 use Rattle.quantile_sketches.proofs.ReqPlans.{run-fits}
 use Rattle.quantile_sketches.proofs.ReqRuleLaws.{req_lawful, merged_as}
 use Rattle.quantile_sketches.proofs.Streams.{AreCounted, counts-after, streams-fit}
@@ -174,18 +174,13 @@ module _ {A : Type 0} where
       ((j : ℕ) → count_of (req_rules {A = A}) (plan.shapes j) ≡ length (streams j)) → (command : ReqCommand A) →
       AreOwn (next_shapes plan.shapes command) (only_updated_after plan.shapes only command)
       (trace ++ events_of req_rules plan command) (streams_after req_rules plan streams command)
-  own-after plan only trace streams h counts command = go (is_refused req_rules plan.shapes command) refl
-    where
-      go : (b : Bool) → is_refused req_rules plan.shapes command ≡ b →
-          AreOwn (if b then plan.shapes else accepted_shapes req_rules plan.shapes command) (if b then only else accepted_only_updated plan.shapes only command)
-          (trace ++ (if b then [] else accepted_events req_rules plan command)) (if b then streams else accepted_streams streams command)
-      go true e = subst (λ (t : List (Event A)). AreOwn plan.shapes only t streams) (sym (append-nil trace)) h
-      go false e =
-          let flags = accepted_only_updated plan.shapes only command in
-          let after = accepted_streams streams command in
-          subst (λ (f : ℕ → Option ReqShape). AreOwn f flags (trace ++ accepted_events req_rules plan command) after) (next-shapes plan.shapes command e)
-          (subst (λ (events : List (Event A)). AreOwn (accepted_req_shapes plan.shapes command) flags (trace ++ events) after) (same-events plan command e)
-          (accepted-own plan.shapes only trace streams h counts command))
+  own-after plan only trace streams h counts command =
+      either-way plan command
+      (λ (refused : Bool) (shapes : ℕ → Option ReqShape) (events : List (Event A)).
+      AreOwn shapes (if refused then only else accepted_only_updated plan.shapes only command) (trace ++ events)
+      (if refused then streams else accepted_streams streams command))
+      (subst (λ (t : List (Event A)). AreOwn plan.shapes only t streams) (sym (append-nil trace)) h)
+      (λ e. accepted-own plan.shapes only trace streams h counts command)
 
   own-from : (plan : Plan ReqShape) (only : ℕ → Bool) (trace : List (Event A)) (streams : ℕ → List A) → AreOwn plan.shapes only trace streams →
       AreCounted (req_lawful {A = A}) plan streams → (commands : List (ReqCommand A)) →
@@ -283,6 +278,7 @@ module _ {A : Type 0} (cmp : A → A → Ordering) (commands : List (ReqCommand 
 
   -- ---- unbiased
 
+  -- the slot is unbiased
   pub run-unbiased : (bits : ℕ) → coins trace ≤ bits → (test : A → Bool) → IsUnbiased req_rules cmp commands bits slot test
   run-unbiased bits enough test =
       let s = share bits enough (weighted_rank cmp test) in
@@ -315,11 +311,13 @@ module _ {A : Type 0} (cmp : A → A → Ordering) (commands : List (ReqCommand 
         (subst (λ (n : ℕ). IsRelative shape.k levels (s.others + draws_of updates) n count) (sym s.sums)
         (more_words shape.k levels s.others (draws_of updates) (sum_over_words (draws_of updates) (λ word. error (fresh_bag word))) count relative))
 
+    -- its errors are relative
     pub run-relative : UpdatesAreRelative cmp → IsRelative shape.k (compacted_in shape) bits (squared_errors cmp y criteria commands bits slot) count
     run-relative relative =
         subst (λ (ls : List Layout). IsRelative shape.k (length ls - 1) bits (squared_errors cmp y criteria commands bits slot) count) (sym fresh.layouts_are)
         (relative-by (length (updates_layouts shape.k (new_layout ∷ []) stream) - 1) (relative y criteria slot shape.k (draws_of updates) shape.accuracy stream legal short drawn))
 
+    -- for a k of at least 24, to counts alone
     pub run-relative_to_counts : UpdatesAreRelativeToCounts cmp → (levels : ℕ) → 24 ≤ shape.k → Reaches shape.k count levels →
         IsRelative shape.k levels bits (squared_errors cmp y criteria commands bits slot) count
     run-relative_to_counts relative levels great reaches =

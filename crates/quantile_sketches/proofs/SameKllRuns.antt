@@ -97,6 +97,7 @@ module _ {A : Type 0} {cmp : A → A → Ordering} (order : IsTotalOrder cmp) (t
                   (one-merge order tied s p _ t u h.3 h'.3 (h.0.3 some) (h'.0.3 some), h.0.4 some ∙ sym (h'.0.4 some))
             ]
 
+        -- each call on KLL sketches makes one sketch of a sketch
         pub makes-one : MakesOne (kll cmp eq spelling) (kll_kind cmp spelling) (IsImage cmp spelling) bit next
         makes-one = record {
           made = λ k s t h h'. fresh-one ((kll_kind cmp spelling).rules.made k) s t h.1 h'.1;
@@ -112,5 +113,6 @@ module _ {A : Type 0} {cmp : A → A → Ordering} (order : IsTotalOrder cmp) (t
           read = λ bytes t u h h'. same-copy t u (one_sketch_lem order eq eq_is spelling free ties bytes t u h.0.0 h'.0.0).copied;
         }
 
+        -- so commands make one list of sketches
         pub kll-commands-make-one : CommandsMakeOne Of bit next
         kll-commands-make-one = one-run (kll cmp eq spelling) (kll_kind cmp spelling) (IsImage cmp spelling) bit next makes-one

@@ -64,6 +64,7 @@ module _ {X : Type 0} (answer : X → Answer) (gives : Result X ErrorKind → Ty
   replies-one (Err AbsentSlot) w n m h k = absurd h
 
 module _ {cmp : ℤ → ℤ → Ordering} (order : IsTotalOrder cmp) (tied : TiesAreEqual cmp) (n : ℕ) where
+  -- one item is named
   pub quantile-one : (bag : Bag ℤ) (least greatest : Option ℤ) (fraction : Rank) (criteria : SearchCriteria) → SameReplies (Replies Item (IsQuantile cmp n bag least greatest fraction criteria))
   quantile-one bag least greatest fraction criteria =
       replies-one Item (IsQuantile cmp n bag least greatest fraction criteria) (IsFraction fraction)
@@ -74,6 +75,7 @@ module _ {cmp : ℤ → ℤ → Ordering} (order : IsTotalOrder cmp) (tied : Tie
       refused (Ok x) h = (h.0, tt)
       refused (Err e) h = (h.0, λ good. (h.1 good).0)
 
+  -- one list of ranks is given
   pub ranks-one : (points : List ℤ) (weights : List ℕ) → SameReplies (Replies Ranks (AreRanks cmp n points weights))
   ranks-one points weights = replies-one Ranks (AreRanks cmp n points weights) (IsIncreasing cmp points) one refused
     where
@@ -193,6 +195,7 @@ module _ {C Shape S : Type 0} (behaviour : Behaviour S ℤ C) (kind : Kind ℤ C
     one-answered None line slots ts us coins left left' r w n m (is, same, stays) (is', same', stays') = (ap answer_text (is ∙ sym is'), same ∙ sym same', stays ∙ sym stays')
     one-answered (Some command) line slots ts us coins left left' r w n m h k = one-executed command line slots ts us coins left left' r w n m h k
 
+    -- a text has one answer
     pub one-text : (grammar : Grammar C) → LinesAnswerOne grammar Full
     one-text grammar slots coins [] out out' h k = h ∙ sym k
     one-text grammar slots coins (l ∷ ls) out out' (r, n, ts, left, rest, h, on, is) (w, m, us, left', rest', k, on', is') =

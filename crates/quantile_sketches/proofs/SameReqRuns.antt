@@ -74,6 +74,7 @@ module _ {A : Type 0} {cmp : A → A → Ordering} (order : IsTotalOrder cmp) (t
                 (one-merge order tied redraws s p _ t u h.3 h'.3 (h.0.3 some) (h'.0.3 some), h.0.4 some ∙ sym (h'.0.4 some))
           ]
 
+      -- each call on REQ sketches makes one sketch of a sketch
       pub makes-one : MakesOne (req cmp spelling) (req_kind cmp spelling) (λ bytes s. BeginsImage cmp spelling bytes (without_coins s) []) bit next
       makes-one = record {
         made = λ config s t h h'. empty-one config.0 config.1 s t h.0.2 h'.0.2;
@@ -87,5 +88,6 @@ module _ {A : Type 0} {cmp : A → A → Ordering} (order : IsTotalOrder cmp) (t
         read = λ bytes t u h h'. same-sketch t u (one_sketch order spelling free ties bytes t u h.0.0.0 h'.0.0.0 h.0.0.1 h'.0.0.1).0;
       }
 
+      -- so commands make one list of sketches
       pub req-commands-make-one : CommandsMakeOne Of bit next
       req-commands-make-one = one-run (req cmp spelling) (req_kind cmp spelling) (λ bytes s. BeginsImage cmp spelling bytes (without_coins s) []) bit next makes-one

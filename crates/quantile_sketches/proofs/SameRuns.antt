@@ -19,6 +19,7 @@ use Rattle.quantile_sketches.specs.Steps.{Refuses}
 abbrev Ample : Verdict → Type 0
 Ample v = v ≢ Err (Sketch OutOfMemory)
 
+-- the same error makes the same verdict
 pub told : (e f : ErrorKind) → e ≡ f → (let v : Verdict = Err (Sketch e) in v) ≡ Err (Sketch f)
 told e f is = ap (λ (e : ErrorKind). let v : Verdict = Err (Sketch e) in v) is
 
@@ -28,9 +29,11 @@ ample e n is = n (told e OutOfMemory is)
 not-both : {X : Type 0} {o : Option X} {x : X} → o ≡ None → o ≡ Some x → ⊥
 not-both {X} {o} {x} none some = none-some x (sym none ∙ some)
 
+-- a call that is accepted isn't refused
 pub no-err : {T E : Type 0} (x : T) (e : E) → Ok x ≡ Err e → ⊥
 no-err x e same = cc
 
+-- a result has one error
 pub same-err : {T E : Type 0} (e f : E) (r : Result T E) → r ≡ Err e → r ≡ Err f → e ≡ f
 same-err e f r one two = cc
 
@@ -223,6 +226,7 @@ module _ {A C Shape S Source : Type 0} (behaviour : Behaviour S A C) (kind : Kin
         one-change (Joins (λ p. Full.joined redraws p Source bit next) o) (one-join (λ p. Full.joined redraws p Source bit next) _ (settled-merge redraws) o) into slots ts us coins left left' v w n m h
         (subst (λ (x : Option S). Changes (Joins (λ p. Full.joined redraws p Source bit next) x) into slots coins w us left') same h')
 
+    -- a command makes one list of sketches
     pub one-command : (command : Command A C) (slots ts us : Slots S) (coins left left' : Source) (v w : Verdict) → Ample v → Ample w →
         CarriesOutItem Full bit next command slots coins v ts left → CarriesOutItem Full bit next command slots coins w us left' → (v ≡ w) × (ts ≡ us) × (left ≡ left')
     one-command (New slot config) slots ts us coins left left' v w n m h h' =
@@ -238,6 +242,7 @@ module _ {A C Shape S Source : Type 0} (behaviour : Behaviour S A C) (kind : Kin
         one-change _ (one-turn (Full.redrawn Source bit next) _ settled-redraw) slot slots ts us coins left left' v w n m h h'
     one-command (MergeRedrawn into source) slots ts us coins left left' v w n m h h' = one-merge true (into == source) into source slots ts us coins left left' v w n m h h'
 
+    -- and so do commands
     pub one-run : CommandsMakeOne Full bit next
     one-run [] slots ts us coins left left' h h' = (h.0 ∙ sym h'.0, h.1 ∙ sym h'.1)
     one-run (command ∷ rest) slots ts us coins left left' (v, n, between, mid, h, on) (w, m, between', mid', h', on') =

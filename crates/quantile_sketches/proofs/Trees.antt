@@ -13,10 +13,10 @@ use Rattle.sketch_kll.proofs.RolledCoins.{update-once, merge-once}
 use Rattle.quantile_sketches.specs.declared.audit.commands.Command.{Command}
 use Rattle.quantile_sketches.specs.declared.audit.commands.Command.TheVariants.{New, Update, UpdateWeighted, Merge, Reset, RoundTrip, Redraw, MergeRedrawn}
 use Rattle.quantile_sketches.specs.KllRules.{KllShape, kll_rules}
-use Rattle.quantile_sketches.specs.Plan.{Plan, start_plan, actions_on, events_at, count_of, shape_after, is_refused, accepted_events, events_of, plan_after, trace_from}
+use Rattle.quantile_sketches.specs.Plan.{Plan, start_plan, actions_on, events_at, count_of, shape_after, accepted_events, events_of, plan_after, trace_from}
 use Rattle.quantile_sketches.specs.Rollup.{Standing, Free, Used, Mixed, joined, used, is_tree, accepted_standings, standings_after, standings_from, TreesTakeOnce}
 use Rattle.quantile_sketches.proofs.KllRuleLaws.{kll_lawful}
-use Rattle.quantile_sketches.proofs.Plans.{changed-away, at_slot, not-none, some-there, then-there, IsSteady, steady-start, steady-after}
+use Rattle.quantile_sketches.proofs.Plans.{changed-away, at_slot, not-none, some-there, then-there, IsSteady, steady-start, steady-after, refused-or-taken}
 
 -- ---- standings
 
@@ -243,12 +243,11 @@ module _ {A : Type 0} where
 
   events-trees : (plan : Plan KllShape) → IsSteady (kll_lawful {A = A}) plan → (stands : ℕ → Standing) (once : ℕ → Bool) (shares : ℕ → List ℕ) → AreAsMany shares → AreTrees stands once shares →
       (command : Command A ℕ) → TreesBy (standings_after kll_rules plan stands command) once shares (events_of kll_rules plan command)
-  events-trees plan st stands once shares many i command = go (is_refused kll_rules plan.shapes command) refl
-    where
-      go : (b : Bool) → is_refused kll_rules plan.shapes command ≡ b →
-          TreesBy (if b then stands else accepted_standings kll_rules plan.shapes stands command) once shares (if b then [] else accepted_events kll_rules plan command)
-      go true e = i
-      go false e = let (t, f) = some-there (shape_after kll_rules plan.shapes command) e in accepted-trees plan st stands once shares many i command t f
+  events-trees plan st stands once shares many i command =
+      refused-or-taken (kll_rules {A = A}) plan command
+      (λ (refused : Bool) (shapes : ℕ → Option KllShape) (events : List (Event A)).
+      TreesBy (if refused then stands else accepted_standings kll_rules plan.shapes stands command) once shares events) i
+      (λ e. let (t, f) = some-there (shape_after kll_rules plan.shapes command) e in accepted-trees plan st stands once shares many i command t f)
 
   trees-from : (plan : Plan KllShape) → IsSteady (kll_lawful {A = A}) plan → (stands : ℕ → Standing) (once : ℕ → Bool) (shares : ℕ → List ℕ) → AreAsMany shares → AreTrees stands once shares →
       (commands : List (Command A ℕ)) → TreesBy (standings_from kll_rules plan stands commands) once shares (trace_from kll_rules plan commands)
@@ -265,6 +264,7 @@ module _ {A : Type 0} where
       (subst (R (takes_once others shares' once')) (sym (all_shares-append events others shares))
       (trees-from next (steady-after kll_lawful plan st command) stands' once' shares' (as_many-all events shares many) (events-trees plan st stands once shares many i command) rest))
 
+  -- so trees of merges take each coin in once
   pub trees-take_once : TreesTakeOnce A
   trees-take_once commands slot t =
       (trees-from start_plan (steady-start kll_lawful) (λ s. Free) (λ s. true) (λ s. []) (λ i j. refl)
