@@ -1,6 +1,6 @@
 -- The loop keeps that what it has drawn, and what is left to draw, make up the whole.
-use Rattle.std.proofs.Common.{◌≡◌, ◌<◌, List, length, length-set, set, refl, sym, ap, ◌∙◌, arith}
-use Rattle.sketch_req.specs.Level.{Level, redrawn_level}
+use Rattle.std.proofs.Common.{◌<◌, List, length, length-set, set, refl, sym, ap, ◌∙◌, arith}
+use Rattle.sketch_req.specs.Level.{Level}
 use Rattle.sketch_req.proofs.Redraws.{redrawn-all, redrawn-more}
 use Rattle.sketch_req.proofs.sketch.levels.Levels.redraw_coins.Goals as goal
 

@@ -2,7 +2,7 @@ use Rattle.std.proofs.Common.{◌≡◌, false, true, sym, ap, ◌∙◌, subst,
 use Rattle.std.proofs.lemmas.Bool.{lt-leb}
 use Rattle.std.proofs.lemmas.Result.{on_ok_weaker}
 use Rattle.sketch_req.specs.Level.{Level}
-use Rattle.sketch_req.specs.Schedule.{layouts_of, are_full, nominal_sum, retained_of, room_layouts}
+use Rattle.sketch_req.specs.Schedule.{layouts_of, are_full, room_layouts}
 use Rattle.sketch_req.specs.Walk.{AreWalked, appended_first, room_of}
 use Rattle.sketch_req.proofs.Updates.{acted-spare, acted-walk, placed-appended, retained-appended, nominal-appended}
 use Rattle.sketch_req.proofs.sketch.levels.Levels.take_item.Goals as goal

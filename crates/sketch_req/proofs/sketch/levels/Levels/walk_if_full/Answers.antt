@@ -1,7 +1,7 @@
 -- A walk where the levels are full, and none elsewhere.
 use Rattle.std.proofs.Common.{◌≡◌, false, true, arith, le-leb}
 use Rattle.std.proofs.lemmas.Bool.{lt-leb}
-use Rattle.sketch_req.specs.Schedule.{layouts_of, are_full, retained_of, nominal_sum}
+use Rattle.sketch_req.specs.Schedule.{layouts_of, are_full}
 use Rattle.sketch_req.proofs.Updates.{acted-spare, acted-walk}
 use Rattle.sketch_req.proofs.sketch.levels.Levels.walk_if_full.Goals as goal
 
