@@ -11,7 +11,7 @@ pub loop-point-preserved : goal.loop-point-preserved
 loop-point-preserved g c =
     let s = c.args.self.now in
     let rank : g.row.T.Denot → ℕ = λ y. true_rank g.T.Ord.cmp y c.args.criteria (expanded g.T.Ord.cmp (bag_of s.levels)) in
-    ranks-more rank s.n c.args.points.now c.loop-point.point-index c.rank_weight-weight.result c.point-item.result c.loop-point.ranks.items c.push.new.self.items (omega arith) c.loop-point.invariant c.point-item.is c.rank_weight-weight.ensures
+    ranks-more rank s.n _ c.loop-point.point-index _ c.point-item.result _ _ (omega arith) c.loop-point.invariant c.point-item.is c.rank_weight-weight.ensures
     (c.in_ok-push.ensures.items ∙ ap (λ (t : ℕ). c.loop-point.ranks.items ++ record { weight = c.rank_weight-weight.result; total = t } ∷ []) c.n-total.ensures.value)
 
 pub returns-clause-found : goal.returns-clause-found
@@ -21,11 +21,10 @@ returns-clause-found g c =
     let entries = expanded cmp (bag_of s.levels) in
     let rank : g.row.T.Denot → ℕ = λ y. true_rank cmp y c.args.criteria entries in
     let whole : length entries ≡ s.n = length-expanded cmp (bag_of s.levels) ∙ (sym c.n-total.ensures.weight ∙ c.n-total.ensures.value) in
-    ranks-last rank s.n c.args.points.now c.loop-point.point-index c.loop-point.ranks.items c.push-2.new.self.items (omega arith) c.loop-point.invariant (search rules)
+    ranks-last rank s.n c.args.points.now c.loop-point.point-index _ c.push-2.new.self.items (omega arith) c.loop-point.invariant (search rules)
     ∙ ap (λ (m : ℕ). ranks_of s.n (map rank c.args.points.now ++ m ∷ [])) (sym whole)
 
 pub returns-clause-rises : goal.returns-clause-rises
 returns-clause-rises g c =
-    let s = c.args.self.now in
-    let entries = expanded g.T.Ord.cmp (bag_of s.levels) in
-    ranks-rise g.met.T.Ord.total c.args.criteria entries c.args.points.now s.n c.push-2.new.self.items c.in_ok-check_points.ensures.good (returns-clause-found g c)
+    let entries = expanded g.T.Ord.cmp (bag_of c.args.self.now.levels) in
+    ranks-rise g.met.T.Ord.total c.args.criteria entries c.args.points.now _ _ c.in_ok-check_points.ensures.good (returns-clause-found g c)

@@ -3,7 +3,7 @@ use Rattle.std.proofs.lemmas.Result.{err_from_is_err_and, IfOk-weaker}
 use Rattle.std.proofs.lemmas.Bool.{ltb-true, lt-ltb, eqb-true}
 use Rattle.sketch_req.specs.Level.{Level}
 use Rattle.sketch_req.specs.LevelImage.{Place, place_at, BeginsLevel, BeginsLevels}
-use Rattle.sketch_req.specs.Image.{first_place, IsTold, IsOneBody}
+use Rattle.sketch_req.specs.Image.{first_place}
 use Rattle.sketch_req.specs.declared.RankAccuracy.{RankAccuracy}
 use Rattle.sketch_req.proofs.Sounds.{one_of, alone, imaged_at}
 use Rattle.sketch_req.proofs.OneSketch.{same_levels, same_numbers}
@@ -36,8 +36,8 @@ returns-in_err-unless-2-clause-refused g c =
     let level = read g (goal.at.returns-in_err-unless-2-clause-refused g c).In_ok-level in
     let xs : List (Level g.row.T.Denot) = c.in_ok-level.level ∷ [] in
     rw (p.1, p.2) (λ k s rest b.
-    let same = same_levels g.T.Ord.cmp g.T.ReqValue.spelling g.met.T.ReqValue.is_prefix_free (first_place c.args.header.now) c.requires.head.legal_k
-    c.args.text.now xs s.levels c.deserialize.new.input rest (sym b.one_level) (c.deserialize.new.input, level, refl) b.levels in
+    let same = same_levels _ _ g.met.T.ReqValue.is_prefix_free _ c.requires.head.legal_k _ xs _ _ _ (sym b.one_level)
+    (c.deserialize.new.input, level, refl) b.levels in
     let n = same_numbers g.T.ReqValue.spelling xs s.levels same.0 in
     let its = ap length (alone xs c.in_ok-level.level refl).items in
     let z : false ≡ true = c.in_err-unless-2.ensures.ok.1 (lt-ltb _ _ (omega (arith, n.items, its, b.many_items, c.num_items.ensures))) in
@@ -50,8 +50,7 @@ from_level-requires g c =
     record {
       legal = c.requires.head.legal_k;
       clones = c.requires.clones;
-      placed = imaged_at g.T.Ord.cmp (first_place c.args.header.now) c.in_ok-level.level c.requires.head.legal_k (omega arith)
-          (λ above. absurd (omega (arith, above))) level.imaged;
+      placed = imaged_at _ (first_place c.args.header.now) _ c.requires.head.legal_k (omega arith) (λ above. absurd (omega (arith, above))) level.imaged;
       some = omega (arith, c.num_items.ensures, many);
       fresh = λ few. absurd (omega (arith, few, c.num_items.ensures, many));
     }

@@ -2,7 +2,7 @@ use Rattle.std.proofs.Common.{◌≡◌, ◌∙◌, ◌∷◌, [], rules, ◌≤
 use Rattle.std.specs.Prelude.{IsTrue, ◌↔◌}
 use Rattle.sketch_req.specs.Level.{Level, fresh}
 use Rattle.std.proofs.lemmas.Result.{IfOk-weaker}
-use Rattle.sketch_req.specs.Image.{accuracy_in, IsTold, IsRawBody}
+use Rattle.sketch_req.specs.Image.{accuracy_in}
 use Rattle.sketch_req.specs.Walk.{IsPlaced}
 use Rattle.sketch_req.specs.declared.RankAccuracy.{RankAccuracy}
 use Rattle.sketch_req.proofs.Sounds.{fresh_placed}

@@ -32,7 +32,7 @@ sound-first cmp k accuracy legal = record {
 pub add_up-requires-clause-levels : goal.add_up-requires-clause-levels
 add_up-requires-clause-levels g c =
     let e : c.add_level.new.self.compactors.items ≡ fresh [] true 0 c.self.inside.levels.k c.self.inside.levels.rank_accuracy ∷ [] = search rules in
-    rw (c.add_level.ensures.k, c.add_level.ensures.accuracy, e) (levels-first g.T.Ord.cmp c.self.inside.levels.k c.self.inside.levels.rank_accuracy c.self.invariant.sound.legal_k)
+    rw (c.add_level.ensures.k, c.add_level.ensures.accuracy, e) (levels-first g.T.Ord.cmp _ _ c.self.invariant.sound.legal_k)
 
 pub invariant_of-self : goal.invariant_of-self
 invariant_of-self g c =
@@ -40,7 +40,8 @@ invariant_of-self g c =
     record {
       retained_is = search rules;
       capacity_is = search rules;
-      sound = rw (c.add_up.ensures.k, c.add_up.ensures.accuracy, c.add_level.ensures.k, c.add_level.ensures.accuracy, e) (sound-first g.T.Ord.cmp c.self.inside.levels.k c.self.inside.levels.rank_accuracy c.self.invariant.sound.legal_k);
+      sound = rw (c.add_up.ensures.k, c.add_up.ensures.accuracy, c.add_level.ensures.k, c.add_level.ensures.accuracy, e)
+          (sound-first g.T.Ord.cmp _ _ c.self.invariant.sound.legal_k);
     }
 
 pub returns-clause-sound : goal.returns-clause-sound

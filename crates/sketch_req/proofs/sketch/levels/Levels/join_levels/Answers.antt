@@ -1,5 +1,5 @@
 -- The loop keeps that the levels below are joined, and that there are clones and room for the others.
-use Rattle.std.proofs.Common.{◌≡◌, ℕ, ◌+◌, ◌<◌, ◌≤◌, true, [], length, length-set, ap, sym, ◌∙◌, refl, arith}
+use Rattle.std.proofs.Common.{◌<◌, true, [], length, length-set, ap, sym, ◌∙◌, refl, arith}
 use Rattle.std.proofs.Math.Seq.{map-set_same}
 use Rattle.sketch_req.specs.Buffers.{Space}
 use Rattle.sketch_req.specs.Level.{fresh}

@@ -14,7 +14,7 @@ pub loop-level-init : goal.loop-level-init
 loop-level-init g c = record {
   enough = let e = c.in_ok-add_buffers.ensures.enough in omega (arith, e, c.add_buffers.new.buffers.ok);
   few = omega arith;
-  bounded = bounded-start c.args.self.now.k (joined_layouts c.args.self.now.k (layouts_of c.args.self.now.compactors.items) (layouts_of c.args.others.now.compactors.items));
+  bounded = bounded-start _ _;
   cloned = λ h l. absurd (omega (arith, l));
   fits = λ h l. absurd (omega (arith, l));
 }
@@ -32,10 +32,13 @@ loop-level-preserved g c =
     let both : List Layout = joined_layouts c.args.self.now.k (layouts_of c.args.self.now.compactors.items) (layouts_of c.args.others.now.compactors.items) in
     let ls : List Layout = layouts_of c.args.self.now.compactors.items in
     let os : List Layout = layouts_of c.args.others.now.compactors.items in
+    let at = c.loop-level.level in
     let here : ℕ = c.count_at.result + c.count_at-in-loop-level.result + c.loop-level.carried in
     let over : ℕ = c.count_at-in-loop-level-2.result + c.count_at-in-loop-level-3.result in
-    let e : here ≡ (layout_at both c.loop-level.level).count + c.loop-level.carried = omega (arith, joined-count c.args.self.now.k ls os c.loop-level.level, c.count_at.ensures, c.count_at-in-loop-level.ensures) in
-    let f : over ≡ (layout_at both (c.loop-level.level + 1)).count = omega (arith, joined-count c.args.self.now.k ls os (c.loop-level.level + 1), c.count_at-in-loop-level-2.ensures, c.count_at-in-loop-level-3.ensures) in
+    let e : here ≡ (layout_at both at).count + c.loop-level.carried =
+    omega (arith, joined-count c.args.self.now.k ls os at, c.count_at.ensures, c.count_at-in-loop-level.ensures) in
+    let f : over ≡ (layout_at both (at + 1)).count =
+    omega (arith, joined-count c.args.self.now.k ls os (at + 1), c.count_at-in-loop-level-2.ensures, c.count_at-in-loop-level-3.ensures) in
     let own = c.clone_level.new.buffers in
     let promoted : here ≤ own.promoted_space = omega (arith, c.in_ok-reserve.ensures.here, ap (λ (b : Space g.row.T.Denot). b.promoted_space) c.clone_level.ensures.rest) in
     let merged : 0 < here → over + here ≤ own.merged_space = λ some. omega (arith, c.in_ok-reserve.ensures.above some, ap (λ (b : Space g.row.T.Denot). b.merged_space) c.clone_level.ensures.rest) in
@@ -43,11 +46,11 @@ loop-level-preserved g c =
     record {
       enough = simp length-set i.enough;
       few = omega (arith, i.few, c.requires.few, c.count_at.ensures, c.count_at-in-loop-level.ensures, count-within c.loop-level.level ls, count-within c.loop-level.level os);
-      bounded = bounded-more c.args.self.now.k c.loop-level.level c.loop-level.carried here both e i.bounded;
-      cloned = cloned-more g.T.Ord.cmp c.args.self.now.compactors.items c.args.others.now.compactors.items c.loop-level.buffers.items c.loop-level.level own inside i.cloned
+      bounded = bounded-more _ at c.loop-level.carried here both e i.bounded;
+      cloned = cloned-more g.T.Ord.cmp _ _ c.loop-level.buffers.items at own inside i.cloned
           (λ there. record { same = c.in_ok-clone_level.ensures.same there; space = omega (arith, c.in_ok-clone_level.ensures.space there, c.count_at.ensures, c.count_at-in-loop-level.ensures); promoted = omega (arith, promoted, c.count_at.ensures, c.count_at-in-loop-level.ensures) });
-      fits = space-more c.args.self.now.k c.loop-level.level (λ h. steps_layouts c.args.self.now.k h 0 both) c.loop-level.buffers.items own inside i.fits
-          (bounded-space c.args.self.now.k c.loop-level.level c.loop-level.carried here over _ _ both e f i.bounded promoted merged);
+      fits = space-more _ at (λ h. steps_layouts c.args.self.now.k h 0 both) c.loop-level.buffers.items own inside i.fits
+          (bounded-space _ at c.loop-level.carried here over _ _ both e f i.bounded promoted merged);
     }
 
 pub returns-clause-cloned : goal.returns-clause-cloned

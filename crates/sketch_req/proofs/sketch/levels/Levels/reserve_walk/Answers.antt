@@ -1,11 +1,11 @@
 -- The loop keeps what is known of the next level's turn, and that there is room for the turns so far.
-use Rattle.std.proofs.Common.{◌≡◌, ◌+◌, ◌<◌, ℕ, List, length, length-set, sym, ap, ◌∙◌, arith, ◌/◌}
-use Rattle.sketch_req.specs.Schedule.{Layout, layouts_of, layout_of, layout_at, filled, steps_layouts}
-use Rattle.sketch_req.specs.Walk.{taken_if_full, with_more}
+use Rattle.std.proofs.Common.{◌+◌, ◌<◌, List, length, length-set, arith}
+use Rattle.sketch_req.specs.Schedule.{Layout, layouts_of, steps_layouts}
+use Rattle.sketch_req.specs.Walk.{with_more}
 use Rattle.sketch_req.proofs.Plans.{planned-start, planned-more, planned-few, planned-carried, planned-space, length-more}
 use Rattle.sketch_req.proofs.Buffers.{space-more}
 use Rattle.sketch_req.proofs.Layouts.{length-layouts}
-use Rattle.sketch_req.proofs.Steps.{opened}
+use Rattle.sketch_req.proofs.Steps.{taken-there}
 use Rattle.sketch_req.proofs.sketch.levels.Levels.reserve_walk.Goals as goal
 
 pub loop-level-init : goal.loop-level-init
@@ -16,35 +16,28 @@ loop-level-init g c = record {
 }
 
 pub count_to_take_with-count-requires : goal.count_to_take_with-count-requires
-count_to_take_with-count-requires g c =
-    let p = planned-few c.args.self.now.k c.loop-level.level c.loop-level.carried _ _ c.loop-level.invariant.planned in
-    omega (arith, p, c.requires.few)
+count_to_take_with-count-requires g c = omega (arith, planned-few _ _ _ _ _ c.loop-level.invariant.planned, c.requires.few)
 
 pub reserve-requires : goal.reserve-requires
 reserve-requires g c =
-    let o = opened c.args.self.now.k c.args.self.now.rank_accuracy c.loop-level.level c.args.self.now.compactors.items c.index.result.now c.requires.levels (omega (arith, c.loop-level-test.true)) c.index.ensures in
-    let e : c.count_to_take_with-count.result ≡ taken_if_full c.args.self.now.k (filled c.loop-level.carried (layout_at (layouts_of c.args.self.now.compactors.items) c.loop-level.level)) =
-    c.count_to_take_with-count.ensures ∙ (ap (λ (k : ℕ). taken_if_full k (filled c.loop-level.carried (layout_of c.index.result.now))) o.placed.k_is ∙ ap (λ (l : Layout). taken_if_full c.args.self.now.k (filled c.loop-level.carried l)) (sym o.layout)) in
-    let m = planned-more c.args.self.now.k c.loop-level.level c.loop-level.carried c.count_to_take_with-count.result _ _ e c.loop-level.invariant.planned in
-    let n = planned-carried c.args.self.now.k (c.loop-level.level + 1) (c.count_to_take_with-count.result / 2) _ _ m in
+    let e = taken-there g.T.Ord.cmp c.args.self.now.k _ c.loop-level.level c.loop-level.carried _ _ c.index.result.now c.requires.levels
+    (omega (arith, c.loop-level-test.true)) c.index.ensures c.count_to_take_with-count.ensures in
+    let n = planned-carried _ (c.loop-level.level + 1) _ _ _ (planned-more _ _ _ _ _ _ e c.loop-level.invariant.planned) in
     record { few = omega (arith, n, c.count_at-above.ensures, c.requires.few) }
 
 pub loop-level-preserved : goal.loop-level-preserved
 loop-level-preserved g c =
     let i = c.loop-level.invariant in
-    let o = opened c.args.self.now.k c.args.self.now.rank_accuracy c.loop-level.level c.args.self.now.compactors.items c.index.result.now c.requires.levels (omega (arith, c.loop-level-test.true)) c.index.ensures in
-    let e : c.count_to_take_with-count.result ≡ taken_if_full c.args.self.now.k (filled c.loop-level.carried (layout_at (layouts_of c.args.self.now.compactors.items) c.loop-level.level)) =
-    c.count_to_take_with-count.ensures ∙ (ap (λ (k : ℕ). taken_if_full k (filled c.loop-level.carried (layout_of c.index.result.now))) o.placed.k_is ∙ ap (λ (l : Layout). taken_if_full c.args.self.now.k (filled c.loop-level.carried l)) (sym o.layout)) in
-    let up = c.in_ok-reserve.ensures.here in
-    let above = c.in_ok-reserve.ensures.above in
+    let e = taken-there g.T.Ord.cmp c.args.self.now.k _ c.loop-level.level c.loop-level.carried _ _ c.index.result.now c.requires.levels
+    (omega (arith, c.loop-level-test.true)) c.index.ensures c.count_to_take_with-count.ensures in
     let inside : c.loop-level.level < length c.loop-level.buffers.items = omega (arith, i.enough, c.loop-level-test.true) in
     let start : List Layout = with_more c.args.more (layouts_of c.args.self.now.compactors.items) in
     record {
       enough = simp length-set i.enough;
-      planned = planned-more c.args.self.now.k c.loop-level.level c.loop-level.carried c.count_to_take_with-count.result _ _ e i.planned;
-      fits = space-more c.args.self.now.k c.loop-level.level (λ h. steps_layouts c.args.self.now.k h 0 start) c.loop-level.buffers.items c.reserve.new.self inside i.fits
-          (planned-space c.args.self.now.k c.loop-level.level c.loop-level.carried c.count_to_take_with-count.result _ _ _ (layouts_of c.args.self.now.compactors.items) e i.planned up
-          (λ some. omega (arith, above some, c.count_at-above.ensures)));
+      planned = planned-more _ _ _ _ _ _ e i.planned;
+      fits = space-more _ _ (λ h. steps_layouts c.args.self.now.k h 0 start) c.loop-level.buffers.items c.reserve.new.self inside i.fits
+          (planned-space _ _ _ _ _ _ _ _ e i.planned c.in_ok-reserve.ensures.here
+          (λ some. omega (arith, c.in_ok-reserve.ensures.above some, c.count_at-above.ensures)));
     }
 
 pub returns : goal.returns

@@ -11,7 +11,7 @@ pub loop-level-init : goal.loop-level-init
 loop-level-init g c = record {
   k = refl;
   accuracy = refl;
-  acted = acted-start g.met.T.Ord.total g.B.RandomBits.bit g.B.RandomBits.next c.args.coins.now c.args.self.now.k c.args.self.now.rank_accuracy c.args.self.now.compactors.items c.requires.levels;
+  acted = acted-start g.met.T.Ord.total _ _ _ _ _ _ c.requires.levels;
   len = λ _. sym c.len-count.ensures;
   spare = omega (arith, c.requires.spare, c.len-count.ensures);
   as_many = refl;
@@ -21,7 +21,9 @@ loop-level-init g c = record {
 
 pub index_mut-requires : goal.index_mut-requires
 index_mut-requires g c =
-    omega (arith, c.loop-level.buffers.ok, c.loop-level.invariant.as_many, c.requires.fit.enough, length-layouts c.args.self.now.compactors.items, c.loop-level-test.true, c.len-count.ensures, c.args.self.now.compactors.ok)
+    let levels = c.args.self.now.compactors in
+    let many = c.loop-level.invariant.as_many in
+    omega (arith, c.loop-level.buffers.ok, many, c.requires.fit.enough, length-layouts levels.items, c.loop-level-test.true, c.len-count.ensures, levels.ok)
 
 pub step-requires-clause-levels : goal.step-requires-clause-levels
 step-requires-clause-levels g c = rw (c.loop-level.invariant.k, c.loop-level.invariant.accuracy) c.loop-level.invariant.acted.acted.placed
@@ -41,9 +43,11 @@ step-requires-clause-few_items g c = omega (arith, c.loop-level.invariant.acted.
 pub step-requires-clause-fit : goal.step-requires-clause-fit
 step-requires-clause-fit g c =
     let i = c.loop-level.invariant in
+    let levels = c.args.self.now.compactors in
     rw i.k
-    (space-there c.args.self.now.k c.loop-level.level (layouts_of c.args.self.now.compactors.items) (layouts_of c.loop-level.self.compactors.items) c.args.buffers.now.items c.loop-level.buffers.items c.index_mut.result.now
-    c.requires.fit (omega (arith, length-layouts c.args.self.now.compactors.items, c.loop-level-test.true, c.len-count.ensures, c.args.self.now.compactors.ok)) i.as_many (i.merged c.loop-level.level (omega arith)) (i.promoted c.loop-level.level (omega arith)) c.index_mut.ensures.value i.acted.acted.layouts_are)
+    (space-there _ c.loop-level.level _ _ _ c.loop-level.buffers.items _ c.requires.fit
+    (omega (arith, length-layouts levels.items, c.loop-level-test.true, c.len-count.ensures, levels.ok)) i.as_many
+    (i.merged c.loop-level.level (omega arith)) (i.promoted c.loop-level.level (omega arith)) c.index_mut.ensures.value i.acted.acted.layouts_are)
 
 pub loop-level-preserved : goal.loop-level-preserved
 loop-level-preserved g c =
@@ -52,19 +56,23 @@ loop-level-preserved g c =
     record {
       k = c.step.ensures.k ∙ i.k;
       accuracy = c.step.ensures.accuracy ∙ i.accuracy;
-      acted = walked-more g.met.T.Ord.total g.B.RandomBits.bit g.B.RandomBits.next c.args.coins.now c.loop-level.coins c.step.new.coins c.args.self.now.k c.args.self.now.rank_accuracy c.loop-level.level c.args.self.now.compactors.items c.loop-level.self.compactors.items c.step.new.self.compactors.items i.acted (rw (i.k, i.accuracy) at acted);
+      acted = walked-more g.met.T.Ord.total _ _ _ _ _ _ _ _ _ _ _ i.acted (rw (i.k, i.accuracy) at acted);
       len = λ h. c.step.ensures.same_len (omega (arith, h, i.len c.loop-level-test.true, c.loop-level.self.compactors.ok)) ∙ i.len c.loop-level-test.true;
       spare = omega (arith, i.spare, c.step.ensures.capacity);
       as_many = simp length-set i.as_many;
-      merged = λ j h. read-above (λ b. b.merged_space) 0 c.loop-level.buffers.items c.loop-level.level c.step.new.buffers j (omega (arith, h)) ∙ i.merged j (omega (arith, h));
-      promoted = λ j h. read-above (λ b. b.promoted_space) 0 c.loop-level.buffers.items c.loop-level.level c.step.new.buffers j (omega (arith, h)) ∙ i.promoted j (omega (arith, h));
+      merged = λ j h. read-above (λ b. b.merged_space) 0 _ c.loop-level.level c.step.new.buffers j (omega (arith, h)) ∙ i.merged j (omega (arith, h));
+      promoted = λ j h. read-above (λ b. b.promoted_space) 0 _ c.loop-level.level c.step.new.buffers j (omega (arith, h)) ∙ i.promoted j (omega (arith, h));
     }
 
 pub returns-clause-acted : goal.returns-clause-acted
 returns-clause-acted g c =
-    let n : c.loop-level.level ≡ length (layouts_of c.args.self.now.compactors.items) = omega (arith, length-layouts c.args.self.now.compactors.items, c.len-count.ensures, c.args.self.now.compactors.ok) in
+    let s = c.args.self.now in
+    let ls = layouts_of s.compactors.items in
+    let all : c.loop-level.level ≡ length ls = omega (arith, length-layouts s.compactors.items, c.len-count.ensures, s.compactors.ok) in
     rw c.add_up.ensures.compactors
-    (subst (λ (n : ℕ). AreWalked g.T.Ord.cmp g.B.RandomBits.bit g.B.RandomBits.next c.args.coins.now c.loop-level.coins c.args.self.now.k c.args.self.now.rank_accuracy (steps_actions c.args.self.now.k c.args.self.now.rank_accuracy n 0 (layouts_of c.args.self.now.compactors.items)) (steps_layouts c.args.self.now.k n 0 (layouts_of c.args.self.now.compactors.items)) c.args.self.now.compactors.items c.loop-level.self.compactors.items) n c.loop-level.invariant.acted)
+    (subst (λ (n : ℕ). AreWalked g.T.Ord.cmp g.B.RandomBits.bit g.B.RandomBits.next c.args.coins.now c.loop-level.coins s.k s.rank_accuracy
+    (steps_actions s.k s.rank_accuracy n 0 ls) (steps_layouts s.k n 0 ls) s.compactors.items c.loop-level.self.compactors.items)
+    all c.loop-level.invariant.acted)
 
 pub add_up-requires-clause-levels : goal.add_up-requires-clause-levels
 add_up-requires-clause-levels g c = rw (c.loop-level.invariant.k, c.loop-level.invariant.accuracy) c.loop-level.invariant.acted.acted.placed
