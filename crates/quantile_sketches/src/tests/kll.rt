@@ -136,10 +136,14 @@ fn image_of_unspelled(alloc: Global, count: u32) -> Result<Vec<u8>, Error> {
     sketch.serialize()
 }
 
+// Whether the image of a sketch of none is as wanted.
+fn is_image_of_none(alloc: Global) -> Result<bool, Error> {
+    Ok(image_of_unspelled(alloc, 0)?.as_slice() == [2, 1, 15, 1, 200, 0, 8, 0].as_slice())
+}
+
 #[test]
 fn refuses_an_item_without_a_spelling(rt: HostRuntime) -> Result<(), Fail> {
-    let image = image_of_unspelled(rt.alloc(), 0)?;
-    assert!(rt; image.as_slice() == [2, 1, 15, 1, 200, 0, 8, 0].as_slice());
+    assert!(rt; is_image_of_none(rt.alloc())?);
     assert!(rt; is_invalid(image_of_unspelled(rt.alloc(), 1)));
     assert!(rt; is_invalid(image_of_unspelled(rt.alloc(), 2)));
     Ok(())
@@ -175,11 +179,16 @@ const FLAGGED: [(&str, &str); 2] = [
     ),
 ];
 
+// Whether the sketches of two images are the same.
+fn are_same(alloc: Global, image: &str, other: &str) -> Result<bool, Error> {
+    are_equal(read(alloc, image), read(alloc, other))
+}
+
 #[test]
 fn the_flag_makes_another_sketch(rt: HostRuntime) -> Result<(), Fail> {
     for (plain, flagged) in FLAGGED {
-        assert!(rt; !are_equal(read(rt.alloc(), plain), read(rt.alloc(), flagged))?);
-        assert!(rt; are_equal(read(rt.alloc(), flagged), read(rt.alloc(), flagged))?);
+        assert!(rt; !are_same(rt.alloc(), plain, flagged)?);
+        assert!(rt; are_same(rt.alloc(), flagged, flagged)?);
     }
     Ok(())
 }
@@ -190,7 +199,8 @@ fn found(answer: Result<Option<Vec<i64>>, Error>, items: &[i64]) -> Result<bool,
 }
 
 // Whether a sketch of 1 to 9 and its view name the items of three fractions, and of none.
-fn name_three(sketch: &KllSketch<i64>, view: &SortedView<i64>) -> Result<bool, Error> {
+fn name_three(sketch: &KllSketch<i64>) -> Result<bool, Error> {
+    let view = sketch.sorted_view()?;
     let asked = [fraction(0, 7), fraction(1, 2), fraction(3, 3)];
     Ok(
         found(sketch.quantiles(&asked, CRITERIA), &[1, 6, 9])?
@@ -202,7 +212,7 @@ fn name_three(sketch: &KllSketch<i64>, view: &SortedView<i64>) -> Result<bool, E
 #[test]
 fn quantiles_of_several_fractions(rt: HostRuntime) -> Result<(), Fail> {
     let sketch = filled(rt.alloc(), 8, NINE)?;
-    assert!(rt; name_three(&sketch, &sketch.sorted_view()?)?);
+    assert!(rt; name_three(&sketch)?);
     Ok(())
 }
 
@@ -237,13 +247,20 @@ fn refuse(sketch: &KllSketch<i64>, view: &SortedView<i64>, asked: Rank) -> bool 
         && is_invalid(view.pmf(&[3, 3], CRITERIA))
 }
 
+// Whether an empty sketch and its view test their arguments first.
+fn test_first(sketch: &KllSketch<i64>) -> Result<bool, Error> {
+    let view = sketch.sorted_view()?;
+    Ok(
+        have_nothing(sketch, &view)
+            && refuse(sketch, &view, fraction(1, 0))
+            && refuse(sketch, &view, fraction(3, 2)),
+    )
+}
+
 #[test]
 fn an_empty_view_tests_arguments_first(rt: HostRuntime) -> Result<(), Fail> {
     let sketch: KllSketch<i64> = KllSketch::default(rt.alloc())?;
-    let view = sketch.sorted_view()?;
-    assert!(rt; have_nothing(&sketch, &view));
-    assert!(rt; refuse(&sketch, &view, fraction(1, 0)));
-    assert!(rt; refuse(&sketch, &view, fraction(3, 2)));
+    assert!(rt; test_first(&sketch)?);
     Ok(())
 }
 

@@ -340,24 +340,23 @@ fn serve_nth(alloc: Global, nth: usize) -> (bool, bool) {
     (is_refused, (is_refused || is_told) && is_served(served))
 }
 
-/// Prints under the library how many requests of the two lines were refused.
-fn tell_lines(rt: &(impl Print + AllocGlobal), count: usize) -> Result<(), Fail> {
-    if is_tried(rt.alloc()) {
-        let refused = Some(count);
-        println!(rt; "Serve 0 2 0 {refused:?}")?;
+/// How many requests of the two lines were refused, if all is as wanted for each.
+fn serve_each(alloc: Global) -> Option<usize> {
+    for nth in 1..100usize {
+        let (is_refused, is_well) = serve_nth(alloc, nth);
+        if !is_refused || !is_well {
+            return is_well.then_some(nth.wrapping_sub(1));
+        }
     }
-    Ok(())
+    None
 }
 
 #[test]
 fn lines(rt: HostRuntime) -> Result<(), Fail> {
-    for nth in 1..100usize {
-        let (is_refused, is_well) = serve_nth(rt.alloc(), nth);
-        assert!(rt; is_well, "at request {nth}");
-        if !is_refused {
-            return tell_lines(&rt, nth.wrapping_sub(1));
-        }
+    let refused = serve_each(rt.alloc());
+    if is_tried(rt.alloc()) || refused.is_none() {
+        println!(rt; "Serve 0 2 0 {refused:?}")?;
     }
-    assert!(rt; false, "each request was refused");
+    assert!(rt; refused.is_some());
     Ok(())
 }

@@ -63,15 +63,29 @@ fn is_shown<X: Debug>(alloc: Global, value: &X, name: &str) -> Result<bool, Allo
     Ok(text.as_str().starts_with(name))
 }
 
+/// Whether a sketch of a type is shown under this name.
+fn is_sketch_shown<S: Tried + Debug>(alloc: Global, name: &str) -> Result<bool, Error>
+    requires { S.Asks }
+{
+    let sketch: S = filled(alloc, 8, 60)?;
+    Ok(is_shown(alloc, &sketch, name)?)
+}
+
+fn is_view_shown(alloc: Global) -> Result<bool, Error> {
+    let view: SortedView<i32> = SortedView::new(vec![in alloc; (5, 1)]?, Some(5), Some(5))?;
+    Ok(is_shown(alloc, &view, "SortedView")?)
+}
+
+fn is_level_shown(alloc: Global) -> Result<bool, AllocError> {
+    let level: Compactor<i32> = Compactor::new(alloc, 0, 4, RankAccuracy::LowRank);
+    is_shown(alloc, &level, "Compactor")
+}
+
 #[test]
 fn all_are_shown(rt: HostRuntime) -> Result<(), Fail> {
-    let req: ReqSketch<i32> = filled(rt.alloc(), 8, 60)?;
-    assert!(rt; is_shown(rt.alloc(), &req, "ReqSketch")?);
-    assert!(rt; is_shown(rt.alloc(), &req.sorted_view()?, "SortedView")?);
-    let kll: KllSketch<i64> = filled(rt.alloc(), 8, 60)?;
-    assert!(rt; is_shown(rt.alloc(), &kll, "KllSketch")?);
-    let level: Compactor<i32> = Compactor::new(rt.alloc(), 0, 4, RankAccuracy::LowRank);
-    assert!(rt; is_shown(rt.alloc(), &level, "Compactor")?);
+    assert!(rt; is_sketch_shown::<ReqSketch<i32>>(rt.alloc(), "ReqSketch")?);
+    assert!(rt; is_sketch_shown::<KllSketch<i64>>(rt.alloc(), "KllSketch")?);
+    assert!(rt; is_view_shown(rt.alloc())? && is_level_shown(rt.alloc())?);
     Ok(())
 }
 
@@ -140,25 +154,25 @@ fn is_at_its_end(pairs: &mut ReqSketchIterator<'_, i32>) -> bool {
     pairs.len() == 0 && pairs.next().is_none() && pairs.next().is_none()
 }
 
-/// Whether the pairs of 1 to 24 under a k of 4 are 22, from 5 on, and 3 is the last.
-fn iterates_over(sketch: &ReqSketch<i32>) -> bool {
-    let mut pairs = sketch.iter();
-    pairs.size_hint() == (22, Some(22))
-        && pairs.next() == Some((&5, 1))
-        && pairs.by_ref().nth(20) == Some((&3, 2))
-        && is_at_its_end(&mut pairs)
-}
-
 /// Whether std may take it that nothing comes after the end.
 fn is_fused<I: FusedIterator>(_items: &I) -> bool {
     true
+}
+
+/// Whether the pairs of 1 to 24 under a k of 4 are 22, from 5 on, and 3 is the last.
+fn iterates_over(sketch: &ReqSketch<i32>) -> bool {
+    let mut pairs = sketch.iter();
+    is_fused(&pairs)
+        && pairs.size_hint() == (22, Some(22))
+        && pairs.next() == Some((&5, 1))
+        && pairs.by_ref().nth(20) == Some((&3, 2))
+        && is_at_its_end(&mut pairs)
 }
 
 #[test]
 fn iterates(rt: HostRuntime) -> Result<(), Fail> {
     let sketch: ReqSketch<i32> = filled(rt.alloc(), 4, 24)?;
     assert!(rt; iterates_over(&sketch));
-    assert!(rt; is_fused(&sketch.iter()));
     Ok(())
 }
 
@@ -213,88 +227,23 @@ fn has_texts(alloc: Global, sketch: &ReqSketch<String>, rank: Rank) -> Result<bo
     Ok(is_last && sketch.rank(&twelfth, CRITERIA) == Some(rank))
 }
 
+/// Merges a copy of a sketch of texts into it.
+fn double_texts(sketch: &mut ReqSketch<String>, coins: &mut WordBits) -> Result<(), Error> {
+    let copy = sketch.clone()?;
+    sketch.merge(&copy, coins)
+}
+
 /// Whether a sketch of texts is compacted once by updates, under a false coin, and then merged with its copy by none.
 fn takes_texts(alloc: Global) -> Result<bool, Error> {
     let mut coins = WordBits::new(&[]);
     let mut sketch = texts(alloc, &mut coins)?;
     let is_filled = has_texts(alloc, &sketch, fraction(12, 24))?;
-    let copy = sketch.clone()?;
-    sketch.merge(&copy, &mut coins)?;
+    double_texts(&mut sketch, &mut coins)?;
     Ok(is_filled && has_texts(alloc, &sketch, fraction(24, 48))? && coins.drawn() == 1)
 }
 
 #[test]
 fn takes_text_without_a_codec(rt: HostRuntime) -> Result<(), Fail> {
     assert!(rt; takes_texts(rt.alloc())?);
-    Ok(())
-}
-
-/// Takes the numbers from one on up to another one in.
-fn take_from(
-    sketch: &mut ReqSketch<i32>,
-    first: i32,
-    last: i32,
-    coins: &mut WordBits,
-) -> Result<(), Error> {
-    for number in first..=last {
-        sketch.update(number, coins)?;
-    }
-    Ok(())
-}
-
-/// A sketch of k 4 of the numbers from 28 to 50 that then took one of those below in, by either merge.
-fn merged(alloc: Global, redraws: bool, coins: &mut WordBits) -> Result<ReqSketch<i32>, Error> {
-    let first: ReqSketch<i32> = fill_with(alloc, (4, RankAccuracy::HighRank), 27, coins)?;
-    let mut sketch = ReqSketch::new(alloc, 4, RankAccuracy::HighRank)?;
-    take_from(&mut sketch, 28, 50, coins)?;
-    if redraws {
-        sketch.merge_redrawn(&first, coins)?;
-    } else {
-        sketch.merge(&first, coins)?;
-    }
-    Ok(sketch)
-}
-
-/// A sketch of k 4 of the numbers from 1 to 24 that was read from its image, and then took those up to 50 in.
-fn reread(alloc: Global, redraws: bool, coins: &mut WordBits) -> Result<ReqSketch<i32>, Error> {
-    let first: ReqSketch<i32> = fill_with(alloc, (4, RankAccuracy::HighRank), 24, coins)?;
-    let mut sketch = ReqSketch::deserialize(alloc, first.serialize()?.as_slice())?;
-    if redraws {
-        sketch.redraw_coins(coins);
-    }
-    take_from(&mut sketch, 25, 50, coins)?;
-    Ok(sketch)
-}
-
-/// The weights of 1 to 5 in such sketches, summed over so many words, and how many coins the last one took.
-fn weights(
-    alloc: Global,
-    is_read: bool,
-    redraws: bool,
-    words: usize,
-) -> Result<(u64, usize), Error> {
-    let all = [[false, false], [true, false], [false, true], [true, true]];
-    let (mut sum, mut drawn) = (0u64, 0);
-    for word in all.iter().take(words) {
-        let mut coins = WordBits::new(word.as_slice());
-        let sketch = if is_read {
-            reread(alloc, redraws, &mut coins)?
-        } else {
-            merged(alloc, redraws, &mut coins)?
-        };
-        let weight = sketch.rank(&5, CRITERIA).map_or(0, |rank| rank.weight);
-        sum = sum.wrapping_add(weight);
-        drawn = coins.drawn();
-    }
-    Ok((sum, drawn))
-}
-
-/// The true weight is 5 in each word: a coin that was never drawn leaves 8 of 10, and drawn anew 20 of 20.
-#[test]
-fn coins_drawn_anew_keep_ranks_unbiased(rt: HostRuntime) -> Result<(), Fail> {
-    assert!(rt; weights(rt.alloc(), false, false, 2)? == (8, 1));
-    assert!(rt; weights(rt.alloc(), false, true, 4)? == (20, 2));
-    assert!(rt; weights(rt.alloc(), true, false, 2)? == (8, 1));
-    assert!(rt; weights(rt.alloc(), true, true, 4)? == (20, 2));
     Ok(())
 }
