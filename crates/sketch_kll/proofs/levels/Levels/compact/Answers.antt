@@ -4,8 +4,9 @@ use Rattle.sketch_kll.specs.Steps.{keeps_last}
 use Rattle.sketch_kll.specs.Stored.{Stored}
 use Rattle.sketch_kll.proofs.Flats.{length-bounds, length-items}
 use Rattle.sketch_kll.proofs.RaisedLevels.{raised_is}
-use Rattle.sketch_kll.proofs.StoredLevels.{known_total, compacted_stored}
+use Rattle.sketch_kll.proofs.StoredLevels.{CompactedStored, known_total, compacted_stored}
 use Rattle.sketch_kll.proofs.levels.Levels.compact.Goals as goal
+use Rattle.sketch_kll.proofs.levels.Levels.compact.Goals.{After-compact_in_place}
 
 pub raise-requires-clause-spare : goal.raise-requires-clause-spare
 raise-requires-clause-spare g c =
@@ -21,37 +22,34 @@ compact_in_place-requires g c =
 pub total_at-self-inside-requires-clause-total : goal.total_at-self-inside-requires-clause-total
 total_at-self-inside-requires-clause-total g c = known_total c.self.invariant c.len-known.result (search rules)
 
+-- what the compaction leaves in the vectors
+left : (g : _) (c : After-compact_in_place g) →
+    CompactedStored g.T.Ord.cmp c.keeps_last_item-keeps_last.result c.random_bit-coin.result c.self.inside.k c.args.level c.args.self.now.levels
+    c.compact_in_place.new.items.items c.compact_in_place.new.bounds.items
+left g c =
+    let made = c.compact_in_place.ensures in
+    compacted_stored c.keeps_last_item-keeps_last.result c.random_bit-coin.result c.self.invariant
+    (ap (λ (y : Stored g.row.T.Denot). y.levels) c.self.view_is) c.requires.within c.requires.few c.raise.ensures.items made.flat made.alike made.sorted
+
 pub total_at-self-inside-requires-clause-few_levels : goal.total_at-self-inside-requires-clause-few_levels
 total_at-self-inside-requires-clause-few_levels g c =
-    let made = c.compact_in_place.ensures in
-    let left = compacted_stored c.keeps_last_item-keeps_last.result c.random_bit-coin.result c.self.invariant
-    (ap (λ (y : Stored g.row.T.Denot). y.levels) c.self.view_is) c.requires.within c.requires.few c.raise.ensures.items made.flat made.alike made.sorted in
-    omega (arith, left.few)
+    omega (arith, (left g (goal.at.total_at-self-inside-requires-clause-few_levels g c).After-compact_in_place).few)
 
 pub invariant_of-self : goal.invariant_of-self
 invariant_of-self g c =
-    let made = c.compact_in_place.ensures in
-    let left = compacted_stored c.keeps_last_item-keeps_last.result c.random_bit-coin.result c.self.invariant
-    (ap (λ (y : Stored g.row.T.Denot). y.levels) c.self.view_is) c.requires.within c.requires.few c.raise.ensures.items made.flat made.alike made.sorted in
-    left.stored _ c.len-num_levels.result (search rules) c.total_at-self-inside.ensures
+    (left g (goal.at.invariant_of-self g c).After-compact_in_place).stored _ c.len-num_levels.result (search rules) c.total_at-self-inside.ensures
 
-pub returns-clause-levels : goal.returns-clause-levels
-returns-clause-levels g c =
-    let made = c.compact_in_place.ensures in
-    let left = compacted_stored c.keeps_last_item-keeps_last.result c.random_bit-coin.result c.self.invariant
-    (ap (λ (y : Stored g.row.T.Denot). y.levels) c.self.view_is) c.requires.within c.requires.few c.raise.ensures.items made.flat made.alike made.sorted in
+pub returns : goal.returns
+returns g c =
+    let left = left g (goal.at.returns g c).After-compact_in_place in
     let keeps = c.keeps_last_item-keeps_last.ensures ∙ ap (λ (y : Stored g.row.T.Denot). keeps_last y.is_sorted c.args.level) c.self.view_is in
-    rw (← c.random_bit-coin.ensures.value, ← keeps) left.same
-
-pub returns-clause-sorted : goal.returns-clause-sorted
-returns-clause-sorted g c =
-    let made = c.compact_in_place.ensures in
-    let left = compacted_stored c.keeps_last_item-keeps_last.result c.random_bit-coin.result c.self.invariant
-    (ap (λ (y : Stored g.row.T.Denot). y.levels) c.self.view_is) c.requires.within c.requires.few c.raise.ensures.items made.flat made.alike made.sorted in
-    left.sorted
-
-pub returns-clause-shorter : goal.returns-clause-shorter
-returns-clause-shorter g c =
-    let held = length-items c.self.inside.items.items c.self.inside.bounds.items c.self.invariant.flat in
-    let left = length-items c.compact_in_place.new.items.items c.compact_in_place.new.bounds.items c.compact_in_place.ensures.flat in
-    omega (arith, held, left, ap (λ (y : Stored g.row.T.Denot). retained y.levels) c.self.view_is, c.compact_in_place.ensures.shorter, c.self.inside.items.ok, c.compact_in_place.new.items.ok)
+    let before = length-items c.self.inside.items.items c.self.inside.bounds.items c.self.invariant.flat in
+    let after = length-items c.compact_in_place.new.items.items c.compact_in_place.new.bounds.items c.compact_in_place.ensures.flat in
+    let held = ap (λ (y : Stored g.row.T.Denot). retained y.levels) c.self.view_is in
+    record {
+      kept = search rules;
+      levels = rw (← c.random_bit-coin.ensures.value, ← keeps) left.same;
+      sorted = left.sorted;
+      shorter = omega (arith, before, after, held, c.compact_in_place.ensures.shorter, c.self.inside.items.ok, c.compact_in_place.new.items.ok);
+      coins = search rules;
+    }
