@@ -55,16 +55,19 @@ module _ {A : Type 0} {cmp : A → A → Ordering} (order : IsTotalOrder cmp) (t
       ∙ (ap₂ (λ (x : List (List A)) (y : Option A). sketch u.k u.min_k u.n u.is_sorted x y t.greatest) levels least
       ∙ ap (λ (x : Option A). sketch u.k u.min_k u.n u.is_sorted u.levels u.least x) greatest))
 
+  -- an update makes one sketch
   pub one-update : (s : Kll A) (x : A) (word : List Bool) (t u : Kll A) → IsSound cmp t → IsSound cmp u → IsUpdated cmp s x word t → IsUpdated cmp s x word u → t ≡ u
   one-update s x word t u a b p q =
       one-sketch _ (option_to_list s.least ++ x ∷ []) (option_to_list s.greatest ++ x ∷ []) t u a b
       (p.k ∙ sym q.k) (p.min_k ∙ sym q.min_k) (p.n ∙ sym q.n) (p.is_sorted ∙ sym q.is_sorted) p.bag q.bag p.least q.least p.greatest q.greatest
 
+  -- an update with a weight makes one
   pub one-weighted : (s : Kll A) (x : A) (weight : ℕ) (word : List Bool) (t u : Kll A) → IsSound cmp t → IsSound cmp u → IsWeighted cmp s x weight word t → IsWeighted cmp s x weight word u → t ≡ u
   one-weighted s x weight word t u a b p q =
       one-sketch _ (option_to_list s.least ++ x ∷ []) (option_to_list s.greatest ++ x ∷ []) t u a b
       (p.k ∙ sym q.k) (p.min_k ∙ sym q.min_k) (p.n ∙ sym q.n) (p.is_sorted ∙ sym q.is_sorted) p.bag q.bag p.least q.least p.greatest q.greatest
 
+  -- a merge makes one
   pub one-merge : (s other : Kll A) (word : List Bool) (t u : Kll A) → IsSound cmp t → IsSound cmp u → IsMerged cmp s other word t → IsMerged cmp s other word u → t ≡ u
   one-merge s other word t u a b p q =
       one-sketch _ (option_to_list s.least ++ option_to_list other.least) (option_to_list s.greatest ++ option_to_list other.greatest) t u a b
