@@ -19,18 +19,19 @@ pub overflow_sub-bounds : goal.overflow_sub-bounds
 overflow_sub-bounds g c =
     omega (arith, bound_falls_to c.args.items.now c.args.bounds.now c.requires.flat c.loop-level.level (c.loop-level.level + 1) (omega arith))
 
-pub returns-then-bounds-level-clause-full : goal.returns-then-bounds-level-clause-full
-returns-then-bounds-level-clause-full g c =
-    ((full_by_lengths c.args.items.now c.args.bounds.now c.requires.flat c.args.k c.args.total c.requires.total).1 c.if-items-total.false).0
-
-pub returns-then-bounds-level-clause-level : goal.returns-then-bounds-level-clause-level
-returns-then-bounds-level-clause-level g c =
+pub returns-then-bounds-level : goal.returns-then-bounds-level
+returns-then-bounds-level g c =
+    let ls = levels_in c.args.items.now c.args.bounds.now in
     let n = length-bounds c.args.items.now c.args.bounds.now c.requires.flat in
     let f = bound_falls_to c.args.items.now c.args.bounds.now c.requires.flat c.loop-level.level (c.loop-level.level + 1) (omega arith) in
-    let d : length c.args.bounds.now - 1 - 1 - c.loop-level.level ≡ length (levels_in c.args.items.now c.args.bounds.now) - 1 - c.loop-level.level = omega (arith, n) in
-    let cap : capacity_at c.args.k 8 (length (levels_in c.args.items.now c.args.bounds.now) - 1 - c.loop-level.level) ≤ length (first_level (drop c.loop-level.level (levels_in c.args.items.now c.args.bounds.now))) =
+    let d : length c.args.bounds.now - 1 - 1 - c.loop-level.level ≡ length ls - 1 - c.loop-level.level = omega (arith, n) in
+    let cap : capacity_at c.args.k 8 (length ls - 1 - c.loop-level.level) ≤ length (first_level (drop c.loop-level.level ls)) =
     omega (arith, f, c.if-bounds-level.true, c.level_capacity-capacity.ensures.value, ap (capacity_at c.args.k 8) d) in
-    sym (seeks_found c.args.k (levels_in c.args.items.now c.args.bounds.now) c.loop-level.level (omega (arith, n)) c.loop-level.invariant cap)
+    record {
+      full = ((full_by_lengths c.args.items.now c.args.bounds.now c.requires.flat c.args.k c.args.total c.requires.total).1 c.if-items-total.false).0;
+      level = sym (seeks_found c.args.k ls c.loop-level.level (omega (arith, n)) c.loop-level.invariant cap);
+      within = omega arith;
+    }
 
 pub loop-level-preserved : goal.loop-level-preserved
 loop-level-preserved g c =

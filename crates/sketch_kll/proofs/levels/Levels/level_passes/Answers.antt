@@ -1,4 +1,4 @@
-use Rattle.std.proofs.Common.{◌≡◌, ◌-◌, ℕ, length, drop, sym, subst, true, ap, ◌∙◌, arith, nat_lt, get_or, ◌+◌}
+use Rattle.std.proofs.Common.{◌≡◌, ◌<◌, ◌-◌, ℕ, length, drop, sym, subst, true, ap, ◌∙◌, arith, nat_lt, get_or, ◌+◌}
 use Rattle.sketch_kll.specs.Capacity.{capacity_at}
 use Rattle.sketch_kll.specs.Levels.{first_level}
 use Rattle.sketch_kll.specs.Flat.{levels_in}
@@ -7,26 +7,27 @@ use Rattle.sketch_kll.specs.Stored.{Stored}
 use Rattle.sketch_kll.proofs.Flats.{bound_falls_to, length-bounds}
 use Rattle.sketch_kll.proofs.Walks.{passes_is}
 use Rattle.sketch_kll.proofs.levels.Levels.level_passes.Goals as goal
+use Rattle.sketch_kll.proofs.levels.Levels.level_passes.Goals.{After-as_slice-bounds}
 
-pub level_capacity-capacity-requires-clause-levels : goal.level_capacity-capacity-requires-clause-levels
-level_capacity-capacity-requires-clause-levels g c =
-    let n = length-bounds c.self.inside.items.items c.self.inside.bounds.items c.self.invariant.flat in
-    omega (arith, n, c.self.invariant.few, ap length c.as_slice-bounds.ensures.value)
-
-pub level_capacity-capacity-requires-clause-within : goal.level_capacity-capacity-requires-clause-within
-level_capacity-capacity-requires-clause-within g c =
+within : (g : _) (c : After-as_slice-bounds g) → c.args.level + 1 < length c.as_slice-bounds.result.now
+within g c =
     let n = length-bounds c.self.inside.items.items c.self.inside.bounds.items c.self.invariant.flat in
     omega (arith, n, ap (λ (y : Stored g.row.T.Denot). length y.levels) c.self.view_is, c.requires.within, ap length c.as_slice-bounds.ensures.value)
+
+pub level_capacity-capacity-requires : goal.level_capacity-capacity-requires
+level_capacity-capacity-requires g c =
+    let n = length-bounds c.self.inside.items.items c.self.inside.bounds.items c.self.invariant.flat in
+    record {
+      levels = omega (arith, n, c.self.invariant.few, ap length c.as_slice-bounds.ensures.value);
+      within = omega (arith, within g c);
+      minimum = c.self.invariant.k_above;
+    }
 
 pub bounds-bounds-level : goal.bounds-bounds-level
-bounds-bounds-level g c =
-    let n = length-bounds c.self.inside.items.items c.self.inside.bounds.items c.self.invariant.flat in
-    omega (arith, n, ap (λ (y : Stored g.row.T.Denot). length y.levels) c.self.view_is, c.requires.within, ap length c.as_slice-bounds.ensures.value)
+bounds-bounds-level g c = omega (arith, within g (goal.at.bounds-bounds-level g c).After-as_slice-bounds)
 
 pub bounds-bounds-level-2 : goal.bounds-bounds-level-2
-bounds-bounds-level-2 g c =
-    let n = length-bounds c.self.inside.items.items c.self.inside.bounds.items c.self.invariant.flat in
-    omega (arith, n, ap (λ (y : Stored g.row.T.Denot). length y.levels) c.self.view_is, c.requires.within, ap length c.as_slice-bounds.ensures.value)
+bounds-bounds-level-2 g c = omega (arith, within g (goal.at.bounds-bounds-level-2 g c).After-as_slice-bounds)
 
 pub overflow_sub-result : goal.overflow_sub-result
 overflow_sub-result g c =
