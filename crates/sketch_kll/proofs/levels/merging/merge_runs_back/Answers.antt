@@ -1,9 +1,9 @@
-use Rattle.std.proofs.Common.{◌≡◌, ℕ, List, ◌+◌, ◌-◌, ◌≤◌, ◌++◌, suc, length, get_or, drop, reverse, sym, ap, ap₂, subst, ◌∙◌, arith, length-append, length-drop, length-take-le}
+use Rattle.std.proofs.Common.{◌≡◌, ℕ, List, ◌+◌, ◌-◌, ◌++◌, suc, length, get_or, drop, reverse, sym, ap, ap₂, subst, ◌∙◌, arith, length-append, length-drop, length-take-le}
 use Rattle.std.proofs.lemmas.List.{length-reverse}
 use Rattle.sketch_base.proofs.Pourings.{reverse_back}
 use Rattle.sketch_kll.specs.Flat.{levels_in}
 use Rattle.sketch_kll.proofs.Flats.{bound_at, bound_within, length-bounds}
-use Rattle.sketch_kll.proofs.Joins.{AreJoining, HasJoined, IsRunAt, run_at, next_runs, joining_start, joining_more, joining_end, moved_run}
+use Rattle.sketch_kll.proofs.Joins.{AreJoining, IsRunAt, run_at, next_runs, joining_start, joining_more, joining_end, moved_run}
 use Rattle.sketch_kll.proofs.levels.merging.merge_runs_back.Goals as goal
 
 pub move_back-requires-clause-within : goal.move_back-requires-clause-within
@@ -21,8 +21,8 @@ loop-level-init g c =
       within = omega arith;
       count = omega (arith, ap length e.from, length-take-le b c.args.items.now.items r.within, ap length e.to, length-append c.args.merged.now.items (reverse first), length-reverse first, length-drop b c.args.items.now.items, ap length c.requires.empty, r.within);
       capacity = e.to_capacity;
-      joining = joining_start g.T.Ord.cmp g.met.T.Ord.total ls _ c.move_back.new.from.items c.args.upper.now.items c.move_back.new.to.items (omega (arith, n, c.requires.fewer, c.requires.some))
-          (e.from ∙ r.rest) (sym c.requires.runs.items_are) (ap reverse e.to ∙ (reverse_back c.args.merged.now.items first ∙ ap₂ (λ (x y : List g.row.T.Denot). x ++ y) r.run (ap reverse c.requires.empty)));
+      joining = joining_start g.met.T.Ord.total (omega (arith, n, c.requires.fewer, c.requires.some)) (e.from ∙ r.rest) (sym c.requires.runs.items_are)
+          (ap reverse e.to ∙ (reverse_back c.args.merged.now.items first ∙ ap₂ (λ (x y : List g.row.T.Denot). x ++ y) r.run (ap reverse c.requires.empty)));
     }
 
 pub pour_greater-requires : goal.pour_greater-requires
@@ -40,7 +40,6 @@ pour_greater-requires g c =
 pub loop-level-preserved : goal.loop-level-preserved
 loop-level-preserved g c =
     let i = c.loop-level.invariant in
-    let h : ℕ = c.loop-level.level - 1 in
     let ls : List (List g.row.T.Denot) = levels_in c.args.items.now.items c.args.bounds.now in
     let us : List (List g.row.T.Denot) = levels_in c.args.upper.now.items (drop 1 c.args.runs.now) in
     let n = length-bounds c.args.items.now.items c.args.bounds.now c.requires.flat in
@@ -48,17 +47,14 @@ loop-level-preserved g c =
     let d = length-drop 1 c.args.runs.now in
     let e = c.pour_greater.ensures in
     let f = c.move_back-in-loop-level.ensures in
+    let moved = c.move_back-in-loop-level.new in
     let kl : ℕ = get_or c.args.bounds.now (c.loop-level.level + 1) 0 in
     let kr : ℕ = get_or c.args.runs.now (c.loop-level.level + 1) 0 in
     let left : List g.row.T.Denot = c.pour_greater.new.left.items in
     let to : List g.row.T.Denot = c.pour_greater.new.to.items in
     let rest : List g.row.T.Denot = drop kl left in
     let r = next_runs c.loop-level.level c.args.runs.now c.requires.flat c.requires.runs c.requires.sorted c.requires.runs_sorted i.within i.joining in
-    let next = joining_more g.T.Ord.cmp g.met.T.Ord.total h ls us c.loop-level.items.items c.loop-level.upper.items c.loop-level.merged.items c.move_back-in-loop-level.new.from.items c.pour_greater.new.right.items c.move_back-in-loop-level.new.to.items
-    (drop kl c.loop-level.items.items) (drop kr c.loop-level.upper.items) (rest ++ reverse (drop (length c.loop-level.merged.items) to))
-    (omega (arith, n, c.requires.fewer, i.within)) (omega (arith, m, d, i.within)) (f.from ∙ (e.left ∙ r.left_at.rest)) (e.right ∙ r.right_at.rest)
-    (moved_run c.loop-level.merged.items to c.move_back-in-loop-level.new.to.items rest e.to f.to) r.left_at.run r.right_at.run e.moved e.sorted i.joining in
-    let one : suc h ≡ c.loop-level.level + 1 - 1 = omega (arith, i.within) in
+    let one : suc (c.loop-level.level - 1) ≡ c.loop-level.level + 1 - 1 = omega (arith, i.within) in
     record {
       within = omega arith;
       count = omega (
@@ -82,20 +78,18 @@ loop-level-preserved g c =
         c.pour_greater.new.to.ok,
       );
       capacity = f.to_capacity ∙ (e.to_capacity ∙ i.capacity);
-      joining = subst (λ (j : ℕ). AreJoining g.T.Ord.cmp j ls us c.move_back-in-loop-level.new.from.items c.pour_greater.new.right.items c.move_back-in-loop-level.new.to.items) one next;
+      joining = subst (λ (j : ℕ). AreJoining g.T.Ord.cmp j ls us moved.from.items c.pour_greater.new.right.items moved.to.items) one (joining_more g.met.T.Ord.total
+          (omega (arith, n, c.requires.fewer, i.within)) (omega (arith, m, d, i.within)) (f.from ∙ (e.left ∙ r.left_at.rest)) (e.right ∙ r.right_at.rest)
+          (moved_run c.loop-level.merged.items to moved.to.items rest e.to f.to) r.left_at.run r.right_at.run e.moved e.sorted i.joining);
     }
 
 pub returns : goal.returns
 returns g c =
     let i = c.loop-level.invariant in
-    let ls : List (List g.row.T.Denot) = levels_in c.args.items.now.items c.args.bounds.now in
-    let us : List (List g.row.T.Denot) = levels_in c.args.upper.now.items (drop 1 c.args.runs.now) in
     let n = length-bounds c.args.items.now.items c.args.bounds.now c.requires.flat in
     let m = length-bounds c.args.upper.now.items (drop 1 c.args.runs.now) c.requires.runs in
     let d = length-drop 1 c.args.runs.now in
-    let over : length us ≤ c.loop-level.level - 1 = omega (arith, m, d, c.requires.some) in
-    let r : HasJoined g.T.Ord.cmp ls us (reverse c.move_back-2.new.to.items) _ =
-    joining_end g.T.Ord.cmp (c.loop-level.level - 1) ls us c.loop-level.items.items c.loop-level.upper.items c.loop-level.merged.items c.move_back-2.new.to.items c.args.bounds.now c.args.runs.now
-    over (omega (arith, n, c.requires.fewer, c.requires.some)) (omega (arith, n, m, d, c.requires.fewer, c.requires.some)) c.requires.sorted c.requires.flat.bounds_are (sym c.requires.runs.bounds_are)
+    let r = joining_end c.move_back-2.new.to.items c.args.runs.now (omega (arith, m, d, c.requires.some)) (omega (arith, n, c.requires.fewer, c.requires.some))
+    (omega (arith, n, m, d, c.requires.fewer, c.requires.some)) c.requires.sorted c.requires.flat.bounds_are (sym c.requires.runs.bounds_are)
     (ap reverse c.move_back-2.ensures.to ∙ reverse_back c.loop-level.merged.items c.loop-level.items.items) i.joining in
     record { flat = r.fits; levels = r.same; sorted = r.sorted }
