@@ -5,7 +5,7 @@ use Rattle.sketch_kll.specs.Flat.{levels_in, IsFlat}
 use Rattle.sketch_kll.specs.Join.{joined, joined_bounds}
 use Rattle.sketch_kll.specs.Levels.{compacted, SameLevels, UpperSorted}
 use Rattle.sketch_kll.specs.Sketch.{IsSound, sketch_of}
-use Rattle.sketch_kll.specs.Stored.{AreStored}
+use Rattle.sketch_kll.specs.Stored.{Stored, AreStored}
 use Rattle.sketch_kll.proofs.Flats.{is_flat, levels_of_flat, length-bounds}
 use Rattle.sketch_kll.proofs.Joins.{prepared}
 use Rattle.sketch_kll.proofs.Merged.{JoinedSize, joined_size}
@@ -73,6 +73,13 @@ compacted_stored {A} {cmp} {k} {total} {level} {items} {items'} {bounds} {wide} 
       stored = λ total' len len_is total_is.
           record { k_above = stored.k_above; flat = flat; total_is = total_is ∙ ap (total_of k 8) (omega (arith, bounds_len, len_is)); some = few.0; few = few.1; sorted = sorted };
     }
+
+-- a sketch is sound with the levels that are stored as with those that they are seen as
+pub sound_inside : {A : Type 0} {cmp : A → A → Ordering} {inside seen : Stored A} {min_k n : ℕ} {least greatest : Option A} → inside ≡ seen →
+    IsSound cmp (sketch_of seen.k min_k n seen.is_sorted seen.levels least greatest) →
+    IsSound cmp (sketch_of inside.k min_k n inside.is_sorted inside.levels least greatest)
+sound_inside {A} {cmp} {min_k = min_k} {n = n} {least = least} {greatest = greatest} view_is sound =
+    subst (λ (y : Stored A). IsSound cmp (sketch_of y.k min_k n y.is_sorted y.levels least greatest)) (sym view_is) sound
 
 -- levels that others were merged into from level 1 up
 pub record JoinedStored {A : Type 0} (cmp : A → A → Ordering) (k : ℕ) (ls us : List (List A)) (items : List A) (bounds : List ℕ) (total : ℕ) : Type 0 where
