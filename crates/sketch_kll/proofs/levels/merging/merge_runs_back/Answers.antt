@@ -78,8 +78,8 @@ loop-level-preserved g c =
         c.pour_greater.new.to.ok,
       );
       capacity = f.to_capacity ∙ (e.to_capacity ∙ i.capacity);
-      joining = subst (λ (j : ℕ). AreJoining g.T.Ord.cmp j ls us moved.from.items c.pour_greater.new.right.items moved.to.items) one (joining_more g.met.T.Ord.total
-          (omega (arith, n, c.requires.fewer, i.within)) (omega (arith, m, d, i.within)) (f.from ∙ (e.left ∙ r.left_at.rest)) (e.right ∙ r.right_at.rest)
+      joining = subst (λ (j : ℕ). AreJoining g.T.Ord.cmp j ls us moved.from.items c.pour_greater.new.right.items moved.to.items) one
+          (joining_more g.met.T.Ord.total (omega (arith, n, c.requires.fewer, i.within)) (omega (arith, m, d, i.within)) (f.from ∙ (e.left ∙ r.left_at.rest)) (e.right ∙ r.right_at.rest)
           (moved_run c.loop-level.merged.items to moved.to.items rest e.to f.to) r.left_at.run r.right_at.run e.moved e.sorted i.joining);
     }
 
