@@ -25,7 +25,6 @@ impl<T: Clone + Ord> Levels<T> {
     /// These levels, with their sums.
     pub(crate) fn new(k: u16, rank_accuracy: RankAccuracy, compactors: Vec<Compactor<T>>) -> Self
         requires levels { AreLevels T.cmp k rank_accuracy 0 compactors.items }
-        requires few { retained_of (layouts_of compactors.items) < 2 ^ 64 }
         ensures k { result.k ≡ k }
         ensures accuracy { result.rank_accuracy ≡ rank_accuracy }
         ensures compactors { result.compactors ≡ compactors }
@@ -48,7 +47,6 @@ impl<T: Clone + Ord> Levels<T> {
     pub(crate) fn add_up(&mut self)
         requires levels { AreLevels T.cmp self.old.k self.old.rank_accuracy 0
             self.old.compactors.items }
-        requires few { retained_of (layouts_of self.old.compactors.items) < 2 ^ 64 }
         ensures k { self.new.k ≡ self.old.k }
         ensures accuracy { self.new.rank_accuracy ≡ self.old.rank_accuracy }
         ensures compactors { self.new.compactors ≡ self.old.compactors }

@@ -29,10 +29,10 @@ sound-first cmp k accuracy legal = record {
   one_level = search rules;
 }
 
-pub add_up-requires-clause-levels : goal.add_up-requires-clause-levels
-add_up-requires-clause-levels g c =
+pub add_up-requires : goal.add_up-requires
+add_up-requires g c =
     let e : c.add_level.new.self.compactors.items ≡ fresh [] true 0 c.self.inside.levels.k c.self.inside.levels.rank_accuracy ∷ [] = search rules in
-    rw (c.add_level.ensures.k, c.add_level.ensures.accuracy, e) (levels-first g.T.Ord.cmp _ _ c.self.invariant.sound.legal_k)
+    record { levels = rw (c.add_level.ensures.k, c.add_level.ensures.accuracy, e) (levels-first g.T.Ord.cmp _ _ c.self.invariant.sound.legal_k) }
 
 pub invariant_of-self : goal.invariant_of-self
 invariant_of-self g c =

@@ -7,8 +7,9 @@ use Rattle.sketch_req.proofs.sketch.levels.Levels.add_up.Goals as goal
 
 pub overflow_add-count : goal.overflow_add-count
 overflow_add-count g c =
-    let m = sum-more (λ (l : Layout). l.count) _ _ _ _ c.as_slice-level-items.ensures.value c.loop-level-test.true c.level-item.is in
-    omega (arith, m.1, c.loop-level.invariant.count, c.num_items.ensures, c.requires.few)
+    let same = c.as_slice-level-items.ensures.value in
+    let few = few-placed g.T.Ord.cmp _ _ 0 c.args.self.now.compactors.items (omega arith) c.requires.levels in
+    omega (arith, few, c.loop-level-test.true, ap length same, c.loop-level.invariant.few)
 
 pub overflow_add-sum : goal.overflow_add-sum
 overflow_add-sum g c =
@@ -25,7 +26,8 @@ loop-level-preserved g c =
     let s = sum-more (nominal c.args.self.now.k) _ _ _ _ same c.loop-level-test.true c.level-item.is in
     let n = nominal-there g.T.Ord.cmp _ _ _ _ _ _ c.requires.levels same c.loop-level-test.true c.level-item.is in
     record {
-      count = omega (arith, m.0, i.count, c.num_items.ensures);
-      sum = omega (arith, s.0, i.sum, n.0, c.nominal_capacity.ensures);
+      count = omega (arith, m, i.count, c.num_items.ensures);
+      sum = omega (arith, s, i.sum, n.0, c.nominal_capacity.ensures);
+      few = omega (arith, i.few);
       small = omega (arith, i.small, n.1, c.nominal_capacity.ensures);
     }

@@ -6,5 +6,6 @@ abbrev pub invariant-loop-level : goal.invariant-loop-level
 invariant-loop-level g l = record {
   count : l.count ≡ retained_of (layouts_of (take l.level-index l.fn.self.compactors.items));
   sum : l.sum ≡ nominal_sum l.fn.self.k (layouts_of (take l.level-index l.fn.self.compactors.items));
+  few : l.count ≤ l.level-index * 4294967295;
   small : l.sum ≤ l.level-index * 196608;
 }

@@ -74,11 +74,9 @@ returns-clause-acted g c =
     (steps_actions s.k s.rank_accuracy n 0 ls) (steps_layouts s.k n 0 ls) s.compactors.items c.loop-level.self.compactors.items)
     all c.loop-level.invariant.acted)
 
-pub add_up-requires-clause-levels : goal.add_up-requires-clause-levels
-add_up-requires-clause-levels g c = rw (c.loop-level.invariant.k, c.loop-level.invariant.accuracy) c.loop-level.invariant.acted.acted.placed
-
-pub add_up-requires-clause-few : goal.add_up-requires-clause-few
-add_up-requires-clause-few g c = omega (arith, c.loop-level.invariant.acted.acted.fewer, c.requires.few_items)
+pub add_up-requires : goal.add_up-requires
+add_up-requires g c =
+    record { levels = rw (c.loop-level.invariant.k, c.loop-level.invariant.accuracy) c.loop-level.invariant.acted.acted.placed }
 
 pub returns-clause-retained : goal.returns-clause-retained
 returns-clause-retained g c = rw c.add_up.ensures.compactors c.add_up.ensures.retained
