@@ -39,7 +39,7 @@ compact-requires g c =
     let level = c.in-Some.ensures.level ∙ seen g sliced full_level in
     let full = leb-true _ _ (sym (c.in-Some.ensures.full ∙ seen g sliced is_full)) in
     let low = full_level_low s.k s.levels (omega (arith, m, c.self.invariant.some)) (omega (arith, m, c.self.invariant.few)) c.requires.light full in
-    record { within = omega (arith, n, m, c.in-Some.ensures.within); few = omega (arith, level, low); spare = c.requires.spare }
+    record { within = omega (arith, n, m, c.in-Some.ensures.within); few = omega (arith, level, low); flag = λ t z. c.requires.flag t; spare = c.requires.spare }
 
 pub returns-in-Some : goal.returns-in-Some
 returns-in-Some g c =

@@ -23,6 +23,9 @@ make_room-requires-clause-light g c =
     let t = YieldsList-turn (YieldsList-from_vec {s = c.into_iter-item-iterator.result} c.args.low.items gives.0 (gives.1 ∙ c.args.low.ok.0)) c.loop-item.yielded c.loop-item.item-iterator c.loop-item.yielded_by c.next.result c.next.new.self c.in-Some.item c.in-Some.is c.next.ensures.steps in
     omega (arith, i.taking.taken.weighs, c.requires.light, t.0)
 
+pub make_room-requires-clause-flag : goal.make_room-requires-clause-flag
+make_room-requires-clause-flag g c = c.loop-item.invariant.taking.taken.kept.flag_holds
+
 pub make_room-requires-clause-spare : goal.make_room-requires-clause-spare
 make_room-requires-clause-spare g c =
     let i = c.loop-item.invariant in
