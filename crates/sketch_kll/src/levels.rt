@@ -77,7 +77,7 @@ impl<T: Ord + Drop> Levels<T> {
 
     /// Compacts one level, where the levels are at or over their total capacity.
     #[inline(always)]
-    pub(crate) fn make_room<B: RandomBits>(&mut self, coins: &mut B)
+    pub(crate) fn compact_if_full<B: RandomBits>(&mut self, coins: &mut B)
         requires light { weight_in self.old.levels < 2 ^ 64 }
         requires flag { IsTrue self.old.is_sorted → IsSorted T.cmp (first_level self.old.levels) }
         requires spare { length self.old.levels + 1 < self.old.bounds_room }

@@ -4,7 +4,7 @@ use Rattle.sketch_kll.specs.Flat.{levels_in}
 use Rattle.sketch_kll.specs.Steps.{needs_sorting}
 use Rattle.sketch_kll.specs.Stored.{Stored}
 use Rattle.sketch_kll.proofs.Flats.{length-bounds, length-items}
-use Rattle.sketch_kll.proofs.Runs.{known_sorted}
+use Rattle.sketch_kll.proofs.CompactedRuns.{known_sorted}
 use Rattle.sketch_kll.proofs.RaisedLevels.{raised_is}
 use Rattle.sketch_kll.proofs.StoredLevels.{CompactedStored, known_total, compacted_stored}
 use Rattle.sketch_kll.proofs.levels.Levels.compact.Goals as goal

@@ -7,8 +7,8 @@ use Rattle.sketch_kll.specs.Stored.{Stored}
 use Rattle.sketch_kll.proofs.Flats.{length-bounds, SameLevels-refl}
 use Rattle.sketch_kll.proofs.FullLevels.{with_room_full, with_room_spare}
 use Rattle.sketch_kll.proofs.NoMoreLevels.{full_level_low}
-use Rattle.sketch_kll.proofs.levels.Levels.make_room.Goals as goal
-use Rattle.sketch_kll.proofs.levels.Levels.make_room.Goals.{After-as_slice-bounds}
+use Rattle.sketch_kll.proofs.levels.Levels.compact_if_full.Goals as goal
+use Rattle.sketch_kll.proofs.levels.Levels.compact_if_full.Goals.{After-as_slice-bounds}
 
 -- what is asked of the slices is asked of the levels
 seen : (g : _) (c : After-as_slice-bounds g) {X : Type 0} (f : ℕ → List (List g.row.T.Denot) → X) →
