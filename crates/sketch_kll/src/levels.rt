@@ -264,7 +264,6 @@ fn compact_in_place<T: Ord + Drop>(
     ensures shorter { vec_len items.new ≤ vec_len items.old }
 {
     let len = items.len();
-    let (row, marks) = (items.as_mut_slice(), bounds.as_mut_slice());
-    let count = compact_level(row, marks, level, needs_sorting, coin);
+    let count = compact_level(items, bounds, level, needs_sorting, coin);
     items.truncate(len - count);
 }
