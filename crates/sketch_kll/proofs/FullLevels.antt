@@ -5,7 +5,7 @@ use Rattle.std.proofs.lemmas.List.{drop_all}
 use Rattle.sketch_kll.specs.Capacity.{capacity_at, total_of}
 use Rattle.sketch_kll.specs.Levels.{retained, first_level, compacted}
 use Rattle.sketch_kll.specs.Flat.{levels_in, IsFlat}
-use Rattle.sketch_kll.specs.Steps.{full_level, is_full, with_room, keeps_last}
+use Rattle.sketch_kll.specs.Steps.{full_level, is_full, with_room, needs_sorting}
 use Rattle.sketch_kll.proofs.Flats.{length-bounds, length-items, drop_level}
 
 -- the loop that seeks a level to compact, one step on
@@ -87,7 +87,7 @@ full_by_lengths {A} items bounds f k n e =
 
 -- room for an item in full levels comes by a compaction
 pub with_room_full : {A : Type 0} (cmp : A → A → Ordering) (k level : ℕ) (is_sorted coin last : Bool) (ls : List (List A)) →
-    true ≡ is_full k ls → level ≡ full_level k ls → last ≡ keeps_last is_sorted level → with_room cmp k is_sorted coin ls ≡ compacted cmp last coin level ls
+    true ≡ is_full k ls → level ≡ full_level k ls → last ≡ needs_sorting is_sorted level → with_room cmp k is_sorted coin ls ≡ compacted cmp last coin level ls
 with_room_full cmp k level is_sorted coin last ls f e l = rw (← f, l, e) refl
 
 -- levels that are not full stay as they are

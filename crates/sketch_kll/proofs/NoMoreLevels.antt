@@ -4,7 +4,7 @@ use Rattle.std.proofs.Math.Nat.{pow-succ'}
 use Rattle.std.proofs.lemmas.Bool.{cases_Bool, lt-leb, cases_lt, cases_eq}
 use Rattle.sketch_kll.specs.Capacity.{capacity_at, total_of}
 use Rattle.sketch_kll.specs.Levels.{retained, weight, compacted, SameLevels}
-use Rattle.sketch_kll.specs.Steps.{full_level, is_full, with_room, keeps_last}
+use Rattle.sketch_kll.specs.Steps.{full_level, is_full, with_room, needs_sorting}
 use Rattle.sketch_kll.proofs.Capacities.{capacity_eight}
 use Rattle.sketch_kll.proofs.CompactedSizes.{compacted_size, alike_size}
 use Rattle.sketch_kll.proofs.FullLevels.{full_level_at, with_room_spare}
@@ -99,11 +99,11 @@ room_made cmp k is_sorted coin ls h few w t =
       | inl e ↦
           let f : total_of k 8 (length ls) ≤ retained ls = leb-true _ _ e in
           let a = full_level_at k ls h f in
-          let s = compacted_size cmp (keeps_last is_sorted (full_level k ls)) coin (full_level k ls) ls a.0 in
+          let s = compacted_size cmp (needs_sorting is_sorted (full_level k ls)) coin (full_level k ls) ls a.0 in
           let c = capacity_eight k (length ls - 1 - full_level k ls) in
-          let g = total_grows k (length ls) (length (compacted cmp (keeps_last is_sorted (full_level k ls)) coin (full_level k ls) ls)) s.at_least s.at_most in
-          let m : length (compacted cmp (keeps_last is_sorted (full_level k ls)) coin (full_level k ls) ls) ≤ 61 =
-          still_few cmp k (keeps_last is_sorted (full_level k ls)) coin ls h few w f in
+          let g = total_grows k (length ls) (length (compacted cmp (needs_sorting is_sorted (full_level k ls)) coin (full_level k ls) ls)) s.at_least s.at_most in
+          let m : length (compacted cmp (needs_sorting is_sorted (full_level k ls)) coin (full_level k ls) ls) ≤ 61 =
+          still_few cmp k (needs_sorting is_sorted (full_level k ls)) coin ls h few w f in
           rw e (record { weighs = s.weighs; few = m; some = omega (arith, s.at_least); within = omega (arith, s.retains, a.1, c, g) })
       | inr e ↦ let f : retained ls < total_of k 8 (length ls) = leb-false _ _ e in rw e (record { weighs = refl; few = few; some = h; within = omega arith })
     ]

@@ -1,7 +1,7 @@
 -- levels with an empty one put above the top, as a compaction of the top level needs it
 use Rattle.std.proofs.Common.{eqb, eqb-true, ◌≡◌, ℕ, zero, suc, ◌+◌, ◌*◌, ◌<◌, Bool, cond, List, [], ◌∷◌, ◌++◌, length, refl, sym, ap, ap₂, ◌∙◌, subst, arith, Ordering, length-append, inl, inr}
 use Rattle.std.proofs.lemmas.Bool.{cases_Bool, eqb-false}
-use Rattle.sketch_kll.specs.Levels.{retained, weight, compacted, AllSorted, UpperSorted}
+use Rattle.sketch_kll.specs.Levels.{retained, weight, first_level, compacted, AllSorted, UpperSorted}
 use Rattle.sketch_kll.specs.Stored.{AreStored}
 use Rattle.sketch_kll.specs.Flat.{flat, marks, levels_in, IsFlat}
 use Rattle.sketch_kll.proofs.Flats.{is_flat, levels_of_flat, length-bounds}
@@ -59,8 +59,13 @@ pub record Raised {A : Type 0} (cmp : A → A → Ordering) (last coin : Bool) (
   pub within : level + 2 < length new
   pub same : compacted cmp last coin level (levels_in items new) ≡ compacted cmp last coin level (levels_in items old)
   pub sorted : UpperSorted cmp (levels_in items old) → UpperSorted cmp (levels_in items new)
+  pub first : first_level (levels_in items new) ≡ first_level (levels_in items old)
 
--- what `raise` makes of the bounds
+first-top : {A : Type 0} (ls : List (List A)) → 0 < length ls → first_level (ls ++ [] ∷ []) ≡ first_level ls
+first-top [] some = absurd (omega arith)
+first-top (l ∷ ls) some = refl
+
+-- what `add_level_above` makes of the bounds
 pub raised_is : {A : Type 0} {cmp : A → A → Ordering} {k total level : ℕ} {items : List A} {old new : List ℕ} {ls : List (List A)} (last coin : Bool) →
     AreStored cmp k items old total → levels_in items old ≡ ls → level < length ls → new ≡ raised level old → Raised cmp last coin level items old new
 raised_is {A} {cmp} {k} {total} {level} {items} {old} {new} {ls} last coin stored own inside new_is =
@@ -77,10 +82,11 @@ raised_is {A} {cmp} {k} {total} {level} {items} {old} {new} {ls} last coin store
             within = omega (arith, length-append old (0 ∷ []), top);
             same = ap (compacted cmp last coin level) above.1 ∙ compacted-top cmp last coin level (levels_in items old) (omega (arith, top, bounds_len));
             sorted = λ u. subst (λ (x : List (List A)). UpperSorted cmp x) (sym above.1) (UpperSorted-top cmp (levels_in items old) u);
+            first = ap first_level above.1 ∙ first-top (levels_in items old) stored.some;
           } in
           rw is_top one_more
       | inr is_below ↦
           let below = eqb-false (level + 2) (length old) is_below in
-          let as_many : Goal old = record { flat = stored.flat; within = omega (arith, inside, bounds_len, levels_len, below); same = refl; sorted = λ u. u } in
+          let as_many : Goal old = record { flat = stored.flat; within = omega (arith, inside, bounds_len, levels_len, below); same = refl; sorted = λ u. u; first = refl } in
           rw is_below as_many
     ])

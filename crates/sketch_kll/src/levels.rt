@@ -1,13 +1,13 @@
 //! The levels of a sketch in one vector, the highest first, and how updates change them.
 //! What a compaction does to a slice stands in `compaction`, merges in `levels::merging`.
-ghost use Rattle.std.specs.Prelude.{◌≡◌, ℕ, ◌+◌, ◌-◌, ◌*◌, ◌/◌, ◌^◌, ◌<◌, ◌≤◌, [], ◌∷◌, ◌++◌, length, IfSome, IfOk, vec_len, vec_capacity, if◌then◌else◌, ◌==◌, drop, is_some, false};
+ghost use Rattle.std.specs.Prelude.{◌≡◌, ℕ, ◌+◌, ◌-◌, ◌*◌, ◌/◌, ◌^◌, ◌<◌, ◌≤◌, [], ◌∷◌, ◌++◌, length, IfSome, IfOk, vec_len, vec_capacity, if◌then◌else◌, ◌==◌, drop, is_some, false, IsSorted, IsTrue};
 ghost use Rattle.std.specs.List.{between};
 ghost use Rattle.sketch_base.specs.Query.{counted};
 ghost use Rattle.sketch_kll.specs.Capacity.{total_of};
 ghost use Rattle.sketch_kll.specs.Flat.{levels_in, IsFlat};
 ghost use Rattle.sketch_kll.specs.Levels.{retained, weight as weight_in, first_level, compacted, SameLevels, UpperSorted};
 ghost use Rattle.sketch_kll.specs.Rank.{counted_weight};
-ghost use Rattle.sketch_kll.specs.Steps.{full_level, is_full, with_room, keeps_last, put};
+ghost use Rattle.sketch_kll.specs.Steps.{full_level, is_full, with_room, needs_sorting, put};
 ghost use Rattle.sketch_kll.specs.Stored.{KeepsRoom};
 
 mod compress;
@@ -77,8 +77,9 @@ impl<T: Ord + Drop> Levels<T> {
 
     /// Compacts one level, where the levels are at or over their total capacity.
     #[inline(always)]
-    pub(crate) fn make_room<B: RandomBits>(&mut self, coins: &mut B)
+    pub(crate) fn compact_if_full<B: RandomBits>(&mut self, coins: &mut B)
         requires light { weight_in self.old.levels < 2 ^ 64 }
+        requires flag { IsTrue self.old.is_sorted → IsSorted T.cmp (first_level self.old.levels) }
         requires spare { length self.old.levels + 1 < self.old.bounds_room }
         ensures kept { KeepsRoom self.old self.new }
         ensures levels { SameLevels T.cmp
@@ -99,10 +100,12 @@ impl<T: Ord + Drop> Levels<T> {
     fn compact<B: RandomBits>(&mut self, level: usize, coins: &mut B)
         requires within { level < length self.old.levels }
         requires few { level < 60 }
+        requires flag { IsTrue self.old.is_sorted → level ≡ 0
+            → IsSorted T.cmp (first_level self.old.levels) }
         requires spare { length self.old.levels + 1 < self.old.bounds_room }
         ensures kept { KeepsRoom self.old self.new }
         ensures levels { SameLevels T.cmp
-            (compacted T.cmp (keeps_last self.old.is_sorted level) (B.bit coins.old)
+            (compacted T.cmp (needs_sorting self.old.is_sorted level) (B.bit coins.old)
             level self.old.levels)
             self.new.levels }
         ensures sorted { UpperSorted T.cmp self.new.levels }
@@ -110,10 +113,16 @@ impl<T: Ord + Drop> Levels<T> {
         ensures coins { coins.new ≡ B.next coins.old }
     {
         let known = self.bounds.len() - 1;
-        raise(&mut self.bounds, level);
-        let keeps_last = keeps_last_item(self.is_level_zero_sorted, level);
+        add_level_above(&mut self.bounds, level);
+        let needs_sorting = needs_sorting(self.is_level_zero_sorted, level);
         let coin = coins.random_bit();
-        compact_in_place(&mut self.items, &mut self.bounds, level, keeps_last, coin);
+        compact_in_place(
+            &mut self.items,
+            &mut self.bounds,
+            level,
+            needs_sorting,
+            coin,
+        );
         let num_levels = self.bounds.len() - 1;
         self.total_capacity = total_at(self.k, self.total_capacity, known, num_levels);
     }
@@ -211,15 +220,15 @@ fn total_at(k: u16, total: u32, known: usize, num_levels: usize) -> u32
     }
 }
 
-/// Whether a level that is compacted keeps its last item or its first.
-fn keeps_last_item(is_sorted: bool, level: usize) -> bool
-    ensures { result ≡ keeps_last is_sorted level }
+/// Whether a level has to be sorted before it is compacted: level 0 where it does not count as sorted.
+fn needs_sorting(is_sorted: bool, level: usize) -> bool
+    ensures { result ≡ needs_sorting is_sorted level }
 {
     level == 0 && !is_sorted
 }
 
 /// Adds a level above a level where there is none.
-fn raise(bounds: &mut Vec<usize>, level: usize)
+fn add_level_above(bounds: &mut Vec<usize>, level: usize)
     requires spare { vec_len bounds.old < vec_capacity bounds.old }
     requires within { level + 2 < 2 ^ 64 }
     ensures items { bounds.new.items ≡ (if level + 2 == length bounds.old.items
@@ -236,15 +245,17 @@ fn compact_in_place<T: Ord + Drop>(
     items: &mut Vec<T>,
     bounds: &mut Vec<usize>,
     level: usize,
-    keeps_last: bool,
+    needs_sorting: bool,
     coin: bool,
 )
     requires flat { IsFlat items.old.items bounds.old.items }
     requires within { level + 2 < length bounds.old.items }
     requires sorted { UpperSorted T.cmp (levels_in items.old.items bounds.old.items) }
+    requires known { needs_sorting ≡ false
+        → IsSorted T.cmp (first_level (drop level (levels_in items.old.items bounds.old.items))) }
     ensures flat { IsFlat items.new.items bounds.new.items }
     ensures alike { SameLevels T.cmp
-        (compacted T.cmp keeps_last coin level (levels_in items.old.items bounds.old.items))
+        (compacted T.cmp needs_sorting coin level (levels_in items.old.items bounds.old.items))
         (levels_in items.new.items bounds.new.items) }
     ensures sorted { UpperSorted T.cmp (levels_in items.old.items bounds.old.items)
         → UpperSorted T.cmp (levels_in items.new.items bounds.new.items) }
@@ -253,7 +264,6 @@ fn compact_in_place<T: Ord + Drop>(
     ensures shorter { vec_len items.new ≤ vec_len items.old }
 {
     let len = items.len();
-    let (row, marks) = (items.as_mut_slice(), bounds.as_mut_slice());
-    let count = compact_level(row, marks, level, keeps_last, coin);
+    let count = compact_level(items, bounds, level, needs_sorting, coin);
     items.truncate(len - count);
 }

@@ -45,6 +45,8 @@ impl<T: Ord + Drop> Levels<T> {
         requires full { is_full self.old.k self.old.levels ≡ true }
         requires within { level < length self.old.levels }
         requires few { level < 60 }
+        requires flag { IsTrue self.old.is_sorted → level ≡ 0
+            → IsSorted T.cmp (first_level self.old.levels) }
         requires spare { length self.old.levels + 1 < self.old.bounds_room }
         ensures kept { KeepsRoom self.old self.new }
         ensures levels { SameLevels T.cmp

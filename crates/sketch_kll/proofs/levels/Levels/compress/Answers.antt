@@ -1,7 +1,7 @@
-use Rattle.std.proofs.Common.{◌≡◌, ℕ, Bool, List, ◌+◌, ◌<◌, ◌≤◌, ◌⊎◌, inl, inr, suc, length, arith, ap, subst, ◌∙◌, refl}
+use Rattle.std.proofs.Common.{◌≡◌, ℕ, Bool, List, ◌+◌, ◌<◌, ◌≤◌, ◌⊎◌, inl, inr, suc, length, arith, sym, ap, subst, IsTrue, IsSorted, ◌∙◌, refl}
 use Rattle.std.proofs.lemmas.Bool.{cases_eq, leb-true}
 use Rattle.sketch_kll.specs.Capacity.{total_of}
-use Rattle.sketch_kll.specs.Levels.{retained, SameLevels, UpperSorted}
+use Rattle.sketch_kll.specs.Levels.{retained, first_level, SameLevels, UpperSorted}
 use Rattle.sketch_kll.specs.Compress.{stepped, stepped_source}
 use Rattle.sketch_kll.specs.Stored.{Stored}
 use Rattle.sketch_kll.proofs.Flats.{SameLevels-refl}
@@ -12,6 +12,7 @@ use Rattle.sketch_kll.proofs.levels.Levels.compress.Goals as goal
 pub loop-self-init : goal.loop-self-init
 loop-self-init g c = record {
   kept = record { k_is = refl; flag_is = refl; items_room = omega arith; bounds_room = omega arith };
+  start = λ z. refl;
   level_few = omega arith;
   weighs = c.requires.light;
   behind = behind_start c.args.self.now.k c.args.self.now.levels;
@@ -32,6 +33,12 @@ compress_level-requires-clause-few g c =
       | inl e ↦ absurd (no_62nd_level c.args.self.now.k c.loop-self.level x.levels above e (omega (arith, within, e, few)) (omega (arith, full, ap (λ (k : ℕ). total_of k 8 (length x.levels)) i.kept.k_is)) i.weighs i.behind)
       | inr e ↦ omega (arith, within, e, few)
     ]
+
+pub compress_level-requires-clause-flag : goal.compress_level-requires-clause-flag
+compress_level-requires-clause-flag g c = λ t z.
+    let i = c.loop-self.invariant in
+    subst (λ (ls : List (List g.row.T.Denot)). IsSorted g.T.Ord.cmp (first_level ls)) (sym (i.start z))
+    (c.requires.flag (subst (λ (f : Bool). IsTrue f) i.kept.flag_is t))
 
 pub compress_level-requires-clause-spare : goal.compress_level-requires-clause-spare
 compress_level-requires-clause-spare g c =
@@ -67,6 +74,7 @@ loop-self-preserved g c =
         items_room = omega (arith, e.kept.items_room, i.kept.items_room);
         bounds_room = omega (arith, e.kept.bounds_room, i.kept.bounds_room);
       };
+      start = λ z. absurd (omega (arith, z));
       level_few = omega (arith, t, few);
       weighs = omega (arith, s.weighs, i.weighs);
       behind = rw one s.behind;

@@ -9,6 +9,7 @@ use Rattle.sketch_kll.proofs.levels.Levels.compress.Given as goal
 abbrev pub invariant-loop-self : goal.invariant-loop-self
 invariant-loop-self g l = record {
   kept : KeepsRoom l.initial.self l.self;
+  start : l.level ≡ 0 → l.self.levels ≡ l.initial.self.levels;
   level_few : l.level ≤ 61;
   weighs : weight l.self.levels < 2 ^ 64;
   behind : Behind l.initial.self.k l.level l.self.levels;

@@ -16,15 +16,18 @@ loop-item-init g c = record {
   spare = c.requires.spare;
 }
 
-pub make_room-requires-clause-light : goal.make_room-requires-clause-light
-make_room-requires-clause-light g c =
+pub compact_if_full-requires-clause-light : goal.compact_if_full-requires-clause-light
+compact_if_full-requires-clause-light g c =
     let i = c.loop-item.invariant in
     let gives = c.into_iter-item-iterator.ensures.into_iter_gives in
     let t = YieldsList-turn (YieldsList-from_vec {s = c.into_iter-item-iterator.result} c.args.low.items gives.0 (gives.1 ∙ c.args.low.ok.0)) c.loop-item.yielded c.loop-item.item-iterator c.loop-item.yielded_by c.next.result c.next.new.self c.in-Some.item c.in-Some.is c.next.ensures.steps in
     omega (arith, i.taking.taken.weighs, c.requires.light, t.0)
 
-pub make_room-requires-clause-spare : goal.make_room-requires-clause-spare
-make_room-requires-clause-spare g c =
+pub compact_if_full-requires-clause-flag : goal.compact_if_full-requires-clause-flag
+compact_if_full-requires-clause-flag g c = c.loop-item.invariant.taking.taken.kept.flag_holds
+
+pub compact_if_full-requires-clause-spare : goal.compact_if_full-requires-clause-spare
+compact_if_full-requires-clause-spare g c =
     let i = c.loop-item.invariant in
     omega (arith, i.taking.taken.kept.few, i.spare)
 
@@ -33,7 +36,7 @@ loop-item-preserved g c =
     let i = c.loop-item.invariant in
     let x0 = c.args.self.now in
     let x = c.loop-item.self in
-    let y = c.make_room.new.self in
+    let y = c.compact_if_full.new.self in
     let z = c.push.new.self in
     let cmp = g.T.Ord.cmp in
     let next = g.B.RandomBits.next in
@@ -46,15 +49,15 @@ loop-item-preserved g c =
     let flag : Bool = x.is_sorted in
     let light : weight l0 + length c.loop-item.yielded < 2 ^ 64 = omega (arith, c.requires.light, t.0) in
     let levels : SameLevels cmp (with_room cmp x0.k flag (g.B.RandomBits.bit c.loop-item.coins) ms) ws =
-    subst (λ (k : ℕ). SameLevels cmp (with_room cmp k flag (g.B.RandomBits.bit c.loop-item.coins) ms) ws) i.k c.make_room.ensures.levels in
-    let coins : c.make_room.new.coins ≡ cond (is_full x0.k ms) (next c.loop-item.coins) c.loop-item.coins =
-    c.make_room.ensures.coins ∙ ap (λ (k : ℕ). cond (is_full k ms) (next c.loop-item.coins) c.loop-item.coins) i.k in
-    let more = taking_more cmp g.met.T.Ord.total g.B.RandomBits.bit next c.args.coins.now c.loop-item.coins c.make_room.new.coins x0.k x0.is_sorted flag
-    l0 c.loop-item.yielded c.in-Some.item ms ws ns i.taking light levels c.make_room.ensures.sorted c.push.ensures.levels coins in
+    subst (λ (k : ℕ). SameLevels cmp (with_room cmp k flag (g.B.RandomBits.bit c.loop-item.coins) ms) ws) i.k c.compact_if_full.ensures.levels in
+    let coins : c.compact_if_full.new.coins ≡ cond (is_full x0.k ms) (next c.loop-item.coins) c.loop-item.coins =
+    c.compact_if_full.ensures.coins ∙ ap (λ (k : ℕ). cond (is_full k ms) (next c.loop-item.coins) c.loop-item.coins) i.k in
+    let more = taking_more cmp g.met.T.Ord.total g.B.RandomBits.bit next c.args.coins.now c.loop-item.coins c.compact_if_full.new.coins x0.k x0.is_sorted flag
+    l0 c.loop-item.yielded c.in-Some.item ms ws ns i.taking light levels c.compact_if_full.ensures.sorted c.push.ensures.levels coins in
     record {
-      k = c.push.ensures.k ∙ (c.make_room.ensures.kept.k_is ∙ i.k);
-      taking = subst (λ (f : Bool). Taking cmp g.B.RandomBits.bit next c.args.coins.now c.make_room.new.coins x0.k x0.is_sorted f l0 (c.loop-item.yielded ++ c.in-Some.item ∷ []) ns) (sym c.push.ensures.flag) more;
-      len = omega (arith, i.len, c.make_room.ensures.shorter, ap retained c.push.ensures.levels, retained-put c.in-Some.item ws, length-append c.loop-item.yielded (c.in-Some.item ∷ []));
-      room = omega (arith, i.room, c.make_room.ensures.kept.items_room, c.push.ensures.room);
-      spare = omega (arith, i.spare, c.make_room.ensures.kept.bounds_room, c.push.ensures.bounds_room);
+      k = c.push.ensures.k ∙ (c.compact_if_full.ensures.kept.k_is ∙ i.k);
+      taking = subst (λ (f : Bool). Taking cmp g.B.RandomBits.bit next c.args.coins.now c.compact_if_full.new.coins x0.k x0.is_sorted f l0 (c.loop-item.yielded ++ c.in-Some.item ∷ []) ns) (sym c.push.ensures.flag) more;
+      len = omega (arith, i.len, c.compact_if_full.ensures.shorter, ap retained c.push.ensures.levels, retained-put c.in-Some.item ws, length-append c.loop-item.yielded (c.in-Some.item ∷ []));
+      room = omega (arith, i.room, c.compact_if_full.ensures.kept.items_room, c.push.ensures.room);
+      spare = omega (arith, i.spare, c.compact_if_full.ensures.kept.bounds_room, c.push.ensures.bounds_room);
     }

@@ -7,8 +7,8 @@ use Rattle.sketch_kll.specs.Stored.{Stored}
 use Rattle.sketch_kll.proofs.Flats.{length-bounds, SameLevels-refl}
 use Rattle.sketch_kll.proofs.FullLevels.{with_room_full, with_room_spare}
 use Rattle.sketch_kll.proofs.NoMoreLevels.{full_level_low}
-use Rattle.sketch_kll.proofs.levels.Levels.make_room.Goals as goal
-use Rattle.sketch_kll.proofs.levels.Levels.make_room.Goals.{After-as_slice-bounds}
+use Rattle.sketch_kll.proofs.levels.Levels.compact_if_full.Goals as goal
+use Rattle.sketch_kll.proofs.levels.Levels.compact_if_full.Goals.{After-as_slice-bounds}
 
 -- what is asked of the slices is asked of the levels
 seen : (g : _) (c : After-as_slice-bounds g) {X : Type 0} (f : ℕ → List (List g.row.T.Denot) → X) →
@@ -39,7 +39,7 @@ compact-requires g c =
     let level = c.in-Some.ensures.level ∙ seen g sliced full_level in
     let full = leb-true _ _ (sym (c.in-Some.ensures.full ∙ seen g sliced is_full)) in
     let low = full_level_low s.k s.levels (omega (arith, m, c.self.invariant.some)) (omega (arith, m, c.self.invariant.few)) c.requires.light full in
-    record { within = omega (arith, n, m, c.in-Some.ensures.within); few = omega (arith, level, low); spare = c.requires.spare }
+    record { within = omega (arith, n, m, c.in-Some.ensures.within); few = omega (arith, level, low); flag = λ t z. c.requires.flag t; spare = c.requires.spare }
 
 pub returns-in-Some : goal.returns-in-Some
 returns-in-Some g c =

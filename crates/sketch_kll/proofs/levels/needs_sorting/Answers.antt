@@ -1,5 +1,5 @@
 use Rattle.std.proofs.Common.{rules}
-use Rattle.sketch_kll.proofs.levels.keeps_last_item.Goals as goal
+use Rattle.sketch_kll.proofs.levels.needs_sorting.Goals as goal
 
 pub returns-then-level-eq0 : goal.returns-then-level-eq0
 returns-then-level-eq0 c = search rules
