@@ -1,7 +1,6 @@
 -- Lines are answered by the sketches of a run of the commands that were accepted before them.
-use Rattle.std.proofs.Common.{◌≡◌, ℕ, ℤ, List, [], ◌∷◌, length, Option, None, Some, IfSome, Result, Ok, Err, OnOk, refl, sym, subst, zero-add, replicate}
+use Rattle.std.proofs.Common.{◌≡◌, ℕ, ℤ, List, [], ◌∷◌, length, Option, None, Some, Result, Ok, Err, refl, sym, subst, zero-add, replicate}
 use mathlib.Core.Path.{fun_ext}
-use Rattle.std.specs.Io.KnownBytes.{Appends}
 use Rattle.sketch_base.specs.Random.{next_state}
 use Rattle.sketch_base.specs.declared.error.ErrorKind.{ErrorKind}
 use Rattle.quantile_sketches.specs.Behaviour.{Behaviour, coin_of}
@@ -14,7 +13,7 @@ use Rattle.quantile_sketches.specs.declared.command.Command.{Command}
 use Rattle.quantile_sketches.specs.declared.command.Command.TheVariants.{Run, Rank, Quantile, Cdf, Pmf, Image, Load}
 use Rattle.quantile_sketches.specs.declared.table.TheConstants.{SLOTS}
 use Rattle.quantile_sketches.specs.RuleLaws.{IsLawful}
-use Rattle.quantile_sketches.specs.Lines.{lines, Serves}
+use Rattle.quantile_sketches.specs.Lines.{Serves}
 use Rattle.quantile_sketches.specs.Reader.{Grammar}
 use Rattle.quantile_sketches.specs.Refused.{AreExecuted}
 use Rattle.quantile_sketches.specs.Rules.{Kind}
@@ -79,10 +78,5 @@ module _ {C Shape S : Type 0} (grammar : Grammar C) {kind : Kind ℤ C Shape S} 
       (of, r, slots', coins', rest, a, answers-run (run_after run (command_of grammar (words l)) r) slots' coins' ls rest (answered run (command_of grammar (words l)) (words l) slots coins r slots' coins' a of) more, e)
 
   -- from empty slots on
-  pub runs-behind : {E : Type 0} (r : Result Unit E) (o w w' : Option (List ℕ)) →
-      OnOk r (IfSome o (λ text. (out : List ℕ) × Serves grammar Full (replicate SLOTS None) seed (lines text) out × Appends w w' out)) →
-      OnOk r (IfSome o (λ text. (out : List ℕ) × AnswersRun grammar Full kind seed (Some []) (replicate SLOTS None) seed (lines text) out × Appends w w' out))
-  runs-behind (Ok done) None w w' h = tt
-  runs-behind (Ok done) (Some text) w w' (out, served, appends) =
-      (out, answers-run (Some []) (replicate SLOTS None) seed (lines text) out (fun_ext (λ q. in_slot-none SLOTS q), refl) served, appends)
-  runs-behind (Err e) o w w' h = tt
+  pub answers-rest : (ls : List (List ℕ)) (out : List ℕ) → Serves grammar Full (replicate SLOTS None) seed ls out → AnswersRun grammar Full kind seed (Some []) (replicate SLOTS None) seed ls out
+  answers-rest ls out = answers-run (Some []) (replicate SLOTS None) seed ls out (fun_ext (λ q. in_slot-none SLOTS q), refl)

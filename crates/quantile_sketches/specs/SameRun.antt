@@ -10,26 +10,26 @@ use Rattle.quantile_sketches.specs.Reader.{Grammar}
 use Rattle.quantile_sketches.specs.Step.{Slots, Verdict, Reply, Answers, CarriesOutItem}
 use Rattle.quantile_sketches.specs.Words.{words}
 
-module _ {S A C Source : Type 0} (kind : Behaviour S A C) (bit : Source → Bool) (next : Source → Source) where
+module _ {S A C Source : Type 0} (behaviour : Behaviour S A C) (bit : Source → Bool) (next : Source → Source) where
   -- commands are carried out one after the other, from some sketches and coins on to others; some may be refused, but none because memory ran out
   abbrev pub AreCarriedOut : List (Command A C) → Slots S → Source → Slots S → Source → Type 0
   AreCarriedOut [] slots coins slots' coins' = (slots' ≡ slots) × (coins' ≡ coins)
   AreCarriedOut (command ∷ rest) slots coins slots' coins' =
       (verdict : Verdict) × (verdict ≢ Err (Sketch OutOfMemory)) × (between : Slots S) × (left : Source)
-      × CarriesOutItem kind bit next command slots coins verdict between left × AreCarriedOut rest between left slots' coins'
+      × CarriesOutItem behaviour bit next command slots coins verdict between left × AreCarriedOut rest between left slots' coins'
 
   -- this makes one sketch in each slot, by the same coins
   abbrev pub CommandsMakeOne : Type 0
   CommandsMakeOne = (commands : List (Command A C)) (slots ts us : Slots S) (coins left left' : Source) →
       AreCarriedOut commands slots coins ts left → AreCarriedOut commands slots coins us left' → (ts ≡ us) × (left ≡ left')
 
-module _ {S C : Type 0} (grammar : Grammar C) (kind : Behaviour S ℤ C) where
+module _ {S C : Type 0} (grammar : Grammar C) (behaviour : Behaviour S ℤ C) where
   -- what is written for lines, as `Serves` has it, where none wants memory
   abbrev pub ServesAmply : Slots S → ℕ → List (List ℕ) → List ℕ → Type 0
   ServesAmply slots coins [] out = out ≡ []
   ServesAmply slots coins (l ∷ ls) out =
       (reply : Reply) × (reply ≢ Err (Sketch OutOfMemory)) × (slots' : Slots S) × (coins' : ℕ) × (rest : List ℕ)
-      × Answers kind (command_of grammar (words l)) (words l) slots coins reply slots' coins'
+      × Answers behaviour (command_of grammar (words l)) (words l) slots coins reply slots' coins'
       × ServesAmply slots' coins' ls rest × (out ≡ answer_text reply ++ (10 ∷ rest))
 
   -- it is one text
