@@ -1,5 +1,5 @@
 -- A front of a list that a test passes: what one item tells of its length, and its end in a part of the list.
-use Rattle.std.proofs.Common.{◌≡◌, ℕ, zero, suc, ◌+◌, ◌-◌, ◌<◌, ◌≤◌, Bool, true, false, List, [], ◌∷◌, length, take, drop, get_or, count_by, refl, sym, ◌∙◌, subst, arith, ◌⊎◌, inl, inr, length-drop}
+use Rattle.std.proofs.Common.{◌≡◌, ℕ, zero, suc, ◌+◌, ◌-◌, ◌*◌, ◌^◌, ◌<◌, ◌≤◌, Bool, true, false, List, [], ◌∷◌, length, take, drop, get_or, count_by, refl, sym, ap, ◌∙◌, subst, arith, if◌then◌else◌, ◌⊎◌, inl, inr, length-drop}
 use Rattle.std.specs.List.Sorted.{IsPartitionedBy}
 use Rattle.std.proofs.lemmas.Bool.{false≢true, cases_lt}
 use Rattle.std.proofs.lemmas.List.{get_or-take, get_or-drop, length-take-le}
@@ -48,6 +48,19 @@ module _ {A : Type 0} (test : A → Bool) where
       go (inl m) = absurd (false≢true (sym h ∙ (parts-count xs up).0 i d (omega arith) m))
       go (inr m) = m
 
+  -- one step of a search by steps: the count lies within two steps, and the item at the end of the first tells in which
+  pub counted-step : (xs : List A) (start step : ℕ) (d : A) (b : Bool) → IsPartitionedBy test xs → 0 < step →
+      (start ≤ count_by test xs) × ((count_by test xs < start + 2 * step) × (start + 2 * step ≤ length xs + 1)) →
+      test (get_or xs (start + step - 1) d) ≡ b →
+      (start + (if b then step else 0) ≤ count_by test xs)
+      × ((count_by test xs < start + (if b then step else 0) + step) × (start + (if b then step else 0) + step ≤ length xs + 1))
+  counted-step xs start step d true up some h is =
+      let more = counts-passed xs (start + step - 1) d up (omega (arith, some, h.1.1)) is in
+      (omega (arith, more, some), (omega (arith, h.1.0), omega (arith, h.1.1)))
+  counted-step xs start step d false up some h is =
+      let few = counts-failed xs (start + step - 1) d up (omega (arith, some, h.1.1)) is in
+      (omega (arith, h.0), (omega (arith, few, some), omega (arith, h.1.1)))
+
   -- the end of the front in a part of the list
   pub count-of_part : (xs : List A) (s e : ℕ) → IsPartitionedBy test xs → s ≤ count_by test xs → count_by test xs ≤ e → e ≤ length xs → s + count_by test (take (e - s) (drop s xs)) ≡ count_by test xs
   count-of_part xs s e up le ge l =
@@ -57,3 +70,13 @@ module _ {A : Type 0} (test : A → Bool) where
       let here = counted-parts test (take (e - s) (drop s xs)) (count_by test xs - s) (omega (arith, long))
       ((λ k d a b. rw (at k d (omega (arith, long))) (p.0 (s + k) d (omega arith) (omega (arith, long)))), (λ k d a b. rw (at k d (omega (arith, long))) (p.1 (s + k) d (omega arith) (omega (arith, long))))) in
       omega (arith, here)
+
+-- the steps of a search by steps: each is half of the one before
+pub step-doubled : (steps step : ℕ) → step < steps → 2 ^ (steps - step) ≡ 2 * 2 ^ (steps - 1 - step)
+step-doubled steps step more = ap (λ n. 2 ^ n) (omega (arith, more)) ∙ last (steps - 1 - step)
+  where
+    last : (n : ℕ) → 2 ^ suc n ≡ 2 * 2 ^ n
+    last n = omega arith
+
+pub step-next : (steps step : ℕ) → 2 ^ (steps - (step + 1)) ≡ 2 ^ (steps - 1 - step)
+step-next steps step = ap (λ n. 2 ^ n) (omega arith)

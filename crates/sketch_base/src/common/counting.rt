@@ -1,5 +1,5 @@
 //! How many items a query counts. The criterion is chosen once, outside the loops.
-ghost use Rattle.std.specs.Prelude.{◌≡◌, ◌≤◌, length, count_by, IsSorted};
+ghost use Rattle.std.specs.Prelude.{◌≡◌, ◌+◌, ◌*◌, ◌^◌, ◌<◌, ◌≤◌, if◌then◌else◌, length, count_by, IsSorted};
 ghost use Rattle.sketch_base.specs.Query.{counted};
 ghost use Rattle.sketch_base.specs.Queries.{Parts};
 ghost use Rattle.sketch_base.specs.declared.common.SearchCriteria.TheVariants.{Inclusive, Exclusive};
@@ -53,8 +53,53 @@ pub fn count_in_order<T: Ord>(items: &[T], query: &T, criteria: SearchCriteria) 
     ensures count { result ≡ count_by (counted T.cmp query.now criteria) items.now }
 {
     match criteria {
-        SearchCriteria::Inclusive => items.partition_point(|item| item.cmp(query).is_le()),
-        SearchCriteria::Exclusive => items.partition_point(|item| item.cmp(query).is_lt()),
+        SearchCriteria::Inclusive => count_by_halves(items, query, SearchCriteria::Inclusive),
+        SearchCriteria::Exclusive => count_by_halves(items, query, SearchCriteria::Exclusive),
+    }
+}
+
+/// Counts the items of a sorted slice that the query counts, by a binary search whose steps are powers
+/// of two. No branch depends on a comparison, since a processor would guess it wrong half of the time.
+fn count_by_halves<T: Ord>(items: &[T], query: &T, criteria: SearchCriteria) -> usize
+    requires sorted { IsSorted T.cmp items.now }
+    ensures { result ≡ count_by (counted T.cmp query.now criteria) items.now }
+{
+    if items.is_empty() {
+        return 0;
+    }
+    let steps = items.len().ilog2();
+    let mut count = first_count(items, power_if(true, steps), query, criteria);
+    for step in 0..steps {
+        let shift = steps - 1 - step;
+        let is_counted = counts(&items[count + power_if(true, shift) - 1], query, criteria);
+        count += power_if(is_counted, shift);
+    }
+    count
+}
+
+/// 2 ^ `shift`, or 0 where `is_power` is false: by a shift, which the compiler leaves without a branch.
+fn power_if(is_power: bool, shift: u32) -> usize
+    requires { shift < 64 }
+    ensures { result ≡ (if is_power then 2 ^ shift else 0) }
+{
+    (is_power as usize) << shift
+}
+
+/// A count that the query's count exceeds by less than `step`, which is more than half of the items.
+fn first_count<T: Ord>(items: &[T], step: usize, query: &T, criteria: SearchCriteria) -> usize
+    requires sorted { IsSorted T.cmp items.now }
+    requires some { 0 < step }
+    requires within { step ≤ length items.now }
+    requires half { length items.now < 2 * step }
+    ensures starts { result ≤ count_by (counted T.cmp query.now criteria) items.now }
+    ensures ends { count_by (counted T.cmp query.now criteria) items.now < result + step }
+    ensures within { result + step ≤ length items.now + 1 }
+{
+    let last = items.len() - step;
+    if counts(&items[last], query, criteria) {
+        last + 1
+    } else {
+        0
     }
 }
 

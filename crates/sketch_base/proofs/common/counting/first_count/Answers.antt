@@ -1,0 +1,20 @@
+use Rattle.std.proofs.Common.{◌-◌, length, ap, sym, ◌∙◌, arith}
+use Rattle.sketch_base.specs.Query.{counted}
+use Rattle.sketch_base.proofs.Entries.{counted-parted}
+use Rattle.sketch_base.proofs.Fronts.{counts-passed, counts-failed}
+use Rattle.sketch_base.proofs.common.counting.first_count.Goals as goal
+
+pub returns-then-counts-clause-starts : goal.returns-then-counts-clause-starts
+returns-then-counts-clause-starts g c =
+    let test = counted g.T.Ord.cmp c.args.query.now c.args.criteria in
+    let parted = counted-parted g.met.T.Ord.total c.args.items.now c.args.query.now c.args.criteria c.requires.sorted in
+    counts-passed test c.args.items.now (length c.args.items.now - c.args.step) c.index-items-last.result parted (omega (arith, c.requires.some, c.requires.within))
+    (ap test (sym c.index-items-last.is) ∙ (sym c.counts.ensures ∙ c.if-counts.true))
+
+pub returns-else-counts-clause-ends : goal.returns-else-counts-clause-ends
+returns-else-counts-clause-ends g c =
+    let test = counted g.T.Ord.cmp c.args.query.now c.args.criteria in
+    let parted = counted-parted g.met.T.Ord.total c.args.items.now c.args.query.now c.args.criteria c.requires.sorted in
+    let few = counts-failed test c.args.items.now (length c.args.items.now - c.args.step) c.index-items-last.result parted (omega (arith, c.requires.some, c.requires.within))
+    (ap test (sym c.index-items-last.is) ∙ (sym c.counts.ensures ∙ c.if-counts.false)) in
+    omega (arith, few, c.requires.half)
