@@ -1,6 +1,6 @@
 //! The levels of a sketch in one vector, the highest first, and how updates change them.
 //! What a compaction does to a slice stands in `compaction`, merges in `levels::merging`.
-ghost use Rattle.std.specs.Prelude.{◌≡◌, ℕ, ◌+◌, ◌-◌, ◌*◌, ◌/◌, ◌^◌, ◌<◌, ◌≤◌, [], ◌∷◌, ◌++◌, length, IfSome, IfOk, vec_len, vec_capacity, if◌then◌else◌, ◌==◌, drop, is_some, false, IsSorted, IsTrue};
+ghost use Rattle.std.specs.Prelude.{◌≡◌, ℕ, ◌+◌, ◌-◌, ◌*◌, ◌/◌, ◌^◌, ◌<◌, ◌≤◌, [], ◌∷◌, ◌++◌, length, max, IfSome, IfOk, OnOk, vec_len, vec_capacity, if◌then◌else◌, ◌==◌, drop, is_some, false, IsSorted, IsTrue};
 ghost use Rattle.std.specs.List.{between};
 ghost use Rattle.sketch_base.specs.Query.{counted};
 ghost use Rattle.sketch_kll.specs.Capacity.{total_of};
@@ -266,4 +266,22 @@ fn compact_in_place<T: Ord + Drop>(
     let len = items.len();
     let count = compact_level(items, bounds, level, needs_sorting, coin);
     items.truncate(len - count);
+}
+
+/// Makes room for one more item. A full vector grows by a quarter, or up to `most` items if that is
+/// less: a sketch lives long, and soon grows no more.
+pub(crate) fn reserve_next<T: Drop>(items: &mut Vec<T>, most: usize) -> Result<(), AllocError>
+    ensures items { items.new.items ≡ items.old.items }
+    ensures len { vec_len items.new ≡ vec_len items.old }
+    ensures ok { OnOk result (vec_len items.new < vec_capacity items.new) }
+    ensures capacity { vec_capacity items.old ≤ vec_capacity items.new }
+    ensures lean { OnOk result (vec_capacity items.new
+        ≤ max (vec_capacity items.old) (vec_len items.old + (vec_len items.old / 4 + 4))) }
+{
+    let len = items.len();
+    if len < items.capacity() {
+        return Ok(());
+    }
+    let left = most.saturating_sub(len).max(1);
+    items.reserve_exact((len / 4 + 4).min(left))
 }
