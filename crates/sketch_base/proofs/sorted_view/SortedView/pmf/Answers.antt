@@ -1,0 +1,6 @@
+use Rattle.std.proofs.Common.{arith}
+use Rattle.std.proofs.lemmas.Grind.{common_steps}
+use Rattle.sketch_base.proofs.sorted_view.SortedView.pmf.Goals as goal
+
+pub returns-then-is_empty-clause-there : goal.returns-then-is_empty-clause-there
+returns-then-is_empty-clause-there g c = grind (arith, common_steps)
