@@ -1,3 +1,5 @@
+use Rattle.std.proofs.Common.{arith}
+use Rattle.std.proofs.lemmas.Grind.{common_steps}
 use Rattle.std.specs.Int.{w16, w32, w64, to_le_bytes}
 use Rattle.std.proofs.Common.{◌∷◌, [], ◌≡◌, ◌++◌, ◌∙◌, ap}
 use Rattle.std.proofs.lemmas.Result.{IfOk-weaker}
@@ -15,3 +17,12 @@ returns-clause-ok g c =
     (to_le_bytes w64 f.state) (to_le_bytes w32 f.section_size) (f.lg_weight ∷ f.num_sections ∷ []) (to_le_bytes w16 0) (to_le_bytes w32 f.count)
     c.in_ok-write_u64_le.ensures.ok c.in_ok-write_u32_le.ensures.ok c.in_ok-write.ensures.ok c.in_ok-write_u16_le.ensures.ok last
     ∙ ap (λ (h : Front). c.args.bytes.now ++ front_text h) same) c.write_u32_le-2.ensures.ok
+
+pub returns-in_err-write-clause-err : goal.returns-in_err-write-clause-err
+returns-in_err-write-clause-err g c = grind (arith, common_steps)
+
+pub returns-in_err-write_u16_le-clause-err : goal.returns-in_err-write_u16_le-clause-err
+returns-in_err-write_u16_le-clause-err g c = grind (arith, common_steps)
+
+pub returns-clause-err : goal.returns-clause-err
+returns-clause-err g c = grind (arith, common_steps)

@@ -1,3 +1,5 @@
+use Rattle.std.proofs.Common.{arith}
+use Rattle.std.proofs.lemmas.Grind.{common_steps}
 use Rattle.std.proofs.Common.{rules, ◌≡◌, ◌∷◌, ◌∙◌, sym, ap, length}
 use Rattle.sketch_req.proofs.Pairs.{next-level}
 use Rattle.sketch_req.proofs.iter.ReqSketchIteratorIterator.next.Goals as goal
@@ -9,3 +11,6 @@ loop-self-preserved g c =
     let there : i.levels.now ≡ c.in_ok-level.level.now ∷ c.in_ok-level.above.now = search rules in
     let same = next-level i.levels.now c.in_ok-level.above.now c.in_ok-level.level.now i.items.now c.items_slice-self-inside.result.now i.weight c.weight-self-inside.result none there c.items_slice-self-inside.ensures.value c.weight-self-inside.ensures in
     record { same = same ∙ c.loop-self.invariant.same; left = c.loop-self.invariant.left ∙ ap length (sym same) }
+
+pub returns-in_err-level-clause-steps : goal.returns-in_err-level-clause-steps
+returns-in_err-level-clause-steps g c = grind (arith, common_steps)

@@ -1,3 +1,4 @@
+use Rattle.std.proofs.lemmas.Grind.{common_steps}
 use Rattle.std.proofs.Common.{◌≡◌, ◌+◌, ◌∷◌, [], ◌++◌, ◌∙◌, sym, ap, subst, arith, List, ℕ, length, take, length-append}
 use Rattle.std.proofs.lemmas.Iterator.Consumers.{YieldsList-from_first, YieldsList-turn, YieldsList-end}
 use Rattle.std.proofs.lemmas.List.{take_all}
@@ -39,3 +40,6 @@ returns-clause-pairs g c =
     let road = YieldsList-from_first (λ (x : Bor g.row.T.Denot × ℕ). (x.0.now, x.1)) (λ (rest : List (g.row.T.Denot × ℕ)). rest) all (c.into_iter-item-iterator.ensures.into_iter_gives ∙ c.iter-item-items.ensures.pairs) in
     let ends = YieldsList-end road c.loop-item.yielded _ c.loop-item.yielded_by _ _ c.in-None.is c.next.ensures.steps in
     rw (take_all (length c.loop-item.yielded) all (omega (arith, ends.1))) at c.loop-item.invariant.same
+
+pub returns-in_err-copy-clause-some : goal.returns-in_err-copy-clause-some
+returns-in_err-copy-clause-some g c = grind (arith, common_steps)

@@ -1,3 +1,4 @@
+use Rattle.std.proofs.lemmas.Grind.{common_steps}
 -- The loop keeps the sums over the levels so far.
 use Rattle.std.proofs.Common.{arith, ap, length}
 use Rattle.sketch_req.specs.Schedule.{Layout, nominal}
@@ -31,3 +32,9 @@ loop-level-preserved g c =
       few = omega (arith, i.few);
       small = omega (arith, i.small, n.1, c.nominal_capacity.ensures);
     }
+
+pub returns-clause-retained : goal.returns-clause-retained
+returns-clause-retained g c = grind (arith, common_steps)
+
+pub returns-clause-capacity : goal.returns-clause-capacity
+returns-clause-capacity g c = grind (arith, common_steps)

@@ -1,3 +1,4 @@
+use Rattle.std.proofs.lemmas.Grind.{common_steps}
 -- The loop keeps a bound of what comes into the next level, and that there is room for the turns so far.
 use Rattle.std.proofs.Common.{◌≡◌, ◌+◌, ◌<◌, ◌≤◌, ap, ℕ, List, length, length-set, arith}
 use Rattle.sketch_req.specs.Schedule.{Layout, layouts_of, layout_at, joined_layouts, steps_layouts}
@@ -70,3 +71,12 @@ returns-clause-fit g c =
       enough = omega (arith, n, m, b, c.max-count.ensures, c.loop-level.invariant.enough);
       fits = λ h l. c.loop-level.invariant.fits h (omega (arith, l, n, m, b, c.max-count.ensures));
     }
+
+pub overflow_add-here : goal.overflow_add-here
+overflow_add-here g c = grind (arith, common_steps)
+
+pub overflow_add-here-in-loop-level : goal.overflow_add-here-in-loop-level
+overflow_add-here-in-loop-level g c = grind (arith, common_steps)
+
+pub overflow_add-above : goal.overflow_add-above
+overflow_add-above g c = grind (arith, common_steps)

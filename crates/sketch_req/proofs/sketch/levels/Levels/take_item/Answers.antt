@@ -1,3 +1,4 @@
+use Rattle.std.proofs.lemmas.Grind.{common_steps}
 use Rattle.std.proofs.Common.{◌≡◌, false, true, sym, ap, ◌∙◌, subst, List, arith, le-leb}
 use Rattle.std.proofs.lemmas.Bool.{lt-leb}
 use Rattle.std.proofs.lemmas.Result.{on_ok_weaker}
@@ -30,3 +31,18 @@ returns-clause-acted g c =
     c.in_ok-append.ensures.ok ∙ ap (λ (ls : List (Level g.row.T.Denot)). appended_first ls c.args.item) c.reserve.ensures.items in
     let acted = c.walk.ensures.acted in
     acted-walk _ _ _ _ _ _ _ _ full (rw (c.append-2.ensures.k, c.append-2.ensures.accuracy, put) at acted)
+
+pub reserve_walk-requires-clause-few : goal.reserve_walk-requires-clause-few
+reserve_walk-requires-clause-few g c = grind (arith, common_steps)
+
+pub walk-requires-clause-levels : goal.walk-requires-clause-levels
+walk-requires-clause-levels g c = grind (arith, common_steps)
+
+pub walk-requires-clause-fits : goal.walk-requires-clause-fits
+walk-requires-clause-fits g c = grind (arith, common_steps)
+
+pub walk-requires-clause-few_items : goal.walk-requires-clause-few_items
+walk-requires-clause-few_items g c = grind (arith, common_steps)
+
+pub walk-requires-clause-fit : goal.walk-requires-clause-fit
+walk-requires-clause-fit g c = grind (arith, common_steps)

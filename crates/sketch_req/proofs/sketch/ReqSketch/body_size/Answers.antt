@@ -1,0 +1,12 @@
+use Rattle.std.proofs.Common.{arith}
+use Rattle.std.proofs.lemmas.Grind.{common_steps}
+use Rattle.sketch_req.proofs.sketch.ReqSketch.body_size.Goals as goal
+
+pub returns-in-Raw-clause-size : goal.returns-in-Raw-clause-size
+returns-in-Raw-clause-size g c = grind (arith, common_steps)
+
+pub returns-in-Raw-clause-spelled : goal.returns-in-Raw-clause-spelled
+returns-in-Raw-clause-spelled g c = grind (arith, common_steps)
+
+pub returns-in-Several-clause-size : goal.returns-in-Several-clause-size
+returns-in-Several-clause-size g c = grind (arith, common_steps)
