@@ -31,6 +31,13 @@ compact_if_full-requires-clause-spare g c =
     let i = c.loop-item.invariant in
     omega (arith, i.taking.taken.kept.few, i.spare)
 
+pub push-requires : goal.push-requires
+push-requires g c =
+    let i = c.loop-item.invariant in
+    let gives = c.into_iter-item-iterator.ensures.into_iter_gives in
+    let t = YieldsList-turn (YieldsList-from_vec {s = c.into_iter-item-iterator.result} c.args.low.items gives.0 (gives.1 ∙ c.args.low.ok.0)) c.loop-item.yielded c.loop-item.item-iterator c.loop-item.yielded_by c.next.result c.next.new.self c.in-Some.item c.in-Some.is c.next.ensures.steps in
+    record { spare = omega (arith, i.len, i.room, c.compact_if_full.ensures.shorter, c.compact_if_full.ensures.kept.items_room, c.requires.room, t.0, c.args.low.ok) }
+
 pub loop-item-preserved : goal.loop-item-preserved
 loop-item-preserved g c =
     let i = c.loop-item.invariant in
