@@ -64,6 +64,13 @@ impl<T: Ord + Drop> Levels<T> {
         })
     }
 
+    /// How many levels there are.
+    pub(crate) fn num_levels(&self) -> usize
+        ensures { result ≡ length self.now.levels }
+    {
+        self.bounds.len() - 1
+    }
+
     /// Makes the levels what `new` gives.
     pub(crate) fn clear(&mut self)
         ensures k { self.new.k ≡ self.old.k }
