@@ -91,7 +91,11 @@ impl<T: Ord + Drop> Levels<T> {
         ensures room { OnOk result (retained self.new.levels < self.new.items_room) }
         ensures spare { OnOk result (length self.new.levels + 1 < self.new.bounds_room) }
     {
-        reserve_both(&mut self.items, &mut self.bounds, self.total_capacity as usize)
+        reserve_both(
+            &mut self.items,
+            &mut self.bounds,
+            self.total_capacity as usize,
+        )
     }
 
     /// Compacts one level, where the levels are at or over their total capacity.

@@ -1,4 +1,4 @@
-use Rattle.std.proofs.Common.{ap₂, ap, sym, length, arith}
+use Rattle.std.proofs.Common.{ap₂, ap, length, arith}
 use Rattle.std.proofs.lemmas.Result.{on_ok_weaker}
 use Rattle.sketch_kll.specs.Flat.{levels_in}
 use Rattle.sketch_kll.specs.Levels.{retained}
