@@ -28,6 +28,12 @@ pub record AreStored {A : Type 0} (cmp : A → A → Ordering) (k : ℕ) (items 
   pub few : length (levels_in items bounds) ≤ 61
   pub sorted : UpperSorted cmp (levels_in items bounds)
 
+-- the same k, flag and levels, whatever room there is
+pub record KeepsLevels {A : Type 0} (x y : Stored A) : Type 0 where
+  pub k_is : y.k ≡ x.k
+  pub flag_is : y.is_sorted ≡ x.is_sorted
+  pub levels_are : y.levels ≡ x.levels
+
 -- the same k and flag, and no less room
 pub record KeepsRoom {A : Type 0} (x y : Stored A) : Type 0 where
   pub k_is : y.k ≡ x.k

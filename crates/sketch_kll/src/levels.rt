@@ -1,14 +1,16 @@
 //! The levels of a sketch in one vector, the highest first, and how updates change them.
 //! What a compaction does to a slice stands in `compaction`, merges in `levels::merging`.
 ghost use Rattle.std.specs.Prelude.{◌≡◌, ℕ, ◌+◌, ◌-◌, ◌*◌, ◌/◌, ◌^◌, ◌<◌, ◌≤◌, [], ◌∷◌, ◌++◌, length, max, IfSome, IfOk, OnOk, vec_len, vec_capacity, if◌then◌else◌, ◌==◌, drop, is_some, false, IsSorted, IsTrue};
+ghost use Rattle.std.specs.declared.cmp.Ordering.TheVariants.{Equal};
 ghost use Rattle.std.specs.List.{between};
 ghost use Rattle.sketch_base.specs.Query.{counted};
 ghost use Rattle.sketch_kll.specs.Capacity.{total_of};
 ghost use Rattle.sketch_kll.specs.Flat.{levels_in, IsFlat};
 ghost use Rattle.sketch_kll.specs.Levels.{retained, weight as weight_in, first_level, compacted, SameLevels, UpperSorted};
 ghost use Rattle.sketch_kll.specs.Rank.{counted_weight};
+ghost use Rattle.sketch_kll.specs.Sketch.{Ties, greatest_with, least_with, newer_or};
 ghost use Rattle.sketch_kll.specs.Steps.{full_level, is_full, with_room, needs_sorting, put};
-ghost use Rattle.sketch_kll.specs.Stored.{KeepsRoom};
+ghost use Rattle.sketch_kll.specs.Stored.{KeepsLevels, KeepsRoom};
 
 mod compress;
 pub(crate) mod merging;
@@ -17,6 +19,7 @@ use crate::capacity::{MINIMUM_CAPACITY, level_capacity, total_capacity};
 use crate::compaction::compact_level;
 use sketch_base::common::SearchCriteria;
 use sketch_base::common::counting::count_counted;
+use sketch_base::common::extremes::{clone_if_greatest, clone_if_least};
 use sketch_base::common::random::RandomBits;
 use std::alloc::{AllocError, Global};
 use std::marker::Model;
@@ -61,6 +64,13 @@ impl<T: Ord + Drop> Levels<T> {
         })
     }
 
+    /// How many levels there are.
+    pub(crate) fn num_levels(&self) -> usize
+        ensures { result ≡ length self.now.levels }
+    {
+        self.bounds.len() - 1
+    }
+
     /// Makes the levels what `new` gives.
     pub(crate) fn clear(&mut self)
         ensures k { self.new.k ≡ self.old.k }
@@ -73,6 +83,19 @@ impl<T: Ord + Drop> Levels<T> {
         self.bounds[0] = 0;
         self.bounds[1] = 0;
         self.total_capacity = total_capacity(self.k, MINIMUM_CAPACITY, 1);
+    }
+
+    /// Makes room for one item and one level more.
+    fn reserve_next(&mut self) -> Result<(), AllocError>
+        ensures kept { KeepsLevels self.old self.new }
+        ensures room { OnOk result (retained self.new.levels < self.new.items_room) }
+        ensures spare { OnOk result (length self.new.levels + 1 < self.new.bounds_room) }
+    {
+        reserve_both(
+            &mut self.items,
+            &mut self.bounds,
+            self.total_capacity as usize,
+        )
     }
 
     /// Compacts one level, where the levels are at or over their total capacity.
@@ -139,6 +162,28 @@ impl<T: Ord + Drop> Levels<T> {
         self.items.push(item).unwrap();
         self.bounds[0] = self.items.len();
         self.is_level_zero_sorted = false;
+    }
+}
+
+impl<T: Clone + Ord> Levels<T> {
+    /// Makes room for one item and one level more, and clones the item for each extreme that it is.
+    pub(crate) fn make_room(
+        &mut self,
+        item: &T,
+        least: &Option<T>,
+        greatest: &Option<T>,
+    ) -> Result<(Option<T>, Option<T>), AllocError>
+        requires clones { (x y : T) → T.is_clone x y → T.cmp x y ≡ Equal }
+        ensures kept { KeepsLevels self.old self.new }
+        ensures room { OnOk result (retained self.new.levels < self.new.items_room) }
+        ensures spare { OnOk result (length self.new.levels + 1 < self.new.bounds_room) }
+        ensures least { IfOk result (λ new.
+            Ties T.cmp (least_with T.cmp item.now least.now) (newer_or new.0 least.now)) }
+        ensures greatest { IfOk result (λ new.
+            Ties T.cmp (greatest_with T.cmp item.now greatest.now) (newer_or new.1 greatest.now)) }
+    {
+        self.reserve_next()?;
+        clone_new_extremes(item, least, greatest)
     }
 }
 
@@ -268,9 +313,24 @@ fn compact_in_place<T: Ord + Drop>(
     items.truncate(len - count);
 }
 
+/// Makes room for one more item, and for one more bound.
+fn reserve_both<T: Drop>(
+    items: &mut Vec<T>,
+    bounds: &mut Vec<usize>,
+    most: usize,
+) -> Result<(), AllocError>
+    ensures items { items.new.items ≡ items.old.items }
+    ensures bounds { bounds.new.items ≡ bounds.old.items }
+    ensures room { OnOk result (length items.old.items < vec_capacity items.new) }
+    ensures spare { OnOk result (length bounds.old.items < vec_capacity bounds.new) }
+{
+    reserve_next(items, most)?;
+    bounds.reserve(1)
+}
+
 /// Makes room for one more item. A full vector grows by a quarter, or up to `most` items if that is
 /// less: a sketch lives long, and soon grows no more.
-pub(crate) fn reserve_next<T: Drop>(items: &mut Vec<T>, most: usize) -> Result<(), AllocError>
+fn reserve_next<T: Drop>(items: &mut Vec<T>, most: usize) -> Result<(), AllocError>
     ensures items { items.new.items ≡ items.old.items }
     ensures len { vec_len items.new ≡ vec_len items.old }
     ensures ok { OnOk result (vec_len items.new < vec_capacity items.new) }
@@ -284,4 +344,21 @@ pub(crate) fn reserve_next<T: Drop>(items: &mut Vec<T>, most: usize) -> Result<(
     }
     let left = most.saturating_sub(len).max(1);
     items.reserve_exact((len / 4 + 4).min(left))
+}
+
+/// The item's clones, one for each extreme that it is.
+fn clone_new_extremes<T: Clone + Ord>(
+    item: &T,
+    least: &Option<T>,
+    greatest: &Option<T>,
+) -> Result<(Option<T>, Option<T>), AllocError>
+    requires clones { (x y : T) → T.is_clone x y → T.cmp x y ≡ Equal }
+    ensures least { IfOk result (λ new.
+        Ties T.cmp (least_with T.cmp item.now least.now) (newer_or new.0 least.now)) }
+    ensures greatest { IfOk result (λ new.
+        Ties T.cmp (greatest_with T.cmp item.now greatest.now) (newer_or new.1 greatest.now)) }
+{
+    let new_least = clone_if_least(item, least)?;
+    let new_greatest = clone_if_greatest(item, greatest)?;
+    Ok((new_least, new_greatest))
 }

@@ -1,6 +1,7 @@
 use Rattle.std.proofs.Common.{◌≡◌, ℕ, Bool, ◌+◌, ◌^◌, ◌<◌, List, [], ◌∷◌, ◌++◌, length, sym, ap, subst, cond, ◌∙◌, refl, arith, length-append}
+use Rattle.std.proofs.lemmas.List.{map-id}
 use Rattle.std.proofs.lemmas.Iterator.Adapters.{YieldsList-from_vec}
-use Rattle.std.proofs.lemmas.Iterator.Consumers.{YieldsList-turn}
+use Rattle.std.proofs.lemmas.Iterator.Consumers.{YieldsList-end, YieldsList-turn}
 use Rattle.sketch_kll.specs.Levels.{retained, weight, SameLevels}
 use Rattle.sketch_kll.specs.Steps.{is_full, with_room}
 use Rattle.sketch_kll.proofs.PutItems.{retained-put}
@@ -31,6 +32,13 @@ compact_if_full-requires-clause-spare g c =
     let i = c.loop-item.invariant in
     omega (arith, i.taking.taken.kept.few, i.spare)
 
+pub push-requires : goal.push-requires
+push-requires g c =
+    let i = c.loop-item.invariant in
+    let gives = c.into_iter-item-iterator.ensures.into_iter_gives in
+    let t = YieldsList-turn (YieldsList-from_vec {s = c.into_iter-item-iterator.result} c.args.low.items gives.0 (gives.1 ∙ c.args.low.ok.0)) c.loop-item.yielded c.loop-item.item-iterator c.loop-item.yielded_by c.next.result c.next.new.self c.in-Some.item c.in-Some.is c.next.ensures.steps in
+    record { spare = omega (arith, i.len, i.room, c.compact_if_full.ensures.shorter, c.compact_if_full.ensures.kept.items_room, c.requires.room, t.0, c.args.low.ok) }
+
 pub loop-item-preserved : goal.loop-item-preserved
 loop-item-preserved g c =
     let i = c.loop-item.invariant in
@@ -60,4 +68,16 @@ loop-item-preserved g c =
       len = omega (arith, i.len, c.compact_if_full.ensures.shorter, ap retained c.push.ensures.levels, retained-put c.in-Some.item ws, length-append c.loop-item.yielded (c.in-Some.item ∷ []));
       room = omega (arith, i.room, c.compact_if_full.ensures.kept.items_room, c.push.ensures.room);
       spare = omega (arith, i.spare, c.compact_if_full.ensures.kept.bounds_room, c.push.ensures.bounds_room);
+    }
+
+pub returns : goal.returns
+returns g c =
+    let i = c.loop-item.invariant in
+    let gives = c.into_iter-item-iterator.ensures.into_iter_gives in
+    let all = YieldsList-end (YieldsList-from_vec {s = c.into_iter-item-iterator.result} c.args.low.items gives.0 (gives.1 ∙ c.args.low.ok.0)) c.loop-item.yielded c.loop-item.item-iterator c.loop-item.yielded_by c.next.result c.next.new.self c.in-None.is c.next.ensures.steps in
+    record {
+      k = i.k;
+      taken = rw (sym (map-id c.loop-item.yielded) ∙ all.0) at i.taking.taken;
+      len = omega (arith, i.len, all.1, c.args.low.ok);
+      spare = i.spare;
     }
