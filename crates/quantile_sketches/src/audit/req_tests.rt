@@ -1,5 +1,5 @@
 //! Runs and audits of REQ sketches.
-use crate::tests::runs::{Step, Tail, Trial, audited, given, holds};
+use crate::tests::runs::{Step, Trial, audited, given, holds};
 use sketch_base::error::Error;
 use sketch_req::RankAccuracy;
 use sketch_req::sketch::ReqSketch;
@@ -46,60 +46,6 @@ fn gives_always(
     Ok(true)
 }
 
-// Whether the sketch of a slot, of this k, is exact from one number on to the last under each word.
-fn is_exact_always(
-    alloc: Global,
-    steps: &[Steps],
-    (slot, k): (u8, u16),
-    (first, last): (u32, u32),
-) -> Result<bool, Error> {
-    for word in WORDS {
-        let tail = Tail {
-            slot,
-            k,
-            first,
-            last,
-        };
-        if !is_so(alloc, steps, &Trial::HasTail(&word, tail))? {
-            return Ok(false);
-        }
-    }
-    Ok(true)
-}
-
-#[test]
-fn tail_is_exact_by_updates(rt: HostRuntime) -> Result<(), Fail> {
-    let steps = [high(0, 12), Step::Updates(0, 1, 211)];
-    assert!(rt; gives_always(rt.alloc(), &steps, 3, &[])?);
-    assert!(rt; is_exact_always(rt.alloc(), &steps, (0, 12), (175, 211))?);
-    Ok(())
-}
-
-#[test]
-fn tail_is_that_of_a_lesser_source(rt: HostRuntime) -> Result<(), Fail> {
-    let steps = [
-        high(0, 4),
-        Step::Updates(0, 1, 24),
-        high(1, 12),
-        Step::Merge(1, 0),
-    ];
-    assert!(rt; gives_always(rt.alloc(), &steps, 1, &[])?);
-    assert!(rt; is_exact_always(rt.alloc(), &steps, (1, 12), (12, 24))?);
-    Ok(())
-}
-
-#[test]
-fn tail_is_that_of_a_lesser_target(rt: HostRuntime) -> Result<(), Fail> {
-    let steps = [
-        high(0, 12),
-        Step::Updates(0, 1, 72),
-        high(1, 4),
-        Step::Merge(1, 0),
-    ];
-    assert!(rt; is_exact_always(rt.alloc(), &steps, (1, 4), (60, 72))?);
-    Ok(())
-}
-
 // 50 updates with a round trip after the first 24.
 fn with_round_trip() -> [Steps; 4] {
     [
@@ -125,7 +71,6 @@ fn ranks_as(alloc: Global, steps: &[Steps], rank: (u8, u32, u64, u64)) -> Result
 fn merges_a_copy_into_itself(rt: HostRuntime) -> Result<(), Fail> {
     let steps = [high(0, 12), Step::Updates(0, 1, 72), Step::Merge(0, 0)];
     assert!(rt; ranks_as(rt.alloc(), &steps, (0, 54, 108, 144))?);
-    assert!(rt; is_so(rt.alloc(), &steps, &Trial::Retains(&[false], 0, 132))?);
     Ok(())
 }
 
@@ -289,5 +234,23 @@ fn audits_sixteen_coins(rt: HostRuntime) -> Result<(), Fail> {
 fn audits_at_most_sixteen_coins(rt: HostRuntime) -> Result<(), Fail> {
     let steps = [low(0, 4), Step::Updates(0, 1, 2000)];
     assert!(rt; is_so(rt.alloc(), &steps, &Trial::HasTooMany)?);
+    Ok(())
+}
+
+#[test]
+fn long_run_ends(rt: HostRuntime) -> Result<(), Fail> {
+    let steps = [
+        high(0, 1024),
+        Step::Updates(0, 1, 100_000),
+        Step::Merge(0, 0),
+        Step::RoundTrip(0),
+    ];
+    assert!(rt;
+        is_so(
+            rt.alloc(),
+            &steps,
+            &Trial::Takes(&[false; 1000], 200_000, 100_000)
+        )?
+    );
     Ok(())
 }

@@ -1,8 +1,6 @@
-//! Large sketches: no call gives up from some size on where memory is ample.
-use super::calls::{CRITERIA, View, are_equal, double, fill_with, fraction};
-use super::runs::{Commands, Step, push_step};
+//! Large sketches: no call gives up from some size on where memory is ample. `audit` has the long runs.
+use super::calls::{CRITERIA, View, are_equal, double, fill_with, fraction, ranks_alike};
 use super::sketches::Tried;
-use crate::audit::Run;
 use crate::text::{image_bytes, image_text};
 use sketch_base::common::random::SplitMix64;
 use sketch_base::common::{Rank, SearchCriteria};
@@ -33,17 +31,34 @@ fn fractions(alloc: Global) -> Result<Vec<Rank>, AllocError> {
     Ok(fractions)
 }
 
-/// Whether a sketch holds so many items, of which these are the least and the greatest.
+/// Whether a fraction of a sketch, 0 or 1, names a number's item.
+fn names<S: Tried>(alloc: Global, sketch: &S, weight: u64, number: u32) -> Result<bool, Error>
+    requires { S.Asks }
+{
+    let item = S::item_of(alloc, number)?;
+    let found = sketch.quantile_of(fraction(weight, 1), CRITERIA)?;
+    Ok(found == Some(item))
+}
+
+/// Whether a sketch ranks a number's item as the whole of so many.
+fn ranks_last<S: Tried>(
+    alloc: Global,
+    sketch: &S,
+    number: u32,
+    count: u64,
+) -> Result<bool, AllocError> {
+    let item = S::item_of(alloc, number)?;
+    Ok(sketch.rank_of(&item, CRITERIA) == Some(fraction(count, count)))
+}
+
+/// Whether a sketch holds so many items, of which the first is the least and the last the greatest.
 fn is_whole<S: Tried>(alloc: Global, sketch: &S, count: u64) -> Result<bool, Error>
     requires { S.Asks }
 {
-    let (least, greatest) = (S::item_of(alloc, 1)?, S::item_of(alloc, MANY)?);
-    let first = sketch.quantile_of(fraction(0, 1), CRITERIA)?;
-    let last = sketch.quantile_of(fraction(1, 1), CRITERIA)?;
     Ok(
-        sketch.rank_of(&greatest, CRITERIA) == Some(fraction(count, count))
-            && first == Some(least)
-            && last == Some(greatest),
+        ranks_last(alloc, sketch, MANY, count)?
+            && names(alloc, sketch, 0, 1)?
+            && names(alloc, sketch, 1, MANY)?,
     )
 }
 
@@ -59,21 +74,35 @@ fn distributes_alike<S: Tried>(alloc: Global, sketch: &S, view: &View<S>) -> Res
     )
 }
 
-/// Whether a view has the quantiles of its sketch, one for each fraction.
-fn finds_alike<S: Tried>(
-    alloc: Global,
+/// Whether so many quantiles were found, and the one in the middle is the one that is found alone.
+fn has_middle<S: Tried>(
     sketch: &S,
-    view: &View<S>,
+    found: &Option<Vec<S::Item>>,
+    count: usize,
     criteria: SearchCriteria,
 ) -> Result<bool, Error>
     requires { S.Asks }
 {
-    let fractions = fractions(alloc)?;
-    let fractions = fractions.as_slice();
+    let middle = sketch.quantile_of(fraction(MANY as u64 / 2, MANY as u64), criteria)?;
+    Ok(match found {
+        Some(found) => found.len() == count && found.get(MANY as usize / 2) == middle.as_ref(),
+        None => false,
+    })
+}
+
+/// Whether a sketch has one quantile for each fraction, which are those of its view.
+fn finds_alike<S: Tried>(
+    sketch: &S,
+    view: &View<S>,
+    fractions: &[Rank],
+    criteria: SearchCriteria,
+) -> Result<bool, Error>
+    requires { S.Asks }
+{
     let found = sketch.quantiles_of(fractions, criteria)?;
-    let count = found.as_ref().map_or(0, |found| found.len());
-    let others = S::quantiles_in(view, fractions, criteria);
-    Ok(count == fractions.len() && are_equal(Ok(found), others)?)
+    let others = S::quantiles_in(view, fractions, criteria)?;
+    let is_same = found == others;
+    Ok(has_middle(sketch, &found, fractions.len(), criteria)? && is_same)
 }
 
 /// Whether the text of an image reads as the image.
@@ -93,46 +122,27 @@ fn reads_back<S: Tried>(alloc: Global, sketch: &S, count: u64) -> Result<bool, E
     Ok(is_same && is_read_as_text(alloc, image)? && is_whole(alloc, &read, count)?)
 }
 
-fn push_many<S: Tried>(
-    alloc: Global,
-    commands: &mut Commands<S>,
-    k: u16,
-) -> Result<(), AllocError> {
-    push_step::<S>(alloc, commands, Step::New(0, S::config_of(k)))?;
-    push_step::<S>(alloc, commands, Step::Updates(0, 1, MANY))?;
-    push_step::<S>(alloc, commands, Step::Merge(0, 0))?;
-    push_step::<S>(alloc, commands, Step::RoundTrip(0))
-}
-
-fn run_many<S: Tried>(alloc: Global, k: u16) -> Result<Run<S>, Error>
+/// Whether a large sketch answers many queries at once as a view of it does.
+fn answers_as<S: Tried>(alloc: Global, sketch: &S, view: &View<S>) -> Result<bool, Error>
     requires { S.Asks }
 {
-    let mut commands = Vec::new(alloc);
-    push_many::<S>(alloc, &mut commands, k)?;
-    S::run_of(alloc, commands.as_slice(), &[false; 1000])
-}
-
-/// Whether a run of many updates takes them all.
-fn runs<S: Tried>(alloc: Global, k: u16) -> Result<bool, Error>
-    requires { S.Asks }
-{
-    let run = run_many::<S>(alloc, k)?;
-    match run.slots.get(&0) {
-        Some(sketch) => Ok(run.refused.is_empty() && is_whole(alloc, sketch, 200_000)?),
-        None => Ok(false),
-    }
+    let fractions = fractions(alloc)?;
+    let asked = fractions.as_slice();
+    Ok(
+        finds_alike(sketch, view, asked, SearchCriteria::Inclusive)?
+            && finds_alike(sketch, view, asked, SearchCriteria::Exclusive)?
+            && ranks_alike(alloc, sketch, view, 61)?
+            && distributes_alike(alloc, sketch, view)?,
+    )
 }
 
 /// Whether a large sketch answers many queries at once as a copy of its view does.
 fn answers_many<S: Tried>(alloc: Global, sketch: &S) -> Result<bool, Error>
     requires { S.Asks }
 {
-    let view = S::copy_of(&sketch.view_of()?)?;
-    Ok(
-        distributes_alike(alloc, sketch, &view)?
-            && finds_alike(alloc, sketch, &view, SearchCriteria::Inclusive)?
-            && finds_alike(alloc, sketch, &view, SearchCriteria::Exclusive)?,
-    )
+    let view = sketch.view_of()?;
+    let copy = S::copy_of(&view)?;
+    answers_as(alloc, sketch, &copy)
 }
 
 /// Whether a large sketch answers all that it is asked, also where a copy was merged into it.
@@ -177,17 +187,5 @@ fn large_req_answers(rt: HostRuntime) -> Result<(), Fail> {
 #[test]
 fn large_req_of_low_ranks_answers(rt: HostRuntime) -> Result<(), Fail> {
     assert!(rt; holds_many::<ReqSketch<i32>>(rt.alloc(), (1024, RankAccuracy::LowRank))?);
-    Ok(())
-}
-
-#[test]
-fn long_run_of_kll_ends(rt: HostRuntime) -> Result<(), Fail> {
-    assert!(rt; runs::<KllSketch<i64>>(rt.alloc(), 4096)?);
-    Ok(())
-}
-
-#[test]
-fn long_run_of_req_ends(rt: HostRuntime) -> Result<(), Fail> {
-    assert!(rt; runs::<ReqSketch<i32>>(rt.alloc(), 1024)?);
     Ok(())
 }

@@ -1,64 +1,9 @@
-//! The crate below all others: bytes, families, coins and errors. Its calls are tried here, so that it is proved once.
-use sketch_base::codec::{Family, SketchBytes, SketchSlice};
+//! The crate below all others: families, coins and errors. `req` has numbers of each width, as their bytes.
+use sketch_base::codec::Family;
 use sketch_base::common::random::{RandomBits, SplitMix64, WordBits};
 use sketch_base::error::{Error, ErrorKind};
 use std::alloc::{AllocError, Global};
 use std::test::Fail;
-
-// Numbers of each width, the lowest byte first.
-fn numbers(alloc: Global) -> Result<Vec<u8>, Error> {
-    let mut bytes = SketchBytes::with_capacity(alloc, 0)?;
-    bytes.write_u8(7)?;
-    bytes.write_u16_le(200)?;
-    bytes.write_u32_le(0x0102_0304)?;
-    bytes.write_u64_le(9)?;
-    bytes.write_i32_le(-2)?;
-    bytes.write_i64_le(-1)?;
-    bytes.write(&[5])?;
-    Ok(bytes.into_bytes())
-}
-
-#[test]
-fn writes_the_lowest_byte_first(rt: HostRuntime) -> Result<(), Fail> {
-    let bytes = numbers(rt.alloc())?;
-    let wanted = [
-        7, 200, 0, 4, 3, 2, 1, 9, 0, 0, 0, 0, 0, 0, 0, 254, 255, 255, 255, 255, 255, 255, 255, 255,
-        255, 255, 255, 5,
-    ];
-    assert_eq!(rt; bytes.as_slice(), wanted.as_slice());
-    Ok(())
-}
-
-fn read_small(input: &mut SketchSlice<'_>) -> Result<(u8, u16, u32), Error> {
-    Ok((input.read_u8()?, input.read_u16_le()?, input.read_u32_le()?))
-}
-
-fn read_large(input: &mut SketchSlice<'_>) -> Result<(u64, i32, i64), Error> {
-    Ok((
-        input.read_u64_le()?,
-        input.read_i32_le()?,
-        input.read_i64_le()?,
-    ))
-}
-
-// Whether a five alone is left, and nothing behind it.
-fn ends_with_five(input: &mut SketchSlice<'_>) -> bool {
-    if input.read_u16_le().is_ok() || input.remaining() != [5].as_slice() {
-        return false;
-    }
-    input.advance(1);
-    input.read_u8().is_err()
-}
-
-#[test]
-fn reads_the_lowest_byte_first(rt: HostRuntime) -> Result<(), Fail> {
-    let bytes = numbers(rt.alloc())?;
-    let mut input = SketchSlice::new(&bytes);
-    assert!(rt; read_small(&mut input)? == (7, 200, 0x0102_0304));
-    assert!(rt; read_large(&mut input)? == (9, -2, -1));
-    assert!(rt; ends_with_five(&mut input));
-    Ok(())
-}
 
 #[test]
 fn knows_its_family(rt: HostRuntime) {
@@ -67,35 +12,42 @@ fn knows_its_family(rt: HostRuntime) {
     assert!(rt; Family::REQ.validate_id(17).is_ok());
 }
 
+// Whether the next numbers of a source are these.
+fn gives(source: &mut SplitMix64, numbers: &[u64]) -> bool {
+    for number in numbers {
+        if source.next_u64() != *number {
+            return false;
+        }
+    }
+    true
+}
+
+// (The coins of seed 0 are tried by `tests/program`.)
 #[test]
 fn splitmix64_from_zero(rt: HostRuntime) {
-    let mut source = SplitMix64::new(0);
-    for number in [
+    let numbers = [
         0xe220a8397b1dcdaf,
         0x6e789e6aa1b965f4,
         0x06c45d188009454f,
         0xf88bb8a8724c81ec,
-    ] {
-        assert_eq!(rt; source.next_u64(), number);
-    }
-    let mut coins = SplitMix64::new(0);
-    for bit in [true, false, true, false] {
-        assert_eq!(rt; coins.random_bit(), bit);
-    }
+    ];
+    assert!(rt; gives(&mut SplitMix64::new(0), &numbers));
 }
 
-// Whether the next draw, behind so many others, is this bit.
-fn draws(source: &mut WordBits<'_>, drawn: usize, bit: bool) -> bool {
-    source.drawn() == drawn && source.random_bit() == bit
+// Whether the draws from a new source on are these bits, and each is counted.
+fn draws(source: &mut WordBits<'_>, bits: &[bool]) -> bool {
+    for (drawn, bit) in bits.iter().enumerate() {
+        if source.drawn() != drawn || source.random_bit() != *bit {
+            return false;
+        }
+    }
+    source.drawn() == bits.len()
 }
 
 #[test]
 fn word_then_false(rt: HostRuntime) {
     let mut source = WordBits::new(&[true, false, true]);
-    for (drawn, bit) in [true, false, true, false, false].iter().enumerate() {
-        assert!(rt; draws(&mut source, drawn, *bit), "at draw {drawn}");
-    }
-    assert_eq!(rt; source.drawn(), 5);
+    assert!(rt; draws(&mut source, &[true, false, true, false, false]));
 }
 
 // Whether the error of a kind prints so, and tells its kind.
@@ -106,8 +58,12 @@ fn prints(alloc: Global, kind: ErrorKind, text: &str) -> Result<bool, AllocError
 
 #[test]
 fn prints_its_kind(rt: HostRuntime) -> Result<(), Fail> {
-    assert!(rt; prints(rt.alloc(), ErrorKind::InvalidArgument, "invalid argument")?);
-    assert!(rt; prints(rt.alloc(), ErrorKind::InvalidData, "invalid data")?);
-    assert!(rt; prints(rt.alloc(), ErrorKind::OutOfMemory, "out of memory")?);
+    for (kind, text) in [
+        (ErrorKind::InvalidArgument, "invalid argument"),
+        (ErrorKind::InvalidData, "invalid data"),
+        (ErrorKind::OutOfMemory, "out of memory"),
+    ] {
+        assert!(rt; prints(rt.alloc(), kind, text)?, "as {text}");
+    }
     Ok(())
 }

@@ -231,21 +231,30 @@ pub(super) fn fractions() -> [Rank; 3] {
     [fraction(0, 5), fraction(2, 5), fraction(1, 1)]
 }
 
+/// Asks for items or their ranks.
+fn ask_for_items<S: Tried>(call: Call, sketch: &S, points: &[S::Item]) -> Result<Answer<S>, Error>
+    requires { S.Asks }
+{
+    let fractions = fractions();
+    Ok(match call {
+        Call::Quantile => Answer::Item(sketch.quantile_of(fractions[1], CRITERIA)?),
+        Call::Quantiles => Answer::Items(sketch.quantiles_of(&fractions, CRITERIA)?),
+        Call::Cdf => Answer::Ranks(sketch.cdf_of(points, CRITERIA)?),
+        _ => Answer::Ranks(sketch.pmf_of(points, CRITERIA)?),
+    })
+}
+
 /// Makes a call that asks the sketch.
 fn ask<S: Tried>(call: Call, subject: &Subject<S>) -> Result<Answer<S>, Error>
     requires { S.Asks }
 {
     let Subject { sketch, points, .. } = subject;
-    let fractions = fractions();
-    Ok(match call {
-        Call::Clone => Answer::Sketch(sketch.copy()?),
-        Call::Quantile => Answer::Item(sketch.quantile_of(fractions[1], CRITERIA)?),
-        Call::Quantiles => Answer::Items(sketch.quantiles_of(&fractions, CRITERIA)?),
-        Call::Cdf => Answer::Ranks(sketch.cdf_of(points.as_slice(), CRITERIA)?),
-        Call::Pmf => Answer::Ranks(sketch.pmf_of(points.as_slice(), CRITERIA)?),
-        Call::SortedView => Answer::View(sketch.view_of()?),
-        _ => Answer::Bytes(sketch.image()?),
-    })
+    match call {
+        Call::Clone => Ok(Answer::Sketch(sketch.copy()?)),
+        Call::SortedView => Ok(Answer::View(sketch.view_of()?)),
+        Call::Serialize => Ok(Answer::Bytes(sketch.image()?)),
+        _ => ask_for_items(call, sketch, points.as_slice()),
+    }
 }
 
 /// Runs or audits commands.

@@ -85,11 +85,15 @@ fn is_raw(alloc: Global, items: [i32; 2], said: bool, is_sorted: bool) -> Result
 #[test]
 fn new_levels(rt: HostRuntime) -> Result<(), Fail> {
     assert!(rt; is_new(rt.alloc()));
-    assert!(rt; is_raw(rt.alloc(), [1, 2], true, true)?);
-    assert!(rt; is_raw(rt.alloc(), [1, 2], false, false)?);
-    assert!(rt; is_raw(rt.alloc(), [2, 2], true, true)?);
-    assert!(rt; is_raw(rt.alloc(), [2, 1], true, false)?);
-    assert!(rt; is_raw(rt.alloc(), [2, 1], false, false)?);
+    for (items, said, is_sorted) in [
+        ([1, 2], true, true),
+        ([1, 2], false, false),
+        ([2, 2], true, true),
+        ([2, 1], true, false),
+        ([2, 1], false, false),
+    ] {
+        assert!(rt; is_raw(rt.alloc(), items, said, is_sorted)?);
+    }
     Ok(())
 }
 
@@ -135,19 +139,28 @@ fn is_copied(level: &Level) -> Result<bool, Error> {
     Ok(holds(&copy, &[1, 2, 3, 4, 5, 6], true) && copy.iter().count() == 6)
 }
 
-/// Whether a level of 3, 2, 1 merges nothing in and then 2, 1, from levels of another k and accuracy.
+/// A level of k 12 of the numbers from 1 to one that merged those to another in, of a level of another k and accuracy.
+fn merged(alloc: Global, last: i32, other: i32) -> Result<Level, Error> {
+    let mut level = filled(alloc, 12, HIGH, last)?;
+    level.merge(&filled(alloc, 4, LOW, other)?)?;
+    Ok(level)
+}
+
+/// Whether a level of 3, 2, 1 that merges nothing in is as it was.
+fn merges_nothing(alloc: Global) -> Result<bool, Error> {
+    let level = merged(alloc, 3, 0)?;
+    Ok(holds(&level, &[3, 2, 1], false))
+}
+
+/// Whether a level of 3, 2, 1 merges 2, 1 in.
 fn merges_two(alloc: Global) -> Result<bool, Error> {
-    let mut level = filled(alloc, 12, HIGH, 3)?;
-    level.merge(&filled(alloc, 4, LOW, 0)?)?;
-    let is_same = holds(&level, &[3, 2, 1], false);
-    level.merge(&filled(alloc, 4, LOW, 2)?)?;
-    Ok(is_same && holds(&level, &[1, 1, 2, 2, 3], true) && has_numbers(&level, (5, 0, 3, 12, 72)))
+    let level = merged(alloc, 3, 2)?;
+    Ok(holds(&level, &[1, 1, 2, 2, 3], true) && has_numbers(&level, (5, 0, 3, 12, 72)))
 }
 
 /// Whether a level of the numbers from 1 to 20 merges those from 1 to 52 in.
 fn merges_many(alloc: Global) -> Result<bool, Error> {
-    let mut level = filled(alloc, 12, HIGH, 20)?;
-    level.merge(&filled(alloc, 4, LOW, 52)?)?;
+    let level = merged(alloc, 20, 52)?;
     Ok(level.is_sorted() && counts(&level, 20, 40, 38) && counts(&level, 52, 72, 71))
 }
 
@@ -158,12 +171,24 @@ fn appends_above(alloc: Global) -> Result<bool, Error> {
     Ok(holds(&level, &[5], true) && level.weight() == 8)
 }
 
+fn merges_in_order(alloc: Global) -> Result<bool, Error> {
+    let level = merged_in_order(alloc)?;
+    is_copied(&level)
+}
+
+fn merges_each(alloc: Global) -> Result<bool, Error> {
+    Ok(
+        merges_many(alloc)?
+            && appends_above(alloc)?
+            && merges_in_order(alloc)?
+            && merges_nothing(alloc)?
+            && merges_two(alloc)?,
+    )
+}
+
 #[test]
 fn merges_levels(rt: HostRuntime) -> Result<(), Fail> {
-    assert!(rt; merges_many(rt.alloc())?);
-    assert!(rt; appends_above(rt.alloc())?);
-    assert!(rt; is_copied(&merged_in_order(rt.alloc())?)?);
-    assert!(rt; merges_two(rt.alloc())?);
+    assert!(rt; merges_each(rt.alloc())?);
     Ok(())
 }
 
@@ -177,21 +202,23 @@ const ODD: [i32; 32] = [
     51, 53, 55, 57, 59, 61, 63,
 ];
 
-/// Whether a compaction does so, and moves the state and draws a coin where anything goes up.
+/// Whether a level that was compacted has sent these items up and kept its range, and moved its state where anything went up.
+fn is_compacted(level: &Level, out: &[i32], compaction: Compaction<'_>) -> bool {
+    let (_, _, _, up, first, last) = compaction;
+    let moved = if up.is_empty() { 0 } else { 1 };
+    out == up && is_range(level, first, last) && level.state() == moved
+}
+
+/// Whether a compaction does so, and draws a coin where anything goes up.
 fn compacts_to(alloc: Global, compaction: Compaction<'_>) -> Result<bool, Error> {
-    let (rank_accuracy, count, coin, up, first, last) = compaction;
+    let (rank_accuracy, count, coin, up, ..) = compaction;
     let mut level = filled(alloc, 4, rank_accuracy, count)?;
     let mut out = vec![in alloc; 99]?;
     let word = [coin];
     let mut coins = WordBits::new(&word);
     level.compact_into(&mut out, &mut coins)?;
-    let moved = if up.is_empty() { 0 } else { 1 };
-    Ok(
-        out.as_slice() == up
-            && is_range(&level, first, last)
-            && level.state() == moved as u64
-            && coins.drawn() == moved,
-    )
+    let is_drawn = (coins.drawn() == 0) == up.is_empty();
+    Ok(is_compacted(&level, out.as_slice(), compaction) && is_drawn)
 }
 
 #[test]

@@ -106,14 +106,19 @@ fn fill_kll(sketch: &mut KllSketch<Third>, coins: &mut SplitMix64) -> Result<boo
     Ok(true)
 }
 
-/// A KLL sketch of k 8 that took 1000 items and a copy of itself, unless an update left it otherwise than it should.
-fn kll_of_thirds(alloc: Global) -> Result<Option<KllSketch<Third>>, Error> {
+/// Merges a copy of a sketch into it, and asks for its median and the whole: whether both are as wanted.
+fn double_kll(sketch: &mut KllSketch<Third>, coins: &mut SplitMix64) -> Result<bool, Error> {
+    let copy = sketch.clone()?;
+    sketch.merge(&copy, coins)?;
+    let rank = sketch.rank(&item_of(2), CRITERIA);
+    Ok(is_answered(sketch.quantile(fraction(1, 2), CRITERIA)?, rank))
+}
+
+/// Whether a KLL sketch of k 8 takes 1000 items and a copy of itself.
+fn takes_kll(alloc: Global) -> Result<bool, Error> {
     let mut sketch = KllSketch::new(alloc, 8)?;
     let mut coins = SplitMix64::new(0);
-    let is_filled = fill_kll(&mut sketch, &mut coins)?;
-    let copy = sketch.clone()?;
-    sketch.merge(&copy, &mut coins)?;
-    Ok(is_filled.then_some(sketch))
+    Ok(fill_kll(&mut sketch, &mut coins)? && double_kll(&mut sketch, &mut coins)?)
 }
 
 fn fill_req(sketch: &mut ReqSketch<Third>, coins: &mut SplitMix64) -> Result<bool, Error> {
@@ -128,28 +133,29 @@ fn fill_req(sketch: &mut ReqSketch<Third>, coins: &mut SplitMix64) -> Result<boo
     Ok(true)
 }
 
+/// Merges a copy of a sketch into it, and asks for its median and the whole: whether both are as wanted.
+fn double_req(sketch: &mut ReqSketch<Third>, coins: &mut SplitMix64) -> Result<bool, Error> {
+    let copy = sketch.clone()?;
+    sketch.merge(&copy, coins)?;
+    let rank = sketch.rank(&item_of(2), CRITERIA);
+    Ok(is_answered(sketch.quantile(fraction(1, 2), CRITERIA)?, rank))
+}
+
 /// The same of a REQ sketch of k 4.
-fn req_of_thirds(alloc: Global) -> Result<Option<ReqSketch<Third>>, Error> {
+fn takes_req(alloc: Global) -> Result<bool, Error> {
     let mut sketch = ReqSketch::new(alloc, 4, RankAccuracy::HighRank)?;
     let mut coins = SplitMix64::new(0);
-    let is_filled = fill_req(&mut sketch, &mut coins)?;
-    let copy = sketch.clone()?;
-    sketch.merge(&copy, &mut coins)?;
-    Ok(is_filled.then_some(sketch))
+    Ok(fill_req(&mut sketch, &mut coins)? && double_req(&mut sketch, &mut coins)?)
 }
 
 #[test]
 fn kll_takes_items_of_three_classes(rt: HostRuntime) -> Result<(), Fail> {
-    let sketch = kll_of_thirds(rt.alloc())?.ok_or("an update left another sketch")?;
-    let median = sketch.quantile(fraction(1, 2), CRITERIA)?;
-    assert!(rt; is_answered(median, sketch.rank(&item_of(2), CRITERIA)));
+    assert!(rt; takes_kll(rt.alloc())?);
     Ok(())
 }
 
 #[test]
 fn req_takes_items_of_three_classes(rt: HostRuntime) -> Result<(), Fail> {
-    let sketch = req_of_thirds(rt.alloc())?.ok_or("an update left another sketch")?;
-    let median = sketch.quantile(fraction(1, 2), CRITERIA)?;
-    assert!(rt; is_answered(median, sketch.rank(&item_of(2), CRITERIA)));
+    assert!(rt; takes_req(rt.alloc())?);
     Ok(())
 }

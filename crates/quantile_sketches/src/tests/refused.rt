@@ -36,6 +36,22 @@ fn is_tried(alloc: Global) -> bool {
     was_refused(alloc)
 }
 
+/// Whether two calls gave the same, and left the same.
+fn are_the_same<S: Tried>(
+    alloc: Global,
+    given: &Answer<S>,
+    subject: &Subject<S>,
+    wanted: &Answer<S>,
+    other: &Subject<S>,
+) -> Result<bool, Error>
+    requires { S.Asks }
+{
+    Ok(
+        is_same(alloc, given, wanted, other.points.as_slice())?
+            && are_alike(alloc, &subject.sketch, &other.sketch)?,
+    )
+}
+
 /// Whether the call gives what it gives on a sketch that was never refused memory, and leaves the same.
 fn gives_the_same<S: Tried>(
     alloc: Global,
@@ -47,10 +63,7 @@ fn gives_the_same<S: Tried>(
 {
     let mut other: Subject<S> = subject_of(alloc, row)?;
     let wanted = answer_of(alloc, row, &mut other)?;
-    Ok(
-        is_same(alloc, given, &wanted, other.points.as_slice())?
-            && are_alike(alloc, &subject.sketch, &other.sketch)?,
-    )
+    are_the_same(alloc, given, subject, &wanted, &other)
 }
 
 /// Whether the call, made again, gives what it gives on a sketch that was never refused memory.
@@ -65,13 +78,13 @@ fn answers_again<S: Tried>(alloc: Global, row: Row, subject: &mut Subject<S>) ->
 fn is_left<S: Tried>(
     alloc: Global,
     row: Row,
-    error: Error,
+    kind: ErrorKind,
     before: &S,
     subject: &mut Subject<S>,
 ) -> Result<bool, Error>
     requires { S.Asks }
 {
-    let is_told = error.kind() == ErrorKind::OutOfMemory;
+    let is_told = kind == ErrorKind::OutOfMemory;
     Ok(is_told && are_alike(alloc, &subject.sketch, before)? && answers_again(alloc, row, subject)?)
 }
 
@@ -79,15 +92,15 @@ fn is_left<S: Tried>(
 fn is_well<S: Tried>(
     alloc: Global,
     row: Row,
-    first: Result<Answer<S>, Error>,
+    first: &Result<Answer<S>, Error>,
     before: &S,
     subject: &mut Subject<S>,
 ) -> Result<bool, Error>
     requires { S.Asks }
 {
     match first {
-        Ok(given) => gives_the_same(alloc, row, &given, subject),
-        Err(error) => is_left(alloc, row, error, before, subject),
+        Ok(given) => gives_the_same(alloc, row, given, subject),
+        Err(error) => is_left(alloc, row, error.kind(), before, subject),
     }
 }
 
@@ -105,8 +118,8 @@ fn try_on<S: Tried>(
     let first = answer_of(alloc, row, subject);
     let is_refused = was_refused(alloc);
     let is_as_told = is_refused == first.is_err() && (is_refused || is_told);
-    let is_well = is_as_told && is_well(alloc, row, first, before, subject)?;
-    Ok((is_refused, is_well))
+    let is_well = is_well(alloc, row, &first, before, subject)?;
+    Ok((is_refused, is_as_told && is_well))
 }
 
 /// Makes the row's call with the Nth request refused: whether one was, and whether all is as wanted.
@@ -170,82 +183,111 @@ fn is_none<X: Drop>(answer: Result<Option<X>, Error>) -> bool {
     matches!(answer, Ok(None))
 }
 
-/// Whether an empty view answers None.
-fn views_none<S: Tried>(view: &View<S>, points: &[S::Item], item: &S::Item) -> bool
+/// Whether an empty view has nothing, and answers None.
+fn views_none<S: Tried>(view: &View<S>, points: &[S::Item]) -> bool
     requires { S.Asks }
 {
     let fractions = fractions();
-    view.rank(item, CRITERIA).is_none()
+    view.is_empty()
+        && matches!(points, [item, ..] if view.rank(item, CRITERIA).is_none())
         && is_none(S::quantile_in(view, fractions[1], CRITERIA))
         && is_none(S::quantiles_in(view, &fractions, CRITERIA))
         && is_none(view.cdf(points, CRITERIA))
         && is_none(view.pmf(points, CRITERIA))
 }
 
+/// Whether an empty view refuses bad arguments.
+fn view_refuses<S: Tried>(view: &View<S>, equal: &[S::Item]) -> bool
+    requires { S.Asks }
+{
+    is_invalid(S::quantile_in(view, fraction(3, 2), CRITERIA))
+        && is_invalid(S::quantiles_in(view, &[fraction(0, 0)], CRITERIA))
+        && is_invalid(view.cdf(equal, CRITERIA))
+        && is_invalid(view.pmf(equal, CRITERIA))
+}
+
 // Each of these makes calls that take no memory, with the first request refused: whether none was made, and the answers are right.
-fn reads_quietly<S: Tried>(alloc: Global, sketch: &S) -> Result<bool, Error>
-    requires { S.Asks }
-{
-    let item = S::item_of(alloc, 27)?;
-    let (view, copy) = (sketch.view_of()?, sketch.copy()?);
-    let is_told = refuse(alloc, 1);
-    let is_read = sketch.reads_as(&copy) && ranks_last(sketch, &view, &item);
-    Ok(is_told && is_read && !was_refused(alloc))
-}
-
-fn ranks_last<S: Tried>(sketch: &S, view: &View<S>, item: &S::Item) -> bool {
+fn reads_quietly<S: Tried>(
+    alloc: Global,
+    sketch: &S,
+    copy: &S,
+    view: &View<S>,
+    item: &S::Item,
+) -> bool {
     let whole = Some(fraction(27, 27));
-    view.rank(item, CRITERIA) == whole && sketch.rank_of(item, CRITERIA) == whole
+    let is_told = refuse(alloc, 1);
+    let is_read = sketch.reads_as(copy)
+        && sketch.rank_of(item, CRITERIA) == whole
+        && view.rank(item, CRITERIA) == whole;
+    is_told && is_read && !was_refused(alloc)
 }
 
-fn refuses_quietly<S: Tried>(alloc: Global, sketch: &S) -> Result<bool, Error>
+fn refuses_quietly<S: Tried>(alloc: Global, sketch: &S, view: &View<S>, equal: &[S::Item]) -> bool
     requires { S.Asks }
 {
-    let equal = items::<S>(alloc, &[3, 3])?;
     let is_told = refuse(alloc, 1);
-    let is_refused = refuses_arguments(alloc, sketch, equal.as_slice());
-    Ok(is_told && is_refused && !was_refused(alloc))
-}
-
-fn views_quietly<S: Tried>(alloc: Global, points: &[S::Item]) -> Result<bool, Error>
-    requires { S.Asks }
-{
-    let view = filled::<S>(alloc, 8, 0)?.view_of()?;
-    let item = S::item_of(alloc, 27)?;
-    let is_told = refuse(alloc, 1);
-    let is_nothing = views_none::<S>(&view, points, &item);
-    Ok(is_told && is_nothing && !was_refused(alloc))
+    let is_refused = refuses_arguments(alloc, sketch, equal) && view_refuses::<S>(view, equal);
+    is_told && is_refused && !was_refused(alloc)
 }
 
 fn empties_quietly<S: Tried>(
     alloc: Global,
-    mut sketch: S,
+    sketch: &mut S,
+    empty: &S,
+    view: &View<S>,
     points: &[S::Item],
-) -> Result<bool, Error>
+) -> bool
     requires { S.Asks }
 {
-    let empty: S = filled(alloc, 8, 0)?;
+    let mut coins = WordBits::new(&WORD);
     let is_told = refuse(alloc, 1);
-    let is_merged = sketch
-        .merge(&empty, false, &mut WordBits::new(&WORD))
-        .is_ok();
+    let is_merged = sketch.merge(empty, false, &mut coins).is_ok();
     sketch.reset();
-    let is_nothing = answers_none(&sketch, points);
-    Ok(is_told && is_merged && is_nothing && !was_refused(alloc))
+    let is_nothing = answers_none(sketch, points) && views_none::<S>(view, points);
+    is_told && is_merged && is_nothing && !was_refused(alloc)
+}
+
+/// Reads a sketch of 27 items and its view.
+fn reads<S: Tried>(alloc: Global, sketch: &S) -> Result<bool, Error>
+    requires { S.Asks }
+{
+    let item = S::item_of(alloc, 27)?;
+    let copy = sketch.copy()?;
+    let view = sketch.view_of()?;
+    Ok(reads_quietly(alloc, sketch, &copy, &view, &item))
+}
+
+/// Asks a sketch and the view of an empty one with bad arguments.
+fn refuses<S: Tried>(alloc: Global, sketch: &S, empty: &S) -> Result<bool, Error>
+    requires { S.Asks }
+{
+    let equal = items::<S>(alloc, &[3, 3])?;
+    let view = empty.view_of()?;
+    Ok(refuses_quietly(alloc, sketch, &view, equal.as_slice()))
+}
+
+/// Merges an empty sketch in, takes all items out, and asks the sketch and the view of an empty one.
+fn empties<S: Tried>(alloc: Global, sketch: &mut S, empty: &S) -> Result<bool, Error>
+    requires { S.Asks }
+{
+    let points = items::<S>(alloc, &[3, 9, 14])?;
+    let view = empty.view_of()?;
+    Ok(empties_quietly(alloc, sketch, empty, &view, points.as_slice()))
+}
+
+fn are_quiet<S: Tried>(alloc: Global, sketch: &mut S, empty: &S) -> Result<bool, Error>
+    requires { S.Asks }
+{
+    Ok(reads(alloc, sketch)? && refuses(alloc, sketch, empty)? && empties(alloc, sketch, empty)?)
 }
 
 /// Makes the calls that take no memory, of the two families alike.
 fn asks_for_none<S: Tried>(alloc: Global) -> Result<bool, Error>
     requires { S.Asks }
 {
-    let sketch: S = filled(alloc, 8, 27)?;
-    let points = items::<S>(alloc, &[3, 9, 14])?;
-    Ok(
-        reads_quietly(alloc, &sketch)?
-            && refuses_quietly(alloc, &sketch)?
-            && views_quietly::<S>(alloc, points.as_slice())?
-            && empties_quietly(alloc, sketch, points.as_slice())?,
-    )
+    let mut sketch: S = filled(alloc, 8, 27)?;
+    let empty: S = filled(alloc, 8, 0)?;
+    are_quiet(alloc, &mut sketch, &empty)
 }
 
 /// What is tried of each family.
@@ -287,19 +329,33 @@ const REQ_ROWS: [Row; 6] = [
     (Call::Merge, 4, 40, 200),
 ];
 
+/// Whether each row is as wanted.
+fn try_rows<S: Tried>(rt: &(impl Print + AllocGlobal), rows: &[Row]) -> Result<bool, Fail>
+    requires { S.Asks }
+{
+    for row in rows {
+        if !try_row::<S>(rt, *row)? {
+            return Ok(false);
+        }
+    }
+    Ok(true)
+}
+
 /// Tries the rows of each family and some more, and the calls that take no memory.
 fn try_all<S: Tried>(rt: &(impl Print + AllocGlobal), more: &[Row]) -> Result<(), Fail>
     requires { S.Asks }
 {
-    for row in ROWS.iter().chain(more.iter()) {
-        try_row::<S>(rt, *row)?.then_some(()).ok_or(
-            "a call whose memory was refused answered otherwise than wanted",
-        )?;
+    if !try_rows::<S>(rt, &ROWS)? || !try_rows::<S>(rt, more)? {
+        fail("a call whose memory was refused answered otherwise than wanted")?;
     }
-    asks_for_none::<S>(rt.alloc())?.then_some(()).ok_or(
-        "a call that takes no memory asked for some, or answered otherwise than wanted",
-    )?;
+    if !asks_for_none::<S>(rt.alloc())? {
+        fail("a call that takes no memory asked for some, or answered otherwise than wanted")?;
+    }
     Ok(())
+}
+
+fn fail(why: &'static str) -> Result<(), Fail> {
+    None.ok_or(why)?
 }
 
 #[test]

@@ -1,9 +1,8 @@
 //! REQ sketches: what no line of the program shows of their calls.
-use super::calls::{CRITERIA, WORD, fill_with, filled, fraction, ranks_alike};
-use super::sketches::{Numbered, Tried};
+use super::calls::CRITERIA;
 use sketch_base::codec::{SketchBytes, SketchSlice};
+use sketch_base::common::SearchCriteria;
 use sketch_base::common::random::WordBits;
-use sketch_base::common::{Rank, SearchCriteria};
 use sketch_base::error::Error;
 use sketch_kll::sketch::KllSketch;
 use sketch_req::compactor::Compactor;
@@ -23,13 +22,25 @@ use std::test::Fail;
 
 #[test]
 fn sections_are_even(rt: HostRuntime) {
-    assert!(rt; section_size(12, 0) == 12 && section_size(12, 1) == 8);
-    assert!(rt; section_size(12, 2) == 6 && section_size(12, 3) == 4);
-    assert!(rt; section_size(12, 4) == 4 && section_size(12, 5) == 2);
-    assert!(rt; section_size(4, 5) == 0);
-    assert!(rt; nearest_even_section_size(0) == 0 && nearest_even_section_size(1) == 2);
-    assert!(rt; nearest_even_section_size(2) == 2 && nearest_even_section_size(3) == 4);
-    assert!(rt; nearest_even_section_size(4) == 4 && nearest_even_section_size(13) == 14);
+    let sizes = [
+        section_size(12, 0),
+        section_size(12, 1),
+        section_size(12, 2),
+        section_size(12, 3),
+        section_size(12, 4),
+        section_size(12, 5),
+        section_size(4, 5),
+    ];
+    assert!(rt; sizes == [12, 8, 6, 4, 4, 2, 0]);
+    let evens = [
+        nearest_even_section_size(0),
+        nearest_even_section_size(1),
+        nearest_even_section_size(2),
+        nearest_even_section_size(3),
+        nearest_even_section_size(4),
+        nearest_even_section_size(13),
+    ];
+    assert!(rt; evens == [0, 2, 2, 4, 4, 14]);
 }
 
 #[test]
@@ -41,51 +52,28 @@ fn constants(rt: HostRuntime) {
     assert!(rt; RankAccuracy::default() == RankAccuracy::HighRank);
 }
 
-/// Whether a sketch of each legal k is made.
-fn makes_each(alloc: Global, rank_accuracy: RankAccuracy) -> bool {
-    for half in 2..=512u16 {
-        if ReqSketch::<i32>::new(alloc, half.wrapping_mul(2), rank_accuracy).is_err() {
-            return false;
-        }
-    }
-    true
-}
-
-#[test]
-fn every_legal_k_is_taken(rt: HostRuntime) {
-    assert!(rt; makes_each(rt.alloc(), RankAccuracy::HighRank));
-    assert!(rt; makes_each(rt.alloc(), RankAccuracy::LowRank));
-}
-
 /// Whether a value is shown under this name.
-fn is_shown<X: Debug>(alloc: Global, value: &X, name: &str) -> Result<bool, AllocError> {
+fn is_shown<X: Debug + Drop>(alloc: Global, value: X, name: &str) -> Result<bool, AllocError> {
     let text = format!(in alloc; "{value:?}")?;
     Ok(text.as_str().starts_with(name))
 }
 
-/// Whether a sketch of a type is shown under this name.
-fn is_sketch_shown<S: Tried + Debug>(alloc: Global, name: &str) -> Result<bool, Error>
-    requires { S.Asks }
-{
-    let sketch: S = filled(alloc, 8, 60)?;
-    Ok(is_shown(alloc, &sketch, name)?)
+fn are_sketches_shown(alloc: Global) -> Result<bool, Error> {
+    let kll = is_shown(alloc, KllSketch::<i64>::new(alloc, 8)?, "KllSketch")?;
+    Ok(is_shown(alloc, filled(alloc)?, "ReqSketch")? && kll)
 }
 
-fn is_view_shown(alloc: Global) -> Result<bool, Error> {
-    let view: SortedView<i32> = SortedView::new(vec![in alloc; (5, 1)]?, Some(5), Some(5))?;
-    Ok(is_shown(alloc, &view, "SortedView")?)
-}
-
-fn is_level_shown(alloc: Global) -> Result<bool, AllocError> {
+fn are_parts_shown(alloc: Global) -> Result<bool, Error> {
     let level: Compactor<i32> = Compactor::new(alloc, 0, 4, RankAccuracy::LowRank);
-    is_shown(alloc, &level, "Compactor")
+    let is_level = is_shown(alloc, level, "Compactor")?;
+    let view = filled(alloc)?.sorted_view()?;
+    Ok(is_shown(alloc, view, "SortedView")? && is_level)
 }
 
 #[test]
 fn all_are_shown(rt: HostRuntime) -> Result<(), Fail> {
-    assert!(rt; is_sketch_shown::<ReqSketch<i32>>(rt.alloc(), "ReqSketch")?);
-    assert!(rt; is_sketch_shown::<KllSketch<i64>>(rt.alloc(), "KllSketch")?);
-    assert!(rt; is_view_shown(rt.alloc())? && is_level_shown(rt.alloc())?);
+    assert!(rt; are_sketches_shown(rt.alloc())?);
+    assert!(rt; are_parts_shown(rt.alloc())?);
     Ok(())
 }
 
@@ -128,25 +116,22 @@ fn is_spelled<T: ReqValue + PartialEq + Drop>(
     Ok(is_read && is_at_end && is_written_as(alloc, value, spelling)?)
 }
 
-/// Whether a sketch of 60 items of a type at k 4 reads back.
-fn reads_back<S: Tried>(alloc: Global) -> Result<bool, Error>
-    requires { S.Asks }
-{
-    let sketch: S = filled(alloc, 4, 60)?;
-    let image = sketch.image()?;
-    let read = S::load(alloc, image.as_slice())?;
-    Ok(read.reads_as(&sketch) && read.image()?.as_slice() == image.as_slice())
-}
-
 #[test]
-fn each_type_of_item_reads_back(rt: HostRuntime) -> Result<(), Fail> {
+fn each_type_of_item_is_spelled(rt: HostRuntime) -> Result<(), Fail> {
     assert!(rt; is_spelled(rt.alloc(), &-2i32, &[254, 255, 255, 255])?);
     assert!(rt; is_spelled(rt.alloc(), &0x0102_0304u32, &[4, 3, 2, 1])?);
     assert!(rt; is_spelled(rt.alloc(), &-1i64, &[255; 8])?);
     assert!(rt; is_spelled(rt.alloc(), &500u64, &[244, 1, 0, 0, 0, 0, 0, 0])?);
-    assert!(rt; reads_back::<ReqSketch<u32>>(rt.alloc())?);
-    assert!(rt; reads_back::<ReqSketch<u64>>(rt.alloc())?);
     Ok(())
+}
+
+/// A sketch of k 4 that took 1 to 24 under a false coin.
+fn filled(alloc: Global) -> Result<ReqSketch<i32>, Error> {
+    let mut sketch = ReqSketch::new(alloc, 4, RankAccuracy::HighRank)?;
+    for number in 1..25i32 {
+        sketch.update(number, &mut WordBits::new(&[]))?;
+    }
+    Ok(sketch)
 }
 
 /// Whether no pair is left, for good.
@@ -171,7 +156,7 @@ fn iterates_over(sketch: &ReqSketch<i32>) -> bool {
 
 #[test]
 fn iterates(rt: HostRuntime) -> Result<(), Fail> {
-    let sketch: ReqSketch<i32> = filled(rt.alloc(), 4, 24)?;
+    let sketch = filled(rt.alloc())?;
     assert!(rt; iterates_over(&sketch));
     Ok(())
 }
@@ -191,59 +176,8 @@ fn is_view_of_weights(alloc: Global) -> Result<bool, Error> {
     )
 }
 
-fn is_view_of_nothing(alloc: Global) -> Result<bool, Error> {
-    let view = SortedView::<i32>::new(Vec::new(alloc), None, None)?;
-    Ok((view.len(), view.total_weight()) == (0, 0) && weight_of(&view, 1, CRITERIA).is_none())
-}
-
-fn is_view_of_a_sketch(alloc: Global, rank_accuracy: RankAccuracy) -> Result<bool, Error> {
-    let config = (4, rank_accuracy);
-    let sketch: ReqSketch<i32> = fill_with(alloc, config, 60, &mut WordBits::new(&WORD))?;
-    let view = sketch.sorted_view()?;
-    Ok(ranks_alike(alloc, &sketch, &view, 61)?)
-}
-
 #[test]
-fn views_rank(rt: HostRuntime) -> Result<(), Fail> {
-    assert!(rt; is_view_of_weights(rt.alloc())? && is_view_of_nothing(rt.alloc())?);
-    assert!(rt; is_view_of_a_sketch(rt.alloc(), RankAccuracy::HighRank)?);
-    assert!(rt; is_view_of_a_sketch(rt.alloc(), RankAccuracy::LowRank)?);
-    Ok(())
-}
-
-/// A sketch of k 4 that took the texts of the numbers from 1 to 24.
-fn texts(alloc: Global, coins: &mut WordBits) -> Result<ReqSketch<String>, Error> {
-    let mut sketch = ReqSketch::new(alloc, 4, RankAccuracy::HighRank)?;
-    for number in 0..24u32 {
-        sketch.update(String::numbered(alloc, number.wrapping_add(1))?, coins)?;
-    }
-    Ok(sketch)
-}
-
-/// Whether the last text is that of 3, which counts twice, and so many of so many are at most that of 12.
-fn has_texts(alloc: Global, sketch: &ReqSketch<String>, rank: Rank) -> Result<bool, Error> {
-    let (third, twelfth) = (String::numbered(alloc, 3)?, String::numbered(alloc, 12)?);
-    let is_last = sketch.iter().last() == Some((&third, 2));
-    Ok(is_last && sketch.rank(&twelfth, CRITERIA) == Some(rank))
-}
-
-/// Merges a copy of a sketch of texts into it.
-fn double_texts(sketch: &mut ReqSketch<String>, coins: &mut WordBits) -> Result<(), Error> {
-    let copy = sketch.clone()?;
-    sketch.merge(&copy, coins)
-}
-
-/// Whether a sketch of texts is compacted once by updates, under a false coin, and then merged with its copy by none.
-fn takes_texts(alloc: Global) -> Result<bool, Error> {
-    let mut coins = WordBits::new(&[]);
-    let mut sketch = texts(alloc, &mut coins)?;
-    let is_filled = has_texts(alloc, &sketch, fraction(12, 24))?;
-    double_texts(&mut sketch, &mut coins)?;
-    Ok(is_filled && has_texts(alloc, &sketch, fraction(24, 48))? && coins.drawn() == 1)
-}
-
-#[test]
-fn takes_text_without_a_codec(rt: HostRuntime) -> Result<(), Fail> {
-    assert!(rt; takes_texts(rt.alloc())?);
+fn a_view_joins_equal_items(rt: HostRuntime) -> Result<(), Fail> {
+    assert!(rt; is_view_of_weights(rt.alloc())?);
     Ok(())
 }

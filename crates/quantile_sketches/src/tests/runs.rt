@@ -36,10 +36,8 @@ pub(crate) enum Trial<'a> {
     Gives(RunRow<'a>),
     /// A run wants more coins than this word has.
     WantsMore(&'a [bool]),
-    /// A run under a word keeps the greatest items.
-    HasTail(&'a [bool], Tail),
-    /// A run under a word leaves so many items in a slot.
-    Retains(&'a [bool], u8, usize),
+    /// A run under a word refuses nothing, and leaves this many in slot 0, of which this number is the greatest.
+    Takes(&'a [bool], u64, u32),
     Audits(AuditRow<'a>),
     /// An audit of the ranks of the numbers below this one is unbiased, over three coins.
     IsUnbiased(u32),
@@ -56,15 +54,6 @@ pub(crate) struct RunRow<'a> {
     pub(crate) refused: &'a [usize],
     pub(crate) coins: usize,
     pub(crate) ranks: &'a [(u8, u32, u64, u64)],
-}
-
-/// The slot whose sketch of this k took 1, 2 and so on to the last, and weighs each from the first on exactly.
-#[derive(Drop)]
-pub(crate) struct Tail {
-    pub(crate) slot: u8,
-    pub(crate) k: u16,
-    pub(crate) first: u32,
-    pub(crate) last: u32,
 }
 
 /// The inclusive weights of a number in a slot under each word, and its true rank.
@@ -207,24 +196,21 @@ fn gives<S: Tried>(alloc: Global, run: &Run<S>, given: &RunRow<'_>) -> Result<bo
     Ok(is_run && ranks(alloc, run, given.ranks)?)
 }
 
-fn has_tail<S: Tried>(alloc: Global, run: &Run<S>, tail: &Tail) -> Result<bool, AllocError> {
-    for number in tail.first..=tail.last {
-        let item = S::item_of(alloc, number)?;
-        if rank_in(run, tail.slot, &item) != Some((number as u64, tail.last as u64)) {
-            return Ok(false);
-        }
-    }
-    Ok(
-        run.slots
-            .get(&tail.slot)
-            .is_some_and(|sketch| sketch.sizes().0 == tail.k),
-    )
+fn takes<S: Tried>(
+    alloc: Global,
+    run: &Run<S>,
+    total: u64,
+    number: u32,
+) -> Result<bool, AllocError> {
+    let is_whole = ranks(alloc, run, &[(0, number, total, total)])?;
+    Ok(is_whole && run.refused.is_empty())
 }
 
-fn retains<S: Tried>(run: &Run<S>, slot: u8, count: usize) -> bool {
-    run.slots
-        .get(&slot)
-        .is_some_and(|sketch| sketch.sizes().1 == count)
+fn are_left_alike<S: Tried>(run: &Run<S>, other: &Run<S>) -> bool {
+    match (run.slots.get(&0), other.slots.get(&0)) {
+        (Some(sketch), Some(left)) => sketch.reads_as(left),
+        _ => false,
+    }
 }
 
 /// Whether some steps leave the same sketch in slot 0 as others do.
@@ -236,14 +222,9 @@ pub(crate) fn leaves_alike<S: Tried>(
 ) -> Result<bool, Error>
     requires { S.Asks }
 {
-    let (run, other) = (
-        run_of::<S>(alloc, steps, word)?,
-        run_of::<S>(alloc, others, word)?,
-    );
-    Ok(match (run.slots.get(&0), other.slots.get(&0)) {
-        (Some(sketch), Some(left)) => sketch.reads_as(left),
-        _ => false,
-    })
+    let run = run_of::<S>(alloc, steps, word)?;
+    let other = run_of::<S>(alloc, others, word)?;
+    Ok(are_left_alike(&run, &other))
 }
 
 fn audit_of<S: Tried>(
@@ -299,6 +280,38 @@ pub(crate) fn is_invalid<X: Drop>(answer: Result<X, Error>) -> bool {
     answer.is_err_and(|error| error.kind() == ErrorKind::InvalidArgument)
 }
 
+fn ends<S: Tried>(alloc: Global, run: &Run<S>, trial: &Trial<'_>) -> Result<bool, AllocError> {
+    match trial {
+        Trial::Gives(given) => gives(alloc, run, given),
+        Trial::Takes(_, total, number) => takes(alloc, run, *total, *number),
+        _ => Ok(false),
+    }
+}
+
+fn runs<S: Tried>(
+    alloc: Global,
+    steps: Steps<'_, S>,
+    word: &[bool],
+    trial: &Trial<'_>,
+) -> Result<bool, Error>
+    requires { S.Asks }
+{
+    let run = run_of::<S>(alloc, steps, word)?;
+    Ok(ends(alloc, &run, trial)?)
+}
+
+fn has_sixteen<S: Tried>(
+    alloc: Global,
+    steps: Steps<'_, S>,
+    slot: u8,
+    number: u32,
+) -> Result<bool, Error>
+    requires { S.Asks }
+{
+    let audit = audit_of::<S>(alloc, steps, slot, number, CRITERIA)?;
+    Ok(is_even(&audit, 16, 65536))
+}
+
 /// Whether it is so of these steps.
 pub(crate) fn holds<S: Tried>(
     alloc: Global,
@@ -307,20 +320,13 @@ pub(crate) fn holds<S: Tried>(
 ) -> Result<bool, Error>
     requires { S.Asks }
 {
-    Ok(match trial {
-        Trial::Gives(given) => gives(alloc, &run_of::<S>(alloc, steps, given.word)?, given)?,
-        Trial::WantsMore(word) => is_invalid(run_of::<S>(alloc, steps, word)),
-        Trial::HasTail(word, tail) => has_tail(alloc, &run_of::<S>(alloc, steps, word)?, tail)?,
-        Trial::Retains(word, slot, count) => {
-            retains(&run_of::<S>(alloc, steps, word)?, *slot, *count)
-        }
-        Trial::Audits(row) => audits::<S>(alloc, steps, row)?,
-        Trial::IsUnbiased(count) => is_unbiased::<S>(alloc, steps, *count)?,
-        Trial::HasSixteen(slot, number) => is_even(
-            &audit_of::<S>(alloc, steps, *slot, *number, CRITERIA)?,
-            16,
-            65536,
-        ),
-        Trial::HasTooMany => is_invalid(audit_of::<S>(alloc, steps, 0, 5, CRITERIA)),
-    })
+    match trial {
+        Trial::Gives(given) => runs::<S>(alloc, steps, given.word, trial),
+        Trial::Takes(word, ..) => runs::<S>(alloc, steps, word, trial),
+        Trial::WantsMore(word) => Ok(is_invalid(run_of::<S>(alloc, steps, word))),
+        Trial::Audits(row) => audits::<S>(alloc, steps, row),
+        Trial::IsUnbiased(count) => is_unbiased::<S>(alloc, steps, *count),
+        Trial::HasSixteen(slot, number) => has_sixteen::<S>(alloc, steps, *slot, *number),
+        Trial::HasTooMany => Ok(is_invalid(audit_of::<S>(alloc, steps, 0, 5, CRITERIA))),
+    }
 }

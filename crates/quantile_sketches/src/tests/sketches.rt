@@ -56,9 +56,6 @@ pub(crate) trait Tried: Family {
 
     fn default_of(alloc: Global) -> Result<Self, Error>;
 
-    /// Its k, and how many items it retains.
-    fn sizes(&self) -> (u16, usize);
-
     /// Whether the plain reads of the sketch and of a copy are the same.
     fn reads_as(&self, copy: &Self) -> bool;
 
@@ -107,6 +104,25 @@ pub(crate) trait Tried: Family {
         requires { Self.Asks };
 }
 
+/// Each `k`, how many items it stands for and retains, whether it is empty, and whether it gives estimates.
+type Numbers = ([u16; 2], [u64; 2], [bool; 2]);
+
+fn numbers_of_kll<T: KllValue + Ord>(sketch: &KllSketch<T>) -> Numbers {
+    (
+        [sketch.k(), sketch.min_k()],
+        [sketch.n(), sketch.num_retained() as u64],
+        [sketch.is_empty(), sketch.is_estimation_mode()],
+    )
+}
+
+fn numbers_of_req<T: ReqValue + Clone + Ord>(sketch: &ReqSketch<T>) -> Numbers {
+    (
+        [sketch.k(), 0],
+        [sketch.n(), sketch.num_retained() as u64],
+        [sketch.is_empty(), sketch.is_estimation_mode()],
+    )
+}
+
 impl<T: KllValue + Ord + Numbered> Tried for KllSketch<T> {
     fn config_of(k: u16) -> u16 {
         k
@@ -120,17 +136,10 @@ impl<T: KllValue + Ord + Numbered> Tried for KllSketch<T> {
         KllSketch::default(alloc)
     }
 
-    fn sizes(&self) -> (u16, usize) {
-        (self.k(), self.num_retained())
-    }
-
     fn reads_as(&self, copy: &Self) -> bool {
         self == copy
-            && (self.k(), self.min_k(), self.n()) == (copy.k(), copy.min_k(), copy.n())
-            && self.num_retained() == copy.num_retained()
-            && self.is_empty() == copy.is_empty()
-            && self.is_estimation_mode() == copy.is_estimation_mode()
-            && (self.min_item(), self.max_item()) == (copy.min_item(), copy.max_item())
+            && numbers_of_kll(self) == numbers_of_kll(copy)
+            && [self.min_item(), self.max_item()] == [copy.min_item(), copy.max_item()]
     }
 
     fn view_of(&self) -> Result<SortedView<T>, Error> {
@@ -198,20 +207,13 @@ impl<T: ReqValue + Clone + Ord + Numbered> Tried for ReqSketch<T> {
         ReqSketch::default(alloc)
     }
 
-    fn sizes(&self) -> (u16, usize) {
-        (self.k(), self.num_retained() as usize)
-    }
-
     fn reads_as(&self, copy: &Self) -> bool {
-        let (sizes, others) = (self.serialized_size_bytes(), copy.serialized_size_bytes());
-        sizes.is_ok()
-            && sizes == others
-            && (self.k(), self.rank_accuracy(), self.n())
-                == (copy.k(), copy.rank_accuracy(), copy.n())
-            && self.num_retained() == copy.num_retained()
-            && self.is_empty() == copy.is_empty()
-            && self.is_estimation_mode() == copy.is_estimation_mode()
-            && (self.min_item(), self.max_item()) == (copy.min_item(), copy.max_item())
+        let sizes = [self.serialized_size_bytes(), copy.serialized_size_bytes()];
+        sizes[0].is_ok()
+            && sizes[0] == sizes[1]
+            && self.rank_accuracy() == copy.rank_accuracy()
+            && numbers_of_req(self) == numbers_of_req(copy)
+            && [self.min_item(), self.max_item()] == [copy.min_item(), copy.max_item()]
             && self.iter().last() == copy.iter().last()
     }
 

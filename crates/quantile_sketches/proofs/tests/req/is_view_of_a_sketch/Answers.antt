@@ -1,6 +1,0 @@
-use Rattle.std.proofs.Common.{rules}
-use Rattle.sketch_base.specs.NumberSpellings.{i32_ties}
-use Rattle.quantile_sketches.proofs.tests.req.is_view_of_a_sketch.Goals as goal
-
-pub fill_with-requires : goal.fill_with-requires
-fill_with-requires c = (i32_ties, search rules)
