@@ -17,6 +17,7 @@ returns-else-redraws-clause-taken g c =
     let plain : c.args.redraws ≡ false = search rules in
     rw plain (merged_by g.met.T.Ord.total g.T.ReqValue.spelling g.B.RandomBits.bit g.B.RandomBits.next false c.args.self.now c.args.other.now c.merge.new.self c.args.coins.now c.merge.new.coins c.merge.result
     is.sound is.refused is.empty is.ok is.coins)
+
 pub returns-then-redraws-clause-refused : goal.returns-then-redraws-clause-refused
 returns-then-redraws-clause-refused g c = grind (arith, common_steps)
 
