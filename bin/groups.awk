@@ -210,7 +210,10 @@ function tell_refused(where, key, why) {
     bad_images++
 }
 
-function judge_of(kind) { return "\"$program\" " kind " 0 > \"$work/verdicts." kind "\"" }
+# (how the program ended is written before the pipe is closed: where it ends early, that ends this process by a signal)
+function judge_of(kind) {
+    return "\"$program\" " kind " 0 > \"$work/verdicts." kind "\"; ended=$?; echo \"status $ended\" > \"$work/ended." kind "\"; exit $ended"
+}
 
 function release(   i, verdict, kind, file, judge) {
     for (i = 0; i < held; i++) if (!((kind = held_kind[i]) in judge)) {

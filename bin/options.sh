@@ -114,7 +114,7 @@ finish() {
 
 # Reports how the processes of the program ended, if not well, and ends the script.
 tell_end() {
-    for file in "$work"/[0-9]*; do
+    for file in "$work"/[0-9]* "$work"/ended.*; do
         [ -f "$file" ] || continue
         told=$(tail -n 1 "$file" | cut -c 1-200)
         case $told in
