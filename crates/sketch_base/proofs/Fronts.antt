@@ -34,6 +34,7 @@ module _ {A : Type 0} (test : A → Bool) where
   pub parts-count : (xs : List A) → IsPartitionedBy test xs → Parts test xs (count_by test xs)
   parts-count xs up = let r = front xs up in subst (Parts test xs) (counted-parts test xs r.0 r.1.0 r.1.1) r.1.1
 
+  -- an item that passes lies in the front, and one that fails behind it
   pub counts-passed : (xs : List A) (i : ℕ) (d : A) → IsPartitionedBy test xs → i < length xs → test (get_or xs i d) ≡ true → i + 1 ≤ count_by test xs
   counts-passed xs i d up l h = go (cases_lt i (count_by test xs))
     where
