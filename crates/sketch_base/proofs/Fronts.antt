@@ -77,7 +77,6 @@ module _ {A : Type 0} (test : A → Bool) where
 
 -- the steps of a search by steps, of which the first ones are left out: each is half of the one before
 pub step-doubled : (steps shift : ℕ) → 0 < shift → shift - 1 < steps → 2 ^ (steps - (steps - shift)) ≡ 2 * 2 ^ (shift - 1)
-step-doubled steps shift some more = ap (λ n. 2 ^ n) (omega (arith, some, more)) ∙ next (shift - 1)
-  where
-    next : (n : ℕ) → 2 ^ suc n ≡ 2 * 2 ^ n
-    next n = omega arith
+step-doubled steps shift some more =
+    let next : steps - (steps - shift) ≡ suc (shift - 1) = omega (arith, some, more) in
+    rw next (omega arith)
