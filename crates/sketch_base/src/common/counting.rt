@@ -63,7 +63,8 @@ pub fn count_in_order<T: Ord>(items: &[T], query: &T, criteria: SearchCriteria) 
 
 /// Counts the items of a sorted slice that the query counts, by a binary search whose steps are
 /// powers of two. No branch depends on a comparison, since a processor would guess it wrong half of
-/// the time.
+/// the time. It is inlined so that it knows the criterion.
+#[inline(always)]
 fn count_by_halves<T: Ord>(items: &[T], query: &T, criteria: SearchCriteria) -> usize
     requires sorted { IsSorted T.cmp items.now }
     ensures { result ≡ count_by (counted T.cmp query.now criteria) items.now }
@@ -83,6 +84,7 @@ fn count_by_halves<T: Ord>(items: &[T], query: &T, criteria: SearchCriteria) -> 
 /// The last steps of a search by halves, from a count that the query's count exceeds by less than
 /// 2 ^ `steps`. The compiler writes this loop out, and then a step, whose size it knows, takes less
 /// than half of the time.
+#[inline(always)]
 fn count_by_last_steps<T: Ord>(
     items: &[T],
     known: usize,
