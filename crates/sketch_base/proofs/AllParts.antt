@@ -4,24 +4,29 @@ use Rattle.std.specs.List.{AllByRecursion, AllZip}
 use Rattle.sketch_base.specs.Bag.{Bag, Taken, AllButLeftover, Lowest, Greatest, SameItems, half, sort, cut, insert_in_order, level_at, with_level, parity_up, compaction}
 
 module _ {A : Type 0} (P : A → Type 0) where
+  -- of two lists, one after the other
   pub all-append : (xs ys : List A) → AllByRecursion P xs → AllByRecursion P ys → AllByRecursion P (xs ++ ys)
   all-append [] ys h k = k
   all-append (x ∷ xs) ys h k = (h.0, all-append xs ys h.1 k)
 
+  -- and back
   pub all-parts : (xs ys : List A) → AllByRecursion P (xs ++ ys) → AllByRecursion P xs × AllByRecursion P ys
   all-parts [] ys h = (tt, h)
   all-parts (x ∷ xs) ys h = let r = all-parts xs ys h.1 in ((h.0, r.0), r.1)
 
+  -- of a front
   pub all-take : (n : ℕ) (xs : List A) → AllByRecursion P xs → AllByRecursion P (take n xs)
   all-take zero xs h = tt
   all-take (suc n) [] h = tt
   all-take (suc n) (x ∷ xs) h = (h.0, all-take n xs h.1)
 
+  -- of an end
   pub all-drop : (n : ℕ) (xs : List A) → AllByRecursion P xs → AllByRecursion P (drop n xs)
   all-drop zero xs h = h
   all-drop (suc n) [] h = tt
   all-drop (suc n) (x ∷ xs) h = all-drop n xs h.1
 
+  -- of each half
   pub all-half : (odd : Bool) (xs : List A) → AllByRecursion P xs → AllByRecursion P (half odd xs)
   all-half false [] h = tt
   all-half true [] h = tt
@@ -37,6 +42,7 @@ module _ {A : Type 0} (P : A → Type 0) where
         go true ih = (h.0, ih)
         go false ih = (p, h)
 
+    -- of the sorted list
     pub all-sort : (xs : List A) → AllByRecursion P xs → AllByRecursion P (sort cmp xs)
     all-sort [] h = tt
     all-sort (x ∷ xs) h = all-insert x (sort cmp xs) h.0 (all-sort xs h.1)
@@ -55,12 +61,14 @@ module _ {A : Type 0} (P : A → Type 0) where
 
     -- what compares equal has it too, where equal items do
     module _ (keeps : (x y : A) → cmp x y ≡ Equal → P x → P y) where
+      -- where P tells no two items apart that compare equal, of such a list
       pub all-same : (xs ys : List A) → SameItems cmp xs ys → AllByRecursion P xs → AllByRecursion P ys
       all-same [] [] s h = tt
       all-same (x ∷ xs) (y ∷ ys) s h = (keeps x y s.0 h.0, all-same xs ys s.1 h.1)
       all-same [] (y ∷ ys) s h = absurd s
       all-same (x ∷ xs) [] s h = absurd s
 
+      -- the same of a list that is such once both are sorted
       pub all-alike : (xs ys : List A) → SameItems cmp (sort cmp xs) (sort cmp ys) → AllByRecursion P xs → AllByRecursion P ys
       all-alike xs ys s h = all-sorted ys (all-same (sort cmp xs) (sort cmp ys) s (all-sort xs h))
 
@@ -68,12 +76,14 @@ module _ {A : Type 0} (P : A → Type 0) where
   abbrev pub AllIn : List (List A) → Type 0
   AllIn = AllByRecursion (AllByRecursion P)
 
+  -- of one of the levels
   pub all-level : (ls : List (List A)) (h : ℕ) → AllIn ls → AllByRecursion P (level_at ls h)
   all-level [] zero a = tt
   all-level [] (suc h) a = tt
   all-level (l ∷ ls) zero a = a.0
   all-level (l ∷ ls) (suc h) a = all-level ls h a.1
 
+  -- from each level to them all
   pub all-by-place : (ls : List (List A)) → ((h : ℕ) → h < length ls → AllByRecursion P (level_at ls h)) → AllIn ls
   all-by-place [] a = tt
   all-by-place (l ∷ ls) a = (a 0 (omega arith), all-by-place ls (λ h i. a (suc h) (omega arith)))
@@ -90,6 +100,7 @@ module _ {A : Type 0} (P : A → Type 0) where
   all-cut cmp (Lowest n) b l a = let s = all-sort cmp l a in (all-drop n (sort cmp l) s, all-take n (sort cmp l) s)
   all-cut cmp (Greatest n) b l a = let m = length l - n in let s = all-sort cmp l a in (all-take m (sort cmp l) s, all-drop m (sort cmp l) s)
 
+  -- of the levels after a compaction
   pub all-compaction : (cmp : A → A → Ordering) (h : ℕ) (taken : Taken) (bit : Bool) (bag : Bag A) → AllIn bag.levels → AllIn (compaction cmp h taken bit bag).levels
   all-compaction cmp h taken bit bag a =
       let above = level_at bag.levels (suc h) in
@@ -112,10 +123,12 @@ module _ {A : Type 0} (P : A → Type 0) where
   all-flat items [] a = tt
   all-flat items (l ∷ ls) a = all-append (items l) (flat_map items ls) a.0 (all-flat items ls a.1)
 
+  -- of levels that are each the items of something
   pub all-by-level : {B : Type 0} (items : B → List A) (ls : List B) → AllByRecursion P (flat_map items ls) → AllIn (map items ls)
   all-by-level items [] a = tt
   all-by-level items (l ∷ ls) a = let r = all-parts (items l) (flat_map items ls) a in (r.0, all-by-level items ls r.1)
 
+-- what follows from P holds of each
 pub all-map : {A : Type 0} (P Q : A → Type 0) → ((x : A) → P x → Q x) → (xs : List A) → AllByRecursion P xs → AllByRecursion Q xs
 all-map P Q from [] h = tt
 all-map P Q from (x ∷ xs) h = (from x h.0, all-map P Q from xs h.1)

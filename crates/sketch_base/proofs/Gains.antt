@@ -54,6 +54,7 @@ module _ {A : Type 0} where
   below-more m n (At s Clear ∷ es) le b = below-more m n es le b
   below-more m n (Snap s t ∷ es) le b = below-more m n es le b
 
+  -- no event reaches the top level
   pub below_top : (es : List (Event A)) → IsBelow (top_of es) es
   below_top [] = tt
   below_top (At s (Compact h coin taken) ∷ es) = (omega arith, below-more (top_of es) (suc h + top_of es) es (omega arith) (below_top es))
@@ -80,6 +81,7 @@ module _ {A : Type 0} (cmp : A → A → Ordering) (test : A → Bool) where
   abbrev end_rank : List (Event A) → ℕ → List Bool → World (Bag A) → ℕ
   end_rank es slot word world = rank (one test) ((play cmp es word world).slots slot)
 
+  -- over all levels below one
   abbrev pub all_gained : ℕ → List (Event A) → ℕ → List Bool → World (Bag A) → ℕ
   all_gained top es slot word world = sum_below top (λ g. gained cmp (one test) g es slot word world)
 

@@ -48,6 +48,7 @@ rises-from_climbs before [] h = tt
 rises-from_climbs before (n ∷ ns) h = (omega (arith, h.0), rises-from_climbs n ns h.1)
 
 module _ {A : Type 0} where
+  -- the items of pairs
   abbrev pub items_in : List (A × ℕ) → List A
   items_in pairs = map (λ (pair : A × ℕ). pair.0) pairs
 
@@ -214,6 +215,7 @@ module _ {A : Type 0} {cmp : A → A → Ordering} (order : IsTotalOrder cmp) wh
     pub up : IsSorted cmp (items_in pairs)
     pub weigh : HaveWeight pairs
 
+  -- weighted items that were put in order
   pub in-order : (weighted pairs : List (A × ℕ)) → IsPermutation weighted pairs → IsSorted cmp (items_in pairs) → All (λ (pair : A × ℕ). 0 < pair.1) weighted → AreInOrder weighted pairs
   in-order weighted pairs same up weigh = record { same = same; up = up; weigh = all-by_recursion (λ (pair : A × ℕ). 0 < pair.1) pairs (All-permutation (λ (pair : A × ℕ). 0 < pair.1) weighted pairs same weigh) }
 
@@ -227,6 +229,7 @@ module _ {A : Type 0} {cmp : A → A → Ordering} (order : IsTotalOrder cmp) wh
     long : length (spread_out (joined cmp pairs) (joined_weights cmp 0 pairs)) ≡ weigh_pairs (λ x. 1) pairs
     long = sym (sum-ones (spread_out (joined cmp pairs) (joined_weights cmp 0 pairs))) ∙ sum-spread (λ x. 1) (λ x y e. refl)
 
+    -- their entries
     pub joined-entries : SameItems cmp (sort cmp (copies weighted)) (spread_out (joined cmp pairs) (joined_weights cmp 0 pairs))
     joined-entries =
         items-from_counts order (sort cmp (copies weighted)) (spread_out (joined cmp pairs) (joined_weights cmp 0 pairs)) (Ordered-sort order (copies weighted))
@@ -236,6 +239,7 @@ module _ {A : Type 0} {cmp : A → A → Ordering} (order : IsTotalOrder cmp) wh
         sum_by-sort one cmp (copies weighted) ∙ (sum-copies one weighted ∙ (sym (sum_by-IsPermutation (λ (pair : A × ℕ). pair.1 * one pair.0) weighted pairs are.same) ∙
         sym (sum-spread one (λ x y e. ap (λ (b : Bool). cond b 1 0) (counted-equal order x y e z c))))))
 
+    -- as many items as there are distinct ones
     pub joined-distinct : length (joined cmp pairs) ≡ distinct cmp (spread_out (joined cmp pairs) (joined_weights cmp 0 pairs))
     joined-distinct = sym (distinct-spread 0 (joined cmp pairs) (joined_weights cmp 0 pairs) (same-length cmp 0 pairs) (climbs-joined cmp 0 0 pairs (omega arith) are.weigh) (below-joined pairs up))
 
@@ -243,6 +247,7 @@ module _ {A : Type 0} {cmp : A → A → Ordering} (order : IsTotalOrder cmp) wh
     there None h n l = absurd (false≢true h)
     there (Some x) h n l = l
 
+    -- and they make a view
     pub joined-view : (least greatest : Option A) → 0 < length weighted → IsSome least → IsSome greatest → IsView cmp (joined cmp pairs) (joined_weights cmp 0 pairs) least greatest
     joined-view least greatest some l g =
         let enough = long-enough pairs are.weigh in
@@ -266,6 +271,7 @@ pub record IsNext {A : Type 0} (cmp : A → A → Ordering) (xs xs' : List A) (w
   pub weights : ws' ++ joined_weights cmp after (reverse new) ≡ ws ++ joined_weights cmp before (reverse old)
   pub total : after + sum_by (λ (pair : A × ℕ). pair.1) (reverse new) ≡ before + sum_by (λ (pair : A × ℕ). pair.1) (reverse old)
 
+-- one step of the joining
 pub is-next : {A : Type 0} (cmp : A → A → Ordering) (xs xs' : List A) (ws ws' : List ℕ) (before after : ℕ) (old new : List (A × ℕ)) (x : A) (w : ℕ) (b : Bool) →
     old ≡ new ++ (x, w) ∷ [] → after ≡ before + w → b ≡ is_below_next cmp x (reverse new) → xs' ≡ (if b then xs ++ x ∷ [] else xs) → ws' ≡ (if b then ws ++ after ∷ [] else ws) → IsNext cmp xs xs' ws ws' before after old new
 is-next {A} cmp xs xs' ws ws' before after old new x w b is_old is_after is_b is_xs is_ws =
@@ -294,6 +300,7 @@ is-next {A} cmp xs xs' ws ws' before after old new x w b is_old is_after is_b is
       total = summed;
     }
 
+-- it pushes one item at most
 pub length-pushed : {A : Type 0} (b : Bool) (x : A) (xs ys : List A) → ys ≡ (if b then xs ++ x ∷ [] else xs) → length ys ≤ length xs + 1
 length-pushed true x xs ys e = omega (arith, ap length e, length-append xs (x ∷ []))
 length-pushed false x xs ys e = omega (arith, ap length e)

@@ -12,6 +12,7 @@ pub obeys : (n : ℕ) (b : Bool) → n ≡ 0 → (eqb n 0 || b) ≡ true
 obeys n b e = ap (λ m. eqb m 0 || b) e
 
 module _ {A : Type 0} where
+  -- of two traces, and of two lists of actions, one after the other
   pub lengths_by-append : (xs ys : List (Event A)) (world : World (List ℕ)) → lengths_by world (xs ++ ys) ≡ lengths_by (lengths_by world xs) ys
   lengths_by-append [] ys world = refl
   lengths_by-append (e ∷ xs) ys world = lengths_by-append xs ys (lengths_after e world)
@@ -20,6 +21,7 @@ module _ {A : Type 0} where
   acts_on-append [] ys work = refl
   acts_on-append (x ∷ xs) ys work = acts_on-append xs ys (act_on_lengths x work)
 
+  -- nothing stays in the scratch
   pub trace-settles : (trace : List (Event A)) (world : World (List ℕ)) → ObeysScratch trace world → sum (lengths_by world trace).scratch ≡ 0
   trace-settles [] world f = f
   trace-settles (e ∷ rest) world f = trace-settles rest (lengths_after e world) f.1

@@ -71,6 +71,7 @@ module _ {A : Type 0} (cmp : A → A → Ordering) (f : A → ℕ) where
   compacted_at s h taken bit world = record { slots = changed world.slots s (compacted cmp f h taken bit (world.slots s)); scratch = world.scratch; target = world.target }
 
 module _ {A : Type 0} (cmp : A → A → Ordering) (f : A → ℕ) (g : ℕ) (drawn : ℕ → ℕ → Bool) (world world' : World (Bag A)) (m : MirroredWorlds cmp f g drawn world world') (s : ℕ) where
+  -- each event keeps them so
   pub mirrored-snap : (t : ℕ) → MirroredWorlds cmp f g drawn (happens (act cmp) (Snap s t) false world) (happens (act cmp) (Snap s t) false world')
   mirrored-snap t = record { slots = m.slots; scratch = (m.slots s).levels }
 

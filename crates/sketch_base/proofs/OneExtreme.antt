@@ -13,6 +13,7 @@ module _ {A : Type 0} {cmp : A → A → Ordering} (o : IsTotalOrder cmp) where
   cmp_same : (a b c d : A) → cmp a b ≡ Equal → cmp c d ≡ Equal → cmp a c ≡ cmp b d
   cmp_same a b c d p q = o.congr a b c p ∙ alike_right o c d b q
 
+  -- items in the place of some that compare equal
   pub at_most_same : (a b c d : A) → cmp a b ≡ Equal → cmp c d ≡ Equal → IsAtMost cmp a c → IsAtMost cmp b d
   at_most_same a b c d p q h = ap is_gt (sym (cmp_same a b c d p q)) ∙ h
 
@@ -41,6 +42,7 @@ module _ {A : Type 0} {cmp : A → A → Ordering} (o : IsTotalOrder cmp) where
       go Equal s e a b = refl
       go Greater s e a b = absurd cc
 
+  -- the least, and the greatest
   pub one_least : (xs ys : List A) (a b : Option A) → SameItems cmp xs ys → IsLeastOf cmp xs a → IsLeastOf cmp ys b → SameAnswer cmp a b
   one_least xs ys None None z p q = tt
   one_least xs ys None (Some y) z p q = absurd (ties_same y ys [] (SameItems-back o [] ys (subst (λ (l : List A). SameItems cmp l ys) p z)) q.ties)

@@ -3,6 +3,7 @@ use Rattle.std.proofs.Common.{◌≡◌, true, false, refl, sym, ap, ◌∙◌, 
 use Rattle.std.specs.Ordering.{ordering_reverse}
 use Rattle.std.proofs.lemmas.Bool.{false≢true}
 
+-- what one comparison says
 pub less-from_is_lt : (o : Ordering) → is_lt o ≡ true → o ≡ Less
 less-from_is_lt Less h = refl
 less-from_is_lt Equal h = absurd (false≢true h)
@@ -34,6 +35,7 @@ not_lt_gt o Less e h = refl
 not_lt_gt o Equal e h = refl
 not_lt_gt o Greater e h = absurd (false≢true (sym h ∙ ap is_lt e))
 
+-- and of the other way round
 pub not_gt_lt : (o p : Ordering) → o ≡ ordering_reverse p → is_gt p ≡ false → is_lt o ≡ false
 not_gt_lt o Less e h = ap is_lt e
 not_gt_lt o Equal e h = ap is_lt e

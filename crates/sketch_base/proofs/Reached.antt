@@ -58,6 +58,7 @@ module _ {A : Type 0} where
   counts-unreached (At s Forget ∷ es) slot ranks none = counts-unreached es slot ranks none
   counts-unreached (At s (Redraw h) ∷ es) slot ranks none = counts-unreached es slot ranks none
 
+  -- nothing of a slot that doesn't get there
   pub counts-none : (es : List (Event A)) (slot s c : ℕ) → reaches es slot s ≡ false → counts_in es slot s c ≡ 0
   counts-none es slot s c misses = counts-unreached es slot (only s c) each
     where

@@ -2,6 +2,7 @@
 use Rattle.std.proofs.Common.{Result, Ok, Err}
 use Rattle.std.specs.Prelude.{Option, None, Some, IfOk, IfSome}
 
+-- of a value, or of an answer that may be none
 pub ok-weaker : {T E : Type 0} (r : Result T E) (P Q : T → Type 0) → ((x : T) → P x → Q x) → IfOk r P → IfOk r Q
 ok-weaker (Ok x) P Q f h = f x h
 ok-weaker (Err e) P Q f h = h

@@ -17,6 +17,7 @@ use Rattle.sketch_base.proofs.Entries.{SameAnswer-trans, cdf-same, quantile-same
 use Rattle.sketch_base.proofs.Results.{ok-weaker, some-weaker}
 use Rattle.sketch_base.proofs.Sums.{sum_by-expanded}
 
+-- the sum of ones is the length
 pub sum-ones : {A : Type 0} (xs : List A) → sum_by (λ x. 1) xs ≡ length xs
 sum-ones [] = refl
 sum-ones {A} (x ∷ xs) = omega (arith, sum_by-cons (λ (y : A). 1) x xs, sum-ones xs)
@@ -25,6 +26,7 @@ weigh-ones : {A : Type 0} (h : ℕ) (levels : List (List A)) → weigh (sum_by (
 weigh-ones h [] = refl
 weigh-ones h (l ∷ ls) = ap₂ (λ m n. 2 ^ h * m + n) (sum-ones l) (weigh-ones (suc h) ls)
 
+-- the expanded list is as long as the bag weighs
 pub length-expanded : {A : Type 0} (cmp : A → A → Ordering) (bag : Bag A) → length (expanded cmp bag) ≡ weight bag
 length-expanded cmp bag = sym (sum-ones (expanded cmp bag)) ∙ (sum_by-expanded (λ x. 1) cmp bag ∙ weigh-ones 0 bag.levels)
 
@@ -82,6 +84,7 @@ module _ {A : Type 0} {cmp : A → A → Ordering} (order : IsTotalOrder cmp) wh
     many-quantiles (f ∷ fs) [] k = absurd k
     many-quantiles (f ∷ fs) (x ∷ xs) k = (one-quantile f (Some x) k.0, many-quantiles fs xs k.1)
 
+    -- what the view answers is what the bag does
     pub quantile-result : {E : Type 0} (fraction : Rank) (r : Result (Option A) E) → IfOk r (SameAnswer cmp (quantile_of v fraction criteria)) → IfOk r (SameAnswer cmp (quantile_of whole fraction criteria))
     quantile-result fraction r = ok-weaker r (SameAnswer cmp (quantile_of v fraction criteria)) (SameAnswer cmp (quantile_of whole fraction criteria)) (one-quantile fraction)
 

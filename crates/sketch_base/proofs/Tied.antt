@@ -7,6 +7,7 @@ use Rattle.sketch_base.specs.Tied.{TiesAreEqual}
 use Rattle.sketch_base.proofs.Sorting.{Ordered-from_sorted, sort-ordered}
 
 module _ {A : Type 0} {cmp : A → A → Ordering} (order : IsTotalOrder cmp) (tied : TiesAreEqual cmp) where
+  -- lists
   pub same-items : (xs ys : List A) → SameItems cmp xs ys → xs ≡ ys
   same-items [] [] s = refl
   same-items [] (y ∷ ys) s = absurd s
@@ -20,6 +21,7 @@ module _ {A : Type 0} {cmp : A → A → Ordering} (order : IsTotalOrder cmp) (t
       put : (zs : List A) → IsSorted cmp zs → sort cmp zs ≡ zs
       put zs h = same-items (sort cmp zs) zs (sort-ordered cmp order zs (Ordered-from_sorted cmp order zs h))
 
+  -- answers
   pub same-answers : (a b : Option A) → SameAnswer cmp a b → a ≡ b
   same-answers None None s = refl
   same-answers None (Some y) s = absurd s
