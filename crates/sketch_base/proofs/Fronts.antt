@@ -48,18 +48,21 @@ module _ {A : Type 0} (test : A → Bool) where
       go (inl m) = absurd (false≢true (sym h ∙ (parts-count xs up).0 i d (omega arith) m))
       go (inr m) = m
 
-  -- one step of a search by steps: the count lies within two steps, and the item at the end of the first tells in which
-  pub counted-step : (xs : List A) (start step : ℕ) (d : A) (b : Bool) → IsPartitionedBy test xs → 0 < step →
-      (start ≤ count_by test xs) × ((count_by test xs < start + 2 * step) × (start + 2 * step ≤ length xs + 1)) →
-      test (get_or xs (start + step - 1) d) ≡ b →
-      (start + (if b then step else 0) ≤ count_by test xs)
-      × ((count_by test xs < start + (if b then step else 0) + step) × (start + (if b then step else 0) + step ≤ length xs + 1))
+  -- a count of a search by steps: the count that is sought is above it by less than a step, which ends within the list
+  pub record IsCountWithin (xs : List A) (count step : ℕ) : Type 0 where
+    pub starts : count ≤ count_by test xs
+    pub ends : count_by test xs < count + step
+    pub within : count + step ≤ length xs + 1
+
+  -- one step of such a search: the item at the end of the first half tells in which half the count lies
+  pub counted-step : (xs : List A) (start step : ℕ) (d : A) (b : Bool) → IsPartitionedBy test xs → 0 < step → IsCountWithin xs start (2 * step) →
+      test (get_or xs (start + step - 1) d) ≡ b → IsCountWithin xs (start + (if b then step else 0)) step
   counted-step xs start step d true up some h is =
-      let more = counts-passed xs (start + step - 1) d up (omega (arith, some, h.1.1)) is in
-      (omega (arith, more, some), (omega (arith, h.1.0), omega (arith, h.1.1)))
+      let more = counts-passed xs (start + step - 1) d up (omega (arith, some, h.within)) is in
+      record { starts = omega (arith, more, some); ends = omega (arith, h.ends); within = omega (arith, h.within) }
   counted-step xs start step d false up some h is =
-      let few = counts-failed xs (start + step - 1) d up (omega (arith, some, h.1.1)) is in
-      (omega (arith, h.0), (omega (arith, few, some), omega (arith, h.1.1)))
+      let few = counts-failed xs (start + step - 1) d up (omega (arith, some, h.within)) is in
+      record { starts = omega (arith, h.starts); ends = omega (arith, few, some); within = omega (arith, h.within) }
 
   -- the end of the front in a part of the list
   pub count-of_part : (xs : List A) (s e : ℕ) → IsPartitionedBy test xs → s ≤ count_by test xs → count_by test xs ≤ e → e ≤ length xs → s + count_by test (take (e - s) (drop s xs)) ≡ count_by test xs
@@ -71,12 +74,9 @@ module _ {A : Type 0} (test : A → Bool) where
       ((λ k d a b. rw (at k d (omega (arith, long))) (p.0 (s + k) d (omega arith) (omega (arith, long)))), (λ k d a b. rw (at k d (omega (arith, long))) (p.1 (s + k) d (omega arith) (omega (arith, long))))) in
       omega (arith, here)
 
--- the steps of a search by steps: each is half of the one before
-pub step-doubled : (steps step : ℕ) → step < steps → 2 ^ (steps - step) ≡ 2 * 2 ^ (steps - 1 - step)
-step-doubled steps step more = ap (λ n. 2 ^ n) (omega (arith, more)) ∙ last (steps - 1 - step)
+-- the steps of a search by steps, of which the first ones are left out: each is half of the one before
+pub step-doubled : (steps shift : ℕ) → 0 < shift → shift - 1 < steps → 2 ^ (steps - (steps - shift)) ≡ 2 * 2 ^ (shift - 1)
+step-doubled steps shift some more = ap (λ n. 2 ^ n) (omega (arith, some, more)) ∙ next (shift - 1)
   where
-    last : (n : ℕ) → 2 ^ suc n ≡ 2 * 2 ^ n
-    last n = omega arith
-
-pub step-next : (steps step : ℕ) → 2 ^ (steps - (step + 1)) ≡ 2 ^ (steps - 1 - step)
-step-next steps step = ap (λ n. 2 ^ n) (omega arith)
+    next : (n : ℕ) → 2 ^ suc n ≡ 2 * 2 ^ n
+    next n = omega arith

@@ -9,6 +9,9 @@ use crate::common::SearchCriteria;
 /// From so many items on, a search by halves is faster than a count of them all.
 const FEW: usize = 16;
 
+/// So many steps of a search by halves are written out.
+const LAST_STEPS: u32 = 8;
+
 /// How many items a query counts, in any order.
 pub fn count_counted<T: Ord>(items: &[T], query: &T, criteria: SearchCriteria) -> usize
     ensures { result ≡ count_by (counted T.cmp query.now criteria) items.now }
@@ -58,8 +61,9 @@ pub fn count_in_order<T: Ord>(items: &[T], query: &T, criteria: SearchCriteria) 
     }
 }
 
-/// Counts the items of a sorted slice that the query counts, by a binary search whose steps are powers
-/// of two. No branch depends on a comparison, since a processor would guess it wrong half of the time.
+/// Counts the items of a sorted slice that the query counts, by a binary search whose steps are
+/// powers of two. No branch depends on a comparison, since a processor would guess it wrong half of
+/// the time.
 fn count_by_halves<T: Ord>(items: &[T], query: &T, criteria: SearchCriteria) -> usize
     requires sorted { IsSorted T.cmp items.now }
     ensures { result ≡ count_by (counted T.cmp query.now criteria) items.now }
@@ -67,14 +71,64 @@ fn count_by_halves<T: Ord>(items: &[T], query: &T, criteria: SearchCriteria) -> 
     if items.is_empty() {
         return 0;
     }
-    let steps = items.len().ilog2();
-    let mut count = first_count(items, power_if(true, steps), query, criteria);
-    for step in 0..steps {
-        let shift = steps - 1 - step;
-        let is_counted = counts(&items[count + power_if(true, shift) - 1], query, criteria);
-        count += power_if(is_counted, shift);
+    let mut shift = items.len().ilog2();
+    let mut count = first_count(items, power_if(true, shift), query, criteria);
+    while shift > LAST_STEPS {
+        shift -= 1;
+        count = halve(items, count, shift, query, criteria);
+    }
+    count_by_last_steps(items, count, shift, query, criteria)
+}
+
+/// The last steps of a search by halves, from a count that the query's count exceeds by less than
+/// 2 ^ `steps`. The compiler writes this loop out, and then a step, whose size it knows, takes less
+/// than half of the time.
+fn count_by_last_steps<T: Ord>(
+    items: &[T],
+    known: usize,
+    steps: u32,
+    query: &T,
+    criteria: SearchCriteria,
+) -> usize
+    requires sorted { IsSorted T.cmp items.now }
+    requires few { steps ≤ 8 }
+    requires starts { known ≤ count_by (counted T.cmp query.now criteria) items.now }
+    requires ends { count_by (counted T.cmp query.now criteria) items.now < known + 2 ^ steps }
+    requires within { known + 2 ^ steps ≤ length items.now + 1 }
+    ensures { result ≡ count_by (counted T.cmp query.now criteria) items.now }
+{
+    let mut count = known;
+    let mut shift = LAST_STEPS;
+    while shift > 0 {
+        shift -= 1;
+        if shift < steps {
+            count = halve(items, count, shift, query, criteria);
+        }
     }
     count
+}
+
+/// One step of a search by halves: from a count that the query's count exceeds by less than
+/// 2 * 2 ^ `shift` to one that it exceeds by less than half of that.
+fn halve<T: Ord>(
+    items: &[T],
+    known: usize,
+    shift: u32,
+    query: &T,
+    criteria: SearchCriteria,
+) -> usize
+    requires sorted { IsSorted T.cmp items.now }
+    requires shift { shift < 64 }
+    requires starts { known ≤ count_by (counted T.cmp query.now criteria) items.now }
+    requires ends { count_by (counted T.cmp query.now criteria) items.now
+        < known + 2 * 2 ^ shift }
+    requires within { known + 2 * 2 ^ shift ≤ length items.now + 1 }
+    ensures starts { result ≤ count_by (counted T.cmp query.now criteria) items.now }
+    ensures ends { count_by (counted T.cmp query.now criteria) items.now < result + 2 ^ shift }
+    ensures within { result + 2 ^ shift ≤ length items.now + 1 }
+{
+    let is_counted = counts(&items[known + power_if(true, shift) - 1], query, criteria);
+    known + power_if(is_counted, shift)
 }
 
 /// 2 ^ `shift`, or 0 where `is_power` is false: by a shift, which the compiler leaves without a branch.

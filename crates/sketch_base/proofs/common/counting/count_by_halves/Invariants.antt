@@ -1,8 +1,10 @@
-use Rattle.std.proofs.Common.{◌≤◌, ◌<◌, ◌+◌, ◌-◌, ◌^◌, length, count_by}
+use Rattle.std.proofs.Common.{◌<◌, ◌^◌}
 use Rattle.sketch_base.specs.Query.{counted}
+use Rattle.sketch_base.proofs.Fronts.{IsCountWithin}
 use Rattle.sketch_base.proofs.common.counting.count_by_halves.Given as goal
 
-abbrev pub invariant-loop-step : goal.invariant-loop-step
-invariant-loop-step g l =
-    (l.count ≤ count_by (counted g.T.Ord.cmp l.query l.criteria) l.items)
-    × ((count_by (counted g.T.Ord.cmp l.query l.criteria) l.items < l.count + 2 ^ (l.steps - l.step)) × (l.count + 2 ^ (l.steps - l.step) ≤ length l.items + 1))
+abbrev pub invariant-loop-shift : goal.invariant-loop-shift
+invariant-loop-shift g l = (l.shift < 64) × IsCountWithin (counted g.T.Ord.cmp l.query l.criteria) l.items l.count (2 ^ l.shift)
+
+abbrev pub decreases-loop-shift : goal.decreases-loop-shift
+decreases-loop-shift g l = l.shift

@@ -1,0 +1,11 @@
+use Rattle.std.proofs.Common.{arith}
+use Rattle.sketch_base.proofs.Fronts.{step-doubled}
+use Rattle.sketch_base.proofs.common.counting.count_by_last_steps.Goals as goal
+
+pub halve-count-requires-clause-ends : goal.halve-count-requires-clause-ends
+halve-count-requires-clause-ends g c =
+    omega (arith, step-doubled c.args.steps c.loop-shift.shift c.loop-shift-test.true c.if-shift-steps.true, c.loop-shift.invariant.1.ends)
+
+pub halve-count-requires-clause-within : goal.halve-count-requires-clause-within
+halve-count-requires-clause-within g c =
+    omega (arith, step-doubled c.args.steps c.loop-shift.shift c.loop-shift-test.true c.if-shift-steps.true, c.loop-shift.invariant.1.within)
