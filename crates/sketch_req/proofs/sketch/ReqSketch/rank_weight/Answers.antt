@@ -1,9 +1,11 @@
-use Rattle.std.proofs.Common.{sym, ◌∙◌}
+use Rattle.std.proofs.Common.{ap, sym, ◌∙◌}
 use Rattle.sketch_base.specs.Query.{counted}
+use Rattle.sketch_req.specs.Rank.{counted_weight}
 use Rattle.sketch_req.proofs.Ranks.{rank_is}
 use Rattle.sketch_req.proofs.sketch.ReqSketch.rank_weight.Goals as goal
 
 pub returns : goal.returns
 returns g c =
     let test = counted g.T.Ord.cmp c.args.item.now c.args.criteria in
-    rw (← c.self.view_is) (c.weight_counted.ensures ∙ sym (rank_is g.T.Ord.cmp test c.self.inside.levels.compactors.items))
+    rw (← c.self.view_is)
+    (c.weight_counted.ensures ∙ ap (counted_weight test) c.as_slice.ensures.value ∙ sym (rank_is g.T.Ord.cmp test c.self.inside.levels.compactors.items))
