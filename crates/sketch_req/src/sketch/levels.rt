@@ -5,12 +5,12 @@ ghost use Rattle.std.specs.declared.cmp.Ordering.TheVariants.{Equal};
 ghost use Rattle.sketch_base.specs.Query.{counted};
 ghost use Rattle.sketch_base.specs.Random.{bits_from, after_draws};
 ghost use Rattle.sketch_base.specs.declared.error.ErrorKind.TheVariants.{OutOfMemory};
+ghost use Rattle.sketch_req.specs.Held.{held_of};
 ghost use Rattle.sketch_req.specs.Level.{fresh};
 ghost use Rattle.sketch_req.specs.Merged.{AreTakenIn, redrawn_if, redraws_of};
 ghost use Rattle.sketch_req.specs.Rank.{counted_weight};
 ghost use Rattle.sketch_req.specs.Redrawn.{redrawn};
 ghost use Rattle.sketch_req.specs.Schedule.{layouts_of, retained_of, weight_of, nominal_sum, turning_levels};
-ghost use Rattle.sketch_req.specs.Sections.{IsLegalK};
 ghost use Rattle.sketch_req.specs.Walk.{AreLevels, AreWalkedIfFull, appended_first};
 ghost use Rattle.sketch_req.specs.declared.RankAccuracy.{RankAccuracy};
 
@@ -25,9 +25,11 @@ use sketch_base::common::SearchCriteria;
 use sketch_base::common::random::RandomBits;
 use sketch_base::error::Error;
 use std::alloc::AllocError;
+use std::marker::Model;
 use walk::{add_level, append, append_and_walk};
 
-/// The levels of a sketch, from level 0 up, and the sums over them.
+/// The levels of a sketch, from level 0 up, and the sums over them. A contract sees them as the
+/// record `Held` of specs/Held.
 #[derive(Debug, Drop)]
 pub(crate) struct Levels<T: Clone + Ord> {
     pub(crate) k: u16,
@@ -38,16 +40,23 @@ pub(crate) struct Levels<T: Clone + Ord> {
     pub(crate) capacity: usize,
 }
 
+impl<T: Clone + Ord> Model for Levels<T> {
+    ghost use Rattle.sketch_req.specs.Held.{Held, IsHeld, held_of};
+
+    ghost Value = { Held T };
+
+    ghost view = { λ x. held_of x.k x.rank_accuracy x.compactors.items };
+
+    ghost invariant = { λ x. IsHeld T.cmp x.num_retained x.capacity
+        (held_of x.k x.rank_accuracy x.compactors.items) };
+}
+
 impl<T: Clone + Ord> Levels<T> {
     /// These levels, with their sums.
     pub(crate) fn new(k: u16, rank_accuracy: RankAccuracy, compactors: Vec<Compactor<T>>) -> Self
+        requires some { 0 < length compactors.items }
         requires levels { AreLevels T.cmp k rank_accuracy 0 compactors.items }
-        ensures k { result.k ≡ k }
-        ensures accuracy { result.rank_accuracy ≡ rank_accuracy }
-        ensures compactors { result.compactors ≡ compactors }
-        ensures retained { result.num_retained ≡ retained_of (layouts_of result.compactors.items) }
-        ensures capacity { result.capacity
-            ≡ nominal_sum result.k (layouts_of result.compactors.items) }
+        ensures { result ≡ held_of k rank_accuracy compactors.items }
     {
         let (num_retained, capacity) = sums(compactors.as_slice());
         Levels {
@@ -61,16 +70,9 @@ impl<T: Clone + Ord> Levels<T> {
 
     /// Leaves one empty level.
     pub(crate) fn clear(&mut self)
-        requires legal { IsLegalK self.old.k }
-        requires some { 0 < length self.old.compactors.items }
-        ensures k { self.new.k ≡ self.old.k }
-        ensures accuracy { self.new.rank_accuracy ≡ self.old.rank_accuracy }
-        ensures items { self.new.compactors.items
-            ≡ fresh [] true 0 self.old.k self.old.rank_accuracy ∷ [] }
-        ensures retained { self.new.num_retained
-            ≡ retained_of (layouts_of self.new.compactors.items) }
-        ensures capacity { self.new.capacity
-            ≡ nominal_sum self.new.k (layouts_of self.new.compactors.items) }
+        ensures { self.new ≡ record self.old {
+          levels = fresh [] true 0 self.old.k self.old.accuracy ∷ [];
+        } }
     {
         self.compactors.clear();
         add_level(&mut self.compactors, 0, self.k, self.rank_accuracy);
@@ -85,26 +87,12 @@ impl<T: Clone + Ord> Levels<T> {
         buffers: &mut Vec<Buffers<T>>,
         coins: &mut B,
     ) -> Result<(), Error>
-        requires levels { AreLevels T.cmp self.old.k self.old.rank_accuracy 0
-            self.old.compactors.items }
-        requires some { 0 < length self.old.compactors.items }
-        requires fits { weight_of (layouts_of self.old.compactors.items) < 2 ^ 64 - 1 }
-        requires few { retained_of (layouts_of self.old.compactors.items) < 4294967295 }
-        requires retained { self.old.num_retained
-            ≡ retained_of (layouts_of self.old.compactors.items) }
-        requires capacity { self.old.capacity
-            ≡ nominal_sum self.old.k (layouts_of self.old.compactors.items) }
-        ensures k { self.new.k ≡ self.old.k }
-        ensures accuracy { self.new.rank_accuracy ≡ self.old.rank_accuracy }
+        requires fits { weight_of (layouts_of self.old.levels) < 2 ^ 64 - 1 }
+        requires few { retained_of (layouts_of self.old.levels) < 4294967295 }
+        ensures kept { self.new ≡ record self.old { levels = self.new.levels } }
         ensures acted { OnOk result (AreWalkedIfFull T.cmp B.bit B.next coins.old coins.new
-            self.old.k self.old.rank_accuracy
-            (appended_first self.old.compactors.items item) self.new.compactors.items) }
-        ensures err { OnErr result ((self.new.compactors.items ≡ self.old.compactors.items)
-            × (coins.new ≡ coins.old)) }
-        ensures retained { self.new.num_retained
-            ≡ retained_of (layouts_of self.new.compactors.items) }
-        ensures capacity { self.new.capacity
-            ≡ nominal_sum self.old.k (layouts_of self.new.compactors.items) }
+            self.old.k self.old.accuracy (appended_first self.old.levels item) self.new.levels) }
+        ensures err { OnErr result ((self.new ≡ self.old) × (coins.new ≡ coins.old)) }
         ensures memory { IfErr result (λ e. e ≡ OutOfMemory) }
     {
         if self.num_retained + 1 < self.capacity {
@@ -127,27 +115,16 @@ impl<T: Clone + Ord> Levels<T> {
         coins: &mut B,
     ) -> Result<(), AllocError>
         requires clones { (x y : T) → T.is_clone x y → T.cmp x y ≡ Equal }
-        requires levels { AreLevels T.cmp self.old.k self.old.rank_accuracy 0
-            self.old.compactors.items }
-        requires some { 0 < length self.old.compactors.items }
-        requires others { AreLevels T.cmp others.now.k self.old.rank_accuracy 0
-            others.now.compactors.items }
-        requires fits { weight_of (layouts_of self.old.compactors.items)
-            + weight_of (layouts_of others.now.compactors.items) < 2 ^ 64 }
-        requires few { retained_of (layouts_of self.old.compactors.items)
-            + retained_of (layouts_of others.now.compactors.items) < 2 ^ 32 }
-        ensures k { self.new.k ≡ self.old.k }
-        ensures accuracy { self.new.rank_accuracy ≡ self.old.rank_accuracy }
+        requires accuracy { self.old.accuracy ≡ others.now.accuracy }
+        requires fits { weight_of (layouts_of self.old.levels)
+            + weight_of (layouts_of others.now.levels) < 2 ^ 64 }
+        requires few { retained_of (layouts_of self.old.levels)
+            + retained_of (layouts_of others.now.levels) < 2 ^ 32 }
+        ensures kept { self.new ≡ record self.old { levels = self.new.levels } }
         ensures taken_in { OnOk result (AreTakenIn T.cmp B.bit B.next coins.old coins.new
-            self.old.k self.old.rank_accuracy redraws self.old.compactors.items
-            others.now.compactors.items self.new.compactors.items) }
-        ensures retained { OnOk result (self.new.num_retained
-            ≡ retained_of (layouts_of self.new.compactors.items)) }
-        ensures capacity { OnOk result (self.new.capacity
-            ≡ nominal_sum self.old.k (layouts_of self.new.compactors.items)) }
-        ensures err { OnErr result ((self.new.compactors.items ≡ self.old.compactors.items)
-            × (self.new.num_retained ≡ self.old.num_retained)
-            × (self.new.capacity ≡ self.old.capacity) × (coins.new ≡ coins.old)) }
+            self.old.k self.old.accuracy redraws self.old.levels others.now.levels
+            self.new.levels) }
+        ensures err { OnErr result ((self.new ≡ self.old) × (coins.new ≡ coins.old)) }
     {
         let more = others.compactors.as_slice();
         join_and_walk(&mut self.compactors, more, redraws, buffers, coins)?;
@@ -157,14 +134,12 @@ impl<T: Clone + Ord> Levels<T> {
 
     /// Draws a coin for each level at an odd state, from level 0 up.
     pub(crate) fn redraw_coins<B: RandomBits>(&mut self, coins: &mut B)
-        ensures k { self.new.k ≡ self.old.k }
-        ensures accuracy { self.new.rank_accuracy ≡ self.old.rank_accuracy }
-        ensures levels { self.new.compactors.items ≡ redrawn (bits_from B.bit B.next coins.old
-            (turning_levels (layouts_of self.old.compactors.items))) self.old.compactors.items }
+        ensures value { self.new ≡ record self.old {
+          levels = redrawn (bits_from B.bit B.next coins.old
+              (turning_levels (layouts_of self.old.levels))) self.old.levels;
+        } }
         ensures coins { coins.new ≡ after_draws B.next coins.old
-            (turning_levels (layouts_of self.old.compactors.items)) }
-        ensures retained { self.new.num_retained ≡ self.old.num_retained }
-        ensures capacity { self.new.capacity ≡ self.old.capacity }
+            (turning_levels (layouts_of self.old.levels)) }
     {
         redraw_if(true, &mut self.compactors, coins);
     }

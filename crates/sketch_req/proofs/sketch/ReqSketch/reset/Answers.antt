@@ -24,12 +24,7 @@ sound-first cmp k accuracy legal = record {
 }
 
 pub invariant_of-self : goal.invariant_of-self
-invariant_of-self g c =
-    record {
-      retained_is = c.clear.ensures.retained;
-      capacity_is = c.clear.ensures.capacity;
-      sound = rw (c.clear.ensures.k, c.clear.ensures.accuracy, c.clear.ensures.items) (sound-first g.T.Ord.cmp _ _ c.self.invariant.sound.legal_k);
-    }
+invariant_of-self g c = rw c.clear.ensures (sound-first g.T.Ord.cmp _ _ c.self.invariant.legal_k)
 
 pub returns-clause-sound : goal.returns-clause-sound
-returns-clause-sound g c = (invariant_of-self g c).sound
+returns-clause-sound g c = invariant_of-self g c
