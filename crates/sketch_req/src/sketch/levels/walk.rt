@@ -1,12 +1,11 @@
 //! The walk over levels: each level that is full is compacted into the one above. What can fail
 //! comes first, in `reserve_next`.
 ghost use Rattle.std.specs.Prelude.{◌≡◌, ◌+◌, ◌-◌, ◌^◌, ◌<◌, ◌≤◌, [], ◌∷◌, ◌++◌, length, vec_len, vec_capacity, IfErr, OnOk, OnErr, true, if◌then◌else◌, ◌==◌};
-ghost use Rattle.sketch_base.specs.Trace.{draws};
 ghost use Rattle.sketch_base.specs.declared.error.ErrorKind.TheVariants.{OutOfMemory};
 ghost use Rattle.sketch_req.specs.Level.{fresh};
-ghost use Rattle.sketch_req.specs.Schedule.{layouts_of, layout_at, is_full, retained_of, weight_of};
+ghost use Rattle.sketch_req.specs.Schedule.{layouts_of, layout_at, retained_of, weight_of};
 ghost use Rattle.sketch_req.specs.Sections.{IsLegalK};
-ghost use Rattle.sketch_req.specs.Walk.{AreHeld, HasSpace, HaveSpace, IsStep, AreStepped, AreWalkedIfFull, AreWalkedOver, accuracy_of, appended_first, compact_of, k_of, with_more};
+ghost use Rattle.sketch_req.specs.Walk.{AreHeld, HasSpace, HaveSpace, AreStepped, AreWalkedIfFull, AreWalkedOver, accuracy_of, appended_first, k_of, with_more};
 
 use super::sums;
 use crate::RankAccuracy;
@@ -38,19 +37,19 @@ pub(super) fn count_at<T: Clone + Ord>(levels: &[Compactor<T>], level: usize) ->
     found.map_or(0, |level| level.num_items() as usize)
 }
 
-/// Makes room for all that a walk moves, if `more` items come into level 0 before.
-fn reserve_walk<T: Clone + Ord>(
+/// Makes room to sort level 0 with an item more, and for all that a walk then moves.
+fn reserve_next<T: Clone + Ord>(
     levels: &[Compactor<T>],
-    more: usize,
     buffers: &mut Vec<Buffers<T>>,
 ) -> Result<(), AllocError>
     requires levels { AreHeld T.cmp levels.now }
-    requires few { retained_of (with_more more (layouts_of levels.now)) < 2 ^ 32 }
+    requires few { retained_of (with_more 1 (layouts_of levels.now)) < 2 ^ 32 }
     ensures fit { OnOk result
-        (HaveSpace (k_of levels.now) (with_more more (layouts_of levels.now)) buffers.new.items) }
+        (HaveSpace (k_of levels.now) (with_more 1 (layouts_of levels.now)) buffers.new.items) }
 {
     add_buffers(buffers, levels.len())?;
-    let mut carried = more;
+    levels[0].reserve_to_sort(&mut buffers[0])?;
+    let mut carried = 1;
     for level in 0..levels.len() {
         let above = count_at(levels, level + 1);
         let count = levels[level].count_to_take_with(carried);
@@ -82,39 +81,7 @@ pub(super) fn add_level<T: Clone + Ord>(
     }
 }
 
-/// Compacts one level, which is full, into the one above.
-fn compact_level<T: Clone + Ord, B: RandomBits>(
-    levels: &mut Vec<Compactor<T>>,
-    level: usize,
-    buffers: &mut Buffers<T>,
-    coins: &mut B,
-)
-    requires levels { AreHeld T.cmp levels.old.items }
-    requires within { level < length levels.old.items }
-    requires full { is_full (k_of levels.old.items) (layout_at (layouts_of levels.old.items) level)
-        ≡ true }
-    requires fits { weight_of (layouts_of levels.old.items) < 2 ^ 64 }
-    requires few_items { retained_of (layouts_of levels.old.items) < 2 ^ 32 }
-    requires spare { level + 1 ≡ length levels.old.items
-        → vec_len levels.old < vec_capacity levels.old }
-    requires fit { HasSpace (k_of levels.old.items) level (layouts_of levels.old.items)
-        buffers.old.merged_space buffers.old.promoted_space }
-    ensures step { IsStep T.cmp (k_of levels.old.items) (accuracy_of levels.old.items) level
-        (B.bit coins.old) levels.old.items levels.new.items }
-    ensures coins { coins.new ≡ (if draws (compact_of (k_of levels.old.items)
-        (accuracy_of levels.old.items) level levels.old.items)
-        then B.next coins.old else coins.old) }
-    ensures same_len { level + 1 < length levels.old.items
-        → vec_len levels.new ≡ vec_len levels.old }
-    ensures capacity { vec_capacity levels.old ≤ vec_capacity levels.new }
-{
-    let (k, rank_accuracy) = levels[level].parameters();
-    levels[level].compact_reserved(&mut buffers.promoted, &mut buffers.merged, coins);
-    add_level(levels, level + 1, k, rank_accuracy);
-    levels[level + 1].absorb(&mut buffers.promoted, &mut buffers.merged);
-}
-
-/// One step of a walk: compacts a level where it is full.
+/// One step of a walk: compacts a level into the one above, where it is full.
 fn step<T: Clone + Ord, B: RandomBits>(
     levels: &mut Vec<Compactor<T>>,
     level: usize,
@@ -136,9 +103,13 @@ fn step<T: Clone + Ord, B: RandomBits>(
     ensures capacity { vec_capacity levels.old ≤ vec_capacity levels.new }
 {
     let here = &levels[level];
-    if here.num_items() >= here.nominal_capacity() {
-        compact_level(levels, level, buffers, coins);
+    if here.num_items() < here.nominal_capacity() {
+        return;
     }
+    let (k, rank_accuracy) = here.parameters();
+    levels[level].compact_reserved(&mut buffers.promoted, &mut buffers.merged, coins);
+    add_level(levels, level + 1, k, rank_accuracy);
+    levels[level + 1].absorb(&mut buffers.promoted, &mut buffers.merged);
 }
 
 /// Compacts, from level 0 up, each level that is at or over its nominal capacity at its turn. A
@@ -196,25 +167,6 @@ pub(super) fn append<T: Clone + Ord>(levels: &mut Vec<Compactor<T>>, item: T) ->
     levels[0].append(item)
 }
 
-/// Makes room for an item more, to sort level 0 with it, and for all that a walk then moves.
-fn reserve_next<T: Clone + Ord>(
-    levels: &mut Vec<Compactor<T>>,
-    buffers: &mut Vec<Buffers<T>>,
-) -> Result<(), AllocError>
-    requires levels { AreHeld T.cmp levels.old.items }
-    requires few { retained_of (layouts_of levels.old.items) < 4294967295 }
-    ensures items { levels.new.items ≡ levels.old.items }
-    ensures spare { OnOk result (length levels.old.items < vec_capacity levels.new) }
-    ensures fit { OnOk result
-        (HaveSpace (k_of levels.old.items) (with_more 1 (layouts_of levels.old.items))
-        buffers.new.items) }
-{
-    levels.reserve(1)?;
-    add_buffers(buffers, 1)?;
-    levels[0].reserve_to_sort(&mut buffers[0])?;
-    reserve_walk(levels.as_slice(), 1, buffers)
-}
-
 /// Puts an item last into level 0, and then walks over the levels.
 pub(super) fn append_and_walk<T: Clone + Ord, B: RandomBits>(
     levels: &mut Vec<Compactor<T>>,
@@ -232,7 +184,8 @@ pub(super) fn append_and_walk<T: Clone + Ord, B: RandomBits>(
         × (coins.new ≡ coins.old)) }
     ensures memory { IfErr result (λ e. e ≡ OutOfMemory) }
 {
-    reserve_next(levels, buffers)?;
+    levels.reserve(1)?;
+    reserve_next(levels.as_slice(), buffers)?;
     append(levels, item)?;
     walk(levels, buffers, coins);
     Ok(())

@@ -6,12 +6,12 @@ use Rattle.sketch_req.proofs.Plans.{planned-start, planned-more, planned-few, pl
 use Rattle.sketch_req.proofs.Buffers.{space-more}
 use Rattle.sketch_req.proofs.Layouts.{length-layouts}
 use Rattle.sketch_req.proofs.Steps.{taken-there}
-use Rattle.sketch_req.proofs.sketch.levels.walk.reserve_walk.Goals as goal
+use Rattle.sketch_req.proofs.sketch.levels.walk.reserve_next.Goals as goal
 
 pub loop-level-init : goal.loop-level-init
 loop-level-init g c = record {
-  enough = let e = c.in_ok-add_buffers.ensures.enough in omega (arith, e, c.add_buffers.new.buffers.ok);
-  planned = planned-start (k_of c.args.levels.now) c.args.more (layouts_of c.args.levels.now);
+  enough = simp length-set (let e = c.in_ok-add_buffers.ensures.enough in omega (arith, e, c.add_buffers.new.buffers.ok));
+  planned = planned-start (k_of c.args.levels.now) 1 (layouts_of c.args.levels.now);
   fits = λ h l. absurd (omega (arith, l));
 }
 
@@ -31,7 +31,7 @@ loop-level-preserved g c =
     let e = taken-there g.T.Ord.cmp (k_of c.args.levels.now) _ c.loop-level.level c.loop-level.carried _ _ c.index-levels-level.result c.requires.levels.placed
     (omega (arith, c.loop-level-test.true)) c.index-levels-level.is c.count_to_take_with-count.ensures in
     let inside : c.loop-level.level < length c.loop-level.buffers.items = omega (arith, i.enough, c.loop-level-test.true) in
-    let start : List Layout = with_more c.args.more (layouts_of c.args.levels.now) in
+    let start : List Layout = with_more 1 (layouts_of c.args.levels.now) in
     record {
       enough = simp length-set i.enough;
       planned = planned-more _ _ _ _ _ _ e i.planned;
@@ -43,7 +43,7 @@ loop-level-preserved g c =
 pub returns : goal.returns
 returns g c =
     let n = length-layouts c.args.levels.now in
-    let m = length-more c.args.more (layouts_of c.args.levels.now) (omega (arith, n, c.requires.levels.some)) in
+    let m = length-more 1 (layouts_of c.args.levels.now) (omega (arith, n, c.requires.levels.some)) in
     record {
       fit = record {
         enough = omega (arith, n, m, c.loop-level.invariant.enough);
