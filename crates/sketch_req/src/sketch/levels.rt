@@ -1,16 +1,35 @@
-//! The levels of a sketch, and the sums over them.
-//! How an item comes in stands in `walk`, how other levels are joined in `merge`.
-ghost use Rattle.std.specs.Prelude.{◌≡◌, ◌+◌, ◌^◌, ◌<◌};
+//! The levels of a sketch with the sums over them, and how items come in.
+//! What happens to a vector of levels half-way stands in `walk` and `joining`.
+ghost use Rattle.std.specs.Prelude.{◌≡◌, ℕ, ◌+◌, ◌-◌, ◌^◌, ◌<◌, ◌≤◌, true, [], ◌∷◌, length, vec_capacity, IfErr, OnOk, OnErr};
+ghost use Rattle.std.specs.declared.cmp.Ordering.TheVariants.{Equal};
 ghost use Rattle.sketch_base.specs.Query.{counted};
+ghost use Rattle.sketch_base.specs.Random.{bits_from, after_draws};
+ghost use Rattle.sketch_base.specs.declared.error.ErrorKind.TheVariants.{OutOfMemory};
+ghost use Rattle.sketch_req.specs.Held.{held_of};
+ghost use Rattle.sketch_req.specs.Level.{fresh};
+ghost use Rattle.sketch_req.specs.Merged.{AreTakenIn, redrawn_if, redraws_of};
 ghost use Rattle.sketch_req.specs.Rank.{counted_weight};
-ghost use Rattle.sketch_req.specs.Schedule.{layouts_of, retained_of, weight_of, nominal_sum};
-ghost use Rattle.sketch_req.specs.Walk.{AreLevels};
+ghost use Rattle.sketch_req.specs.Redrawn.{redrawn};
+ghost use Rattle.sketch_req.specs.Schedule.{layouts_of, retained_of, weight_of, nominal_sum, turning_levels};
+ghost use Rattle.sketch_req.specs.Walk.{AreLevels, AreWalkedIfFull, appended_first};
+ghost use Rattle.sketch_req.specs.declared.RankAccuracy.{RankAccuracy};
+
+mod joining;
+mod walk;
 
 use crate::RankAccuracy;
 use crate::compactor::Compactor;
+use crate::merging::Buffers;
+use joining::join_and_walk;
 use sketch_base::common::SearchCriteria;
+use sketch_base::common::random::RandomBits;
+use sketch_base::error::Error;
+use std::alloc::AllocError;
+use std::marker::Model;
+use walk::{add_level, append, append_and_walk};
 
-/// The levels of a sketch, from level 0 up, and the sums over them.
+/// The levels of a sketch, from level 0 up, and the sums over them. A contract sees them as the
+/// record `Held` of specs/Held.
 #[derive(Debug, Drop)]
 pub(crate) struct Levels<T: Clone + Ord> {
     pub(crate) k: u16,
@@ -21,61 +40,162 @@ pub(crate) struct Levels<T: Clone + Ord> {
     pub(crate) capacity: usize,
 }
 
+impl<T: Clone + Ord> Model for Levels<T> {
+    ghost use Rattle.sketch_req.specs.Held.{Held, IsHeld, held_of};
+
+    ghost Value = { Held T };
+
+    ghost view = { λ x. held_of x.k x.rank_accuracy x.compactors.items };
+
+    ghost invariant = { λ x. IsHeld T.cmp x.num_retained x.capacity
+        (held_of x.k x.rank_accuracy x.compactors.items) };
+}
+
 impl<T: Clone + Ord> Levels<T> {
     /// These levels, with their sums.
     pub(crate) fn new(k: u16, rank_accuracy: RankAccuracy, compactors: Vec<Compactor<T>>) -> Self
+        requires some { 0 < length compactors.items }
         requires levels { AreLevels T.cmp k rank_accuracy 0 compactors.items }
-        ensures k { result.k ≡ k }
-        ensures accuracy { result.rank_accuracy ≡ rank_accuracy }
-        ensures compactors { result.compactors ≡ compactors }
-        ensures retained { result.num_retained ≡ retained_of (layouts_of result.compactors.items) }
-        ensures capacity { result.capacity
-            ≡ nominal_sum result.k (layouts_of result.compactors.items) }
+        ensures { result ≡ held_of k rank_accuracy compactors.items }
     {
-        let mut levels = Levels {
+        let (num_retained, capacity) = sums(compactors.as_slice());
+        Levels {
             k,
             rank_accuracy,
             compactors,
-            num_retained: 0,
-            capacity: 0,
-        };
-        levels.add_up();
-        levels
+            num_retained,
+            capacity,
+        }
     }
 
-    /// Adds up how many items the levels hold, and their nominal capacities.
-    pub(crate) fn add_up(&mut self)
-        requires levels { AreLevels T.cmp self.old.k self.old.rank_accuracy 0
-            self.old.compactors.items }
-        ensures k { self.new.k ≡ self.old.k }
-        ensures accuracy { self.new.rank_accuracy ≡ self.old.rank_accuracy }
-        ensures compactors { self.new.compactors ≡ self.old.compactors }
-        ensures retained { self.new.num_retained
-            ≡ retained_of (layouts_of self.old.compactors.items) }
-        ensures capacity { self.new.capacity
-            ≡ nominal_sum self.old.k (layouts_of self.old.compactors.items) }
+    /// Leaves one empty level.
+    pub(crate) fn clear(&mut self)
+        ensures { self.new ≡ record self.old {
+          levels = fresh [] true 0 self.old.k self.old.accuracy ∷ [];
+        } }
     {
-        let (mut count, mut sum) = (0, 0);
-        for level in self.compactors.as_slice() {
-            count += level.num_items() as usize;
-            sum += level.nominal_capacity() as usize;
-        }
-        (self.num_retained, self.capacity) = (count, sum);
+        self.compactors.clear();
+        add_level(&mut self.compactors, 0, self.k, self.rank_accuracy);
+        (self.num_retained, self.capacity) = sums(self.compactors.as_slice());
     }
 
-    /// The weight of the items that a query counts.
-    pub(crate) fn weight_counted(&self, item: &T, criteria: SearchCriteria) -> u64
-        requires { weight_of (layouts_of self.now.compactors.items) < 2 ^ 64 }
-        ensures { result
-            ≡ counted_weight (counted T.cmp item.now criteria) self.now.compactors.items }
+    /// Puts an item last into level 0, and then walks over the levels where these are full together.
+    /// What can fail comes first.
+    pub(crate) fn take_item<B: RandomBits>(
+        &mut self,
+        item: T,
+        buffers: &mut Vec<Buffers<T>>,
+        coins: &mut B,
+    ) -> Result<(), Error>
+        requires fits { weight_of (layouts_of self.old.levels) < 2 ^ 64 - 1 }
+        requires few { retained_of (layouts_of self.old.levels) < 4294967295 }
+        ensures kept { self.new ≡ record self.old { levels = self.new.levels } }
+        ensures acted { OnOk result (AreWalkedIfFull T.cmp B.bit B.next coins.old coins.new
+            self.old.k self.old.accuracy (appended_first self.old.levels item) self.new.levels) }
+        ensures err { OnErr result ((self.new ≡ self.old) × (coins.new ≡ coins.old)) }
+        ensures memory { IfErr result (λ e. e ≡ OutOfMemory) }
     {
-        let mut weight = 0;
-        let mut level = self.compactors.len();
-        while level > 0 {
-            level -= 1;
-            let counted = self.compactors[level].count(item, criteria);
-            weight = 2 * weight + counted as u64;
+        if self.num_retained + 1 < self.capacity {
+            append(&mut self.compactors, item)?;
+            self.num_retained += 1;
+            return Ok(());
         }
-        weight
+        append_and_walk(&mut self.compactors, item, buffers, coins)?;
+        (self.num_retained, self.capacity) = sums(self.compactors.as_slice());
+        Ok(())
     }
+
+    /// Joins other levels in, draws coins anew or doesn't, and walks where all are then at or over
+    /// their nominal capacities together.
+    pub(crate) fn take_in<B: RandomBits>(
+        &mut self,
+        others: &Self,
+        redraws: bool,
+        buffers: &mut Vec<Buffers<T>>,
+        coins: &mut B,
+    ) -> Result<(), AllocError>
+        requires clones { (x y : T) → T.is_clone x y → T.cmp x y ≡ Equal }
+        requires accuracy { self.old.accuracy ≡ others.now.accuracy }
+        requires fits { weight_of (layouts_of self.old.levels)
+            + weight_of (layouts_of others.now.levels) < 2 ^ 64 }
+        requires few { retained_of (layouts_of self.old.levels)
+            + retained_of (layouts_of others.now.levels) < 2 ^ 32 }
+        ensures kept { self.new ≡ record self.old { levels = self.new.levels } }
+        ensures taken_in { OnOk result (AreTakenIn T.cmp B.bit B.next coins.old coins.new
+            self.old.k self.old.accuracy redraws self.old.levels others.now.levels
+            self.new.levels) }
+        ensures err { OnErr result ((self.new ≡ self.old) × (coins.new ≡ coins.old)) }
+    {
+        let more = others.compactors.as_slice();
+        join_and_walk(&mut self.compactors, more, redraws, buffers, coins)?;
+        (self.num_retained, self.capacity) = sums(self.compactors.as_slice());
+        Ok(())
+    }
+
+    /// Draws a coin for each level at an odd state, from level 0 up.
+    pub(crate) fn redraw_coins<B: RandomBits>(&mut self, coins: &mut B)
+        ensures value { self.new ≡ record self.old {
+          levels = redrawn (bits_from B.bit B.next coins.old
+              (turning_levels (layouts_of self.old.levels))) self.old.levels;
+        } }
+        ensures coins { coins.new ≡ after_draws B.next coins.old
+            (turning_levels (layouts_of self.old.levels)) }
+    {
+        redraw_if(true, &mut self.compactors, coins);
+    }
+}
+
+/// How many items levels hold, and their nominal capacities together.
+fn sums<T: Clone + Ord>(levels: &[Compactor<T>]) -> (usize, usize)
+    requires few { length levels.now ≤ 64 }
+    ensures retained { result.0 ≡ retained_of (layouts_of levels.now) }
+    ensures capacity { (k : ℕ) (accuracy : RankAccuracy) →
+        AreLevels T.cmp k accuracy 0 levels.now
+        → result.1 ≡ nominal_sum k (layouts_of levels.now) }
+{
+    let (mut count, mut sum) = (0, 0);
+    for level in levels {
+        count += level.num_items() as usize;
+        sum += level.nominal_capacity() as usize;
+    }
+    (count, sum)
+}
+
+/// Draws, if it is told to, a coin for each level at an odd state, from level 0 up.
+fn redraw_if<T: Clone + Ord, B: RandomBits>(
+    redraws: bool,
+    levels: &mut Vec<Compactor<T>>,
+    coins: &mut B,
+)
+    ensures levels { levels.new.items ≡ redrawn_if redraws (bits_from B.bit B.next coins.old
+        (redraws_of redraws levels.old.items)) levels.old.items }
+    ensures coins { coins.new
+        ≡ after_draws B.next coins.old (redraws_of redraws levels.old.items) }
+    ensures room { vec_capacity levels.new ≡ vec_capacity levels.old }
+{
+    if !redraws {
+        return;
+    }
+    for level in 0..levels.len() {
+        levels[level].redraw_coin(coins);
+    }
+}
+
+/// The weight of the items that a query counts.
+pub(crate) fn weight_counted<T: Clone + Ord>(
+    levels: &[Compactor<T>],
+    item: &T,
+    criteria: SearchCriteria,
+) -> u64
+    requires { weight_of (layouts_of levels.now) < 2 ^ 64 }
+    ensures { result ≡ counted_weight (counted T.cmp item.now criteria) levels.now }
+{
+    let mut weight = 0;
+    let mut level = levels.len();
+    while level > 0 {
+        level -= 1;
+        let counted = levels[level].count(item, criteria);
+        weight = 2 * weight + counted as u64;
+    }
+    weight
 }

@@ -1,28 +1,31 @@
-use Rattle.std.proofs.Common.{◌≡◌, ℕ, ◌-◌, List, ◌++◌, length, sym, ap, ◌∙◌, take-append-drop}
+use Rattle.std.proofs.Common.{◌≡◌, ℕ, ◌-◌, ◌%◌, List, ◌++◌, length, take, drop, reverse, sym, ap, ◌∙◌, not, arith, take_at, length-take}
+use Rattle.std.proofs.lemmas.List.{reverse-reverse}
 use Rattle.sketch_base.specs.Bag.{half}
-use Rattle.sketch_req.specs.Level.{side_kept, side_taken}
-use Rattle.sketch_req.proofs.Parts.{taken_out}
-use Rattle.sketch_req.proofs.compaction.take_side.Goals.{in-HighRank, in-LowRank}
+use Rattle.sketch_base.proofs.MovedHalves.{half_reverse}
+use Rattle.sketch_req.proofs.Parts.{moved_behind}
+use Rattle.sketch_req.proofs.compaction.take_side.Goals.{After-move_behind}
 use Rattle.sketch_req.proofs.compaction.take_side.Goals as goal
 
-pub returns-clause-kept : goal.returns-clause-kept
-returns-clause-kept g c =
-    let xs : List g.row.T.Denot = c.args.items.now.items in
-    let turned : c.match-accuracy.items.items ≡ side_kept c.args.accuracy c.args.count xs ++ side_taken c.args.accuracy c.args.count xs =
-    elim c.match-accuracy.branch [
-      | in-HighRank w ↦ rw w.in-HighRank.is (ap (λ v. v.items) w.items-is ∙ w.rotate_left.ensures.items)
-      | in-LowRank w ↦ rw w.in-LowRank.is (ap (λ v. v.items) w.items-is ∙ sym (take-append-drop (length xs - c.args.count) xs))
-    ] in
-    let parts = taken_out c.args.accuracy c.args.count (c.len-len.result - c.args.count) xs c.match-accuracy.items.items (ap (λ (m : ℕ). m - c.args.count) (c.len-len.ensures ∙ c.args.items.now.ok.0)) turned in
-    c.move_half.ensures.kept ∙ parts.0
+-- the vector's items once the slice of them was changed
+changed : (g : _) (c : After-move_behind g) → take c.args.items.now.len (c.move_behind.new.items ++ drop (length c.move_behind.new.items) c.args.items.now.items)
+    ≡ drop c.args.count c.args.items.now.items ++ reverse (take c.args.count c.args.items.now.items)
+changed g c =
+    take_at c.move_behind.new.items _ c.args.items.now.len (c.move_behind.auto.items ∙ c.deref_mut.ensures.len) ∙
+    (c.move_behind.ensures ∙ ap (λ (xs : List g.row.T.Denot). drop c.args.count xs ++ reverse (take c.args.count xs)) c.deref_mut.ensures.value)
 
-pub returns-clause-moved : goal.returns-clause-moved
-returns-clause-moved g c =
+pub returns-in-HighRank-clause-kept : goal.returns-in-HighRank-clause-kept
+returns-in-HighRank-clause-kept g c =
     let xs : List g.row.T.Denot = c.args.items.now.items in
-    let turned : c.match-accuracy.items.items ≡ side_kept c.args.accuracy c.args.count xs ++ side_taken c.args.accuracy c.args.count xs =
-    elim c.match-accuracy.branch [
-      | in-HighRank w ↦ rw w.in-HighRank.is (ap (λ v. v.items) w.items-is ∙ w.rotate_left.ensures.items)
-      | in-LowRank w ↦ rw w.in-LowRank.is (ap (λ v. v.items) w.items-is ∙ sym (take-append-drop (length xs - c.args.count) xs))
-    ] in
-    let parts = taken_out c.args.accuracy c.args.count (c.len-len.result - c.args.count) xs c.match-accuracy.items.items (ap (λ (m : ℕ). m - c.args.count) (c.len-len.ensures ∙ c.args.items.now.ok.0)) turned in
-    c.reverse.ensures.items ∙ (sym c.move_half.ensures.moved ∙ ap (half c.args.odd) parts.1)
+    let turned = changed g (goal.at.returns-in-HighRank-clause-kept g c).After-move_behind in
+    let parts = moved_behind c.args.count (c.len.result - c.args.count) xs _ (ap (λ (m : ℕ). m - c.args.count) (c.len.ensures ∙ c.args.items.now.ok.0)) turned in
+    rw c.in-HighRank.is (c.move_half.ensures.kept ∙ parts.0)
+
+pub returns-in-HighRank-clause-moved : goal.returns-in-HighRank-clause-moved
+returns-in-HighRank-clause-moved g c =
+    let xs : List g.row.T.Denot = c.args.items.now.items in
+    let turned = changed g (goal.at.returns-in-HighRank-clause-moved g c).After-move_behind in
+    let parts = moved_behind c.args.count (c.len.result - c.args.count) xs _ (ap (λ (m : ℕ). m - c.args.count) (c.len.ensures ∙ c.args.items.now.ok.0)) turned in
+    let out : reverse (half (not c.args.odd) (reverse (take c.args.count xs))) ≡ c.move_half.new.out.items =
+    ap reverse (sym (ap (half (not c.args.odd)) parts.1) ∙ c.move_half.ensures.moved) ∙ reverse-reverse c.move_half.new.out.items in
+    let even : length (take c.args.count xs) % 2 ≡ 0 = omega (arith, length-take c.args.count xs, c.requires.within, c.requires.even) in
+    rw c.in-HighRank.is (sym (half_reverse c.args.odd (take c.args.count xs) even ∙ out))

@@ -2,6 +2,7 @@ use Rattle.std.proofs.lemmas.Grind.{common_steps}
 use Rattle.std.proofs.Common.{◌≡◌, ◌+◌, ◌∷◌, [], ◌++◌, ◌∙◌, sym, ap, subst, arith, List, ℕ, length, take, length-append}
 use Rattle.std.proofs.lemmas.Iterator.Consumers.{YieldsList-from_first, YieldsList-turn, YieldsList-end}
 use Rattle.std.proofs.lemmas.List.{take_all}
+use Rattle.sketch_req.specs.Held.{Held}
 use Rattle.sketch_req.specs.Pairs.{pairs_of}
 use Rattle.sketch_req.specs.Sketch.{Req}
 use Rattle.sketch_req.specs.Views.{SamePairs}
@@ -32,7 +33,8 @@ push_reserved-requires g c =
     let road = YieldsList-from_first (λ (x : Bor g.row.T.Denot × ℕ). (x.0.now, x.1)) (λ (rest : List (g.row.T.Denot × ℕ)). rest) all (c.into_iter-item-iterator.ensures.into_iter_gives ∙ c.iter-item-items.ensures.pairs) in
     let turn = YieldsList-turn road c.loop-item.yielded _ c.loop-item.yielded_by _ _ (c.in-Some.item, c.in-Some.weight) c.in-Some.is c.next.ensures.steps in
     let held = ap (λ (s : Req g.row.T.Denot). length (pairs_of s.levels)) c.self.view_is in
-    omega (arith, i.len, i.room, c.in_ok-pairs.ensures.capacity, c.self.invariant.retained_is, length-pairs c.self.inside.levels.compactors.items, held, turn.0)
+    let levels = ap (λ (h : Held g.row.T.Denot). length (pairs_of h.levels)) c.levels.view_is in
+    omega (arith, i.len, i.room, c.in_ok-pairs.ensures.capacity, c.levels.invariant.retained_is, length-pairs c.levels.inside.compactors.items, levels, held, turn.0)
 
 pub returns-clause-pairs : goal.returns-clause-pairs
 returns-clause-pairs g c =

@@ -27,9 +27,9 @@ module _ (g : Over) (c : After-new-levels g) where
       c.requires.legal c.requires.placed c.num_items-n.ensures c.requires.some c.requires.fresh
       low (tied_back o _ _ (c.requires.clones _ _ c.in_ok-least.ensures.cases)) high (tied_back o _ _ (c.requires.clones _ _ c.in_ok-greatest.ensures.cases))
 
-pub from_levels-requires-clause-sound : goal.from_levels-requires-clause-sound
-from_levels-requires-clause-sound g c =
-    rw (c.new-levels.ensures.k, c.new-levels.ensures.accuracy, c.new-levels.ensures.compactors, c.rank_accuracy.ensures) (made g c).sound
+pub from_levels-requires : goal.from_levels-requires
+from_levels-requires g c =
+    rw (c.new-levels.ensures, c.rank_accuracy.ensures) (made g c).sound
 
 pub returns-clause-told : goal.returns-clause-told
 returns-clause-told g c =
@@ -37,7 +37,7 @@ returns-clause-told g c =
     let m = made g before in
     let told : IsTold g.T.Ord.cmp c.args.header.now (sketch g before) =
     record { k_is = refl; accuracy_is = refl; n_is = m.n_is; least_is = m.least_is; greatest_is = m.greatest_is } in
-    let value = c.from_levels.ensures.value in
+    let value = c.from_levels.ensures in
     let read : c.from_levels.result ≡ sketch g before =
-    rw (c.new-levels.ensures.k, c.new-levels.ensures.accuracy, c.new-levels.ensures.compactors, c.rank_accuracy.ensures) at value in
+    rw (c.new-levels.ensures, c.rank_accuracy.ensures) at value in
     (ap (λ (s : Req g.row.T.Denot). s.levels) read ∙ c.in_ok-vec.ensures.items, subst (IsTold g.T.Ord.cmp c.args.header.now) (sym read) told)

@@ -12,7 +12,7 @@ use Rattle.sketch_req.proofs.sketch.ReqSketch.sorted_view.Goals as goal
 -- the clones, and what they are clones of
 module _ (g : Over) (c : In_ok-weighted g) where
   abbrev sketch : Req g.row.T.Denot
-  sketch = let s = c.self.inside in sketch_of s.levels.k s.levels.rank_accuracy s.n s.levels.compactors.items s.min_item s.max_item
+  sketch = let s = c.self.inside in sketch_of s.levels.k s.levels.accuracy s.n s.levels.levels s.min_item s.max_item
 
   pairs : SamePairs g.T.Ord.cmp (pairs_of sketch.levels) c.in_ok-weighted.weighted.items
   pairs =
@@ -26,25 +26,25 @@ module _ (g : Over) (c : In_ok-weighted g) where
   greatest = subst (λ (x : Option g.row.T.Denot). SameAnswer g.T.Ord.cmp x c.in_ok-greatest.greatest) c.as_ref-2.ensures.value c.in_ok-greatest.ensures.same
 
 pub new-requires-clause-weights : goal.new-requires-clause-weights
-new-requires-clause-weights g c = clones-all_weigh g.met.T.Ord.total (sketch g c) c.in_ok-weighted.weighted.items c.self.invariant.sound (pairs g c)
+new-requires-clause-weights g c = clones-all_weigh g.met.T.Ord.total (sketch g c) c.in_ok-weighted.weighted.items c.self.invariant (pairs g c)
 
 pub new-requires-clause-fits : goal.new-requires-clause-fits
 new-requires-clause-fits g c =
-    let small : c.self.inside.n < 2 ^ 64 = c.self.invariant.sound.n_fits in
-    omega (arith, small, clones-weigh_n g.met.T.Ord.total (sketch g c) c.in_ok-weighted.weighted.items c.self.invariant.sound (pairs g c))
+    let small : c.self.inside.n < 2 ^ 64 = c.self.invariant.n_fits in
+    omega (arith, small, clones-weigh_n g.met.T.Ord.total (sketch g c) c.in_ok-weighted.weighted.items c.self.invariant (pairs g c))
 
 pub new-requires-clause-least : goal.new-requires-clause-least
 new-requires-clause-least g c =
-    clones-there g.met.T.Ord.total (sketch g c) c.in_ok-weighted.weighted.items c.self.invariant.sound (pairs g c)
-    c.self.inside.min_item c.in_ok-least.least c.self.invariant.sound.least_there (least g c)
+    clones-there g.met.T.Ord.total (sketch g c) c.in_ok-weighted.weighted.items c.self.invariant (pairs g c)
+    c.self.inside.min_item c.in_ok-least.least c.self.invariant.least_there (least g c)
 
 pub new-requires-clause-greatest : goal.new-requires-clause-greatest
 new-requires-clause-greatest g c =
-    clones-there g.met.T.Ord.total (sketch g c) c.in_ok-weighted.weighted.items c.self.invariant.sound (pairs g c)
-    c.self.inside.max_item c.in_ok-greatest.greatest c.self.invariant.sound.greatest_there (greatest g c)
+    clones-there g.met.T.Ord.total (sketch g c) c.in_ok-weighted.weighted.items c.self.invariant (pairs g c)
+    c.self.inside.max_item c.in_ok-greatest.greatest c.self.invariant.greatest_there (greatest g c)
 
 pub returns-clause-view : goal.returns-clause-view
 returns-clause-view g c =
     let before = (goal.at.returns-clause-view g c).In_ok-weighted in
-    rw (← c.self.view_is) (clones-view g.met.T.Ord.total (sketch g before) c.in_ok-weighted.weighted.items c.self.invariant.sound (pairs g before)
+    rw (← c.self.view_is) (clones-view g.met.T.Ord.total (sketch g before) c.in_ok-weighted.weighted.items c.self.invariant (pairs g before)
     c.in_ok-least.least c.in_ok-greatest.greatest _ (least g before) (greatest g before) c.new.ensures.entries c.new.ensures.least c.new.ensures.greatest)

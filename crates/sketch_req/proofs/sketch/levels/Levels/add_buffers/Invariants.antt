@@ -1,5 +1,0 @@
-use Rattle.std.proofs.Common.{◌-◌, vec_len}
-use Rattle.sketch_req.proofs.sketch.levels.Levels.add_buffers.Given as goal
-
-abbrev pub decreases-loop-alloc : goal.decreases-loop-alloc
-decreases-loop-alloc g l = l.count - vec_len l.buffers

@@ -1,0 +1,132 @@
+-- The loop keeps that the levels below are joined, and that there are clones and room for the others.
+use Rattle.std.proofs.Common.{ℕ, true, [], length-set, ap, sym, ◌∙◌, refl, subst, arith}
+use Rattle.std.proofs.Math.Seq.{map-set_same}
+use Rattle.sketch_req.specs.Buffers.{Space}
+use Rattle.sketch_req.specs.Level.{Level, fresh}
+use Rattle.sketch_req.specs.Merged.{IsCopied}
+use Rattle.sketch_req.specs.Sections.{IsLegalK}
+use Rattle.sketch_req.specs.Walk.{IsPlaced, accuracy_of, k_of}
+use Rattle.sketch_req.specs.declared.RankAccuracy.{RankAccuracy}
+use Rattle.sketch_req.proofs.Clones.{IsReady, cloned-above, is-ready}
+use Rattle.sketch_req.proofs.Joins.{IsAdded, all-joined-to, is-added, joined-none, joined-there, next-copied, next-joined, placed-at-place}
+use Rattle.sketch_req.proofs.Steps.{opened, own-there}
+use Rattle.sketch_req.proofs.Updates.{few-placed}
+use Rattle.sketch_req.proofs.sketch.levels.joining.join_levels.Given.{Over}
+use Rattle.sketch_req.proofs.sketch.levels.joining.join_levels.Goals.{After-parameters-k, After-add_level, After-index_mut-in-loop-level}
+use Rattle.sketch_req.proofs.sketch.levels.joining.join_levels.Goals as goal
+
+pub loop-level-init : goal.loop-level-init
+loop-level-init g c =
+    record {
+      joined = joined-none _ _ _ _ _;
+      spare = c.requires.spare;
+      enough = c.requires.cloned.enough;
+      cloned = λ h l m. c.requires.cloned.cloned h m;
+      merged_spaces = refl;
+      promoted_spaces = refl;
+    }
+
+legal : (g : Over) (c : After-parameters-k g) → IsLegalK (k_of c.args.levels.now.items)
+legal g c =
+    let here = opened _ _ _ _ _ c.requires.levels.placed c.requires.levels.some c.index.ensures in
+    subst IsLegalK here.placed.k_is here.placed.sound.legal_k
+
+-- the level stands, or was added
+added : (g : Over) (c : After-add_level g) → let ls = c.args.levels.now.items in
+    IsAdded c.loop-level.level (fresh [] true c.loop-level.level (k_of ls) (accuracy_of ls)) c.loop-level.levels.items c.add_level.new.levels.items
+added g c =
+    let at = c.loop-level.level in
+    let own = own-there g.T.Ord.cmp _ _ _ _ _ _ c.requires.levels.placed c.requires.levels.some c.index.ensures c.parameters-k.ensures in
+    subst (λ (p : ℕ × RankAccuracy). IsAdded at (fresh [] true at p.0 p.1) c.loop-level.levels.items c.add_level.new.levels.items) own
+    (is-added _ _ _ _ (omega (arith, c.loop-level.invariant.joined.len)) c.add_level.ensures.items)
+
+-- one turn, before the join
+module _ (g : Over) (c : After-index_mut-in-loop-level g) (added : let ls = c.args.levels.now.items in
+    IsAdded c.loop-level.level (fresh [] true c.loop-level.level (k_of ls) (accuracy_of ls)) c.loop-level.levels.items c.add_level.new.levels.items)
+    (legal : IsLegalK (k_of c.args.levels.now.items)) where
+  abbrev other : Level g.row.T.Denot
+  other = c.index-others-level.result
+
+  placed : IsPlaced g.T.Ord.cmp (k_of c.args.others.now) (accuracy_of c.args.levels.now.items) c.loop-level.level other
+  placed = placed-at-place _ _ _ _ c.args.others.now other c.requires.others c.loop-level-test.true c.index-others-level.is
+
+  copied : IsCopied g.T.Ord.cmp (k_of c.args.levels.now.items) (accuracy_of c.args.levels.now.items) c.loop-level.level c.args.levels.now.items c.index_mut.result.now
+  copied =
+      let low = placed.sound.weight_fits in
+      next-copied g.met.T.Ord.total _ _ _ _ c.requires.levels.placed _ _ _ _ legal (omega (arith, low, placed.place_is))
+      c.loop-level.invariant.joined added c.index_mut.ensures.value
+
+  ready : IsReady g.T.Ord.cmp c.args.levels.now.items c.args.others.now c.index_mut.result.now other c.index_mut-in-loop-level.result.now
+  ready =
+      let i = c.loop-level.invariant in
+      is-ready _ _ _ _ _ _ c.loop-level.buffers.items _ _ _ copied c.loop-level-test.true c.index-others-level.is (omega (arith, i.enough, c.loop-level-test.true))
+      c.index_mut-in-loop-level.ensures.value (i.cloned c.loop-level.level (omega arith) c.loop-level-test.true)
+
+pub add_level-requires-clause-legal : goal.add_level-requires-clause-legal
+add_level-requires-clause-legal g c =
+    let own = own-there g.T.Ord.cmp _ _ _ _ _ _ c.requires.levels.placed c.requires.levels.some c.index.ensures c.parameters-k.ensures in
+    subst IsLegalK (sym (ap (λ (p : ℕ × RankAccuracy). p.0) own)) (legal g (goal.at.add_level-requires-clause-legal g c).After-parameters-k)
+
+pub add_level-requires-clause-few : goal.add_level-requires-clause-few
+add_level-requires-clause-few g c =
+    let few = few-placed g.T.Ord.cmp _ _ 0 c.args.others.now (omega arith) c.requires.others in
+    omega (arith, few, c.loop-level-test.true)
+
+pub add_level-requires-clause-spare : goal.add_level-requires-clause-spare
+add_level-requires-clause-spare g c =
+    λ e. omega (arith, e, c.loop-level.invariant.spare, c.loop-level-test.true, c.loop-level.levels.ok)
+
+pub index_mut-requires : goal.index_mut-requires
+index_mut-requires g c = omega (arith, (added g (goal.at.index_mut-requires g c).After-add_level).len, c.add_level.new.levels.ok)
+
+pub join-requires : goal.join-requires
+join-requires g c =
+    let at = goal.at.join-requires g c in
+    let before = at.After-index_mut-in-loop-level in
+    let new = added g at.After-add_level in
+    let legal = legal g at.After-parameters-k in
+    let ready = ready g before new legal in
+    record {
+      weight = (copied g before new legal).placed.place_is ∙ sym (placed g before new legal).place_is;
+      clones = ready.same;
+      few = omega (arith, ready.few, c.requires.few);
+      space = ready.space;
+      promoted = ready.promoted;
+    }
+
+pub loop-level-preserved : goal.loop-level-preserved
+loop-level-preserved g c =
+    let at = goal.at.loop-level-preserved g c in
+    let before = at.After-index_mut-in-loop-level in
+    let new = added g at.After-add_level in
+    let legal = legal g at.After-parameters-k in
+    let i = c.loop-level.invariant in
+    let buffers = c.loop-level.buffers.items in
+    let old = c.index_mut-in-loop-level.result.now in
+    let own = c.join.new.buffers in
+    let rest = c.join.ensures.rest in
+    let value = c.index_mut-in-loop-level.ensures.value in
+    let joined = joined-there g.met.T.Ord.total _ (k_of c.args.others.now) _ _ _ _ c.index_mut.result.now _ _
+    (copied g before new legal) c.loop-level-test.true c.index-others-level.is c.join.ensures.ok c.join.ensures.sound in
+    record {
+      joined = next-joined g.met.T.Ord.total _ _ _ _ c.requires.levels.placed _ _ _ _ c.join.new.self i.joined new joined;
+      spare = omega (arith, i.spare, c.add_level.ensures.capacity);
+      enough = simp length-set i.enough;
+      cloned = λ h l m. cloned-above g.T.Ord.cmp _ _ buffers c.loop-level.level own h (omega (arith, l)) (i.cloned h (omega (arith, l)) m);
+      merged_spaces = map-set_same (λ b. b.merged_space) buffers c.loop-level.level own old
+          (ap (λ (b : Space g.row.T.Denot). b.merged_space) rest ∙ ap (λ (b : Space g.row.T.Denot). b.merged_space) value) ∙ i.merged_spaces;
+      promoted_spaces = map-set_same (λ b. b.promoted_space) buffers c.loop-level.level own old
+          (ap (λ (b : Space g.row.T.Denot). b.promoted_space) rest ∙ ap (λ (b : Space g.row.T.Denot). b.promoted_space) value) ∙ i.promoted_spaces;
+    }
+
+pub returns-clause-joined : goal.returns-clause-joined
+returns-clause-joined g c =
+    all-joined-to g.met.T.Ord.total _ _ _ _ c.requires.levels.placed c.loop-level.level _ (omega arith) c.loop-level.invariant.joined
+
+pub returns-clause-count : goal.returns-clause-count
+returns-clause-count g c = omega (arith, c.loop-level.invariant.joined.len)
+
+pub returns-clause-spare : goal.returns-clause-spare
+returns-clause-spare g c =
+    let i = c.loop-level.invariant in
+    omega (arith, i.joined.len, i.spare, c.loop-level.levels.ok)

@@ -1,0 +1,18 @@
+use Rattle.std.proofs.Common.{◌≡◌, ℕ, ◌<◌, ◌≤◌, length, max, vec_capacity}
+use Rattle.sketch_req.specs.Buffers.{merged_spaces, promoted_spaces}
+use Rattle.sketch_req.specs.Walk.{accuracy_of, k_of}
+use Rattle.sketch_req.proofs.Clones.{HasClones}
+use Rattle.sketch_req.proofs.Joins.{AreJoinedTo}
+use Rattle.sketch_req.proofs.sketch.levels.joining.join_levels.Given as goal
+
+abbrev pub invariant-loop-level : goal.invariant-loop-level
+invariant-loop-level g l =
+    let ls = l.initial.levels.items in
+    record {
+      joined : AreJoinedTo g.T.Ord.cmp (k_of ls) (accuracy_of ls) l.level ls l.others l.levels.items;
+      spare : max (length ls) (length l.others) < vec_capacity l.levels;
+      enough : length l.others ≤ length l.buffers.items;
+      cloned : (h : ℕ) → l.level ≤ h → h < length l.others → HasClones g.T.Ord.cmp ls l.others l.buffers.items h;
+      merged_spaces : merged_spaces l.buffers.items ≡ merged_spaces l.initial.buffers.items;
+      promoted_spaces : promoted_spaces l.buffers.items ≡ promoted_spaces l.initial.buffers.items;
+    }

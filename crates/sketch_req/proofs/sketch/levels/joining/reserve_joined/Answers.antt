@@ -1,0 +1,81 @@
+-- The loop keeps a bound of what comes into the next level, and that there is room for the turns so far.
+use Rattle.std.proofs.lemmas.Grind.{common_steps}
+use Rattle.std.proofs.Common.{◌≡◌, ◌+◌, ◌<◌, ◌≤◌, ap, ℕ, List, length, length-set, arith}
+use Rattle.sketch_req.specs.Schedule.{Layout, layouts_of, layout_at, joined_layouts, steps_layouts}
+use Rattle.sketch_req.specs.Buffers.{Space}
+use Rattle.sketch_req.proofs.Plans.{count-within, bounded-start, bounded-more, bounded-space}
+use Rattle.sketch_req.proofs.Buffers.{space-more}
+use Rattle.sketch_req.proofs.Clones.{cloned-more}
+use Rattle.sketch_req.proofs.Joins.{joined-count}
+use Rattle.sketch_req.proofs.Layouts.{length-layouts}
+use Rattle.sketch_req.proofs.Mergings.{length-joined}
+use Rattle.sketch_req.proofs.sketch.levels.joining.reserve_joined.Goals as goal
+
+pub loop-level-init : goal.loop-level-init
+loop-level-init g c = record {
+  enough = let e = c.in_ok-add_buffers.ensures.enough in omega (arith, e, c.add_buffers.new.buffers.ok);
+  few = omega arith;
+  bounded = λ k. bounded-start _ _;
+  cloned = λ h l. absurd (omega (arith, l));
+  fits = λ k h l. absurd (omega (arith, l));
+}
+
+pub reserve-requires : goal.reserve-requires
+reserve-requires g c =
+    let at = c.loop-level.level in
+    let ls : List Layout = layouts_of c.args.levels.now in
+    let os : List Layout = layouts_of c.args.others.now in
+    record { few = omega (arith, c.requires.few, c.loop-level.invariant.few, c.count_at.ensures, c.count_at-in-loop-level.ensures, c.count_at-in-loop-level-2.ensures, c.count_at-in-loop-level-3.ensures, count-within at ls, count-within at os, count-within (at + 1) ls, count-within (at + 1) os) }
+
+pub loop-level-preserved : goal.loop-level-preserved
+loop-level-preserved g c =
+    let i = c.loop-level.invariant in
+    let ls : List Layout = layouts_of c.args.levels.now in
+    let os : List Layout = layouts_of c.args.others.now in
+    let at = c.loop-level.level in
+    let here : ℕ = c.count_at.result + c.count_at-in-loop-level.result + c.loop-level.carried in
+    let over : ℕ = c.count_at-in-loop-level-2.result + c.count_at-in-loop-level-3.result in
+    let e : (k : ℕ) → here ≡ (layout_at (joined_layouts k ls os) at).count + c.loop-level.carried =
+    λ k. omega (arith, joined-count k ls os at, c.count_at.ensures, c.count_at-in-loop-level.ensures) in
+    let f : (k : ℕ) → over ≡ (layout_at (joined_layouts k ls os) (at + 1)).count =
+    λ k. omega (arith, joined-count k ls os (at + 1), c.count_at-in-loop-level-2.ensures, c.count_at-in-loop-level-3.ensures) in
+    let own = c.clone_level.new.buffers in
+    let promoted : here ≤ own.promoted_space = omega (arith, c.in_ok-reserve.ensures.here, ap (λ (b : Space g.row.T.Denot). b.promoted_space) c.clone_level.ensures.rest) in
+    let merged : 0 < here → over + here ≤ own.merged_space = λ some. omega (arith, c.in_ok-reserve.ensures.above some, ap (λ (b : Space g.row.T.Denot). b.merged_space) c.clone_level.ensures.rest) in
+    let inside : c.loop-level.level < length c.loop-level.buffers.items = omega (arith, i.enough, c.loop-level-test.true) in
+    record {
+      enough = simp length-set i.enough;
+      few = omega (arith, i.few, c.requires.few, c.count_at.ensures, c.count_at-in-loop-level.ensures, count-within c.loop-level.level ls, count-within c.loop-level.level os);
+      bounded = λ k. bounded-more _ at c.loop-level.carried here (joined_layouts k ls os) (e k) (i.bounded k);
+      cloned = cloned-more g.T.Ord.cmp _ _ c.loop-level.buffers.items at own inside i.cloned
+          (λ there. record { same = c.in_ok-clone_level.ensures.same there; space = omega (arith, c.in_ok-clone_level.ensures.space there, c.count_at.ensures, c.count_at-in-loop-level.ensures); promoted = omega (arith, promoted, c.count_at.ensures, c.count_at-in-loop-level.ensures) });
+      fits = λ k. space-more _ at (λ h. steps_layouts k h 0 (joined_layouts k ls os)) c.loop-level.buffers.items own inside (i.fits k)
+          (bounded-space _ at c.loop-level.carried here over _ _ (joined_layouts k ls os) (e k) (f k) (i.bounded k) promoted merged);
+    }
+
+pub returns-clause-cloned : goal.returns-clause-cloned
+returns-clause-cloned g c =
+    let i = c.loop-level.invariant in
+    record {
+      enough = omega (arith, c.max-count.ensures, i.enough);
+      cloned = λ h l. i.cloned h (omega (arith, l, c.max-count.ensures)) l;
+    }
+
+pub returns-clause-fit : goal.returns-clause-fit
+returns-clause-fit g c = λ k.
+    let n = length-layouts c.args.levels.now in
+    let m = length-layouts c.args.others.now in
+    let b = length-joined k (layouts_of c.args.levels.now) (layouts_of c.args.others.now) in
+    record {
+      enough = omega (arith, n, m, b, c.max-count.ensures, c.loop-level.invariant.enough);
+      fits = λ h l. c.loop-level.invariant.fits k h (omega (arith, l, n, m, b, c.max-count.ensures));
+    }
+
+pub overflow_add-here : goal.overflow_add-here
+overflow_add-here g c = grind (arith, common_steps)
+
+pub overflow_add-here-in-loop-level : goal.overflow_add-here-in-loop-level
+overflow_add-here-in-loop-level g c = grind (arith, common_steps)
+
+pub overflow_add-above : goal.overflow_add-above
+overflow_add-above g c = grind (arith, common_steps)

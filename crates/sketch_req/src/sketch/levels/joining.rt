@@ -1,0 +1,152 @@
+//! How other levels are joined into a sketch's. What can fail comes first, in `reserve_joined`.
+ghost use Rattle.std.specs.Prelude.{◌≡◌, ℕ, ◌+◌, ◌^◌, ◌<◌, ◌≤◌, max, length, vec_len, vec_capacity, OnOk, OnErr};
+ghost use Rattle.std.specs.declared.cmp.Ordering.TheVariants.{Equal};
+ghost use Rattle.sketch_base.specs.Bag.{SameItems, level_at};
+ghost use Rattle.sketch_req.specs.Buffers.{merged_spaces, promoted_spaces};
+ghost use Rattle.sketch_req.specs.Merged.{AreJoined, AreCloned, AreTakenIn, item_lists};
+ghost use Rattle.sketch_req.specs.Schedule.{layouts_of, joined_layouts, retained_of, weight_of};
+ghost use Rattle.sketch_req.specs.Walk.{AreHeld, AreLevels, HaveSpace, accuracy_of, k_of};
+
+use super::redraw_if;
+use super::walk::{add_buffers, add_level, count_at, walk_if_full};
+use crate::compactor::Compactor;
+use crate::merging::Buffers;
+use sketch_base::common::random::RandomBits;
+use std::alloc::AllocError;
+
+/// Takes clones of the items of a level, where it stands, with space for so many.
+fn clone_level<T: Clone + Ord>(
+    levels: &[Compactor<T>],
+    level: usize,
+    count: usize,
+    buffers: &mut Buffers<T>,
+) -> Result<(), AllocError>
+    requires clones { (x y : T) → T.is_clone x y → T.cmp x y ≡ Equal }
+    ensures same { OnOk result (level < length levels.now
+        → SameItems T.cmp (level_at (item_lists levels.now) level) buffers.new.clones) }
+    ensures space { OnOk result (level < length levels.now → count ≤ buffers.new.clones_space) }
+    ensures rest { buffers.new ≡ record buffers.old {
+      clones = buffers.new.clones;
+      clones_space = buffers.new.clones_space;
+    } }
+{
+    if level < levels.len() {
+        buffers.take_clones(levels[level].items_slice(), count)?;
+    }
+    Ok(())
+}
+
+/// Makes room for all that a walk moves, if other levels are joined into these before, by clones of
+/// their items, which it makes.
+fn reserve_joined<T: Clone + Ord>(
+    levels: &[Compactor<T>],
+    others: &[Compactor<T>],
+    buffers: &mut Vec<Buffers<T>>,
+) -> Result<(), AllocError>
+    requires clones { (x y : T) → T.is_clone x y → T.cmp x y ≡ Equal }
+    requires few { retained_of (layouts_of levels.now) + retained_of (layouts_of others.now)
+        < 2 ^ 32 }
+    ensures cloned { OnOk result (AreCloned T.cmp levels.now others.now buffers.new.items) }
+    ensures fit { OnOk result
+        ((k : ℕ) → HaveSpace k
+        (joined_layouts k (layouts_of levels.now) (layouts_of others.now)) buffers.new.items) }
+{
+    let count = levels.len().max(others.len());
+    add_buffers(buffers, count)?;
+    let mut carried = 0;
+    for level in 0..count {
+        let here = count_at(levels, level) + count_at(others, level) + carried;
+        let above = count_at(levels, level + 1) + count_at(others, level + 1);
+        let own = &mut buffers[level];
+        own.reserve(here, above)?;
+        clone_level(others, level, here, own)?;
+        carried = here / 2;
+    }
+    Ok(())
+}
+
+/// Joins the others' levels, by clones of their items, into the levels of the same places. Those
+/// that are missing are added.
+fn join_levels<T: Clone + Ord>(
+    levels: &mut Vec<Compactor<T>>,
+    others: &[Compactor<T>],
+    buffers: &mut Vec<Buffers<T>>,
+)
+    requires levels { AreHeld T.cmp levels.old.items }
+    requires others { AreLevels T.cmp (k_of others.now) (accuracy_of levels.old.items) 0
+        others.now }
+    requires few { retained_of (layouts_of levels.old.items)
+        + retained_of (layouts_of others.now) < 2 ^ 32 }
+    requires spare { max (length levels.old.items) (length others.now)
+        < vec_capacity levels.old }
+    requires cloned { AreCloned T.cmp levels.old.items others.now buffers.old.items }
+    ensures joined { AreJoined T.cmp (k_of levels.old.items) (accuracy_of levels.old.items)
+        levels.old.items others.now levels.new.items }
+    ensures count { length levels.new.items ≡ max (length levels.old.items) (length others.now) }
+    ensures spare { vec_len levels.new < vec_capacity levels.new }
+    ensures merged_spaces { merged_spaces buffers.new.items ≡ merged_spaces buffers.old.items }
+    ensures promoted_spaces { promoted_spaces buffers.new.items
+        ≡ promoted_spaces buffers.old.items }
+{
+    let (k, rank_accuracy) = levels[0].parameters();
+    for level in 0..others.len() {
+        add_level(levels, level, k, rank_accuracy);
+        levels[level].join(&others[level], &mut buffers[level]);
+    }
+}
+
+/// Joins other levels in, with room for a walk over all. What can fail comes first.
+fn join<T: Clone + Ord>(
+    levels: &mut Vec<Compactor<T>>,
+    others: &[Compactor<T>],
+    buffers: &mut Vec<Buffers<T>>,
+) -> Result<(), AllocError>
+    requires clones { (x y : T) → T.is_clone x y → T.cmp x y ≡ Equal }
+    requires levels { AreHeld T.cmp levels.old.items }
+    requires others { AreLevels T.cmp (k_of others.now) (accuracy_of levels.old.items) 0
+        others.now }
+    requires few { retained_of (layouts_of levels.old.items)
+        + retained_of (layouts_of others.now) < 2 ^ 32 }
+    ensures joined { OnOk result (AreJoined T.cmp (k_of levels.old.items)
+        (accuracy_of levels.old.items) levels.old.items others.now levels.new.items) }
+    ensures count { OnOk result (length levels.new.items
+        ≡ max (length levels.old.items) (length others.now)) }
+    ensures spare { OnOk result (vec_len levels.new < vec_capacity levels.new) }
+    ensures fit { OnOk result
+        (HaveSpace (k_of levels.old.items) (layouts_of levels.new.items) buffers.new.items) }
+    ensures err { OnErr result (levels.new.items ≡ levels.old.items) }
+{
+    reserve_joined(levels.as_slice(), others, buffers)?;
+    levels.reserve(others.len() + 1)?;
+    join_levels(levels, others, buffers);
+    Ok(())
+}
+
+/// Joins other levels in, draws coins anew or doesn't, and walks where all are then at or over their
+/// nominal capacities together.
+pub(super) fn join_and_walk<T: Clone + Ord, B: RandomBits>(
+    levels: &mut Vec<Compactor<T>>,
+    others: &[Compactor<T>],
+    redraws: bool,
+    buffers: &mut Vec<Buffers<T>>,
+    coins: &mut B,
+) -> Result<(), AllocError>
+    requires clones { (x y : T) → T.is_clone x y → T.cmp x y ≡ Equal }
+    requires levels { AreHeld T.cmp levels.old.items }
+    requires others { AreLevels T.cmp (k_of others.now) (accuracy_of levels.old.items) 0
+        others.now }
+    requires fits { weight_of (layouts_of levels.old.items) + weight_of (layouts_of others.now)
+        < 2 ^ 64 }
+    requires few { retained_of (layouts_of levels.old.items)
+        + retained_of (layouts_of others.now) < 2 ^ 32 }
+    ensures taken_in { OnOk result (AreTakenIn T.cmp B.bit B.next coins.old coins.new
+        (k_of levels.old.items) (accuracy_of levels.old.items) redraws
+        levels.old.items others.now levels.new.items) }
+    ensures err { OnErr result ((levels.new.items ≡ levels.old.items)
+        × (coins.new ≡ coins.old)) }
+{
+    join(levels, others, buffers)?;
+    redraw_if(redraws, levels, coins);
+    walk_if_full(levels, buffers, coins);
+    Ok(())
+}

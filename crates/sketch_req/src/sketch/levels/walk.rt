@@ -1,0 +1,192 @@
+//! The walk over levels: each level that is full is compacted into the one above. What can fail
+//! comes first, in `reserve_next`.
+ghost use Rattle.std.specs.Prelude.{◌≡◌, ◌+◌, ◌-◌, ◌^◌, ◌<◌, ◌≤◌, [], ◌∷◌, ◌++◌, length, vec_len, vec_capacity, IfErr, OnOk, OnErr, true, if◌then◌else◌, ◌==◌};
+ghost use Rattle.sketch_base.specs.declared.error.ErrorKind.TheVariants.{OutOfMemory};
+ghost use Rattle.sketch_req.specs.Level.{fresh};
+ghost use Rattle.sketch_req.specs.Schedule.{layouts_of, layout_at, retained_of, weight_of};
+ghost use Rattle.sketch_req.specs.Sections.{IsLegalK};
+ghost use Rattle.sketch_req.specs.Walk.{AreHeld, HasSpace, HaveSpace, AreStepped, AreWalkedIfFull, AreWalkedOver, accuracy_of, appended_first, k_of, with_more};
+
+use super::sums;
+use crate::RankAccuracy;
+use crate::compactor::Compactor;
+use crate::merging::Buffers;
+use sketch_base::common::random::RandomBits;
+use sketch_base::error::Error;
+use std::alloc::AllocError;
+
+/// Adds buffers until there is one for each of `count` levels.
+pub(super) fn add_buffers<T: Clone + Ord>(
+    buffers: &mut Vec<Buffers<T>>,
+    count: usize,
+) -> Result<(), AllocError>
+    ensures enough { OnOk result (count ≤ vec_len buffers.new) }
+{
+    let alloc = *buffers.allocator();
+    while buffers.len() < count {
+        buffers.push(Buffers::new(alloc))?;
+    }
+    Ok(())
+}
+
+/// How many items a level holds, and none where it doesn't stand.
+pub(super) fn count_at<T: Clone + Ord>(levels: &[Compactor<T>], level: usize) -> usize
+    ensures { result ≡ (layout_at (layouts_of levels.now) level).count }
+{
+    let found = levels.get(level);
+    found.map_or(0, |level| level.num_items() as usize)
+}
+
+/// Makes room to sort level 0 with an item more, and for all that a walk then moves.
+fn reserve_next<T: Clone + Ord>(
+    levels: &[Compactor<T>],
+    buffers: &mut Vec<Buffers<T>>,
+) -> Result<(), AllocError>
+    requires levels { AreHeld T.cmp levels.now }
+    requires few { retained_of (with_more 1 (layouts_of levels.now)) < 2 ^ 32 }
+    ensures fit { OnOk result
+        (HaveSpace (k_of levels.now) (with_more 1 (layouts_of levels.now)) buffers.new.items) }
+{
+    add_buffers(buffers, levels.len())?;
+    levels[0].reserve_to_sort(&mut buffers[0])?;
+    let mut carried = 1;
+    for level in 0..levels.len() {
+        let above = count_at(levels, level + 1);
+        let count = levels[level].count_to_take_with(carried);
+        buffers[level].reserve(count, above)?;
+        carried = count / 2;
+    }
+    Ok(())
+}
+
+/// Adds a level at a place where there is none; the place is at most the next one.
+pub(super) fn add_level<T: Clone + Ord>(
+    levels: &mut Vec<Compactor<T>>,
+    level: usize,
+    k: u16,
+    rank_accuracy: RankAccuracy,
+)
+    requires legal { IsLegalK k }
+    requires few { level < 64 }
+    requires spare { level ≡ length levels.old.items
+        → vec_len levels.old < vec_capacity levels.old }
+    ensures items { levels.new.items ≡ (if level == length levels.old.items
+        then levels.old.items ++ fresh [] true level k rank_accuracy ∷ []
+        else levels.old.items) }
+    ensures capacity { vec_capacity levels.old ≤ vec_capacity levels.new }
+{
+    if level == levels.len() {
+        let top = Compactor::new(*levels.allocator(), level as u8, k, rank_accuracy);
+        levels.push(top).unwrap();
+    }
+}
+
+/// One step of a walk: compacts a level into the one above, where it is full.
+fn step<T: Clone + Ord, B: RandomBits>(
+    levels: &mut Vec<Compactor<T>>,
+    level: usize,
+    buffers: &mut Buffers<T>,
+    coins: &mut B,
+)
+    requires levels { AreHeld T.cmp levels.old.items }
+    requires within { level < length levels.old.items }
+    requires fits { weight_of (layouts_of levels.old.items) < 2 ^ 64 }
+    requires few_items { retained_of (layouts_of levels.old.items) < 2 ^ 32 }
+    requires spare { level + 1 ≡ length levels.old.items
+        → vec_len levels.old < vec_capacity levels.old }
+    requires fit { HasSpace (k_of levels.old.items) level (layouts_of levels.old.items)
+        buffers.old.merged_space buffers.old.promoted_space }
+    ensures acted { AreStepped T.cmp B.bit B.next coins.old coins.new (k_of levels.old.items)
+        (accuracy_of levels.old.items) level levels.old.items levels.new.items }
+    ensures same_len { level + 1 < length levels.old.items
+        → vec_len levels.new ≡ vec_len levels.old }
+    ensures capacity { vec_capacity levels.old ≤ vec_capacity levels.new }
+{
+    let here = &levels[level];
+    if here.num_items() < here.nominal_capacity() {
+        return;
+    }
+    let (k, rank_accuracy) = here.parameters();
+    levels[level].compact_reserved(&mut buffers.promoted, &mut buffers.merged, coins);
+    add_level(levels, level + 1, k, rank_accuracy);
+    levels[level + 1].absorb(&mut buffers.promoted, &mut buffers.merged);
+}
+
+/// Compacts, from level 0 up, each level that is at or over its nominal capacity at its turn. A
+/// level that is added isn't compacted.
+fn walk<T: Clone + Ord, B: RandomBits>(
+    levels: &mut Vec<Compactor<T>>,
+    buffers: &mut Vec<Buffers<T>>,
+    coins: &mut B,
+)
+    requires levels { AreHeld T.cmp levels.old.items }
+    requires fits { weight_of (layouts_of levels.old.items) < 2 ^ 64 }
+    requires few_items { retained_of (layouts_of levels.old.items) < 2 ^ 32 }
+    requires spare { vec_len levels.old < vec_capacity levels.old }
+    requires fit { HaveSpace (k_of levels.old.items) (layouts_of levels.old.items)
+        buffers.old.items }
+    ensures acted { AreWalkedOver T.cmp B.bit B.next coins.old coins.new (k_of levels.old.items)
+        (accuracy_of levels.old.items) levels.old.items levels.new.items }
+{
+    let count = levels.len();
+    for level in 0..count {
+        step(levels, level, &mut buffers[level], coins);
+    }
+}
+
+/// So it does where the levels hold as many items as their nominal capacities together, or more.
+pub(super) fn walk_if_full<T: Clone + Ord, B: RandomBits>(
+    levels: &mut Vec<Compactor<T>>,
+    buffers: &mut Vec<Buffers<T>>,
+    coins: &mut B,
+)
+    requires levels { AreHeld T.cmp levels.old.items }
+    requires fits { weight_of (layouts_of levels.old.items) < 2 ^ 64 }
+    requires few_items { retained_of (layouts_of levels.old.items) < 2 ^ 32 }
+    requires spare { vec_len levels.old < vec_capacity levels.old }
+    requires fit { HaveSpace (k_of levels.old.items) (layouts_of levels.old.items)
+        buffers.old.items }
+    ensures acted { AreWalkedIfFull T.cmp B.bit B.next coins.old coins.new
+        (k_of levels.old.items) (accuracy_of levels.old.items) levels.old.items levels.new.items }
+{
+    let (num_retained, capacity) = sums(levels.as_slice());
+    if num_retained >= capacity {
+        walk(levels, buffers, coins);
+    }
+}
+
+/// Puts an item last into level 0.
+pub(super) fn append<T: Clone + Ord>(levels: &mut Vec<Compactor<T>>, item: T) -> Result<(), Error>
+    requires some { 0 < length levels.old.items }
+    requires few { retained_of (layouts_of levels.old.items) < 4294967295 }
+    ensures ok { OnOk result (levels.new.items ≡ appended_first levels.old.items item) }
+    ensures err { OnErr result (levels.new.items ≡ levels.old.items) }
+    ensures memory { IfErr result (λ e. e ≡ OutOfMemory) }
+    ensures room { vec_capacity levels.new ≡ vec_capacity levels.old }
+{
+    levels[0].append(item)
+}
+
+/// Puts an item last into level 0, and then walks over the levels.
+pub(super) fn append_and_walk<T: Clone + Ord, B: RandomBits>(
+    levels: &mut Vec<Compactor<T>>,
+    item: T,
+    buffers: &mut Vec<Buffers<T>>,
+    coins: &mut B,
+) -> Result<(), Error>
+    requires levels { AreHeld T.cmp levels.old.items }
+    requires fits { weight_of (layouts_of levels.old.items) < 2 ^ 64 - 1 }
+    requires few { retained_of (layouts_of levels.old.items) < 4294967295 }
+    ensures acted { OnOk result (AreWalkedOver T.cmp B.bit B.next coins.old coins.new
+        (k_of levels.old.items) (accuracy_of levels.old.items)
+        (appended_first levels.old.items item) levels.new.items) }
+    ensures err { OnErr result ((levels.new.items ≡ levels.old.items)
+        × (coins.new ≡ coins.old)) }
+    ensures memory { IfErr result (λ e. e ≡ OutOfMemory) }
+{
+    levels.reserve(1)?;
+    reserve_next(levels.as_slice(), buffers)?;
+    append(levels, item)?;
+    walk(levels, buffers, coins);
+    Ok(())
+}
