@@ -14,6 +14,7 @@ ghost use Rattle.sketch_kll.specs.Stored.{KeepsLevels, KeepsRoom};
 
 mod compress;
 pub(crate) mod merging;
+mod taking;
 
 use crate::capacity::{MINIMUM_CAPACITY, level_capacity, total_capacity};
 use crate::compaction::compact_level;
@@ -23,6 +24,9 @@ use sketch_base::common::extremes::{clone_if_greatest, clone_if_least};
 use sketch_base::common::random::RandomBits;
 use std::alloc::{AllocError, Global};
 use std::marker::Model;
+
+/// How many bounds levels may need: those of 61 levels, and one to spare for general compress.
+const MAX_BOUNDS: usize = 63;
 
 /// The levels of a sketch: level h is `items[bounds[h + 1]..bounds[h]]`, so that an update without
 /// a compaction is a push. A contract sees them as the record `Stored` of specs/Stored.

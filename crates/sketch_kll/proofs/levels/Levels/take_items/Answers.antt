@@ -5,7 +5,7 @@ use Rattle.std.proofs.lemmas.Iterator.Consumers.{YieldsList-end, YieldsList-turn
 use Rattle.sketch_kll.specs.Levels.{retained, weight, SameLevels}
 use Rattle.sketch_kll.specs.Steps.{is_full, with_room}
 use Rattle.sketch_kll.proofs.PutItems.{retained-put}
-use Rattle.sketch_kll.proofs.Takes.{Taking, taking_none, taking_more}
+use Rattle.sketch_kll.proofs.Takes.{Taking, taking_none, taking_more, room_below}
 use Rattle.sketch_kll.proofs.levels.Levels.take_items.Goals as goal
 
 pub loop-item-init : goal.loop-item-init
@@ -21,7 +21,7 @@ pub compact_if_full-requires-clause-light : goal.compact_if_full-requires-clause
 compact_if_full-requires-clause-light g c =
     let i = c.loop-item.invariant in
     let gives = c.into_iter-item-iterator.ensures.into_iter_gives in
-    let t = YieldsList-turn (YieldsList-from_vec {s = c.into_iter-item-iterator.result} c.args.low.items gives.0 (gives.1 ∙ c.args.low.ok.0)) c.loop-item.yielded c.loop-item.item-iterator c.loop-item.yielded_by c.next.result c.next.new.self c.in-Some.item c.in-Some.is c.next.ensures.steps in
+    let t = YieldsList-turn (YieldsList-from_vec {s = c.into_iter-item-iterator.result} c.args.items.items gives.0 (gives.1 ∙ c.args.items.ok.0)) c.loop-item.yielded c.loop-item.item-iterator c.loop-item.yielded_by c.next.result c.next.new.self c.in-Some.item c.in-Some.is c.next.ensures.steps in
     omega (arith, i.taking.taken.weighs, c.requires.light, t.0)
 
 pub compact_if_full-requires-clause-flag : goal.compact_if_full-requires-clause-flag
@@ -36,8 +36,12 @@ pub push-requires : goal.push-requires
 push-requires g c =
     let i = c.loop-item.invariant in
     let gives = c.into_iter-item-iterator.ensures.into_iter_gives in
-    let t = YieldsList-turn (YieldsList-from_vec {s = c.into_iter-item-iterator.result} c.args.low.items gives.0 (gives.1 ∙ c.args.low.ok.0)) c.loop-item.yielded c.loop-item.item-iterator c.loop-item.yielded_by c.next.result c.next.new.self c.in-Some.item c.in-Some.is c.next.ensures.steps in
-    record { spare = omega (arith, i.len, i.room, c.compact_if_full.ensures.shorter, c.compact_if_full.ensures.kept.items_room, c.requires.room, t.0, c.args.low.ok) }
+    let t = YieldsList-turn (YieldsList-from_vec {s = c.into_iter-item-iterator.result} c.args.items.items gives.0 (gives.1 ∙ c.args.items.ok.0)) c.loop-item.yielded c.loop-item.item-iterator c.loop-item.yielded_by c.next.result c.next.new.self c.in-Some.item c.in-Some.is c.next.ensures.steps in
+    let kept = i.taking.taken.kept in
+    let light : weight c.loop-item.self.levels < 2 ^ 64 = omega (arith, i.taking.taken.weighs, c.requires.light, t.0) in
+    let below = room_below g.T.Ord.cmp c.args.self.now.k c.loop-item.self.is_sorted (g.B.RandomBits.bit c.loop-item.coins) c.loop-item.self.levels c.compact_if_full.new.self.levels
+    kept.some kept.few light kept.within (rw (← i.k) c.compact_if_full.ensures.levels) in
+    record { spare = omega (arith, i.len, i.room, c.compact_if_full.ensures.shorter, c.compact_if_full.ensures.kept.items_room, c.requires.room, below, t.0, c.args.items.ok) }
 
 pub loop-item-preserved : goal.loop-item-preserved
 loop-item-preserved g c =
@@ -49,7 +53,7 @@ loop-item-preserved g c =
     let cmp = g.T.Ord.cmp in
     let next = g.B.RandomBits.next in
     let gives = c.into_iter-item-iterator.ensures.into_iter_gives in
-    let t = YieldsList-turn (YieldsList-from_vec {s = c.into_iter-item-iterator.result} c.args.low.items gives.0 (gives.1 ∙ c.args.low.ok.0)) c.loop-item.yielded c.loop-item.item-iterator c.loop-item.yielded_by c.next.result c.next.new.self c.in-Some.item c.in-Some.is c.next.ensures.steps in
+    let t = YieldsList-turn (YieldsList-from_vec {s = c.into_iter-item-iterator.result} c.args.items.items gives.0 (gives.1 ∙ c.args.items.ok.0)) c.loop-item.yielded c.loop-item.item-iterator c.loop-item.yielded_by c.next.result c.next.new.self c.in-Some.item c.in-Some.is c.next.ensures.steps in
     let l0 : List (List g.row.T.Denot) = x0.levels in
     let ms : List (List g.row.T.Denot) = x.levels in
     let ws : List (List g.row.T.Denot) = y.levels in
@@ -74,10 +78,10 @@ pub returns : goal.returns
 returns g c =
     let i = c.loop-item.invariant in
     let gives = c.into_iter-item-iterator.ensures.into_iter_gives in
-    let all = YieldsList-end (YieldsList-from_vec {s = c.into_iter-item-iterator.result} c.args.low.items gives.0 (gives.1 ∙ c.args.low.ok.0)) c.loop-item.yielded c.loop-item.item-iterator c.loop-item.yielded_by c.next.result c.next.new.self c.in-None.is c.next.ensures.steps in
+    let all = YieldsList-end (YieldsList-from_vec {s = c.into_iter-item-iterator.result} c.args.items.items gives.0 (gives.1 ∙ c.args.items.ok.0)) c.loop-item.yielded c.loop-item.item-iterator c.loop-item.yielded_by c.next.result c.next.new.self c.in-None.is c.next.ensures.steps in
     record {
       k = i.k;
       taken = rw (sym (map-id c.loop-item.yielded) ∙ all.0) at i.taking.taken;
-      len = omega (arith, i.len, all.1, c.args.low.ok);
+      len = omega (arith, i.len, all.1, c.args.items.ok);
       spare = i.spare;
     }
