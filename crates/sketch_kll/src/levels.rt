@@ -102,6 +102,13 @@ impl<T: Ord + Drop> Levels<T> {
         )
     }
 
+    /// Gives back memory for more than a quarter more items, and for more than one more level.
+    pub(crate) fn give_back(&mut self)
+        ensures kept { KeepsLevels self.old self.new }
+    {
+        shrink_both(&mut self.items, &mut self.bounds);
+    }
+
     /// Compacts one level, where the levels are at or over their total capacity.
     #[inline(always)]
     pub(crate) fn compact_if_full<B: RandomBits>(&mut self, coins: &mut B)
@@ -348,6 +355,15 @@ fn reserve_next<T: Drop>(items: &mut Vec<T>, most: usize) -> Result<(), AllocErr
     }
     let left = most.saturating_sub(len).max(1);
     items.reserve_exact((len / 4 + 4).min(left))
+}
+
+/// Gives back room for more than a quarter more items, and for more than one more bound.
+fn shrink_both<T>(items: &mut Vec<T>, bounds: &mut Vec<usize>)
+    ensures items { items.new.items ≡ items.old.items }
+    ensures bounds { bounds.new.items ≡ bounds.old.items }
+{
+    items.shrink_to(items.len() + items.len() / 4);
+    bounds.shrink_to(bounds.len() + 1);
 }
 
 /// The item's clones, one for each extreme that it is.

@@ -19,8 +19,24 @@ use std::alloc::AllocError;
 const MAX_LEVELS: usize = 61;
 
 impl<T: Ord + Drop> Levels<T> {
-    /// Takes items in one after another, as updates do. It takes no memory.
-    pub(crate) fn take_items<B: RandomBits>(&mut self, items: Vec<T>, coins: &mut B)
+    /// Takes items in one after another, as updates do, and gives back the memory that only this
+    /// needed. It takes none.
+    pub(crate) fn take_all<B: RandomBits>(&mut self, items: Vec<T>, coins: &mut B)
+        requires kept { AreKept T.cmp self.old.k self.old.is_sorted self.old.levels }
+        requires light { weight self.old.levels + length items.items < 2 ^ 64 }
+        requires room { min (retained self.old.levels + vec_len items) (total_of self.old.k 8 61)
+            ≤ self.old.items_room }
+        requires spare { 63 ≤ self.old.bounds_room }
+        ensures k { self.new.k ≡ self.old.k }
+        ensures taken { HaveTaken T.cmp B.bit B.next coins.old coins.new self.old.k
+            self.old.is_sorted self.new.is_sorted self.old.levels items.items self.new.levels }
+    {
+        self.take_items(items, coins);
+        self.give_back();
+    }
+
+    /// Takes items in one after another.
+    pub(super) fn take_items<B: RandomBits>(&mut self, items: Vec<T>, coins: &mut B)
         requires kept { AreKept T.cmp self.old.k self.old.is_sorted self.old.levels }
         requires light { weight self.old.levels + length items.items < 2 ^ 64 }
         requires room { min (retained self.old.levels + vec_len items) (total_of self.old.k 8 61)

@@ -45,7 +45,7 @@ impl<T: Clone + Ord> KllSketch<T> {
             &self.min_item,
             &self.max_item,
         )?;
-        levels.take_items(clones, coins);
+        levels.take_all(clones, coins);
         set_if_some(&mut self.min_item, least);
         set_if_some(&mut self.max_item, greatest);
         self.n += count;
