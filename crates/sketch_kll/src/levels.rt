@@ -150,13 +150,14 @@ impl<T: Ord + Drop> Levels<T> {
         add_level_above(&mut self.bounds, level);
         let needs_sorting = needs_sorting(self.is_level_zero_sorted, level);
         let coin = coins.random_bit();
-        compact_in_place(
+        let count = compact_level(
             &mut self.items,
             &mut self.bounds,
             level,
             needs_sorting,
             coin,
         );
+        self.items.truncate(self.items.len() - count);
         let num_levels = self.bounds.len() - 1;
         self.total_capacity = total_at(self.k, self.total_capacity, known, num_levels);
     }
@@ -294,34 +295,6 @@ fn add_level_above(bounds: &mut Vec<usize>, level: usize)
     if level + 2 == bounds.len() {
         bounds.push(0).unwrap();
     }
-}
-
-/// Compacts a level that has a level above it, and drops what has to go.
-fn compact_in_place<T: Ord + Drop>(
-    items: &mut Vec<T>,
-    bounds: &mut Vec<usize>,
-    level: usize,
-    needs_sorting: bool,
-    coin: bool,
-)
-    requires flat { IsFlat items.old.items bounds.old.items }
-    requires within { level + 2 < length bounds.old.items }
-    requires sorted { UpperSorted T.cmp (levels_in items.old.items bounds.old.items) }
-    requires known { needs_sorting ≡ false
-        → IsSorted T.cmp (first_level (drop level (levels_in items.old.items bounds.old.items))) }
-    ensures flat { IsFlat items.new.items bounds.new.items }
-    ensures alike { SameLevels T.cmp
-        (compacted T.cmp needs_sorting coin level (levels_in items.old.items bounds.old.items))
-        (levels_in items.new.items bounds.new.items) }
-    ensures sorted { UpperSorted T.cmp (levels_in items.old.items bounds.old.items)
-        → UpperSorted T.cmp (levels_in items.new.items bounds.new.items) }
-    ensures capacity { vec_capacity items.new ≡ vec_capacity items.old }
-    ensures bounds_capacity { vec_capacity bounds.new ≡ vec_capacity bounds.old }
-    ensures shorter { vec_len items.new ≤ vec_len items.old }
-{
-    let len = items.len();
-    let count = compact_level(items, bounds, level, needs_sorting, coin);
-    items.truncate(len - count);
 }
 
 /// Makes room for one more item, and for one more bound.
