@@ -1,17 +1,19 @@
 //! Levels that take items in one after another.
-ghost use Rattle.std.specs.Prelude.{◌≡◌, ◌+◌, ◌<◌, ◌≤◌, ◌++◌, ◌^◌, length, min, vec_len, vec_capacity, IfOk, OnOk};
+ghost use Rattle.std.specs.Prelude.{◌≡◌, ◌+◌, ◌<◌, ◌≤◌, ◌++◌, ◌^◌, drop, length, max, min, reverse, take, vec_len, vec_capacity, false, IfOk, OnOk};
 ghost use Rattle.std.specs.declared.cmp.Ordering.TheVariants.{Equal};
 ghost use Rattle.std.specs.Option.{option_to_list};
 ghost use Rattle.sketch_base.specs.Bag.{SameItems};
 ghost use Rattle.sketch_base.specs.Extremes.{IsGreatestOf, IsLeastOf, newer_or};
 ghost use Rattle.sketch_kll.specs.Capacity.{total_of};
 ghost use Rattle.sketch_kll.specs.Levels.{retained, weight};
+ghost use Rattle.sketch_kll.specs.Steps.{put_all};
 ghost use Rattle.sketch_kll.specs.Stored.{KeepsLevels};
-ghost use Rattle.sketch_kll.specs.Take.{AreKept, HaveTaken};
+ghost use Rattle.sketch_kll.specs.Take.{AreKept, HaveTaken, left_over};
 
 use super::{Levels, MAX_BOUNDS};
 use crate::capacity::{MINIMUM_CAPACITY, total_capacity};
 use sketch_base::common::extremes::{clone_if_greatest, clone_if_least, greatest_of, least_of};
+use sketch_base::common::merging::move_back;
 use sketch_base::common::random::RandomBits;
 use std::alloc::AllocError;
 
@@ -35,8 +37,8 @@ impl<T: Ord + Drop> Levels<T> {
         self.give_back();
     }
 
-    /// Takes items in one after another.
-    pub(super) fn take_items<B: RandomBits>(&mut self, items: Vec<T>, coins: &mut B)
+    /// Takes items in one after another: a run of them whenever there is room for it.
+    pub(super) fn take_items<B: RandomBits>(&mut self, mut items: Vec<T>, coins: &mut B)
         requires kept { AreKept T.cmp self.old.k self.old.is_sorted self.old.levels }
         requires light { weight self.old.levels + length items.items < 2 ^ 64 }
         requires room { min (retained self.old.levels + vec_len items) (total_of self.old.k 8 61)
@@ -48,10 +50,33 @@ impl<T: Ord + Drop> Levels<T> {
         ensures len { retained self.new.levels ≤ retained self.old.levels + vec_len items }
         ensures spare { 63 ≤ self.new.bounds_room }
     {
-        for item in items {
+        items.reverse();
+        while !items.is_empty() {
             self.compact_if_full(coins);
-            self.push(item);
+            self.fill(&mut items);
         }
+    }
+
+    /// Puts as many items last into level 0 as the total capacity has room for, the last of them
+    /// first.
+    fn fill(&mut self, items: &mut Vec<T>)
+        requires room { min (retained self.old.levels + vec_len items.old)
+            (max (retained self.old.levels) (total_of self.old.k 8 (length self.old.levels)))
+            ≤ self.old.items_room }
+        ensures k { self.new.k ≡ self.old.k }
+        ensures flag { self.new.is_sorted ≡ false }
+        ensures levels { self.new.levels ≡ put_all
+            (reverse (drop (left_over self.old items.old.items) items.old.items)) self.old.levels }
+        ensures items { items.new.items
+            ≡ take (left_over self.old items.old.items) items.old.items }
+        ensures room { self.new.items_room ≡ self.old.items_room }
+        ensures bounds_room { self.new.bounds_room ≡ self.old.bounds_room }
+    {
+        let free = (self.total_capacity as usize).saturating_sub(self.items.len());
+        let keep = items.len().saturating_sub(free);
+        move_back(items, keep, &mut self.items);
+        self.bounds[0] = self.items.len();
+        self.is_level_zero_sorted = false;
     }
 }
 
