@@ -102,7 +102,7 @@ impl<T: Ord + Drop> Levels<T> {
         )
     }
 
-    /// Gives back memory for more than a quarter more items, and for more than one more level.
+    /// Gives back memory for more than an eighth more items, and for more than one more level.
     pub(crate) fn give_back(&mut self)
         ensures kept { KeepsLevels self.old self.new }
     {
@@ -330,12 +330,12 @@ fn reserve_next<T: Drop>(items: &mut Vec<T>, most: usize) -> Result<(), AllocErr
     items.reserve_exact((len / 4 + 4).min(left))
 }
 
-/// Gives back room for more than a quarter more items, and for more than one more bound.
+/// Gives back room for more than an eighth more items, and for more than one more bound.
 fn shrink_both<T>(items: &mut Vec<T>, bounds: &mut Vec<usize>)
     ensures items { items.new.items ≡ items.old.items }
     ensures bounds { bounds.new.items ≡ bounds.old.items }
 {
-    items.shrink_to(items.len() + items.len() / 4);
+    items.shrink_to(items.len() + items.len() / 8);
     bounds.shrink_to(bounds.len() + 1);
 }
 
