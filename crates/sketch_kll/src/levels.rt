@@ -1,10 +1,10 @@
 //! The levels of a sketch in one vector, the highest first, and how updates change them.
 //! What a compaction does to a slice stands in `compaction`, merges in `levels::merging`.
-ghost use Rattle.std.specs.Prelude.{◌≡◌, ℕ, ◌+◌, ◌-◌, ◌*◌, ◌/◌, ◌^◌, ◌<◌, ◌≤◌, [], ◌∷◌, ◌++◌, length, max, IfSome, IfOk, OnOk, vec_len, vec_capacity, if◌then◌else◌, ◌==◌, drop, is_some, false, IsSorted, IsTrue};
+ghost use Rattle.std.specs.Prelude.{◌≡◌, ℕ, ◌+◌, ◌-◌, ◌*◌, ◌/◌, ◌^◌, ◌<◌, ◌≤◌, [], ◌∷◌, ◌++◌, length, max, IfSome, IfOk, OnOk, vec_len, vec_capacity, if◌then◌else◌, ◌==◌, drop, is_some, false, IsSorted, IsTrue, nat_le};
 ghost use Rattle.std.specs.declared.cmp.Ordering.TheVariants.{Equal};
 ghost use Rattle.std.specs.List.{between};
 ghost use Rattle.sketch_base.specs.Query.{counted};
-ghost use Rattle.sketch_kll.specs.Capacity.{total_of};
+ghost use Rattle.sketch_kll.specs.Capacity.{capacity_at, total_of};
 ghost use Rattle.sketch_kll.specs.Flat.{levels_in, IsFlat};
 ghost use Rattle.sketch_kll.specs.Levels.{retained, weight as weight_in, first_level, compacted, SameLevels, UpperSorted};
 ghost use Rattle.sketch_kll.specs.Rank.{counted_weight};
@@ -255,12 +255,23 @@ fn find_level_to_compact<T>(k: u16, total: u32, items: &[T], bounds: &[usize]) -
     }
     let num_levels = bounds.len() - 1;
     for level in 0..num_levels {
-        let capacity = level_capacity(k, num_levels, level, MINIMUM_CAPACITY) as usize;
-        if bounds[level] - bounds[level + 1] >= capacity {
+        if is_at_capacity(k, num_levels, level, bounds[level] - bounds[level + 1]) {
             return Some(level);
         }
     }
     unreachable!()
+}
+
+/// Whether a level with so many items is at or over its capacity. One of few items needs no look at
+/// what that is.
+fn is_at_capacity(k: u16, num_levels: usize, level: usize, count: usize) -> bool
+    requires k { 8 ≤ k }
+    requires few_levels { num_levels ≤ 61 }
+    requires within { level < num_levels }
+    ensures { result ≡ nat_le (capacity_at k 8 (num_levels - 1 - level)) count }
+{
+    count >= MINIMUM_CAPACITY as usize
+        && count >= level_capacity(k, num_levels, level, MINIMUM_CAPACITY) as usize
 }
 
 /// The total capacity at so many levels, from that at another number of them.
