@@ -1,5 +1,5 @@
 -- a compaction never makes a 62nd level, since a full level 60 would weigh too much
-use Rattle.std.proofs.Common.{◌≡◌, ℕ, suc, ◌+◌, ◌-◌, ◌*◌, ◌^◌, ◌<◌, ◌≤◌, Bool, false, nat_le, List, [], ◌∷◌, length, refl, sym, ap, ◌∙◌, subst, arith, Ordering, leb-true, leb-false, inl, inr}
+use Rattle.std.proofs.Common.{◌≡◌, ℕ, zero, suc, ◌+◌, ◌-◌, ◌*◌, ◌^◌, ◌<◌, ◌≤◌, Bool, false, nat_le, List, [], ◌∷◌, length, refl, sym, ap, ◌∙◌, subst, arith, Ordering, leb-true, leb-false, inl, inr}
 use Rattle.std.proofs.Math.Nat.{pow-succ'}
 use Rattle.std.proofs.lemmas.Bool.{cases_Bool, lt-leb, cases_lt, cases_eq}
 use Rattle.sketch_kll.specs.Capacity.{capacity_at, total_of}
@@ -28,12 +28,13 @@ heavy_top k extra (l ∷ m ∷ ls) h t f =
     let q : capacity_at k 8 0 + extra + (suc (suc (length ls)) - 1) ≡ capacity_at k 8 0 + (extra + 1) + (suc (length ls) - 1) = omega arith in
     rw (p, q) (omega (arith, ih))
 
--- one more level takes nothing from the total capacity
-pub total_grows : (k m n : ℕ) → m ≤ n → n ≤ m + 1 → total_of k 8 m ≤ total_of k 8 n
-total_grows k m n h l =
-    elim (cases_eq m n) [
+-- more levels take nothing from the total capacity
+pub total_up_to : (k m n : ℕ) → m ≤ n → total_of k 8 m ≤ total_of k 8 n
+total_up_to k m zero h = let f = ap (total_of k 8) (let e : m ≡ 0 = omega arith in e) in omega (arith, f)
+total_up_to k m (suc n) h =
+    elim (cases_eq m (suc n)) [
       | inl e ↦ let f = ap (total_of k 8) e in omega (arith, f)
-      | inr e ↦ let d : n ≡ suc m = omega arith in let f = ap (total_of k 8) d in omega (arith, f)
+      | inr e ↦ let r = total_up_to k m n (omega arith) in omega (arith, r)
     ]
 
 no_more_levels : {A : Type 0} (k : ℕ) (ls : List (List A)) → length ls ≤ 61 → 0 < length ls → weight ls < 2 ^ 64 →
@@ -101,7 +102,7 @@ room_made cmp k is_sorted coin ls h few w t =
           let a = full_level_at k ls h f in
           let s = compacted_size cmp (needs_sorting is_sorted (full_level k ls)) coin (full_level k ls) ls a.0 in
           let c = capacity_eight k (length ls - 1 - full_level k ls) in
-          let g = total_grows k (length ls) (length (compacted cmp (needs_sorting is_sorted (full_level k ls)) coin (full_level k ls) ls)) s.at_least s.at_most in
+          let g = total_up_to k (length ls) (length (compacted cmp (needs_sorting is_sorted (full_level k ls)) coin (full_level k ls) ls)) s.at_least in
           let m : length (compacted cmp (needs_sorting is_sorted (full_level k ls)) coin (full_level k ls) ls) ≤ 61 =
           still_few cmp k (needs_sorting is_sorted (full_level k ls)) coin ls h few w f in
           rw e (record { weighs = s.weighs; few = m; some = omega (arith, s.at_least); within = omega (arith, s.retains, a.1, c, g) })

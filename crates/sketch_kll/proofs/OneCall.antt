@@ -12,6 +12,7 @@ use Rattle.sketch_base.proofs.Tied.{same-items, same-sorted, same-answers}
 use Rattle.sketch_kll.specs.Levels.{AllSorted, UpperSorted}
 use Rattle.sketch_kll.specs.Merged.{IsMerged}
 use Rattle.sketch_kll.specs.Sketch.{Kll, IsSound, IsUpdated, bag_of}
+use Rattle.sketch_kll.specs.Updates.{AreUpdated}
 use Rattle.sketch_kll.specs.Weighted.{IsWeighted}
 
 -- a sketch, from its parts
@@ -59,6 +60,12 @@ module _ {A : Type 0} {cmp : A → A → Ordering} (order : IsTotalOrder cmp) (t
   pub one-update : (s : Kll A) (x : A) (word : List Bool) (t u : Kll A) → IsSound cmp t → IsSound cmp u → IsUpdated cmp s x word t → IsUpdated cmp s x word u → t ≡ u
   one-update s x word t u a b p q =
       one-sketch _ (option_to_list s.least ++ x ∷ []) (option_to_list s.greatest ++ x ∷ []) t u a b
+      (p.k ∙ sym q.k) (p.min_k ∙ sym q.min_k) (p.n ∙ sym q.n) (p.is_sorted ∙ sym q.is_sorted) p.bag q.bag p.least q.least p.greatest q.greatest
+
+  -- updates by all items of a list make one
+  pub one-list : (s : Kll A) (items : List A) (word : List Bool) (t u : Kll A) → IsSound cmp t → IsSound cmp u → AreUpdated cmp s items word t → AreUpdated cmp s items word u → t ≡ u
+  one-list s items word t u a b p q =
+      one-sketch _ (option_to_list s.least ++ items) (option_to_list s.greatest ++ items) t u a b
       (p.k ∙ sym q.k) (p.min_k ∙ sym q.min_k) (p.n ∙ sym q.n) (p.is_sorted ∙ sym q.is_sorted) p.bag q.bag p.least q.least p.greatest q.greatest
 
   -- an update with a weight makes one

@@ -1,41 +1,50 @@
--- levels after an item is put last into level 0
-use Rattle.std.proofs.Common.{◌≡◌, ℕ, ◌+◌, ◌<◌, List, [], ◌∷◌, ◌++◌, length, set, refl, sym, ap, ap₂, ◌∙◌, arith, Ordering, append_assoc, length-append}
+-- levels after items are put last into level 0
+use Rattle.std.proofs.Common.{◌≡◌, ℕ, ◌+◌, ◌<◌, List, [], ◌∷◌, ◌++◌, length, set, refl, sym, ap, ap₂, ◌∙◌, arith, Ordering, append_assoc, append-nil, length-append}
 use Rattle.std.specs.Cmp.{IsTotalOrder}
 use Rattle.std.proofs.lemmas.Cmp.{tied_itself}
 use Rattle.sketch_base.proofs.Items.{SameItems-append}
 use Rattle.sketch_kll.specs.Levels.{retained, weight, SameLevels, UpperSorted}
 use Rattle.sketch_kll.specs.Flat.{flat, marks, levels_in, IsFlat}
-use Rattle.sketch_kll.specs.Steps.{put}
+use Rattle.sketch_kll.specs.Steps.{put, put_all}
 use Rattle.sketch_kll.proofs.Flats.{is_flat, levels_of_flat, length-items}
 
--- an item put last
-pub flat-put : {A : Type 0} (x : A) (ls : List (List A)) → flat (put x ls) ≡ flat ls ++ x ∷ []
-flat-put x [] = refl
-flat-put x (l ∷ ls) = sym (append_assoc (flat ls) l (x ∷ []))
+flat-put : {A : Type 0} (xs : List A) (ls : List (List A)) → flat (put_all xs ls) ≡ flat ls ++ xs
+flat-put xs [] = refl
+flat-put xs (l ∷ ls) = sym (append_assoc (flat ls) l xs)
 
-pub marks-put : {A : Type 0} (x : A) (ls : List (List A)) → 0 < length ls → marks (put x ls) ≡ set (marks ls) 0 (retained ls + 1)
-marks-put x [] h = absurd (omega arith)
-marks-put x (l ∷ ls) h = ap (λ (n : ℕ). n ∷ marks ls) (omega (arith, length-append l (x ∷ [])))
+marks-put : {A : Type 0} (xs : List A) (ls : List (List A)) → 0 < length ls → marks (put_all xs ls) ≡ set (marks ls) 0 (retained ls + length xs)
+marks-put xs [] h = absurd (omega arith)
+marks-put xs (l ∷ ls) h = ap (λ (n : ℕ). n ∷ marks ls) (omega (arith, length-append l xs))
 
--- one more retained
-pub retained-put : {A : Type 0} (x : A) (ls : List (List A)) → retained (put x ls) ≡ retained ls + 1
-retained-put x [] = refl
-retained-put x (l ∷ ls) = omega (arith, length-append l (x ∷ []))
+-- as many more retained
+pub retained-put : {A : Type 0} (xs : List A) (ls : List (List A)) → retained (put_all xs ls) ≡ retained ls + length xs
+retained-put xs [] = omega arith
+retained-put xs (l ∷ ls) = omega (arith, length-append l xs)
 
--- one more in weight
-pub weight-put : {A : Type 0} (x : A) (ls : List (List A)) → weight (put x ls) ≡ weight ls + 1
-weight-put x [] = refl
-weight-put x (l ∷ ls) = omega (arith, length-append l (x ∷ []))
+-- as many more in weight
+pub weight-put : {A : Type 0} (xs : List A) (ls : List (List A)) → weight (put_all xs ls) ≡ weight ls + length xs
+weight-put xs [] = omega arith
+weight-put xs (l ∷ ls) = omega (arith, length-append l xs)
 
 -- no level is added
-pub length-put : {A : Type 0} (x : A) (ls : List (List A)) → 0 < length ls → length (put x ls) ≡ length ls
-length-put x [] h = absurd (omega arith)
-length-put x (l ∷ ls) h = refl
+pub length-put : {A : Type 0} (xs : List A) (ls : List (List A)) → 0 < length ls → length (put_all xs ls) ≡ length ls
+length-put xs [] h = absurd (omega arith)
+length-put xs (l ∷ ls) h = refl
 
 -- levels from 1 up stay as they are
-pub UpperSorted-put : {A : Type 0} (cmp : A → A → Ordering) (x : A) (ls : List (List A)) → UpperSorted cmp ls → UpperSorted cmp (put x ls)
-UpperSorted-put cmp x [] u = tt
-UpperSorted-put cmp x (l ∷ ls) u = u
+pub UpperSorted-put : {A : Type 0} (cmp : A → A → Ordering) (xs : List A) (ls : List (List A)) → UpperSorted cmp ls → UpperSorted cmp (put_all xs ls)
+UpperSorted-put cmp xs [] u = tt
+UpperSorted-put cmp xs (l ∷ ls) u = u
+
+-- items put in after an item
+pub put_all-cons : {A : Type 0} (x : A) (xs : List A) (ls : List (List A)) → put_all (x ∷ xs) ls ≡ put_all xs (put x ls)
+put_all-cons x xs [] = refl
+put_all-cons x xs (l ∷ ls) = ap (λ m. m ∷ ls) (sym (append_assoc l (x ∷ []) xs))
+
+-- no items put in
+pub put_all-none : {A : Type 0} (ls : List (List A)) → 0 < length ls → put_all [] ls ≡ ls
+put_all-none [] h = absurd (omega arith)
+put_all-none (l ∷ ls) h = ap (λ m. m ∷ ls) (append-nil l)
 
 -- alike levels stay alike
 pub SameLevels-put : {A : Type 0} (cmp : A → A → Ordering) → IsTotalOrder cmp → (x : A) (ls ms : List (List A)) → SameLevels cmp ls ms →
@@ -45,16 +54,16 @@ SameLevels-put cmp o x (l ∷ ls) (m ∷ ms) s = (SameItems-append cmp l m (x �
 SameLevels-put cmp o x [] (m ∷ ms) s = absurd s
 SameLevels-put cmp o x (l ∷ ls) [] s = absurd s
 
--- an item put last into the list, and the bound of level 0 moved
-pub put_flat : {A : Type 0} (x : A) (items items' : List A) (bounds : List ℕ) (n : ℕ) → IsFlat items bounds → 0 < length (levels_in items bounds) →
-    items' ≡ items ++ x ∷ [] → n ≡ length items' →
-    IsFlat items' (set bounds 0 n) × (levels_in items' (set bounds 0 n) ≡ put x (levels_in items bounds))
-put_flat {A} x items items' bounds n f h e m =
+-- items put last into the list, and the bound of level 0 moved
+pub put_flat : {A : Type 0} (xs items items' : List A) (bounds : List ℕ) (n : ℕ) → IsFlat items bounds → 0 < length (levels_in items bounds) →
+    items' ≡ items ++ xs → n ≡ length items' →
+    IsFlat items' (set bounds 0 n) × (levels_in items' (set bounds 0 n) ≡ put_all xs (levels_in items bounds))
+put_flat {A} xs items items' bounds n f h e m =
     let ls : List (List A) = levels_in items bounds in
     let r = length-items items bounds f in
-    let a = length-append items (x ∷ []) in
+    let a = length-append items xs in
     let b = ap length e in
-    let k : n ≡ retained ls + 1 = omega (arith, m, b, a, r) in
-    let g1 : items' ≡ flat (put x ls) = e ∙ (ap (λ (i : List A). i ++ x ∷ []) (sym f.items_are) ∙ sym (flat-put x ls)) in
-    let g2 : set bounds 0 n ≡ marks (put x ls) = ap₂ (λ (y : List ℕ) (z : ℕ). set y 0 z) (sym f.bounds_are) k ∙ sym (marks-put x ls h) in
-    (is_flat items' (set bounds 0 n) (put x ls) g1 g2, levels_of_flat items' (set bounds 0 n) (put x ls) g1 g2)
+    let k : n ≡ retained ls + length xs = omega (arith, m, b, a, r) in
+    let g1 : items' ≡ flat (put_all xs ls) = e ∙ (ap (λ (i : List A). i ++ xs) (sym f.items_are) ∙ sym (flat-put xs ls)) in
+    let g2 : set bounds 0 n ≡ marks (put_all xs ls) = ap₂ (λ (y : List ℕ) (z : ℕ). set y 0 z) (sym f.bounds_are) k ∙ sym (marks-put xs ls h) in
+    (is_flat items' (set bounds 0 n) (put_all xs ls) g1 g2, levels_of_flat items' (set bounds 0 n) (put_all xs ls) g1 g2)

@@ -48,6 +48,7 @@ known_total {k = k} {items = items} {bounds = bounds} stored len len_is =
 
 -- what a compaction leaves in the vectors is stored once the total capacity fits it
 pub record CompactedStored {A : Type 0} (cmp : A → A → Ordering) (last coin : Bool) (k level : ℕ) (ls : List (List A)) (items : List A) (bounds : List ℕ) : Type 0 where
+  pub flat : IsFlat items bounds
   pub few : length bounds ≤ 62
   pub same : SameLevels cmp (compacted cmp last coin level ls) (levels_in items bounds)
   pub sorted : UpperSorted cmp (levels_in items bounds)
@@ -67,6 +68,7 @@ compacted_stored {A} {cmp} {k} {total} {level} {items} {items'} {bounds} {wide} 
     let Alike : List (List A) → Type 0 = λ (ms : List (List A)). SameLevels cmp ms (levels_in items' bounds') in
     let sorted = ordered (up.sorted stored.sorted) in
     record {
+      flat = flat;
       few = omega (arith, bounds_len, few.1);
       same = subst Alike (up.same ∙ ap (compacted cmp last coin level) own) alike;
       sorted = sorted;

@@ -1,5 +1,5 @@
 -- a sketch after an update keeps what every sketch keeps
-use Rattle.std.proofs.Common.{Option, None, Some, MatchOption, ◌≡◌, ℕ, ◌+◌, ◌^◌, ◌<◌, Bool, false, List, refl, sym, ap, ◌∙◌, subst, arith, Ordering}
+use Rattle.std.proofs.Common.{Option, None, Some, MatchOption, ◌≡◌, ℕ, ◌+◌, ◌^◌, ◌<◌, Bool, false, List, [], ◌∷◌, refl, sym, ap, ◌∙◌, subst, arith, Ordering}
 use Rattle.std.proofs.lemmas.Bool.{false≢true}
 use Rattle.std.specs.Cmp.{IsTotalOrder}
 use Rattle.sketch_kll.specs.Capacity.{total_of}
@@ -40,9 +40,9 @@ updated_sketch {A} cmp o s x coin ls ms least greatest sound small alike sorted 
     let w = sound.weighs_n in
     let r = room_made cmp s.k s.is_sorted coin s.levels sound.has_level sound.has_few_levels (omega (arith, w)) sound.within_capacity in
     let z = alike_size cmp (with_room cmp s.k s.is_sorted coin s.levels) ls alike in
-    let n = length-put x ls (omega (arith, r.some, z.counts)) in
-    let p = weight-put x ls in
-    let q = retained-put x ls in
+    let n = length-put (x ∷ []) ls (omega (arith, r.some, z.counts)) in
+    let p = weight-put (x ∷ []) ls in
+    let q = retained-put (x ∷ []) ls in
     let t = ap (total_of s.k 8) (n ∙ sym z.counts) in
     let b = bounded o s.k s.is_sorted coin x s.least s.greatest least greatest s.levels ls tl tg sound.items_between alike in
     let S : List (List A) → Type 0 =
@@ -55,7 +55,7 @@ updated_sketch {A} cmp o s x coin ls ms least greatest sound small alike sorted 
       has_level = omega (arith, n, z.counts, r.some);
       has_few_levels = omega (arith, n, z.counts, r.few);
       within_capacity = omega (arith, q, z.retains, r.within, t);
-      upper_sorted = UpperSorted-put cmp x ls sorted;
+      upper_sorted = UpperSorted-put cmp (x ∷ []) ls sorted;
       flag_holds = λ t. absurd (false≢true t);
       least_there = there cmp _ least s.n tl;
       greatest_there = there cmp _ greatest s.n tg;

@@ -3,12 +3,18 @@ use Rattle.std.specs.Prelude.{◌≡◌, ℕ, Bool, List}
 use Rattle.std.specs.declared.cmp.Ordering.{Ordering}
 use Rattle.sketch_kll.specs.Merged.{IsMerged}
 use Rattle.sketch_kll.specs.Sketch.{Kll, IsSound, IsUpdated}
+use Rattle.sketch_kll.specs.Updates.{AreUpdated}
 use Rattle.sketch_kll.specs.Weighted.{IsWeighted}
 
 -- an update
 abbrev pub UpdatesMakeOne : {A : Type 0} → (A → A → Ordering) → Type 0
 UpdatesMakeOne {A} cmp = (s : Kll A) (x : A) (word : List Bool) (t u : Kll A) → IsSound cmp t → IsSound cmp u →
     IsUpdated cmp s x word t → IsUpdated cmp s x word u → t ≡ u
+
+-- updates by all items of a list
+abbrev pub ListsMakeOne : {A : Type 0} → (A → A → Ordering) → Type 0
+ListsMakeOne {A} cmp = (s : Kll A) (items : List A) (word : List Bool) (t u : Kll A) → IsSound cmp t → IsSound cmp u →
+    AreUpdated cmp s items word t → AreUpdated cmp s items word u → t ≡ u
 
 -- an update with a weight
 abbrev pub WeightsMakeOne : {A : Type 0} → (A → A → Ordering) → Type 0

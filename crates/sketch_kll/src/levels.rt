@@ -1,10 +1,10 @@
 //! The levels of a sketch in one vector, the highest first, and how updates change them.
 //! What a compaction does to a slice stands in `compaction`, merges in `levels::merging`.
-ghost use Rattle.std.specs.Prelude.{◌≡◌, ℕ, ◌+◌, ◌-◌, ◌*◌, ◌/◌, ◌^◌, ◌<◌, ◌≤◌, [], ◌∷◌, ◌++◌, length, max, IfSome, IfOk, OnOk, vec_len, vec_capacity, if◌then◌else◌, ◌==◌, drop, is_some, false, IsSorted, IsTrue};
+ghost use Rattle.std.specs.Prelude.{◌≡◌, ℕ, ◌+◌, ◌-◌, ◌*◌, ◌/◌, ◌^◌, ◌<◌, ◌≤◌, [], ◌∷◌, ◌++◌, length, max, IfSome, IfOk, OnOk, vec_len, vec_capacity, if◌then◌else◌, ◌==◌, drop, is_some, false, IsSorted, IsTrue, nat_le};
 ghost use Rattle.std.specs.declared.cmp.Ordering.TheVariants.{Equal};
 ghost use Rattle.std.specs.List.{between};
 ghost use Rattle.sketch_base.specs.Query.{counted};
-ghost use Rattle.sketch_kll.specs.Capacity.{total_of};
+ghost use Rattle.sketch_kll.specs.Capacity.{capacity_at, total_of};
 ghost use Rattle.sketch_kll.specs.Flat.{levels_in, IsFlat};
 ghost use Rattle.sketch_kll.specs.Levels.{retained, weight as weight_in, first_level, compacted, SameLevels, UpperSorted};
 ghost use Rattle.sketch_kll.specs.Rank.{counted_weight};
@@ -14,6 +14,7 @@ ghost use Rattle.sketch_kll.specs.Stored.{KeepsLevels, KeepsRoom};
 
 mod compress;
 pub(crate) mod merging;
+mod taking;
 
 use crate::capacity::{MINIMUM_CAPACITY, level_capacity, total_capacity};
 use crate::compaction::compact_level;
@@ -23,6 +24,9 @@ use sketch_base::common::extremes::{clone_if_greatest, clone_if_least};
 use sketch_base::common::random::RandomBits;
 use std::alloc::{AllocError, Global};
 use std::marker::Model;
+
+/// How many bounds levels may need: those of 61 levels, and one to spare for general compress.
+const MAX_BOUNDS: usize = 63;
 
 /// The levels of a sketch: level h is `items[bounds[h + 1]..bounds[h]]`, so that an update without
 /// a compaction is a push. A contract sees them as the record `Stored` of specs/Stored.
@@ -98,6 +102,13 @@ impl<T: Ord + Drop> Levels<T> {
         )
     }
 
+    /// Gives back memory for more than an eighth more items, and for more than one more level.
+    pub(crate) fn give_back(&mut self)
+        ensures kept { KeepsLevels self.old self.new }
+    {
+        shrink_both(&mut self.items, &mut self.bounds);
+    }
+
     /// Compacts one level, where the levels are at or over their total capacity.
     #[inline(always)]
     pub(crate) fn compact_if_full<B: RandomBits>(&mut self, coins: &mut B)
@@ -139,13 +150,14 @@ impl<T: Ord + Drop> Levels<T> {
         add_level_above(&mut self.bounds, level);
         let needs_sorting = needs_sorting(self.is_level_zero_sorted, level);
         let coin = coins.random_bit();
-        compact_in_place(
+        let count = compact_level(
             &mut self.items,
             &mut self.bounds,
             level,
             needs_sorting,
             coin,
         );
+        self.items.truncate(self.items.len() - count);
         let num_levels = self.bounds.len() - 1;
         self.total_capacity = total_at(self.k, self.total_capacity, known, num_levels);
     }
@@ -243,12 +255,23 @@ fn find_level_to_compact<T>(k: u16, total: u32, items: &[T], bounds: &[usize]) -
     }
     let num_levels = bounds.len() - 1;
     for level in 0..num_levels {
-        let capacity = level_capacity(k, num_levels, level, MINIMUM_CAPACITY) as usize;
-        if bounds[level] - bounds[level + 1] >= capacity {
+        if is_at_capacity(k, num_levels, level, bounds[level] - bounds[level + 1]) {
             return Some(level);
         }
     }
     unreachable!()
+}
+
+/// Whether a level with so many items is at or over its capacity. One of few items needs no look at
+/// what that is.
+fn is_at_capacity(k: u16, num_levels: usize, level: usize, count: usize) -> bool
+    requires k { 8 ≤ k }
+    requires few_levels { num_levels ≤ 61 }
+    requires within { level < num_levels }
+    ensures { result ≡ nat_le (capacity_at k 8 (num_levels - 1 - level)) count }
+{
+    count >= MINIMUM_CAPACITY as usize
+        && count >= level_capacity(k, num_levels, level, MINIMUM_CAPACITY) as usize
 }
 
 /// The total capacity at so many levels, from that at another number of them.
@@ -285,34 +308,6 @@ fn add_level_above(bounds: &mut Vec<usize>, level: usize)
     }
 }
 
-/// Compacts a level that has a level above it, and drops what has to go.
-fn compact_in_place<T: Ord + Drop>(
-    items: &mut Vec<T>,
-    bounds: &mut Vec<usize>,
-    level: usize,
-    needs_sorting: bool,
-    coin: bool,
-)
-    requires flat { IsFlat items.old.items bounds.old.items }
-    requires within { level + 2 < length bounds.old.items }
-    requires sorted { UpperSorted T.cmp (levels_in items.old.items bounds.old.items) }
-    requires known { needs_sorting ≡ false
-        → IsSorted T.cmp (first_level (drop level (levels_in items.old.items bounds.old.items))) }
-    ensures flat { IsFlat items.new.items bounds.new.items }
-    ensures alike { SameLevels T.cmp
-        (compacted T.cmp needs_sorting coin level (levels_in items.old.items bounds.old.items))
-        (levels_in items.new.items bounds.new.items) }
-    ensures sorted { UpperSorted T.cmp (levels_in items.old.items bounds.old.items)
-        → UpperSorted T.cmp (levels_in items.new.items bounds.new.items) }
-    ensures capacity { vec_capacity items.new ≡ vec_capacity items.old }
-    ensures bounds_capacity { vec_capacity bounds.new ≡ vec_capacity bounds.old }
-    ensures shorter { vec_len items.new ≤ vec_len items.old }
-{
-    let len = items.len();
-    let count = compact_level(items, bounds, level, needs_sorting, coin);
-    items.truncate(len - count);
-}
-
 /// Makes room for one more item, and for one more bound.
 fn reserve_both<T: Drop>(
     items: &mut Vec<T>,
@@ -344,6 +339,15 @@ fn reserve_next<T: Drop>(items: &mut Vec<T>, most: usize) -> Result<(), AllocErr
     }
     let left = most.saturating_sub(len).max(1);
     items.reserve_exact((len / 4 + 4).min(left))
+}
+
+/// Gives back room for more than an eighth more items, and for more than one more bound.
+fn shrink_both<T>(items: &mut Vec<T>, bounds: &mut Vec<usize>)
+    ensures items { items.new.items ≡ items.old.items }
+    ensures bounds { bounds.new.items ≡ bounds.old.items }
+{
+    items.shrink_to(items.len() + items.len() / 8);
+    bounds.shrink_to(bounds.len() + 1);
 }
 
 /// The item's clones, one for each extreme that it is.

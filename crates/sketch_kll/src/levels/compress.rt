@@ -8,8 +8,7 @@ ghost use Rattle.sketch_kll.specs.Levels.{retained, weight, first_level, SameLev
 ghost use Rattle.sketch_kll.specs.Steps.{is_full};
 ghost use Rattle.sketch_kll.specs.Stored.{KeepsRoom};
 
-use super::Levels;
-use crate::capacity::{MINIMUM_CAPACITY, level_capacity};
+use super::{Levels, is_at_capacity};
 use sketch_base::common::random::RandomBits;
 
 impl<T: Ord + Drop> Levels<T> {
@@ -36,8 +35,7 @@ impl<T: Ord + Drop> Levels<T> {
     {
         let bounds = self.bounds.as_slice();
         let num_levels = bounds.len() - 1;
-        let capacity = level_capacity(self.k, num_levels, level, MINIMUM_CAPACITY) as usize;
-        bounds[level] - bounds[level + 1] < capacity
+        !is_at_capacity(self.k, num_levels, level, bounds[level] - bounds[level + 1])
     }
 
     /// One step of the walk, where the levels are at or over their total capacity.

@@ -1,8 +1,11 @@
-use Rattle.sketch_kll.proofs.OneCall.{one-update, one-weighted, one-merge}
+use Rattle.sketch_kll.proofs.OneCall.{one-update, one-list, one-weighted, one-merge}
 use Rattle.sketch_kll.proofs.laws.calls_make_one_sketch.Goals as goal
 
 pub returns-clause-update : goal.returns-clause-update
 returns-clause-update g c = one-update g.met.T.Ord.total c.requires
+
+pub returns-clause-all : goal.returns-clause-all
+returns-clause-all g c = one-list g.met.T.Ord.total c.requires
 
 pub returns-clause-weighted : goal.returns-clause-weighted
 returns-clause-weighted g c = one-weighted g.met.T.Ord.total c.requires

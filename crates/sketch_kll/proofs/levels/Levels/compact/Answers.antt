@@ -1,4 +1,4 @@
-use Rattle.std.proofs.Common.{List, IsSorted, length, rules, arith, sym, ap, subst, ◌∙◌}
+use Rattle.std.proofs.Common.{◌≡◌, ◌-◌, ap₂, ℕ, List, ◌++◌, take, drop, IsSorted, length, rules, arith, sym, ap, subst, ◌∙◌}
 use Rattle.sketch_kll.specs.Levels.{retained, first_level}
 use Rattle.sketch_kll.specs.Flat.{levels_in}
 use Rattle.sketch_kll.specs.Steps.{needs_sorting}
@@ -7,60 +7,83 @@ use Rattle.sketch_kll.proofs.Flats.{length-bounds, length-items}
 use Rattle.sketch_kll.proofs.CompactedRuns.{known_sorted}
 use Rattle.sketch_kll.proofs.RaisedLevels.{raised_is}
 use Rattle.sketch_kll.proofs.StoredLevels.{CompactedStored, known_total, compacted_stored}
+use Rattle.sketch_kll.proofs.Joins.{whole_slice}
 use Rattle.sketch_kll.proofs.levels.Levels.compact.Goals as goal
-use Rattle.sketch_kll.proofs.levels.Levels.compact.Goals.{After-compact_in_place}
+use Rattle.sketch_kll.proofs.levels.Levels.compact.Goals.{After-truncate}
 
 pub add_level_above-requires-clause-spare : goal.add_level_above-requires-clause-spare
 add_level_above-requires-clause-spare g c =
     let bounds_len = length-bounds c.self.inside.items.items c.self.inside.bounds.items c.self.invariant.flat in
     omega (arith, bounds_len, ap (λ (y : Stored g.row.T.Denot). length y.levels) c.self.view_is, ap (λ (y : Stored g.row.T.Denot). y.bounds_room) c.self.view_is, c.requires.spare, c.self.inside.bounds.ok)
 
-pub compact_in_place-requires : goal.compact_in_place-requires
-compact_in_place-requires g c =
+pub compact_level-count-requires : goal.compact_level-count-requires
+compact_level-count-requires g c =
     let up = raised_is c.needs_sorting-needs_sorting.result c.random_bit-coin.result c.self.invariant
     (ap (λ (y : Stored g.row.T.Denot). y.levels) c.self.view_is) c.requires.within c.add_level_above.ensures.items in
     let needs = c.needs_sorting-needs_sorting.ensures ∙ ap (λ (y : Stored g.row.T.Denot). needs_sorting y.is_sorted c.args.level) c.self.view_is in
     let first = up.first ∙ ap (λ (y : Stored g.row.T.Denot). first_level y.levels) c.self.view_is in
-    record {
+    rw (c.deref_mut.ensures.value, c.deref_mut-2.ensures.value) (record {
       flat = up.flat;
       within = up.within;
       sorted = up.sorted c.self.invariant.sorted;
       known = λ e. known_sorted g.T.Ord.cmp c.args.self.now.is_sorted c.args.level (levels_in c.self.inside.items.items c.add_level_above.new.bounds.items)
           (up.sorted c.self.invariant.sorted)
           (λ t z. subst (λ (y : List g.row.T.Denot). IsSorted g.T.Ord.cmp y) (sym first) (c.requires.flag t z)) (sym needs ∙ e);
-    }
+    })
 
 pub total_at-self-inside-requires-clause-total : goal.total_at-self-inside-requires-clause-total
 total_at-self-inside-requires-clause-total g c = known_total c.self.invariant c.len-known.result (search rules)
 
+-- the bounds after the compaction
+abbrev shifted_bounds : (g : _) (c : After-truncate g) → List ℕ
+shifted_bounds g c =
+    let wide = c.add_level_above.new.bounds in
+    take wide.len (c.compact_level-count.new.bounds ++ drop (length c.compact_level-count.new.bounds) wide.items)
+
+bounds_are : (g : _) (c : After-truncate g) → shifted_bounds g c ≡ c.compact_level-count.new.bounds
+bounds_are g c =
+    let wide = c.add_level_above.new.bounds in
+    whole_slice c.compact_level-count.new.bounds wide.items wide.len (omega (arith, c.compact_level-count.auto.bounds, c.deref_mut-2.ensures.len))
+
+bounds_len : (g : _) (c : After-truncate g) → length (shifted_bounds g c) ≡ c.add_level_above.new.bounds.len
+bounds_len g c = ap length (bounds_are g c) ∙ (c.compact_level-count.auto.bounds ∙ c.deref_mut-2.ensures.len)
+
 -- what the compaction leaves in the vectors
-left : (g : _) (c : After-compact_in_place g) →
+left : (g : _) (c : After-truncate g) →
     CompactedStored g.T.Ord.cmp c.needs_sorting-needs_sorting.result c.random_bit-coin.result c.self.inside.k c.args.level c.args.self.now.levels
-    c.compact_in_place.new.items.items c.compact_in_place.new.bounds.items
+    c.truncate.new.self.items (shifted_bounds g c)
 left g c =
-    let made = c.compact_in_place.ensures in
+    let made = c.compact_level-count.ensures in
+    let items : List g.row.T.Denot = c.compact_level-count.new.items in
+    let items_are = whole_slice items c.self.inside.items.items c.self.inside.items.len (omega (arith, c.compact_level-count.auto.items, c.deref_mut.ensures.len)) in
+    let cut = c.truncate.ensures.items ∙ ap₂ (λ n xs. take (n - c.compact_level-count.result) xs) (c.len.ensures ∙ sym c.deref_mut.ensures.len) items_are in
+    let all = bounds_are g c in
+    let before = ap₂ levels_in c.deref_mut.ensures.value c.deref_mut-2.ensures.value in
     compacted_stored c.needs_sorting-needs_sorting.result c.random_bit-coin.result c.self.invariant
-    (ap (λ (y : Stored g.row.T.Denot). y.levels) c.self.view_is) c.requires.within c.requires.few c.add_level_above.ensures.items made.flat made.alike made.sorted
+    (ap (λ (y : Stored g.row.T.Denot). y.levels) c.self.view_is) c.requires.within c.requires.few c.add_level_above.ensures.items
+    (rw (cut, all) made.flat) (rw (cut, all, ← before) made.alike) (λ _. rw (cut, all) made.sorted)
 
 pub total_at-self-inside-requires-clause-few_levels : goal.total_at-self-inside-requires-clause-few_levels
 total_at-self-inside-requires-clause-few_levels g c =
-    omega (arith, (left g (goal.at.total_at-self-inside-requires-clause-few_levels g c).After-compact_in_place).few)
+    let after = (goal.at.total_at-self-inside-requires-clause-few_levels g c).After-truncate in
+    omega (arith, (left g after).few, bounds_len g after)
 
 pub invariant_of-self : goal.invariant_of-self
 invariant_of-self g c =
-    (left g (goal.at.invariant_of-self g c).After-compact_in_place).stored _ c.len-num_levels.result (search rules) c.total_at-self-inside.ensures
+    let after = (goal.at.invariant_of-self g c).After-truncate in
+    (left g after).stored _ c.len-num_levels.result (c.len-num_levels.ensures ∙ sym (bounds_len g after)) c.total_at-self-inside.ensures
 
 pub returns : goal.returns
 returns g c =
-    let left = left g (goal.at.returns g c).After-compact_in_place in
+    let left = left g (goal.at.returns g c).After-truncate in
     let needs = c.needs_sorting-needs_sorting.ensures ∙ ap (λ (y : Stored g.row.T.Denot). needs_sorting y.is_sorted c.args.level) c.self.view_is in
     let before = length-items c.self.inside.items.items c.self.inside.bounds.items c.self.invariant.flat in
-    let after = length-items c.compact_in_place.new.items.items c.compact_in_place.new.bounds.items c.compact_in_place.ensures.flat in
+    let after = length-items c.truncate.new.self.items (shifted_bounds g (goal.at.returns g c).After-truncate) left.flat in
     let held = ap (λ (y : Stored g.row.T.Denot). retained y.levels) c.self.view_is in
     record {
       kept = search rules;
       levels = rw (← c.random_bit-coin.ensures.value, ← needs) left.same;
       sorted = left.sorted;
-      shorter = omega (arith, before, after, held, c.compact_in_place.ensures.shorter, c.self.inside.items.ok, c.compact_in_place.new.items.ok);
+      shorter = omega (arith, before, after, held, c.truncate.ensures.len, c.self.inside.items.ok, c.truncate.new.self.ok, c.len.ensures);
       coins = search rules;
     }

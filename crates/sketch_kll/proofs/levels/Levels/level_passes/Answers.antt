@@ -1,4 +1,4 @@
-use Rattle.std.proofs.Common.{◌≡◌, ◌<◌, ◌-◌, ℕ, length, drop, sym, subst, true, ap, ◌∙◌, arith, nat_lt, get_or, ◌+◌}
+use Rattle.std.proofs.Common.{◌≡◌, ◌<◌, ◌-◌, length, drop, sym, subst, true, ap, ◌∙◌, arith, nat_le, not, ap₂, get_or, ◌+◌}
 use Rattle.sketch_kll.specs.Capacity.{capacity_at}
 use Rattle.sketch_kll.specs.Levels.{first_level}
 use Rattle.sketch_kll.specs.Flat.{levels_in}
@@ -14,13 +14,13 @@ within g c =
     let n = length-bounds c.self.inside.items.items c.self.inside.bounds.items c.self.invariant.flat in
     omega (arith, n, ap (λ (y : Stored g.row.T.Denot). length y.levels) c.self.view_is, c.requires.within, ap length c.as_slice-bounds.ensures.value)
 
-pub level_capacity-capacity-requires : goal.level_capacity-capacity-requires
-level_capacity-capacity-requires g c =
+pub is_at_capacity-requires : goal.is_at_capacity-requires
+is_at_capacity-requires g c =
     let n = length-bounds c.self.inside.items.items c.self.inside.bounds.items c.self.invariant.flat in
     record {
-      levels = omega (arith, n, c.self.invariant.few, ap length c.as_slice-bounds.ensures.value);
-      within = omega (arith, within g c);
-      minimum = c.self.invariant.k_above;
+      k = c.self.invariant.k_above;
+      few_levels = omega (arith, n, c.self.invariant.few, ap length c.as_slice-bounds.ensures.value);
+      within = omega (arith, within g (goal.at.is_at_capacity-requires g c).After-as_slice-bounds);
     }
 
 pub bounds-bounds-level : goal.bounds-bounds-level
@@ -29,17 +29,16 @@ bounds-bounds-level g c = omega (arith, within g (goal.at.bounds-bounds-level g 
 pub bounds-bounds-level-2 : goal.bounds-bounds-level-2
 bounds-bounds-level-2 g c = omega (arith, within g (goal.at.bounds-bounds-level-2 g c).After-as_slice-bounds)
 
-pub overflow_sub-result : goal.overflow_sub-result
-overflow_sub-result g c =
+pub overflow_sub-bounds : goal.overflow_sub-bounds
+overflow_sub-bounds g c =
     rw c.as_slice-bounds.ensures.value (omega (arith, bound_falls_to c.self.inside.items.items c.self.inside.bounds.items c.self.invariant.flat c.args.level (c.args.level + 1) (omega arith)))
 
 pub returns : goal.returns
 returns g c =
     let x = c.self.inside in
     let n = length-bounds x.items.items x.bounds.items c.self.invariant.flat in
-    let e = ap length c.as_slice-bounds.ensures.value in
-    let m : length c.as_slice-bounds.result.now - 1 - 1 - c.args.level ≡ length (levels_in x.items.items x.bounds.items) - 1 - c.args.level = omega (arith, n, e) in
+    let m : length x.bounds.items - 1 - 1 - c.args.level ≡ length (levels_in x.items.items x.bounds.items) - 1 - c.args.level = omega (arith, n) in
     let f = bound_falls_to x.items.items x.bounds.items c.self.invariant.flat c.args.level (c.args.level + 1) (omega arith) in
     let w : get_or x.bounds.items c.args.level 0 - get_or x.bounds.items (c.args.level + 1) 0 ≡ length (first_level (drop c.args.level (levels_in x.items.items x.bounds.items))) = omega (arith, f) in
-    let p = passes_is x.k c.args.level c.level_capacity-capacity.result (levels_in x.items.items x.bounds.items) (subst (λ (y : Stored g.row.T.Denot). is_full y.k y.levels ≡ true) (sym c.self.view_is) c.requires.full) (c.level_capacity-capacity.ensures.value ∙ ap (capacity_at x.k 8) m) in
-    rw (← c.self.view_is, c.as_slice-bounds.ensures.value) (ap (λ (i : ℕ). nat_lt i c.level_capacity-capacity.result) w ∙ sym p)
+    let p = passes_is x.k c.args.level (levels_in x.items.items x.bounds.items) (subst (λ (y : Stored g.row.T.Denot). is_full y.k y.levels ≡ true) (sym c.self.view_is) c.requires.full) in
+    rw (← c.self.view_is, c.is_at_capacity.ensures, c.as_slice-bounds.ensures.value) (ap₂ (λ cap i. not (nat_le cap i)) (ap (capacity_at x.k 8) m) w ∙ sym p)

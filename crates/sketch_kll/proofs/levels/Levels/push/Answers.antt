@@ -17,15 +17,15 @@ invariant_of-self g c =
     let x = c.self.inside in
     let e : c.push.new.self.items ≡ x.items.items ++ c.args.item ∷ [] = search rules in
     let n : c.len.result ≡ length c.push.new.self.items = search rules in
-    let r = put_flat c.args.item x.items.items c.push.new.self.items x.bounds.items c.len.result c.self.invariant.flat c.self.invariant.some e n in
-    let m = ap length r.1 ∙ length-put c.args.item (levels_in x.items.items x.bounds.items) c.self.invariant.some in
+    let r = put_flat (c.args.item ∷ []) x.items.items c.push.new.self.items x.bounds.items c.len.result c.self.invariant.flat c.self.invariant.some e n in
+    let m = ap length r.1 ∙ length-put (c.args.item ∷ []) (levels_in x.items.items x.bounds.items) c.self.invariant.some in
     record {
       k_above = c.self.invariant.k_above;
       flat = r.0;
       total_is = c.self.invariant.total_is ∙ ap (total_of x.k 8) (sym m);
       some = omega (arith, m, c.self.invariant.some);
       few = omega (arith, m, c.self.invariant.few);
-      sorted = subst (λ (ls : List (List g.row.T.Denot)). UpperSorted g.T.Ord.cmp ls) (sym r.1) (UpperSorted-put g.T.Ord.cmp c.args.item _ c.self.invariant.sorted);
+      sorted = subst (λ (ls : List (List g.row.T.Denot)). UpperSorted g.T.Ord.cmp ls) (sym r.1) (UpperSorted-put g.T.Ord.cmp (c.args.item ∷ []) _ c.self.invariant.sorted);
     }
 
 pub returns-clause-levels : goal.returns-clause-levels
@@ -33,4 +33,4 @@ returns-clause-levels g c =
     let x = c.self.inside in
     let e : c.push.new.self.items ≡ x.items.items ++ c.args.item ∷ [] = search rules in
     let n : c.len.result ≡ length c.push.new.self.items = search rules in
-    rw (← c.self.view_is) (put_flat c.args.item x.items.items c.push.new.self.items x.bounds.items c.len.result c.self.invariant.flat c.self.invariant.some e n).1
+    rw (← c.self.view_is) (put_flat (c.args.item ∷ []) x.items.items c.push.new.self.items x.bounds.items c.len.result c.self.invariant.flat c.self.invariant.some e n).1

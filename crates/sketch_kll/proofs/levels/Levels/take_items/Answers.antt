@@ -1,83 +1,109 @@
-use Rattle.std.proofs.Common.{◌≡◌, ℕ, Bool, ◌+◌, ◌^◌, ◌<◌, List, [], ◌∷◌, ◌++◌, length, sym, ap, subst, cond, ◌∙◌, refl, arith, length-append}
-use Rattle.std.proofs.lemmas.List.{map-id}
-use Rattle.std.proofs.lemmas.Iterator.Adapters.{YieldsList-from_vec}
-use Rattle.std.proofs.lemmas.Iterator.Consumers.{YieldsList-end, YieldsList-turn}
+use Rattle.std.proofs.Common.{◌≡◌, ℕ, ◌+◌, ◌^◌, ◌<◌, List, length, reverse, drop, cond, ap, ◌∙◌, arith, refl, rules, length-append, length-drop, length-take-le}
+use Rattle.std.proofs.lemmas.List.{length-reverse}
+use Rattle.sketch_kll.specs.Capacity.{total_of}
 use Rattle.sketch_kll.specs.Levels.{retained, weight, SameLevels}
 use Rattle.sketch_kll.specs.Steps.{is_full, with_room}
+use Rattle.sketch_kll.specs.Take.{left_over}
 use Rattle.sketch_kll.proofs.PutItems.{retained-put}
-use Rattle.sketch_kll.proofs.Takes.{Taking, taking_none, taking_more}
+use Rattle.sketch_kll.proofs.Takes.{RoomBelow, room_below, taking_from, taking_from_run}
 use Rattle.sketch_kll.proofs.levels.Levels.take_items.Goals as goal
+use Rattle.sketch_kll.proofs.levels.Levels.take_items.Goals.{After-compact_if_full, After-fill}
 
-pub loop-item-init : goal.loop-item-init
-loop-item-init g c = record {
+pub loop-self-init : goal.loop-self-init
+loop-self-init g c = record {
   k = refl;
-  taking = taking_none g.T.Ord.cmp g.met.T.Ord.total g.B.RandomBits.bit g.B.RandomBits.next c.args.coins.now c.args.self.now.k c.args.self.now.is_sorted c.args.self.now.levels c.requires.kept;
-  len = omega arith;
+  taking = taking_from g.T.Ord.cmp g.met.T.Ord.total g.B.RandomBits.bit g.B.RandomBits.next c.args.coins.now c.args.self.now.k c.args.self.now.is_sorted c.args.self.now.levels c.args.items.items _
+      c.requires.kept c.reverse.ensures.items;
+  len = omega (arith, c.reverse.ensures.len, c.args.items.ok, c.reverse.new.self.ok);
   room = omega arith;
   spare = c.requires.spare;
 }
 
-pub compact_if_full-requires-clause-light : goal.compact_if_full-requires-clause-light
-compact_if_full-requires-clause-light g c =
-    let i = c.loop-item.invariant in
-    let gives = c.into_iter-item-iterator.ensures.into_iter_gives in
-    let t = YieldsList-turn (YieldsList-from_vec {s = c.into_iter-item-iterator.result} c.args.low.items gives.0 (gives.1 ∙ c.args.low.ok.0)) c.loop-item.yielded c.loop-item.item-iterator c.loop-item.yielded_by c.next.result c.next.new.self c.in-Some.item c.in-Some.is c.next.ensures.steps in
-    omega (arith, i.taking.taken.weighs, c.requires.light, t.0)
+-- the weight of what was taken and of what is left
+light : (g : _) (c : After-compact_if_full g) → weight c.loop-self.self.levels + length c.loop-self.items.items < 2 ^ 64
+light g c =
+    let t = c.loop-self.invariant.taking in
+    omega (arith, t.taking.taken.weighs, c.requires.light, ap length t.split, length-append t.done (reverse c.loop-self.items.items), length-reverse c.loop-self.items.items)
 
-pub compact_if_full-requires-clause-flag : goal.compact_if_full-requires-clause-flag
-compact_if_full-requires-clause-flag g c = c.loop-item.invariant.taking.taken.kept.flag_holds
+alike : (g : _) (c : After-compact_if_full g) → SameLevels g.T.Ord.cmp (with_room g.T.Ord.cmp c.args.self.now.k c.loop-self.self.is_sorted (g.B.RandomBits.bit c.loop-self.coins) c.loop-self.self.levels) c.compact_if_full.new.self.levels
+alike g c = rw (← c.loop-self.invariant.k) c.compact_if_full.ensures.levels
 
-pub compact_if_full-requires-clause-spare : goal.compact_if_full-requires-clause-spare
-compact_if_full-requires-clause-spare g c =
-    let i = c.loop-item.invariant in
-    omega (arith, i.taking.taken.kept.few, i.spare)
+room : (g : _) (c : After-compact_if_full g) → RoomBelow c.args.self.now.k c.compact_if_full.new.self.levels
+room g c =
+    room_below g.T.Ord.cmp c.args.self.now.k c.loop-self.self.is_sorted (g.B.RandomBits.bit c.loop-self.coins) c.loop-self.self.levels c.compact_if_full.new.self.levels
+    c.loop-self.invariant.taking.taking.taken.kept (omega (arith, light g c)) (alike g c)
 
-pub push-requires : goal.push-requires
-push-requires g c =
-    let i = c.loop-item.invariant in
-    let gives = c.into_iter-item-iterator.ensures.into_iter_gives in
-    let t = YieldsList-turn (YieldsList-from_vec {s = c.into_iter-item-iterator.result} c.args.low.items gives.0 (gives.1 ∙ c.args.low.ok.0)) c.loop-item.yielded c.loop-item.item-iterator c.loop-item.yielded_by c.next.result c.next.new.self c.in-Some.item c.in-Some.is c.next.ensures.steps in
-    record { spare = omega (arith, i.len, i.room, c.compact_if_full.ensures.shorter, c.compact_if_full.ensures.kept.items_room, c.requires.room, t.0, c.args.low.ok) }
+k_is : (g : _) (c : After-compact_if_full g) → c.compact_if_full.new.self.k ≡ c.args.self.now.k
+k_is g c = c.compact_if_full.ensures.kept.k_is ∙ c.loop-self.invariant.k
 
-pub loop-item-preserved : goal.loop-item-preserved
-loop-item-preserved g c =
-    let i = c.loop-item.invariant in
-    let x0 = c.args.self.now in
-    let x = c.loop-item.self in
-    let y = c.compact_if_full.new.self in
-    let z = c.push.new.self in
-    let cmp = g.T.Ord.cmp in
-    let next = g.B.RandomBits.next in
-    let gives = c.into_iter-item-iterator.ensures.into_iter_gives in
-    let t = YieldsList-turn (YieldsList-from_vec {s = c.into_iter-item-iterator.result} c.args.low.items gives.0 (gives.1 ∙ c.args.low.ok.0)) c.loop-item.yielded c.loop-item.item-iterator c.loop-item.yielded_by c.next.result c.next.new.self c.in-Some.item c.in-Some.is c.next.ensures.steps in
-    let l0 : List (List g.row.T.Denot) = x0.levels in
-    let ms : List (List g.row.T.Denot) = x.levels in
-    let ws : List (List g.row.T.Denot) = y.levels in
-    let ns : List (List g.row.T.Denot) = z.levels in
-    let flag : Bool = x.is_sorted in
-    let light : weight l0 + length c.loop-item.yielded < 2 ^ 64 = omega (arith, c.requires.light, t.0) in
-    let levels : SameLevels cmp (with_room cmp x0.k flag (g.B.RandomBits.bit c.loop-item.coins) ms) ws =
-    subst (λ (k : ℕ). SameLevels cmp (with_room cmp k flag (g.B.RandomBits.bit c.loop-item.coins) ms) ws) i.k c.compact_if_full.ensures.levels in
-    let coins : c.compact_if_full.new.coins ≡ cond (is_full x0.k ms) (next c.loop-item.coins) c.loop-item.coins =
-    c.compact_if_full.ensures.coins ∙ ap (λ (k : ℕ). cond (is_full k ms) (next c.loop-item.coins) c.loop-item.coins) i.k in
-    let more = taking_more cmp g.met.T.Ord.total g.B.RandomBits.bit next c.args.coins.now c.loop-item.coins c.compact_if_full.new.coins x0.k x0.is_sorted flag
-    l0 c.loop-item.yielded c.in-Some.item ms ws ns i.taking light levels c.compact_if_full.ensures.sorted c.push.ensures.levels coins in
+pub fill-requires : goal.fill-requires
+fill-requires g c =
+    let i = c.loop-self.invariant in
+    let after = (goal.at.fill-requires g c).After-compact_if_full in
+    let r = room g after in
     record {
-      k = c.push.ensures.k ∙ (c.compact_if_full.ensures.kept.k_is ∙ i.k);
-      taking = subst (λ (f : Bool). Taking cmp g.B.RandomBits.bit next c.args.coins.now c.compact_if_full.new.coins x0.k x0.is_sorted f l0 (c.loop-item.yielded ++ c.in-Some.item ∷ []) ns) (sym c.push.ensures.flag) more;
-      len = omega (arith, i.len, c.compact_if_full.ensures.shorter, ap retained c.push.ensures.levels, retained-put c.in-Some.item ws, length-append c.loop-item.yielded (c.in-Some.item ∷ []));
-      room = omega (arith, i.room, c.compact_if_full.ensures.kept.items_room, c.push.ensures.room);
-      spare = omega (arith, i.spare, c.compact_if_full.ensures.kept.bounds_room, c.push.ensures.bounds_room);
+      room = omega (
+        arith,
+        r.below,
+        r.at_most,
+        ap (λ k. total_of k 8 (length c.compact_if_full.new.self.levels)) (k_is g after),
+        i.len,
+        i.room,
+        c.compact_if_full.ensures.kept.items_room,
+        c.compact_if_full.ensures.shorter,
+        c.requires.room,
+        c.loop-self.items.ok,
+        c.args.items.ok,
+      );
     }
 
-pub returns : goal.returns
-returns g c =
-    let i = c.loop-item.invariant in
-    let gives = c.into_iter-item-iterator.ensures.into_iter_gives in
-    let all = YieldsList-end (YieldsList-from_vec {s = c.into_iter-item-iterator.result} c.args.low.items gives.0 (gives.1 ∙ c.args.low.ok.0)) c.loop-item.yielded c.loop-item.item-iterator c.loop-item.yielded_by c.next.result c.next.new.self c.in-None.is c.next.ensures.steps in
+-- how many are left after a run: fewer
+record Fewer (left some n : ℕ) : Type 0 where
+  is : left ≡ n
+  fewer : n < some
+
+left : (g : _) (c : After-fill g) → Fewer (length c.fill.new.items.items) (length c.loop-self.items.items) (left_over c.compact_if_full.new.self c.loop-self.items.items)
+left g c =
+    let after = (goal.at.loop-self-smaller g c).After-compact_if_full in
+    let r = room g after in
+    let some : 0 < length c.loop-self.items.items = search rules in
+    let k = ap (λ k. total_of k 8 (length c.compact_if_full.new.self.levels)) (k_is g after) in
+    let fewer : left_over c.compact_if_full.new.self c.loop-self.items.items < length c.loop-self.items.items = omega (arith, r.below, k, some) in
+    record { is = ap length c.fill.ensures.items ∙ length-take-le _ _ (omega (arith, fewer)); fewer = fewer }
+
+pub loop-self-smaller : goal.loop-self-smaller
+loop-self-smaller g c = let l = left g c in omega (arith, l.is, l.fewer)
+
+pub loop-self-preserved : goal.loop-self-preserved
+loop-self-preserved g c =
+    let i = c.loop-self.invariant in
+    let after = (goal.at.loop-self-preserved g c).After-compact_if_full in
+    let filled = (goal.at.loop-self-preserved g c).After-fill in
+    let r = room g after in
+    let l = left g filled in
+    let s = c.args.self.now in
+    let n : ℕ = left_over c.compact_if_full.new.self c.loop-self.items.items in
+    let run : List g.row.T.Denot = reverse (drop n c.loop-self.items.items) in
+    let k = ap (λ k. total_of k 8 (length c.compact_if_full.new.self.levels)) (k_is g after) in
+    let coins : c.compact_if_full.new.coins ≡ cond (is_full s.k c.loop-self.self.levels) (g.B.RandomBits.next c.loop-self.coins) c.loop-self.coins =
+    c.compact_if_full.ensures.coins ∙ ap (λ k. cond (is_full k c.loop-self.self.levels) (g.B.RandomBits.next c.loop-self.coins) c.loop-self.coins) i.k in
+    let more = taking_from_run g.T.Ord.cmp g.met.T.Ord.total g.B.RandomBits.bit g.B.RandomBits.next c.args.coins.now c.loop-self.coins c.compact_if_full.new.coins s.k s.is_sorted c.loop-self.self.is_sorted
+    s.levels c.args.items.items c.loop-self.items.items c.loop-self.self.levels c.compact_if_full.new.self.levels c.fill.new.self.levels n i.taking c.requires.light (alike g after)
+    c.compact_if_full.ensures.sorted c.fill.ensures.levels coins l.fewer (omega (arith, r.below, k)) in
     record {
-      k = i.k;
-      taken = rw (sym (map-id c.loop-item.yielded) ∙ all.0) at i.taking.taken;
-      len = omega (arith, i.len, all.1, c.args.low.ok);
-      spare = i.spare;
+      k = c.fill.ensures.k ∙ k_is g after;
+      taking = rw (c.fill.ensures.flag, c.fill.ensures.items) more;
+      len = omega (
+        arith,
+        i.len,
+        l.is,
+        l.fewer,
+        c.compact_if_full.ensures.shorter,
+        ap retained c.fill.ensures.levels,
+        retained-put run c.compact_if_full.new.self.levels,
+        length-reverse (drop n c.loop-self.items.items),
+        length-drop n c.loop-self.items.items,
+      );
+      room = omega (arith, i.room, c.compact_if_full.ensures.kept.items_room, c.fill.ensures.room);
+      spare = omega (arith, i.spare, c.compact_if_full.ensures.kept.bounds_room, c.fill.ensures.bounds_room);
     }

@@ -21,14 +21,14 @@ loop-level-init g c =
       within = omega arith;
       count = omega (arith, ap length e.from, length-take-le b c.args.items.now.items r.within, ap length e.to, length-append c.args.merged.now.items (reverse first), length-reverse first, length-drop b c.args.items.now.items, ap length c.requires.empty, r.within);
       capacity = e.to_capacity;
-      joining = joining_start g.met.T.Ord.total (omega (arith, n, c.requires.fewer, c.requires.some)) (e.from ∙ r.rest) (sym c.requires.runs.items_are)
+      joining = joining_start g.met.T.Ord.total (omega (arith, n, c.requires.fewer, c.requires.some)) (e.from ∙ r.rest) (sym c.requires.upper.items_are)
           (ap reverse e.to ∙ (reverse_back c.args.merged.now.items first ∙ ap₂ (λ (x y : List g.row.T.Denot). x ++ y) r.run (ap reverse c.requires.empty)));
     }
 
 pub pour_greater-requires : goal.pour_greater-requires
 pour_greater-requires g c =
     let i = c.loop-level.invariant in
-    let r = next_runs c.loop-level.level c.args.runs.now c.requires.flat c.requires.runs c.requires.sorted c.requires.runs_sorted i.within i.joining in
+    let r = next_runs c.loop-level.level c.args.other_bounds.now c.requires.flat c.requires.upper c.requires.sorted c.requires.upper_sorted i.within i.joining in
     record {
       left = r.left_at.within;
       right = r.right_at.within;
@@ -41,19 +41,19 @@ pub loop-level-preserved : goal.loop-level-preserved
 loop-level-preserved g c =
     let i = c.loop-level.invariant in
     let ls : List (List g.row.T.Denot) = levels_in c.args.items.now.items c.args.bounds.now in
-    let us : List (List g.row.T.Denot) = levels_in c.args.upper.now.items (drop 1 c.args.runs.now) in
+    let us : List (List g.row.T.Denot) = levels_in c.args.upper.now.items (drop 1 c.args.other_bounds.now) in
     let n = length-bounds c.args.items.now.items c.args.bounds.now c.requires.flat in
-    let m = length-bounds c.args.upper.now.items (drop 1 c.args.runs.now) c.requires.runs in
-    let d = length-drop 1 c.args.runs.now in
+    let m = length-bounds c.args.upper.now.items (drop 1 c.args.other_bounds.now) c.requires.upper in
+    let d = length-drop 1 c.args.other_bounds.now in
     let e = c.pour_greater.ensures in
     let f = c.move_back-in-loop-level.ensures in
     let moved = c.move_back-in-loop-level.new in
     let kl : ℕ = get_or c.args.bounds.now (c.loop-level.level + 1) 0 in
-    let kr : ℕ = get_or c.args.runs.now (c.loop-level.level + 1) 0 in
+    let kr : ℕ = get_or c.args.other_bounds.now (c.loop-level.level + 1) 0 in
     let left : List g.row.T.Denot = c.pour_greater.new.left.items in
     let to : List g.row.T.Denot = c.pour_greater.new.to.items in
     let rest : List g.row.T.Denot = drop kl left in
-    let r = next_runs c.loop-level.level c.args.runs.now c.requires.flat c.requires.runs c.requires.sorted c.requires.runs_sorted i.within i.joining in
+    let r = next_runs c.loop-level.level c.args.other_bounds.now c.requires.flat c.requires.upper c.requires.sorted c.requires.upper_sorted i.within i.joining in
     let one : suc (c.loop-level.level - 1) ≡ c.loop-level.level + 1 - 1 = omega (arith, i.within) in
     record {
       within = omega arith;
@@ -87,9 +87,9 @@ pub returns : goal.returns
 returns g c =
     let i = c.loop-level.invariant in
     let n = length-bounds c.args.items.now.items c.args.bounds.now c.requires.flat in
-    let m = length-bounds c.args.upper.now.items (drop 1 c.args.runs.now) c.requires.runs in
-    let d = length-drop 1 c.args.runs.now in
-    let r = joining_end c.move_back-2.new.to.items c.args.runs.now (omega (arith, m, d, c.requires.some)) (omega (arith, n, c.requires.fewer, c.requires.some))
-    (omega (arith, n, m, d, c.requires.fewer, c.requires.some)) c.requires.sorted c.requires.flat.bounds_are (sym c.requires.runs.bounds_are)
+    let m = length-bounds c.args.upper.now.items (drop 1 c.args.other_bounds.now) c.requires.upper in
+    let d = length-drop 1 c.args.other_bounds.now in
+    let r = joining_end c.move_back-2.new.to.items c.args.other_bounds.now (omega (arith, m, d, c.requires.some)) (omega (arith, n, c.requires.fewer, c.requires.some))
+    (omega (arith, n, m, d, c.requires.fewer, c.requires.some)) c.requires.sorted c.requires.flat.bounds_are (sym c.requires.upper.bounds_are)
     (ap reverse c.move_back-2.ensures.to ∙ reverse_back c.loop-level.merged.items c.loop-level.items.items) i.joining in
     record { flat = r.fits; levels = r.same; sorted = r.sorted }

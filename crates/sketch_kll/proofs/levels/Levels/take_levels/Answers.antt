@@ -6,26 +6,26 @@ use Rattle.sketch_kll.proofs.Alikes.{first-same}
 use Rattle.sketch_kll.proofs.Clones.{ClonedRuns, cloned_runs}
 use Rattle.sketch_kll.proofs.Merged.{merged_by_calls, merged_only, joined_size, joined-first}
 use Rattle.sketch_kll.proofs.MergedSketches.{merged_same}
-use Rattle.sketch_kll.proofs.levels.Levels.merge.Goals as goal
-use Rattle.sketch_kll.proofs.levels.Levels.merge.Goals.{After-as_slice-runs}
+use Rattle.sketch_kll.proofs.levels.Levels.take_levels.Goals as goal
+use Rattle.sketch_kll.proofs.levels.Levels.take_levels.Goals.{After-as_slice-other_bounds}
 
 -- the clones that were made ready
-cloned : (g : _) (c : After-as_slice-runs g) → ClonedRuns g.T.Ord.cmp c.args.others.now.levels c.args.incoming c.as_slice-runs.result.now
+cloned : (g : _) (c : After-as_slice-other_bounds g) → ClonedRuns g.T.Ord.cmp c.args.others.now.levels c.args.incoming c.as_slice-other_bounds.result.now
 cloned g c =
     let own = ap (λ (y : Stored g.row.T.Denot). y.levels) c.others.view_is in
-    cloned_runs g.met.T.Ord.total c.others.invariant own c.as_slice-runs.ensures.value c.requires.clones
+    cloned_runs g.met.T.Ord.total c.others.invariant own c.as_slice-other_bounds.ensures.value c.requires.clones
 
 pub take_items-requires-clause-light : goal.take_items-requires-clause-light
 take_items-requires-clause-light g c =
-    let clones = cloned g (goal.at.take_items-requires-clause-light g c).After-as_slice-runs in
+    let clones = cloned g (goal.at.take_items-requires-clause-light g c).After-as_slice-other_bounds in
     omega (arith, clones.weighs, c.requires.light)
 
 pub merge_higher_levels-requires : goal.merge_higher_levels-requires
 merge_higher_levels-requires g c =
-    let clones = cloned g (goal.at.merge_higher_levels-requires g c).After-as_slice-runs in
+    let clones = cloned g (goal.at.merge_higher_levels-requires g c).After-as_slice-other_bounds in
     record {
-      runs = clones.flat;
-      runs_sorted = clones.sorted;
+      upper = clones.flat;
+      upper_sorted = clones.sorted;
       some = clones.some;
       few = clones.few;
       empty = search rules;
@@ -35,12 +35,12 @@ merge_higher_levels-requires g c =
 
 pub compress-requires : goal.compress-requires
 compress-requires g c =
-    let clones = cloned g (goal.at.compress-requires g c).After-as_slice-runs in
+    let clones = cloned g (goal.at.compress-requires g c).After-as_slice-other_bounds in
     let higher = c.merge_higher_levels.ensures in
     let taken = c.take_items.ensures.taken in
     let levels = c.take_items.new.self.levels in
     let merged = c.merge_higher_levels.new.self.levels in
-    let upper : List (List g.row.T.Denot) = levels_in c.args.incoming.upper.items (drop 1 c.as_slice-runs.result.now) in
+    let upper : List (List g.row.T.Denot) = levels_in c.args.incoming.upper.items (drop 1 c.as_slice-other_bounds.result.now) in
     let sizes = joined_size g.T.Ord.cmp levels upper merged taken.kept.some taken.kept.few (omega (arith, clones.upper_are, clones.few)) higher.levels in
     record {
       light = omega (arith, sizes.weighs, taken.weighs, clones.weighs, c.requires.light);
@@ -49,19 +49,19 @@ compress-requires g c =
       spare = search rules;
     }
 
-pub returns-then-runs-gt2-clause-merged : goal.returns-then-runs-gt2-clause-merged
-returns-then-runs-gt2-clause-merged g c =
-    let clones = cloned g (goal.at.returns-then-runs-gt2-clause-merged g c).After-as_slice-runs in
+pub returns-then-other_bounds-gt2-clause-merged : goal.returns-then-other_bounds-gt2-clause-merged
+returns-then-other_bounds-gt2-clause-merged g c =
+    let clones = cloned g (goal.at.returns-then-other_bounds-gt2-clause-merged g c).After-as_slice-other_bounds in
     let made = c.compress.ensures in
     merged_same g.met.T.Ord.total g.B.RandomBits.bit g.B.RandomBits.next _ _ _ _ _ _ _ _ _ c.requires.kept.some clones.same
     (merged_by_calls g.T.Ord.cmp g.met.T.Ord.total g.B.RandomBits.bit g.B.RandomBits.next _ _ _ _ _ _ _ _ _ _ _ _ _ _ _
     (c.merge_higher_levels.ensures.k ∙ c.take_items.ensures.k) c.merge_higher_levels.ensures.flag made.kept.flag_is
-    c.take_items.ensures.taken c.merge_higher_levels.ensures.levels c.requires.kept.some (omega (arith, clones.upper_are, c.if-runs-gt2.true))
+    c.take_items.ensures.taken c.merge_higher_levels.ensures.levels c.requires.kept.some (omega (arith, clones.upper_are, c.if-other_bounds-gt2.true))
     made.levels made.bag made.coins made.few made.below made.sorted)
 
-pub returns-else-runs-gt2-clause-merged : goal.returns-else-runs-gt2-clause-merged
-returns-else-runs-gt2-clause-merged g c =
-    let clones = cloned g (goal.at.returns-else-runs-gt2-clause-merged g c).After-as_slice-runs in
+pub returns-else-other_bounds-gt2-clause-merged : goal.returns-else-other_bounds-gt2-clause-merged
+returns-else-other_bounds-gt2-clause-merged g c =
+    let clones = cloned g (goal.at.returns-else-other_bounds-gt2-clause-merged g c).After-as_slice-other_bounds in
     merged_same g.met.T.Ord.total g.B.RandomBits.bit g.B.RandomBits.next _ _ _ _ _ _ _ _ _ c.requires.kept.some clones.same
     (merged_only g.T.Ord.cmp g.met.T.Ord.total g.B.RandomBits.bit g.B.RandomBits.next _ _ _ _ _ _ _ _ _
-    c.take_items.ensures.taken (omega (arith, clones.upper_are, clones.some, c.if-runs-gt2.false)))
+    c.take_items.ensures.taken (omega (arith, clones.upper_are, clones.some, c.if-other_bounds-gt2.false)))

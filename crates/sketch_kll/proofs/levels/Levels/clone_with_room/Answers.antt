@@ -1,0 +1,20 @@
+use Rattle.std.proofs.Common.{ap, ap₂, arith}
+use Rattle.std.proofs.lemmas.Result.{IfOk-weaker}
+use Rattle.sketch_base.proofs.Items.{SameItems-clones}
+use Rattle.sketch_kll.specs.Flat.{levels_in}
+use Rattle.sketch_kll.specs.Levels.{retained}
+use Rattle.sketch_kll.proofs.Flats.{length-bounds, length-items}
+use Rattle.sketch_kll.proofs.levels.Levels.clone_with_room.Goals as goal
+
+pub reserve_taken-requires : goal.reserve_taken-requires
+reserve_taken-requires g c =
+    record { few = omega (arith, length-bounds c.self.inside.items.items c.self.inside.bounds.items c.self.invariant.flat, c.self.invariant.few) }
+
+pub returns-clause-clones : goal.returns-clause-clones
+returns-clause-clones g c = IfOk-weaker c.to_vec.result _ _ (λ v same. SameItems-clones g.T.Ord.cmp g.T.Clone.is_clone c.requires.clones _ _ same) c.to_vec.ensures.ok
+
+pub returns-clause-room : goal.returns-clause-room
+returns-clause-room g c =
+    let same = ap retained (ap₂ levels_in c.reserve_taken.ensures.items c.reserve_taken.ensures.bounds) in
+    let n = length-items c.self.inside.items.items c.self.inside.bounds.items c.self.invariant.flat in
+    IfOk-weaker c.to_vec.result _ _ (λ v len. omega (arith, same, n, len, c.in_ok-reserve_taken.ensures.room, c.total_capacity-most.ensures.value)) c.to_vec.ensures.len

@@ -1,0 +1,8 @@
+use Rattle.sketch_kll.proofs.Extremes.{least_with_all, greatest_with_all}
+use Rattle.sketch_kll.proofs.levels.taking.clone_passing_extremes.Goals as goal
+
+pub returns-clause-least : goal.returns-clause-least
+returns-clause-least g c = least_with_all g.met.T.Ord.total _ c.args.least.now _ c.args.items.now c.least_of.ensures c.in_ok-new_least.ensures
+
+pub returns-clause-greatest : goal.returns-clause-greatest
+returns-clause-greatest g c = greatest_with_all g.met.T.Ord.total _ c.args.greatest.now _ c.args.items.now c.greatest_of.ensures c.in_ok-new_greatest.ensures

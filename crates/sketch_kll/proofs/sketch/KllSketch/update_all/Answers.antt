@@ -1,0 +1,35 @@
+-- The goals at the return are what updates by all items make of the fields.
+use Rattle.std.proofs.Common.{◌≡◌, ◌<◌, ◌^◌, ◌+◌, length, ap, arith, rules}
+use Rattle.sketch_kll.specs.Levels.{weight}
+use Rattle.sketch_kll.proofs.CompactedSizes.{length-same}
+use Rattle.sketch_kll.proofs.UpdatesInTurn.{updates_fields, updates_none}
+use Rattle.sketch_kll.proofs.sketch.KllSketch.update_all.Goals as goal
+
+pub returns-then-is_empty-clause-ok : goal.returns-then-is_empty-clause-ok
+returns-then-is_empty-clause-ok g c =
+    let none : length c.args.items.now ≡ 0 = search rules in
+    updates_none g.met.T.Ord.total c.args.self.now c.args.items.now _ none
+
+pub take_all-requires-clause-light : goal.take_all-requires-clause-light
+take_all-requires-clause-light g c =
+    let light : c.self.inside.n + length c.args.items.now < 2 ^ 64 = search rules in
+    omega (arith, light, ap weight c.prepare_items.ensures.kept.levels_are, c.self.invariant.weighs_n, length-same g.T.Ord.cmp _ _ c.in_ok-clones.ensures.clones)
+
+pub returns : goal.returns
+returns g c =
+    let ready = c.prepare_items.ensures.kept in
+    let some : 0 < length c.args.items.now = search rules in
+    let fields = updates_fields g.met.T.Ord.total g.B.RandomBits.bit g.B.RandomBits.next c.self.invariant some c.in_ok-clones.ensures.clones ready.k_is ready.flag_is ready.levels_are
+    c.take_all.ensures.k c.take_all.ensures.taken c.in_ok-clones.ensures.least c.set_if_some.ensures c.in_ok-clones.ensures.greatest c.set_if_some-2.ensures in
+    record {
+      empty = search rules;
+      ok = rw (← c.self.view_is) fields.updated_are;
+      coins = rw (← c.self.view_is) fields.source_is;
+      err = search rules;
+      full = search rules;
+      memory = search rules;
+      sound = fields.sound;
+    }
+
+pub invariant_of-self-2 : goal.invariant_of-self-2
+invariant_of-self-2 g c = (returns g c).sound

@@ -1,0 +1,161 @@
+//! Levels that take items in one after another.
+ghost use Rattle.std.specs.Prelude.{◌≡◌, ◌+◌, ◌<◌, ◌≤◌, ◌++◌, ◌^◌, drop, length, max, min, reverse, take, vec_len, vec_capacity, false, IfOk, OnOk};
+ghost use Rattle.std.specs.declared.cmp.Ordering.TheVariants.{Equal};
+ghost use Rattle.std.specs.Option.{option_to_list};
+ghost use Rattle.sketch_base.specs.Bag.{SameItems};
+ghost use Rattle.sketch_base.specs.Extremes.{IsGreatestOf, IsLeastOf, newer_or};
+ghost use Rattle.sketch_kll.specs.Capacity.{total_of};
+ghost use Rattle.sketch_kll.specs.Levels.{retained, weight};
+ghost use Rattle.sketch_kll.specs.Steps.{put_all};
+ghost use Rattle.sketch_kll.specs.Stored.{KeepsLevels};
+ghost use Rattle.sketch_kll.specs.Take.{AreKept, HaveTaken, left_over};
+
+use super::{Levels, MAX_BOUNDS};
+use crate::capacity::{MINIMUM_CAPACITY, total_capacity};
+use sketch_base::common::extremes::{clone_if_greatest, clone_if_least, greatest_of, least_of};
+use sketch_base::common::merging::move_back;
+use sketch_base::common::random::RandomBits;
+use std::alloc::AllocError;
+
+/// The most levels that a sketch may have.
+const MAX_LEVELS: usize = 61;
+
+impl<T: Ord + Drop> Levels<T> {
+    /// Takes items in one after another, as updates do, and gives back the memory that only this
+    /// needed. It takes none.
+    pub(crate) fn take_all<B: RandomBits>(&mut self, items: Vec<T>, coins: &mut B)
+        requires kept { AreKept T.cmp self.old.k self.old.is_sorted self.old.levels }
+        requires light { weight self.old.levels + length items.items < 2 ^ 64 }
+        requires room { min (retained self.old.levels + vec_len items) (total_of self.old.k 8 61)
+            ≤ self.old.items_room }
+        requires spare { 63 ≤ self.old.bounds_room }
+        ensures k { self.new.k ≡ self.old.k }
+        ensures taken { HaveTaken T.cmp B.bit B.next coins.old coins.new self.old.k
+            self.old.is_sorted self.new.is_sorted self.old.levels items.items self.new.levels }
+    {
+        self.take_items(items, coins);
+        self.give_back();
+    }
+
+    /// Takes items in one after another: a run of them whenever there is room for it.
+    pub(super) fn take_items<B: RandomBits>(&mut self, mut items: Vec<T>, coins: &mut B)
+        requires kept { AreKept T.cmp self.old.k self.old.is_sorted self.old.levels }
+        requires light { weight self.old.levels + length items.items < 2 ^ 64 }
+        requires room { min (retained self.old.levels + vec_len items) (total_of self.old.k 8 61)
+            ≤ self.old.items_room }
+        requires spare { 63 ≤ self.old.bounds_room }
+        ensures k { self.new.k ≡ self.old.k }
+        ensures taken { HaveTaken T.cmp B.bit B.next coins.old coins.new self.old.k
+            self.old.is_sorted self.new.is_sorted self.old.levels items.items self.new.levels }
+        ensures len { retained self.new.levels ≤ retained self.old.levels + vec_len items }
+        ensures spare { 63 ≤ self.new.bounds_room }
+    {
+        items.reverse();
+        while !items.is_empty() {
+            self.compact_if_full(coins);
+            self.fill(&mut items);
+        }
+    }
+
+    /// Puts as many items last into level 0 as the total capacity has room for, the last of them
+    /// first.
+    fn fill(&mut self, items: &mut Vec<T>)
+        requires room { min (retained self.old.levels + vec_len items.old)
+            (max (retained self.old.levels) (total_of self.old.k 8 (length self.old.levels)))
+            ≤ self.old.items_room }
+        ensures k { self.new.k ≡ self.old.k }
+        ensures flag { self.new.is_sorted ≡ false }
+        ensures levels { self.new.levels ≡ put_all
+            (reverse (drop (left_over self.old items.old.items) items.old.items)) self.old.levels }
+        ensures items { items.new.items
+            ≡ take (left_over self.old items.old.items) items.old.items }
+        ensures room { self.new.items_room ≡ self.old.items_room }
+        ensures bounds_room { self.new.bounds_room ≡ self.old.bounds_room }
+    {
+        let free = (self.total_capacity as usize).saturating_sub(self.items.len());
+        let keep = items.len().saturating_sub(free);
+        move_back(items, keep, &mut self.items);
+        self.bounds[0] = self.items.len();
+        self.is_level_zero_sorted = false;
+    }
+}
+
+impl<T: Clone + Ord> Levels<T> {
+    /// All that taking items in needs memory for: clones of them with room for what is kept of them,
+    /// and a clone for each extreme that they pass.
+    pub(crate) fn prepare_items(
+        &mut self,
+        items: &[T],
+        least: &Option<T>,
+        greatest: &Option<T>,
+    ) -> Result<(Vec<T>, Option<T>, Option<T>), AllocError>
+        requires clones { (x y : T) → T.is_clone x y → T.cmp x y ≡ Equal }
+        requires some { 0 < length items.now }
+        ensures kept { KeepsLevels self.old self.new }
+        ensures clones { IfOk result (λ x. SameItems T.cmp items.now x.0.items) }
+        ensures room { IfOk result (λ x.
+            min (retained self.new.levels + vec_len x.0) (total_of self.new.k 8 61)
+            ≤ self.new.items_room) }
+        ensures spare { OnOk result (63 ≤ self.new.bounds_room) }
+        ensures least { IfOk result (λ x. IsLeastOf T.cmp (option_to_list least.now ++ items.now)
+            (newer_or x.1 least.now)) }
+        ensures greatest { IfOk result (λ x. IsGreatestOf T.cmp
+            (option_to_list greatest.now ++ items.now) (newer_or x.2 greatest.now)) }
+    {
+        let (least, greatest) = clone_passing_extremes(items, least, greatest)?;
+        let clones = self.clone_with_room(items)?;
+        Ok((clones, least, greatest))
+    }
+
+    /// Clones of items, and room for what is kept of them.
+    fn clone_with_room(&mut self, items: &[T]) -> Result<Vec<T>, AllocError>
+        requires clones { (x y : T) → T.is_clone x y → T.cmp x y ≡ Equal }
+        ensures kept { KeepsLevels self.old self.new }
+        ensures clones { IfOk result (λ clones. SameItems T.cmp items.now clones.items) }
+        ensures room { IfOk result (λ clones.
+            min (retained self.new.levels + vec_len clones) (total_of self.new.k 8 61)
+            ≤ self.new.items_room) }
+        ensures spare { OnOk result (63 ≤ self.new.bounds_room) }
+    {
+        let most = total_capacity(self.k, MINIMUM_CAPACITY, MAX_LEVELS) as usize;
+        reserve_taken(&mut self.items, &mut self.bounds, items.len(), most)?;
+        items.to_vec(*self.items.allocator())
+    }
+}
+
+/// Makes room for so many items more, or up to `most` items if that is less, and for all bounds that
+/// levels may need.
+fn reserve_taken<T: Drop>(
+    items: &mut Vec<T>,
+    bounds: &mut Vec<usize>,
+    count: usize,
+    most: usize,
+) -> Result<(), AllocError>
+    requires few { length bounds.old.items ≤ 62 }
+    ensures items { items.new.items ≡ items.old.items }
+    ensures bounds { bounds.new.items ≡ bounds.old.items }
+    ensures room { OnOk result
+        (min (length items.old.items + count) most ≤ vec_capacity items.new) }
+    ensures spare { OnOk result (63 ≤ vec_capacity bounds.new) }
+{
+    items.reserve_exact(count.min(most.saturating_sub(items.len())))?;
+    bounds.reserve_exact(MAX_BOUNDS - bounds.len())
+}
+
+/// Clones of the least and the greatest of some items, of each that passes the extreme so far.
+fn clone_passing_extremes<T: Clone + Ord>(
+    items: &[T],
+    least: &Option<T>,
+    greatest: &Option<T>,
+) -> Result<(Option<T>, Option<T>), AllocError>
+    requires clones { (x y : T) → T.is_clone x y → T.cmp x y ≡ Equal }
+    requires some { 0 < length items.now }
+    ensures least { IfOk result (λ new. IsLeastOf T.cmp
+        (option_to_list least.now ++ items.now) (newer_or new.0 least.now)) }
+    ensures greatest { IfOk result (λ new. IsGreatestOf T.cmp
+        (option_to_list greatest.now ++ items.now) (newer_or new.1 greatest.now)) }
+{
+    let new_least = clone_if_least(least_of(items), least)?;
+    let new_greatest = clone_if_greatest(greatest_of(items), greatest)?;
+    Ok((new_least, new_greatest))
+}
