@@ -1,9 +1,8 @@
 -- A line's command is what its verb and its slot ask for.
-use Rattle.std.proofs.Common.{◌≡◌, ℕ, List, [], ◌∷◌, Option, Some, drop, slice_get, ap, sym, ◌∙◌}
+use Rattle.std.proofs.Common.{◌≡◌, ℕ, List, [], ◌∷◌, Some, drop, slice_get}
 use Rattle.std.specs.Option.{option_and_then}
 use Rattle.quantile_sketches.specs.Reader.{Grammar, slot_of}
 use Rattle.quantile_sketches.specs.Command.{asked_of, command_of}
-use Rattle.quantile_sketches.specs.Words.{then_word}
 
 -- where the first word is a verb and the second one a slot
 pub asks_by_its_verb : {C : Type 0} (grammar : Grammar C) (ws : List (List ℕ)) (verb : List ℕ) (slot : ℕ) →

@@ -1,16 +1,12 @@
 -- what is written for a text of commands on KLL or on REQ sketches, from empty slots on
 use Rattle.std.specs.Prelude.{ℕ, ℤ, Bool, true, false, List, [], None, Some, replicate}
-use Rattle.std.specs.Ordering.{int_cmp, int_eq}
+use Rattle.std.specs.Ordering.{int_cmp}
 use Rattle.sketch_base.specs.Spelling.{i64_spelling}
-use Rattle.sketch_kll.specs.Image.{IsImage}
 use Rattle.sketch_kll.specs.Sketch.{Kll}
-use Rattle.sketch_req.specs.Image.{BeginsImage}
-use Rattle.sketch_req.specs.ImageLaws.{without_coins}
 use Rattle.sketch_req.specs.Sketch.{Req}
 use Rattle.sketch_req.specs.declared.RankAccuracy.{RankAccuracy}
 use Rattle.quantile_sketches.specs.Behaviour.{Behaviour}
 use Rattle.quantile_sketches.specs.Behind.{AnswersRun}
-use Rattle.quantile_sketches.specs.Calls.{in_full}
 use Rattle.quantile_sketches.specs.declared.table.TheConstants.{SLOTS}
 use Rattle.quantile_sketches.specs.Kll.{kll}
 use Rattle.quantile_sketches.specs.KllRules.{kll_kind}
@@ -21,10 +17,10 @@ use Rattle.quantile_sketches.specs.ReqKind.{req_kind}
 
 -- sketches of 64-bit integers
 abbrev pub kll_of_i64 : Behaviour (Kll ℤ) ℤ ℕ
-kll_of_i64 = in_full (kll int_cmp int_eq i64_spelling) (kll_kind int_cmp i64_spelling) (IsImage int_cmp i64_spelling)
+kll_of_i64 = kll int_cmp i64_spelling
 
 abbrev pub req_of_i64 : Behaviour (Req ℤ) ℤ (ℕ × RankAccuracy)
-req_of_i64 = in_full (req int_cmp i64_spelling) (req_kind int_cmp i64_spelling) (λ bytes s. BeginsImage int_cmp i64_spelling bytes (without_coins s) [])
+req_of_i64 = req int_cmp i64_spelling
 
 -- the answers to all its lines
 abbrev pub ServesFamily : (is_req : Bool) → ℕ → List ℕ → List ℕ → Type 0

@@ -1,4 +1,4 @@
-use Rattle.std.proofs.Common.{rules, ◌∙◌}
+use Rattle.std.proofs.Common.{rules}
 use Rattle.quantile_sketches.proofs.Verbs.{asks_by_its_verb}
 use Rattle.quantile_sketches.proofs.command.Command.parse.Goals as goal
 
