@@ -4,7 +4,7 @@ use Rattle.std.specs.Prelude.{IsTrue, MatchOption, ◌↔◌, ⊤}
 use Rattle.std.proofs.lemmas.Bool.{eqb-false, false≢true}
 use Rattle.std.proofs.lemmas.Grind.{get_or-set_at}
 use Rattle.std.proofs.lemmas.List.{get_or-set_other}
-use Rattle.std.proofs.lemmas.Option.{get_or_from_slice_get, same_Some, slice_get_within}
+use Rattle.std.proofs.lemmas.Option.{get_or_from_slice_get, slice_get_within}
 use Rattle.std.specs.Cmp.{tied_itself}
 use Rattle.std.specs.Option.{option_map, option_and_then}
 use Rattle.std.specs.declared.cmp.Ordering.TheVariants.{Equal}
@@ -112,27 +112,6 @@ module _ {A C Shape S Source : Type 0} (kind : Kind A C Shape S) (bit : Source �
   executed (Err (Sketch InvalidArgument)) command slots source slots' source' n h = no command slots source slots' source' h.0 h.1 h.2
   executed (Err (Sketch InvalidData)) command slots source slots' source' n h = no command slots source slots' source' h.0 h.1 h.2
   executed (Err (Sketch OutOfMemory)) command slots source slots' source' n h = absurd (n refl)
-
-  -- what every sketch keeps they keep after a command that is carried out
-  pub sound-after : (command : Command A C) (slots : Held S) (source : Source) (slots' : Held S) (source' : Source) → IsExecuted kind bit next command slots source true slots' source' → AreSoundIn kind slots → AreSoundIn kind slots'
-  sound-after command slots source slots' source' h sound = go command (h.done refl)
-    where
-      put : (slot : ℕ) (t : S) → kind.IsSound t → Puts slots slot t slots' → AreSoundIn kind slots'
-      put slot t new puts q s held = there (q == slot) (sym (puts q) ∙ held)
-        where
-          there : (b : Bool) → (if b then Some t else slots q) ≡ Some s → kind.IsSound s
-          there true is = subst kind.IsSound (same_Some t s is) new
-          there false is = sound q s is
-
-      go : (command : Command A C) → IsDone kind bit next command slots source slots' source' → AreSoundIn kind slots'
-      go (New slot config) (d, stays) = put slot d.made d.fresh.sound d.puts
-      go (Update slot x) d = put slot d.made d.after.0.sound d.puts
-      go (UpdateWeighted slot x weight) d = put slot d.made d.after.0.sound d.puts
-      go (Merge into from) d = put into d.made d.sound d.puts
-      go (Reset slot) (d, stays) = put slot d.made.made d.made.fresh.sound d.made.puts
-      go (RoundTrip slot) (d, stays) = put slot d.made d.copied.sound d.puts
-      go (Redraw slot) d = put slot d.made d.after.0.sound d.puts
-      go (MergeRedrawn into from) d = put into d.made d.sound d.puts
 
   -- one that is not carried out leaves all as it was
   pub left : (e : _) (command : Command A C) (slots : Held S) (source : Source) (slots' : Held S) (source' : Source) →
