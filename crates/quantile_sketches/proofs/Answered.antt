@@ -7,19 +7,19 @@ use Rattle.sketch_base.specs.declared.error.ErrorKind.{ErrorKind}
 use Rattle.quantile_sketches.specs.Behaviour.{Behaviour, coin_of}
 use Rattle.quantile_sketches.specs.Behind.{Known, run_after, AreOfRun, EachKeeps, AnswersWhere}
 use Rattle.quantile_sketches.specs.Calls.{ObeysRules}
-use Rattle.quantile_sketches.specs.Command.{command_of}
+use Rattle.quantile_sketches.specs.Command.{request_of}
 use Rattle.quantile_sketches.specs.declared.answer.Refusal.TheVariants.{BadLine, AbsentSlot, Sketch}
-use Rattle.quantile_sketches.specs.declared.audit.commands.Command.{Command as RunCommand}
-use Rattle.quantile_sketches.specs.declared.command.Command.{Command}
-use Rattle.quantile_sketches.specs.declared.command.Command.TheVariants.{Run, Rank, Quantile, Cdf, Pmf, Image, Load}
+use Rattle.quantile_sketches.specs.declared.audit.commands.Command.{Command}
+use Rattle.quantile_sketches.specs.declared.command.Request.{Request}
+use Rattle.quantile_sketches.specs.declared.command.Request.TheVariants.{Run, Rank, Quantile, Cdf, Pmf, Image, Load}
 use Rattle.quantile_sketches.specs.declared.table.TheConstants.{SLOTS}
 use Rattle.quantile_sketches.specs.RuleLaws.{IsLawful}
 use Rattle.quantile_sketches.specs.Lines.{Serves}
 use Rattle.quantile_sketches.specs.Reader.{Grammar}
 use Rattle.quantile_sketches.specs.Refused.{AreExecuted}
 use Rattle.quantile_sketches.specs.Rules.{Kind}
-use Rattle.quantile_sketches.specs.Step.{Slots, in_slot, Verdict, Reply, reply_of, Makes, Loads, Answers, CarriesOutItem}
-use Rattle.quantile_sketches.specs.Steps.{Held}
+use Rattle.quantile_sketches.specs.LineSteps.{Slots, in_slot, Verdict, Reply, reply_of, Makes, Loads, Answers, CarriesOutItem}
+use Rattle.quantile_sketches.specs.RunSteps.{Held}
 use Rattle.quantile_sketches.specs.Words.{words, image_in}
 use Rattle.quantile_sketches.proofs.Carried.{AreSoundIn, Comes, comes-item, left}
 use Rattle.quantile_sketches.proofs.Refusals.{executed-more}
@@ -37,7 +37,7 @@ module _ {C Shape S : Type 0} (grammar : Grammar C) {kind : Kind ℤ C Shape S} 
   stays run slots coins slots' coins' e f h = subst (λ s. OfRun run s coins') (sym e) (subst (λ n. OfRun run slots n) (sym f) h)
 
   -- a command of runs, carried out or not
-  carried : (run : Known C) (command : RunCommand ℤ C) (slots : Slots S) (coins : ℕ) (v : Verdict) (slots' : Slots S) (coins' : ℕ) →
+  carried : (run : Known C) (command : Command ℤ C) (slots : Slots S) (coins : ℕ) (v : Verdict) (slots' : Slots S) (coins' : ℕ) →
       CarriesOutItem behaviour coin_of next_state command slots coins v slots' coins' → OfRun run slots coins → OfRun (run_after run (Some (Run command)) (reply_of v)) slots' coins'
   carried None command slots coins (Ok tt) slots' coins' h of = tt
   carried None command slots coins (Err e) slots' coins' h of = tt
@@ -65,7 +65,7 @@ module _ {C Shape S : Type 0} (grammar : Grammar C) {kind : Kind ℤ C Shape S} 
   loaded run slot made slots coins (Err BadLine) slots' coins' h same of = absurd h
   loaded run slot made slots coins (Err AbsentSlot) slots' coins' h same of = absurd h
 
-  answered : (run : Known C) (command : Option (Command C)) (line : List (List ℕ)) (slots : Slots S) (coins : ℕ) (r : Reply) (slots' : Slots S) (coins' : ℕ) →
+  answered : (run : Known C) (command : Option (Request C)) (line : List (List ℕ)) (slots : Slots S) (coins : ℕ) (r : Reply) (slots' : Slots S) (coins' : ℕ) →
       Answers behaviour command line slots coins r slots' coins' → OfRun run slots coins → OfRun (run_after run command r) slots' coins'
   answered run None line slots coins r slots' coins' h of = stays run slots coins slots' coins' h.1 h.2 of
   answered run (Some (Run command)) line slots coins r slots' coins' (v, is, h) of =
@@ -89,7 +89,7 @@ module _ {C Shape S : Type 0} (grammar : Grammar C) {kind : Kind ℤ C Shape S} 
       coins',
       rest,
       a,
-      answers-where (run_after run (command_of grammar (words l)) r) slots' coins' ls rest (answered run (command_of grammar (words l)) (words l) slots coins r slots' coins' a of) more,
+      answers-where (run_after run (request_of grammar (words l)) r) slots' coins' ls rest (answered run (request_of grammar (words l)) (words l) slots coins r slots' coins' a of) more,
       e,
     )
 
@@ -108,8 +108,8 @@ module _ {C Shape S : Type 0} (grammar : Grammar C) {kind : Kind ℤ C Shape S} 
       of-run (Some commands) slots coins of = of.0
 
   -- and what is promised of sketches that stand is kept by them
-  pub answers-keep : (promise : List (RunCommand ℤ C) → ℕ → S → Type 0) →
-      ((commands : List (RunCommand ℤ C)) (slots : Held S) (coins : ℕ) → Standing kind coin_of next_state seed commands slots coins → (slot : ℕ) (s : S) → slots slot ≡ Some s → promise commands slot s) →
+  pub answers-keep : (promise : List (Command ℤ C) → ℕ → S → Type 0) →
+      ((commands : List (Command ℤ C)) (slots : Held S) (coins : ℕ) → Standing kind coin_of next_state seed commands slots coins → (slot : ℕ) (s : S) → slots slot ≡ Some s → promise commands slot s) →
       (ls : List (List ℕ)) (out : List ℕ) → Serves grammar behaviour (replicate SLOTS None) seed ls out → AnswersWhere grammar behaviour (EachKeeps promise) (Some []) (replicate SLOTS None) seed ls out
   answers-keep promise keeps = answers-hold (EachKeeps promise) each
     where

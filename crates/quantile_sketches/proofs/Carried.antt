@@ -22,8 +22,8 @@ use Rattle.quantile_sketches.specs.Outcome.{shapes_in}
 use Rattle.quantile_sketches.specs.Plan.{shape_merged}
 use Rattle.quantile_sketches.specs.RuleLaws.{IsLawful}
 use Rattle.quantile_sketches.specs.Rules.{Kind}
-use Rattle.quantile_sketches.specs.Step.{Slots, in_slot, Holds, Verdict, Turns, Changes, Cloned, Empties, RoundTrips, JoinsCopy, Merges, CarriesOut, CarriesOutItem, CarriesOutClone}
-use Rattle.quantile_sketches.specs.Steps.{Held, Puts, AreSame, Refuses, IsCopied, IsUpdated, IsWeighted, IsRedrawn, IsMerged, IsMergedIn, IsDecided, IsDone, IsExecuted}
+use Rattle.quantile_sketches.specs.LineSteps.{Slots, in_slot, Holds, Verdict, Turns, Changes, Cloned, Empties, RoundTrips, JoinsCopy, Merges, CarriesOut, CarriesOutItem, CarriesOutClone}
+use Rattle.quantile_sketches.specs.RunSteps.{Held, Puts, AreSame, Refuses, IsCopied, IsUpdated, IsWeighted, IsRedrawn, IsMerged, IsMergedIn, IsDecided, IsDone, IsExecuted}
 use Rattle.quantile_sketches.proofs.SameRuns.{no-err, same-err}
 
 -- ---- slots

@@ -18,7 +18,7 @@ use Rattle.sketch_kll.proofs.ImageTexts.{one_sketch_lem}
 use Rattle.quantile_sketches.specs.Calls.{Obeys, ObeysRules}
 use Rattle.quantile_sketches.specs.Kll.{kll, IsMade, IsCopied, IsEmptied, IsImaged, IsLoaded, IsTooHeavy, TakesIn, TakesWeighted, DrawsNone, MergesIn}
 use Rattle.quantile_sketches.specs.KllRules.{KllShape, unless, empty_shape, updated_shape, weighted_shape, merged_shape, kll_shape, kll_rules, kll_kind}
-use Rattle.quantile_sketches.specs.Steps.{Refuses, IsFresh, IsCopied as IsCopiedBy, IsReadBack, IsUpdated, IsWeighted, IsRedrawn, IsMerged}
+use Rattle.quantile_sketches.specs.RunSteps.{Refuses, IsFresh, IsCopied as IsCopiedBy, IsReadBack, IsUpdated, IsWeighted, IsRedrawn, IsMerged}
 use Rattle.quantile_sketches.proofs.KllKind.{shape-same, not-less, unless-taken, copy_is, updated_by, weighted_by, merged_by}
 use Rattle.quantile_sketches.proofs.Refused.{refuses-by, err-of, unwritten, unread}
 use Rattle.quantile_sketches.proofs.SameRuns.{no-err}

@@ -5,7 +5,7 @@ use Rattle.std.specs.Prelude.{IsErrOf}
 use Rattle.sketch_base.specs.declared.error.ErrorKind.{ErrorKind}
 use Rattle.sketch_base.specs.declared.error.ErrorKind.TheVariants.{InvalidArgument, InvalidData, OutOfMemory}
 use Rattle.quantile_sketches.specs.KllRules.{unless}
-use Rattle.quantile_sketches.specs.Steps.{Refuses}
+use Rattle.quantile_sketches.specs.RunSteps.{Refuses}
 use Rattle.quantile_sketches.proofs.SameRuns.{same-err}
 
 -- where the test holds the call is refused, and where not it wants memory

@@ -23,7 +23,7 @@ use Rattle.sketch_req.proofs.Redraws.{layouts-redrawn, redraws-are, redraws-draw
 use Rattle.quantile_sketches.specs.KllRules.{unless}
 use Rattle.quantile_sketches.specs.ReqKind.{req_kind, req_shape}
 use Rattle.quantile_sketches.specs.ReqRules.{ReqShape, is_same}
-use Rattle.quantile_sketches.specs.Steps.{IsRedrawn, IsMerged}
+use Rattle.quantile_sketches.specs.RunSteps.{IsRedrawn, IsMerged}
 use Rattle.quantile_sketches.proofs.KllKind.{not-less, not-great}
 use Rattle.quantile_sketches.proofs.ReqCopies.{same-shape}
 use Rattle.quantile_sketches.proofs.ReqRuleLaws.{same_accuracy, merged_as, no_merge}

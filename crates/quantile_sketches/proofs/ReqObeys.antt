@@ -26,7 +26,7 @@ use Rattle.quantile_sketches.specs.KllRules.{unless}
 use Rattle.quantile_sketches.specs.Req.{req, IsEmptyOf, IsMade, IsCopied, IsImaged, IsLoaded, IsUnfit, TakesIn, TakesNone, DrawsAnew, JoinsIn}
 use Rattle.quantile_sketches.specs.ReqKind.{HasImage, req_kind, req_shape}
 use Rattle.quantile_sketches.specs.ReqRules.{ReqShape, new_shape, may_be_k, is_same, is_too_much, req_rules}
-use Rattle.quantile_sketches.specs.Steps.{Refuses, IsFresh, IsCopied as IsCopiedBy, IsReadBack, IsUpdated, IsWeighted, IsRedrawn, IsMerged}
+use Rattle.quantile_sketches.specs.RunSteps.{Refuses, IsFresh, IsCopied as IsCopiedBy, IsReadBack, IsUpdated, IsWeighted, IsRedrawn, IsMerged}
 use Rattle.quantile_sketches.proofs.Refused.{refuses-by, err-of, unwritten, unread}
 use Rattle.quantile_sketches.proofs.ReqCalls.{redrawn_by, merged_by}
 use Rattle.quantile_sketches.proofs.ReqCopies.{same-shape, copy_is, read_is}

@@ -18,17 +18,17 @@ use Rattle.sketch_base.proofs.Tied.{same-answers}
 use Rattle.quantile_sketches.specs.Answer.{answer_text, ranks_text}
 use Rattle.sketch_base.specs.Random.{next_state}
 use Rattle.quantile_sketches.specs.Behaviour.{Behaviour, Spread, coin_of}
-use Rattle.quantile_sketches.specs.Command.{command_of}
+use Rattle.quantile_sketches.specs.Command.{request_of}
 use Rattle.quantile_sketches.specs.Queried.{IsQuantile, AreRanks}
 use Rattle.quantile_sketches.specs.Reader.{Grammar}
 use Rattle.quantile_sketches.specs.SameRun.{ServesAmply, LinesAnswerOne}
-use Rattle.quantile_sketches.specs.Step.{Slots, Verdict, Reply, reply_of, Replies, Makes, Asks, Reads, Spreads, Shows, Loads, Executes, Answers}
+use Rattle.quantile_sketches.specs.LineSteps.{Slots, Verdict, Reply, reply_of, Replies, Makes, Asks, Reads, Spreads, Shows, Loads, Executes, Answers}
 use Rattle.quantile_sketches.specs.Words.{words, points_of, image_in}
 use Rattle.quantile_sketches.specs.declared.answer.Answer.{Answer}
 use Rattle.quantile_sketches.specs.declared.answer.Answer.TheVariants.{Rank as RankIs, Item, Ranks}
 use Rattle.quantile_sketches.specs.declared.answer.Refusal.TheVariants.{BadLine, AbsentSlot, Sketch}
-use Rattle.quantile_sketches.specs.declared.command.Command.{Command as LineCommand}
-use Rattle.quantile_sketches.specs.declared.command.Command.TheVariants.{Run, Rank as RankOf, Quantile, Cdf, Pmf, Image as ImageOf, Load}
+use Rattle.quantile_sketches.specs.declared.command.Request.{Request}
+use Rattle.quantile_sketches.specs.declared.command.Request.TheVariants.{Run, Rank as RankOf, Quantile, Cdf, Pmf, Image as ImageOf, Load}
 use Rattle.quantile_sketches.proofs.SameRuns.{MakesOne, no-err, same-err, told, one-command}
 
 -- replies that are given, and want no memory, have one text
@@ -156,7 +156,7 @@ module _ {C S : Type 0} (behaviour : Behaviour S ℤ C) where
     verdict-ample : (r : Reply) (v : Verdict) → r ≢ Err (Sketch OutOfMemory) → r ≡ reply_of v → v ≢ Err (Sketch OutOfMemory)
     verdict-ample r v n is z = n (is ∙ ap reply_of z)
 
-    one-executed : (command : LineCommand C) (line : List (List ℕ)) (slots ts us : Slots S) (coins left left' : ℕ) (r w : Reply) → r ≢ Err (Sketch OutOfMemory) → w ≢ Err (Sketch OutOfMemory) →
+    one-executed : (command : Request C) (line : List (List ℕ)) (slots ts us : Slots S) (coins left left' : ℕ) (r w : Reply) → r ≢ Err (Sketch OutOfMemory) → w ≢ Err (Sketch OutOfMemory) →
         Executes behaviour command line slots coins r ts left → Executes behaviour command line slots coins w us left' → (answer_text r ≡ answer_text w) × (ts ≡ us) × (left ≡ left')
     one-executed (Run command) line slots ts us coins left left' r w n m (v, is, h) (v', is', k) =
         let a = one-command behaviour coin_of next_state one.calls command slots ts us coins left left' v v' (verdict-ample r v n is) (verdict-ample w v' m is') h k in
@@ -175,7 +175,7 @@ module _ {C S : Type 0} (behaviour : Behaviour S ℤ C) where
         let a = one-load (image_in line) slot slots ts us v v' (loaded-so (image_in line) slot slots ts v (verdict-ample r v n is) h) (loaded-so (image_in line) slot slots us v' (verdict-ample w v' m is') k) in
         (ap answer_text (is ∙ (ap reply_of a.0 ∙ sym is')), a.1, stays ∙ sym stays')
 
-    one-answered : (command : Option (LineCommand C)) (line : List (List ℕ)) (slots ts us : Slots S) (coins left left' : ℕ) (r w : Reply) → r ≢ Err (Sketch OutOfMemory) → w ≢ Err (Sketch OutOfMemory) →
+    one-answered : (command : Option (Request C)) (line : List (List ℕ)) (slots ts us : Slots S) (coins left left' : ℕ) (r w : Reply) → r ≢ Err (Sketch OutOfMemory) → w ≢ Err (Sketch OutOfMemory) →
         Answers behaviour command line slots coins r ts left → Answers behaviour command line slots coins w us left' → (answer_text r ≡ answer_text w) × (ts ≡ us) × (left ≡ left')
     one-answered None line slots ts us coins left left' r w n m (is, same, stays) (is', same', stays') = (ap answer_text (is ∙ sym is'), same ∙ sym same', stays ∙ sym stays')
     one-answered (Some command) line slots ts us coins left left' r w n m h k = one-executed command line slots ts us coins left left' r w n m h k
@@ -184,6 +184,6 @@ module _ {C S : Type 0} (behaviour : Behaviour S ℤ C) where
     pub one-text : (grammar : Grammar C) → LinesAnswerOne grammar behaviour
     one-text grammar slots coins [] out out' h k = h ∙ sym k
     one-text grammar slots coins (l ∷ ls) out out' (r, n, ts, left, rest, h, on, is) (w, m, us, left', rest', k, on', is') =
-        let a = one-answered (command_of grammar (words l)) (words l) slots ts us coins left left' r w n m h k in
+        let a = one-answered (request_of grammar (words l)) (words l) slots ts us coins left left' r w n m h k in
         let b = one-text grammar ts left ls rest rest' on (subst (λ (x : ℕ). ServesAmply grammar behaviour ts x ls rest') (sym a.2) (subst (λ (x : Slots S). ServesAmply grammar behaviour x left' ls rest') (sym a.1) on')) in
         is ∙ (ap (λ (text : List ℕ). text ++ (10 ∷ rest)) a.0 ∙ (ap (λ (more : List ℕ). answer_text w ++ (10 ∷ more)) b ∙ sym is'))

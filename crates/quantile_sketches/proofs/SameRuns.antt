@@ -10,7 +10,7 @@ use Rattle.quantile_sketches.specs.declared.answer.Refusal.TheVariants.{BadLine,
 use Rattle.quantile_sketches.specs.declared.audit.commands.Command.{Command}
 use Rattle.quantile_sketches.specs.declared.audit.commands.Command.TheVariants.{New, Update, UpdateWeighted, Merge, Reset, RoundTrip, Redraw, MergeRedrawn}
 use Rattle.quantile_sketches.specs.SameRun.{AreCarriedOut, CommandsMakeOne}
-use Rattle.quantile_sketches.specs.Step.{Slots, Verdict, Turns, Joins, Changes, Makes, Empties, RoundTrips, JoinsCopy, Merges, CarriesOutItem}
+use Rattle.quantile_sketches.specs.LineSteps.{Slots, Verdict, Turns, Joins, Changes, Makes, Empties, RoundTrips, JoinsCopy, Merges, CarriesOutItem}
 
 -- no want of memory
 abbrev Ample : Verdict → Type 0

@@ -13,7 +13,7 @@ use Rattle.quantile_sketches.specs.Plan.{Plan, start_plan, count_of, events_of, 
 use Rattle.quantile_sketches.specs.RuleLaws.{IsLawful}
 use Rattle.quantile_sketches.specs.Rules.{Kind}
 use Rattle.quantile_sketches.specs.Run.{streams_after, stream_of}
-use Rattle.quantile_sketches.specs.Steps.{Held, AreSame, IsExecuted}
+use Rattle.quantile_sketches.specs.RunSteps.{Held, AreSame, IsExecuted}
 use Rattle.quantile_sketches.proofs.Plans.{steady-start, steady-from, plan-append, trace-more, coins-more, not-none}
 use Rattle.quantile_sketches.proofs.SlotSteps.{IsOf, Stand, Steps, stand-same, steps}
 use Rattle.quantile_sketches.proofs.Streams.{stream-append, run-counts}

@@ -6,7 +6,7 @@ use Rattle.sketch_base.specs.declared.error.ErrorKind.{ErrorKind}
 use Rattle.sketch_base.specs.declared.error.ErrorKind.TheVariants.{InvalidArgument, OutOfMemory}
 use Rattle.quantile_sketches.specs.Behaviour.{Behaviour, Change}
 use Rattle.quantile_sketches.specs.Rules.{Kind}
-use Rattle.quantile_sketches.specs.Steps.{Refuses, IsFresh, IsCopied, IsReadBack, IsUpdated, IsWeighted, IsRedrawn, IsMerged}
+use Rattle.quantile_sketches.specs.RunSteps.{Refuses, IsFresh, IsCopied, IsReadBack, IsUpdated, IsWeighted, IsRedrawn, IsMerged}
 
 -- where it is said beforehand that a call is refused it is refused, and where not it may want memory
 abbrev pub Foretells : {S Source : Type 0} → Change Source S → S → Bool → Type 0

@@ -10,7 +10,7 @@ use Rattle.quantile_sketches.specs.Lines.{lines}
 use Rattle.quantile_sketches.specs.Reader.{kll_grammar, req_grammar}
 use Rattle.quantile_sketches.specs.Req.{req}
 use Rattle.quantile_sketches.specs.Served.{ServesFamily, ServesRun, ServesAsPromised, KllPromise, ReqPromise}
-use Rattle.quantile_sketches.specs.Steps.{Held}
+use Rattle.quantile_sketches.specs.RunSteps.{Held}
 use Rattle.quantile_sketches.specs.declared.audit.commands.Command.{Command}
 use Rattle.quantile_sketches.specs.KllRules.{kll_kind}
 use Rattle.quantile_sketches.specs.ReqKind.{req_kind}
