@@ -11,7 +11,7 @@ use Rattle.quantile_sketches.specs.Plan.{count_of, trace_of}
 use Rattle.quantile_sketches.specs.Refused.{accepted_of, LeadTo}
 use Rattle.quantile_sketches.specs.RuleLaws.{IsLawful}
 use Rattle.quantile_sketches.specs.Rules.{Kind}
-use Rattle.quantile_sketches.specs.Steps.{Held}
+use Rattle.quantile_sketches.specs.RunSteps.{Held}
 use Rattle.quantile_sketches.proofs.AfterCommands.{Arrives, arrives}
 use Rattle.quantile_sketches.proofs.Audits.{rank-nothing}
 use Rattle.quantile_sketches.proofs.LeftOut.{IsLeftOut, left-out}

@@ -1,82 +1,118 @@
 -- Lines are answered by the sketches of a run of the commands that were accepted before them.
 use Rattle.std.proofs.Common.{◌≡◌, ℕ, ℤ, List, [], ◌∷◌, length, Option, None, Some, Result, Ok, Err, refl, sym, subst, zero-add, replicate}
+use Rattle.std.specs.Prelude.{⊤}
 use mathlib.Core.Path.{fun_ext}
 use Rattle.sketch_base.specs.Random.{next_state}
 use Rattle.sketch_base.specs.declared.error.ErrorKind.{ErrorKind}
 use Rattle.quantile_sketches.specs.Behaviour.{Behaviour, coin_of}
-use Rattle.quantile_sketches.specs.Behind.{run_after, AreOfRun, AnswersRun}
-use Rattle.quantile_sketches.specs.Calls.{in_full}
-use Rattle.quantile_sketches.specs.Command.{command_of}
+use Rattle.quantile_sketches.specs.Behind.{Known, run_after, AreOfRun, EachKeeps, AnswersWhere}
+use Rattle.quantile_sketches.specs.Calls.{ObeysRules}
+use Rattle.quantile_sketches.specs.Command.{request_of}
 use Rattle.quantile_sketches.specs.declared.answer.Refusal.TheVariants.{BadLine, AbsentSlot, Sketch}
-use Rattle.quantile_sketches.specs.declared.audit.commands.Command.{Command as RunCommand}
-use Rattle.quantile_sketches.specs.declared.command.Command.{Command}
-use Rattle.quantile_sketches.specs.declared.command.Command.TheVariants.{Run, Rank, Quantile, Cdf, Pmf, Image, Load}
+use Rattle.quantile_sketches.specs.declared.audit.commands.Command.{Command}
+use Rattle.quantile_sketches.specs.declared.command.Request.{Request}
+use Rattle.quantile_sketches.specs.declared.command.Request.TheVariants.{Run, Rank, Quantile, Cdf, Pmf, Image, Load}
 use Rattle.quantile_sketches.specs.declared.table.TheConstants.{SLOTS}
 use Rattle.quantile_sketches.specs.RuleLaws.{IsLawful}
 use Rattle.quantile_sketches.specs.Lines.{Serves}
 use Rattle.quantile_sketches.specs.Reader.{Grammar}
 use Rattle.quantile_sketches.specs.Refused.{AreExecuted}
 use Rattle.quantile_sketches.specs.Rules.{Kind}
-use Rattle.quantile_sketches.specs.Step.{Slots, in_slot, Verdict, Reply, reply_of, Makes, Loads, Answers, CarriesOutItem}
-use Rattle.quantile_sketches.specs.Steps.{Held, AreSame}
+use Rattle.quantile_sketches.specs.LineSteps.{Slots, in_slot, Verdict, Reply, reply_of, Makes, Loads, Answers, CarriesOutItem}
+use Rattle.quantile_sketches.specs.RunSteps.{Held}
 use Rattle.quantile_sketches.specs.Words.{words, image_in}
-use Rattle.quantile_sketches.proofs.Carried.{comes-item, left}
+use Rattle.quantile_sketches.proofs.Carried.{AreSoundIn, Comes, comes-item, left}
 use Rattle.quantile_sketches.proofs.Refusals.{executed-more}
 use Rattle.quantile_sketches.proofs.Slots.{in_slot-none}
+use Rattle.quantile_sketches.proofs.Standing.{Standing, standing-none, standing-same, standing-more, standing-is}
 
-module _ {C Shape S : Type 0} (grammar : Grammar C) {kind : Kind ℤ C Shape S} (lawful : IsLawful kind) (behaviour : Behaviour S ℤ C) (IsImage : List ℕ → S → Type 0) (seed : ℕ) where
-  abbrev Full : Behaviour S ℤ C
-  Full = in_full behaviour kind IsImage
-
-  abbrev OfRun : Option (List (RunCommand ℤ C)) → Slots S → ℕ → Type 0
-  OfRun = AreOfRun grammar Full kind seed
+module _ {C Shape S : Type 0} (grammar : Grammar C) {kind : Kind ℤ C Shape S} (lawful : IsLawful kind) (behaviour : Behaviour S ℤ C) (obeys : ObeysRules behaviour kind coin_of next_state) (seed : ℕ) where
+  -- the sketches and the coins are those of a run, and stand where its commands put them
+  abbrev OfRun : Known C → Slots S → ℕ → Type 0
+  OfRun None slots coins = ⊤
+  OfRun (Some commands) slots coins = AreOfRun kind seed (Some commands) slots coins × Standing kind coin_of next_state seed commands (in_slot slots) coins
 
   -- where nothing changes
-  stays : (run : Option (List (RunCommand ℤ C))) (slots : Slots S) (coins : ℕ) (slots' : Slots S) (coins' : ℕ) → slots' ≡ slots → coins' ≡ coins → OfRun run slots coins → OfRun run slots' coins'
+  stays : (run : Known C) (slots : Slots S) (coins : ℕ) (slots' : Slots S) (coins' : ℕ) → slots' ≡ slots → coins' ≡ coins → OfRun run slots coins → OfRun run slots' coins'
   stays run slots coins slots' coins' e f h = subst (λ s. OfRun run s coins') (sym e) (subst (λ n. OfRun run slots n) (sym f) h)
 
-  stays-held : (run : Option (List (RunCommand ℤ C))) (slots : Slots S) (coins : ℕ) (slots' : Slots S) (coins' : ℕ) → AreSame (in_slot slots) (in_slot slots') → coins' ≡ coins → OfRun run slots coins → OfRun run slots' coins'
-  stays-held None slots coins slots' coins' e f h = tt
-  stays-held (Some commands) slots coins slots' coins' e f h =
-      subst (λ (held : Held S). AreExecuted kind coin_of next_state [] 0 commands (λ slot. None) seed held coins') (sym (fun_ext e))
-      (subst (λ (n : ℕ). AreExecuted kind coin_of next_state [] 0 commands (λ slot. None) seed (in_slot slots) n) (sym f) h)
-
   -- a command of runs, carried out or not
-  carried : (run : Option (List (RunCommand ℤ C))) (command : RunCommand ℤ C) (slots : Slots S) (coins : ℕ) (v : Verdict) (slots' : Slots S) (coins' : ℕ) →
-      CarriesOutItem Full coin_of next_state command slots coins v slots' coins' → OfRun run slots coins → OfRun (run_after run (Some (Run command)) (reply_of v)) slots' coins'
+  carried : (run : Known C) (command : Command ℤ C) (slots : Slots S) (coins : ℕ) (v : Verdict) (slots' : Slots S) (coins' : ℕ) →
+      CarriesOutItem behaviour coin_of next_state command slots coins v slots' coins' → OfRun run slots coins → OfRun (run_after run (Some (Run command)) (reply_of v)) slots' coins'
   carried None command slots coins (Ok tt) slots' coins' h of = tt
-  carried (Some commands) command slots coins (Ok tt) slots' coins' h of =
-      executed-more kind coin_of next_state [] 0 (length commands) commands (zero-add (length commands)) (λ slot. None) seed (in_slot slots) coins of command (in_slot slots') coins'
-      (comes-item lawful behaviour IsImage coin_of next_state slots slots' coins coins' command (Ok tt) h)
-  carried run command slots coins (Err e) slots' coins' h of =
-      let same = left kind coin_of next_state e command (in_slot slots) coins (in_slot slots') coins' (comes-item lawful behaviour IsImage coin_of next_state slots slots' coins coins' command (Err e) h) in
-      stays-held run slots coins slots' coins' same.0 same.1 of
+  carried None command slots coins (Err e) slots' coins' h of = tt
+  carried (Some commands) command slots coins v slots' coins' h (of, st) = go v (comes-item lawful behaviour coin_of next_state obeys slots slots' coins coins' sound command v h)
+    where
+      sound : AreSoundIn kind (in_slot slots)
+      sound q s held = (standing-is lawful coin_of next_state seed commands (in_slot slots) coins st q s held).sound
 
-  loaded : (run : Option (List (RunCommand ℤ C))) (slot : ℕ) (made : Result S ErrorKind → Type 0) (slots : Slots S) (coins : ℕ) (v : Verdict) (slots' : Slots S) (coins' : ℕ) →
+      go : (v : Verdict) → Comes kind coin_of next_state v command (in_slot slots) coins (in_slot slots') coins' → OfRun (run_after (Some commands) (Some (Run command)) (reply_of v)) slots' coins'
+      go (Ok tt) done = (
+        executed-more kind coin_of next_state [] 0 (length commands) commands (zero-add (length commands)) (λ slot. None) seed (in_slot slots) coins of command (in_slot slots') coins' done,
+        standing-more lawful coin_of next_state seed commands (in_slot slots) coins st command (in_slot slots') coins' done,
+      )
+      go (Err e) done =
+          let same = left kind coin_of next_state e command (in_slot slots) coins (in_slot slots') coins' done in (
+            subst (λ (held : Held S). AreExecuted kind coin_of next_state [] 0 commands (λ slot. None) seed held coins') (sym (fun_ext same.0))
+                (subst (λ (n : ℕ). AreExecuted kind coin_of next_state [] 0 commands (λ slot. None) seed (in_slot slots) n) (sym same.1) of),
+            standing-same lawful coin_of next_state seed commands (in_slot slots) (in_slot slots') coins coins' st same.0 same.1,
+          )
+
+  loaded : (run : Known C) (slot : ℕ) (made : Result S ErrorKind → Type 0) (slots : Slots S) (coins : ℕ) (v : Verdict) (slots' : Slots S) (coins' : ℕ) →
       Makes made slot slots v slots' → coins' ≡ coins → OfRun run slots coins → OfRun (run_after run (Some (Load slot)) (reply_of v)) slots' coins'
   loaded run slot made slots coins (Ok tt) slots' coins' h same of = tt
   loaded run slot made slots coins (Err (Sketch e)) slots' coins' h same of = stays run slots coins slots' coins' h.1 same of
   loaded run slot made slots coins (Err BadLine) slots' coins' h same of = absurd h
   loaded run slot made slots coins (Err AbsentSlot) slots' coins' h same of = absurd h
 
-  answered : (run : Option (List (RunCommand ℤ C))) (command : Option (Command C)) (line : List (List ℕ)) (slots : Slots S) (coins : ℕ) (r : Reply) (slots' : Slots S) (coins' : ℕ) →
-      Answers Full command line slots coins r slots' coins' → OfRun run slots coins → OfRun (run_after run command r) slots' coins'
+  answered : (run : Known C) (command : Option (Request C)) (line : List (List ℕ)) (slots : Slots S) (coins : ℕ) (r : Reply) (slots' : Slots S) (coins' : ℕ) →
+      Answers behaviour command line slots coins r slots' coins' → OfRun run slots coins → OfRun (run_after run command r) slots' coins'
   answered run None line slots coins r slots' coins' h of = stays run slots coins slots' coins' h.1 h.2 of
   answered run (Some (Run command)) line slots coins r slots' coins' (v, is, h) of =
       subst (λ r. OfRun (run_after run (Some (Run command)) r) slots' coins') (sym is) (carried run command slots coins v slots' coins' h of)
   answered run (Some (Load slot)) line slots coins r slots' coins' (v, is, h, same) of =
-      subst (λ r. OfRun (run_after run (Some (Load slot)) r) slots' coins') (sym is) (loaded run slot (Loads Full (image_in line)) slots coins v slots' coins' h same of)
+      subst (λ r. OfRun (run_after run (Some (Load slot)) r) slots' coins') (sym is) (loaded run slot (Loads behaviour (image_in line)) slots coins v slots' coins' h same of)
   answered run (Some (Rank slot item criteria)) line slots coins r slots' coins' h of = stays run slots coins slots' coins' h.1 h.2 of
   answered run (Some (Quantile slot fraction criteria)) line slots coins r slots' coins' h of = stays run slots coins slots' coins' h.1 h.2 of
   answered run (Some (Cdf slot criteria)) line slots coins r slots' coins' h of = stays run slots coins slots' coins' h.1 h.2 of
   answered run (Some (Pmf slot criteria)) line slots coins r slots' coins' h of = stays run slots coins slots' coins' h.1 h.2 of
   answered run (Some (Image slot)) line slots coins r slots' coins' h of = stays run slots coins slots' coins' h.1 h.2 of
 
-  answers-run : (run : Option (List (RunCommand ℤ C))) (slots : Slots S) (coins : ℕ) (ls : List (List ℕ)) (out : List ℕ) → OfRun run slots coins → Serves grammar Full slots coins ls out → AnswersRun grammar Full kind seed run slots coins ls out
-  answers-run run slots coins [] out of e = (of, e)
-  answers-run run slots coins (l ∷ ls) out of (r, slots', coins', rest, a, more, e) =
-      (of, r, slots', coins', rest, a, answers-run (run_after run (command_of grammar (words l)) r) slots' coins' ls rest (answered run (command_of grammar (words l)) (words l) slots coins r slots' coins' a of) more, e)
+  -- what holds of a run holds behind the answers
+  module _ (Holds : Known C → Slots S → ℕ → Type 0) (by : (run : Known C) (slots : Slots S) (coins : ℕ) → OfRun run slots coins → Holds run slots coins) where
+    answers-where : (run : Known C) (slots : Slots S) (coins : ℕ) (ls : List (List ℕ)) (out : List ℕ) → OfRun run slots coins → Serves grammar behaviour slots coins ls out → AnswersWhere grammar behaviour Holds run slots coins ls out
+    answers-where run slots coins [] out of e = (by run slots coins of, e)
+    answers-where run slots coins (l ∷ ls) out of (r, slots', coins', rest, a, more, e) = (
+      by run slots coins of,
+      r,
+      slots',
+      coins',
+      rest,
+      a,
+      answers-where (run_after run (request_of grammar (words l)) r) slots' coins' ls rest (answered run (request_of grammar (words l)) (words l) slots coins r slots' coins' a of) more,
+      e,
+    )
 
-  -- from empty slots on
-  pub answers-rest : (ls : List (List ℕ)) (out : List ℕ) → Serves grammar Full (replicate SLOTS None) seed ls out → AnswersRun grammar Full kind seed (Some []) (replicate SLOTS None) seed ls out
-  answers-rest ls out = answers-run (Some []) (replicate SLOTS None) seed ls out (fun_ext (λ q. in_slot-none SLOTS q), refl)
+    -- from empty slots on
+    answers-hold : (ls : List (List ℕ)) (out : List ℕ) → Serves grammar behaviour (replicate SLOTS None) seed ls out → AnswersWhere grammar behaviour Holds (Some []) (replicate SLOTS None) seed ls out
+    answers-hold ls out =
+        answers-where (Some []) (replicate SLOTS None) seed ls out
+        ((fun_ext (λ q. in_slot-none SLOTS q), refl), standing-none lawful coin_of next_state seed (in_slot (replicate SLOTS None)) (λ q. in_slot-none SLOTS q))
+
+  -- the sketches behind the answers are those of a run
+  pub answers-rest : (ls : List (List ℕ)) (out : List ℕ) → Serves grammar behaviour (replicate SLOTS None) seed ls out → AnswersWhere grammar behaviour (AreOfRun kind seed) (Some []) (replicate SLOTS None) seed ls out
+  answers-rest = answers-hold (AreOfRun kind seed) of-run
+    where
+      of-run : (run : Known C) (slots : Slots S) (coins : ℕ) → OfRun run slots coins → AreOfRun kind seed run slots coins
+      of-run None slots coins of = tt
+      of-run (Some commands) slots coins of = of.0
+
+  -- and what is promised of sketches that stand is kept by them
+  pub answers-keep : (promise : List (Command ℤ C) → ℕ → S → Type 0) →
+      ((commands : List (Command ℤ C)) (slots : Held S) (coins : ℕ) → Standing kind coin_of next_state seed commands slots coins → (slot : ℕ) (s : S) → slots slot ≡ Some s → promise commands slot s) →
+      (ls : List (List ℕ)) (out : List ℕ) → Serves grammar behaviour (replicate SLOTS None) seed ls out → AnswersWhere grammar behaviour (EachKeeps promise) (Some []) (replicate SLOTS None) seed ls out
+  answers-keep promise keeps = answers-hold (EachKeeps promise) each
+    where
+      each : (run : Known C) (slots : Slots S) (coins : ℕ) → OfRun run slots coins → EachKeeps promise run slots coins
+      each None slots coins of = tt
+      each (Some commands) slots coins of = λ slot s held. keeps commands (in_slot slots) coins of.1 slot s held

@@ -1,5 +1,5 @@
 -- What comes of a command of runs on a table's slots is a step of a run.
-use Rattle.std.proofs.Common.{◌≡◌, ◌≢◌, ◌⊎◌, ℕ, ◌==◌, Bool, true, false, not, if◌then◌else◌, List, Option, None, Some, is_some, is_ok, set, Result, Ok, Err, refl, sym, ap, ap₂, ◌∙◌, subst, inl, inr, eqb-true}
+use Rattle.std.proofs.Common.{◌≡◌, ◌≢◌, ◌⊎◌, ℕ, ◌==◌, Bool, true, false, not, if◌then◌else◌, Option, None, Some, is_some, is_ok, set, Result, Ok, Err, refl, sym, ap, ap₂, ◌∙◌, subst, inl, inr, eqb-true}
 use Rattle.std.specs.Prelude.{IsTrue, MatchOption, ◌↔◌, ⊤}
 use Rattle.std.proofs.lemmas.Bool.{eqb-false, false≢true}
 use Rattle.std.proofs.lemmas.Grind.{get_or-set_at}
@@ -14,7 +14,7 @@ use Rattle.sketch_base.proofs.Changes.{changed-own}
 use Rattle.sketch_base.specs.declared.error.ErrorKind.{ErrorKind}
 use Rattle.sketch_base.specs.declared.error.ErrorKind.TheVariants.{InvalidArgument, InvalidData, OutOfMemory}
 use Rattle.quantile_sketches.specs.Behaviour.{Behaviour, Change}
-use Rattle.quantile_sketches.specs.Calls.{Obeys, in_full}
+use Rattle.quantile_sketches.specs.Calls.{Obeys, ObeysRules}
 use Rattle.quantile_sketches.specs.declared.answer.Refusal.TheVariants.{BadLine, AbsentSlot, Sketch}
 use Rattle.quantile_sketches.specs.declared.audit.commands.Command.{Command}
 use Rattle.quantile_sketches.specs.declared.audit.commands.Command.TheVariants.{New, Update, UpdateWeighted, Merge, Reset, RoundTrip, Redraw, MergeRedrawn}
@@ -22,8 +22,8 @@ use Rattle.quantile_sketches.specs.Outcome.{shapes_in}
 use Rattle.quantile_sketches.specs.Plan.{shape_merged}
 use Rattle.quantile_sketches.specs.RuleLaws.{IsLawful}
 use Rattle.quantile_sketches.specs.Rules.{Kind}
-use Rattle.quantile_sketches.specs.Step.{Slots, in_slot, Holds, Verdict, Turns, Changes, Cloned, Empties, RoundTrips, JoinsCopy, Merges, CarriesOut, CarriesOutItem, CarriesOutClone}
-use Rattle.quantile_sketches.specs.Steps.{Held, Puts, AreSame, Refuses, IsCopied, IsUpdated, IsWeighted, IsRedrawn, IsMerged, IsMergedIn, IsDecided, IsDone, IsExecuted}
+use Rattle.quantile_sketches.specs.LineSteps.{Slots, in_slot, Holds, Verdict, Turns, Changes, Cloned, Empties, RoundTrips, JoinsCopy, Merges, CarriesOut, CarriesOutItem, CarriesOutClone}
+use Rattle.quantile_sketches.specs.RunSteps.{Held, Puts, AreSame, Refuses, IsCopied, IsUpdated, IsWeighted, IsRedrawn, IsMerged, IsMergedIn, IsDecided, IsDone, IsExecuted}
 use Rattle.quantile_sketches.proofs.SameRuns.{no-err, same-err}
 
 -- ---- slots
@@ -79,6 +79,10 @@ unless-memory : (P : Type 0) (e : ErrorKind) → e ≡ OutOfMemory → Unless e 
 unless-memory P InvalidArgument r = absurd (no-memory r)
 unless-memory P InvalidData r = absurd (no-data r)
 unless-memory P OutOfMemory r = tt
+
+-- each sketch in the slots keeps what every sketch keeps
+abbrev pub AreSoundIn : {A C Shape S : Type 0} → Kind A C Shape S → Held S → Type 0
+AreSoundIn {S = S} kind slots = (q : ℕ) (s : S) → slots q ≡ Some s → kind.IsSound s
 
 -- ---- a command
 
@@ -143,16 +147,17 @@ module _ {A C Shape S Source : Type 0} (kind : Kind A C Shape S) (bit : Source �
     -- a command on one slot that the rules decide by its sketch's shape
     ruled : (slot : ℕ) (gives : Shape → Option Shape) →
         ((accepted : Bool) → accepted ≡ not (not (is_some (option_and_then gives (option_map kind.shape (in_slot slots slot))))) → IsDecided kind command (in_slot slots) accepted) →
-        (turn : Change Source S) (does : S → S → Type 0) → ((s t : S) (r : Result Unit ErrorKind) → turn s source r t source' → Obeys (gives (kind.shape s)) (λ t source'. does s t) s source r t source') →
+        (turn : Change Source S) (does : S → S → Type 0) →
+        ((s t : S) (r : Result Unit ErrorKind) → in_slot slots slot ≡ Some s → turn s source r t source' → Obeys (gives (kind.shape s)) (λ t source'. does s t) s source r t source') →
         ((s t : S) → does s t → gives (kind.shape s) ≡ Some (kind.shape t)) →
         ((s t : S) → in_slot slots slot ≡ Some s → does s t → Puts (in_slot slots) slot t (in_slot slots') → IsDone kind bit next command (in_slot slots) source (in_slot slots') source') →
         Turned slot turn
     ruled slot gives decide turn does obeys shape done = record {
       absent = λ h. decide false (not-given _ (by h));
       done = λ s t held h puts.
-          let d = (obeys s t (Ok tt) h).0 in (decide true (given _ (kind.shape t) (by held ∙ shape s t d)), done s t held d puts);
+          let d = (obeys s t (Ok tt) held h).0 in (decide true (given _ (kind.shape t) (by held ∙ shape s t d)), done s t held d puts);
       refused = λ s t e held h.
-          let o = obeys s t (Err e) h in (unless-refused _ e o.1 (λ none. decide false (not-given _ (by held ∙ none))), o.2.0, o.2.1);
+          let o = obeys s t (Err e) held h in (unless-refused _ e o.1 (λ none. decide false (not-given _ (by held ∙ none))), o.2.0, o.2.1);
     }
       where
         by : {o : Option S} → in_slot slots slot ≡ o → option_and_then gives (option_map kind.shape (in_slot slots slot)) ≡ option_and_then gives (option_map kind.shape o)
@@ -160,10 +165,7 @@ module _ {A C Shape S Source : Type 0} (kind : Kind A C Shape S) (bit : Source �
 
 -- ---- each command
 
-module _ {A C Shape S Source : Type 0} {kind : Kind A C Shape S} (lawful : IsLawful kind) (behaviour : Behaviour S A C) (IsImage : List ℕ → S → Type 0) (bit : Source → Bool) (next : Source → Source) where
-  abbrev Full : Behaviour S A C
-  Full = in_full behaviour kind IsImage
-
+module _ {A C Shape S Source : Type 0} {kind : Kind A C Shape S} (lawful : IsLawful kind) (behaviour : Behaviour S A C) (bit : Source → Bool) (next : Source → Source) (obeys : ObeysRules behaviour kind bit next) where
   -- a sketch took an item that compares equal
   abbrev Took : A → S → Source → S → Source → Type 0
   Took x s source t source' = (y : A) × (kind.cmp x y ≡ Equal) × IsUpdated kind bit next s y source t source'
@@ -171,19 +173,18 @@ module _ {A C Shape S Source : Type 0} {kind : Kind A C Shape S} (lawful : IsLaw
   abbrev TookWeighted : A → ℕ → S → Source → S → Source → Type 0
   TookWeighted x weight s source t source' = (y : A) × (kind.cmp x y ≡ Equal) × IsWeighted kind bit next s y weight source t source'
 
-  clone-obeys : (IsClone : A → Type 0) (x : A) → ((y : A) → IsClone y → kind.cmp x y ≡ Equal) → (behave : A → Change Source S) (shape : S → Option Shape) (does : A → S → Source → S → Source → Type 0) →
-      (s : S) (source : Source) (r : Result Unit ErrorKind) (t : S) (source' : Source) → Cloned IsClone (λ y s source r t source'. behave y s source r t source' × Obeys (shape s) (does y s source) s source r t source') s source r t source' →
-      Obeys (shape s) (λ t source'. (y : A) × (kind.cmp x y ≡ Equal) × does y s source t source') s source r t source'
-  clone-obeys IsClone x ties behave shape does s source (Ok tt) t source' (inl (y, is, h)) = ((y, ties y is, h.1.0), tt, tt)
-  clone-obeys IsClone x ties behave shape does s source (Ok tt) t source' (inr all) = ((x, tied_itself lawful.total x, (all x).1.0), tt, tt)
-  clone-obeys IsClone x ties behave shape does s source (Err e) t source' (inl (y, is, h)) = (tt, h.1.1, h.1.2)
-  clone-obeys IsClone x ties behave shape does s source (Err e) t source' (inr all) = (tt, (all x).1.1, (all x).1.2)
-
-  item-obeys : (x : A) (Behaves : Result Unit ErrorKind → S → Source → Type 0) (shape : Option Shape) (does : A → S → Source → Type 0) →
-      (s : S) (source : Source) (r : Result Unit ErrorKind) (t : S) (source' : Source) → Behaves r t source' × Obeys shape (does x) s source r t source' →
+  clone-obeys : (IsClone : A → Type 0) (x : A) → ((y : A) → IsClone y → kind.cmp x y ≡ Equal) → (behave : A → Change Source S) (shape : Option Shape) (does : A → S → Source → Type 0) →
+      (s : S) (source : Source) (r : Result Unit ErrorKind) (t : S) (source' : Source) → ((y : A) → behave y s source r t source' → Obeys shape (does y) s source r t source') → Cloned IsClone behave s source r t source' →
       Obeys shape (λ t source'. (y : A) × (kind.cmp x y ≡ Equal) × does y t source') s source r t source'
-  item-obeys x Behaves shape does s source (Ok tt) t source' h = ((x, tied_itself lawful.total x, h.1.0), tt, tt)
-  item-obeys x Behaves shape does s source (Err e) t source' h = (tt, h.1.1, h.1.2)
+  clone-obeys IsClone x ties behave shape does s source (Ok tt) t source' f (inl (y, is, h)) = ((y, ties y is, (f y h).0), tt, tt)
+  clone-obeys IsClone x ties behave shape does s source (Ok tt) t source' f (inr all) = ((x, tied_itself lawful.total x, (f x (all x)).0), tt, tt)
+  clone-obeys IsClone x ties behave shape does s source (Err e) t source' f (inl (y, is, h)) = let o = f y h in (tt, o.1, o.2)
+  clone-obeys IsClone x ties behave shape does s source (Err e) t source' f (inr all) = let o = f x (all x) in (tt, o.1, o.2)
+
+  item-obeys : (x : A) (shape : Option Shape) (does : A → S → Source → Type 0) → (s : S) (source : Source) (r : Result Unit ErrorKind) (t : S) (source' : Source) → Obeys shape (does x) s source r t source' →
+      Obeys shape (λ t source'. (y : A) × (kind.cmp x y ≡ Equal) × does y t source') s source r t source'
+  item-obeys x shape does s source (Ok tt) t source' h = ((x, tied_itself lawful.total x, h.0), tt, tt)
+  item-obeys x shape does s source (Err e) t source' h = (tt, h.1, h.2)
 
   -- a sketch is a copy of itself
   same-answer : (o : Option A) → SameAnswer kind.cmp o o
@@ -199,16 +200,17 @@ module _ {A C Shape S Source : Type 0} {kind : Kind A C Shape S} (lawful : IsLaw
     sound = sound;
   }
 
-  module _ (slots slots' : Slots S) (source source' : Source) where
+  module _ (slots slots' : Slots S) (source source' : Source) (sound : AreSoundIn kind (in_slot slots)) where
     abbrev Goes : Verdict → Command A C → Type 0
     Goes r command = Comes kind bit next r command (in_slot slots) source (in_slot slots') source'
 
-    comes-new : (slot : ℕ) (config : C) (r : Verdict) → CarriesOut Full bit next (λ x s coins r t coins'. ⊥) (λ x weight s coins r t coins'. ⊥) (New slot config) slots source r slots' source' → Goes r (New slot config)
+    comes-new : (slot : ℕ) (config : C) (r : Verdict) → CarriesOut behaviour bit next (λ x s coins r t coins'. ⊥) (λ x weight s coins r t coins'. ⊥) (New slot config) slots source r slots' source' → Goes r (New slot config)
     comes-new slot config (Ok tt) ((s, o, held, made, is), stays) =
-        yes kind bit next (New slot config) (in_slot slots) source (in_slot slots') source' (given _ (kind.shape s) made.1.shape_is)
-        (record { made = s; fresh = made.1; puts = λ q. ap (λ l. in_slot l q) is ∙ in_slot-set slots slot o (Some s) held q }, stays)
+        let fresh = (obeys.made config (Ok s) made).0 in
+        yes kind bit next (New slot config) (in_slot slots) source (in_slot slots') source' (given _ (kind.shape s) fresh.shape_is)
+        (record { made = s; fresh = fresh; puts = λ q. ap (λ l. in_slot l q) is ∙ in_slot-set slots slot o (Some s) held q }, stays)
     comes-new slot config (Err (Sketch e)) ((made, is), stays) =
-        (unless-refused _ e made.2 (λ none. not-given _ none), (λ q. ap (λ l. in_slot l q) is), stays)
+        (unless-refused _ e (obeys.made config (Err e) made).1 (λ none. not-given _ none), (λ q. ap (λ l. in_slot l q) is), stays)
     comes-new slot config (Err BadLine) h = absurd h.0
     comes-new slot config (Err AbsentSlot) h = absurd h.0
 
@@ -216,27 +218,27 @@ module _ {A C Shape S Source : Type 0} {kind : Kind A C Shape S} (lawful : IsLaw
     changes : (command : Command A C) (slot : ℕ) (turn : Change Source S) → Turned kind bit next command slots slots' source source' slot turn → (r : Verdict) → Changes (Turns turn) slot slots source r slots' source' → Goes r command
     changes command slot turn by r (o, new, held, turns, is) = turned kind bit next command slots slots' source source' slot turn by o new r held turns is
 
-    comes-update : (slot : ℕ) (x : A) (taken : Change Source S) → ((s t : S) (r : Result Unit ErrorKind) → taken s source r t source' → Obeys (kind.rules.updated (kind.shape s)) (Took x s source) s source r t source') →
+    comes-update : (slot : ℕ) (x : A) (taken : Change Source S) → ((s t : S) (r : Result Unit ErrorKind) → kind.IsSound s → taken s source r t source' → Obeys (kind.rules.updated (kind.shape s)) (Took x s source) s source r t source') →
         (r : Verdict) → Changes (Turns taken) slot slots source r slots' source' → Goes r (Update slot x)
-    comes-update slot x taken obeys =
+    comes-update slot x taken follows =
         changes (Update slot x) slot taken
-        (ruled kind bit next (Update slot x) slots slots' source source' slot kind.rules.updated (λ accepted e. e) taken (λ s t. Took x s source t source') obeys
+        (ruled kind bit next (Update slot x) slots slots' source source' slot kind.rules.updated (λ accepted e. e) taken (λ s t. Took x s source t source') (λ s t r held. follows s t r (sound slot s held))
         (λ s t d. d.2.0.shape_is) (λ s t held d puts. record { old = s; taken = d.0; made = t; held = held; ties = d.1; after = d.2; puts = puts }))
 
     comes-weighted : (slot : ℕ) (x : A) (weight : ℕ) (taken : Change Source S) →
-        ((s t : S) (r : Result Unit ErrorKind) → taken s source r t source' → Obeys (kind.rules.updated_weighted (kind.shape s) weight) (TookWeighted x weight s source) s source r t source') →
+        ((s t : S) (r : Result Unit ErrorKind) → kind.IsSound s → taken s source r t source' → Obeys (kind.rules.updated_weighted (kind.shape s) weight) (TookWeighted x weight s source) s source r t source') →
         (r : Verdict) → Changes (Turns taken) slot slots source r slots' source' → Goes r (UpdateWeighted slot x weight)
-    comes-weighted slot x weight taken obeys =
+    comes-weighted slot x weight taken follows =
         changes (UpdateWeighted slot x weight) slot taken
-        (ruled kind bit next (UpdateWeighted slot x weight) slots slots' source source' slot (λ shape. kind.rules.updated_weighted shape weight) (λ accepted e. e) taken (λ s t. TookWeighted x weight s source t source') obeys
+        (ruled kind bit next (UpdateWeighted slot x weight) slots slots' source source' slot (λ shape. kind.rules.updated_weighted shape weight) (λ accepted e. e) taken (λ s t. TookWeighted x weight s source t source') (λ s t r held. follows s t r (sound slot s held))
         (λ s t d. d.2.0.shape_is) (λ s t held d puts. record { old = s; taken = d.0; made = t; held = held; ties = d.1; after = d.2; puts = puts }))
 
-    comes-reset : (slot : ℕ) (r : Verdict) → Changes (Turns (Empties Full)) slot slots source r slots' source' → Goes r (Reset slot)
-    comes-reset slot = changes (Reset slot) slot (Empties Full) (record {
+    comes-reset : (slot : ℕ) (r : Verdict) → Changes (Turns (Empties behaviour)) slot slots source r slots' source' → Goes r (Reset slot)
+    comes-reset slot = changes (Reset slot) slot (Empties behaviour) (record {
       absent = λ h. not-given _ (ap (λ o. option_map kind.rules.emptied (option_map kind.shape o)) h);
       done = λ s t held h puts. (
         given _ (kind.rules.emptied (kind.shape s)) (ap (λ o. option_map kind.rules.emptied (option_map kind.shape o)) held),
-        (record { old = s; held = held; made = record { made = t; fresh = h.1.1; puts = puts } }, h.2),
+        (record { old = s; held = held; made = record { made = t; fresh = obeys.emptied s t h.1; puts = puts } }, h.2),
       );
       refused = λ s t e held h. absurd (no-err tt e (sym h.0));
     })
@@ -245,37 +247,29 @@ module _ {A C Shape S Source : Type 0} {kind : Kind A C Shape S} (lawful : IsLaw
     trip-decided : (slot : ℕ) (accepted : Bool) (s : S) → in_slot slots slot ≡ Some s → IsTrue accepted ↔ kind.HasImage s → IsDecided kind (RoundTrip slot) (in_slot slots) accepted
     trip-decided slot accepted s held h = subst (λ o. MatchOption o (accepted ≡ false) (λ s. IsTrue accepted ↔ kind.HasImage s)) (sym held) h
 
-    comes-trip : (slot : ℕ) (r : Verdict) → Changes (Turns (RoundTrips Full)) slot slots source r slots' source' → Goes r (RoundTrip slot)
-    comes-trip slot = changes (RoundTrip slot) slot (RoundTrips Full) (record {
+    comes-trip : (slot : ℕ) (r : Verdict) → Changes (Turns (RoundTrips behaviour)) slot slots source r slots' source' → Goes r (RoundTrip slot)
+    comes-trip slot = changes (RoundTrip slot) slot (RoundTrips behaviour) (record {
       absent = λ h. subst (λ o. MatchOption o (false ≡ false) (λ s. IsTrue false ↔ kind.HasImage s)) (sym h) refl;
       done = done;
       refused = refused;
     })
       where
-        done : (s t : S) → in_slot slots slot ≡ Some s → RoundTrips Full s source (Ok tt) t source' → Puts (in_slot slots) slot t (in_slot slots') →
+        done : (s t : S) → in_slot slots slot ≡ Some s → RoundTrips behaviour s source (Ok tt) t source' → Puts (in_slot slots) slot t (in_slot slots') →
             IsDecided kind (RoundTrip slot) (in_slot slots) true × IsDone kind bit next (RoundTrip slot) (in_slot slots) source (in_slot slots') source'
         done s t held (inl (bytes, written, read), stays) puts = (
-          trip-decided slot true s held (λ y. written.2, λ has. refl),
-          (record { old = s; made = t; held = held; copied = read.1 s written.1; puts = puts }, stays),
+          trip-decided slot true s held (λ y. (obeys.imaged s (Ok bytes) (sound slot s held) written).0, λ has. refl),
+          (record { old = s; made = t; held = held; copied = (obeys.read_back s bytes (Ok t) written read).0; puts = puts }, stays),
         )
         done s t held (inr (e, written, is, same), stays) puts = absurd (no-err tt e is)
-
-        unread : (s : S) (e : ErrorKind) → kind.HasImage s → (e ≡ OutOfMemory) ⊎ ((e ≡ InvalidData) × ⊥) → Unless e (IsDecided kind (RoundTrip slot) (in_slot slots) false)
-        unread s e has (inl m) = unless-memory _ e m
-        unread s e has (inr b) = absurd b.1
 
         unwritten : (s : S) (e : ErrorKind) → in_slot slots slot ≡ Some s → ((e ≡ InvalidArgument) × (¬ kind.HasImage s)) ⊎ (e ≡ OutOfMemory) → Unless e (IsDecided kind (RoundTrip slot) (in_slot slots) false)
         unwritten s e held (inr m) = unless-memory _ e m
         unwritten s e held (inl n) = subst (λ e. Unless e (IsDecided kind (RoundTrip slot) (in_slot slots) false)) (sym n.0) (trip-decided slot false s held (λ f. absurd (false≢true f), λ has. absurd (n.1 has)))
 
-        refused : (s t : S) (e : ErrorKind) → in_slot slots slot ≡ Some s → RoundTrips Full s source (Err e) t source' → Unless e (IsDecided kind (RoundTrip slot) (in_slot slots) false) × (t ≡ s) × (source' ≡ source)
-        refused s t e held (inl (bytes, written, (read, same)), stays) = (unread s e written.2 (go read.2), same, stays)
-          where
-            go : (e ≡ OutOfMemory) ⊎ ((e ≡ InvalidData) × ((p : S) → ¬ IsImage bytes.items p)) → (e ≡ OutOfMemory) ⊎ ((e ≡ InvalidData) × ⊥)
-            go (inl m) = inl m
-            go (inr b) = inr (b.0, b.1 s written.1)
+        refused : (s t : S) (e : ErrorKind) → in_slot slots slot ≡ Some s → RoundTrips behaviour s source (Err e) t source' → Unless e (IsDecided kind (RoundTrip slot) (in_slot slots) false) × (t ≡ s) × (source' ≡ source)
+        refused s t e held (inl (bytes, written, (read, same)), stays) = (unless-memory _ e (obeys.read_back s bytes (Err e) written read).1, same, stays)
         refused s t e held (inr (f, written, is, same), stays) =
-            (unwritten s e held (subst (λ e. ((e ≡ InvalidArgument) × (¬ kind.HasImage s)) ⊎ (e ≡ OutOfMemory)) (sym (same-err e f _ refl is)) written.3), same, stays)
+            (unwritten s e held (subst (λ e. ((e ≡ InvalidArgument) × (¬ kind.HasImage s)) ⊎ (e ≡ OutOfMemory)) (sym (same-err e f _ refl is)) (obeys.imaged s (Err f) (sound slot s held) written).1), same, stays)
 
     -- a merge with coins drawn anew or not, by the command that asks for it
     module _ (redraws : Bool) (into from : ℕ) (command : Command A C)
@@ -305,54 +299,63 @@ module _ {A C Shape S Source : Type 0} {kind : Kind A C Shape S} (lawful : IsLaw
       refuses-it : (s p : S) → in_slot slots into ≡ Some s → in_slot slots from ≡ Some p → kind.rules.merged redraws (kind.shape s) (kind.shape p) ≡ None → IsDecided kind command (in_slot slots) false
       refuses-it s p held its none = decide false (not-given _ (merged-at s p held its ∙ none))
 
-      merge-copy : into ≡ from → Turned kind bit next command slots slots' source source' into (JoinsCopy Full bit next redraws)
+      merge-copy : into ≡ from → Turned kind bit next command slots slots' source source' into (JoinsCopy behaviour bit next redraws)
       merge-copy same = record { absent = merge-absent; done = done; refused = refused }
         where
           also : {s : S} → in_slot slots into ≡ Some s → in_slot slots from ≡ Some s
           also held = ap (in_slot slots) (sym same) ∙ held
 
-          done : (s t : S) → in_slot slots into ≡ Some s → JoinsCopy Full bit next redraws s source (Ok tt) t source' → Puts (in_slot slots) into t (in_slot slots') →
+          done : (s t : S) → in_slot slots into ≡ Some s → JoinsCopy behaviour bit next redraws s source (Ok tt) t source' → Puts (in_slot slots) into t (in_slot slots') →
               IsDecided kind command (in_slot slots) true × IsDone kind bit next command (in_slot slots) source (in_slot slots') source'
           done s t held (inl (refuses, is, kept, stays)) puts = absurd (no-err tt InvalidArgument is)
-          done s t held (inr (fits, inl (p, copied, joined))) puts = takes-in s s p t held (also held) copied.1 joined.1.0 joined.3 puts
+          done s t held (inr (fits, inl (p, copied, joined))) puts =
+              let copy = (obeys.copied s (Ok p) copied).0 in
+              let merged = (obeys.joined redraws p copy.sound s source (Ok tt) t source' (sound into s held) joined).0 in
+              takes-in s s p t held (also held) copy merged.0 merged.1 puts
           done s t held (inr (fits, inr (e, copied, is, kept, stays))) puts = absurd (no-err tt e is)
 
-          refused : (s t : S) (e : ErrorKind) → in_slot slots into ≡ Some s → JoinsCopy Full bit next redraws s source (Err e) t source' → Unless e (IsDecided kind command (in_slot slots) false) × (t ≡ s) × (source' ≡ source)
+          refused : (s t : S) (e : ErrorKind) → in_slot slots into ≡ Some s → JoinsCopy behaviour bit next redraws s source (Err e) t source' → Unless e (IsDecided kind command (in_slot slots) false) × (t ≡ s) × (source' ≡ source)
           refused s t e held (inl (refuses, is, kept, stays)) =
-              (subst (λ e. Unless e (IsDecided kind command (in_slot slots) false)) (sym (same-err e InvalidArgument _ refl is)) (refuses-it s s held (also held) (refuses.1.0 refl)), kept, stays)
+              (subst (λ e. Unless e (IsDecided kind command (in_slot slots) false)) (sym (same-err e InvalidArgument _ refl is)) (refuses-it s s held (also held) ((obeys.refuses redraws s s true (sound into s held) (sound into s held) refuses).0 refl)), kept, stays)
           refused s t e held (inr (fits, inl (p, copied, joined))) =
-              (unless-refused _ e joined.1.1 (λ none. refuses-it s s held (also held) (ap (kind.rules.merged redraws (kind.shape s)) (sym copied.1.shape_is) ∙ none)), joined.1.2.0, joined.1.2.1)
-          refused s t e held (inr (fits, inr (f, copied, is, kept, stays))) = (unless-memory _ e (same-err e f _ refl is ∙ copied.2), kept, stays)
+              let copy = (obeys.copied s (Ok p) copied).0 in
+              let r = obeys.joined redraws p copy.sound s source (Err e) t source' (sound into s held) joined in
+              (unless-refused _ e r.1 (λ none. refuses-it s s held (also held) (ap (kind.rules.merged redraws (kind.shape s)) (sym copy.shape_is) ∙ none)), r.2.0, r.2.1)
+          refused s t e held (inr (fits, inr (f, copied, is, kept, stays))) = (unless-memory _ e (same-err e f _ refl is ∙ (obeys.copied s (Err f) copied).1), kept, stays)
 
-      merge-other : (p : S) → in_slot slots from ≡ Some p → Turned kind bit next command slots slots' source source' into (Full.joined redraws p Source bit next)
+      merge-other : (p : S) → in_slot slots from ≡ Some p → Turned kind bit next command slots slots' source source' into (behaviour.joined redraws p Source bit next)
       merge-other p its = record {
         absent = merge-absent;
-        done = λ s t held h puts. takes-in s p p t held its (copied-itself p h.2) h.1.0 h.3 puts;
-        refused = λ s t e held h. (unless-refused _ e h.1.1 (refuses-it s p held its), h.1.2.0, h.1.2.1);
+        done = λ s t held h puts.
+            let merged = (obeys.joined redraws p (sound from p its) s source (Ok tt) t source' (sound into s held) h).0 in
+            takes-in s p p t held its (copied-itself p (sound from p its)) merged.0 merged.1 puts;
+        refused = λ s t e held h.
+            let r = obeys.joined redraws p (sound from p its) s source (Err e) t source' (sound into s held) h in
+            (unless-refused _ e r.1 (refuses-it s p held its), r.2.0, r.2.1);
       }
 
-      comes-merge : (b : Bool) → (into == from) ≡ b → (r : Verdict) → Merges Full bit next redraws b into from slots source r slots' source' → Goes r command
-      comes-merge true e r h = changes command into (JoinsCopy Full bit next redraws) (merge-copy (eqb-true into from e)) r h
+      comes-merge : (b : Bool) → (into == from) ≡ b → (r : Verdict) → Merges behaviour bit next redraws b into from slots source r slots' source' → Goes r command
+      comes-merge true e r h = changes command into (JoinsCopy behaviour bit next redraws) (merge-copy (eqb-true into from e)) r h
       comes-merge false e r (None, its, (o, new, held, (is, same, stays), set_is)) =
           subst (λ r. Goes r command) (sym is)
           (no kind bit next command (in_slot slots) source (in_slot slots') source'
           (decide false (not-given _ (ap (λ y. merged-by (in_slot slots into) y) (in_slot-held slots from None its) ∙ merged-none _)))
           (in_slot-same slots slots' into o new held same set_is) stays)
       comes-merge false e r (Some p, its, (o, new, held, turns, set_is)) =
-          turned kind bit next command slots slots' source source' into (Full.joined redraws p Source bit next) (merge-other p (in_slot-held slots from (Some p) its)) o new r held turns set_is
+          turned kind bit next command slots slots' source source' into (behaviour.joined redraws p Source bit next) (merge-other p (in_slot-held slots from (Some p) its)) o new r held turns set_is
 
     -- coins that are drawn anew
-    comes-redraw : (slot : ℕ) (r : Verdict) → Changes (Turns (Full.redrawn Source bit next)) slot slots source r slots' source' → Goes r (Redraw slot)
+    comes-redraw : (slot : ℕ) (r : Verdict) → Changes (Turns (behaviour.redrawn Source bit next)) slot slots source r slots' source' → Goes r (Redraw slot)
     comes-redraw slot =
-        changes (Redraw slot) slot (Full.redrawn Source bit next)
-        (ruled kind bit next (Redraw slot) slots slots' source source' slot kind.rules.redrawn (λ accepted e. e) (Full.redrawn Source bit next) (λ s t. IsRedrawn kind bit next s source t source') (λ s t r h. h.1)
+        changes (Redraw slot) slot (behaviour.redrawn Source bit next)
+        (ruled kind bit next (Redraw slot) slots slots' source source' slot kind.rules.redrawn (λ accepted e. e) (behaviour.redrawn Source bit next) (λ s t. IsRedrawn kind bit next s source t source') (λ s t r held h. obeys.redrawn s source r t source' (sound slot s held) h)
         (λ s t d. d.0.shape_is) (λ s t held d puts. record { old = s; made = t; held = held; after = d; puts = puts }))
 
     -- any command, by how its item is taken
     comes : (taken : A → Change Source S) (weighted : A → ℕ → Change Source S) →
-        ((x : A) (s t : S) (r : Result Unit ErrorKind) → taken x s source r t source' → Obeys (kind.rules.updated (kind.shape s)) (Took x s source) s source r t source') →
-        ((x : A) (weight : ℕ) (s t : S) (r : Result Unit ErrorKind) → weighted x weight s source r t source' → Obeys (kind.rules.updated_weighted (kind.shape s) weight) (TookWeighted x weight s source) s source r t source') →
-        (command : Command A C) (r : Verdict) → CarriesOut Full bit next taken weighted command slots source r slots' source' → Goes r command
+        ((x : A) (s t : S) (r : Result Unit ErrorKind) → kind.IsSound s → taken x s source r t source' → Obeys (kind.rules.updated (kind.shape s)) (Took x s source) s source r t source') →
+        ((x : A) (weight : ℕ) (s t : S) (r : Result Unit ErrorKind) → kind.IsSound s → weighted x weight s source r t source' → Obeys (kind.rules.updated_weighted (kind.shape s) weight) (TookWeighted x weight s source) s source r t source') →
+        (command : Command A C) (r : Verdict) → CarriesOut behaviour bit next taken weighted command slots source r slots' source' → Goes r command
     comes taken weighted f g (New slot config) r h = comes-new slot config r h
     comes taken weighted f g (Update slot x) r h = comes-update slot x (taken x) (f x) r h
     comes taken weighted f g (UpdateWeighted slot x weight) r h = comes-weighted slot x weight (weighted x weight) (g x weight) r h
@@ -363,22 +366,22 @@ module _ {A C Shape S Source : Type 0} {kind : Kind A C Shape S} (lawful : IsLaw
     comes taken weighted f g (MergeRedrawn into from) r h = comes-merge true into from (MergeRedrawn into from) (λ accepted e. e) (λ m. m) (into == from) refl r h
 
     comes-clone : (IsClone : A → A → Type 0) → ((x y : A) → IsClone x y → kind.cmp x y ≡ Equal) → (command : Command A C) (r : Verdict) →
-        CarriesOutClone Full bit next IsClone command slots source r slots' source' → Goes r command
+        CarriesOutClone behaviour bit next IsClone command slots source r slots' source' → Goes r command
     comes-clone IsClone ties =
-        comes (λ x. Cloned (IsClone x) (λ y. Full.taken y Source bit next)) (λ x weight. Cloned (IsClone x) (λ y. Full.taken_weighted y weight Source bit next))
-        (λ x s t r. clone-obeys (IsClone x) x (ties x) (λ y. behaviour.taken y Source bit next) (λ s. kind.rules.updated (kind.shape s)) (λ y s. IsUpdated kind bit next s y) s source r t source')
-        (λ x weight s t r. clone-obeys (IsClone x) x (ties x) (λ y. behaviour.taken_weighted y weight Source bit next) (λ s. kind.rules.updated_weighted (kind.shape s) weight) (λ y s. IsWeighted kind bit next s y weight) s source r t source')
+        comes (λ x. Cloned (IsClone x) (λ y. behaviour.taken y Source bit next)) (λ x weight. Cloned (IsClone x) (λ y. behaviour.taken_weighted y weight Source bit next))
+        (λ x s t r was. clone-obeys (IsClone x) x (ties x) (λ y. behaviour.taken y Source bit next) (kind.rules.updated (kind.shape s)) (λ y. IsUpdated kind bit next s y source) s source r t source' (λ y. obeys.taken y s source r t source' was))
+        (λ x weight s t r was. clone-obeys (IsClone x) x (ties x) (λ y. behaviour.taken_weighted y weight Source bit next) (kind.rules.updated_weighted (kind.shape s) weight) (λ y. IsWeighted kind bit next s y weight source) s source r t source' (λ y. obeys.taken_weighted y weight s source r t source' was))
 
     -- a command whose items are cloned is a step
     pub clone-executed : (IsClone : A → A → Type 0) → ((x y : A) → IsClone x y → kind.cmp x y ≡ Equal) → (command : Command A C) (r : Verdict) →
-        CarriesOutClone Full bit next IsClone command slots source r slots' source' → r ≢ Err (Sketch OutOfMemory) →
+        CarriesOutClone behaviour bit next IsClone command slots source r slots' source' → r ≢ Err (Sketch OutOfMemory) →
         IsExecuted kind bit next command (in_slot slots) source (is_ok r) (in_slot slots') source'
     clone-executed IsClone ties command r h n =
         executed kind bit next r command (in_slot slots) source (in_slot slots') source' n (comes-clone IsClone ties command r h)
 
     -- a command whose items compare equal to the given ones
-    pub comes-item : (command : Command A C) (r : Verdict) → CarriesOutItem Full bit next command slots source r slots' source' → Goes r command
+    pub comes-item : (command : Command A C) (r : Verdict) → CarriesOutItem behaviour bit next command slots source r slots' source' → Goes r command
     comes-item =
-        comes (λ x. Full.taken x Source bit next) (λ x weight. Full.taken_weighted x weight Source bit next)
-        (λ x s t r. item-obeys x (λ r t source'. behaviour.taken x Source bit next s source r t source') (kind.rules.updated (kind.shape s)) (λ y. IsUpdated kind bit next s y source) s source r t source')
-        (λ x weight s t r. item-obeys x (λ r t source'. behaviour.taken_weighted x weight Source bit next s source r t source') (kind.rules.updated_weighted (kind.shape s) weight) (λ y. IsWeighted kind bit next s y weight source) s source r t source')
+        comes (λ x. behaviour.taken x Source bit next) (λ x weight. behaviour.taken_weighted x weight Source bit next)
+        (λ x s t r was h. item-obeys x (kind.rules.updated (kind.shape s)) (λ y. IsUpdated kind bit next s y source) s source r t source' (obeys.taken x s source r t source' was h))
+        (λ x weight s t r was h. item-obeys x (kind.rules.updated_weighted (kind.shape s) weight) (λ y. IsWeighted kind bit next s y weight source) s source r t source' (obeys.taken_weighted x weight s source r t source' was h))

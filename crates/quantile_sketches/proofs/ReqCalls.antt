@@ -1,5 +1,5 @@
 -- A REQ sketch that took another one in, or whose kept coins were drawn anew, as a run asks of it.
-use Rattle.std.proofs.Common.{◌≡◌, ◌≢◌, ◌⊎◌, ℕ, ◌+◌, ◌-◌, ◌^◌, ◌<◌, ◌≤◌, ◌==◌, nat_lt, Bool, true, false, ◌&&◌, ◌||◌, not, if◌then◌else◌, List, [], ◌++◌, Option, None, Some, Result, Ok, Err, refl, sym, ap, ap₂, ◌∙◌, subst, inl, inr, arith, eqb-true, Ordering}
+use Rattle.std.proofs.Common.{◌≡◌, ◌≢◌, ◌⊎◌, ℕ, ◌+◌, ◌^◌, ◌<◌, ◌≤◌, ◌==◌, nat_lt, Bool, true, false, ◌&&◌, ◌||◌, not, if◌then◌else◌, List, [], ◌++◌, Option, None, Some, Result, Ok, Err, refl, sym, ap, ap₂, ◌∙◌, subst, inl, inr, arith, eqb-true, Ordering}
 use Rattle.std.specs.Prelude.{◌↔◌, IsErrOf, IsOk, OnOk}
 use Rattle.std.proofs.lemmas.Bool.{cases_Bool, eqb-false, false≢true}
 use Rattle.std.specs.Cmp.{IsTotalOrder, tied_itself}
@@ -23,7 +23,7 @@ use Rattle.sketch_req.proofs.Redraws.{layouts-redrawn, redraws-are, redraws-draw
 use Rattle.quantile_sketches.specs.KllRules.{unless}
 use Rattle.quantile_sketches.specs.ReqKind.{req_kind, req_shape}
 use Rattle.quantile_sketches.specs.ReqRules.{ReqShape, is_same}
-use Rattle.quantile_sketches.specs.Steps.{IsRedrawn, IsMerged}
+use Rattle.quantile_sketches.specs.RunSteps.{IsRedrawn, IsMerged}
 use Rattle.quantile_sketches.proofs.KllKind.{not-less, not-great}
 use Rattle.quantile_sketches.proofs.ReqCopies.{same-shape}
 use Rattle.quantile_sketches.proofs.ReqRuleLaws.{same_accuracy, merged_as, no_merge}

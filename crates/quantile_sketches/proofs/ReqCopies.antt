@@ -18,7 +18,7 @@ use Rattle.sketch_req.specs.Sketch.{Req, IsSound}
 use Rattle.sketch_req.specs.declared.RankAccuracy.{RankAccuracy}
 use Rattle.quantile_sketches.specs.ReqKind.{req_kind}
 use Rattle.quantile_sketches.specs.ReqRules.{ReqShape}
-use Rattle.quantile_sketches.specs.Steps.{IsCopied, IsReadBack}
+use Rattle.quantile_sketches.specs.RunSteps.{IsCopied, IsReadBack}
 
 -- shapes by their parts
 abbrev pub shape : ℕ → RankAccuracy → ℕ → List Layout → ReqShape

@@ -13,7 +13,7 @@ use Rattle.quantile_sketches.specs.Refused.{is_among, accepted_of, LeadTo, IsRef
 use Rattle.quantile_sketches.specs.ReqKind.{req_kind}
 use Rattle.quantile_sketches.specs.ReqPlan.{ReqCommand, accepted_tails, tails_after, tails_from, tails_of, no_tails}
 use Rattle.quantile_sketches.specs.ReqRules.{ReqShape, req_rules}
-use Rattle.quantile_sketches.specs.Steps.{Held}
+use Rattle.quantile_sketches.specs.RunSteps.{Held}
 use Rattle.quantile_sketches.proofs.AfterCommands.{arrives}
 use Rattle.quantile_sketches.proofs.LeftOut.{left-front}
 use Rattle.quantile_sketches.proofs.Plans.{trace-more}

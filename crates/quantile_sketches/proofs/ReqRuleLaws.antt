@@ -44,7 +44,8 @@ legal_k k e =
     let q = and_parts (nat_le 4 k) (nat_le k 1024) p.0 in
     record { at_least = leb-true 4 k q.0; at_most = leb-true k 1024 q.1; even = eqb-true (k % 2) 0 p.1 }
 
-enough_room : (n retained : ℕ) → is_too_much n retained ≡ false → (n < 2 ^ 64) × (retained ≤ 4294967295)
+-- nothing is too much
+pub enough_room : (n retained : ℕ) → is_too_much n retained ≡ false → (n < 2 ^ 64) × (retained ≤ 4294967295)
 enough_room n retained e =
     let a = ltb-false (2 ^ 64 - 1) n (or_parts (nat_lt (2 ^ 64 - 1) n) (nat_lt 4294967295 retained) e).0 in
     let b = ltb-false 4294967295 retained (or_parts (nat_lt (2 ^ 64 - 1) n) (nat_lt 4294967295 retained) e).1 in

@@ -4,7 +4,7 @@ use Rattle.std.specs.Prelude.{IsSorted}
 use Rattle.std.specs.Cmp.{IsTotalOrder}
 use Rattle.std.specs.List.{AllByRecursion}
 use Rattle.std.specs.Option.{option_map}
-use Rattle.sketch_base.specs.Bag.{repeated, sort, weighted_rank, load, weight, weigh}
+use Rattle.sketch_base.specs.Bag.{AlikeReq, repeated, sort, weighted_rank, load, weight, weigh}
 use Rattle.sketch_base.specs.Lengths.{IsLegalReq, start_lengths}
 use Rattle.sketch_base.specs.declared.common.SearchCriteria.{SearchCriteria}
 use Rattle.sketch_base.specs.Query.{counted, true_rank}
@@ -38,7 +38,7 @@ use Rattle.quantile_sketches.specs.Outcome.{Slots, sketch_at, ArePlanned, ArePla
 use Rattle.quantile_sketches.specs.Plan.{Plan, start_plan, plan_of, trace_of}
 use Rattle.quantile_sketches.specs.Refused.{accepted_of, AreRefused}
 use Rattle.quantile_sketches.specs.ReqKind.{FitsReq, req_kind, req_shape}
-use Rattle.quantile_sketches.specs.ReqOutcome.{AreInOrder, HaveFewLevels, AreBelow, AreOwnTails, AreExact, AreReadBack, AreRelative, AreRelativeToCounts}
+use Rattle.quantile_sketches.specs.ReqOutcome.{AreInOrder, HaveFewLevels, AreBelow, AreOwnTails, IsExact, AreExact, AreReadBack, AreRelative, AreRelativeToCounts}
 use Rattle.quantile_sketches.specs.ReqPlan.{ReqCommand, shape_in, tails_of}
 use Rattle.quantile_sketches.specs.ReqRules.{ReqShape, req_rules}
 use Rattle.sketch_req.specs.Relative.{off_tail, IsRelative, Reaches}
@@ -102,6 +102,14 @@ in-order : {A : Type 0} (cmp : A → A → Ordering) (k : ℕ) (accuracy : RankA
 in-order cmp k accuracy h [] a = tt
 in-order cmp k accuracy h (l ∷ ls) a = (a.0.sound.in_order, in-order cmp k accuracy (suc h) ls a.1)
 
+-- a sketch of the planned shape that is alike to the play of the commands is exact on its tail
+pub alike-exact : {A : Type 0} {cmp : A → A → Ordering} → IsTotalOrder cmp → (commands : List (ReqCommand A)) (word : List Bool) (slot : ℕ) (s : Req A) → (plan_of req_rules commands).shapes slot ≡ Some (req_shape s) →
+    AlikeReq cmp ((play cmp (trace_of req_rules commands) word start).slots slot) (bag_of s.levels) → IsExact cmp commands slot s
+alike-exact {A} {cmp} o commands word slot s shape alike y criteria few =
+    let same_side : (shape_in ((plan_of req_rules commands).shapes slot)).accuracy ≡ s.accuracy = ap (λ (p : Option ReqShape). (shape_in p).accuracy) shape in
+    let enough = subst (λ (a : RankAccuracy). off_tail cmp a y criteria (stream_of req_rules commands slot) ≤ 3 * tails_of commands slot) (sym same_side) few in
+    sym (rank-alike o y criteria ((play cmp (trace_of req_rules commands) word start).slots slot) (bag_of s.levels) alike.levels) ∙ run-exact o y criteria commands word slot enough
+
 module _ {A : Type 0} {cmp : A → A → Ordering} (o : IsTotalOrder cmp) (spelling : A → Option (List ℕ)) (commands : List (ReqCommand A)) (slots : Slots (Req A)) where
   -- the shape that is planned of a sketch
   there : ArePlanned (req_kind cmp spelling) commands slots → (slot : ℕ) (s : Req A) → sketch_at slots slot ≡ Some s → (plan_of req_rules commands).shapes slot ≡ Some (req_shape s)
@@ -151,15 +159,12 @@ module _ {A : Type 0} {cmp : A → A → Ordering} (o : IsTotalOrder cmp) (spell
         let l = left-out (req_kind_lawful o spelling) word commands refused are in
         let t = req-left-out o spelling word refused commands are in
         let shape : (plan_of req_rules fewer).shapes slot ≡ Some (req_shape s) = ap (λ (p : Plan ReqShape). p.shapes slot) (sym l.plan) ∙ there planned slot s held in
-        let same_side : (shape_in ((plan_of req_rules fewer).shapes slot)).accuracy ≡ s.accuracy = ap (λ (p : Option ReqShape). (shape_in p).accuracy) shape in
         let streams = ap (λ (f : ℕ → List A). f slot) l.streams in
         let tails = ap (λ (f : ℕ → ℕ). f slot) t.tails in
-        let alike = played slot s held in
-        let enough = subst (λ (a : RankAccuracy). off_tail cmp a y criteria (stream_of req_rules fewer slot) ≤ 3 * tails_of fewer slot) (sym same_side)
-        (subst (λ (xs : List A). off_tail cmp s.accuracy y criteria xs ≤ 3 * tails_of fewer slot) streams
-        (subst (λ (n : ℕ). off_tail cmp s.accuracy y criteria (stream_of req_rules commands slot) ≤ 3 * n) tails few)) in
-        sym (rank-alike o y criteria ((play cmp (trace_of req_rules fewer) word start).slots slot) (bag_of s.levels) alike.levels)
-        ∙ (run-exact o y criteria fewer word slot enough ∙ sym (ap (true_rank cmp y criteria) streams))
+        let enough =
+        subst (λ (xs : List A). off_tail cmp s.accuracy y criteria xs ≤ 3 * tails_of fewer slot) streams
+        (subst (λ (n : ℕ). off_tail cmp s.accuracy y criteria (stream_of req_rules commands slot) ≤ 3 * n) tails few) in
+        alike-exact o fewer word slot s shape (played slot s held) y criteria enough ∙ sym (ap (true_rank cmp y criteria) streams)
 
   -- ---- over the runs under all words
 

@@ -1,30 +1,26 @@
 -- KLL sketches that the same commands make are the same, where items that compare equal are equal.
-use Rattle.std.proofs.Common.{◌≡◌, ◌<◌, ◌==◌, ℕ, Bool, true, false, List, [], ◌∷◌, Option, Ok, refl, sym, ap, ap₂, ◌∙◌, subst, arith, inl, inr, eqb-true, Ordering}
-use Rattle.std.proofs.lemmas.Bool.{and_parts, cases_Bool, eqb-false, false≢true}
-use Rattle.std.proofs.lemmas.Option.{same_Some}
-use Rattle.std.specs.Cmp.{IsTotalOrder, tied_itself}
-use Rattle.std.specs.Cmp.Lexicographic.{pointwise_decides}
+use Rattle.std.proofs.Common.{◌≡◌, ◌⊎◌, ◌<◌, ◌≤◌, ◌==◌, ◌+◌, ◌-◌, ◌^◌, Result, Err, ℕ, Bool, true, false, List, [], ◌∷◌, Option, Ok, refl, sym, ap, ap₂, ◌∙◌, arith, inl, inr, eqb-true, Ordering}
+use Rattle.std.proofs.lemmas.Bool.{cases_Bool, eqb-false, false≢true}
+use Rattle.std.specs.Cmp.{IsTotalOrder}
 use Rattle.std.specs.Ordering.{is_eq}
-use Rattle.std.specs.declared.cmp.Ordering.TheVariants.{Less, Equal, Greater}
 use Rattle.sketch_base.specs.Bag.{Bag}
-use Rattle.sketch_base.specs.declared.error.ErrorKind.TheVariants.{InvalidArgument}
+use Rattle.sketch_base.specs.declared.error.ErrorKind.TheVariants.{InvalidArgument, OutOfMemory}
+use Rattle.sketch_base.specs.declared.error.ErrorKind.{ErrorKind}
+use Rattle.std.specs.declared.alloc.Global.{Global}
+use Rattle.std.specs.declared.vec.Vec.{Vec}
 use Rattle.sketch_base.specs.Spelling.{SpellingsTie}
 use Rattle.sketch_base.specs.Tied.{TiesAreEqual}
 use Rattle.sketch_base.proofs.SpelledItems.{IsPrefixFree}
 use Rattle.sketch_base.proofs.Tied.{same-items, same-answers}
-use Rattle.sketch_kll.specs.Copy.{IsCopy, same_sketch}
-use Rattle.sketch_kll.specs.Image.{IsImage}
+use Rattle.sketch_kll.specs.Copy.{IsCopy}
 use Rattle.sketch_kll.specs.Levels.{SameLevels}
 use Rattle.sketch_kll.specs.Sketch.{Kll, bag_of, sketch_of}
 use Rattle.sketch_kll.proofs.ImageTexts.{one_sketch_lem}
 use Rattle.sketch_kll.proofs.OneCall.{one-update, one-weighted, one-merge}
-use Rattle.quantile_sketches.specs.Behaviour.{Behaviour}
-use Rattle.quantile_sketches.specs.Calls.{in_full}
-use Rattle.quantile_sketches.specs.Kll.{kll}
-use Rattle.quantile_sketches.specs.KllRules.{KllShape, kll_kind, kll_shape}
+use Rattle.quantile_sketches.specs.Kll.{kll, IsMade, IsEmptied, TakesWeighted, DrawsNone, JoinsIn, MergesIn}
 use Rattle.quantile_sketches.specs.SameRun.{CommandsMakeOne}
-use Rattle.quantile_sketches.specs.Steps.{IsFresh}
-use Rattle.quantile_sketches.proofs.SameRuns.{IsOne, MakesOne, no-err, one-run}
+use Rattle.quantile_sketches.proofs.Refused.{err-of, kind-of, unread, unwritten-kind, so-same, so-most, so-either, below}
+use Rattle.quantile_sketches.proofs.SameRuns.{IsOne, IsSettled, MakesOne, no-err, one-run}
 
 -- a sketch, from its parts
 from-parts : {A : Type 0} (s t : Kll A) → s.k ≡ t.k → s.min_k ≡ t.min_k → s.n ≡ t.n → s.is_sorted ≡ t.is_sorted → s.levels ≡ t.levels → s.least ≡ t.least → s.greatest ≡ t.greatest → s ≡ t
@@ -33,12 +29,6 @@ from-parts {A} s t k min_k n is_sorted levels least greatest =
     ∙ (ap₂ (λ (x : ℕ) (y : Bool). sketch_of t.k t.min_k x y s.levels s.least s.greatest) n is_sorted
     ∙ (ap₂ (λ (x : List (List A)) (y : Option A). sketch_of t.k t.min_k t.n t.is_sorted x y s.greatest) levels least
     ∙ ap (λ (x : Option A). sketch_of t.k t.min_k t.n t.is_sorted t.levels t.least x) greatest))
-
--- by its shape and its bag
-from-shape : {A : Type 0} (s t : Kll A) → kll_shape s ≡ kll_shape t → bag_of s ≡ bag_of t → s.least ≡ t.least → s.greatest ≡ t.greatest → s ≡ t
-from-shape {A} s t shape bag least greatest =
-    from-parts s t (ap (λ (x : KllShape). x.k) shape) (ap (λ (x : KllShape). x.min_k) shape) (ap (λ (x : KllShape). x.n) shape)
-    (ap (λ (x : Bag A). x.is_sorted) bag) (ap (λ (x : Bag A). x.levels) bag) least greatest
 
 module _ {A : Type 0} {cmp : A → A → Ordering} (order : IsTotalOrder cmp) (tied : TiesAreEqual cmp) where
   same-levels : (ls ms : List (List A)) → SameLevels cmp ls ms → ls ≡ ms
@@ -52,67 +42,96 @@ module _ {A : Type 0} {cmp : A → A → Ordering} (order : IsTotalOrder cmp) (t
       from-parts s t (sym c.k) (sym c.min_k) (sym c.n) (sym c.is_sorted) (same-levels s.levels t.levels c.levels)
       (same-answers order tied s.least t.least c.least) (same-answers order tied s.greatest t.greatest c.greatest)
 
-  module _ (eq : A → A → Bool) (eq_is : (x y : A) → eq x y ≡ is_eq (cmp x y)) where
-    decides : (x y : A) → (eq x y ≡ true → x ≡ y) × (x ≡ y → eq x y ≡ true)
-    decides x y = (λ e. tied x y (both (cmp x y) (sym (eq_is x y) ∙ e)), λ e. eq_is x y ∙ ap is_eq (subst (λ (z : A). cmp x z ≡ Equal) e (tied_itself order x)))
-      where
-        both : (o : Ordering) → is_eq o ≡ true → o ≡ Equal
-        both Less e = absurd (false≢true e)
-        both Equal e = refl
-        both Greater e = absurd (false≢true e)
+  module _ (spelling : A → Option (List ℕ)) (free : IsPrefixFree spelling) (ties : SpellingsTie cmp spelling) where
+    made-one : (k : ℕ) (s t : Kll A) → IsMade cmp spelling k (Ok s) → IsMade cmp spelling k (Ok t) → s ≡ t
+    made-one k s t h h' =
+        let a = h.2 in
+        let b = h'.2 in
+        let bags : bag_of s ≡ bag_of t = a.2 ∙ sym b.2 in
+        from-parts s t (a.0 ∙ sym b.0) (a.5.min_k_at_first (omega (arith, a.1)) ∙ (a.0 ∙ (sym b.0 ∙ sym (b.5.min_k_at_first (omega (arith, b.1))))))
+        (a.1 ∙ sym b.1) (ap (λ (x : Bag A). x.is_sorted) bags) (ap (λ (x : Bag A). x.levels) bags) (a.3 ∙ sym b.3) (a.4 ∙ sym b.4)
 
-    -- the levels of equal sketches
-    equal-levels : (s t : Kll A) → same_sketch eq s t ≡ true → s.levels ≡ t.levels
-    equal-levels s t e = (pointwise_decides (pointwise_decides decides) s.levels t.levels).0 (and_parts _ _ (and_parts _ _ (and_parts _ _ e).0).0).1
+    emptied-one : (s t u : Kll A) → IsEmptied cmp spelling s t → IsEmptied cmp spelling s u → t ≡ u
+    emptied-one s t u a b =
+        let bags : bag_of t ≡ bag_of u = a.3 ∙ sym b.3 in
+        from-parts t u (a.0 ∙ sym b.0) (a.1 ∙ sym b.1) (a.2 ∙ sym b.2) (ap (λ (x : Bag A). x.is_sorted) bags) (ap (λ (x : Bag A). x.levels) bags) (a.4 ∙ sym b.4) (a.5 ∙ sym b.5)
 
-    module _ (spelling : A → Option (List ℕ)) (free : IsPrefixFree spelling) (ties : SpellingsTie cmp spelling) where
-      abbrev Of : Behaviour (Kll A) A ℕ
-      Of = in_full (kll cmp eq spelling) (kll_kind cmp spelling) (IsImage cmp spelling)
+    module _ {Source : Type 0} (bit : Source → Bool) (next : Source → Source) where
+      -- what is never done
+      never : IsSettled (DrawsNone cmp spelling bit next)
+      never = record {
+        one = λ s t u coins left left' h h'. absurd (no-err tt InvalidArgument h.0);
+        clash = λ s t u coins left left' e h h'. absurd (no-err tt InvalidArgument h.0);
+        refuses = λ s t coins left e h n. (err-of {T = Unit} e h.0, h.1, h.2);
+      }
 
-      fresh-one : (shape : Option KllShape) (s t : Kll A) → IsFresh (kll_kind cmp spelling) shape s → IsFresh (kll_kind cmp spelling) shape t → s ≡ t
-      fresh-one shape s t a b =
-          from-shape s t (same_Some (kll_shape s) (kll_shape t) (sym a.shape_is ∙ b.shape_is)) (a.bag_is ∙ sym b.bag_is) (a.least_is ∙ sym b.least_is) (a.greatest_is ∙ sym b.greatest_is)
+      taken : (x : A) → IsSettled ((kll cmp spelling).taken x Source bit next)
+      taken x = record {
+        one = λ s t u coins left left' h h'. (one-update order tied s x _ t u h.3 h'.3 h.2.0 h'.2.0, h.2.1 ∙ sym h'.2.1);
+        clash = λ s t u coins left left' e h h'. h'.1 (λ n. no-err tt InvalidArgument (h.0.1 n));
+        refuses = λ s t coins left e h n. (kind-of e (so-same s.n (2 ^ 64 - 1)) (λ p. err-of {T = Unit} e (h.0.1 p)) h.1 n, h.4.0, h.4.1);
+      }
 
-      -- a copy is the sketch itself
-      copied-itself : (s p : Kll A) → Of.copied s (Ok p) → s ≡ p
-      copied-itself s p h =
-          let c = h.1 in
-          let shape : kll_shape s ≡ kll_shape p = sym c.shape_is in
-          from-parts s p (ap (λ (x : KllShape). x.k) shape) (ap (λ (x : KllShape). x.min_k) shape) (ap (λ (x : KllShape). x.n) shape)
-          c.alike.flag (equal-levels s p h.0.0) (same-answers order tied s.least p.least c.least_is) (same-answers order tied s.greatest p.greatest c.greatest_is)
+      weighted : (x : A) (weight : ℕ) → IsSettled ((kll cmp spelling).taken_weighted x weight Source bit next)
+      weighted x weight = record {
+        one = λ s t u coins left left' h h'. (one-weighted order tied s x weight _ t u h.4 h'.4 h.2 h'.2, h.3 ∙ sym h'.3);
+        clash = λ s t u coins left left' e h h'. memory s coins e u left' h' (λ p. no-err tt InvalidArgument (h.0.1 p));
+        refuses = λ s t coins left e h n. (
+          kind-of e (so-either (so-same weight 0) (so-either (so-most (2 ^ 61) weight) (so-most (2 ^ 64) (s.n + weight)))) (λ p. err-of {T = Unit} e (h.0.1 p)) (memory s coins e t left h) n,
+          h.5.0,
+          h.5.1,
+        );
+      }
+        where
+          memory : (s : Kll A) (coins : Source) (e : ErrorKind) (t : Kll A) (left : Source) → TakesWeighted cmp spelling bit next s x weight coins (Err e) t left →
+              ((weight ≡ 0) ⊎ ((2 ^ 61 ≤ weight) ⊎ (2 ^ 64 ≤ s.n + weight)) → ⊥) → e ≡ OutOfMemory
+          memory s coins e t left h denied =
+              h.1 (below 0 weight (λ z. denied (inl (omega (arith, z))))) (below weight (2 ^ 61) (λ z. denied (inr (inl z)))) (below (s.n + weight) (2 ^ 64) (λ z. denied (inr (inr z))))
 
-      module _ {Source : Type 0} (bit : Source → Bool) (next : Source → Source) where
-        -- a merge of an empty sketch, and of one that holds items
-        joined-one : (redraws : Bool) (p : Kll A) → IsOne (Of.joined redraws p Source bit next)
-        joined-one true p s t u coins left left' h h' = absurd (no-err tt InvalidArgument h.0.0)
-        joined-one false p s t u coins left left' h h' =
-            elim (cases_Bool (p.n == 0)) [
-              | inl e ↦
-                  let none : p.n ≡ 0 = eqb-true p.n 0 e in
-                  let a = h.0.2 none in
-                  let b = h'.0.2 none in
-                  (a.1 ∙ sym b.1, a.2 ∙ sym b.2)
-              | inr e ↦
-                  let some : 0 < p.n = omega (arith, eqb-false p.n 0 e) in
-                  (one-merge order tied s p _ t u h.3 h'.3 (h.0.3 some) (h'.0.3 some), h.0.4 some ∙ sym (h'.0.4 some))
-            ]
+      -- a merge of an empty sketch, and of one that holds items
+      joined-one : (p : Kll A) → IsOne (JoinsIn cmp spelling bit next p)
+      joined-one p s t u coins left left' h h' =
+          elim (cases_Bool (p.n == 0)) [
+            | inl e ↦
+                let none : p.n ≡ 0 = eqb-true p.n 0 e in
+                let a = h.2 none in
+                let b = h'.2 none in
+                (a.1 ∙ sym b.1, a.2 ∙ sym b.2)
+            | inr e ↦
+                let some : 0 < p.n = omega (arith, eqb-false p.n 0 e) in
+                (one-merge order tied s p _ t u h.5 h'.5 (h.3 some) (h'.3 some), h.4 some ∙ sym (h'.4 some))
+          ]
 
-        -- each call on KLL sketches makes one sketch of a sketch
-        pub makes-one : MakesOne (kll cmp eq spelling) (kll_kind cmp spelling) (IsImage cmp spelling) bit next
-        makes-one = record {
-          made = λ k s t h h'. fresh-one ((kll_kind cmp spelling).rules.made k) s t h.1 h'.1;
-          copied = λ s p q h h'. sym (copied-itself s p h) ∙ copied-itself s q h';
-          emptied = λ s t u h h'. fresh-one _ t u h.1 h'.1;
-          taken = λ x s t u coins left left' h h'.
-              (one-update order tied s x _ t u h.1.0.0.sound h'.1.0.0.sound h.0.2.0 h'.0.2.0, h.0.2.1 ∙ sym h'.0.2.1);
-          weighted = λ x weight s t u coins left left' h h'.
-              (one-weighted order tied s x weight _ t u h.1.0.0.sound h'.1.0.0.sound h.0.2 h'.0.2, h.0.3 ∙ sym h'.0.3);
-          redrawn = λ s t u coins left left' h h'. absurd (no-err tt InvalidArgument h.0.0);
-          joined = joined-one;
-          imaged = λ s v w h h'. h.0.0 ∙ sym h'.0.0;
-          read = λ bytes t u h h'. same-copy t u (one_sketch_lem order eq eq_is spelling free ties bytes t u h.0.0 h'.0.0).copied;
-        }
+      joined : (redraws : Bool) (p : Kll A) → IsSettled (MergesIn cmp spelling bit next redraws p)
+      joined true p = never
+      joined false p = record {
+        one = joined-one p;
+        clash = λ s t u coins left left' e h h'. h'.1 (below (s.n + p.n) (2 ^ 64) (λ z. no-err tt InvalidArgument (h.0.1 z)));
+        refuses = λ s t coins left e h n.
+            (kind-of e (so-most (2 ^ 64) (s.n + p.n)) (λ z. err-of {T = Unit} e (h.0.1 z)) (λ denied. h.1 (below (s.n + p.n) (2 ^ 64) denied)) n, h.6.0, h.6.1);
+      }
 
-        -- so commands make one list of sketches
-        pub kll-commands-make-one : CommandsMakeOne Of bit next
-        kll-commands-make-one = one-run (kll cmp eq spelling) (kll_kind cmp spelling) (IsImage cmp spelling) bit next makes-one
+      -- each call on KLL sketches makes one sketch of a sketch
+      pub makes-one : MakesOne (kll cmp spelling) bit next
+      makes-one = record {
+        made = made-one;
+        made_clash = λ k s e h h'. h'.1 (below 7 k (λ z. no-err s InvalidArgument (h.0.1 (omega (arith, z)))));
+        made_refuses = λ k e h n. kind-of e (so-most k 7) (λ z. err-of {T = Kll A} e (h.0.1 (omega (arith, z)))) (λ denied. h.1 (omega (arith, below 7 k denied))) n;
+        copied = λ s p q h h'. sym (same-copy s p h.0.0) ∙ same-copy s q h'.0.0;
+        copied_memory = λ s e h. h.1;
+        emptied = emptied-one;
+        taken = taken;
+        weighted = weighted;
+        redrawn = never;
+        joined = joined;
+        refuses = λ redraws s p h h'. false≢true (h'.1 (h.0 refl));
+        imaged = λ s v w h h'. h.0.0 ∙ sym h'.0.0;
+        imaged_clash = λ s v e h h'. unread e (λ a. h'.2 (ap (λ (e : ErrorKind). let r : Result (Vec ℕ Global) ErrorKind = Err e in r) a) h.1) h'.3;
+        imaged_refuses = λ s e h n. unwritten-kind e h.3 n;
+        read = λ bytes t u h h'. same-copy t u (one_sketch_lem order (λ x y. is_eq (cmp x y)) (λ x y. refl) spelling free ties bytes t u h.0.0 h'.0.0).copied;
+        read_memory = λ s v e h h'. unread e h'.1 (λ d. h'.2 d s h.0.1);
+      }
+
+      -- so commands make one list of sketches
+      pub kll-commands-make-one : CommandsMakeOne (kll cmp spelling) bit next
+      kll-commands-make-one = one-run (kll cmp spelling) bit next makes-one

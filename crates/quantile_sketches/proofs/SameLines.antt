@@ -18,19 +18,17 @@ use Rattle.sketch_base.proofs.Tied.{same-answers}
 use Rattle.quantile_sketches.specs.Answer.{answer_text, ranks_text}
 use Rattle.sketch_base.specs.Random.{next_state}
 use Rattle.quantile_sketches.specs.Behaviour.{Behaviour, Spread, coin_of}
-use Rattle.quantile_sketches.specs.Calls.{in_full}
-use Rattle.quantile_sketches.specs.Command.{command_of}
+use Rattle.quantile_sketches.specs.Command.{request_of}
 use Rattle.quantile_sketches.specs.Queried.{IsQuantile, AreRanks}
 use Rattle.quantile_sketches.specs.Reader.{Grammar}
-use Rattle.quantile_sketches.specs.Rules.{Kind}
 use Rattle.quantile_sketches.specs.SameRun.{ServesAmply, LinesAnswerOne}
-use Rattle.quantile_sketches.specs.Step.{Slots, Verdict, Reply, reply_of, Replies, Makes, Asks, Reads, Spreads, Shows, Loads, Executes, Answers}
+use Rattle.quantile_sketches.specs.LineSteps.{Slots, Verdict, Reply, reply_of, Replies, Makes, Asks, Reads, Spreads, Shows, Loads, Executes, Answers}
 use Rattle.quantile_sketches.specs.Words.{words, points_of, image_in}
 use Rattle.quantile_sketches.specs.declared.answer.Answer.{Answer}
 use Rattle.quantile_sketches.specs.declared.answer.Answer.TheVariants.{Rank as RankIs, Item, Ranks}
 use Rattle.quantile_sketches.specs.declared.answer.Refusal.TheVariants.{BadLine, AbsentSlot, Sketch}
-use Rattle.quantile_sketches.specs.declared.command.Command.{Command as LineCommand}
-use Rattle.quantile_sketches.specs.declared.command.Command.TheVariants.{Run, Rank as RankOf, Quantile, Cdf, Pmf, Image as ImageOf, Load}
+use Rattle.quantile_sketches.specs.declared.command.Request.{Request}
+use Rattle.quantile_sketches.specs.declared.command.Request.TheVariants.{Run, Rank as RankOf, Quantile, Cdf, Pmf, Image as ImageOf, Load}
 use Rattle.quantile_sketches.proofs.SameRuns.{MakesOne, no-err, same-err, told, one-command}
 
 -- replies that are given, and want no memory, have one text
@@ -89,18 +87,16 @@ module _ {cmp : ℤ → ℤ → Ordering} (order : IsTotalOrder cmp) (tied : Tie
       one (Some v) None h k = absurd (false≢true (k.2.1 (h.2.0 refl)))
       one (Some v) (Some u) h k = ap ranks_text (h.3 ∙ sym k.3)
 
-module _ {C Shape S : Type 0} (behaviour : Behaviour S ℤ C) (kind : Kind ℤ C Shape S) (IsImage : List ℕ → S → Type 0) where
-  abbrev Full : Behaviour S ℤ C
-  Full = in_full behaviour kind IsImage
-
+module _ {C S : Type 0} (behaviour : Behaviour S ℤ C) where
   -- what is asked of a family: its calls make one sketch, what is read once is no bad data, and queries have one answer
   pub record AnswersOne : Type 0 where
-    pub calls : MakesOne behaviour kind IsImage coin_of next_state
-    pub loads : (bytes : List ℕ) (t : S) → Full.loaded bytes (Ok t) → Full.loaded bytes (Err InvalidData) → ⊥
-    pub ranked : (s : S) (x : ℤ) (criteria : SearchCriteria) (r w : Option Rank) → Full.rank s x criteria r → Full.rank s x criteria w → r ≡ w
-    pub found : (s : S) (fraction : Rank) (criteria : SearchCriteria) → SameReplies (Replies Item (Full.quantile s fraction criteria))
-    pub cdfs : (s : S) (points : List ℤ) (criteria : SearchCriteria) → SameReplies (Replies Ranks (Full.cdf s points criteria))
-    pub pmfs : (s : S) (points : List ℤ) (criteria : SearchCriteria) → SameReplies (Replies Ranks (Full.pmf s points criteria))
+    pub calls : MakesOne behaviour coin_of next_state
+    pub loads : (bytes : List ℕ) (t : S) → behaviour.loaded bytes (Ok t) → behaviour.loaded bytes (Err InvalidData) → ⊥
+    pub unloaded : (bytes : List ℕ) (e : ErrorKind) → behaviour.loaded bytes (Err e) → (e ≡ OutOfMemory → ⊥) → e ≡ InvalidData
+    pub ranked : (s : S) (x : ℤ) (criteria : SearchCriteria) (r w : Option Rank) → behaviour.rank s x criteria r → behaviour.rank s x criteria w → r ≡ w
+    pub found : (s : S) (fraction : Rank) (criteria : SearchCriteria) → SameReplies (Replies Item (behaviour.quantile s fraction criteria))
+    pub cdfs : (s : S) (points : List ℤ) (criteria : SearchCriteria) → SameReplies (Replies Ranks (behaviour.cdf s points criteria))
+    pub pmfs : (s : S) (points : List ℤ) (criteria : SearchCriteria) → SameReplies (Replies Ranks (behaviour.pmf s points criteria))
 
   -- what a slot's sketch is asked
   reads-one : (told : S → Reply → Type 0) → ((s : S) → SameReplies (told s)) → (slot : ℕ) (slots : Slots S) → SameReplies (Reads told slot slots)
@@ -110,7 +106,7 @@ module _ {C Shape S : Type 0} (behaviour : Behaviour S ℤ C) (kind : Kind ℤ C
       go None h k = ap answer_text (h ∙ sym k)
       go (Some s) h k = same s r w n m h k
 
-  spreads-one : (points : List ℤ) (gives : Spread → Type 0) → SameReplies (Replies Ranks gives) → SameReplies (Spreads Full points gives)
+  spreads-one : (points : List ℤ) (gives : Spread → Type 0) → SameReplies (Replies Ranks gives) → SameReplies (Spreads behaviour points gives)
   spreads-one points gives same r w n m (inl (bad, e)) (inl (bad', e')) = ap answer_text (e ∙ sym e')
   spreads-one points gives same r w n m (inl (bad, e)) (inr (good, k)) = absurd (false≢true (sym bad ∙ good))
   spreads-one points gives same r w n m (inr (good, h)) (inl (bad, e)) = absurd (false≢true (sym bad ∙ good))
@@ -119,42 +115,31 @@ module _ {C Shape S : Type 0} (behaviour : Behaviour S ℤ C) (kind : Kind ℤ C
   spreads-one points gives same r w n m (inr (good, inr e)) k = absurd (n e)
 
   module _ (one : AnswersOne) where
-    -- an image that is refused is refused for what the sketch is
-    not-shown : (s : S) (e : ErrorKind) → Full.imaged s (Err e) → (e ≡ OutOfMemory → ⊥) → (e ≡ InvalidArgument) × (kind.HasImage s → ⊥)
-    not-shown s e h n = go h.3
-      where
-        go : ((e ≡ InvalidArgument) × (kind.HasImage s → ⊥)) ⊎ (e ≡ OutOfMemory) → (e ≡ InvalidArgument) × (kind.HasImage s → ⊥)
-        go (inl r) = r
-        go (inr z) = absurd (n z)
-
     wants : (r : Reply) (e : ErrorKind) → r ≢ Err (Sketch OutOfMemory) → r ≡ Err (Sketch e) → e ≡ OutOfMemory → ⊥
     wants r e n is z = n (is ∙ of-kind e OutOfMemory z)
 
-    shows-one : (s : S) → SameReplies (Shows Full s)
+    shows-one : (s : S) → SameReplies (Shows behaviour s)
     shows-one s r w n m (inl (v, t, h, is, e)) (inl (u, t', k, is', e')) =
         ap answer_text e ∙ (is ∙ (ap encode_lower (one.calls.imaged s v u h k) ∙ (sym is' ∙ sym (ap answer_text e'))))
-    shows-one s r w n m (inl (v, t, h, is, e)) (inr (inl (f, k, e'))) = absurd ((not-shown s f k (wants w f m e')).1 h.2)
+    shows-one s r w n m (inl (v, t, h, is, e)) (inr (inl (f, k, e'))) = absurd (wants w f m e' (one.calls.imaged_clash s v f h k))
     shows-one s r w n m (inl (v, t, h, is, e)) (inr (inr z)) = absurd (m z)
-    shows-one s r w n m (inr (inl (f, h, e))) (inl (v, t, k, is, e')) = absurd ((not-shown s f h (wants r f n e)).1 k.2)
+    shows-one s r w n m (inr (inl (f, h, e))) (inl (v, t, k, is, e')) = absurd (wants r f n e (one.calls.imaged_clash s v f k h))
     shows-one s r w n m (inr (inl (f, h, e))) (inr (inl (g, k, e'))) =
-        ap answer_text (e ∙ (of-kind f g ((not-shown s f h (wants r f n e)).0 ∙ sym (not-shown s g k (wants w g m e')).0) ∙ sym e'))
+        ap answer_text (e ∙ (of-kind f g (one.calls.imaged_refuses s f h (wants r f n e) ∙ sym (one.calls.imaged_refuses s g k (wants w g m e'))) ∙ sym e'))
     shows-one s r w n m (inr (inl (f, h, e))) (inr (inr z)) = absurd (m z)
     shows-one s r w n m (inr (inr z)) k = absurd (n z)
 
     -- what is loaded
     abbrev Loaded : List ℕ → ℕ → Slots S → Verdict → Slots S → Type 0
     Loaded bytes slot slots v ts =
-        ((s : S) × (v ≡ Ok tt) × Full.loaded bytes (Ok s) × (ts ≡ slice_set slots slot (Some s)))
-        ⊎ ((v ≡ Err (Sketch InvalidData)) × Full.loaded bytes (Err InvalidData) × (ts ≡ slots))
+        ((s : S) × (v ≡ Ok tt) × behaviour.loaded bytes (Ok s) × (ts ≡ slice_set slots slot (Some s)))
+        ⊎ ((v ≡ Err (Sketch InvalidData)) × behaviour.loaded bytes (Err InvalidData) × (ts ≡ slots))
 
-    loaded-so : (bytes : List ℕ) (slot : ℕ) (slots ts : Slots S) (v : Verdict) → v ≢ Err (Sketch OutOfMemory) → Makes (Loads Full bytes) slot slots v ts → Loaded bytes slot slots v ts
+    loaded-so : (bytes : List ℕ) (slot : ℕ) (slots ts : Slots S) (v : Verdict) → v ≢ Err (Sketch OutOfMemory) → Makes (Loads behaviour bytes) slot slots v ts → Loaded bytes slot slots v ts
     loaded-so bytes slot slots ts (Ok done) n (s, o, held, inl h, is) = inl (s, refl, h, is)
     loaded-so bytes slot slots ts (Ok done) n (s, o, held, inr e, is) = absurd (no-err s OutOfMemory e)
-    loaded-so bytes slot slots ts (Err (Sketch e)) n (inl h, is) = go h.2
-      where
-        go : ((e ≡ OutOfMemory) ⊎ ((e ≡ InvalidData) × ((s : S) → IsImage bytes s → ⊥))) → Loaded bytes slot slots (Err (Sketch e)) ts
-        go (inl z) = absurd (n (told e OutOfMemory z))
-        go (inr z) = inr (told e InvalidData z.0, subst (λ (e : ErrorKind). Full.loaded bytes (Err e)) z.0 h, is)
+    loaded-so bytes slot slots ts (Err (Sketch e)) n (inl h, is) =
+        let z = one.unloaded bytes e h (λ z. n (told e OutOfMemory z)) in inr (told e InvalidData z, subst (λ (e : ErrorKind). behaviour.loaded bytes (Err e)) z h, is)
     loaded-so bytes slot slots ts (Err (Sketch e)) n (inr z, is) = absurd (n (told e OutOfMemory (same-err {T = S} e OutOfMemory (Err e) refl z)))
     loaded-so bytes slot slots ts (Err BadLine) n h = absurd h
     loaded-so bytes slot slots ts (Err AbsentSlot) n h = absurd h
@@ -171,34 +156,34 @@ module _ {C Shape S : Type 0} (behaviour : Behaviour S ℤ C) (kind : Kind ℤ C
     verdict-ample : (r : Reply) (v : Verdict) → r ≢ Err (Sketch OutOfMemory) → r ≡ reply_of v → v ≢ Err (Sketch OutOfMemory)
     verdict-ample r v n is z = n (is ∙ ap reply_of z)
 
-    one-executed : (command : LineCommand C) (line : List (List ℕ)) (slots ts us : Slots S) (coins left left' : ℕ) (r w : Reply) → r ≢ Err (Sketch OutOfMemory) → w ≢ Err (Sketch OutOfMemory) →
-        Executes Full command line slots coins r ts left → Executes Full command line slots coins w us left' → (answer_text r ≡ answer_text w) × (ts ≡ us) × (left ≡ left')
+    one-executed : (command : Request C) (line : List (List ℕ)) (slots ts us : Slots S) (coins left left' : ℕ) (r w : Reply) → r ≢ Err (Sketch OutOfMemory) → w ≢ Err (Sketch OutOfMemory) →
+        Executes behaviour command line slots coins r ts left → Executes behaviour command line slots coins w us left' → (answer_text r ≡ answer_text w) × (ts ≡ us) × (left ≡ left')
     one-executed (Run command) line slots ts us coins left left' r w n m (v, is, h) (v', is', k) =
-        let a = one-command behaviour kind IsImage coin_of next_state one.calls command slots ts us coins left left' v v' (verdict-ample r v n is) (verdict-ample w v' m is') h k in
+        let a = one-command behaviour coin_of next_state one.calls command slots ts us coins left left' v v' (verdict-ample r v n is) (verdict-ample w v' m is') h k in
         (ap answer_text (is ∙ (ap reply_of a.0 ∙ sym is')), a.1, a.2)
     one-executed (RankOf slot item criteria) line slots ts us coins left left' r w n m (h, same, stays) (k, same', stays') =
         (reads-one _ (λ s r w n m h k. ap answer_text (h.2 ∙ (ap (λ (o : Option Rank). let a : Reply = Ok (RankIs o) in a) (one.ranked s item criteria h.0 k.0 h.1 k.1) ∙ sym k.2))) slot slots r w n m h k, same ∙ sym same', stays ∙ sym stays')
     one-executed (Quantile slot fraction criteria) line slots ts us coins left left' r w n m (h, same, stays) (k, same', stays') =
         (reads-one _ (λ s. one.found s fraction criteria) slot slots r w n m h k, same ∙ sym same', stays ∙ sym stays')
     one-executed (Cdf slot criteria) line slots ts us coins left left' r w n m (h, same, stays) (k, same', stays') =
-        (reads-one _ (λ s. spreads-one (points_of line) (Full.cdf s (points_of line) criteria) (one.cdfs s (points_of line) criteria)) slot slots r w n m h k, same ∙ sym same', stays ∙ sym stays')
+        (reads-one _ (λ s. spreads-one (points_of line) (behaviour.cdf s (points_of line) criteria) (one.cdfs s (points_of line) criteria)) slot slots r w n m h k, same ∙ sym same', stays ∙ sym stays')
     one-executed (Pmf slot criteria) line slots ts us coins left left' r w n m (h, same, stays) (k, same', stays') =
-        (reads-one _ (λ s. spreads-one (points_of line) (Full.pmf s (points_of line) criteria) (one.pmfs s (points_of line) criteria)) slot slots r w n m h k, same ∙ sym same', stays ∙ sym stays')
+        (reads-one _ (λ s. spreads-one (points_of line) (behaviour.pmf s (points_of line) criteria) (one.pmfs s (points_of line) criteria)) slot slots r w n m h k, same ∙ sym same', stays ∙ sym stays')
     one-executed (ImageOf slot) line slots ts us coins left left' r w n m (h, same, stays) (k, same', stays') =
         (reads-one _ shows-one slot slots r w n m h k, same ∙ sym same', stays ∙ sym stays')
     one-executed (Load slot) line slots ts us coins left left' r w n m (v, is, h, stays) (v', is', k, stays') =
         let a = one-load (image_in line) slot slots ts us v v' (loaded-so (image_in line) slot slots ts v (verdict-ample r v n is) h) (loaded-so (image_in line) slot slots us v' (verdict-ample w v' m is') k) in
         (ap answer_text (is ∙ (ap reply_of a.0 ∙ sym is')), a.1, stays ∙ sym stays')
 
-    one-answered : (command : Option (LineCommand C)) (line : List (List ℕ)) (slots ts us : Slots S) (coins left left' : ℕ) (r w : Reply) → r ≢ Err (Sketch OutOfMemory) → w ≢ Err (Sketch OutOfMemory) →
-        Answers Full command line slots coins r ts left → Answers Full command line slots coins w us left' → (answer_text r ≡ answer_text w) × (ts ≡ us) × (left ≡ left')
+    one-answered : (command : Option (Request C)) (line : List (List ℕ)) (slots ts us : Slots S) (coins left left' : ℕ) (r w : Reply) → r ≢ Err (Sketch OutOfMemory) → w ≢ Err (Sketch OutOfMemory) →
+        Answers behaviour command line slots coins r ts left → Answers behaviour command line slots coins w us left' → (answer_text r ≡ answer_text w) × (ts ≡ us) × (left ≡ left')
     one-answered None line slots ts us coins left left' r w n m (is, same, stays) (is', same', stays') = (ap answer_text (is ∙ sym is'), same ∙ sym same', stays ∙ sym stays')
     one-answered (Some command) line slots ts us coins left left' r w n m h k = one-executed command line slots ts us coins left left' r w n m h k
 
     -- a text has one answer
-    pub one-text : (grammar : Grammar C) → LinesAnswerOne grammar Full
+    pub one-text : (grammar : Grammar C) → LinesAnswerOne grammar behaviour
     one-text grammar slots coins [] out out' h k = h ∙ sym k
     one-text grammar slots coins (l ∷ ls) out out' (r, n, ts, left, rest, h, on, is) (w, m, us, left', rest', k, on', is') =
-        let a = one-answered (command_of grammar (words l)) (words l) slots ts us coins left left' r w n m h k in
-        let b = one-text grammar ts left ls rest rest' on (subst (λ (x : ℕ). ServesAmply grammar Full ts x ls rest') (sym a.2) (subst (λ (x : Slots S). ServesAmply grammar Full x left' ls rest') (sym a.1) on')) in
+        let a = one-answered (request_of grammar (words l)) (words l) slots ts us coins left left' r w n m h k in
+        let b = one-text grammar ts left ls rest rest' on (subst (λ (x : ℕ). ServesAmply grammar behaviour ts x ls rest') (sym a.2) (subst (λ (x : Slots S). ServesAmply grammar behaviour x left' ls rest') (sym a.1) on')) in
         is ∙ (ap (λ (text : List ℕ). text ++ (10 ∷ rest)) a.0 ∙ (ap (λ (more : List ℕ). answer_text w ++ (10 ∷ more)) b ∙ sym is'))

@@ -11,7 +11,7 @@ use Rattle.quantile_sketches.specs.Plan.{trace_of}
 use Rattle.quantile_sketches.specs.Refused.{LeadTo, accepted_of}
 use Rattle.quantile_sketches.specs.Rules.{Kind}
 use Rattle.quantile_sketches.specs.Run.{stream_of}
-use Rattle.quantile_sketches.specs.Steps.{Held}
+use Rattle.quantile_sketches.specs.RunSteps.{Held}
 
 -- the weight that a sketch ranks an item with, as its `rank` does; 0 where there is no sketch
 abbrev pub rank_of : {A C Shape S : Type 0} → Kind A C Shape S → A → SearchCriteria → Option S → ℕ

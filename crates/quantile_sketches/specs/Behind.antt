@@ -4,18 +4,22 @@ use Rattle.std.specs.Option.{option_map}
 use Rattle.sketch_base.specs.Random.{next_state}
 use Rattle.quantile_sketches.specs.Answer.{answer_text}
 use Rattle.quantile_sketches.specs.Behaviour.{Behaviour, coin_of}
-use Rattle.quantile_sketches.specs.Command.{command_of}
-use Rattle.quantile_sketches.specs.declared.audit.commands.Command.{Command as RunCommand}
-use Rattle.quantile_sketches.specs.declared.command.Command.{Command}
-use Rattle.quantile_sketches.specs.declared.command.Command.TheVariants.{Run, Load}
+use Rattle.quantile_sketches.specs.Command.{request_of}
+use Rattle.quantile_sketches.specs.declared.audit.commands.Command.{Command}
+use Rattle.quantile_sketches.specs.declared.command.Request.{Request}
+use Rattle.quantile_sketches.specs.declared.command.Request.TheVariants.{Run, Load}
 use Rattle.quantile_sketches.specs.Reader.{Grammar}
 use Rattle.quantile_sketches.specs.Refused.{AreExecuted}
 use Rattle.quantile_sketches.specs.Rules.{Kind}
-use Rattle.quantile_sketches.specs.Step.{Slots, in_slot, Reply, Answers}
+use Rattle.quantile_sketches.specs.LineSteps.{Slots, in_slot, Reply, Answers}
 use Rattle.quantile_sketches.specs.Words.{words}
 
--- the accepted commands of a run after one more line; none are known once a `load` was accepted
-abbrev pub run_after : {C : Type 0} → Option (List (RunCommand ℤ C)) → Option (Command C) → Reply → Option (List (RunCommand ℤ C))
+-- the accepted commands of a run; none are known once a `load` was accepted
+abbrev pub Known : Type 0 → Type 0
+Known C = Option (List (Command ℤ C))
+
+-- after one more line
+abbrev pub run_after : {C : Type 0} → Known C → Option (Request C) → Reply → Known C
 run_after run None reply = run
 run_after run (Some (Run command)) (Ok answer) = option_map (λ commands. commands ++ command ∷ []) run
 run_after run (Some (Run command)) (Err refusal) = run
@@ -23,18 +27,23 @@ run_after run (Some (Load slot)) (Ok answer) = None
 run_after run (Some (Load slot)) (Err refusal) = run
 run_after run (Some query) reply = run
 
-module _ {C Shape S : Type 0} (grammar : Grammar C) (behaviour : Behaviour S ℤ C) (kind : Kind ℤ C Shape S) (seed : ℕ) where
-  -- the sketches and the coins are those that a run of these commands gives, from empty slots and the seed of SplitMix64 on, where each is accepted
-  abbrev pub AreOfRun : Option (List (RunCommand ℤ C)) → Slots S → ℕ → Type 0
-  AreOfRun None slots coins = ⊤
-  AreOfRun (Some commands) slots coins = AreExecuted kind coin_of next_state [] 0 commands (λ slot. None) seed (in_slot slots) coins
+-- the sketches and the coins are those that a run of these commands gives, from empty slots and the seed of SplitMix64 on, where each is accepted
+abbrev pub AreOfRun : {C Shape S : Type 0} → Kind ℤ C Shape S → ℕ → Known C → Slots S → ℕ → Type 0
+AreOfRun kind seed None slots coins = ⊤
+AreOfRun kind seed (Some commands) slots coins = AreExecuted kind coin_of next_state [] 0 commands (λ slot. None) seed (in_slot slots) coins
 
-  -- lines are answered one after another, each by the sketches of the run so far
-  abbrev pub AnswersRun : Option (List (RunCommand ℤ C)) → Slots S → ℕ → List (List ℕ) → List ℕ → Type 0
-  AnswersRun run slots coins [] out = AreOfRun run slots coins × (out ≡ [])
-  AnswersRun run slots coins (l ∷ ls) out =
-      AreOfRun run slots coins
+-- of each sketch in the slots this is so, by the commands
+abbrev pub EachKeeps : {C S : Type 0} → (List (Command ℤ C) → ℕ → S → Type 0) → Known C → Slots S → ℕ → Type 0
+EachKeeps promise None slots coins = ⊤
+EachKeeps {S = S} promise (Some commands) slots coins = (slot : ℕ) (s : S) → in_slot slots slot ≡ Some s → promise commands slot s
+
+module _ {C S : Type 0} (grammar : Grammar C) (behaviour : Behaviour S ℤ C) (Holds : Known C → Slots S → ℕ → Type 0) where
+  -- lines are answered one after another, each by sketches and coins of which this holds by the run so far
+  abbrev pub AnswersWhere : Known C → Slots S → ℕ → List (List ℕ) → List ℕ → Type 0
+  AnswersWhere run slots coins [] out = Holds run slots coins × (out ≡ [])
+  AnswersWhere run slots coins (l ∷ ls) out =
+      Holds run slots coins
       × (r : _) × (slots' : _) × (coins' : _) × (rest : _)
-      × Answers behaviour (command_of grammar (words l)) (words l) slots coins r slots' coins'
-      × AnswersRun (run_after run (command_of grammar (words l)) r) slots' coins' ls rest
+      × Answers behaviour (request_of grammar (words l)) (words l) slots coins r slots' coins'
+      × AnswersWhere (run_after run (request_of grammar (words l)) r) slots' coins' ls rest
       × (out ≡ answer_text r ++ (10 ∷ rest))

@@ -1,48 +1,42 @@
--- how a family's sketches behave, and what runs of commands know of that by the rules of the family's kind
-use Rattle.std.specs.Prelude.{◌≡◌, ◌⊎◌, ◌↔◌, ℕ, Bool, if◌then◌else◌, IsTrue, List, None, Option, Some, Result, Err, IfOk, IfErr, OnOk, OnErr}
+-- what a family's sketches do is what the rules of its kind say
+use Rattle.std.specs.Prelude.{◌≡◌, ◌⊎◌, ◌↔◌, ℕ, Bool, if◌then◌else◌, IsTrue, None, Option, Some, Result, Ok, Err, IfOk, IfErr, OnOk, OnErr}
+use Rattle.std.specs.declared.alloc.Global.{Global}
+use Rattle.std.specs.declared.vec.Vec.{Vec}
 use Rattle.sketch_base.specs.declared.error.ErrorKind.{ErrorKind}
-use Rattle.sketch_base.specs.declared.error.ErrorKind.TheVariants.{InvalidArgument, InvalidData, OutOfMemory}
+use Rattle.sketch_base.specs.declared.error.ErrorKind.TheVariants.{InvalidArgument, OutOfMemory}
 use Rattle.quantile_sketches.specs.Behaviour.{Behaviour, Change}
 use Rattle.quantile_sketches.specs.Rules.{Kind}
-use Rattle.quantile_sketches.specs.Steps.{Refuses, IsFresh, IsCopied, IsReadBack, IsUpdated, IsWeighted, IsRedrawn, IsMerged}
-
--- a call does so, or gives an error as the rules have it and changes nothing
-abbrev pub Obeys : {S Source Shape : Type 0} → Option Shape → (S → Source → Type 0) → S → Source → Result Unit ErrorKind → S → Source → Type 0
-Obeys shape does s coins r t coins' = OnOk r (does t coins') × IfErr r (Refuses shape) × OnErr r ((t ≡ s) × (coins' ≡ coins))
+use Rattle.quantile_sketches.specs.RunSteps.{Refuses, IsFresh, IsCopied, IsReadBack, IsUpdated, IsWeighted, IsRedrawn, IsMerged}
 
 -- where it is said beforehand that a call is refused it is refused, and where not it may want memory
 abbrev pub Foretells : {S Source : Type 0} → Change Source S → S → Bool → Type 0
 Foretells call s refused = (coins : _) → call s coins (Err (if refused then InvalidArgument else OutOfMemory)) s coins
 
-module _ {A C Shape S : Type 0} (behaviour : Behaviour S A C) (kind : Kind A C Shape S) (IsImage : List ℕ → S → Type 0) where
-  abbrev pub in_full : Behaviour S A C
-  in_full = record {
-    made = λ config r. behaviour.made config r × IfOk r (IsFresh kind (kind.rules.made config)) × IfErr r (Refuses (kind.rules.made config));
-    copied = λ s r. behaviour.copied s r × IfOk r (IsCopied kind s) × IfErr r (λ e. e ≡ OutOfMemory);
-    emptied = λ s t. behaviour.emptied s t × IsFresh kind (Some (kind.rules.emptied (kind.shape s))) t;
-    taken = λ x Source bit next s coins r t coins'.
-        behaviour.taken x Source bit next s coins r t coins'
-        × Obeys (kind.rules.updated (kind.shape s)) (IsUpdated kind bit next s x coins) s coins r t coins';
-    taken_weighted = λ x weight Source bit next s coins r t coins'.
-        behaviour.taken_weighted x weight Source bit next s coins r t coins'
-        × Obeys (kind.rules.updated_weighted (kind.shape s) weight) (IsWeighted kind bit next s x weight coins) s coins r t coins';
-    redrawn = λ Source bit next s coins r t coins'.
-        behaviour.redrawn Source bit next s coins r t coins'
-        × Obeys (kind.rules.redrawn (kind.shape s)) (IsRedrawn kind bit next s coins) s coins r t coins';
-    joined = λ redraws p Source bit next s coins r t coins'.
-        behaviour.joined redraws p Source bit next s coins r t coins'
-        × Obeys (kind.rules.merged redraws (kind.shape s) (kind.shape p)) (IsMerged kind bit next redraws s p coins) s coins r t coins'
-        × kind.IsSound p × kind.IsSound t;
-    refuses = λ redraws s p answer.
-        behaviour.refuses redraws s p answer × (IsTrue answer ↔ (kind.rules.merged redraws (kind.shape s) (kind.shape p) ≡ None));
-    rank = behaviour.rank;
-    quantile = behaviour.quantile;
-    cdf = behaviour.cdf;
-    pmf = behaviour.pmf;
-    imaged = λ s r.
-        behaviour.imaged s r × IfOk r (λ bytes. IsImage bytes.items s) × OnOk r (kind.HasImage s)
-        × IfErr r (λ e. ((e ≡ InvalidArgument) × (¬ kind.HasImage s)) ⊎ (e ≡ OutOfMemory));
-    loaded = λ bytes r.
-        behaviour.loaded bytes r × IfOk r (λ t. (s : S) → IsImage bytes s → IsReadBack kind s t)
-        × IfErr r (λ e. (e ≡ OutOfMemory) ⊎ ((e ≡ InvalidData) × ((s : S) → ¬ IsImage bytes s)));
-  }
+-- a call does so, or gives an error as the rules have it and changes nothing
+abbrev pub Obeys : {S Source Shape : Type 0} → Option Shape → (S → Source → Type 0) → S → Source → Result Unit ErrorKind → S → Source → Type 0
+Obeys shape does s coins r t coins' = OnOk r (does t coins') × IfErr r (Refuses shape) × OnErr r ((t ≡ s) × (coins' ≡ coins))
+
+module _ {A C Shape S Source : Type 0} (behaviour : Behaviour S A C) (kind : Kind A C Shape S) (bit : Source → Bool) (next : Source → Source) where
+  -- so it is of a call on each sketch that keeps what every sketch keeps, by what the rules give for its shape
+  abbrev pub Follows : Change Source S → (Shape → Option Shape) → (S → Source → S → Source → Type 0) → Type 0
+  Follows call gives does = (s : S) (coins : Source) (r : Result Unit ErrorKind) (t : S) (coins' : Source) →
+      kind.IsSound s → call s coins r t coins' → Obeys (gives (kind.shape s)) (does s coins) s coins r t coins'
+
+  -- each call does what the rules say
+  pub record ObeysRules : Type 0 where
+    pub made : (config : C) (r : Result S ErrorKind) → behaviour.made config r → IfOk r (IsFresh kind (kind.rules.made config)) × IfErr r (Refuses (kind.rules.made config))
+    pub copied : (s : S) (r : Result S ErrorKind) → behaviour.copied s r → IfOk r (IsCopied kind s) × IfErr r (λ e. e ≡ OutOfMemory)
+    pub emptied : (s t : S) → behaviour.emptied s t → IsFresh kind (Some (kind.rules.emptied (kind.shape s))) t
+    pub taken : (x : A) → Follows (behaviour.taken x Source bit next) kind.rules.updated (λ s. IsUpdated kind bit next s x)
+    pub taken_weighted : (x : A) (weight : ℕ) →
+        Follows (behaviour.taken_weighted x weight Source bit next) (λ shape. kind.rules.updated_weighted shape weight) (λ s. IsWeighted kind bit next s x weight)
+    pub redrawn : Follows (behaviour.redrawn Source bit next) kind.rules.redrawn (IsRedrawn kind bit next)
+    pub joined : (redraws : Bool) (p : S) → kind.IsSound p →
+        Follows (behaviour.joined redraws p Source bit next) (λ shape. kind.rules.merged redraws shape (kind.shape p))
+        (λ s coins t coins'. IsMerged kind bit next redraws s p coins t coins' × kind.IsSound t)
+    pub refuses : (redraws : Bool) (s p : S) (answer : Bool) → kind.IsSound s → kind.IsSound p → behaviour.refuses redraws s p answer →
+        (IsTrue answer ↔ (kind.rules.merged redraws (kind.shape s) (kind.shape p) ≡ None))
+    pub imaged : (s : S) (r : Result (Vec ℕ Global) ErrorKind) → kind.IsSound s → behaviour.imaged s r →
+        OnOk r (kind.HasImage s) × IfErr r (λ e. ((e ≡ InvalidArgument) × (¬ kind.HasImage s)) ⊎ (e ≡ OutOfMemory))
+    pub read_back : (s : S) (bytes : Vec ℕ Global) (r : Result S ErrorKind) → behaviour.imaged s (Ok bytes) → behaviour.loaded bytes.items r →
+        IfOk r (IsReadBack kind s) × IfErr r (λ e. e ≡ OutOfMemory)

@@ -15,7 +15,8 @@ use Rattle.sketch_req.specs.Level.{fresh}
 use Rattle.sketch_req.specs.Merged.{IsMergedBy, coins_of_merge_by}
 use Rattle.sketch_req.specs.Redrawn.{redrawn_sketch, coins_of_redraw}
 use Rattle.sketch_req.specs.Sections.{IsLegalK}
-use Rattle.sketch_req.specs.Sketch.{Req, IsUpdated, coins_of_update}
+use Rattle.sketch_req.specs.ImageLaws.{without_coins}
+use Rattle.sketch_req.specs.Sketch.{Req, IsSound, IsUpdated, coins_of_update}
 use Rattle.sketch_req.specs.Written.{image_text}
 use Rattle.sketch_req.specs.declared.RankAccuracy.{RankAccuracy}
 use Rattle.quantile_sketches.specs.Behaviour.{Behaviour}
@@ -23,11 +24,11 @@ use Rattle.quantile_sketches.specs.Queried.{IsRank, IsQuantile, AreRanks}
 use Rattle.quantile_sketches.specs.ReqKind.{HasImage}
 
 module _ {A : Type 0} (cmp : A → A → Ordering) (spelling : A → Option (List ℕ)) where
-  -- a sketch of no items
+  -- a sketch of no items, which keeps what every sketch keeps, as do all that come below
   abbrev pub IsEmptyOf : ℕ → RankAccuracy → Req A → Type 0
   IsEmptyOf k accuracy s =
       (s.k ≡ k) × (s.accuracy ≡ accuracy) × (s.n ≡ 0) × (s.levels ≡ fresh [] true 0 k accuracy ∷ [])
-      × (s.least ≡ None) × (s.greatest ≡ None)
+      × (s.least ≡ None) × (s.greatest ≡ None) × IsSound cmp s
 
   -- an empty sketch of this k and accuracy, refused exactly for a k that is none, or for memory
   abbrev pub IsMade : ℕ × RankAccuracy → Result (Req A) ErrorKind → Type 0
@@ -38,16 +39,16 @@ module _ {A : Type 0} (cmp : A → A → Ordering) (spelling : A → Option (Lis
 
   -- an equal sketch, or out of memory
   abbrev pub IsCopied : Req A → Result (Req A) ErrorKind → Type 0
-  IsCopied s r = IfOk r (IsCopy cmp s) × IfErr r (λ e. e ≡ OutOfMemory)
+  IsCopied s r = IfOk r (λ t. IsCopy cmp s t × IsSound cmp t) × IfErr r (λ e. e ≡ OutOfMemory)
 
   -- what a new sketch of the same k and accuracy is
   abbrev pub IsEmptied : Req A → Req A → Type 0
   IsEmptied s t = IsEmptyOf s.k s.accuracy t
 
-  -- the bytes of the sketch, refused where it has no image, or for memory
+  -- the bytes of the sketch, which are an image of it without the coins that it keeps, refused where it has no image, or for memory
   abbrev pub IsImaged : Req A → Result (Vec ℕ Global) ErrorKind → Type 0
   IsImaged s r =
-      IfOk r (λ v. v.items ≡ image_text spelling s)
+      IfOk r (λ v. (v.items ≡ image_text spelling s) × BeginsImage cmp spelling v.items (without_coins s) [])
       × OnOk r (HasImage spelling s)
       × (IsErrOf r InvalidArgument → ¬ HasImage spelling s)
       × IfErr r (λ e. e ≢ InvalidData)
@@ -55,7 +56,7 @@ module _ {A : Type 0} (cmp : A → A → Ordering) (spelling : A → Option (Lis
   -- the sketch of an image that the bytes begin with, refused where there is none, or for memory
   abbrev pub IsLoaded : List ℕ → Result (Req A) ErrorKind → Type 0
   IsLoaded bytes r =
-      IfOk r (λ s. (rest : List ℕ) × BeginsImage cmp spelling bytes s rest)
+      IfOk r (λ s. ((rest : List ℕ) × BeginsImage cmp spelling bytes s rest) × IsSound cmp s)
       × IfErr r (λ e. e ≢ InvalidArgument)
       × IfErr r (λ e. e ≡ InvalidData → NoImage cmp spelling bytes)
 
@@ -70,9 +71,10 @@ module _ {A : Type 0} (cmp : A → A → Ordering) (spelling : A → Option (Lis
     abbrev pub TakesIn : Req A → A → Source → Result Unit ErrorKind → Req A → Source → Type 0
     TakesIn s x coins r t rest =
         (IsErrOf r InvalidArgument ↔ ((s.n ≡ 2 ^ 64 - 1) ⊎ (retained (bag_of s.levels) ≡ 4294967295)))
-        × IfErr r (λ e. s.n < 2 ^ 64 - 1 → retained (bag_of s.levels) < 4294967295 → e ≡ OutOfMemory)
+        × IfErr r (λ e. s.n ≢ 2 ^ 64 - 1 → retained (bag_of s.levels) ≢ 4294967295 → e ≡ OutOfMemory)
         × OnOk r (IsUpdated cmp s x (bits_from bit next coins (coins_of_update s x)) t)
         × OnOk r (rest ≡ after_draws next coins (coins_of_update s x))
+        × OnOk r (IsSound cmp t)
         × OnErr r ((t ≡ s) × (rest ≡ coins))
 
     -- an item with a weight is never taken in
@@ -83,7 +85,7 @@ module _ {A : Type 0} (cmp : A → A → Ordering) (spelling : A → Option (Lis
     abbrev pub DrawsAnew : Req A → Source → Result Unit ErrorKind → Req A → Source → Type 0
     DrawsAnew s coins r t rest =
         IsOk r × (t ≡ redrawn_sketch (bits_from bit next coins (coins_of_redraw s)) s)
-        × (rest ≡ after_draws next coins (coins_of_redraw s))
+        × (rest ≡ after_draws next coins (coins_of_redraw s)) × IsSound cmp t
 
     -- another sketch is taken in, with coins drawn anew or not, or refused, or not taken in for memory
     abbrev pub JoinsIn : (redraws : Bool) → Req A → Req A → Source → Result Unit ErrorKind → Req A → Source → Type 0
@@ -94,6 +96,7 @@ module _ {A : Type 0} (cmp : A → A → Ordering) (spelling : A → Option (Lis
         × (s.accuracy ≡ o.accuracy → o.n ≡ 0 → IsOk r × (t ≡ s) × (rest ≡ coins))
         × OnOk r (0 < o.n → IsMergedBy cmp redraws s o (bits_from bit next coins (coins_of_merge_by redraws s o)) t)
         × OnOk r (0 < o.n → rest ≡ after_draws next coins (coins_of_merge_by redraws s o))
+        × OnOk r (IsSound cmp t)
         × OnErr r ((t ≡ s) × (rest ≡ coins))
 
   -- how REQ sketches behave

@@ -43,11 +43,15 @@ AreBelow commands = EachSketch (λ slot s.
 abbrev pub AreOwnTails : {A : Type 0} → List (ReqCommand A) → Slots (Req A) → Type 0
 AreOwnTails commands = EachSketch (λ slot s. IsTrue (took_no_sketch commands slot) → tails_of commands slot ≡ s.k)
 
--- on its protected tail of 3t items, t being its tail number, each sketch's weighted rank is the true rank in its stream
-abbrev pub AreExact : {A : Type 0} → (A → A → Ordering) → List (ReqCommand A) → Slots (Req A) → Type 0
-AreExact {A} cmp commands = EachSketch (λ slot s. (y : A) (criteria : SearchCriteria) →
+-- on its protected tail of 3t items, t being its slot's tail number, a sketch's weighted rank is the true rank in its stream
+abbrev pub IsExact : {A : Type 0} → (A → A → Ordering) → List (ReqCommand A) → ℕ → Req A → Type 0
+IsExact {A} cmp commands slot s = (y : A) (criteria : SearchCriteria) →
     off_tail cmp s.accuracy y criteria (stream_of req_rules commands slot) ≤ 3 * tails_of commands slot →
-    weighted_rank cmp (counted cmp y criteria) (bag_of s.levels) ≡ true_rank cmp y criteria (stream_of req_rules commands slot))
+    weighted_rank cmp (counted cmp y criteria) (bag_of s.levels) ≡ true_rank cmp y criteria (stream_of req_rules commands slot)
+
+-- so it is of each sketch
+abbrev pub AreExact : {A : Type 0} → (A → A → Ordering) → List (ReqCommand A) → Slots (Req A) → Type 0
+AreExact cmp commands = EachSketch (IsExact cmp commands)
 
 -- what is written of a sketch is an image of it, and each sketch that is read of that is the same but for coins, which are false
 pub record ReadsBack {A : Type 0} (cmp : A → A → Ordering) (spelling : A → Option (List ℕ)) (s : Req A) : Type 0 where

@@ -3,11 +3,11 @@ use Rattle.std.specs.Prelude.{◌≡◌, ◌≢◌, ℕ, ℤ, Bool, List, [], �
 use Rattle.sketch_base.specs.declared.error.ErrorKind.TheVariants.{OutOfMemory}
 use Rattle.quantile_sketches.specs.Answer.{answer_text}
 use Rattle.quantile_sketches.specs.Behaviour.{Behaviour}
-use Rattle.quantile_sketches.specs.Command.{command_of}
+use Rattle.quantile_sketches.specs.Command.{request_of}
 use Rattle.quantile_sketches.specs.declared.answer.Refusal.TheVariants.{Sketch}
 use Rattle.quantile_sketches.specs.declared.audit.commands.Command.{Command}
 use Rattle.quantile_sketches.specs.Reader.{Grammar}
-use Rattle.quantile_sketches.specs.Step.{Slots, Verdict, Reply, Answers, CarriesOutItem}
+use Rattle.quantile_sketches.specs.LineSteps.{Slots, Verdict, Reply, Answers, CarriesOutItem}
 use Rattle.quantile_sketches.specs.Words.{words}
 
 module _ {S A C Source : Type 0} (behaviour : Behaviour S A C) (bit : Source → Bool) (next : Source → Source) where
@@ -29,7 +29,7 @@ module _ {S C : Type 0} (grammar : Grammar C) (behaviour : Behaviour S ℤ C) wh
   ServesAmply slots coins [] out = out ≡ []
   ServesAmply slots coins (l ∷ ls) out =
       (reply : Reply) × (reply ≢ Err (Sketch OutOfMemory)) × (slots' : Slots S) × (coins' : ℕ) × (rest : List ℕ)
-      × Answers behaviour (command_of grammar (words l)) (words l) slots coins reply slots' coins'
+      × Answers behaviour (request_of grammar (words l)) (words l) slots coins reply slots' coins'
       × ServesAmply slots' coins' ls rest × (out ≡ answer_text reply ++ (10 ∷ rest))
 
   -- it is one text

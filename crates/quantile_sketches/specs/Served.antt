@@ -1,30 +1,31 @@
 -- what is written for a text of commands on KLL or on REQ sketches, from empty slots on
 use Rattle.std.specs.Prelude.{ℕ, ℤ, Bool, true, false, List, [], None, Some, replicate}
-use Rattle.std.specs.Ordering.{int_cmp, int_eq}
+use Rattle.std.specs.Ordering.{int_cmp}
 use Rattle.sketch_base.specs.Spelling.{i64_spelling}
-use Rattle.sketch_kll.specs.Image.{IsImage}
 use Rattle.sketch_kll.specs.Sketch.{Kll}
-use Rattle.sketch_req.specs.Image.{BeginsImage}
-use Rattle.sketch_req.specs.ImageLaws.{without_coins}
 use Rattle.sketch_req.specs.Sketch.{Req}
 use Rattle.sketch_req.specs.declared.RankAccuracy.{RankAccuracy}
 use Rattle.quantile_sketches.specs.Behaviour.{Behaviour}
-use Rattle.quantile_sketches.specs.Behind.{AnswersRun}
-use Rattle.quantile_sketches.specs.Calls.{in_full}
+use Rattle.quantile_sketches.specs.Behind.{AreOfRun, EachKeeps, AnswersWhere}
+use Rattle.quantile_sketches.specs.declared.audit.commands.Command.{Command}
 use Rattle.quantile_sketches.specs.declared.table.TheConstants.{SLOTS}
 use Rattle.quantile_sketches.specs.Kll.{kll}
 use Rattle.quantile_sketches.specs.KllRules.{kll_kind}
+use Rattle.quantile_sketches.specs.KllRun.{IsSmall}
 use Rattle.quantile_sketches.specs.Lines.{lines, Serves, Begins}
+use Rattle.quantile_sketches.specs.Outcome.{WeighsStream, HasExtremes}
 use Rattle.quantile_sketches.specs.Reader.{kll_grammar, req_grammar}
 use Rattle.quantile_sketches.specs.Req.{req}
 use Rattle.quantile_sketches.specs.ReqKind.{req_kind}
+use Rattle.quantile_sketches.specs.ReqOutcome.{IsExact}
+use Rattle.quantile_sketches.specs.ReqPlan.{ReqCommand}
 
 -- sketches of 64-bit integers
 abbrev pub kll_of_i64 : Behaviour (Kll ℤ) ℤ ℕ
-kll_of_i64 = in_full (kll int_cmp int_eq i64_spelling) (kll_kind int_cmp i64_spelling) (IsImage int_cmp i64_spelling)
+kll_of_i64 = kll int_cmp i64_spelling
 
 abbrev pub req_of_i64 : Behaviour (Req ℤ) ℤ (ℕ × RankAccuracy)
-req_of_i64 = in_full (req int_cmp i64_spelling) (req_kind int_cmp i64_spelling) (λ bytes s. BeginsImage int_cmp i64_spelling bytes (without_coins s) [])
+req_of_i64 = req int_cmp i64_spelling
 
 -- the answers to all its lines
 abbrev pub ServesFamily : (is_req : Bool) → ℕ → List ℕ → List ℕ → Type 0
@@ -39,6 +40,21 @@ BeginsFamily false seed text sent = Begins kll_grammar kll_of_i64 (replicate SLO
 -- the answers to all its lines, each given by the sketches of a run of the commands that were accepted before it, as long as no `load` was
 abbrev pub ServesRun : (is_req : Bool) → ℕ → List ℕ → List ℕ → Type 0
 ServesRun true seed text out =
-    AnswersRun req_grammar req_of_i64 (req_kind int_cmp i64_spelling) seed (Some []) (replicate SLOTS None) seed (lines text) out
+    AnswersWhere req_grammar req_of_i64 (AreOfRun (req_kind int_cmp i64_spelling) seed) (Some []) (replicate SLOTS None) seed (lines text) out
 ServesRun false seed text out =
-    AnswersRun kll_grammar kll_of_i64 (kll_kind int_cmp i64_spelling) seed (Some []) (replicate SLOTS None) seed (lines text) out
+    AnswersWhere kll_grammar kll_of_i64 (AreOfRun (kll_kind int_cmp i64_spelling) seed) (Some []) (replicate SLOTS None) seed (lines text) out
+
+-- what is promised of a sketch in a slot after these commands: it weighs as much as its stream and has its extremes; KLL's is small, and REQ's is exact on its protected tail
+abbrev pub KllPromise : List (Command ℤ ℕ) → ℕ → Kll ℤ → Type 0
+KllPromise commands slot s =
+    WeighsStream (kll_kind int_cmp i64_spelling) commands slot s × HasExtremes (kll_kind int_cmp i64_spelling) commands slot s × IsSmall s
+
+abbrev pub ReqPromise : List (ReqCommand ℤ) → ℕ → Req ℤ → Type 0
+ReqPromise commands slot s =
+    WeighsStream (req_kind int_cmp i64_spelling) commands slot s × HasExtremes (req_kind int_cmp i64_spelling) commands slot s
+    × IsExact int_cmp commands slot s
+
+-- the answers to all its lines, each given by sketches that keep this promise for the commands that were accepted before it, as long as no `load` was
+abbrev pub ServesAsPromised : (is_req : Bool) → ℕ → List ℕ → List ℕ → Type 0
+ServesAsPromised true seed text out = AnswersWhere req_grammar req_of_i64 (EachKeeps ReqPromise) (Some []) (replicate SLOTS None) seed (lines text) out
+ServesAsPromised false seed text out = AnswersWhere kll_grammar kll_of_i64 (EachKeeps KllPromise) (Some []) (replicate SLOTS None) seed (lines text) out

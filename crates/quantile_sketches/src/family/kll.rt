@@ -2,7 +2,6 @@
 ghost use Rattle.std.specs.Prelude.{◌≡◌};
 ghost use Rattle.std.specs.declared.cmp.Ordering.TheVariants.{Equal};
 ghost use Rattle.sketch_base.specs.Spelling.{SpellingsTie};
-ghost use Rattle.sketch_kll.specs.Image.{IsImage};
 ghost use Rattle.quantile_sketches.specs.Kll.{kll};
 ghost use Rattle.quantile_sketches.specs.KllRules.{KllShape, kll_kind};
 
@@ -19,7 +18,7 @@ impl<T: KllValue + Ord> Family for KllSketch<T> {
 
     type Config = u16;
 
-    ghost behaviour = { kll T.cmp T.eq T.spelling };
+    ghost behaviour = { kll T.cmp T.spelling };
 
     ghost Shape = { KllShape };
 
@@ -28,9 +27,9 @@ impl<T: KllValue + Ord> Family for KllSketch<T> {
     ghost Asks = { SpellingsTie T.cmp T.spelling
         × ((x y : T) → T.is_clone x y → T.cmp x y ≡ Equal) };
 
-    ghost IsImage = { IsImage T.cmp T.spelling };
-
     ghost clones_tie = { λ asks. asks.1 };
+
+    fn obeys_rules<B: RandomBits>() {}
 
     fn create(alloc: Global, k: u16) -> Result<Self, Error> {
         Ok(KllSketch::new(alloc, k)?)
@@ -49,8 +48,6 @@ impl<T: KllValue + Ord> Family for KllSketch<T> {
     }
 
     fn refuses_weight<B: RandomBits>(&self, weight: u64) -> bool {
-        // Read so that the proof knows the invariant.
-        let _n = self.n();
         self.refuses_weight(weight)
     }
 
@@ -70,8 +67,6 @@ impl<T: KllValue + Ord> Family for KllSketch<T> {
         weight: u64,
         coins: &mut B,
     ) -> Result<(), Error> {
-        // Read so that the proof knows the invariant.
-        let _n = self.n();
         Ok(self.update_weighted(item, weight, coins)?)
     }
 
@@ -85,7 +80,6 @@ impl<T: KllValue + Ord> Family for KllSketch<T> {
         redraws: bool,
         coins: &mut B,
     ) -> Result<(), Error> {
-        let (_n, _others) = (self.n(), other.n());
         if redraws {
             return Err(Error::new(ErrorKind::InvalidArgument));
         }

@@ -1,9 +1,7 @@
 //! REQ sketches as a family.
-ghost use Rattle.std.specs.Prelude.{◌≡◌, []};
+ghost use Rattle.std.specs.Prelude.{◌≡◌};
 ghost use Rattle.std.specs.declared.cmp.Ordering.TheVariants.{Equal};
 ghost use Rattle.sketch_base.specs.Spelling.{SpellingsTie};
-ghost use Rattle.sketch_req.specs.Image.{BeginsImage};
-ghost use Rattle.sketch_req.specs.ImageLaws.{without_coins};
 ghost use Rattle.quantile_sketches.specs.Req.{req};
 ghost use Rattle.quantile_sketches.specs.ReqKind.{req_kind};
 ghost use Rattle.quantile_sketches.specs.ReqRules.{ReqShape};
@@ -31,9 +29,9 @@ impl<T: ReqValue + Clone + Ord> Family for ReqSketch<T> {
     ghost Asks = { SpellingsTie T.cmp T.spelling
         × ((x y : T) → T.is_clone x y → T.cmp x y ≡ Equal) };
 
-    ghost IsImage = { λ bytes s. BeginsImage T.cmp T.spelling bytes (without_coins s) [] };
-
     ghost clones_tie = { λ asks. asks.1 };
+
+    fn obeys_rules<B: RandomBits>() {}
 
     fn create(alloc: Global, config: (u16, RankAccuracy)) -> Result<Self, Error> {
         Ok(ReqSketch::new(alloc, config.0, config.1)?)
@@ -48,7 +46,6 @@ impl<T: ReqValue + Clone + Ord> Family for ReqSketch<T> {
     }
 
     fn is_full<B: RandomBits>(&self) -> bool {
-        let (_n, _items) = (self.n(), self.num_retained());
         self.is_full()
     }
 
@@ -57,8 +54,6 @@ impl<T: ReqValue + Clone + Ord> Family for ReqSketch<T> {
     }
 
     fn refuses(&self, other: &Self, _redraws: bool) -> bool {
-        let (_n, _others) = (self.n(), other.n());
-        let (_items, _more) = (self.num_retained(), other.num_retained());
         self.refuses(other)
     }
 
@@ -88,7 +83,6 @@ impl<T: ReqValue + Clone + Ord> Family for ReqSketch<T> {
         redraws: bool,
         coins: &mut B,
     ) -> Result<(), Error> {
-        let (_n, _others) = (self.n(), other.n());
         if redraws {
             self.merge_redrawn(other, coins)
         } else {

@@ -1,26 +1,68 @@
-use Rattle.std.proofs.Common.{ℕ, Bool, true, false, List, []}
+use Rattle.std.proofs.Common.{◌≡◌, ℕ, ℤ, Bool, true, false, List, Some}
 use Rattle.std.proofs.lemmas.Cmp.{int_cmp_total}
-use Rattle.std.specs.Ordering.{int_cmp, int_eq}
+use Rattle.std.specs.Ordering.{int_cmp}
 use Rattle.sketch_base.specs.Spelling.{i64_spelling}
-use Rattle.sketch_kll.specs.Image.{IsImage}
-use Rattle.sketch_req.specs.Image.{BeginsImage}
-use Rattle.sketch_req.specs.ImageLaws.{without_coins}
+use Rattle.sketch_base.specs.Random.{next_state}
+use Rattle.sketch_base.specs.SpellingLaws.{i64_prefix_free, i64_ties}
+use Rattle.quantile_sketches.specs.Behaviour.{coin_of}
 use Rattle.quantile_sketches.specs.Kll.{kll}
 use Rattle.quantile_sketches.specs.Lines.{lines}
 use Rattle.quantile_sketches.specs.Reader.{kll_grammar, req_grammar}
 use Rattle.quantile_sketches.specs.Req.{req}
-use Rattle.quantile_sketches.specs.Served.{ServesFamily, ServesRun}
-use Rattle.quantile_sketches.proofs.Answered.{answers-rest}
+use Rattle.quantile_sketches.specs.Served.{ServesFamily, ServesRun, ServesAsPromised, KllPromise, ReqPromise}
+use Rattle.quantile_sketches.specs.RunSteps.{Held}
+use Rattle.quantile_sketches.specs.declared.audit.commands.Command.{Command}
+use Rattle.quantile_sketches.specs.KllRules.{kll_kind}
+use Rattle.quantile_sketches.specs.ReqKind.{req_kind}
+use Rattle.quantile_sketches.specs.ReqPlan.{ReqCommand}
+use Rattle.sketch_kll.specs.Sketch.{Kll}
+use Rattle.sketch_req.specs.Sketch.{Req}
+use Rattle.quantile_sketches.proofs.KllRuns.{sound-small}
+use Rattle.quantile_sketches.proofs.ReqRuns.{alike-exact}
+use Rattle.quantile_sketches.proofs.Standing.{Standing, standing-is, standing-shape, standing-weight, standing-extremes, given}
+use Rattle.quantile_sketches.proofs.Answered.{answers-rest, answers-keep}
 use Rattle.quantile_sketches.proofs.KllKind.{kll_kind_lawful}
+use Rattle.quantile_sketches.proofs.KllObeys.{kll-obeys}
+use Rattle.quantile_sketches.proofs.ReqObeys.{req-obeys}
 use Rattle.quantile_sketches.proofs.ReqKind.{req_kind_lawful}
 use Rattle.quantile_sketches.proofs.lines.answers_rest_on_runs.Goals as goal
 
 -- by the family
 rest : (is_req : Bool) (seed : ℕ) (text out : List ℕ) → ServesFamily is_req seed text out → ServesRun is_req seed text out
 rest true seed text out =
-    answers-rest req_grammar (req_kind_lawful int_cmp_total i64_spelling) (req int_cmp i64_spelling) (λ bytes s. BeginsImage int_cmp i64_spelling bytes (without_coins s) []) seed (lines text) out
+    answers-rest req_grammar (req_kind_lawful int_cmp_total i64_spelling) (req int_cmp i64_spelling) (req-obeys int_cmp_total i64_spelling coin_of next_state i64_prefix_free i64_ties) seed (lines text) out
 rest false seed text out =
-    answers-rest kll_grammar (kll_kind_lawful int_cmp_total i64_spelling) (kll int_cmp int_eq i64_spelling) (IsImage int_cmp i64_spelling) seed (lines text) out
+    answers-rest kll_grammar (kll_kind_lawful int_cmp_total i64_spelling) (kll int_cmp i64_spelling) (kll-obeys int_cmp_total i64_spelling coin_of next_state i64_prefix_free i64_ties) seed (lines text) out
 
-pub returns : goal.returns
-returns c = rest
+-- what is promised of the sketches
+kll-kept : (seed : ℕ) (commands : List (Command ℤ ℕ)) (slots : Held (Kll ℤ)) (coins : ℕ) → Standing (kll_kind int_cmp i64_spelling) coin_of next_state seed commands slots coins →
+    (slot : ℕ) (s : Kll ℤ) → slots slot ≡ Some s → KllPromise commands slot s
+kll-kept seed commands slots coins st slot s held =
+    let lawful = kll_kind_lawful int_cmp_total i64_spelling in (
+      standing-weight lawful coin_of next_state seed commands slots coins st slot s held,
+      standing-extremes lawful coin_of next_state seed commands slots coins st slot s held,
+      sound-small s (standing-is lawful coin_of next_state seed commands slots coins st slot s held).sound,
+    )
+
+req-kept : (seed : ℕ) (commands : List (ReqCommand ℤ)) (slots : Held (Req ℤ)) (coins : ℕ) → Standing (req_kind int_cmp i64_spelling) coin_of next_state seed commands slots coins →
+    (slot : ℕ) (s : Req ℤ) → slots slot ≡ Some s → ReqPromise commands slot s
+req-kept seed commands slots coins st slot s held =
+    let lawful = req_kind_lawful int_cmp_total i64_spelling in (
+      standing-weight lawful coin_of next_state seed commands slots coins st slot s held,
+      standing-extremes lawful coin_of next_state seed commands slots coins st slot s held,
+      alike-exact int_cmp_total commands (given lawful coin_of next_state seed commands slots coins st slot s held) slot s
+          (standing-shape lawful coin_of next_state seed commands slots coins st slot s held)
+          (standing-is lawful coin_of next_state seed commands slots coins st slot s held).alike,
+    )
+
+kept : (is_req : Bool) (seed : ℕ) (text out : List ℕ) → ServesFamily is_req seed text out → ServesAsPromised is_req seed text out
+kept true seed text out =
+    answers-keep req_grammar (req_kind_lawful int_cmp_total i64_spelling) (req int_cmp i64_spelling) (req-obeys int_cmp_total i64_spelling coin_of next_state i64_prefix_free i64_ties) seed ReqPromise (req-kept seed) (lines text) out
+kept false seed text out =
+    answers-keep kll_grammar (kll_kind_lawful int_cmp_total i64_spelling) (kll int_cmp i64_spelling) (kll-obeys int_cmp_total i64_spelling coin_of next_state i64_prefix_free i64_ties) seed KllPromise (kll-kept seed) (lines text) out
+
+pub returns-clause-run : goal.returns-clause-run
+returns-clause-run c = rest
+
+pub returns-clause-promise : goal.returns-clause-promise
+returns-clause-promise c = kept

@@ -3,5 +3,5 @@ use Rattle.quantile_sketches.proofs.audit.laws.commands_make_one.Goals as goal
 
 pub returns : goal.returns
 returns g c =
-    kll-commands-make-one g.met.T.Ord.total c.requires.ties g.T.PartialEq.eq g.met.T.Ord.matches_eq g.T.KllValue.spelling g.met.T.KllValue.is_prefix_free
+    kll-commands-make-one g.met.T.Ord.total c.requires.ties g.T.KllValue.spelling g.met.T.KllValue.is_prefix_free
     c.requires.codec g.B.RandomBits.bit g.B.RandomBits.next

@@ -1,11 +1,11 @@
 use Rattle.std.proofs.Common.{◌≡◌, Some, sym, ap, ◌∙◌}
-use Rattle.quantile_sketches.specs.Command.{command_of}
+use Rattle.quantile_sketches.specs.Command.{request_of}
 use Rattle.quantile_sketches.specs.Words.{words}
-use Rattle.quantile_sketches.specs.declared.command.Command.TheVariants.{Run}
+use Rattle.quantile_sketches.specs.declared.command.Request.TheVariants.{Run}
 use Rattle.quantile_sketches.proofs.table.Table.answer.Goals as goal
 
 pub returns-in-Some-Run : goal.returns-in-Some-Run
 returns-in-Some-Run g c =
-    let it : command_of g.S.Config.Config.grammar (words c.args.line.now) ≡ Some (Run c.in-Some-Run.command) =
-    ap (command_of g.S.Config.Config.grammar) (sym c.new-words.ensures) ∙ (sym c.parse.ensures ∙ (c.in-Some-Run.is ∙ ap (λ command. Some command) c.in-Some-Run.field-0-is)) in
+    let it : request_of g.S.Config.Config.grammar (words c.args.line.now) ≡ Some (Run c.in-Some-Run.command) =
+    ap (request_of g.S.Config.Config.grammar) (sym c.new-words.ensures) ∙ (sym c.parse.ensures ∙ (c.in-Some-Run.is ∙ ap (λ command. Some command) c.in-Some-Run.field-0-is)) in
     rw it (c.carry_out.ensures (words c.args.line.now))

@@ -3,7 +3,6 @@ use Rattle.std.proofs.lemmas.Option.{slice_get_read}
 use Rattle.hex.specs.Hex.{encode_lower}
 use Rattle.sketch_base.specs.declared.error.ErrorKind.TheVariants.{OutOfMemory}
 use Rattle.quantile_sketches.specs.declared.answer.Refusal.TheVariants.{Sketch}
-use Rattle.quantile_sketches.specs.Calls.{in_full}
 use Rattle.quantile_sketches.proofs.table.Table.reply.Goals as goal
 
 pub returns-in_err-bytes-in-Load : goal.returns-in_err-bytes-in-Load
@@ -16,7 +15,7 @@ returns-in_err-bytes-in-Image g c =
       (
         Some c.in_ok-sketch-in-Image.field-0.now,
         c.in_ok-sketch-in-Image.ensures.found,
-        inr (inl (c.in_err-bytes-in-Image.field-0.0, (failed.exact, tt, tt, failed.refused), search rules)),
+        inr (inl (c.in_err-bytes-in-Image.field-0.0, failed, search rules)),
       ),
       refl,
       refl,
@@ -30,7 +29,7 @@ returns-in_ok-image_text-in-Image g c =
       (
         Some c.in_ok-sketch-in-Image.field-0.now,
         c.in_ok-sketch-in-Image.ensures.found,
-        inl (c.in_ok-bytes-in-Image.bytes, c.in_ok-image_text-in-Image.field-0, (written.exact, written.image, written.fits, tt), same, refl),
+        inl (c.in_ok-bytes-in-Image.bytes, c.in_ok-image_text-in-Image.field-0, written, same, refl),
       ),
       refl,
       refl,
@@ -39,14 +38,14 @@ returns-in_ok-image_text-in-Image g c =
 pub returns-in_err-load-in-Load : goal.returns-in_err-load-in-Load
 returns-in_err-load-in-Load g c =
     let failed = c.in_err-load-in-Load.ensures in
-    let P : List ℕ → Type 0 = λ bs. (in_full g.S.Family.behaviour g.S.Family.kind g.S.Family.IsImage).loaded bs (Err c.in_err-load-in-Load.field-0.0) in
-    rw c.in-Load.is (Err (Sketch c.in_err-load-in-Load.field-0.0), search rules, (inl (subst P (c.deref-in-Load.ensures.value ∙ c.in_ok-bytes-in-Load.ensures.bytes) (failed.exact, tt, failed.refused)), refl), refl)
+    let P : List ℕ → Type 0 = λ bs. g.S.Family.behaviour.loaded bs (Err c.in_err-load-in-Load.field-0.0) in
+    rw c.in-Load.is (Err (Sketch c.in_err-load-in-Load.field-0.0), search rules, (inl (subst P (c.deref-in-Load.ensures.value ∙ c.in_ok-bytes-in-Load.ensures.bytes) failed), refl), refl)
 
 pub returns-in_ok-load-in-Load : goal.returns-in_ok-load-in-Load
 returns-in_ok-load-in-Load g c =
     let read = c.in_ok-load-in-Load.ensures in
     let l : 256 ≡ length c.self.inside.slots.items = omega (arith, c.self.invariant, c.self.inside.slots.ok) in
-    let P : List ℕ → Type 0 = λ bs. (in_full g.S.Family.behaviour g.S.Family.kind g.S.Family.IsImage).loaded bs (Ok c.in_ok-load-in-Load.field-0) in
-    let made = subst P (c.deref-in-Load.ensures.value ∙ c.in_ok-bytes-in-Load.ensures.bytes) (read.exact, read.found, tt) in
+    let P : List ℕ → Type 0 = λ bs. g.S.Family.behaviour.loaded bs (Ok c.in_ok-load-in-Load.field-0) in
+    let made = subst P (c.deref-in-Load.ensures.value ∙ c.in_ok-bytes-in-Load.ensures.bytes) read in
     let held = slice_get_read c.self.inside.slots.items 256 c.in-Load.slot c.index_mut.result.now l (omega arith) c.index_mut.ensures.value in
     rw c.in-Load.is (rw (← c.self.view_is) (Ok tt, refl, (c.in_ok-load-in-Load.field-0, c.index_mut.result.now, held, inl made, refl), refl))

@@ -1,6 +1,6 @@
-use Rattle.std.proofs.Common.{rules, ◌∙◌}
+use Rattle.std.proofs.Common.{rules}
 use Rattle.quantile_sketches.proofs.Verbs.{asks_by_its_verb}
-use Rattle.quantile_sketches.proofs.command.Command.parse.Goals as goal
+use Rattle.quantile_sketches.proofs.command.Request.parse.Goals as goal
 
 pub returns : goal.returns
 returns g c = search (rules, asks_by_its_verb)

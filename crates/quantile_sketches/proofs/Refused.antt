@@ -1,0 +1,79 @@
+-- Which errors a call may give, by what it is refused for.
+use Rattle.std.proofs.Common.{◌≡◌, ◌⊎◌, ℕ, ◌<◌, ◌≤◌, ◌==◌, nat_lt, Bool, true, false, Err, refl, inl, inr, arith, eqb-true}
+use Rattle.std.proofs.lemmas.Bool.{cases_Bool, eqb-false, ltb-true, ltb-false}
+use Rattle.std.specs.Prelude.{IsErrOf}
+use Rattle.sketch_base.specs.declared.error.ErrorKind.{ErrorKind}
+use Rattle.sketch_base.specs.declared.error.ErrorKind.TheVariants.{InvalidArgument, InvalidData, OutOfMemory}
+use Rattle.quantile_sketches.specs.KllRules.{unless}
+use Rattle.quantile_sketches.specs.RunSteps.{Refuses}
+use Rattle.quantile_sketches.proofs.SameRuns.{same-err}
+
+-- where the test holds the call is refused, and where not it wants memory
+pub refuses-by : {Shape : Type 0} (b : Bool) (shape : Shape) (e : ErrorKind) → (b ≡ true → e ≡ InvalidArgument) → (b ≡ false → e ≡ OutOfMemory) → Refuses (unless b shape) e
+refuses-by true shape e f g = inl (f refl, refl)
+refuses-by false shape e f g = inr (g refl, refl)
+
+-- the error of a result
+pub err-of : {T : Type 0} (e : ErrorKind) → IsErrOf {T = T} (Err e) InvalidArgument → e ≡ InvalidArgument
+err-of {T} e h = same-err {T = T} e InvalidArgument (Err e) refl h
+
+-- an image that is refused, or wants memory
+pub unwritten : (e : ErrorKind) (P : Type 0) → (e ≡ InvalidArgument → P) → (e ≡ InvalidData → ⊥) → ((e ≡ InvalidArgument) × P) ⊎ (e ≡ OutOfMemory)
+unwritten InvalidArgument P f d = inl (refl, f refl)
+unwritten InvalidData P f d = absurd (d refl)
+unwritten OutOfMemory P f d = inr refl
+
+-- no bad data is read, and no argument refused
+pub unread : (e : ErrorKind) → (e ≡ InvalidArgument → ⊥) → (e ≡ InvalidData → ⊥) → e ≡ OutOfMemory
+unread InvalidArgument a d = absurd (a refl)
+unread InvalidData a d = absurd (d refl)
+unread OutOfMemory a d = refl
+
+-- an error where a call is refused exactly if P holds, and else for memory alone
+pub kind-of : {P : Type 0} (e : ErrorKind) → P ⊎ (P → ⊥) → (P → e ≡ InvalidArgument) → ((P → ⊥) → e ≡ OutOfMemory) → (e ≡ OutOfMemory → ⊥) → e ≡ InvalidArgument
+kind-of e (inl p) f g n = f p
+kind-of e (inr p) f g n = absurd (n (g p))
+
+-- an image that is refused for no memory
+pub unwritten-kind : (e : ErrorKind) → (e ≡ InvalidData → ⊥) → (e ≡ OutOfMemory → ⊥) → e ≡ InvalidArgument
+unwritten-kind InvalidArgument d m = refl
+unwritten-kind InvalidData d m = absurd (d refl)
+unwritten-kind OutOfMemory d m = absurd (m refl)
+
+-- bad data that is read
+pub unread-kind : (e : ErrorKind) → (e ≡ InvalidArgument → ⊥) → (e ≡ OutOfMemory → ⊥) → e ≡ InvalidData
+unread-kind InvalidArgument a m = absurd (a refl)
+unread-kind InvalidData a m = refl
+unread-kind OutOfMemory a m = absurd (m refl)
+
+-- what is so or not
+pub so-same : (a b : ℕ) → (a ≡ b) ⊎ (a ≡ b → ⊥)
+so-same a b =
+    elim (cases_Bool (a == b)) [
+      | inl t ↦ inl (eqb-true a b t)
+      | inr f ↦ inr (eqb-false a b f)
+    ]
+
+pub so-most : (a b : ℕ) → (a ≤ b) ⊎ (a ≤ b → ⊥)
+so-most a b =
+    elim (cases_Bool (nat_lt b a)) [
+      | inl t ↦ inr (λ l. omega (arith, l, ltb-true b a t))
+      | inr f ↦ inl (omega (arith, ltb-false b a f))
+    ]
+
+pub so-either : {P Q : Type 0} → P ⊎ (P → ⊥) → Q ⊎ (Q → ⊥) → (P ⊎ Q) ⊎ (P ⊎ Q → ⊥)
+so-either (inl p) q = inl (inl p)
+so-either (inr p) (inl q) = inl (inr q)
+so-either {P} {Q} (inr p) (inr q) = inr none
+  where
+    none : P ⊎ Q → ⊥
+    none (inl x) = p x
+    none (inr x) = q x
+
+-- a number that isn't at least another
+pub below : (a b : ℕ) → (b ≤ a → ⊥) → a < b
+below a b denied =
+    elim (cases_Bool (nat_lt a b)) [
+      | inl t ↦ ltb-true a b t
+      | inr f ↦ absurd (denied (ltb-false a b f))
+    ]

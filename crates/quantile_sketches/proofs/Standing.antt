@@ -1,0 +1,130 @@
+-- Where the sketches stand after accepted commands, under any source of coins.
+use Rattle.std.proofs.Common.{◌≡◌, ℕ, zero, suc, ◌+◌, ◌-◌, ◌≤◌, Bool, true, List, [], ◌∷◌, ◌++◌, length, take, drop, None, Some, refl, sym, ap, ◌∙◌, subst, arith}
+use Rattle.std.proofs.lemmas.List.{drop-take}
+use Rattle.std.specs.Option.{option_map}
+use Rattle.sketch_base.specs.Bag.{Bag}
+use Rattle.sketch_base.specs.Random.{bits_from, after_draws}
+use Rattle.sketch_base.specs.Trace.{Event, World, play, start, coins, event_draws, act, happens}
+use Rattle.sketch_base.proofs.Calls.{bits-take, bits-drop, after_draws-add}
+use Rattle.sketch_base.proofs.Runs.{in_turn-append}
+use Rattle.quantile_sketches.specs.declared.audit.commands.Command.{Command}
+use Rattle.quantile_sketches.specs.Outcome.{WeighsStream, HasExtremes}
+use Rattle.quantile_sketches.specs.Plan.{Plan, start_plan, count_of, events_of, plan_after, plan_of, trace_of}
+use Rattle.quantile_sketches.specs.RuleLaws.{IsLawful}
+use Rattle.quantile_sketches.specs.Rules.{Kind}
+use Rattle.quantile_sketches.specs.Run.{streams_after, stream_of}
+use Rattle.quantile_sketches.specs.RunSteps.{Held, AreSame, IsExecuted}
+use Rattle.quantile_sketches.proofs.Plans.{steady-start, steady-from, plan-append, trace-more, coins-more, not-none}
+use Rattle.quantile_sketches.proofs.SlotSteps.{IsOf, Stand, Steps, stand-same, steps}
+use Rattle.quantile_sketches.proofs.Streams.{stream-append, run-counts}
+
+-- the first of the first
+take-front : {X : Type 0} (m n : ℕ) (xs : List X) → m ≤ n → take m (take n xs) ≡ take m xs
+take-front zero n xs h = refl
+take-front (suc m) zero xs h = absurd (omega arith)
+take-front (suc m) (suc n) [] h = refl
+take-front (suc m) (suc n) (x ∷ xs) h = ap (λ l. x ∷ l) (take-front m n xs (omega arith))
+
+-- the coins are those after the commands, and the sketches stand under each word that begins with the bits that the source gave
+pub record Standing {A C Shape S Source : Type 0} (kind : Kind A C Shape S) (bit : Source → Bool) (next : Source → Source) (seed : Source) (commands : List (Command A C)) (slots : Held S) (source : Source) : Type 0 where
+  pub drawn : source ≡ after_draws next seed (coins (trace_of kind.rules commands))
+  pub stand : (word : List Bool) → take (coins (trace_of kind.rules commands)) word ≡ bits_from bit next seed (coins (trace_of kind.rules commands)) →
+      Stand kind (plan_of kind.rules commands) (stream_of kind.rules commands) (play kind.cmp (trace_of kind.rules commands) word start) slots
+
+module _ {A C Shape S Source : Type 0} {kind : Kind A C Shape S} (lawful : IsLawful kind) (bit : Source → Bool) (next : Source → Source) (seed : Source) where
+  abbrev pub Stands : List (Command A C) → Held S → Source → Type 0
+  Stands commands slots source = Standing kind bit next seed commands slots source
+
+  -- from empty slots on
+  pub standing-none : (slots : Held S) → ((q : ℕ) → slots q ≡ None) → Stands [] slots seed
+  standing-none slots none = record {
+    drawn = refl;
+    stand = λ word agree. record {
+      lengths = refl;
+      shapes = λ q. ap (option_map kind.shape) (none q);
+      sketches = λ q s held. absurd (not-none s (sym (none q) ∙ held));
+    };
+  }
+
+  -- where nothing changes
+  pub standing-same : (commands : List (Command A C)) (slots slots' : Held S) (source source' : Source) → Stands commands slots source → AreSame slots slots' → source' ≡ source → Stands commands slots' source'
+  standing-same commands slots slots' source source' st same stays = record {
+    drawn = stays ∙ st.drawn;
+    stand = λ word agree. stand-same _ _ _ slots slots' (st.stand word agree) same;
+  }
+
+  -- one more command
+  module _ (commands : List (Command A C)) (slots : Held S) (source : Source) (st : Stands commands slots source) (c : Command A C) (slots' : Held S) (source' : Source) (x : IsExecuted kind bit next c slots source true slots' source') where
+    plan : Plan Shape
+    plan = plan_of kind.rules commands
+
+    abbrev k : ℕ
+    k = coins (trace_of kind.rules commands)
+
+    abbrev m : ℕ
+    m = coins (events_of kind.rules (plan_of kind.rules commands) c)
+
+    step : (word : List Bool) → take k word ≡ bits_from bit next seed k →
+        Steps lawful bit next (plan_of kind.rules commands) (stream_of kind.rules commands) (play kind.cmp (trace_of kind.rules commands) word start) c source slots' source'
+    step word agree =
+        steps lawful bit next (plan_of kind.rules commands) (steady-from lawful.rules start_plan (steady-start lawful.rules) commands) (stream_of kind.rules commands)
+        (play kind.cmp (trace_of kind.rules commands) word start) slots (st.stand word agree) c source slots' source' x.decided (x.done refl)
+
+    front : (word : List Bool) → take (k + m) word ≡ bits_from bit next seed (k + m) → take k word ≡ bits_from bit next seed k
+    front word all = sym (take-front k (k + m) word (omega arith)) ∙ (ap (take k) all ∙ bits-take bit next seed k (k + m) (omega arith))
+
+    back : (word : List Bool) → take (k + m) word ≡ bits_from bit next seed (k + m) → take m (drop k word) ≡ bits_from bit next source m
+    back word all =
+        let left : (k + m) - k ≡ m = omega arith in
+        sym (drop-take k m word)
+        ∙ (ap (drop k) all
+        ∙ (bits-drop bit next seed k (k + m) (omega arith)
+        ∙ (ap (bits_from bit next (after_draws next seed k)) left ∙ ap (λ (s : Source). bits_from bit next s m) (sym st.drawn))))
+
+    stands-on : (word : List Bool) → take (coins (trace_of kind.rules (commands ++ c ∷ []))) word ≡ bits_from bit next seed (coins (trace_of kind.rules (commands ++ c ∷ []))) →
+        Stand kind (plan_of kind.rules (commands ++ c ∷ [])) (stream_of kind.rules (commands ++ c ∷ [])) (play kind.cmp (trace_of kind.rules (commands ++ c ∷ [])) word start) slots'
+    stands-on word agree =
+        let all : take (k + m) word ≡ bits_from bit next seed (k + m) = subst (λ (n : ℕ). take n word ≡ bits_from bit next seed n) (coins-more kind.rules commands c) agree in
+        let world = play kind.cmp (trace_of kind.rules commands) word start in
+        let played : play kind.cmp (trace_of kind.rules (commands ++ c ∷ [])) word start ≡ play kind.cmp (events_of kind.rules (plan_of kind.rules commands) c) (drop k word) world =
+        ap (λ (t : List (Event A)). play kind.cmp t word start) (trace-more kind.rules commands c)
+        ∙ in_turn-append event_draws (happens (act kind.cmp)) (trace_of kind.rules commands) (events_of kind.rules (plan_of kind.rules commands) c) word start in
+        subst (λ (p : Plan Shape). Stand kind p (stream_of kind.rules (commands ++ c ∷ [])) (play kind.cmp (trace_of kind.rules (commands ++ c ∷ [])) word start) slots') (sym (plan-append kind.rules start_plan commands c))
+        (subst (λ (f : ℕ → List A). Stand kind (plan_after kind.rules (plan_of kind.rules commands) c) f (play kind.cmp (trace_of kind.rules (commands ++ c ∷ [])) word start) slots') (sym (stream-append kind.rules start_plan (λ q. []) commands c))
+        (subst (λ (w : World (Bag A)). Stand kind (plan_after kind.rules (plan_of kind.rules commands) c) (streams_after kind.rules (plan_of kind.rules commands) (stream_of kind.rules commands) c) w slots') (sym played)
+        ((step word (front word all)).stands (drop k word) (back word all))))
+
+    pub standing-more : Stands (commands ++ c ∷ []) slots' source'
+    standing-more = record {
+      drawn =
+          (step (bits_from bit next seed k) (bits-take bit next seed k k (omega arith))).source_goes
+          ∙ (ap (λ (s : Source). after_draws next s m) st.drawn ∙ (sym (after_draws-add next seed k m) ∙ ap (after_draws next seed) (sym (coins-more kind.rules commands c))));
+      stand = stands-on;
+    }
+
+  -- ---- what is promised of the sketches
+
+  module _ (commands : List (Command A C)) (slots : Held S) (source : Source) (st : Stands commands slots source) (slot : ℕ) (s : S) (held : slots slot ≡ Some s) where
+    abbrev pub given : List Bool
+    given = bits_from bit next seed (coins (trace_of kind.rules commands))
+
+    stood : Stand kind (plan_of kind.rules commands) (stream_of kind.rules commands) (play kind.cmp (trace_of kind.rules commands) given start) slots
+    stood = st.stand given (bits-take bit next seed (coins (trace_of kind.rules commands)) (coins (trace_of kind.rules commands)) (omega arith))
+
+    -- the sketch is that of the play and of its stream
+    pub standing-is : IsOf kind ((play kind.cmp (trace_of kind.rules commands) given start).slots slot) (stream_of kind.rules commands slot) s
+    standing-is = stood.sketches slot s held
+
+    -- of the planned shape
+    pub standing-shape : (plan_of kind.rules commands).shapes slot ≡ Some (kind.shape s)
+    standing-shape = sym (stood.shapes slot) ∙ ap (option_map kind.shape) held
+
+    -- it weighs as much as its stream
+    pub standing-weight : WeighsStream kind commands slot s
+    standing-weight =
+        let n : kind.rules.count (kind.shape s) ≡ length (stream_of kind.rules commands slot) = ap (count_of kind.rules) (sym standing-shape) ∙ run-counts lawful.rules commands slot in
+        (n, lawful.weighs s standing-is.sound ∙ n)
+
+    -- and has its extremes
+    pub standing-extremes : HasExtremes kind commands slot s
+    standing-extremes = (standing-is.least, standing-is.greatest)
