@@ -5,7 +5,7 @@ use mathlib.Core.Path.{fun_ext}
 use Rattle.sketch_base.specs.Random.{next_state}
 use Rattle.sketch_base.specs.declared.error.ErrorKind.{ErrorKind}
 use Rattle.quantile_sketches.specs.Behaviour.{Behaviour, coin_of}
-use Rattle.quantile_sketches.specs.Behind.{Known, run_after, AreOfRun, EachKeeps, AnswersWhere}
+use Rattle.quantile_sketches.specs.RunsBehindLines.{Known, run_after, AreOfRun, EachKeeps, AnswersWhere}
 use Rattle.quantile_sketches.specs.Calls.{ObeysRules}
 use Rattle.quantile_sketches.specs.Command.{request_of}
 use Rattle.quantile_sketches.specs.declared.answer.Refusal.TheVariants.{BadLine, AbsentSlot, Sketch}

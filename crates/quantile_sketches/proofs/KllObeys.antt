@@ -16,15 +16,16 @@ use Rattle.sketch_kll.specs.ImageLaws.{HasImage}
 use Rattle.sketch_kll.specs.Sketch.{Kll, IsSound}
 use Rattle.sketch_kll.proofs.ImageTexts.{one_sketch_lem}
 use Rattle.quantile_sketches.specs.Calls.{Obeys, ObeysRules}
-use Rattle.quantile_sketches.specs.Kll.{kll, IsMade, IsCopied, IsEmptied, IsImaged, IsLoaded, IsTooHeavy, TakesIn, TakesWeighted, DrawsNone, MergesIn}
-use Rattle.quantile_sketches.specs.KllRules.{KllShape, unless, empty_shape, updated_shape, weighted_shape, merged_shape, kll_shape, kll_rules, kll_kind}
+use Rattle.quantile_sketches.specs.KllBehaviour.{kll, IsMade, IsCopied, IsEmptied, IsImaged, IsLoaded, IsTooHeavy, TakesIn, TakesWeighted, DrawsNone, MergesIn}
+use Rattle.quantile_sketches.specs.KllRules.{KllShape, empty_shape, updated_shape, weighted_shape, merged_shape, kll_shape, kll_rules, kll_kind}
+use Rattle.quantile_sketches.specs.Rules.{none_if}
 use Rattle.quantile_sketches.specs.RunSteps.{Refuses, IsFresh, IsCopied as IsCopiedBy, IsReadBack, IsUpdated, IsWeighted, IsRedrawn, IsMerged}
 use Rattle.quantile_sketches.proofs.KllKind.{shape-same, not-less, unless-taken, copy_is, updated_by, weighted_by, merged_by}
 use Rattle.quantile_sketches.proofs.Refused.{refuses-by, err-of, unwritten, unread}
 use Rattle.quantile_sketches.proofs.SameRuns.{no-err}
 
 -- nothing is given where a test holds, and only there
-unless-none : (b : Bool) (shape : KllShape) → IsTrue b ↔ (unless b shape ≡ None)
+unless-none : (b : Bool) (shape : KllShape) → IsTrue b ↔ (none_if b shape ≡ None)
 unless-none true shape = (λ t. refl, λ none. refl)
 unless-none false shape = (λ t. absurd (false≢true t), λ none. cc)
 

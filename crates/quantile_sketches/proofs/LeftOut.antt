@@ -15,7 +15,7 @@ use Rattle.quantile_sketches.specs.Plan.{Plan, start_plan, events_at, is_refused
 use Rattle.quantile_sketches.specs.Refused.{is_among, accepted_of, IsRefusedExactly, AreRefused}
 use Rattle.quantile_sketches.specs.Rules.{Rules, Kind}
 use Rattle.quantile_sketches.specs.Run.{accepted_streams, streams_after, stream_of}
-use Rattle.quantile_sketches.proofs.Plans.{plan-append, trace-more, coins-more}
+use Rattle.quantile_sketches.proofs.LegalPlans.{plan-append, trace-more, coins-more}
 use Rattle.quantile_sketches.proofs.Refusals.{Ends, empty, last, ends, without-more}
 use Rattle.quantile_sketches.proofs.Streams.{stream-append}
 

@@ -6,7 +6,7 @@ use Rattle.quantile_sketches.specs.Plan.{Plan}
 use Rattle.quantile_sketches.specs.Rules.{Rules}
 use Rattle.quantile_sketches.specs.Run.{LengthsHangOnNoItem}
 use Rattle.quantile_sketches.proofs.Bare.{AreBare, same-plan, same-coins}
-use Rattle.quantile_sketches.proofs.Plans.{run-lengths}
+use Rattle.quantile_sketches.proofs.LegalPlans.{run-lengths}
 
 -- the lengths hang on no item
 pub hangs-on-none : {A C Shape : Type 0} {rules : Rules A C Shape} {Meets : Event A → World (List ℕ) → Type 0} {Fits : Shape → List ℕ → Type 0} → AreLawful rules Meets Fits →

@@ -20,7 +20,7 @@ use Rattle.sketch_req.specs.declared.RankAccuracy.{RankAccuracy}
 use Rattle.sketch_req.specs.declared.RankAccuracy.TheVariants.{HighRank, LowRank}
 use Rattle.sketch_req.proofs.Ranks.{retained_is}
 use Rattle.sketch_req.proofs.Redraws.{layouts-redrawn, redraws-are, redraws-draw}
-use Rattle.quantile_sketches.specs.KllRules.{unless}
+use Rattle.quantile_sketches.specs.Rules.{none_if}
 use Rattle.quantile_sketches.specs.ReqKind.{req_kind, req_shape}
 use Rattle.quantile_sketches.specs.ReqRules.{ReqShape, is_same}
 use Rattle.quantile_sketches.specs.RunSteps.{IsRedrawn, IsMerged}
@@ -75,7 +75,7 @@ module _ {A : Type 0} {cmp : A → A → Ordering} (o : IsTotalOrder cmp) where
         OnOk r (IsMerged (req_kind cmp spelling) bit next redraws s other source t source')
     merged_by redraws s other t source source' (Err e) sound refused empty ok drawn = tt
     merged_by redraws s other t source source' (Ok u) sound refused empty ok drawn = record {
-      shape_is = ap (λ (b : Bool). unless b made) taken ∙ ap Some shape;
+      shape_is = ap (λ (b : Bool). none_if b made) taken ∙ ap Some shape;
       empty = λ none. let e = empty same none in (e.1, e.2);
       after = λ some.
           let m = ok some in

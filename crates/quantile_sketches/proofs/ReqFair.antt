@@ -10,7 +10,7 @@ use Rattle.quantile_sketches.specs.ReqFair.{is_fair_slot}
 use Rattle.quantile_sketches.specs.ReqPlan.{ReqCommand}
 use Rattle.quantile_sketches.specs.ReqRules.{req_rules}
 use Rattle.quantile_sketches.specs.Run.{RunIsUnbiasedWhere}
-use Rattle.quantile_sketches.proofs.Plans.{run-legal, along-even}
+use Rattle.quantile_sketches.proofs.LegalPlans.{run-legal, along-even}
 use Rattle.quantile_sketches.proofs.ReqRuleLaws.{req_lawful}
 use Rattle.quantile_sketches.proofs.Streams.{run-ranks}
 use Rattle.quantile_sketches.proofs.Trips.{shed-same}

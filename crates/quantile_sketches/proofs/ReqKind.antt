@@ -21,7 +21,7 @@ use Rattle.sketch_req.proofs.Walks.{own-req}
 use Rattle.quantile_sketches.specs.RuleLaws.{IsLawful}
 use Rattle.quantile_sketches.specs.ReqKind.{req_kind}
 use Rattle.quantile_sketches.specs.ReqRules.{merge_actions_by}
-use Rattle.quantile_sketches.proofs.Plans.{not-none}
+use Rattle.quantile_sketches.proofs.LegalPlans.{not-none}
 use Rattle.quantile_sketches.proofs.ReqMerges.{redraw-req, merge-req}
 use Rattle.quantile_sketches.proofs.ReqRuleLaws.{req_lawful}
 

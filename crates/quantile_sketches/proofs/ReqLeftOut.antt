@@ -16,7 +16,7 @@ use Rattle.quantile_sketches.specs.ReqRules.{ReqShape, req_rules}
 use Rattle.quantile_sketches.specs.RunSteps.{Held}
 use Rattle.quantile_sketches.proofs.AfterCommands.{arrives}
 use Rattle.quantile_sketches.proofs.LeftOut.{left-front}
-use Rattle.quantile_sketches.proofs.Plans.{trace-more}
+use Rattle.quantile_sketches.proofs.LegalPlans.{trace-more}
 use Rattle.quantile_sketches.proofs.Refusals.{Ends, empty, last, ends, without-more}
 use Rattle.quantile_sketches.proofs.ReqKind.{req_kind_lawful}
 

@@ -22,8 +22,8 @@ use Rattle.sketch_req.specs.declared.RankAccuracy.TheVariants.{HighRank, LowRank
 use Rattle.sketch_req.proofs.OneSketch.{one_sketch}
 use Rattle.sketch_req.proofs.Ranks.{retained_is}
 use Rattle.quantile_sketches.specs.Calls.{Obeys, ObeysRules}
-use Rattle.quantile_sketches.specs.KllRules.{unless}
-use Rattle.quantile_sketches.specs.Req.{req, IsEmptyOf, IsMade, IsCopied, IsImaged, IsLoaded, IsUnfit, TakesIn, TakesNone, DrawsAnew, JoinsIn}
+use Rattle.quantile_sketches.specs.Rules.{none_if}
+use Rattle.quantile_sketches.specs.ReqBehaviour.{req, IsEmptyOf, IsMade, IsCopied, IsImaged, IsLoaded, IsUnfit, TakesIn, TakesNone, DrawsAnew, JoinsIn}
 use Rattle.quantile_sketches.specs.ReqKind.{HasImage, req_kind, req_shape}
 use Rattle.quantile_sketches.specs.ReqRules.{ReqShape, new_shape, may_be_k, is_same, is_too_much, req_rules}
 use Rattle.quantile_sketches.specs.RunSteps.{Refuses, IsFresh, IsCopied as IsCopiedBy, IsReadBack, IsUpdated, IsWeighted, IsRedrawn, IsMerged}
@@ -65,7 +65,7 @@ module _ {A : Type 0} {cmp : A → A → Ordering} (o : IsTotalOrder cmp) (spell
   }
 
   made : (config : ℕ × RankAccuracy) (r : Result (Req A) ErrorKind) → IsMade cmp spelling config r → IfOk r (IsFresh (req_kind cmp spelling) ((req_rules {A = A}).made config)) × IfErr r (Refuses ((req_rules {A = A}).made config))
-  made config (Ok s) h = (empty-of config.0 config.1 _ s h.2 (ap (λ (b : Bool). unless (not b) (new_shape config.0 config.1)) legal), tt)
+  made config (Ok s) h = (empty-of config.0 config.1 _ s h.2 (ap (λ (b : Bool). none_if (not b) (new_shape config.0 config.1)) legal), tt)
     where
       legal : may_be_k config.0 ≡ true
       legal =
@@ -149,7 +149,7 @@ module _ {A : Type 0} {cmp : A → A → Ordering} (o : IsTotalOrder cmp) (spell
 
   refuses : (redraws : Bool) (s p : Req A) (answer : Bool) → IsSound cmp s → IsSound cmp p → IsTrue answer ↔ IsUnfit cmp spelling s p →
       IsTrue answer ↔ ((req_rules {A = A}).merged redraws (req_shape s) (req_shape p) ≡ None)
-  refuses redraws s p answer sound other h = (λ t. ap (λ (b : Bool). unless b made-of) (bad (h.0 t)), λ none. h.1 (unfit s p (not-given (no_merge (req_shape s) (req_shape p)) none)))
+  refuses redraws s p answer sound other h = (λ t. ap (λ (b : Bool). none_if b made-of) (bad (h.0 t)), λ none. h.1 (unfit s p (not-given (no_merge (req_shape s) (req_shape p)) none)))
     where
       made-of : ReqShape
       made-of = merged_as (req_shape s) (req_shape p) (if p.n == 0 then layouts_of s.levels else merge_layouts s.k (layouts_of s.levels) (layouts_of p.levels))
@@ -161,7 +161,7 @@ module _ {A : Type 0} {cmp : A → A → Ordering} (o : IsTotalOrder cmp) (spell
             | inr f ↦ absurd (unfit-not s p sound other u f)
           ]
 
-      not-given : (b : Bool) → unless b made-of ≡ None → b ≡ true
+      not-given : (b : Bool) → none_if b made-of ≡ None → b ≡ true
       not-given true e = refl
       not-given false e = cc
 
@@ -173,7 +173,7 @@ module _ {A : Type 0} {cmp : A → A → Ordering} (o : IsTotalOrder cmp) (spell
           (
             record {
               shape_is =
-                  ap (λ (b : Bool). unless b (record { k = s.k; accuracy = s.accuracy; n = s.n + 1; layouts = update_layouts s.k (layouts_of s.levels) })) (ap₂ (λ (b c : Bool). b || c) light few)
+                  ap (λ (b : Bool). none_if b (record { k = s.k; accuracy = s.accuracy; n = s.n + 1; layouts = update_layouts s.k (layouts_of s.levels) })) (ap₂ (λ (b c : Bool). b || c) light few)
                   ∙ ap Some (same-shape _ _ _ _ _ _ _ _ (sym u.k) (sym u.accuracy) (sym u.n) (sym u.layouts));
               alike = u.bag;
               least_is = u.least;

@@ -14,7 +14,7 @@ use Rattle.quantile_sketches.specs.ReqReady.{Fairness, new_fairness, updated_fai
 use Rattle.quantile_sketches.specs.ReqRules.{ReqShape, new_shape, req_rules}
 use Rattle.quantile_sketches.specs.Run.{RunIsUnbiasedWhere}
 use Rattle.quantile_sketches.proofs.ReqFair.{run-unbiased_where_fair}
-use Rattle.quantile_sketches.proofs.ReqPlan.{updated_shape, events_merged, req_merge_events, accepted_req_events, req_merge_shapes, accepted_req_shapes, either-way}
+use Rattle.quantile_sketches.proofs.ReqShapes.{updated_shape, events_merged, req_merge_events, accepted_req_events, req_merge_shapes, accepted_req_shapes, either-way}
 use Rattle.quantile_sketches.proofs.ReqRuleLaws.{merged_as}
 
 abbrev layouts_in : (ℕ → Option ReqShape) → ℕ → List Layout

@@ -12,7 +12,7 @@ use Rattle.sketch_req.specs.ScheduleLaws.{IsLegalFrom}
 use Rattle.sketch_req.specs.Sections.{IsLegalK}
 use Rattle.sketch_req.specs.declared.RankAccuracy.{RankAccuracy}
 use Rattle.sketch_req.specs.declared.RankAccuracy.TheVariants.{HighRank, LowRank}
-use Rattle.sketch_req.proofs.Capacities.{update_weighs, merge_weighs, update_two, merge_two, update_few, merge_few, update_retains, merge_retains}
+use Rattle.sketch_req.proofs.WalkCapacities.{update_weighs, merge_weighs, update_two, merge_two, update_few, merge_few, update_retains, merge_retains}
 use Rattle.sketch_req.proofs.LegalLayouts.{new_is, filled_are, joined_are}
 use Rattle.sketch_req.proofs.LegalTraces.{lengths_at, along-even, fits-legal, update_legal, update_lengths}
 use Rattle.sketch_req.proofs.LegalWalks.{room_leads}
@@ -22,7 +22,7 @@ use Rattle.quantile_sketches.specs.Plan.{events_at}
 use Rattle.quantile_sketches.specs.ReqKind.{FitsReq, MeetsReq}
 use Rattle.quantile_sketches.specs.ReqRules.{ReqShape, new_shape, may_be_k, is_same, is_too_much, merge_actions_by, req_rules}
 use Rattle.quantile_sketches.proofs.KllRuleLaws.{unless-there}
-use Rattle.quantile_sketches.proofs.Plans.{not-none, some-one}
+use Rattle.quantile_sketches.proofs.LegalPlans.{not-none, some-one}
 use Rattle.quantile_sketches.proofs.ReqMerges.{legal-by, lengths-by, redraw-leads, ranks-redraw, ranks-merge}
 
 -- a test that isn't false

@@ -12,7 +12,7 @@ use Rattle.sketch_base.specs.Spelling.{SpellingsTie}
 use Rattle.sketch_base.specs.Trace.{Event, play, start, coins}
 use Rattle.sketch_base.specs.Words.{sum_over_words, distance, square}
 use Rattle.sketch_base.proofs.Alikes.{rank-alike}
-use Rattle.sketch_base.proofs.Loads.{req_within_load}
+use Rattle.sketch_base.proofs.LoadBound.{req_within_load}
 use Rattle.sketch_base.proofs.Picks.{Sheds}
 use Rattle.sketch_base.proofs.SpelledItems.{IsPrefixFree}
 use Rattle.sketch_base.proofs.Sums.{sum_by-expanded}
@@ -26,29 +26,29 @@ use Rattle.sketch_req.specs.Sketch.{Req}
 use Rattle.sketch_req.specs.Walk.{AreLevels}
 use Rattle.sketch_req.specs.Written.{image_text}
 use Rattle.sketch_req.specs.declared.RankAccuracy.{RankAccuracy}
-use Rattle.sketch_req.proofs.Capacities.{upper_weighs}
+use Rattle.sketch_req.proofs.WalkCapacities.{upper_weighs}
 use Rattle.sketch_req.proofs.Layouts.{length-layouts}
 use Rattle.sketch_req.proofs.OneSketch.{one_sketch}
 use Rattle.sketch_req.proofs.Ranks.{retained_is}
 use Rattle.sketch_req.proofs.Relatives.{updates_relative, updates_relative_to_counts}
-use Rattle.sketch_req.proofs.Writings.{written_lem}
+use Rattle.sketch_req.proofs.WrittenSketches.{written_lem}
 use Rattle.quantile_sketches.specs.AllWords.{rank_of, AllRuns, ShowIn, IsUnbiasedIn, squares_in, AreUnbiasedWhere}
 use Rattle.quantile_sketches.specs.Audit.{rank_under}
 use Rattle.quantile_sketches.specs.Outcome.{Slots, sketch_at, ArePlanned, ArePlayed, AreSound}
 use Rattle.quantile_sketches.specs.Plan.{Plan, start_plan, plan_of, trace_of}
 use Rattle.quantile_sketches.specs.Refused.{accepted_of, AreRefused}
 use Rattle.quantile_sketches.specs.ReqKind.{FitsReq, req_kind, req_shape}
-use Rattle.quantile_sketches.specs.ReqOutcome.{AreInOrder, HaveFewLevels, AreBelow, AreOwnTails, IsExact, AreExact, AreReadBack, AreRelative, AreRelativeToCounts}
+use Rattle.quantile_sketches.specs.ReqOutcome.{AreInOrder, HaveFewLevels, AreBelowNominal, TailsAreK, IsExact, TailsAreExact, AreReadBack, AreRelative, AreRelativeToCounts}
 use Rattle.quantile_sketches.specs.ReqPlan.{ReqCommand, shape_in, tails_of}
 use Rattle.quantile_sketches.specs.ReqRules.{ReqShape, req_rules}
-use Rattle.sketch_req.specs.Relative.{off_tail, IsRelative, Reaches}
+use Rattle.sketch_req.specs.Relative.{off_protected_end, IsRelative, Reaches}
 use Rattle.quantile_sketches.specs.ReqFair.{is_fair_slot}
 use Rattle.quantile_sketches.specs.ReqReady.{stays_fair}
 use Rattle.quantile_sketches.specs.ReqUpdated.{was_only_updated, compacted_in, squared_errors}
 use Rattle.quantile_sketches.specs.Run.{stream_of, RunIsUnbiasedWhere, RunIsWithinLoad}
 use Rattle.quantile_sketches.proofs.AllWords.{led-left-out, led-rank}
 use Rattle.quantile_sketches.proofs.LeftOut.{IsLeftOut, left-out}
-use Rattle.quantile_sketches.proofs.Plans.{run-legal, steady-start, steady-from, along-even}
+use Rattle.quantile_sketches.proofs.LegalPlans.{run-legal, steady-start, steady-from, along-even}
 use Rattle.quantile_sketches.proofs.ReqAlone.{run-below, run-own}
 use Rattle.quantile_sketches.proofs.ReqFair.{run-unbiased_where_fair, fair-shed}
 use Rattle.quantile_sketches.proofs.ReqKind.{req_kind_lawful}
@@ -107,7 +107,7 @@ pub alike-exact : {A : Type 0} {cmp : A → A → Ordering} → IsTotalOrder cmp
     AlikeReq cmp ((play cmp (trace_of req_rules commands) word start).slots slot) (bag_of s.levels) → IsExact cmp commands slot s
 alike-exact {A} {cmp} o commands word slot s shape alike y criteria few =
     let same_side : (shape_in ((plan_of req_rules commands).shapes slot)).accuracy ≡ s.accuracy = ap (λ (p : Option ReqShape). (shape_in p).accuracy) shape in
-    let enough = subst (λ (a : RankAccuracy). off_tail cmp a y criteria (stream_of req_rules commands slot) ≤ 3 * tails_of commands slot) (sym same_side) few in
+    let enough = subst (λ (a : RankAccuracy). off_protected_end cmp a y criteria (stream_of req_rules commands slot) ≤ 3 * tails_of commands slot) (sym same_side) few in
     sym (rank-alike o y criteria ((play cmp (trace_of req_rules commands) word start).slots slot) (bag_of s.levels) alike.levels) ∙ run-exact o y criteria commands word slot enough
 
 module _ {A : Type 0} {cmp : A → A → Ordering} (o : IsTotalOrder cmp) (spelling : A → Option (List ℕ)) (commands : List (ReqCommand A)) (slots : Slots (Req A)) where
@@ -131,13 +131,13 @@ module _ {A : Type 0} {cmp : A → A → Ordering} (o : IsTotalOrder cmp) (spell
       subst (λ (m : ℕ). 2 ^ m ≤ s.n) n (omega (arith, l, f.weighs))
 
   -- few items are kept where nothing was merged
-  pub run-small : ArePlanned (req_kind cmp spelling) commands slots → AreBelow commands slots
+  pub run-small : ArePlanned (req_kind cmp spelling) commands slots → AreBelowNominal commands slots
   run-small planned slot s held alone =
       let h = subst (λ (p : Option ReqShape). retained_of (shape_in p).layouts < nominal_sum (shape_in p).k (shape_in p).layouts) (there planned slot s held) (run-below commands slot alone) in
       omega (arith, h, retained_is s.levels)
 
   -- and tail numbers are their k
-  pub run-tails-own : ArePlanned (req_kind cmp spelling) commands slots → AreOwnTails commands slots
+  pub run-tails-own : ArePlanned (req_kind cmp spelling) commands slots → TailsAreK commands slots
   run-tails-own planned slot s held alone = run-own commands slot alone (req_shape s) (there planned slot s held)
 
   -- images read back
@@ -153,7 +153,7 @@ module _ {A : Type 0} {cmp : A → A → Ordering} (o : IsTotalOrder cmp) (spell
 
   module _ (word : List Bool) (refused : List ℕ) (are : AreRefused (req_kind cmp spelling) word commands refused) where
     -- the tail is exact
-    pub run-tail : ArePlanned (req_kind cmp spelling) commands slots → ArePlayed (req_kind cmp spelling) (accepted_of refused commands) word slots → AreExact cmp commands slots
+    pub run-tail : ArePlanned (req_kind cmp spelling) commands slots → ArePlayed (req_kind cmp spelling) (accepted_of refused commands) word slots → TailsAreExact cmp commands slots
     run-tail planned played slot s held y criteria few =
         let fewer = accepted_of refused commands in
         let l = left-out (req_kind_lawful o spelling) word commands refused are in
@@ -162,8 +162,8 @@ module _ {A : Type 0} {cmp : A → A → Ordering} (o : IsTotalOrder cmp) (spell
         let streams = ap (λ (f : ℕ → List A). f slot) l.streams in
         let tails = ap (λ (f : ℕ → ℕ). f slot) t.tails in
         let enough =
-        subst (λ (xs : List A). off_tail cmp s.accuracy y criteria xs ≤ 3 * tails_of fewer slot) streams
-        (subst (λ (n : ℕ). off_tail cmp s.accuracy y criteria (stream_of req_rules commands slot) ≤ 3 * n) tails few) in
+        subst (λ (xs : List A). off_protected_end cmp s.accuracy y criteria xs ≤ 3 * tails_of fewer slot) streams
+        (subst (λ (n : ℕ). off_protected_end cmp s.accuracy y criteria (stream_of req_rules commands slot) ≤ 3 * n) tails few) in
         alike-exact o fewer word slot s shape (played slot s held) y criteria enough ∙ sym (ap (true_rank cmp y criteria) streams)
 
   -- ---- over the runs under all words
@@ -267,16 +267,16 @@ module _ {A : Type 0} {cmp : A → A → Ordering} (o : IsTotalOrder cmp) (spell
           (subst (λ (l : List A). P (req_shape s) l (squared_errors cmp y criteria (accepted runs word) (length word) slot)) (accepted-stream was_only_updated (updated-shed cmp) runs slot show)
           (subst (λ (shape : ReqShape). P shape (stream_of req_rules (accepted runs word) slot) (squared_errors cmp y criteria (accepted runs word) (length word) slot)) accepted-shape is))
 
-      own-relative : IsRelative s.k (length s.levels - 1) (length word) squares (off_tail cmp s.accuracy y criteria (stream_of req_rules commands slot))
+      own-relative : IsRelative s.k (length s.levels - 1) (length word) squares (off_protected_end cmp s.accuracy y criteria (stream_of req_rules commands slot))
       own-relative =
-          subst (λ (levels : ℕ). IsRelative s.k (levels - 1) (length word) squares (off_tail cmp s.accuracy y criteria (stream_of req_rules commands slot))) (length-layouts s.levels)
-          (as-run (λ shape stream n. IsRelative shape.k (compacted_in shape) (length word) n (off_tail cmp shape.accuracy y criteria stream))
+          subst (λ (levels : ℕ). IsRelative s.k (levels - 1) (length word) squares (off_protected_end cmp s.accuracy y criteria (stream_of req_rules commands slot))) (length-layouts s.levels)
+          (as-run (λ shape stream n. IsRelative shape.k (compacted_in shape) (length word) n (off_protected_end cmp shape.accuracy y criteria stream))
           (run-relative cmp (accepted runs word) slot (show word refl) (length word) (accepted-enough was_only_updated (updated-shed cmp) runs slot show) y criteria (updates_relative o)))
 
-      own-relative_to_counts : 24 ≤ s.k → (levels : ℕ) → let count = off_tail cmp s.accuracy y criteria (stream_of req_rules commands slot) in
+      own-relative_to_counts : 24 ≤ s.k → (levels : ℕ) → let count = off_protected_end cmp s.accuracy y criteria (stream_of req_rules commands slot) in
           Reaches s.k count levels → IsRelative s.k levels (length word) squares count
       own-relative_to_counts great levels =
-          as-run (λ shape stream n. let count = off_tail cmp shape.accuracy y criteria stream in 24 ≤ shape.k → Reaches shape.k count levels → IsRelative shape.k levels (length word) n count)
+          as-run (λ shape stream n. let count = off_protected_end cmp shape.accuracy y criteria stream in 24 ≤ shape.k → Reaches shape.k count levels → IsRelative shape.k levels (length word) n count)
           (run-relative_to_counts cmp (accepted runs word) slot (show word refl) (length word) (accepted-enough was_only_updated (updated-shed cmp) runs slot show) y criteria (updates_relative_to_counts o) levels)
           great
 

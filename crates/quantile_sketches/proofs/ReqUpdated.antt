@@ -13,7 +13,7 @@ use Rattle.sketch_base.proofs.Average.{sum_over_words-same}
 use Rattle.sketch_base.proofs.Calls.{coins-at}
 use Rattle.sketch_base.proofs.Changes.{changed-there, changed-own}
 use Rattle.sketch_base.proofs.Picks.{is_plain, ArePlain, stays, picked, pick, Sheds, play-picked, play-shed, sum-picked, picked-cleared, picked-away, picked-joined, picked-more}
-use Rattle.sketch_base.proofs.Runs.{play-at}
+use Rattle.sketch_base.proofs.PlaysInParts.{play-at}
 use Rattle.sketch_req.specs.Relative.{IsRelative, UpdatesAreRelative, Reaches, UpdatesAreRelativeToCounts}
 use Rattle.sketch_req.specs.Schedule.{Layout, new_layout, room_actions, put_layouts, update_actions, update_layouts, redraw_actions, merge_layouts}
 use Rattle.sketch_req.specs.ScheduleLaws.{events_at, updates_actions, updates_layouts, updates_trace}
@@ -27,8 +27,8 @@ use Rattle.quantile_sketches.specs.ReqRules.{ReqShape, new_shape, merge_actions_
 use Rattle.quantile_sketches.specs.ReqRun.{merged_in}
 use Rattle.quantile_sketches.specs.ReqUpdated.{accepted_only_updated, only_updated_after, only_updated_from, was_only_updated, compacted_in, off_tail_at, squared_errors}
 use Rattle.quantile_sketches.specs.Run.{accepted_streams, streams_after, streams_from, stream_of, IsUnbiased}
-use Rattle.quantile_sketches.proofs.ReqPlan.{events_merged, req_merge_events, accepted_req_events, req_merge_shapes, accepted_req_shapes, updated_shape, either-way}
-use Rattle.quantile_sketches.proofs.ReqPlans.{run-fits}
+use Rattle.quantile_sketches.proofs.ReqShapes.{events_merged, req_merge_events, accepted_req_events, req_merge_shapes, accepted_req_shapes, updated_shape, either-way}
+use Rattle.quantile_sketches.proofs.ReqPlanFits.{run-fits}
 use Rattle.quantile_sketches.proofs.ReqRuleLaws.{req_lawful, merged_as}
 use Rattle.quantile_sketches.proofs.Streams.{AreCounted, counts-after, streams-fit}
 

@@ -16,10 +16,10 @@ use Rattle.sketch_base.specs.declared.common.SearchCriteria.{SearchCriteria}
 use Rattle.sketch_kll.specs.Sketch.{bag_of}
 use Rattle.sketch_req.specs.Actions.{bag_of as bag_in}
 use Rattle.quantile_sketches.specs.Behaviour.{coin_of}
-use Rattle.quantile_sketches.specs.Kll.{kll}
+use Rattle.quantile_sketches.specs.KllBehaviour.{kll}
 use Rattle.quantile_sketches.specs.Queried.{IsRank}
 use Rattle.quantile_sketches.specs.Reader.{kll_grammar, req_grammar}
-use Rattle.quantile_sketches.specs.Req.{req}
+use Rattle.quantile_sketches.specs.ReqBehaviour.{req}
 use Rattle.quantile_sketches.specs.SameRun.{LinesAnswerOne}
 use Rattle.quantile_sketches.specs.Served.{kll_of_i64, req_of_i64}
 use Rattle.quantile_sketches.proofs.Refused.{unread-kind}

@@ -17,7 +17,7 @@ use Rattle.sketch_kll.specs.Levels.{SameLevels}
 use Rattle.sketch_kll.specs.Sketch.{Kll, bag_of, sketch_of}
 use Rattle.sketch_kll.proofs.ImageTexts.{one_sketch_lem}
 use Rattle.sketch_kll.proofs.OneCall.{one-update, one-weighted, one-merge}
-use Rattle.quantile_sketches.specs.Kll.{kll, IsMade, IsEmptied, TakesWeighted, DrawsNone, JoinsIn, MergesIn}
+use Rattle.quantile_sketches.specs.KllBehaviour.{kll, IsMade, IsEmptied, TakesWeighted, DrawsNone, JoinsIn, MergesIn}
 use Rattle.quantile_sketches.specs.SameRun.{CommandsMakeOne}
 use Rattle.quantile_sketches.proofs.Refused.{err-of, kind-of, unread, unwritten-kind, so-same, so-most, so-either, below}
 use Rattle.quantile_sketches.proofs.SameRuns.{IsOne, IsSettled, MakesOne, no-err, one-run}

@@ -21,7 +21,7 @@ use Rattle.sketch_base.specs.declared.error.ErrorKind.TheVariants.{InvalidArgume
 use Rattle.sketch_base.specs.declared.error.ErrorKind.{ErrorKind}
 use Rattle.std.specs.declared.alloc.Global.{Global}
 use Rattle.std.specs.declared.vec.Vec.{Vec}
-use Rattle.quantile_sketches.specs.Req.{req, IsEmptyOf, IsCopied, IsUnfit, JoinsIn}
+use Rattle.quantile_sketches.specs.ReqBehaviour.{req, IsEmptyOf, IsCopied, IsUnfit, JoinsIn}
 use Rattle.quantile_sketches.specs.ReqRules.{may_be_k, is_same}
 use Rattle.quantile_sketches.specs.SameRun.{CommandsMakeOne}
 use Rattle.quantile_sketches.proofs.ReqCopies.{copied-levels}

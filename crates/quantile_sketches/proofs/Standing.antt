@@ -6,7 +6,7 @@ use Rattle.sketch_base.specs.Bag.{Bag}
 use Rattle.sketch_base.specs.Random.{bits_from, after_draws}
 use Rattle.sketch_base.specs.Trace.{Event, World, play, start, coins, event_draws, act, happens}
 use Rattle.sketch_base.proofs.Calls.{bits-take, bits-drop, after_draws-add}
-use Rattle.sketch_base.proofs.Runs.{in_turn-append}
+use Rattle.sketch_base.proofs.PlaysInParts.{in_turn-append}
 use Rattle.quantile_sketches.specs.declared.audit.commands.Command.{Command}
 use Rattle.quantile_sketches.specs.Outcome.{WeighsStream, HasExtremes}
 use Rattle.quantile_sketches.specs.Plan.{Plan, start_plan, count_of, events_of, plan_after, plan_of, trace_of}
@@ -14,7 +14,7 @@ use Rattle.quantile_sketches.specs.RuleLaws.{IsLawful}
 use Rattle.quantile_sketches.specs.Rules.{Kind}
 use Rattle.quantile_sketches.specs.Run.{streams_after, stream_of}
 use Rattle.quantile_sketches.specs.RunSteps.{Held, AreSame, IsExecuted}
-use Rattle.quantile_sketches.proofs.Plans.{steady-start, steady-from, plan-append, trace-more, coins-more, not-none}
+use Rattle.quantile_sketches.proofs.LegalPlans.{steady-start, steady-from, plan-append, trace-more, coins-more, not-none}
 use Rattle.quantile_sketches.proofs.SlotSteps.{IsOf, Stand, Steps, stand-same, steps}
 use Rattle.quantile_sketches.proofs.Streams.{stream-append, run-counts}
 

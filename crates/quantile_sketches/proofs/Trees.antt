@@ -16,7 +16,7 @@ use Rattle.quantile_sketches.specs.KllRules.{KllShape, kll_rules}
 use Rattle.quantile_sketches.specs.Plan.{Plan, start_plan, actions_on, events_at, count_of, shape_after, accepted_events, events_of, plan_after, trace_from}
 use Rattle.quantile_sketches.specs.Rollup.{Standing, Free, Used, Mixed, joined, used, is_tree, accepted_standings, standings_after, standings_from, TreesTakeOnce}
 use Rattle.quantile_sketches.proofs.KllRuleLaws.{kll_lawful}
-use Rattle.quantile_sketches.proofs.Plans.{changed-away, at_slot, not-none, some-there, then-there, IsSteady, steady-start, steady-after, refused-or-taken}
+use Rattle.quantile_sketches.proofs.LegalPlans.{changed-away, at_slot, not-none, some-there, then-there, IsSteady, steady-start, steady-after, refused-or-taken}
 
 -- ---- standings
 

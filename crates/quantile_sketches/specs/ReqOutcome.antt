@@ -9,7 +9,7 @@ use Rattle.sketch_req.specs.Actions.{bag_of}
 use Rattle.sketch_req.specs.Image.{BeginsImage}
 use Rattle.sketch_req.specs.ImageLaws.{without_coins}
 use Rattle.sketch_req.specs.Imaged.{IsSameSketch}
-use Rattle.sketch_req.specs.Relative.{off_tail, IsRelative, Reaches}
+use Rattle.sketch_req.specs.Relative.{off_protected_end, IsRelative, Reaches}
 use Rattle.sketch_req.specs.Schedule.{layouts_of, nominal_sum}
 use Rattle.sketch_req.specs.Sketch.{Req}
 use Rattle.sketch_req.specs.Written.{image_text}
@@ -35,23 +35,23 @@ abbrev pub took_no_sketch : {A : Type 0} → List (ReqCommand A) → ℕ → Boo
 took_no_sketch = unmerged_from no_shapes (λ slot. true)
 
 -- each such sketch retains less than the sum of its nominal capacities
-abbrev pub AreBelow : {A : Type 0} → List (ReqCommand A) → Slots (Req A) → Type 0
-AreBelow commands = EachSketch (λ slot s.
+abbrev pub AreBelowNominal : {A : Type 0} → List (ReqCommand A) → Slots (Req A) → Type 0
+AreBelowNominal commands = EachSketch (λ slot s.
     IsTrue (took_no_sketch commands slot) → retained (bag_of s.levels) < nominal_sum s.k (layouts_of s.levels))
 
 -- and its tail number is its k
-abbrev pub AreOwnTails : {A : Type 0} → List (ReqCommand A) → Slots (Req A) → Type 0
-AreOwnTails commands = EachSketch (λ slot s. IsTrue (took_no_sketch commands slot) → tails_of commands slot ≡ s.k)
+abbrev pub TailsAreK : {A : Type 0} → List (ReqCommand A) → Slots (Req A) → Type 0
+TailsAreK commands = EachSketch (λ slot s. IsTrue (took_no_sketch commands slot) → tails_of commands slot ≡ s.k)
 
 -- on its protected tail of 3t items, t being its slot's tail number, a sketch's weighted rank is the true rank in its stream
 abbrev pub IsExact : {A : Type 0} → (A → A → Ordering) → List (ReqCommand A) → ℕ → Req A → Type 0
 IsExact {A} cmp commands slot s = (y : A) (criteria : SearchCriteria) →
-    off_tail cmp s.accuracy y criteria (stream_of req_rules commands slot) ≤ 3 * tails_of commands slot →
+    off_protected_end cmp s.accuracy y criteria (stream_of req_rules commands slot) ≤ 3 * tails_of commands slot →
     weighted_rank cmp (counted cmp y criteria) (bag_of s.levels) ≡ true_rank cmp y criteria (stream_of req_rules commands slot)
 
 -- so it is of each sketch
-abbrev pub AreExact : {A : Type 0} → (A → A → Ordering) → List (ReqCommand A) → Slots (Req A) → Type 0
-AreExact cmp commands = EachSketch (IsExact cmp commands)
+abbrev pub TailsAreExact : {A : Type 0} → (A → A → Ordering) → List (ReqCommand A) → Slots (Req A) → Type 0
+TailsAreExact cmp commands = EachSketch (IsExact cmp commands)
 
 -- what is written of a sketch is an image of it, and each sketch that is read of that is the same but for coins, which are false
 pub record ReadsBack {A : Type 0} (cmp : A → A → Ordering) (spelling : A → Option (List ℕ)) (s : Req A) : Type 0 where
@@ -68,11 +68,11 @@ module _ {A : Type 0} (cmp : A → A → Ordering) (spelling : A → Option (Lis
   AreRelative = (runs : AllRuns (req_kind cmp spelling) commands word slots) → EachSketch (λ slot s.
       ShowIn (req_kind cmp spelling) commands word slots was_only_updated runs slot → (y : A) (criteria : SearchCriteria) →
       IsRelative s.k (length s.levels - 1) (length word) (squares_in (req_kind cmp spelling) commands word slots runs slot y criteria)
-      (off_tail cmp s.accuracy y criteria (stream_of req_rules commands slot))) slots
+      (off_protected_end cmp s.accuracy y criteria (stream_of req_rules commands slot))) slots
 
   -- and for a k of at least 24 the bound hangs on k and that count alone
   abbrev pub AreRelativeToCounts : Type 0
   AreRelativeToCounts = (runs : AllRuns (req_kind cmp spelling) commands word slots) → EachSketch (λ slot s.
       ShowIn (req_kind cmp spelling) commands word slots was_only_updated runs slot → 24 ≤ s.k → (y : A) (criteria : SearchCriteria) (levels : ℕ) →
-      let count = off_tail cmp s.accuracy y criteria (stream_of req_rules commands slot) in
+      let count = off_protected_end cmp s.accuracy y criteria (stream_of req_rules commands slot) in
       Reaches s.k count levels → IsRelative s.k levels (length word) (squares_in (req_kind cmp spelling) commands word slots runs slot y criteria) count) slots

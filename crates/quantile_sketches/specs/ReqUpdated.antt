@@ -6,7 +6,7 @@ use Rattle.sketch_base.specs.Bag.{weighted_rank}
 use Rattle.sketch_base.specs.Query.{counted, true_rank}
 use Rattle.sketch_base.specs.Trace.{changed, play, start, coins}
 use Rattle.sketch_base.specs.Words.{sum_over_words, distance, square}
-use Rattle.sketch_req.specs.Relative.{off_tail, IsRelative, Reaches}
+use Rattle.sketch_req.specs.Relative.{off_protected_end, IsRelative, Reaches}
 use Rattle.quantile_sketches.specs.declared.audit.commands.Command.TheVariants.{New, Update, UpdateWeighted, Merge, Reset, RoundTrip, Redraw, MergeRedrawn}
 use Rattle.quantile_sketches.specs.Plan.{is_refused, trace_of}
 use Rattle.quantile_sketches.specs.ReqPlan.{ReqCommand, shape_at, next_shapes, no_shapes}
@@ -45,7 +45,7 @@ compacted_in s = length s.layouts - 1
 -- how many items of a slot's stream lie on the accurate side of a query
 abbrev pub off_tail_at : {A : Type 0} → (A → A → Ordering) → A → SearchCriteria → List (ReqCommand A) → ℕ → ℕ
 off_tail_at cmp y criteria commands slot =
-    let s = shape_at commands slot in off_tail cmp s.accuracy y criteria (stream_of req_rules commands slot)
+    let s = shape_at commands slot in off_protected_end cmp s.accuracy y criteria (stream_of req_rules commands slot)
 
 -- the squares of a slot's errors at a query in the plays under all words of so many bits, in all
 abbrev pub squared_errors : {A : Type 0} → (A → A → Ordering) → A → SearchCriteria → List (ReqCommand A) → (bits slot : ℕ) → ℕ

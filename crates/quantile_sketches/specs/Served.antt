@@ -6,16 +6,16 @@ use Rattle.sketch_kll.specs.Sketch.{Kll}
 use Rattle.sketch_req.specs.Sketch.{Req}
 use Rattle.sketch_req.specs.declared.RankAccuracy.{RankAccuracy}
 use Rattle.quantile_sketches.specs.Behaviour.{Behaviour}
-use Rattle.quantile_sketches.specs.Behind.{AreOfRun, EachKeeps, AnswersWhere}
+use Rattle.quantile_sketches.specs.RunsBehindLines.{AreOfRun, EachKeeps, AnswersWhere}
 use Rattle.quantile_sketches.specs.declared.audit.commands.Command.{Command}
 use Rattle.quantile_sketches.specs.declared.table.TheConstants.{SLOTS}
-use Rattle.quantile_sketches.specs.Kll.{kll}
+use Rattle.quantile_sketches.specs.KllBehaviour.{kll}
 use Rattle.quantile_sketches.specs.KllRules.{kll_kind}
 use Rattle.quantile_sketches.specs.KllRun.{IsSmall}
 use Rattle.quantile_sketches.specs.Lines.{lines, Serves, Begins}
 use Rattle.quantile_sketches.specs.Outcome.{WeighsStream, HasExtremes}
 use Rattle.quantile_sketches.specs.Reader.{kll_grammar, req_grammar}
-use Rattle.quantile_sketches.specs.Req.{req}
+use Rattle.quantile_sketches.specs.ReqBehaviour.{req}
 use Rattle.quantile_sketches.specs.ReqKind.{req_kind}
 use Rattle.quantile_sketches.specs.ReqOutcome.{IsExact}
 use Rattle.quantile_sketches.specs.ReqPlan.{ReqCommand}

@@ -9,7 +9,7 @@ use Rattle.sketch_base.specs.Lengths.{start_lengths}
 use Rattle.sketch_base.proofs.Acts.{rank}
 use Rattle.sketch_base.proofs.Sums.{sum_by-expanded}
 use Rattle.sketch_base.proofs.Average.{sum_over_words-same, sum_over_words-add, sum_over_words-const}
-use Rattle.sketch_base.proofs.Updates.{equal_below, equal_sums}
+use Rattle.sketch_base.proofs.ReqUnbiased.{equal_below, equal_sums}
 use Rattle.sketch_base.proofs.Worlds.{one, held, true_ranks-same, held-settled}
 use Rattle.sketch_base.specs.Fair.{is_fair, none_drawn, FairIsUnbiased}
 use Rattle.sketch_base.proofs.Gains.{KeepsRules, gained, lost, all_gained, all_lost, top_of, below_top, accounted}

@@ -8,7 +8,7 @@ use Rattle.sketch_base.specs.Lengths.{world_lengths, ObeysScratch, Along, TakesE
 use Rattle.sketch_base.proofs.Fixed.{lengths-happens}
 use Rattle.sketch_base.proofs.Acts.{rank}
 use Rattle.sketch_base.proofs.Worlds.{one, held, true_ranks-same, held-ended, held-snap, held-put, held-clear, held-pull, held-join, held-forget, held-redraw}
-use Rattle.sketch_base.proofs.Solo.{sum_below, sum_below-add, sum_below-pick, up, down, compacted, compacted-moves}
+use Rattle.sketch_base.proofs.SlotAlone.{sum_below, sum_below-add, sum_below-pick, up, down, compacted, compacted-moves}
 use Rattle.sketch_base.proofs.Reached.{only, counts_in, counts-moved}
 
 module _ {A : Type 0} (cmp : A → A → Ordering) (f : A → ℕ) where

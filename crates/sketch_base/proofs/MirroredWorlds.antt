@@ -3,8 +3,8 @@ use Rattle.std.proofs.Common.{◌≡◌, ◌≢◌, ℕ, ◌≤◌, ◌<◌, Boo
 use Rattle.std.proofs.lemmas.Bool.{cases_eq, ne_eqb, false≢true}
 use Rattle.sketch_base.specs.Bag.{Bag, Taken, empty_bag, level_at, with_level}
 use Rattle.sketch_base.specs.Trace.{Put, Pull, Join, Forget, Redraw, Clear, Action, Snap, At, World, changed, is_req, happens, act}
-use Rattle.sketch_base.proofs.Solo.{compacted}
-use Rattle.sketch_base.proofs.Mirror.{Mirrored, level_at-same, level_at-other, mirror-kept, mirror-compact}
+use Rattle.sketch_base.proofs.SlotAlone.{compacted}
+use Rattle.sketch_base.proofs.ComplementedBits.{Mirrored, level_at-same, level_at-other, mirror-kept, mirror-compact}
 
 -- a coin drawn for one level leaves which others have drawn one
 pub still_drawn : (row : ℕ → Bool) (g h : ℕ) → h ≢ g → changed row h true g ≡ true → row g ≡ true

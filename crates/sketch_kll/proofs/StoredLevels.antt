@@ -7,7 +7,7 @@ use Rattle.sketch_kll.specs.Levels.{compacted, SameLevels, UpperSorted}
 use Rattle.sketch_kll.specs.Sketch.{IsSound, sketch_of}
 use Rattle.sketch_kll.specs.Stored.{Stored, AreStored}
 use Rattle.sketch_kll.proofs.Flats.{is_flat, levels_of_flat, length-bounds}
-use Rattle.sketch_kll.proofs.Joins.{prepared}
+use Rattle.sketch_kll.proofs.JoinedLevels.{prepared}
 use Rattle.sketch_kll.proofs.Merged.{JoinedSize, joined_size}
 use Rattle.sketch_kll.proofs.NoMoreLevels.{few_compacted}
 use Rattle.sketch_kll.proofs.RaisedLevels.{raised, raised_is}

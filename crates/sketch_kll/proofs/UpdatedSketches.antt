@@ -6,7 +6,7 @@ use Rattle.sketch_kll.specs.Capacity.{total_of}
 use Rattle.sketch_kll.specs.Levels.{SameLevels, UpperSorted}
 use Rattle.sketch_kll.specs.Sketch.{Kll, IsSound, sketch_of, Ties, least_with, greatest_with}
 use Rattle.sketch_kll.specs.Steps.{with_room, put}
-use Rattle.sketch_kll.proofs.Extremes.{bounded, first_ties}
+use Rattle.sketch_kll.proofs.ItemsBetween.{bounded, first_ties}
 use Rattle.sketch_kll.proofs.CompactedSizes.{alike_size}
 use Rattle.sketch_kll.proofs.NoMoreLevels.{room_made, one_level_left}
 use Rattle.sketch_kll.proofs.PutItems.{retained-put, weight-put, length-put, UpperSorted-put, SameLevels-put}

@@ -10,7 +10,7 @@ use Rattle.sketch_base.specs.Trace.{Action, Work, act, acts, alone, bag_after, d
 use Rattle.sketch_base.proofs.Alikes.{acts-kll}
 use Rattle.sketch_base.proofs.AllParts.{all-append, all-map}
 use Rattle.sketch_base.proofs.Fixed.{lengths-acts}
-use Rattle.sketch_base.proofs.Runs.{in_turn-append}
+use Rattle.sketch_base.proofs.PlaysInParts.{in_turn-append}
 use Rattle.sketch_kll.specs.Schedule.{updates_actions, updates_lengths}
 use Rattle.sketch_kll.specs.Sketch.{IsUpdated, bag_of, update_of}
 use Rattle.sketch_kll.specs.Updates.{AreUpdated, OneUpdates, UpdatesGoOn}

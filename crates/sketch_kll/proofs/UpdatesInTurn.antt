@@ -18,7 +18,7 @@ use Rattle.sketch_kll.specs.Updates.{AreUpdated, coins_of_updates}
 use Rattle.sketch_kll.proofs.AlikeSteps.{length-lengths}
 use Rattle.sketch_kll.proofs.AllItems.{AllItems-map}
 use Rattle.sketch_kll.proofs.CompactedSizes.{length-same}
-use Rattle.sketch_kll.proofs.Extremes.{from-same, up_to-same, ties-same}
+use Rattle.sketch_kll.proofs.ItemsBetween.{from-same, up_to-same, ties-same}
 use Rattle.sketch_kll.proofs.MergeActions.{beside, pulls_act}
 use Rattle.sketch_kll.proofs.MergeSchedule.{goes-kll, pulls_are}
 use Rattle.sketch_kll.proofs.Merged.{alike-refl, alike-same}

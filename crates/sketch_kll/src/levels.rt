@@ -19,7 +19,7 @@ mod taking;
 use crate::capacity::{MINIMUM_CAPACITY, level_capacity, total_capacity};
 use crate::compaction::compact_level;
 use sketch_base::common::SearchCriteria;
-use sketch_base::common::counting::count_counted;
+use sketch_base::common::counting::count_all;
 use sketch_base::common::extremes::{clone_if_greatest, clone_if_least};
 use sketch_base::common::random::RandomBits;
 use std::alloc::{AllocError, Global};
@@ -232,7 +232,7 @@ pub(crate) fn weight_counted<T: Ord>(
     let mut level = bounds.len() - 1;
     while level > 0 {
         level -= 1;
-        let counted = count_counted(level_slice(items, bounds, level), query, criteria);
+        let counted = count_all(level_slice(items, bounds, level), query, criteria);
         weight = 2 * weight + counted as u64;
     }
     weight

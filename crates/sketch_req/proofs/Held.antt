@@ -8,11 +8,11 @@ use Rattle.sketch_req.specs.Schedule.{layouts_of, nominal_sum, retained_of}
 use Rattle.sketch_req.specs.Sections.{IsLegalK}
 use Rattle.sketch_req.specs.Walk.{AreHeld, AreLevels, accuracy_of, appended_first, k_of}
 use Rattle.sketch_req.specs.declared.RankAccuracy.{RankAccuracy}
-use Rattle.sketch_req.proofs.Holding.{longer-room}
+use Rattle.sketch_req.proofs.HeldExtremes.{longer-room}
 use Rattle.sketch_req.proofs.Layouts.{length-layouts}
-use Rattle.sketch_req.proofs.Levels.{fresh_stored}
+use Rattle.sketch_req.proofs.KeptLevels.{fresh_stored}
 use Rattle.sketch_req.proofs.Redraws.{layouts-ready, layouts-redrawn, placed-redrawn}
-use Rattle.sketch_req.proofs.Updates.{few-placed, nominal-appended, placed-appended, retained-appended}
+use Rattle.sketch_req.proofs.UpdatedLevels.{few-placed, nominal-appended, placed-appended, retained-appended}
 
 -- what is known of levels whose k and accuracy are given
 pub record IsOwn {A : Type 0} (cmp : A → A → Ordering) (k : ℕ) (accuracy : RankAccuracy) (ls : List (Level A)) : Type 0 where

@@ -21,9 +21,9 @@ use Rattle.sketch_req.specs.Sketch.{Req, IsSound, IsUpdated, update_of, sketch_o
 use Rattle.sketch_req.specs.Walk.{IsPlaced, AreLevels, appended_first}
 use Rattle.sketch_req.specs.declared.RankAccuracy.{RankAccuracy}
 use Rattle.sketch_req.proofs.Bags.{alike-sym, alike-trans}
-use Rattle.sketch_req.proofs.Joins.{coin-there, items-there, layout-there, placed-at-place}
+use Rattle.sketch_req.proofs.MergedLevels.{coin-there, items-there, layout-there, placed-at-place}
 use Rattle.sketch_req.proofs.Layouts.{length-layouts}
-use Rattle.sketch_req.proofs.Places.{by-place}
+use Rattle.sketch_req.proofs.ListPlaces.{by-place}
 
 -- a level, from its parts
 abbrev level : {A : Type 0} → List A → Bool → ℕ → ℕ → Bool → ℕ → ℕ → RankAccuracy → Level A

@@ -6,7 +6,7 @@ use Rattle.sketch_base.specs.Extremes.{IsBetween, IsLeastOf, IsGreatestOf}
 use Rattle.sketch_req.specs.Redrawn.{redrawn, redrawn_sketch}
 use Rattle.sketch_req.specs.Schedule.{layouts_of, retained_of, weight_of}
 use Rattle.sketch_req.specs.Sketch.{Req, IsSound, items_in}
-use Rattle.sketch_req.proofs.Holding.{news}
+use Rattle.sketch_req.proofs.HeldExtremes.{news}
 use Rattle.sketch_req.proofs.Layouts.{length-layouts}
 use Rattle.sketch_req.proofs.Redraws.{flat-items, items-redrawn, layouts-redrawn, placed-redrawn}
 

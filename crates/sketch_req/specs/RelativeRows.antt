@@ -3,7 +3,7 @@ use Rattle.std.specs.Prelude.{◌≡◌, ℕ, zero, suc, Bool, true, false, List
 use Rattle.std.specs.Ordering.{nat_cmp}
 use Rattle.sketch_base.specs.declared.common.SearchCriteria.TheVariants.{Inclusive}
 use Rattle.sketch_base.specs.Trace.{coins}
-use Rattle.sketch_req.specs.Relative.{off_tail, IsRelative, Reaches, updates_compacted, updates_rank, updates_squares}
+use Rattle.sketch_req.specs.Relative.{off_protected_end, IsRelative, Reaches, updates_compacted, updates_rank, updates_squares}
 use Rattle.sketch_req.specs.ScheduleLaws.{updates_trace}
 use Rattle.sketch_req.specs.declared.RankAccuracy.{RankAccuracy}
 use Rattle.sketch_req.specs.declared.RankAccuracy.TheVariants.{HighRank, LowRank}
@@ -21,7 +21,7 @@ abbrev pub squares_over : ℕ → RankAccuracy → ℕ → ℕ → ℕ → ℕ
 squares_over k accuracy n y bits = updates_squares nat_cmp y Inclusive 0 k accuracy (rising 1 n) bits
 
 abbrev pub off_in : RankAccuracy → ℕ → ℕ → ℕ
-off_in accuracy n y = off_tail nat_cmp accuracy y Inclusive (rising 1 n)
+off_in accuracy n y = off_protected_end nat_cmp accuracy y Inclusive (rising 1 n)
 
 pub record RelativeRows : Type 0 where
   -- the bound itself, met with equality and passed by one: k 4, one level and two

@@ -2,7 +2,7 @@
 ghost use Rattle.std.specs.Prelude.{◌≡◌};
 ghost use Rattle.std.specs.declared.cmp.Ordering.TheVariants.{Equal};
 ghost use Rattle.sketch_base.specs.Spelling.{SpellingsTie};
-ghost use Rattle.quantile_sketches.specs.Kll.{kll};
+ghost use Rattle.quantile_sketches.specs.KllBehaviour.{kll};
 ghost use Rattle.quantile_sketches.specs.KllRules.{KllShape, kll_kind};
 
 use super::Family;

@@ -2,7 +2,7 @@
 ghost use Rattle.std.specs.Prelude.{◌≡◌};
 ghost use Rattle.std.specs.declared.cmp.Ordering.TheVariants.{Equal};
 ghost use Rattle.sketch_base.specs.Spelling.{SpellingsTie};
-ghost use Rattle.quantile_sketches.specs.Req.{req};
+ghost use Rattle.quantile_sketches.specs.ReqBehaviour.{req};
 ghost use Rattle.quantile_sketches.specs.ReqKind.{req_kind};
 ghost use Rattle.quantile_sketches.specs.ReqRules.{ReqShape};
 

@@ -1,7 +1,7 @@
 //! How many items a query counts. The criterion is chosen once, outside the loops.
 ghost use Rattle.std.specs.Prelude.{◌≡◌, ◌+◌, ◌*◌, ◌^◌, ◌<◌, ◌≤◌, if◌then◌else◌, length, count_by, IsSorted};
 ghost use Rattle.sketch_base.specs.Query.{counted};
-ghost use Rattle.sketch_base.specs.Queries.{Parts};
+ghost use Rattle.sketch_base.specs.Queries.{IsSplitAt};
 ghost use Rattle.sketch_base.specs.declared.common.SearchCriteria.TheVariants.{Inclusive, Exclusive};
 
 use crate::common::SearchCriteria;
@@ -13,7 +13,7 @@ const FEW: usize = 16;
 const LAST_STEPS: u32 = 8;
 
 /// How many items a query counts, in any order.
-pub fn count_counted<T: Ord>(items: &[T], query: &T, criteria: SearchCriteria) -> usize
+pub fn count_all<T: Ord>(items: &[T], query: &T, criteria: SearchCriteria) -> usize
     ensures { result ≡ count_by (counted T.cmp query.now criteria) items.now }
 {
     match criteria {
@@ -52,7 +52,7 @@ fn count_below<T: Ord>(items: &[T], query: &T) -> usize
 pub fn count_in_order<T: Ord>(items: &[T], query: &T, criteria: SearchCriteria) -> usize
     requires sorted { IsSorted T.cmp items.now }
     ensures within { result ≤ length items.now }
-    ensures parts { Parts (counted T.cmp query.now criteria) items.now result }
+    ensures parts { IsSplitAt (counted T.cmp query.now criteria) items.now result }
     ensures count { result ≡ count_by (counted T.cmp query.now criteria) items.now }
 {
     match criteria {
@@ -201,17 +201,17 @@ fn count_in_part<T: Ord>(items: &[T], query: &T, criteria: SearchCriteria) -> us
     if items.len() > FEW {
         count_in_order(items, query, criteria)
     } else {
-        count_counted(items, query, criteria)
+        count_all(items, query, criteria)
     }
 }
 
 /// Counts the items of a sorted slice that the query counts, given that it counts at least `known`.
 /// Cheaper the closer the result is to `known`.
-pub fn count_onward<T: Ord>(items: &[T], known: usize, query: &T, criteria: SearchCriteria) -> usize
+pub fn count_from<T: Ord>(items: &[T], known: usize, query: &T, criteria: SearchCriteria) -> usize
     requires sorted { IsSorted T.cmp items.now }
     requires known { known ≤ count_by (counted T.cmp query.now criteria) items.now }
     ensures within { result ≤ length items.now }
-    ensures parts { Parts (counted T.cmp query.now criteria) items.now result }
+    ensures parts { IsSplitAt (counted T.cmp query.now criteria) items.now result }
     ensures count { result ≡ count_by (counted T.cmp query.now criteria) items.now }
 {
     let (start, end) = part_from(items, known, query, criteria);

@@ -5,10 +5,10 @@ use Rattle.sketch_base.specs.Spelling.{i64_spelling}
 use Rattle.sketch_base.specs.Random.{next_state}
 use Rattle.sketch_base.specs.SpellingLaws.{i64_prefix_free, i64_ties}
 use Rattle.quantile_sketches.specs.Behaviour.{coin_of}
-use Rattle.quantile_sketches.specs.Kll.{kll}
+use Rattle.quantile_sketches.specs.KllBehaviour.{kll}
 use Rattle.quantile_sketches.specs.Lines.{lines}
 use Rattle.quantile_sketches.specs.Reader.{kll_grammar, req_grammar}
-use Rattle.quantile_sketches.specs.Req.{req}
+use Rattle.quantile_sketches.specs.ReqBehaviour.{req}
 use Rattle.quantile_sketches.specs.Served.{ServesFamily, ServesRun, ServesAsPromised, KllPromise, ReqPromise}
 use Rattle.quantile_sketches.specs.RunSteps.{Held}
 use Rattle.quantile_sketches.specs.declared.audit.commands.Command.{Command}

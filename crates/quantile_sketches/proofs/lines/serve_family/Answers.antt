@@ -3,7 +3,7 @@ use Rattle.std.specs.Io.KnownBytes.{Appends}
 use Rattle.quantile_sketches.specs.declared.table.TheConstants.{SLOTS}
 use Rattle.quantile_sketches.specs.Lines.{lines, Begins}
 use Rattle.quantile_sketches.proofs.FirstLine.{nothing_ahead}
-use Rattle.quantile_sketches.proofs.Runs.{begins-unread}
+use Rattle.quantile_sketches.proofs.LineRuns.{begins-unread}
 use denote.MutBor.{MutBor}
 use Rattle.quantile_sketches.proofs.lines.serve_family.Goals as goal
 

@@ -2,7 +2,7 @@ use Rattle.std.proofs.Common.{◌≡◌, ◌%◌, ◌+◌, ◌*◌, length, ap, 
 use Rattle.std.specs.Result.{result_ok}
 use Rattle.hex.proofs.HexLemmas.{decode_of-even}
 use Rattle.hex.proofs.Pairs.{decode_step, decode_done}
-use Rattle.quantile_sketches.proofs.Digits.{digit_at, two_digits}
+use Rattle.quantile_sketches.proofs.HexDigits.{digit_at, two_digits}
 use Rattle.quantile_sketches.proofs.text.read_pairs.Goals as goal
 
 pub digit_value-requires : goal.digit_value-requires

@@ -1,6 +1,6 @@
 use Rattle.std.proofs.Common.{◌≡◌, ◌+◌, ◌-◌, ◌==◌, ◌≤◌, length, take, drop, ◌∙◌, arith, rules, false, length-take-le, length-drop}
 use Rattle.std.specs.List.{position_or_len}
-use Rattle.quantile_sketches.proofs.Parts.{place_behind_block}
+use Rattle.quantile_sketches.proofs.LineParts.{place_behind_block}
 use Rattle.quantile_sketches.proofs.words.len_before.Goals as goal
 
 pub loop-i-preserved : goal.loop-i-preserved

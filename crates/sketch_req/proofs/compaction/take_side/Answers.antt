@@ -2,7 +2,7 @@ use Rattle.std.proofs.Common.{◌≡◌, ℕ, ◌-◌, ◌%◌, List, ◌++◌, 
 use Rattle.std.proofs.lemmas.List.{reverse-reverse}
 use Rattle.sketch_base.specs.Bag.{half}
 use Rattle.sketch_base.proofs.MovedHalves.{half_reverse}
-use Rattle.sketch_req.proofs.Parts.{moved_behind}
+use Rattle.sketch_req.proofs.TakenParts.{moved_behind}
 use Rattle.sketch_req.proofs.compaction.take_side.Goals.{After-move_behind}
 use Rattle.sketch_req.proofs.compaction.take_side.Goals as goal
 

@@ -1,5 +1,5 @@
 use Rattle.std.proofs.Common.{arith}
-use Rattle.sketch_base.proofs.Fronts.{step-doubled}
+use Rattle.sketch_base.proofs.PassedFronts.{step-doubled}
 use Rattle.sketch_base.proofs.common.counting.count_by_last_steps.Goals as goal
 
 pub halve-count-requires-clause-ends : goal.halve-count-requires-clause-ends

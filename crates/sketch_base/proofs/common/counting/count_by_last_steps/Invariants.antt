@@ -1,6 +1,6 @@
 use Rattle.std.proofs.Common.{◌≤◌, ◌-◌, ◌^◌}
 use Rattle.sketch_base.specs.Query.{counted}
-use Rattle.sketch_base.proofs.Fronts.{IsCountWithin}
+use Rattle.sketch_base.proofs.PassedFronts.{IsCountWithin}
 use Rattle.sketch_base.proofs.common.counting.count_by_last_steps.Given as goal
 
 abbrev pub invariant-loop-shift : goal.invariant-loop-shift

@@ -1,7 +1,7 @@
 use Rattle.std.proofs.Common.{◌-◌, length, ap, sym, ◌∙◌, arith}
 use Rattle.sketch_base.specs.Query.{counted}
 use Rattle.sketch_base.proofs.Entries.{counted-parted}
-use Rattle.sketch_base.proofs.Fronts.{counts-passed, counts-failed}
+use Rattle.sketch_base.proofs.PassedFronts.{counts-passed, counts-failed}
 use Rattle.sketch_base.proofs.common.counting.first_count.Goals as goal
 
 pub returns-then-counts-clause-starts : goal.returns-then-counts-clause-starts

@@ -2,7 +2,7 @@ use Rattle.std.proofs.Common.{◌+◌, ◌-◌, ◌^◌, ap, sym, ◌∙◌, sli
 use Rattle.std.proofs.lemmas.Nat.{pow_pos}
 use Rattle.sketch_base.specs.Query.{counted}
 use Rattle.sketch_base.proofs.Entries.{counted-parted}
-use Rattle.sketch_base.proofs.Fronts.{counted-step}
+use Rattle.sketch_base.proofs.PassedFronts.{counted-step}
 use Rattle.sketch_base.proofs.common.counting.halve.Goals as goal
 
 pub returns : goal.returns

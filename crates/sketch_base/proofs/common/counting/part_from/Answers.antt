@@ -2,7 +2,7 @@ use Rattle.std.proofs.Common.{◌≤◌, ◌+◌, ◌-◌, count_by, sym, ap, �
 use Rattle.std.proofs.lemmas.List.Sums.{count_by-le-length}
 use Rattle.sketch_base.specs.Query.{counted}
 use Rattle.sketch_base.proofs.Entries.{counted-parted}
-use Rattle.sketch_base.proofs.Fronts.{counts-passed, counts-failed}
+use Rattle.sketch_base.proofs.PassedFronts.{counts-passed, counts-failed}
 use Rattle.sketch_base.proofs.common.counting.part_from.Goals as goal
 use Rattle.sketch_base.proofs.common.counting.part_from.Goals.{then-loop-step-test+else-counts, else-loop-step-test}
 

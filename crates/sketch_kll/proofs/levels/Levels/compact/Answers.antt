@@ -7,7 +7,7 @@ use Rattle.sketch_kll.proofs.Flats.{length-bounds, length-items}
 use Rattle.sketch_kll.proofs.CompactedRuns.{known_sorted}
 use Rattle.sketch_kll.proofs.RaisedLevels.{raised_is}
 use Rattle.sketch_kll.proofs.StoredLevels.{CompactedStored, known_total, compacted_stored}
-use Rattle.sketch_kll.proofs.Joins.{whole_slice}
+use Rattle.sketch_kll.proofs.JoinedLevels.{whole_slice}
 use Rattle.sketch_kll.proofs.levels.Levels.compact.Goals as goal
 use Rattle.sketch_kll.proofs.levels.Levels.compact.Goals.{After-truncate}
 

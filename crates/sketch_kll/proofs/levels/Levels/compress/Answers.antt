@@ -5,7 +5,7 @@ use Rattle.sketch_kll.specs.Levels.{retained, first_level, SameLevels, UpperSort
 use Rattle.sketch_kll.specs.Compress.{stepped, stepped_source}
 use Rattle.sketch_kll.specs.Stored.{Stored}
 use Rattle.sketch_kll.proofs.Flats.{SameLevels-refl}
-use Rattle.sketch_kll.proofs.Walks.{behind_start, no_62nd_level, walk_step, walk_more, WalkStep}
+use Rattle.sketch_kll.proofs.CompressWalks.{behind_start, no_62nd_level, walk_step, walk_more, WalkStep}
 use Rattle.sketch_kll.proofs.Compresses.{walk_ended}
 use Rattle.sketch_kll.proofs.levels.Levels.compress.Goals as goal
 

@@ -2,7 +2,7 @@ use Rattle.std.proofs.Common.{◌≡◌, List, sym, subst, true, rules}
 use Rattle.sketch_kll.specs.Levels.{SameLevels}
 use Rattle.sketch_kll.specs.Compress.{passes}
 use Rattle.sketch_kll.proofs.Flats.{SameLevels-refl}
-use Rattle.sketch_kll.proofs.Walks.{stepped_passed}
+use Rattle.sketch_kll.proofs.CompressWalks.{stepped_passed}
 use Rattle.sketch_kll.proofs.levels.Levels.compress_level.Goals as goal
 
 pub returns-else-not-level_passes-clause-levels : goal.returns-else-not-level_passes-clause-levels

@@ -5,7 +5,7 @@ use Rattle.sketch_kll.specs.Flat.{levels_in}
 use Rattle.sketch_kll.specs.Steps.{is_full}
 use Rattle.sketch_kll.specs.Stored.{Stored}
 use Rattle.sketch_kll.proofs.Flats.{bound_falls_to, length-bounds}
-use Rattle.sketch_kll.proofs.Walks.{passes_is}
+use Rattle.sketch_kll.proofs.CompressWalks.{passes_is}
 use Rattle.sketch_kll.proofs.levels.Levels.level_passes.Goals as goal
 use Rattle.sketch_kll.proofs.levels.Levels.level_passes.Goals.{After-as_slice-bounds}
 

@@ -4,7 +4,7 @@ use Rattle.sketch_kll.specs.Join.{joined_bounds}
 use Rattle.sketch_kll.specs.Levels.{retained}
 use Rattle.sketch_kll.specs.Stored.{Stored}
 use Rattle.sketch_kll.proofs.Flats.{length-items}
-use Rattle.sketch_kll.proofs.Joins.{prepared, joined_fit, whole_slice}
+use Rattle.sketch_kll.proofs.JoinedLevels.{prepared, joined_fit, whole_slice}
 use Rattle.sketch_kll.proofs.StoredLevels.{JoinedStored, known_total, joined_stored}
 use Rattle.sketch_kll.proofs.levels.Levels.merge_higher_levels.Goals as goal
 use Rattle.sketch_kll.proofs.levels.Levels.merge_higher_levels.Goals.{After-drop-upper}

@@ -2,8 +2,8 @@ use Rattle.std.proofs.Common.{List, Bool, IsTrue, drop, ap, subst, arith, rules,
 use Rattle.sketch_kll.specs.Flat.{levels_in}
 use Rattle.sketch_kll.specs.Join.{joined}
 use Rattle.sketch_kll.specs.Stored.{Stored}
-use Rattle.sketch_kll.proofs.Alikes.{first-same}
-use Rattle.sketch_kll.proofs.Clones.{ClonedRuns, cloned_runs}
+use Rattle.sketch_kll.proofs.AlikeCompactions.{first-same}
+use Rattle.sketch_kll.proofs.LevelClones.{ClonedRuns, cloned_runs}
 use Rattle.sketch_kll.proofs.Merged.{merged_by_calls, merged_only, joined_size, joined-first}
 use Rattle.sketch_kll.proofs.MergedSketches.{merged_same}
 use Rattle.sketch_kll.proofs.levels.Levels.take_levels.Goals as goal

@@ -1,6 +1,6 @@
 use Rattle.std.proofs.Common.{arith, rules}
 use Rattle.sketch_kll.proofs.Flats.{bound_within}
-use Rattle.sketch_kll.proofs.Clones.{same_clones, cloned}
+use Rattle.sketch_kll.proofs.LevelClones.{same_clones, cloned}
 use Rattle.sketch_kll.proofs.levels.merging.clone_levels.Goals as goal
 
 pub split_off-requires : goal.split_off-requires

@@ -3,7 +3,7 @@ use Rattle.std.proofs.lemmas.List.{length-reverse}
 use Rattle.sketch_base.proofs.Pourings.{reverse_back}
 use Rattle.sketch_kll.specs.Flat.{levels_in}
 use Rattle.sketch_kll.proofs.Flats.{bound_at, bound_within, length-bounds}
-use Rattle.sketch_kll.proofs.Joins.{AreJoining, IsRunAt, run_at, next_runs, joining_start, joining_more, joining_end, moved_run}
+use Rattle.sketch_kll.proofs.JoinedLevels.{AreJoining, IsRunAt, run_at, next_runs, joining_start, joining_more, joining_end, moved_run}
 use Rattle.sketch_kll.proofs.levels.merging.merge_runs_back.Goals as goal
 
 pub move_back-requires-clause-within : goal.move_back-requires-clause-within
@@ -25,8 +25,8 @@ loop-level-init g c =
           (ap reverse e.to ∙ (reverse_back c.args.merged.now.items first ∙ ap₂ (λ (x y : List g.row.T.Denot). x ++ y) r.run (ap reverse c.requires.empty)));
     }
 
-pub pour_greater-requires : goal.pour_greater-requires
-pour_greater-requires g c =
+pub merge_from_back-requires : goal.merge_from_back-requires
+merge_from_back-requires g c =
     let i = c.loop-level.invariant in
     let r = next_runs c.loop-level.level c.args.other_bounds.now c.requires.flat c.requires.upper c.requires.sorted c.requires.upper_sorted i.within i.joining in
     record {
@@ -45,13 +45,13 @@ loop-level-preserved g c =
     let n = length-bounds c.args.items.now.items c.args.bounds.now c.requires.flat in
     let m = length-bounds c.args.upper.now.items (drop 1 c.args.other_bounds.now) c.requires.upper in
     let d = length-drop 1 c.args.other_bounds.now in
-    let e = c.pour_greater.ensures in
+    let e = c.merge_from_back.ensures in
     let f = c.move_back-in-loop-level.ensures in
     let moved = c.move_back-in-loop-level.new in
     let kl : ℕ = get_or c.args.bounds.now (c.loop-level.level + 1) 0 in
     let kr : ℕ = get_or c.args.other_bounds.now (c.loop-level.level + 1) 0 in
-    let left : List g.row.T.Denot = c.pour_greater.new.left.items in
-    let to : List g.row.T.Denot = c.pour_greater.new.to.items in
+    let left : List g.row.T.Denot = c.merge_from_back.new.left.items in
+    let to : List g.row.T.Denot = c.merge_from_back.new.to.items in
     let rest : List g.row.T.Denot = drop kl left in
     let r = next_runs c.loop-level.level c.args.other_bounds.now c.requires.flat c.requires.upper c.requires.sorted c.requires.upper_sorted i.within i.joining in
     let one : suc (c.loop-level.level - 1) ≡ c.loop-level.level + 1 - 1 = omega (arith, i.within) in
@@ -74,11 +74,11 @@ loop-level-preserved g c =
         c.loop-level.items.ok,
         c.loop-level.upper.ok,
         c.loop-level.merged.ok,
-        c.pour_greater.new.left.ok,
-        c.pour_greater.new.to.ok,
+        c.merge_from_back.new.left.ok,
+        c.merge_from_back.new.to.ok,
       );
       capacity = f.to_capacity ∙ (e.to_capacity ∙ i.capacity);
-      joining = subst (λ (j : ℕ). AreJoining g.T.Ord.cmp j ls us moved.from.items c.pour_greater.new.right.items moved.to.items) one
+      joining = subst (λ (j : ℕ). AreJoining g.T.Ord.cmp j ls us moved.from.items c.merge_from_back.new.right.items moved.to.items) one
           (joining_more g.met.T.Ord.total (omega (arith, n, c.requires.fewer, i.within)) (omega (arith, m, d, i.within)) (f.from ∙ (e.left ∙ r.left_at.rest)) (e.right ∙ r.right_at.rest)
           (moved_run c.loop-level.merged.items to moved.to.items rest e.to f.to) r.left_at.run r.right_at.run e.moved e.sorted i.joining);
     }

@@ -1,4 +1,4 @@
-use Rattle.sketch_kll.proofs.Extremes.{least_with_all, greatest_with_all}
+use Rattle.sketch_kll.proofs.ItemsBetween.{least_with_all, greatest_with_all}
 use Rattle.sketch_kll.proofs.levels.taking.clone_passing_extremes.Goals as goal
 
 pub returns-clause-least : goal.returns-clause-least

@@ -5,7 +5,7 @@ use Rattle.std.proofs.Common.{◌∷◌, [], ◌≡◌, ◌++◌, ◌∙◌, ap}
 use Rattle.std.proofs.lemmas.Result.{IfOk-weaker}
 use Rattle.sketch_req.specs.declared.compactor.image.Front.{Front}
 use Rattle.sketch_req.specs.LevelImage.{front_text, front_of}
-use Rattle.sketch_req.proofs.Fronts.{five_written}
+use Rattle.sketch_req.proofs.LevelFronts.{five_written}
 use Rattle.sketch_req.proofs.compactor.Compactor.write_front.Goals as goal
 
 pub returns-clause-ok : goal.returns-clause-ok

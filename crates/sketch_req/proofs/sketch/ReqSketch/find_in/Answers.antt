@@ -1,6 +1,6 @@
 use Rattle.std.proofs.Common.{ℕ, ◌≤◌, ◌<◌, subst}
 use Rattle.sketch_base.specs.Bag.{expanded, repeated}
-use Rattle.sketch_base.proofs.Places.{item-enclosed}
+use Rattle.sketch_base.proofs.QuantilePlaces.{item-enclosed}
 use Rattle.sketch_base.proofs.Sorting.{IsSorted-sort}
 use Rattle.sketch_req.specs.Actions.{bag_of}
 use Rattle.sketch_req.proofs.sketch.ReqSketch.find_in.Goals as goal

@@ -3,7 +3,7 @@ use Rattle.sketch_base.specs.declared.error.ErrorKind.{ErrorKind}
 use Rattle.sketch_base.specs.declared.error.ErrorKind.TheVariants.{InvalidArgument, InvalidData}
 use Rattle.sketch_req.specs.Image.{NoImage}
 use Rattle.sketch_req.specs.Sketch.{Req}
-use Rattle.quantile_sketches.specs.Req.{IsLoaded}
+use Rattle.quantile_sketches.specs.ReqBehaviour.{IsLoaded}
 use Rattle.quantile_sketches.proofs.family.req.ReqSketchFamily.load.Goals as goal
 
 -- an error of reading

@@ -4,7 +4,7 @@ use Rattle.sketch_req.specs.Held.{Held}
 use Rattle.sketch_req.specs.Schedule.{layouts_of, are_full, retained_of}
 use Rattle.sketch_req.specs.Walk.{AreWalkedOver, appended_first}
 use Rattle.sketch_req.proofs.Held.{few-levels, held-appended, own-levels}
-use Rattle.sketch_req.proofs.Updates.{acted-spare, acted-walk, nominal-appended, retained-appended}
+use Rattle.sketch_req.proofs.UpdatedLevels.{acted-spare, acted-walk, nominal-appended, retained-appended}
 use Rattle.sketch_req.proofs.sketch.levels.Levels.take_item.Given.{Over}
 use Rattle.sketch_req.proofs.sketch.levels.Levels.take_item.Goals.{In_ok-append, In_ok-append_and_walk}
 use Rattle.sketch_req.proofs.sketch.levels.Levels.take_item.Goals as goal

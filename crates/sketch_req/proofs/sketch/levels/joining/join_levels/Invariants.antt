@@ -1,8 +1,8 @@
 use Rattle.std.proofs.Common.{◌≡◌, ℕ, ◌<◌, ◌≤◌, length, max, vec_capacity}
 use Rattle.sketch_req.specs.Buffers.{merged_spaces, promoted_spaces}
 use Rattle.sketch_req.specs.Walk.{accuracy_of, k_of}
-use Rattle.sketch_req.proofs.Clones.{HasClones}
-use Rattle.sketch_req.proofs.Joins.{AreJoinedTo}
+use Rattle.sketch_req.proofs.ClonedBuffers.{HasClones}
+use Rattle.sketch_req.proofs.MergedLevels.{AreJoinedTo}
 use Rattle.sketch_req.proofs.sketch.levels.joining.join_levels.Given as goal
 
 abbrev pub invariant-loop-level : goal.invariant-loop-level

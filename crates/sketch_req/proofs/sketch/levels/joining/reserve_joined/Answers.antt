@@ -3,10 +3,10 @@ use Rattle.std.proofs.lemmas.Grind.{common_steps}
 use Rattle.std.proofs.Common.{◌≡◌, ◌+◌, ◌<◌, ◌≤◌, ap, ℕ, List, length, length-set, arith}
 use Rattle.sketch_req.specs.Schedule.{Layout, layouts_of, layout_at, joined_layouts, steps_layouts}
 use Rattle.sketch_req.specs.Buffers.{Space}
-use Rattle.sketch_req.proofs.Plans.{count-within, bounded-start, bounded-more, bounded-space}
+use Rattle.sketch_req.proofs.ReservedWalks.{count-within, bounded-start, bounded-more, bounded-space}
 use Rattle.sketch_req.proofs.Buffers.{space-more}
-use Rattle.sketch_req.proofs.Clones.{cloned-more}
-use Rattle.sketch_req.proofs.Joins.{joined-count}
+use Rattle.sketch_req.proofs.ClonedBuffers.{cloned-more}
+use Rattle.sketch_req.proofs.MergedLevels.{joined-count}
 use Rattle.sketch_req.proofs.Layouts.{length-layouts}
 use Rattle.sketch_req.proofs.Mergings.{length-joined}
 use Rattle.sketch_req.proofs.sketch.levels.joining.reserve_joined.Goals as goal

@@ -1,8 +1,8 @@
 use Rattle.std.proofs.Common.{ℕ, ◌^◌, ◌<◌, ◌≤◌, length}
 use Rattle.sketch_req.specs.Schedule.{layouts_of, joined_layouts, steps_layouts}
 use Rattle.sketch_req.proofs.Buffers.{SpaceAt}
-use Rattle.sketch_req.proofs.Clones.{HasClones}
-use Rattle.sketch_req.proofs.Plans.{IsBounded}
+use Rattle.sketch_req.proofs.ClonedBuffers.{HasClones}
+use Rattle.sketch_req.proofs.ReservedWalks.{IsBounded}
 use Rattle.sketch_req.proofs.sketch.levels.joining.reserve_joined.Given as goal
 
 abbrev pub invariant-loop-level : goal.invariant-loop-level

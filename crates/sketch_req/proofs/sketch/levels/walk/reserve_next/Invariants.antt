@@ -2,7 +2,7 @@ use Rattle.std.proofs.Common.{ℕ, ◌<◌, ◌≤◌, length}
 use Rattle.sketch_req.specs.Schedule.{layouts_of, steps_layouts}
 use Rattle.sketch_req.specs.Walk.{k_of, with_more}
 use Rattle.sketch_req.proofs.Buffers.{SpaceAt}
-use Rattle.sketch_req.proofs.Plans.{IsPlanned}
+use Rattle.sketch_req.proofs.ReservedWalks.{IsPlanned}
 use Rattle.sketch_req.proofs.sketch.levels.walk.reserve_next.Given as goal
 
 abbrev pub invariant-loop-level : goal.invariant-loop-level

@@ -5,7 +5,7 @@ use Rattle.sketch_req.specs.Held.{IsHeld, held_of}
 use Rattle.sketch_req.specs.Schedule.{layouts_of, are_full}
 use Rattle.sketch_req.specs.Walk.{accuracy_of, k_of}
 use Rattle.sketch_req.proofs.Held.{few-levels, held-sums}
-use Rattle.sketch_req.proofs.Updates.{acted-spare, acted-walk}
+use Rattle.sketch_req.proofs.UpdatedLevels.{acted-spare, acted-walk}
 use Rattle.sketch_req.proofs.sketch.levels.walk.walk_if_full.Given.{Over}
 use Rattle.sketch_req.proofs.sketch.levels.walk.walk_if_full.Goals.{After-sums-num_retained}
 use Rattle.sketch_req.proofs.sketch.levels.walk.walk_if_full.Goals as goal

@@ -1,9 +1,9 @@
 use Rattle.std.proofs.Common.{◌+◌, ap, sym, ◌∙◌, subst}
 use Rattle.sketch_base.specs.Query.{counted}
-use Rattle.sketch_base.specs.Queries.{Parts}
+use Rattle.sketch_base.specs.Queries.{IsSplitAt}
 use Rattle.sketch_base.proofs.Entries.{counted-parted}
-use Rattle.sketch_base.proofs.Fronts.{parts-count, count-of_part}
-use Rattle.sketch_base.proofs.common.counting.count_onward.Goals as goal
+use Rattle.sketch_base.proofs.PassedFronts.{parts-count, count-of_part}
+use Rattle.sketch_base.proofs.common.counting.count_from.Goals as goal
 
 pub returns-clause-count : goal.returns-clause-count
 returns-clause-count g c =
@@ -15,5 +15,5 @@ returns-clause-count g c =
 pub returns-clause-parts : goal.returns-clause-parts
 returns-clause-parts g c =
     let test = counted g.T.Ord.cmp c.args.query.now c.args.criteria in
-    subst (Parts test c.args.items.now) (sym (returns-clause-count g c))
+    subst (IsSplitAt test c.args.items.now) (sym (returns-clause-count g c))
     (parts-count test c.args.items.now (counted-parted g.met.T.Ord.total c.args.items.now c.args.query.now c.args.criteria c.requires.sorted))

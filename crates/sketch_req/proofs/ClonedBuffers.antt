@@ -7,7 +7,7 @@ use Rattle.sketch_req.specs.Level.{Level}
 use Rattle.sketch_req.specs.Merged.{IsCopied, IsCloned}
 use Rattle.sketch_req.specs.Schedule.{Layout, layouts_of, layout_at, retained_of}
 use Rattle.sketch_req.specs.declared.RankAccuracy.{RankAccuracy}
-use Rattle.sketch_req.proofs.Joins.{copied-few, items-there, layout-there}
+use Rattle.sketch_req.proofs.MergedLevels.{copied-few, items-there, layout-there}
 use Rattle.sketch_req.proofs.Buffers.{read-there, read-above, read-below, read-here}
 
 -- what a join of level h asks for

@@ -3,7 +3,7 @@ use Rattle.std.proofs.Common.{◌≡◌, ℕ, zero, suc, ◌+◌, ◌-◌, ◌*�
 use Rattle.std.specs.List.Sorted.{IsPartitionedBy}
 use Rattle.std.proofs.lemmas.Bool.{false≢true, cases_lt}
 use Rattle.std.proofs.lemmas.List.{get_or-take, get_or-drop, length-take-le}
-use Rattle.sketch_base.specs.Queries.{Parts}
+use Rattle.sketch_base.specs.Queries.{IsSplitAt}
 use Rattle.sketch_base.proofs.Counts.{counted-parts}
 
 module _ {A : Type 0} (test : A → Bool) where
@@ -14,11 +14,11 @@ module _ {A : Type 0} (test : A → Bool) where
   fails-after xs k d false e up l none = e
   fails-after xs k d true e up l none = absurd (false≢true (sym none ∙ up 0 k d (omega arith) l e))
 
-  front : (xs : List A) → IsPartitionedBy test xs → (i : ℕ) × ((i ≤ length xs) × Parts test xs i)
+  front : (xs : List A) → IsPartitionedBy test xs → (i : ℕ) × ((i ≤ length xs) × IsSplitAt test xs i)
   front [] up = (0, (omega arith, ((λ k d l m. absurd (omega arith)), (λ k d l m. absurd (omega arith)))))
   front (x ∷ xs) up = go (test x) refl (front xs (rest-parted x xs up))
     where
-      go : (b : Bool) → test x ≡ b → ((i : ℕ) × ((i ≤ length xs) × Parts test xs i)) → (i : ℕ) × ((i ≤ length (x ∷ xs)) × Parts test (x ∷ xs) i)
+      go : (b : Bool) → test x ≡ b → ((i : ℕ) × ((i ≤ length xs) × IsSplitAt test xs i)) → (i : ℕ) × ((i ≤ length (x ∷ xs)) × IsSplitAt test (x ∷ xs) i)
       go false e r = (0, (omega arith, ((λ k d l m. absurd (omega arith)), (λ k d l m. fails-after (x ∷ xs) k d (test (get_or (x ∷ xs) k d)) refl up m e))))
       go true e r = (suc r.0, (omega (arith, r.1.0), (passes, λ k d l m. fails k d l m)))
         where
@@ -31,8 +31,8 @@ module _ {A : Type 0} (test : A → Bool) where
           fails (suc k) d l m = r.1.1.1 k d (omega arith) (omega arith)
 
   -- where the passing items stand before the others, as many stand in front as pass
-  pub parts-count : (xs : List A) → IsPartitionedBy test xs → Parts test xs (count_by test xs)
-  parts-count xs up = let r = front xs up in subst (Parts test xs) (counted-parts test xs r.0 r.1.0 r.1.1) r.1.1
+  pub parts-count : (xs : List A) → IsPartitionedBy test xs → IsSplitAt test xs (count_by test xs)
+  parts-count xs up = let r = front xs up in subst (IsSplitAt test xs) (counted-parts test xs r.0 r.1.0 r.1.1) r.1.1
 
   -- an item that passes lies in the front, and one that fails behind it
   pub counts-passed : (xs : List A) (i : ℕ) (d : A) → IsPartitionedBy test xs → i < length xs → test (get_or xs i d) ≡ true → i + 1 ≤ count_by test xs
