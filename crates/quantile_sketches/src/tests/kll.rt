@@ -21,10 +21,7 @@ const NINE: &[i64] = &[1, 2, 3, 4, 5, 6, 7, 8, 9];
 // A sketch of k 8 and some items under coins that are false.
 fn filled(alloc: Global, items: &[i64]) -> Result<KllSketch<i64>, Error> {
     let mut sketch = KllSketch::new(alloc, 8)?;
-    let mut coins = WordBits::new(&[]);
-    for item in items {
-        sketch.update(*item, &mut coins)?;
-    }
+    sketch.update_all(items, &mut WordBits::new(&[]))?;
     Ok(sketch)
 }
 

@@ -117,7 +117,8 @@ fn try_on<S: Tried>(
     let is_told = refuse(alloc, nth);
     let first = answer_of(alloc, row, subject);
     let is_refused = was_refused(alloc);
-    let is_as_told = is_refused == first.is_err() && (is_refused || is_told);
+    // A refused request to give memory back leaves a call as it is.
+    let is_as_told = is_refused || (is_told && first.is_ok());
     let is_well = is_well(alloc, row, &first, before, subject)?;
     Ok((is_refused, is_as_told && is_well))
 }

@@ -83,7 +83,7 @@ impl<T: Ord + Drop> Levels<T> {
 impl<T: Clone + Ord> Levels<T> {
     /// All that taking items in needs memory for: clones of them with room for what is kept of them,
     /// and a clone for each extreme that they pass.
-    pub(crate) fn prepare_items(
+    pub(crate) fn prepare_all(
         &mut self,
         items: &[T],
         least: &Option<T>,

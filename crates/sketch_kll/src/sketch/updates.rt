@@ -40,11 +40,7 @@ impl<T: Clone + Ord> KllSketch<T> {
             return Ok(());
         }
         let levels = &mut self.levels;
-        let (clones, least, greatest) = levels.prepare_items(
-            items,
-            &self.min_item,
-            &self.max_item,
-        )?;
+        let (clones, least, greatest) = levels.prepare_all(items, &self.min_item, &self.max_item)?;
         levels.take_all(clones, coins);
         set_if_some(&mut self.min_item, least);
         set_if_some(&mut self.max_item, greatest);

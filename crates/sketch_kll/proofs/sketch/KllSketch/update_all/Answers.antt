@@ -13,11 +13,11 @@ returns-then-is_empty-clause-ok g c =
 pub take_all-requires-clause-light : goal.take_all-requires-clause-light
 take_all-requires-clause-light g c =
     let light : c.self.inside.n + length c.args.items.now < 2 ^ 64 = search rules in
-    omega (arith, light, ap weight c.prepare_items.ensures.kept.levels_are, c.self.invariant.weighs_n, length-same g.T.Ord.cmp _ _ c.in_ok-clones.ensures.clones)
+    omega (arith, light, ap weight c.prepare_all.ensures.kept.levels_are, c.self.invariant.weighs_n, length-same g.T.Ord.cmp _ _ c.in_ok-clones.ensures.clones)
 
 pub returns : goal.returns
 returns g c =
-    let ready = c.prepare_items.ensures.kept in
+    let ready = c.prepare_all.ensures.kept in
     let some : 0 < length c.args.items.now = search rules in
     let fields = updates_fields g.met.T.Ord.total g.B.RandomBits.bit g.B.RandomBits.next c.self.invariant some c.in_ok-clones.ensures.clones ready.k_is ready.flag_is ready.levels_are
     c.take_all.ensures.k c.take_all.ensures.taken c.in_ok-clones.ensures.least c.set_if_some.ensures c.in_ok-clones.ensures.greatest c.set_if_some-2.ensures in
