@@ -7,7 +7,7 @@ use Rattle.quantile_sketches.specs.declared.audit.commands.Command.TheVariants.{
 use Rattle.quantile_sketches.specs.KllRules.{kll_rules}
 use Rattle.quantile_sketches.specs.Plan.{plan_of, trace_of}
 
--- a sketch of k 8 in slot 0 that takes so many items
+-- a sketch of k 8 in slot 0 that takes n items
 abbrev pub takes : ℕ → List (Command ℕ ℕ)
 takes zero = []
 takes (suc more) = Update 0 more ∷ takes more
@@ -19,7 +19,7 @@ updates n = New 0 8 ∷ takes n
 abbrev pub merged : ℕ → List (Command ℕ ℕ)
 merged n = updates n ++ New 1 20 ∷ Merge 1 0 ∷ []
 
--- 4k times the spread of the slot after so many updates
+-- 4k times the spread of the slot after n updates
 abbrev pub spread_at : ℕ → ℕ
 spread_at n = 4 * 8 * spread (trace_of kll_rules (updates n)) 0
 

@@ -1,4 +1,4 @@
--- What a sketch that took so many items, of this bag and these extremes, answers.
+-- What a sketch with n items taken in, this bag and these extremes answers.
 use Rattle.std.specs.Prelude.{◌≡◌, ◌≢◌, ◌<◌, ◌↔◌, ℕ, List, Option, Result, IsErrOf, IsSome, IfOk, IfErr, IfSome}
 use Rattle.std.specs.declared.cmp.Ordering.{Ordering}
 use Rattle.sketch_base.specs.Bag.{Bag, quantile, weighted_rank}

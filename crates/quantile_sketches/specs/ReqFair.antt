@@ -5,6 +5,6 @@ use Rattle.quantile_sketches.specs.Plan.{trace_of}
 use Rattle.quantile_sketches.specs.ReqPlan.{ReqCommand}
 use Rattle.quantile_sketches.specs.ReqRules.{req_rules}
 
--- whether the commands are fair to a slot: each coin that was turned in what got into it complements one that was drawn
+-- whether the commands are fair to a slot: each complemented coin in what got into it had been drawn
 abbrev pub is_fair_slot : {A : Type 0} → List (ReqCommand A) → ℕ → Bool
 is_fair_slot commands slot = is_fair (trace_of req_rules commands) slot none_drawn

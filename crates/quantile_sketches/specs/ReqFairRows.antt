@@ -10,7 +10,7 @@ use Rattle.quantile_sketches.specs.ReqPlan.{ReqCommand}
 use Rattle.quantile_sketches.specs.ReqRows.{with_trip, weight_under}
 use Rattle.quantile_sketches.specs.ReqRules.{req_rules}
 
--- so many updates of a slot by rising items
+-- `count` updates of a slot by rising items
 abbrev pub taking : (slot first count : ℕ) → List (ReqCommand ℕ)
 taking slot first zero = []
 taking slot first (suc more) = Update slot first ∷ taking slot (suc first) more

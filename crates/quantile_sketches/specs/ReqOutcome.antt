@@ -58,7 +58,7 @@ pub record ReadsBack {A : Type 0} (cmp : A → A → Ordering) (spelling : A →
   pub written : BeginsImage cmp spelling (image_text spelling s) (without_coins s) []
   pub read : (t : Req A) (rest : List ℕ) → BeginsImage cmp spelling (image_text spelling s) t rest → IsSameSketch cmp (without_coins s) t × (rest ≡ [])
 
--- so it is of each sketch that has an image
+-- each sketch that has an image reads back
 abbrev pub AreReadBack : {A : Type 0} → (A → A → Ordering) → (A → Option (List ℕ)) → Slots (Req A) → Type 0
 AreReadBack cmp spelling = EachSketch (λ slot s. HasImage spelling s → ReadsBack cmp spelling s)
 

@@ -8,7 +8,7 @@ use Rattle.quantile_sketches.specs.ReqFair.{is_fair_slot}
 use Rattle.quantile_sketches.specs.ReqPlan.{ReqCommand, shape_in, next_shapes, no_shapes}
 use Rattle.quantile_sketches.specs.ReqRules.{ReqShape, req_rules}
 
--- what commands alone show of a slot. It is ready: each level that turns its kept coin when it is compacted next has drawn that coin. It is fair: no coin was turned in what got into it that complements none
+-- what commands alone show of a slot. Ready: each level whose next compaction complements its kept coin has drawn that coin. Fair: each complemented coin in what got into it had been drawn
 pub record Fairness : Type 0 where
   pub is_ready : Bool
   pub is_fair : Bool

@@ -47,7 +47,7 @@ abbrev pub off_tail_at : {A : Type 0} → (A → A → Ordering) → A → Searc
 off_tail_at cmp y criteria commands slot =
     let s = shape_at commands slot in off_protected_end cmp s.accuracy y criteria (stream_of req_rules commands slot)
 
--- the squares of a slot's errors at a query in the plays under all words of so many bits, in all
+-- the squares of a slot's errors at a query, summed over the plays under all words of that many bits
 abbrev pub squared_errors : {A : Type 0} → (A → A → Ordering) → A → SearchCriteria → List (ReqCommand A) → (bits slot : ℕ) → ℕ
 squared_errors cmp y criteria commands bits slot = sum_over_words bits (λ word. square (distance
     (weighted_rank cmp (counted cmp y criteria) ((play cmp (trace_of req_rules commands) word start).slots slot))

@@ -16,17 +16,17 @@ abbrev pub RollsUp : {A : Type 0} → List (Command A ℕ) → Slots (Kll A) →
 RollsUp commands = EachSketch (λ slot s.
     IsTrue (took_once (trace_of kll_rules commands) slot) → IsLittle s.min_k s.n (spread (trace_of kll_rules commands) slot))
 
--- the same of a slot by what is planned: its sketch's least k and count
+-- the bound for a slot, by what is planned: its sketch's least k and count
 abbrev pub SlotRollsUp : {A : Type 0} → List (Command A ℕ) → ℕ → Type 0
 SlotRollsUp commands slot = (shape : KllShape) →
     (plan_of kll_rules commands).shapes slot ≡ Some shape → IsTrue (took_once (trace_of kll_rules commands) slot) →
     IsLittle shape.min_k shape.n (spread (trace_of kll_rules commands) slot)
 
--- so it is of every list of commands
+-- the bound holds for every list of commands
 abbrev pub RollupsSpreadLittle : Type 0 → Type 0
 RollupsSpreadLittle A = (commands : List (Command A ℕ)) (slot : ℕ) → SlotRollsUp commands slot
 
--- how a slot stands since its New or Reset: it took updates and free slots alone, and was merged into no slot (Free) or into some (Used); or it took something else too (Mixed)
+-- what a slot took since its New or Reset: updates and free slots alone, and it was merged into no slot (Free) or into some (Used); or something else too (Mixed)
 pub data Standing : Type 0 where
   Free : Standing
   Used : Standing
@@ -81,7 +81,7 @@ module _ {A C Shape : Type 0} (rules : Rules A C Shape) where
   standings_from plan stands (command ∷ rest) =
       standings_from (plan_after rules plan command) (standings_after plan stands command) rest
 
-  -- how a slot stands after commands from a run's start
+  -- the standing of a slot after commands from a run's start
   abbrev pub standing_of : List (Command A C) → ℕ → Standing
   standing_of = standings_from start_plan (λ slot. Free)
 

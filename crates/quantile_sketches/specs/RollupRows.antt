@@ -39,7 +39,7 @@ itself n = takes 0 n ++ Merge 0 0 ∷ []
 abbrev pub weighted : ℕ → List (Command ℕ ℕ)
 weighted weight = New 0 8 ∷ UpdateWeighted 0 7 weight ∷ []
 
--- whether a slot took each coin in once, its spread, and how it stands
+-- whether a slot took each coin in once, its spread, and its standing
 abbrev pub once_in : List (Command ℕ ℕ) → ℕ → Bool
 once_in commands slot = took_once (trace_of kll_rules commands) slot
 

@@ -85,7 +85,7 @@ fn write_some<W: Write>(output: &mut W, bytes: &[u8]) -> io::Result<usize>
     }
 }
 
-/// Puts the digits of a number before what stands from `end` on; gives the place of the first.
+/// Writes the digits of a number so that they end at `end`; returns the place of the first.
 pub fn put_digits(number: u64, room: &mut [u8; ROOM], end: usize) -> usize
     requires some { 20 ≤ end }
     requires within { end ≤ ROOM }

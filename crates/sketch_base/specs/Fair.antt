@@ -1,4 +1,4 @@
--- REQ traces that are fair to a slot: each turned coin of what gets into it complements a drawn one.
+-- REQ traces that are fair to a slot: each complemented coin in what gets into it had been drawn.
 use Rattle.std.specs.Prelude.{◌≡◌, ℕ, ◌*◌, ◌^◌, ◌≤◌, ◌==◌, Bool, true, false, not, ◌&&◌, ◌||◌, IsTrue, List, [], ◌∷◌}
 use Rattle.std.specs.declared.cmp.Ordering.{Ordering}
 use Rattle.sketch_base.specs.Bag.{weighted_rank}
@@ -19,7 +19,7 @@ reaches (At i (Compact h coin taken) ∷ es) slot s = reaches es slot s
 reaches (At i Forget ∷ es) slot s = reaches es slot s
 reaches (At i (Redraw h) ∷ es) slot s = reaches es slot s
 
--- whether a REQ trace is fair to the slot: each turned coin of a slot that may get into it complements one that was drawn for that level of that slot, since it was last cleared or made to forget; `drawn` says for which levels one was before the events
+-- whether a REQ trace is fair to the slot: each complemented coin of a slot that may get into it had been drawn for that level of that slot since it was last cleared or made to forget; `drawn` says for which levels one had been before the events
 abbrev pub is_fair : {A : Type 0} → List (Event A) → (slot : ℕ) → (drawn : ℕ → ℕ → Bool) → Bool
 is_fair [] slot drawn = true
 is_fair (Snap source target ∷ es) slot drawn = is_fair es slot drawn

@@ -1,5 +1,5 @@
 //! The levels of a sketch in one vector, the highest first, and how updates change them.
-//! What a compaction does to a slice stands in `compaction`, merges in `levels::merging`.
+//! What a compaction does to a slice is in `compaction`, merges are in `levels::merging`.
 ghost use Rattle.std.specs.Prelude.{◌≡◌, ℕ, ◌+◌, ◌-◌, ◌*◌, ◌/◌, ◌^◌, ◌<◌, ◌≤◌, [], ◌∷◌, ◌++◌, length, max, IfSome, IfOk, OnOk, vec_len, vec_capacity, if◌then◌else◌, ◌==◌, drop, is_some, false, IsSorted, IsTrue, nat_le};
 ghost use Rattle.std.specs.declared.cmp.Ordering.TheVariants.{Equal};
 ghost use Rattle.std.specs.List.{between};
@@ -262,7 +262,7 @@ fn find_level_to_compact<T>(k: u16, total: u32, items: &[T], bounds: &[usize]) -
     unreachable!()
 }
 
-/// Whether a level with so many items is at or over its capacity. One of few items needs no look at
+/// Whether a level with `count` items is at or over its capacity. One of few items needs no look at
 /// what that is.
 fn is_at_capacity(k: u16, num_levels: usize, level: usize, count: usize) -> bool
     requires k { 8 ≤ k }
@@ -274,7 +274,7 @@ fn is_at_capacity(k: u16, num_levels: usize, level: usize, count: usize) -> bool
         && count >= level_capacity(k, num_levels, level, MINIMUM_CAPACITY) as usize
 }
 
-/// The total capacity at so many levels, from that at another number of them.
+/// The total capacity of `num_levels` levels, given that of `known` levels.
 fn total_at(k: u16, total: u32, known: usize, num_levels: usize) -> u32
     requires k { 8 ≤ k }
     requires total { total ≡ total_of k 8 known }

@@ -24,7 +24,7 @@ pub record AreMoved {A : Type 0} (actions : List (Action A)) (ls ns : List (Leve
   pub stays : (h : ℕ) (none : Level A) → is_moved actions h ≡ false → slice_index_or ns h none ≡ slice_index_or ls h none
   pub sorted : (h : ℕ) (none : Level A) → is_moved actions h ≡ true → (slice_index_or ns h none).is_sorted ≡ true
 
--- level h, or a fresh one where none stands
+-- level h, or a fresh one if there is none
 abbrev pub level_or_fresh : {A : Type 0} → ℕ → RankAccuracy → List (Level A) → ℕ → Level A
 level_or_fresh k accuracy levels h = slice_index_or levels h (fresh [] true h k accuracy)
 
@@ -33,7 +33,7 @@ pub record IsMergedIn {A : Type 0} (cmp : A → A → Ordering) (k : ℕ) (accur
   pub merged : (none : Level A) → h < length others → IsMerged cmp (level_or_fresh k accuracy ls h) (slice_index_or others h none) m
   pub kept : length others ≤ h → m ≡ level_or_fresh k accuracy ls h
 
--- so it is of all levels, of which there are as many as of either
+-- each level is merged in; there are as many levels as the larger sketch has
 pub record AreMergedIn {A : Type 0} (cmp : A → A → Ordering) (k : ℕ) (accuracy : RankAccuracy) (ls others ms : List (Level A)) : Type 0 where
   pub count : length ms ≡ max (length ls) (length others)
   pub each : (h : ℕ) (none : Level A) → h < length ms → IsMergedIn cmp k accuracy h ls others (slice_index_or ms h none)

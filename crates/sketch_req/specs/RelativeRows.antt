@@ -8,12 +8,12 @@ use Rattle.sketch_req.specs.ScheduleLaws.{updates_trace}
 use Rattle.sketch_req.specs.declared.RankAccuracy.{RankAccuracy}
 use Rattle.sketch_req.specs.declared.RankAccuracy.TheVariants.{HighRank, LowRank}
 
--- so many rising numbers
+-- a number of rising numbers
 abbrev pub rising : ℕ → ℕ → List ℕ
 rising first zero = []
 rising first (suc more) = first ∷ rising (suc first) more
 
--- the sketch of 1 to n: an item's inclusive rank under a word, the squares of its errors under all words of so many bits, and how many items lie on its accurate side
+-- the sketch of 1 to n: an item's inclusive rank under a word, the squares of its errors over all words of that many bits, and how many items lie on its accurate side
 abbrev pub rank_under : ℕ → RankAccuracy → ℕ → ℕ → List Bool → ℕ
 rank_under k accuracy n y word = updates_rank nat_cmp y Inclusive 0 k accuracy (rising 1 n) word
 

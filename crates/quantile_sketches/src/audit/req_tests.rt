@@ -31,7 +31,7 @@ const WORDS: [[bool; 3]; 8] = [
     [true, true, true],
 ];
 
-// Whether a run under each word takes so many coins and ranks items so.
+// Whether a run under each word takes this number of coins and gives these ranks.
 fn gives_always(
     alloc: Global,
     steps: &[Steps],
@@ -118,7 +118,7 @@ fn audits_as(
     is_so(alloc, steps, &trial)
 }
 
-// The same of a new sketch and the updates by the numbers from 1 to the last.
+// Audits a new sketch that is updated by the numbers from 1 to the last.
 fn audits_updates(
     alloc: Global,
     new: Steps,

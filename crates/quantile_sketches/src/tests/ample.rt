@@ -40,7 +40,7 @@ fn names<S: Tried>(alloc: Global, sketch: &S, weight: u64, number: u32) -> Resul
     Ok(found == Some(item))
 }
 
-/// Whether a sketch ranks a number's item as the whole of so many.
+/// Whether a sketch ranks a number's item as the whole of its weight.
 fn ranks_last<S: Tried>(
     alloc: Global,
     sketch: &S,
@@ -51,7 +51,7 @@ fn ranks_last<S: Tried>(
     Ok(sketch.rank_of(&item, CRITERIA) == Some(fraction(count, count)))
 }
 
-/// Whether a sketch holds so many items, of which the first is the least and the last the greatest.
+/// Whether a sketch took `count` items, of which the first is the least and the last the greatest.
 fn is_whole<S: Tried>(alloc: Global, sketch: &S, count: u64) -> Result<bool, Error>
     requires { S.Asks }
 {
@@ -74,7 +74,7 @@ fn distributes_alike<S: Tried>(alloc: Global, sketch: &S, view: &View<S>) -> Res
     )
 }
 
-/// Whether so many quantiles were found, and the one in the middle is the one that is found alone.
+/// Whether all quantiles were found, and the one in the middle is the one that is found alone.
 fn has_middle<S: Tried>(
     sketch: &S,
     found: &Option<Vec<S::Item>>,
@@ -111,7 +111,7 @@ fn is_read_as_text(alloc: Global, image: &[u8]) -> Result<bool, Error> {
     Ok(image_bytes(alloc, text.as_str())?.is_some_and(|bytes| bytes.as_slice() == image))
 }
 
-/// Whether what is read of a sketch's image, as a text too, holds so many items, and is written as it was read.
+/// Whether what is read from a sketch's image, as a text too, took `count` items, and is written as it was read.
 fn reads_back<S: Tried>(alloc: Global, sketch: &S, count: u64) -> Result<bool, Error>
     requires { S.Asks }
 {

@@ -32,7 +32,7 @@ pub(super) enum Call {
     Audit,
 }
 
-/// A call on a sketch of this k and so many items. Last a number: the items of the sketch that is merged in, or the weight of
+/// A call on a sketch of this k and number of items. The last number is how many items the merged sketch has, or the weight of
 /// the item that is put in.
 pub(super) type Row = (Call, u16, u32, u32);
 
@@ -113,7 +113,7 @@ pub(super) fn double<S: Tried, B: RandomBits>(sketch: &mut S, coins: &mut B) -> 
     sketch.merge(&copy, false, coins)
 }
 
-/// Whether a view ranks so many items, from 0 on, as its sketch does.
+/// Whether a view ranks the items from 0 on as its sketch does.
 pub(super) fn ranks_alike<S: Tried>(
     alloc: Global,
     sketch: &S,
@@ -131,7 +131,7 @@ pub(super) fn ranks_alike<S: Tried>(
     Ok(true)
 }
 
-/// A sketch of so many items in slot 0, and in slot 1 what is read of the image of a sketch that it was merged into.
+/// A sketch of a number of items in slot 0, and in slot 1 what is read from the image of a sketch that it was merged into.
 fn push_commands<S: Tried>(
     alloc: Global,
     commands: &mut Commands<S>,
@@ -314,7 +314,7 @@ pub(super) fn are_equal<X: PartialEq + Drop>(
     Ok(a? == b?)
 }
 
-/// The image of a sketch that took so many items more: states and coins that no image holds show there.
+/// The image of a sketch that took `more` items: it shows states and coins that no image holds.
 fn image_past<S: Tried>(alloc: Global, sketch: &S, more: u32) -> Result<Vec<u8>, Error>
     requires { S.Asks }
 {

@@ -16,7 +16,7 @@ const HIGH: RankAccuracy = RankAccuracy::HighRank;
 
 const LOW: RankAccuracy = RankAccuracy::LowRank;
 
-/// The image of no items in state 65535, with so many sections of a size.
+/// The image of no items in state 65535, with `sections` sections of a size.
 fn image_of(sections: u8, size: u8) -> [u8; 20] {
     [
         255, 255, 0, 0, 0, 0, 0, 0, size, 0, 0, 0, 0, sections, 0, 0, 0, 0, 0, 0,
@@ -97,7 +97,7 @@ fn new_levels(rt: HostRuntime) -> Result<(), Fail> {
     Ok(())
 }
 
-/// Whether so many items are at most another, and so many below it.
+/// Whether a level counts these numbers of items at most another, and below it.
 fn counts(level: &Level, item: i32, at_most: usize, below: usize) -> bool {
     level.count_below(&item, true) == at_most && level.count_below(&item, false) == below
 }

@@ -79,7 +79,7 @@ fn item_of(class: u32) -> Third {
     }
 }
 
-/// Whether a sketch of so many items 0, 1, 2, 0, 1 and so on shows so many, and the least and the greatest.
+/// Whether a sketch of `count` items 0, 1, 2, 0, 1 and so on shows that count, and the least and the greatest.
 fn is_seen(count: u32, n: u64, least: Option<&Third>, greatest: Option<&Third>) -> bool {
     let last = count.wrapping_sub(1).min(2) as u8;
     n == count as u64
@@ -141,7 +141,7 @@ fn double_req(sketch: &mut ReqSketch<Third>, coins: &mut SplitMix64) -> Result<b
     Ok(is_answered(sketch.quantile(fraction(1, 2), CRITERIA)?, rank))
 }
 
-/// The same of a REQ sketch of k 4.
+/// Whether a REQ sketch of k 4 takes such items.
 fn takes_req(alloc: Global) -> Result<bool, Error> {
     let mut sketch = ReqSketch::new(alloc, 4, RankAccuracy::HighRank)?;
     let mut coins = SplitMix64::new(0);

@@ -17,7 +17,7 @@ use std::alloc::Global;
 use std::io::{self, Cursor};
 use std::test::Fail;
 
-/// So many bytes and more are asked of the library alone: N more have the Nth request from then on refused, and just so many are
+/// Requests of at least this many bytes are signs to the library alone: N more have the Nth request from then on refused, and exactly this many are
 /// refused where a request was.
 const SIGN: usize = 1 << 24;
 

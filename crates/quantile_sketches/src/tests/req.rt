@@ -77,7 +77,7 @@ fn all_are_shown(rt: HostRuntime) -> Result<(), Fail> {
     Ok(())
 }
 
-/// Whether an image of this version and preamble and so many levels may be read.
+/// Whether an image of this version, preamble and number of levels may be read.
 fn is_head(version: u8, preamble: u8, num_levels: u8) -> bool {
     check_serial_version(version).is_ok() && check_preamble_ints(preamble, num_levels).is_ok()
 }
@@ -95,7 +95,7 @@ fn images_are_checked(rt: HostRuntime) {
     assert!(rt; is_layout(2048) && !is_layout(2047));
 }
 
-/// Whether a value is written as these bytes, and they are so many as it says.
+/// Whether a value is written as these bytes, and says how many they are.
 fn is_written_as<T: ReqValue>(alloc: Global, value: &T, spelling: &[u8]) -> Result<bool, Error> {
     let mut bytes = SketchBytes::with_capacity(alloc, 0)?;
     value.serialize_value(&mut bytes)?;

@@ -252,7 +252,7 @@ fn audits<S: Tried>(alloc: Global, steps: Steps<'_, S>, row: &AuditRow<'_>) -> R
     )
 }
 
-/// Whether the weights under all words of so many coins sum to their number times the true rank.
+/// Whether the weights under all words of `coins` coins sum to the number of words times the true rank.
 fn is_even(audit: &Audit, coins: usize, words: u64) -> bool {
     let mut sum = 0u64;
     for weight in audit.weights.iter() {

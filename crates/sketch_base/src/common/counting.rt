@@ -6,7 +6,7 @@ ghost use Rattle.sketch_base.specs.declared.common.SearchCriteria.TheVariants.{I
 
 use crate::common::SearchCriteria;
 
-/// From so many items on, a search by halves is faster than a count of them all.
+/// From this number of items on, a binary search is faster than a count of them all.
 const FEW: usize = 16;
 
 /// So many steps of a search by halves are written out.

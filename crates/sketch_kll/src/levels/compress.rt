@@ -12,7 +12,7 @@ use super::{Levels, is_at_capacity};
 use sketch_base::common::random::RandomBits;
 
 impl<T: Ord + Drop> Levels<T> {
-    /// Whether the walk comes to a level: it is there, and the levels are at or over their total
+    /// Whether the walk reaches a level: it exists, and the levels are at or over their total
     /// capacity.
     fn walk_reaches(&self, level: usize) -> bool
         requires fits { level + 1 < 2 ^ 64 }

@@ -123,7 +123,7 @@ impl<T: Clone + Ord> Levels<T> {
     }
 }
 
-/// Makes room for so many items more, or up to `most` items if that is less, and for all bounds that
+/// Makes room for `count` items more, or up to `most` items if that is less, and for all bounds that
 /// levels may need.
 fn reserve_taken<T: Drop>(
     items: &mut Vec<T>,

@@ -1,5 +1,5 @@
 //! The levels of a sketch with the sums over them, and how items come in.
-//! What happens to a vector of levels half-way stands in `walk` and `joining`.
+//! What happens to a vector of levels half-way is in `walk` and `joining`.
 ghost use Rattle.std.specs.Prelude.{◌≡◌, ℕ, ◌+◌, ◌-◌, ◌^◌, ◌<◌, ◌≤◌, true, [], ◌∷◌, length, vec_capacity, IfErr, OnOk, OnErr};
 ghost use Rattle.std.specs.declared.cmp.Ordering.TheVariants.{Equal};
 ghost use Rattle.sketch_base.specs.Query.{counted};

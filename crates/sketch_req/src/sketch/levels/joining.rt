@@ -14,7 +14,7 @@ use crate::merging::Buffers;
 use sketch_base::common::random::RandomBits;
 use std::alloc::AllocError;
 
-/// Takes clones of the items of a level, where it stands, with space for so many.
+/// Takes clones of the items of a level, if there is one, with space for `count` items.
 fn clone_level<T: Clone + Ord>(
     levels: &[Compactor<T>],
     level: usize,

@@ -29,7 +29,7 @@ pub(super) fn add_buffers<T: Clone + Ord>(
     Ok(())
 }
 
-/// How many items a level holds, and none where it doesn't stand.
+/// How many items a level holds; none if there is no such level.
 pub(super) fn count_at<T: Clone + Ord>(levels: &[Compactor<T>], level: usize) -> usize
     ensures { result ≡ (layout_at (layouts_of levels.now) level).count }
 {
@@ -134,7 +134,7 @@ fn walk<T: Clone + Ord, B: RandomBits>(
     }
 }
 
-/// So it does where the levels hold as many items as their nominal capacities together, or more.
+/// Walks if the levels hold as many items as their nominal capacities together, or more.
 pub(super) fn walk_if_full<T: Clone + Ord, B: RandomBits>(
     levels: &mut Vec<Compactor<T>>,
     buffers: &mut Vec<Buffers<T>>,
