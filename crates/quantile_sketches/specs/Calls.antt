@@ -17,7 +17,7 @@ abbrev pub Obeys : {S Source Shape : Type 0} → Option Shape → (S → Source 
 Obeys shape does s coins r t coins' = OnOk r (does t coins') × IfErr r (Refuses shape) × OnErr r ((t ≡ s) × (coins' ≡ coins))
 
 module _ {A C Shape S Source : Type 0} (behaviour : Behaviour S A C) (kind : Kind A C Shape S) (bit : Source → Bool) (next : Source → Source) where
-  -- so it is of a call on each sketch that keeps what every sketch keeps, by what the rules give for its shape
+  -- this holds of a call on each sketch that keeps what every sketch keeps, by what the rules give for its shape
   abbrev pub Follows : Change Source S → (Shape → Option Shape) → (S → Source → S → Source → Type 0) → Type 0
   Follows call gives does = (s : S) (coins : Source) (r : Result Unit ErrorKind) (t : S) (coins' : Source) →
       kind.IsSound s → call s coins r t coins' → Obeys (gives (kind.shape s)) (does s coins) s coins r t coins'

@@ -49,7 +49,7 @@ IsExact {A} cmp commands slot s = (y : A) (criteria : SearchCriteria) →
     off_protected_end cmp s.accuracy y criteria (stream_of req_rules commands slot) ≤ 3 * tails_of commands slot →
     weighted_rank cmp (counted cmp y criteria) (bag_of s.levels) ≡ true_rank cmp y criteria (stream_of req_rules commands slot)
 
--- so it is of each sketch
+-- this holds of each sketch
 abbrev pub TailsAreExact : {A : Type 0} → (A → A → Ordering) → List (ReqCommand A) → Slots (Req A) → Type 0
 TailsAreExact cmp commands = EachSketch (IsExact cmp commands)
 

@@ -53,7 +53,7 @@ is_tree Used = true
 is_tree Mixed = false
 
 module _ {A C Shape : Type 0} (rules : Rules A C Shape) where
-  -- how all slots stand after a merge: that of an empty sketch changes nothing, and one of a slot with itself mixes it
+  -- the standing of all slots after a merge: that of an empty sketch changes nothing, and one of a slot with itself mixes it
   abbrev pub merged_standings : (ℕ → Option Shape) → (ℕ → Standing) → (into source : ℕ) → ℕ → Standing
   merged_standings shapes stands into source =
       if count_of rules (shapes source) == 0 then stands else

@@ -28,7 +28,7 @@ fn is_below_last<T: Ord>(item: &T, weighted: &[(T, u64)]) -> bool
     }
 }
 
-/// Puts an item and the weight up to it last, where it is wanted.
+/// Puts an item and the weight up to it last, if it is asked to.
 fn push_if<T: Drop>(
     is_wanted: bool,
     item: T,
@@ -51,7 +51,7 @@ fn push_if<T: Drop>(
     }
 }
 
-/// Moves weighted items, which stand in order with the least last, into the end of a list of items and one of the
+/// Moves weighted items, which are in order with the least last, into the end of a list of items and one of the
 /// weights up to them. Of items that compare equal the last one is kept.
 pub(crate) fn join_equal<T: Ord + Drop>(
     weighted: &mut Vec<(T, u64)>,

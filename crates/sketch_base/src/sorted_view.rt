@@ -43,7 +43,7 @@ impl<T: Clone + Ord> Model for SortedView<T> {
 
 impl<T: Clone + Ord> SortedView<T> {
     /// The view of items with their weights, in any order. Of items that compare equal one is kept, with the weight
-    /// of them all. The extremes are those of the stream; of no items there are none.
+    /// of them all. The extremes are those of the stream, and None if there are no items.
     pub fn new(
         weighted: Vec<(T, u64)>,
         min_item: Option<T>,

@@ -1,5 +1,5 @@
 //! KLL sketches by what no line can say: estimates and the sizes of views, items that have no spelling, `==`.
-//! The worked updates, merges, weights, quantiles and images of numbers stand in `tests/lines`, the greatest weights in
+//! The worked updates, merges, weights, quantiles and images of numbers are in `tests/lines`, the greatest weights in
 //! `tests/program`, and the images of texts in `text::tests`.
 ghost use Rattle.std.proofs.lemmas.Bool.{false≢true};
 ghost use Rattle.std.specs.Prelude.{None};

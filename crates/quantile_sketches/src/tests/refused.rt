@@ -29,7 +29,7 @@ fn was_refused(alloc: Global) -> bool {
     Vec::<u8>::with_capacity(alloc, SIGN).is_err()
 }
 
-/// Whether the library is there.
+/// Whether the library is loaded.
 fn is_tried(alloc: Global) -> bool {
     let _is_told = refuse(alloc, 1);
     let _is_asked = Vec::<u8>::with_capacity(alloc, 1).is_ok();

@@ -82,7 +82,7 @@ fn is_head(version: u8, preamble: u8, num_levels: u8) -> bool {
     check_serial_version(version).is_ok() && check_preamble_ints(preamble, num_levels).is_ok()
 }
 
-/// Whether a level of k 12 in a state, with 24 sections of 4, may stand in an image.
+/// Whether a level of k 12 in a state, with 24 sections of 4, may be in an image.
 fn is_layout(state: u64) -> bool {
     validate_compactor_state(12, 0, state, 4, 0, 24).is_ok()
 }

@@ -1,4 +1,4 @@
-//! Runs and audits as rows: what is run, and what must come of it. The rows stand with `audit`.
+//! Runs and audits as rows: what is run, and what must come of it. The rows are beside `audit`.
 use super::calls::CRITERIA;
 use super::sketches::Tried;
 use crate::audit::{Audit, Command, Run};

@@ -11,7 +11,7 @@ use sketch_req::sketch::ReqSketch;
 use sketch_req::value::ReqValue;
 use std::alloc::{AllocError, Global};
 
-/// Items that stand in the order of their numbers.
+/// Items in the order of their numbers.
 pub(crate) trait Numbered: Sized {
     fn numbered(alloc: Global, number: u32) -> Result<Self, AllocError>;
 }

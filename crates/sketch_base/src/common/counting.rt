@@ -9,7 +9,7 @@ use crate::common::SearchCriteria;
 /// From this number of items on, a binary search is faster than a count of them all.
 const FEW: usize = 16;
 
-/// So many steps of a search by halves are written out.
+/// How many steps of a binary search are written out.
 const LAST_STEPS: u32 = 8;
 
 /// How many items a query counts, in any order.

@@ -85,7 +85,7 @@ fn is_new_greatest<T: Ord>(item: &T, greatest: &Option<T>) -> bool
     }
 }
 
-/// The item's clone, where it is wanted.
+/// The item's clone, if it is asked for.
 fn clone_if<T: Clone + Ord>(is_wanted: bool, item: &T) -> Result<Option<T>, AllocError>
     requires clones { (x y : T) → T.is_clone x y → T.cmp x y ≡ Equal }
     ensures { IfOk result (SameAnswer T.cmp (if is_wanted then Some item.now else None)) }

@@ -1,4 +1,4 @@
-//! Queries of a sketch that go by a view.
+//! Queries of a sketch that use a view.
 ghost use Rattle.std.specs.Prelude.{◌≡◌, ◌≢◌, Some, IsSome, IfOk, IfErr, IfSome, map, slice_get, sum_by};
 ghost use Rattle.std.specs.declared.cmp.Ordering.TheVariants.{Equal};
 ghost use Rattle.std.specs.List.{All};
