@@ -112,10 +112,7 @@ module _ {A : Type 0} (slot : ℕ) where
   reaches-own s i (Put h x ∷ more) rest o = reaches-own s i more rest o.1
   reaches-own s i (Compact h coin taken ∷ more) rest o = reaches-own s i more rest o.1
   reaches-own s i (Redraw h ∷ more) rest o = reaches-own s i more rest o.1
-  reaches-own s i (Pull ∷ more) rest o = absurd (false≢true o.0)
-  reaches-own s i (Join h ∷ more) rest o = absurd (false≢true o.0)
-  reaches-own s i (Forget ∷ more) rest o = absurd (false≢true o.0)
-  reaches-own s i (Clear ∷ more) rest o = absurd (false≢true o.0)
+  reaches-own s i (other ∷ more) rest o = absurd (false≢true o.0)
 
   -- joins change nothing of what is reached
   pub reaches-joins : (s i more h : ℕ) (actions : List (Action A)) (rest : List (Event A)) →
@@ -140,7 +137,4 @@ module _ {A : Type 0} (slot : ℕ) where
       or_true false = refl
   fair-apart s (Redraw h ∷ more) rest drawn o apart go =
       fair-apart s more rest (with_drawn drawn s h) o.1 apart (λ m up. go m (λ t j d. up t j (rises-with drawn s h t j d)))
-  fair-apart s (Pull ∷ more) rest drawn o apart go = absurd (false≢true o.0)
-  fair-apart s (Join h ∷ more) rest drawn o apart go = absurd (false≢true o.0)
-  fair-apart s (Forget ∷ more) rest drawn o apart go = absurd (false≢true o.0)
-  fair-apart s (Clear ∷ more) rest drawn o apart go = absurd (false≢true o.0)
+  fair-apart s (other ∷ more) rest drawn o apart go = absurd (false≢true o.0)
