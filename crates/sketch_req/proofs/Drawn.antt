@@ -1,4 +1,5 @@
 -- Walks turn drawn coins alone, where each level at an odd state has drawn one, and leave it so.
+use Rattle.std.specs.Prelude.{⊤}
 use Rattle.std.proofs.Common.{◌≡◌, ◌≢◌, ℕ, zero, suc, ◌/◌, ◌%◌, Bool, true, false, not, ◌==◌, if◌then◌else◌, List, [], ◌∷◌, ◌++◌, length, refl, sym, ap, ◌∙◌, subst, inl, inr, eqb-true}
 use Rattle.std.proofs.lemmas.Bool.{cases_Bool, false≢true, eq-eqb}
 use Rattle.sketch_base.specs.Bag.{Taken, with_level}
@@ -10,6 +11,7 @@ use Rattle.sketch_req.specs.ScheduleLaws.{events_at, AreDrawn}
 use Rattle.sketch_req.specs.declared.RankAccuracy.{RankAccuracy}
 use Rattle.sketch_req.specs.declared.RankAccuracy.TheVariants.{HighRank, LowRank}
 use Rattle.sketch_req.proofs.Layouts.{empty-layout, layout-other}
+use Rattle.sketch_req.proofs.WalkRules.{holds-walk}
 
 -- ---- states
 
@@ -90,41 +92,23 @@ module _ {A : Type 0} (Holds : List (Event A) → (ℕ → ℕ → Bool) → Typ
       let l = layout_at ls h in
       let side = taken_side accuracy (taken k l) in
       elim (cases_Bool (l.state % 2 == 0)) [
-        | inl e ↦
+        | inl even ↦
             let more = with_drawn drawn s h in
-            let b = rises-with drawn s h in
-            subst (λ (c : Bool). Holds (At s (Compact h (if c then Fresh else Turned) side) ∷ events) drawn) (sym e)
-            (by_drawn.fresh h side events drawn (takes_req accuracy (taken k l)) (go more b (drawn_compacted k h ls (more s) (λ j p. b s j (a j p)) (drawn-there drawn s h))))
-        | inr e ↦
-            let there : drawn s h ≡ true = a h (ap not e) in
-            subst (λ (c : Bool). Holds (At s (Compact h (if c then Fresh else Turned) side) ∷ events) drawn) (sym e)
-            (by_drawn.turned h side events drawn (takes_req accuracy (taken k l)) there (go drawn (λ t j q. q) (drawn_compacted k h ls (drawn s) a there)))
-      ]
-
-  by-steps : (more h : ℕ) (ls : List Layout) (drawn : ℕ → ℕ → Bool) → AreDrawn ls (drawn s) → Goes (steps_layouts k more h ls) drawn → Holds (events_at s (steps_actions k accuracy more h ls) ++ rest) drawn
-  by-steps zero h ls drawn a go = go drawn (λ t j q. q) a
-  by-steps (suc more) h ls drawn a go =
-      let R : Bool → Type 0 = λ (b : Bool).
-      Goes (steps_layouts k more (suc h) (if b then compacted_at k h ls else ls)) drawn →
-      Holds (events_at s ((if b then compact_level k accuracy h ls ∷ [] else []) ++ steps_actions k accuracy more (suc h) (if b then compacted_at k h ls else ls)) ++ rest) drawn in
-      elim (cases_Bool (is_full k (layout_at ls h))) as (λ _. Holds (events_at s (steps_actions k accuracy (suc more) h ls) ++ rest) drawn) [
-        | inl e ↦
-            let r : R true = λ go'.
-            by-compact h ls drawn (events_at s (steps_actions k accuracy more (suc h) (compacted_at k h ls)) ++ rest) a
-            (λ drawn' up a'. by-steps more (suc h) (compacted_at k h ls) drawn' a' (λ m up' a''. go' m (λ t j q. up' t j (up t j q)) a'')) in
-            subst R (sym e) r go
-        | inr e ↦
-            let r : R false = λ go'. by-steps more (suc h) ls drawn a go' in
-            subst R (sym e) r go
+            let rises = rises-with drawn s h in
+            rw even (by_drawn.fresh h side events drawn (takes_req accuracy (taken k l)) (go more rises (drawn_compacted k h ls (more s) (λ j p. rises s j (a j p)) (drawn-there drawn s h))))
+        | inr odd ↦
+            let there : drawn s h ≡ true = a h (ap not odd) in
+            rw odd (by_drawn.turned h side events drawn (takes_req accuracy (taken k l)) there (go drawn (λ t j q. q) (drawn_compacted k h ls (drawn s) a there)))
       ]
 
   -- a walk goes by what was drawn
   pub by-room : (ls : List Layout) (drawn : ℕ → ℕ → Bool) → AreDrawn ls (drawn s) → Goes (room_layouts k ls) drawn → Holds (events_at s (room_actions k accuracy ls) ++ rest) drawn
-  by-room ls drawn a go =
-      (elim (are_full k ls) as (λ b. Goes (if b then steps_layouts k (length ls) 0 ls else ls) drawn → Holds (events_at s (if b then steps_actions k accuracy (length ls) 0 ls else []) ++ rest) drawn) [
-        | true ↦ by-steps (length ls) 0 ls drawn a
-        | false ↦ λ go'. go' drawn (λ t j q. q) a
-      ]) go
+  by-room ls =
+      holds-walk k accuracy (λ _. ⊤) (λ _ _ _. tt)
+      (λ ls actions _ after. (drawn : ℕ → ℕ → Bool) → AreDrawn ls (drawn s) → Goes after drawn → Holds (events_at s actions ++ rest) drawn)
+      (λ h ls _ actions _ _ _ go drawn a goes.
+      by-compact h ls drawn (events_at s actions ++ rest) a (λ drawn' up a'. go drawn' a' (λ more up' a''. goes more (λ t j q. up' t j (up t j q)) a'')))
+      (λ _ _ drawn a goes. goes drawn (λ t j q. q) a) ls tt
 
   -- so does an update
   pub by-update : (ls : List Layout) (x : A) (drawn : ℕ → ℕ → Bool) → AreDrawn ls (drawn s) → Goes (update_layouts k ls) drawn → Holds (events_at s (update_actions k accuracy ls x) ++ rest) drawn

@@ -1,30 +1,25 @@
 -- What updates, redraws and merges give to fair traces: they turn drawn coins alone, where each level whose next compaction turns its coin has drawn one.
 use Rattle.std.proofs.Common.{◌≡◌, ℕ, zero, suc, ◌+◌, Bool, true, false, not, ◌&&◌, ◌||◌, if◌then◌else◌, List, [], ◌∷◌, ◌++◌, length, refl, sym, ap, ap₂, ◌∙◌, subst, arith, inl, inr}
+use Rattle.std.specs.Prelude.{⊤}
 use Rattle.std.proofs.lemmas.Bool.{cases_Bool, false≢true}
 use Rattle.std.proofs.lemmas.List.{append-nil}
 use Rattle.sketch_base.specs.Fair.{reaches, is_fair}
 use Rattle.sketch_base.specs.Trace.{Action, Put, Pull, Join, Compact, Forget, Redraw, Clear, Fresh, Turned, Event, joins_actions}
 use Rattle.sketch_req.specs.Level.{turns_coin}
-use Rattle.sketch_req.specs.Schedule.{Layout, layout_at, joined_layouts, redraws_from, redraw_actions, step_actions, step_layouts, steps_actions, are_full, room_actions, put_layouts, update_actions, update_layouts, merge_redrawn_actions, merge_layouts}
+use Rattle.sketch_req.specs.Schedule.{Layout, taken, layout_at, joined_layouts, redraws_from, redraw_actions, step_actions, step_layouts, steps_actions, are_full, room_actions, put_layouts, update_actions, update_layouts, merge_redrawn_actions, merge_layouts}
 use Rattle.sketch_req.specs.ScheduleLaws.{events_at, AreDrawn}
 use Rattle.sketch_req.specs.Walk.{AreOwn}
 use Rattle.sketch_req.specs.declared.RankAccuracy.{RankAccuracy}
-use Rattle.sketch_req.proofs.Drawn.{Rises, with_drawn, rises-with, drawn-there, HoldsByDrawn, by-room, by-update}
+use Rattle.sketch_req.proofs.Drawn.{Rises, takes_req, with_drawn, rises-with, drawn-there, HoldsByDrawn, by-room, by-update}
 use Rattle.sketch_req.proofs.Layouts.{empty-layout}
+use Rattle.sketch_req.proofs.WalkRules.{holds-walk}
 use Rattle.sketch_req.proofs.Walks.{own-step, own-append}
 
 module _ (A : Type 0) where
-  own-steps : (k : ℕ) (accuracy : RankAccuracy) (more h : ℕ) (ls : List Layout) → AreOwn {A = A} (steps_actions k accuracy more h ls)
-  own-steps k accuracy zero h ls = tt
-  own-steps k accuracy (suc more) h ls = own-append (step_actions k accuracy h ls) (steps_actions k accuracy more (suc h) (step_layouts k h ls)) (own-step A k accuracy h ls) (own-steps k accuracy more (suc h) (step_layouts k h ls))
-
   -- a walk leaves the scratch alone
   pub own-room : (k : ℕ) (accuracy : RankAccuracy) (ls : List Layout) → AreOwn {A = A} (room_actions k accuracy ls)
   own-room k accuracy ls =
-      elim (are_full k ls) as (λ b. AreOwn {A = A} (if b then steps_actions k accuracy (length ls) 0 ls else [])) [
-        | true ↦ own-steps k accuracy (length ls) 0 ls
-        | false ↦ tt
-      ]
+      holds-walk k accuracy (λ _. ⊤) (λ _ _ _. tt) (λ _ actions _ _. AreOwn actions) (λ h ls _ _ _ _ _ rest. (takes_req accuracy (taken k (layout_at ls h)), rest)) (λ _ _. tt) ls tt
 
   -- so does an update
   pub own-update : (k : ℕ) (accuracy : RankAccuracy) (ls : List Layout) (x : A) → AreOwn (update_actions k accuracy ls x)
