@@ -1,12 +1,12 @@
 -- Walks turn drawn coins alone, where each level at an odd state has drawn one, and leave it so.
 use Rattle.std.specs.Prelude.{⊤}
-use Rattle.std.proofs.Common.{◌≡◌, ◌≢◌, ℕ, zero, suc, ◌/◌, ◌%◌, Bool, true, false, not, ◌==◌, if◌then◌else◌, List, [], ◌∷◌, ◌++◌, length, refl, sym, ap, ◌∙◌, subst, inl, inr, eqb-true}
+use Rattle.std.proofs.Common.{◌≡◌, ◌≢◌, ℕ, zero, suc, ◌/◌, ◌%◌, Bool, true, false, not, ◌==◌, if◌then◌else◌, List, [], ◌∷◌, ◌++◌, refl, sym, ap, ◌∙◌, subst, inl, inr, eqb-true}
 use Rattle.std.proofs.lemmas.Bool.{cases_Bool, false≢true, eq-eqb}
 use Rattle.sketch_base.specs.Bag.{Taken, with_level}
 use Rattle.sketch_base.specs.Trace.{Put, Compact, Fresh, Turned, Event, At, changed, is_req}
 use Rattle.sketch_base.proofs.Changes.{changed-there}
 use Rattle.sketch_req.specs.Level.{taken_side, turns_coin}
-use Rattle.sketch_req.specs.Schedule.{Layout, new_layout, layout_at, is_full, taken, compacted, filled, compact_level, compacted_at, steps_actions, steps_layouts, are_full, room_actions, room_layouts, put_layouts, update_actions, update_layouts}
+use Rattle.sketch_req.specs.Schedule.{Layout, new_layout, layout_at, taken, compacted, filled, compact_level, compacted_at, room_actions, room_layouts, put_layouts, update_actions, update_layouts}
 use Rattle.sketch_req.specs.ScheduleLaws.{events_at, AreDrawn}
 use Rattle.sketch_req.specs.declared.RankAccuracy.{RankAccuracy}
 use Rattle.sketch_req.specs.declared.RankAccuracy.TheVariants.{HighRank, LowRank}

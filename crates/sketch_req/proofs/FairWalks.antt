@@ -4,16 +4,15 @@ use Rattle.std.specs.Prelude.{⊤}
 use Rattle.std.proofs.lemmas.Bool.{cases_Bool, false≢true}
 use Rattle.std.proofs.lemmas.List.{append-nil}
 use Rattle.sketch_base.specs.Fair.{reaches, is_fair}
-use Rattle.sketch_base.specs.Trace.{Action, Put, Pull, Join, Compact, Forget, Redraw, Clear, Fresh, Turned, Event, joins_actions}
+use Rattle.sketch_base.specs.Trace.{Action, Put, Compact, Redraw, Fresh, Turned, Event, joins_actions}
 use Rattle.sketch_req.specs.Level.{turns_coin}
-use Rattle.sketch_req.specs.Schedule.{Layout, taken, layout_at, joined_layouts, redraws_from, redraw_actions, step_actions, step_layouts, steps_actions, are_full, room_actions, put_layouts, update_actions, update_layouts, merge_redrawn_actions, merge_layouts}
+use Rattle.sketch_req.specs.Schedule.{Layout, taken, layout_at, joined_layouts, redraws_from, redraw_actions, room_actions, put_layouts, update_actions, update_layouts, merge_redrawn_actions, merge_layouts}
 use Rattle.sketch_req.specs.ScheduleLaws.{events_at, AreDrawn}
 use Rattle.sketch_req.specs.Walk.{AreOwn}
 use Rattle.sketch_req.specs.declared.RankAccuracy.{RankAccuracy}
 use Rattle.sketch_req.proofs.Drawn.{Rises, takes_req, with_drawn, rises-with, drawn-there, HoldsByDrawn, by-room, by-update}
 use Rattle.sketch_req.proofs.Layouts.{empty-layout}
 use Rattle.sketch_req.proofs.WalkRules.{holds-walk}
-use Rattle.sketch_req.proofs.Walks.{own-step, own-append}
 
 module _ (A : Type 0) where
   -- a walk leaves the scratch alone

@@ -1,18 +1,19 @@
 -- What each compaction keeps holds along walks and updates: of the actions that they give, and of the moves of a query's items that these are.
-use Rattle.std.proofs.Common.{◌≡◌, ℕ, zero, suc, ◌-◌, ◌%◌, ◌==◌, Bool, true, false, cond, if◌then◌else◌, List, [], ◌∷◌, ◌++◌, length, inl, inr}
+use Rattle.std.proofs.Common.{◌≡◌, ℕ, zero, suc, ◌-◌, Bool, true, cond, if◌then◌else◌, List, [], ◌∷◌, ◌++◌, length, inl, inr}
 use Rattle.std.proofs.lemmas.Bool.{cases_Bool}
 use Rattle.std.proofs.lemmas.List.{append-nil}
 use Rattle.sketch_base.specs.Trace.{Action, Put}
+use Rattle.sketch_req.specs.Level.{turns_coin}
 use Rattle.sketch_req.specs.Schedule.{Layout, layout_at, is_full, taken, compact_level, compacted_at, step_layouts, steps_actions, steps_layouts, are_full, room_actions, room_layouts, put_layouts, update_layouts}
 use Rattle.sketch_req.specs.ScheduleLaws.{updates_actions, updates_layouts}
 use Rattle.sketch_req.specs.declared.RankAccuracy.{RankAccuracy}
-use Rattle.sketch_req.proofs.Moves.{Move, Gives, Draws, Turns}
+use Rattle.sketch_req.proofs.Moves.{Move, Gives, Compacts}
 
 -- the move that a compaction of level h gives
 abbrev pub move_at : ℕ → ℕ → List Layout → Move
 move_at k h ls =
     let l = layout_at ls h in
-    if l.state % 2 == 0 then Draws h (l.count - taken k l) else Turns h (l.count - taken k l)
+    Compacts h (l.count - taken k l) (turns_coin l.state)
 
 -- those of the steps of a walk
 abbrev pub steps_moves : ℕ → ℕ → ℕ → List Layout → List Move
