@@ -1,7 +1,7 @@
 -- Walks turn drawn coins alone, where each level at an odd state has drawn one, and leave it so.
 use Rattle.std.specs.Prelude.{⊤}
 use Rattle.std.proofs.Common.{◌≡◌, ◌≢◌, ℕ, zero, suc, ◌/◌, ◌%◌, Bool, true, false, not, ◌==◌, if◌then◌else◌, List, [], ◌∷◌, ◌++◌, refl, sym, ap, ◌∙◌, subst, inl, inr, eqb-true}
-use Rattle.std.proofs.lemmas.Bool.{cases_Bool, false≢true, eq-eqb}
+use Rattle.std.proofs.lemmas.Bool.{cases_Bool, cases_eq, false≢true, eq-eqb}
 use Rattle.sketch_base.specs.Bag.{Taken, with_level}
 use Rattle.sketch_base.specs.Trace.{Put, Compact, Fresh, Turned, Event, At, changed, is_req}
 use Rattle.sketch_base.proofs.Changes.{changed-there}
@@ -11,35 +11,38 @@ use Rattle.sketch_req.specs.ScheduleLaws.{events_at, AreDrawn}
 use Rattle.sketch_req.specs.declared.RankAccuracy.{RankAccuracy}
 use Rattle.sketch_req.specs.declared.RankAccuracy.TheVariants.{HighRank, LowRank}
 use Rattle.sketch_req.proofs.Layouts.{empty-layout, layout-other}
+use Rattle.sketch_req.proofs.ReservedWalks.{layout-same}
 use Rattle.sketch_req.proofs.WalkRules.{holds-walk}
 
 -- ---- states
 
-filled_state : (h n : ℕ) (ls : List Layout) (j : ℕ) → (layout_at (with_level new_layout h (filled n) ls) j).state ≡ (layout_at ls j).state
-filled_state zero n [] zero = refl
-filled_state zero n [] (suc j) = refl
-filled_state zero n (l ∷ ls) zero = refl
-filled_state zero n (l ∷ ls) (suc j) = refl
-filled_state (suc h) n [] zero = refl
-filled_state (suc h) n [] (suc j) = filled_state h n [] j ∙ ap (λ (l : Layout). l.state) (empty-layout j ∙ sym (empty-layout (suc j)))
-filled_state (suc h) n (l ∷ ls) zero = refl
-filled_state (suc h) n (l ∷ ls) (suc j) = filled_state h n ls j
+-- a level without its items: its state and its doublings
+abbrev pub emptied : Layout → Layout
+emptied l = record l { count = 0 }
 
-compacted_state : (k h : ℕ) (ls : List Layout) (j : ℕ) → j ≢ h → (layout_at (compacted_at k h ls) j).state ≡ (layout_at ls j).state
-compacted_state k h ls j ne =
-    filled_state (suc h) (taken k (layout_at ls h) / 2) (with_level new_layout h (compacted k) ls) j
-    ∙ ap (λ (l : Layout). l.state) (layout-other h j (compacted k) ls ne)
+-- a level that is filled keeps them
+pub emptied-filled : (h n : ℕ) (ls : List Layout) (j : ℕ) → emptied (layout_at (with_level new_layout h (filled n) ls) j) ≡ emptied (layout_at ls j)
+emptied-filled h n ls j =
+    elim (cases_eq j h) [
+      | inl here ↦ rw here (ap emptied (layout-same h (filled n) ls))
+      | inr other ↦ ap emptied (layout-other h j (filled n) ls other)
+    ]
+
+-- so does each level but the one that is compacted
+pub emptied-other : (k h : ℕ) (ls : List Layout) (j : ℕ) → j ≢ h → emptied (layout_at (compacted_at k h ls) j) ≡ emptied (layout_at ls j)
+emptied-other k h ls j other =
+    emptied-filled (suc h) (taken k (layout_at ls h) / 2) (with_level new_layout h (compacted k) ls) j ∙ ap emptied (layout-other h j (compacted k) ls other)
 
 -- a level that was drawn for is compacted
 drawn_compacted : (k h : ℕ) (ls : List Layout) (drawn : ℕ → Bool) → AreDrawn ls drawn → drawn h ≡ true → AreDrawn (compacted_at k h ls) drawn
 drawn_compacted k h ls drawn a e j p =
-    elim (cases_Bool (j == h)) [
-      | inl t ↦ ap drawn (eqb-true j h t) ∙ e
-      | inr t ↦ a j (ap turns_coin (sym (compacted_state k h ls j (λ q. false≢true (sym t ∙ eq-eqb j h q)))) ∙ p)
+    elim (cases_eq j h) [
+      | inl here ↦ ap drawn here ∙ e
+      | inr other ↦ a j (ap (λ (l : Layout). turns_coin l.state) (sym (emptied-other k h ls j other)) ∙ p)
     ]
 
 drawn_put : (ls : List Layout) (drawn : ℕ → Bool) → AreDrawn ls drawn → AreDrawn (put_layouts ls) drawn
-drawn_put ls drawn a j p = a j (ap turns_coin (sym (filled_state 0 1 ls j)) ∙ p)
+drawn_put ls drawn a j p = a j (ap (λ (l : Layout). turns_coin l.state) (sym (emptied-filled 0 1 ls j)) ∙ p)
 
 -- ---- traces
 
