@@ -4,7 +4,7 @@ use Rattle.std.proofs.Common.{◌≡◌, ◌≢◌, ℕ, zero, suc, ◌/◌, ◌
 use Rattle.std.proofs.lemmas.Bool.{cases_Bool, cases_eq, false≢true, eq-eqb}
 use Rattle.sketch_base.specs.Bag.{Taken, with_level}
 use Rattle.sketch_base.specs.Trace.{Put, Compact, Fresh, Turned, Event, At, changed, is_req}
-use Rattle.sketch_base.proofs.Changes.{changed-there}
+use Rattle.sketch_base.proofs.Changes.{changed-there, changed-other}
 use Rattle.sketch_req.specs.Level.{taken_side, turns_coin}
 use Rattle.sketch_req.specs.Schedule.{Layout, new_layout, layout_at, taken, compacted, filled, compact_level, compacted_at, room_actions, room_layouts, put_layouts, update_actions, update_layouts}
 use Rattle.sketch_req.specs.ScheduleLaws.{events_at, AreDrawn}
@@ -60,12 +60,10 @@ if-true false c e = e
 
 pub rises-with : (drawn : ℕ → ℕ → Bool) (s h : ℕ) → Rises drawn (with_drawn drawn s h)
 rises-with drawn s h t j e =
-    elim (cases_Bool (t == s)) [
-      | inl b ↦
-          let q : t ≡ s = eqb-true t s b in
-          let f : drawn s j ≡ true = subst (λ (i : ℕ). drawn i j ≡ true) q e in
-          subst (λ (c : Bool). (if c then changed (drawn s) h true else drawn t) j ≡ true) (sym b) (if-true (j == h) (drawn s j) f)
-      | inr b ↦ subst (λ (c : Bool). (if c then changed (drawn s) h true else drawn t) j ≡ true) (sym b) e
+    let own = changed (drawn s) h true in
+    elim (cases_eq t s) [
+      | inl here ↦ rw (here, changed-there drawn s own) (if-true (j == h) (drawn s j) (rw here at e))
+      | inr other ↦ rw (changed-other drawn s own t other) e
     ]
 
 -- a coin that was drawn is drawn

@@ -57,36 +57,28 @@ module _ {A : Type 0} (slot : ℕ) where
       IsFair (events_at s (redraws_from h ls ++ actions) ++ rest) drawn
   fair-redraws s h [] actions rest drawn go = go drawn (λ t j e. e) (λ j e. absurd (false≢true (ap (λ (l : Layout). turns_coin l.state) (sym (empty-layout j)) ∙ e)))
   fair-redraws s h (l ∷ ls) actions rest drawn go =
-      let R : Bool → Type 0 = λ (b : Bool). IsFair (events_at s (((if b then Redraw h ∷ [] else []) ++ redraws_from (suc h) ls) ++ actions) ++ rest) drawn in
       elim (cases_Bool (turns_coin l.state)) [
-        | inl e ↦ subst R (sym e) (fair-redraws s (suc h) ls actions rest (with_drawn drawn s h) (λ more up above. go more (λ t j d. up t j (rises-with drawn s h t j d)) (λ j. there more up above j)))
-        | inr e ↦ subst R (sym e) (fair-redraws s (suc h) ls actions rest drawn (λ more up above. go more up (λ j. other e more above j)))
+        | inl e ↦
+            rw e (fair-redraws s (suc h) ls actions rest (with_drawn drawn s h)
+            (λ more up above. go more (λ t j d. up t j (rises-with drawn s h t j d)) (all more above (λ _. up s h (drawn-there drawn s h)))))
+        | inr e ↦ rw e (fair-redraws s (suc h) ls actions rest drawn (λ more up above. go more up (all more above (λ turns. absurd (false≢true (sym e ∙ turns))))))
       ]
     where
-      Above : (ℕ → ℕ → Bool) → Type 0
-      Above more = (j : ℕ) → turns_coin (layout_at ls j).state ≡ true → more s (suc h + j) ≡ true
-
-      next : (more : ℕ → ℕ → Bool) (j : ℕ) → more s (suc h + j) ≡ true → more s (h + suc j) ≡ true
-      next more j e = let p : suc h + j ≡ h + suc j = omega arith in subst (λ (i : ℕ). more s i ≡ true) p e
-
-      there : (more : ℕ → ℕ → Bool) → Rises (with_drawn drawn s h) more → Above more → (j : ℕ) → turns_coin (layout_at (l ∷ ls) j).state ≡ true → more s (h + j) ≡ true
-      there more up above zero e = let p : h ≡ h + 0 = omega arith in subst (λ (i : ℕ). more s i ≡ true) p (up s h (drawn-there drawn s h))
-      there more up above (suc j) e = next more j (above j e)
-
-      other : turns_coin l.state ≡ false → (more : ℕ → ℕ → Bool) → Above more → (j : ℕ) → turns_coin (layout_at (l ∷ ls) j).state ≡ true → more s (h + j) ≡ true
-      other f more above zero e = absurd (false≢true (sym f ∙ e))
-      other f more above (suc j) e = next more j (above j e)
+      all : (more : ℕ → ℕ → Bool) → ((j : ℕ) → turns_coin (layout_at ls j).state ≡ true → more s (suc h + j) ≡ true) → (turns_coin l.state ≡ true → more s h ≡ true) →
+          (j : ℕ) → turns_coin (layout_at (l ∷ ls) j).state ≡ true → more s (h + j) ≡ true
+      all more above own zero e = let place : h + 0 ≡ h = omega arith in rw place (own e)
+      all more above own (suc j) e = let place : h + suc j ≡ suc h + j = omega arith in rw place (above j e)
 
   fair-redrawn : (s : ℕ) (ls : List Layout) (actions : List (Action A)) (rest : List (Event A)) (drawn : ℕ → ℕ → Bool) →
       ((more : ℕ → ℕ → Bool) → Rises drawn more → AreDrawn ls (more s) → IsFair (events_at s actions ++ rest) more) →
       IsFair (events_at s (redraw_actions ls ++ actions) ++ rest) drawn
   fair-redrawn s ls actions rest drawn go =
-      fair-redraws s 0 ls actions rest drawn (λ more up a. go more up (λ j e. let p : 0 + j ≡ j = omega arith in subst (λ (i : ℕ). more s i ≡ true) p (a j e)))
+      fair-redraws s 0 ls actions rest drawn (λ more up a. go more up (λ j e. let place : 0 + j ≡ j = omega arith in rw place at (a j e)))
 
   -- a redraw alone
   pub fair-redraw : (s : ℕ) (rest : List (Event A)) (ls : List Layout) (drawn : ℕ → ℕ → Bool) → GoesFair s rest ls drawn → IsFair (events_at s (redraw_actions ls) ++ rest) drawn
   fair-redraw s rest ls drawn go =
-      subst (λ (actions : List (Action A)). IsFair (events_at s actions ++ rest) drawn) (append-nil (redraw_actions ls)) (fair-redrawn s ls [] rest drawn go)
+      rw (append-nil (redraw_actions ls)) at (fair-redrawn s ls [] rest drawn go)
 
   -- a merge that draws coins anew, whatever was drawn before
   pub fair-merge_redrawn : (k : ℕ) (accuracy : RankAccuracy) (s : ℕ) (rest : List (Event A)) (ls others : List Layout) (drawn : ℕ → ℕ → Bool) →

@@ -4,7 +4,7 @@ use Rattle.std.specs.Cmp.{IsTotalOrder}
 use Rattle.std.specs.List.{AllZip}
 use Rattle.std.specs.Option.{option_to_list}
 use Rattle.std.proofs.lemmas.Bool.{cases_lt}
-use Rattle.std.proofs.lemmas.List.{get_or_default}
+use Rattle.std.proofs.lemmas.List.{get_or_default, length-map}
 use Rattle.sketch_base.specs.Bag.{SameItems, AlikeReq, sort, level_at}
 use Rattle.sketch_base.specs.Tied.{TiesAreEqual}
 use Rattle.sketch_base.specs.Trace.{Action}
@@ -63,14 +63,8 @@ module _ {A : Type 0} {cmp : A → A → Ordering} (order : IsTotalOrder cmp) (t
           one-moved k accuracy h x y (placed-at-place cmp k accuracy h ts x a i e) (placed-at-place cmp k accuracy h us y b j f)
           (sym (layout-there ts h x i e) ∙ (ap (λ (l : List Layout). layout_at l h) layouts ∙ layout-there us h y j f))
           (sym (coin-there ts h x i e) ∙ (alike.kept h ∙ coin-there us h y j f)) c d
-          (subst (λ (xs : List A). SameItems cmp (sort cmp xs) (sort cmp y.items)) (items-there ts h x i e)
-          (subst (λ (ys : List A). SameItems cmp (sort cmp (level_at (item_lists ts) h)) (sort cmp ys)) (items-there us h y j f) (zip-at (λ xs ys. SameItems cmp (sort cmp xs) (sort cmp ys))
-          (item_lists ts) (item_lists us) h (many ts h i) alike.levels)))
-        where
-          many : (ls : List (Level A)) (h : ℕ) → h < length ls → h < length (item_lists ls)
-          many [] h i = absurd (omega arith)
-          many (l ∷ ls) zero i = omega arith
-          many (l ∷ ls) (suc h) i = let r = many ls h (omega arith) in omega (arith, r)
+          (rw (← items-there ts h x i e, ← items-there us h y j f)
+          (zip-at (λ xs ys. SameItems cmp (sort cmp xs) (sort cmp ys)) (item_lists ts) (item_lists us) h (omega (arith, i, length-map ts (λ (l : Level A). l.items))) alike.levels))
 
       same : (h : ℕ) (none : Level A) → h < length ts → get_or ts h none ≡ get_or us h none
       same h none i = go (is_moved actions h) refl
