@@ -1,7 +1,7 @@
 -- What updates, redraws and merges give to fair traces: they turn drawn coins alone, where each level whose next compaction turns its coin has drawn one.
 use Rattle.std.proofs.Common.{◌≡◌, ℕ, zero, suc, ◌+◌, Bool, true, false, not, ◌&&◌, ◌||◌, if◌then◌else◌, List, [], ◌∷◌, ◌++◌, length, refl, sym, ap, ap₂, ◌∙◌, subst, arith, inl, inr}
 use Rattle.std.specs.Prelude.{⊤}
-use Rattle.std.proofs.lemmas.Bool.{cases_Bool, false≢true}
+use Rattle.std.proofs.lemmas.Bool.{cases_Bool, false≢true, or_right}
 use Rattle.std.proofs.lemmas.List.{append-nil}
 use Rattle.sketch_base.specs.Fair.{reaches, is_fair}
 use Rattle.sketch_base.specs.Trace.{Action, Put, Compact, Redraw, Fresh, Turned, Event, joins_actions}
@@ -116,11 +116,7 @@ module _ {A : Type 0} (slot : ℕ) where
   fair-apart s (Compact h Turned taken ∷ more) rest drawn o apart go =
       let misses = reaches-own s s more rest o.1 ∙ apart in
       ap₂ (λ (a b : Bool). a && b) o.0
-      (ap₂ (λ (a b : Bool). (drawn s h || not a) && b) misses (fair-apart s more rest drawn o.1 apart go) ∙ or_true (drawn s h))
-    where
-      or_true : (b : Bool) → ((b || true) && true) ≡ true
-      or_true true = refl
-      or_true false = refl
+      (ap₂ (λ (a b : Bool). (drawn s h || not a) && b) misses (fair-apart s more rest drawn o.1 apart go) ∙ ap (λ (b : Bool). b && true) (or_right (drawn s h) true refl))
   fair-apart s (Redraw h ∷ more) rest drawn o apart go =
       fair-apart s more rest (with_drawn drawn s h) o.1 apart (λ m up. go m (λ t j d. up t j (rises-with drawn s h t j d)))
   fair-apart s (other ∷ more) rest drawn o apart go = absurd (false≢true o.0)
