@@ -1,7 +1,7 @@
 -- Walks turn drawn coins alone, where each level at an odd state has drawn one, and leave it so.
 use Rattle.std.specs.Prelude.{⊤}
-use Rattle.std.proofs.Common.{◌≡◌, ◌≢◌, ℕ, zero, suc, ◌/◌, ◌%◌, Bool, true, false, not, ◌==◌, if◌then◌else◌, List, [], ◌∷◌, ◌++◌, refl, sym, ap, ◌∙◌, subst, inl, inr, eqb-true}
-use Rattle.std.proofs.lemmas.Bool.{cases_Bool, cases_eq, false≢true, eq-eqb}
+use Rattle.std.proofs.Common.{◌≡◌, ◌≢◌, ℕ, suc, ◌/◌, ◌%◌, Bool, true, false, not, ◌==◌, if◌then◌else◌, List, ◌∷◌, ◌++◌, refl, sym, ap, ◌∙◌, inl, inr}
+use Rattle.std.proofs.lemmas.Bool.{cases_Bool, cases_eq}
 use Rattle.sketch_base.specs.Bag.{Taken, with_level}
 use Rattle.sketch_base.specs.Trace.{Put, Compact, Fresh, Turned, Event, At, changed, is_req}
 use Rattle.sketch_base.proofs.Changes.{changed-there, changed-other}
@@ -10,7 +10,7 @@ use Rattle.sketch_req.specs.Schedule.{Layout, new_layout, layout_at, taken, comp
 use Rattle.sketch_req.specs.ScheduleLaws.{events_at, AreDrawn}
 use Rattle.sketch_req.specs.declared.RankAccuracy.{RankAccuracy}
 use Rattle.sketch_req.specs.declared.RankAccuracy.TheVariants.{HighRank, LowRank}
-use Rattle.sketch_req.proofs.Layouts.{empty-layout, layout-other}
+use Rattle.sketch_req.proofs.Layouts.{layout-other}
 use Rattle.sketch_req.proofs.ReservedWalks.{layout-same}
 use Rattle.sketch_req.proofs.WalkRules.{holds-walk}
 
