@@ -1,43 +1,48 @@
 -- Walks turn drawn coins alone, where each level at an odd state has drawn one, and leave it so.
-use Rattle.std.proofs.Common.{◌≡◌, ◌≢◌, ℕ, zero, suc, ◌/◌, ◌%◌, Bool, true, false, not, ◌==◌, if◌then◌else◌, List, [], ◌∷◌, ◌++◌, length, refl, sym, ap, ◌∙◌, subst, inl, inr, eqb-true}
-use Rattle.std.proofs.lemmas.Bool.{cases_Bool, false≢true, eq-eqb}
+use Rattle.std.specs.Prelude.{⊤}
+use Rattle.std.proofs.Common.{◌≡◌, ◌≢◌, ℕ, suc, ◌/◌, ◌%◌, Bool, true, false, not, ◌==◌, if◌then◌else◌, List, ◌∷◌, ◌++◌, refl, sym, ap, ◌∙◌, inl, inr}
+use Rattle.std.proofs.lemmas.Bool.{cases_Bool, cases_eq}
 use Rattle.sketch_base.specs.Bag.{Taken, with_level}
 use Rattle.sketch_base.specs.Trace.{Put, Compact, Fresh, Turned, Event, At, changed, is_req}
-use Rattle.sketch_base.proofs.Changes.{changed-there}
+use Rattle.sketch_base.proofs.Changes.{changed-there, changed-other}
 use Rattle.sketch_req.specs.Level.{taken_side, turns_coin}
-use Rattle.sketch_req.specs.Schedule.{Layout, new_layout, layout_at, is_full, taken, compacted, filled, compact_level, compacted_at, steps_actions, steps_layouts, are_full, room_actions, room_layouts, put_layouts, update_actions, update_layouts}
+use Rattle.sketch_req.specs.Schedule.{Layout, new_layout, layout_at, taken, compacted, filled, compact_level, compacted_at, room_actions, room_layouts, put_layouts, update_actions, update_layouts}
 use Rattle.sketch_req.specs.ScheduleLaws.{events_at, AreDrawn}
 use Rattle.sketch_req.specs.declared.RankAccuracy.{RankAccuracy}
 use Rattle.sketch_req.specs.declared.RankAccuracy.TheVariants.{HighRank, LowRank}
-use Rattle.sketch_req.proofs.Layouts.{empty-layout, layout-other}
+use Rattle.sketch_req.proofs.Layouts.{layout-other}
+use Rattle.sketch_req.proofs.ReservedWalks.{layout-same}
+use Rattle.sketch_req.proofs.WalkRules.{holds-walk}
 
 -- ---- states
 
-filled_state : (h n : ℕ) (ls : List Layout) (j : ℕ) → (layout_at (with_level new_layout h (filled n) ls) j).state ≡ (layout_at ls j).state
-filled_state zero n [] zero = refl
-filled_state zero n [] (suc j) = refl
-filled_state zero n (l ∷ ls) zero = refl
-filled_state zero n (l ∷ ls) (suc j) = refl
-filled_state (suc h) n [] zero = refl
-filled_state (suc h) n [] (suc j) = filled_state h n [] j ∙ ap (λ (l : Layout). l.state) (empty-layout j ∙ sym (empty-layout (suc j)))
-filled_state (suc h) n (l ∷ ls) zero = refl
-filled_state (suc h) n (l ∷ ls) (suc j) = filled_state h n ls j
+-- a level without its items: its state and its doublings
+abbrev pub emptied : Layout → Layout
+emptied l = record l { count = 0 }
 
-compacted_state : (k h : ℕ) (ls : List Layout) (j : ℕ) → j ≢ h → (layout_at (compacted_at k h ls) j).state ≡ (layout_at ls j).state
-compacted_state k h ls j ne =
-    filled_state (suc h) (taken k (layout_at ls h) / 2) (with_level new_layout h (compacted k) ls) j
-    ∙ ap (λ (l : Layout). l.state) (layout-other h j (compacted k) ls ne)
+-- a level that is filled keeps them
+pub emptied-filled : (h n : ℕ) (ls : List Layout) (j : ℕ) → emptied (layout_at (with_level new_layout h (filled n) ls) j) ≡ emptied (layout_at ls j)
+emptied-filled h n ls j =
+    elim (cases_eq j h) [
+      | inl here ↦ rw here (ap emptied (layout-same h (filled n) ls))
+      | inr other ↦ ap emptied (layout-other h j (filled n) ls other)
+    ]
+
+-- so does each level but the one that is compacted
+pub emptied-other : (k h : ℕ) (ls : List Layout) (j : ℕ) → j ≢ h → emptied (layout_at (compacted_at k h ls) j) ≡ emptied (layout_at ls j)
+emptied-other k h ls j other =
+    emptied-filled (suc h) (taken k (layout_at ls h) / 2) (with_level new_layout h (compacted k) ls) j ∙ ap emptied (layout-other h j (compacted k) ls other)
 
 -- a level that was drawn for is compacted
 drawn_compacted : (k h : ℕ) (ls : List Layout) (drawn : ℕ → Bool) → AreDrawn ls drawn → drawn h ≡ true → AreDrawn (compacted_at k h ls) drawn
 drawn_compacted k h ls drawn a e j p =
-    elim (cases_Bool (j == h)) [
-      | inl t ↦ ap drawn (eqb-true j h t) ∙ e
-      | inr t ↦ a j (ap turns_coin (sym (compacted_state k h ls j (λ q. false≢true (sym t ∙ eq-eqb j h q)))) ∙ p)
+    elim (cases_eq j h) [
+      | inl here ↦ ap drawn here ∙ e
+      | inr other ↦ a j (ap (λ (l : Layout). turns_coin l.state) (sym (emptied-other k h ls j other)) ∙ p)
     ]
 
 drawn_put : (ls : List Layout) (drawn : ℕ → Bool) → AreDrawn ls drawn → AreDrawn (put_layouts ls) drawn
-drawn_put ls drawn a j p = a j (ap turns_coin (sym (filled_state 0 1 ls j)) ∙ p)
+drawn_put ls drawn a j p = a j (ap (λ (l : Layout). turns_coin l.state) (sym (emptied-filled 0 1 ls j)) ∙ p)
 
 -- ---- traces
 
@@ -55,12 +60,10 @@ if-true false c e = e
 
 pub rises-with : (drawn : ℕ → ℕ → Bool) (s h : ℕ) → Rises drawn (with_drawn drawn s h)
 rises-with drawn s h t j e =
-    elim (cases_Bool (t == s)) [
-      | inl b ↦
-          let q : t ≡ s = eqb-true t s b in
-          let f : drawn s j ≡ true = subst (λ (i : ℕ). drawn i j ≡ true) q e in
-          subst (λ (c : Bool). (if c then changed (drawn s) h true else drawn t) j ≡ true) (sym b) (if-true (j == h) (drawn s j) f)
-      | inr b ↦ subst (λ (c : Bool). (if c then changed (drawn s) h true else drawn t) j ≡ true) (sym b) e
+    let own = changed (drawn s) h true in
+    elim (cases_eq t s) [
+      | inl here ↦ rw (here, changed-there drawn s own) (if-true (j == h) (drawn s j) (rw here at e))
+      | inr other ↦ rw (changed-other drawn s own t other) e
     ]
 
 -- a coin that was drawn is drawn
@@ -90,41 +93,23 @@ module _ {A : Type 0} (Holds : List (Event A) → (ℕ → ℕ → Bool) → Typ
       let l = layout_at ls h in
       let side = taken_side accuracy (taken k l) in
       elim (cases_Bool (l.state % 2 == 0)) [
-        | inl e ↦
+        | inl even ↦
             let more = with_drawn drawn s h in
-            let b = rises-with drawn s h in
-            subst (λ (c : Bool). Holds (At s (Compact h (if c then Fresh else Turned) side) ∷ events) drawn) (sym e)
-            (by_drawn.fresh h side events drawn (takes_req accuracy (taken k l)) (go more b (drawn_compacted k h ls (more s) (λ j p. b s j (a j p)) (drawn-there drawn s h))))
-        | inr e ↦
-            let there : drawn s h ≡ true = a h (ap not e) in
-            subst (λ (c : Bool). Holds (At s (Compact h (if c then Fresh else Turned) side) ∷ events) drawn) (sym e)
-            (by_drawn.turned h side events drawn (takes_req accuracy (taken k l)) there (go drawn (λ t j q. q) (drawn_compacted k h ls (drawn s) a there)))
-      ]
-
-  by-steps : (more h : ℕ) (ls : List Layout) (drawn : ℕ → ℕ → Bool) → AreDrawn ls (drawn s) → Goes (steps_layouts k more h ls) drawn → Holds (events_at s (steps_actions k accuracy more h ls) ++ rest) drawn
-  by-steps zero h ls drawn a go = go drawn (λ t j q. q) a
-  by-steps (suc more) h ls drawn a go =
-      let R : Bool → Type 0 = λ (b : Bool).
-      Goes (steps_layouts k more (suc h) (if b then compacted_at k h ls else ls)) drawn →
-      Holds (events_at s ((if b then compact_level k accuracy h ls ∷ [] else []) ++ steps_actions k accuracy more (suc h) (if b then compacted_at k h ls else ls)) ++ rest) drawn in
-      elim (cases_Bool (is_full k (layout_at ls h))) as (λ _. Holds (events_at s (steps_actions k accuracy (suc more) h ls) ++ rest) drawn) [
-        | inl e ↦
-            let r : R true = λ go'.
-            by-compact h ls drawn (events_at s (steps_actions k accuracy more (suc h) (compacted_at k h ls)) ++ rest) a
-            (λ drawn' up a'. by-steps more (suc h) (compacted_at k h ls) drawn' a' (λ m up' a''. go' m (λ t j q. up' t j (up t j q)) a'')) in
-            subst R (sym e) r go
-        | inr e ↦
-            let r : R false = λ go'. by-steps more (suc h) ls drawn a go' in
-            subst R (sym e) r go
+            let rises = rises-with drawn s h in
+            rw even (by_drawn.fresh h side events drawn (takes_req accuracy (taken k l)) (go more rises (drawn_compacted k h ls (more s) (λ j p. rises s j (a j p)) (drawn-there drawn s h))))
+        | inr odd ↦
+            let there : drawn s h ≡ true = a h (ap not odd) in
+            rw odd (by_drawn.turned h side events drawn (takes_req accuracy (taken k l)) there (go drawn (λ t j q. q) (drawn_compacted k h ls (drawn s) a there)))
       ]
 
   -- a walk goes by what was drawn
   pub by-room : (ls : List Layout) (drawn : ℕ → ℕ → Bool) → AreDrawn ls (drawn s) → Goes (room_layouts k ls) drawn → Holds (events_at s (room_actions k accuracy ls) ++ rest) drawn
-  by-room ls drawn a go =
-      (elim (are_full k ls) as (λ b. Goes (if b then steps_layouts k (length ls) 0 ls else ls) drawn → Holds (events_at s (if b then steps_actions k accuracy (length ls) 0 ls else []) ++ rest) drawn) [
-        | true ↦ by-steps (length ls) 0 ls drawn a
-        | false ↦ λ go'. go' drawn (λ t j q. q) a
-      ]) go
+  by-room ls =
+      holds-walk k accuracy (λ _. ⊤) (λ _ _ _. tt)
+      (λ ls actions _ after. (drawn : ℕ → ℕ → Bool) → AreDrawn ls (drawn s) → Goes after drawn → Holds (events_at s actions ++ rest) drawn)
+      (λ h ls _ actions _ _ _ go drawn a goes.
+      by-compact h ls drawn (events_at s actions ++ rest) a (λ drawn' up a'. go drawn' a' (λ more up' a''. goes more (λ t j q. up' t j (up t j q)) a'')))
+      (λ _ _ drawn a goes. goes drawn (λ t j q. q) a) ls tt
 
   -- so does an update
   pub by-update : (ls : List Layout) (x : A) (drawn : ℕ → ℕ → Bool) → AreDrawn ls (drawn s) → Goes (update_layouts k ls) drawn → Holds (events_at s (update_actions k accuracy ls x) ++ rest) drawn

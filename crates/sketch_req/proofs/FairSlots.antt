@@ -3,7 +3,7 @@ use Rattle.std.proofs.Common.{◌≡◌, ◌≢◌, ℕ, Bool, true, false, not,
 use Rattle.std.proofs.lemmas.Bool.{cases_Bool, cases_eq, and_left, and_right, false≢true}
 use Rattle.sketch_base.specs.Fair.{reaches}
 use Rattle.sketch_base.specs.Trace.{Action, Forget, Clear, Event, Snap, At, changed, joins_actions}
-use Rattle.sketch_base.proofs.Changes.{changed-there, changed-other}
+use Rattle.sketch_base.proofs.Changes.{changed-there, changed-other, changed-itself}
 use Rattle.sketch_req.specs.Schedule.{Layout, new_layout, joined_layouts, are_full, redraw_actions, room_actions, walk_actions, update_actions, update_layouts, merge_redrawn_actions, merge_layouts}
 use Rattle.sketch_req.specs.ScheduleLaws.{events_at, merge_events, AreDrawn}
 use Rattle.sketch_req.specs.Walk.{AreOwn}
@@ -18,18 +18,24 @@ use Rattle.sketch_req.proofs.Walks.{own-append}
 abbrev pub AreReady : (layouts : ℕ → List Layout) (ready : ℕ → Bool) (drawn : ℕ → ℕ → Bool) → Type 0
 AreReady layouts ready drawn = (j : ℕ) → ready j ≡ true → AreDrawn (layouts j) (drawn j)
 
--- after one slot's command
-ready-after : (s : ℕ) (layouts layouts' : ℕ → List Layout) (ready ready' : ℕ → Bool) (drawn more : ℕ → ℕ → Bool) → AreReady layouts ready drawn →
-    ((j : ℕ) → j ≢ s → (layouts' j ≡ layouts j) × (ready' j ≡ ready j) × ((h : ℕ) → drawn j h ≡ true → more j h ≡ true)) →
-    (ready' s ≡ true → AreDrawn (layouts' s) (more s)) → AreReady layouts' ready' more
-ready-after s layouts layouts' ready ready' drawn more a others here j r =
+-- after one slot's command: the others stay as they were, and it is ready if it is said to be
+ready-after : (s : ℕ) (layouts : ℕ → List Layout) (after : List Layout) (ready : ℕ → Bool) (is_ready : Bool) (drawn more : ℕ → ℕ → Bool) → AreReady layouts ready drawn →
+    ((j : ℕ) → j ≢ s → (h : ℕ) → drawn j h ≡ true → more j h ≡ true) → (is_ready ≡ true → AreDrawn after (more s)) → AreReady (changed layouts s after) (changed ready s is_ready) more
+ready-after s layouts after ready is_ready drawn more a up here j r =
     elim (cases_eq j s) [
-      | inl p ↦ subst (λ (i : ℕ). AreDrawn (layouts' i) (more i)) (sym p) (here (ap ready' (sym p) ∙ r))
-      | inr ne ↦
-          let o = others j ne in
-          let was : AreDrawn (layouts j) (drawn j) = a j (sym o.1 ∙ r) in
-          subst (λ (ls : List Layout). AreDrawn ls (more j)) (sym o.0) (λ h t. o.2 h (was h t))
+      | inl own ↦ rw (own, changed-there layouts s after) (here (rw (own, changed-there ready s is_ready) at r))
+      | inr other ↦ rw (changed-other layouts s after j other) (λ h t. up j other h (a j (rw (changed-other ready s is_ready j other) at r) h t))
     ]
+
+-- where its layouts stay too
+ready-kept : (s : ℕ) (layouts : ℕ → List Layout) (ready : ℕ → Bool) (is_ready : Bool) (drawn more : ℕ → ℕ → Bool) → AreReady layouts ready drawn →
+    ((j : ℕ) → j ≢ s → (h : ℕ) → drawn j h ≡ true → more j h ≡ true) → (is_ready ≡ true → AreDrawn (layouts s) (more s)) → AreReady layouts (changed ready s is_ready) more
+ready-kept s layouts ready is_ready drawn more a up here =
+    subst (λ (ls : ℕ → List Layout). AreReady ls (changed ready s is_ready) more) (changed-itself layouts s) (ready-after s layouts (layouts s) ready is_ready drawn more a up here)
+
+-- where no coin of the slot is drawn any more
+none-drawn_up : (drawn : ℕ → ℕ → Bool) (s j : ℕ) → j ≢ s → (h : ℕ) → drawn j h ≡ true → changed drawn s (λ h. false) j h ≡ true
+none-drawn_up drawn s j other h d = ap (λ (f : ℕ → Bool). f h) (changed-other drawn s (λ h. false) j other) ∙ d
 
 -- a flag that is false where it was
 lowered : (flags : ℕ → Bool) (s : ℕ) (b : Bool) (j : ℕ) → (flags s ≡ false → b ≡ false) → flags j ≡ false → changed flags s b j ≡ false
@@ -68,9 +74,7 @@ module _ {A : Type 0} (slot : ℕ) where
       Stands (changed layouts s (new_layout ∷ [])) (changed ready s true) (changed fair s true) rest → Stands layouts ready fair (At s Clear ∷ rest)
   stands-clear s layouts ready fair rest n = record {
     fairs = λ drawn a. n.fairs (changed drawn s (λ h. false))
-        (ready-after s layouts _ ready _ drawn _ a
-        (λ j e. (changed-other layouts s _ j e, changed-other ready s true j e, λ h d. ap (λ (f : ℕ → Bool). f h) (changed-other drawn s (λ h. false) j e) ∙ d))
-        (λ _. subst (λ (ls : List Layout). AreDrawn ls (changed drawn s (λ h. false) s)) (sym (changed-there layouts s (new_layout ∷ []))) (none_drawn (changed drawn s (λ h. false) s))));
+        (ready-after s layouts (new_layout ∷ []) ready true drawn _ a (none-drawn_up drawn s) (λ _. none_drawn (changed drawn s (λ h. false) s)));
     apart = other;
   }
     where
@@ -85,9 +89,7 @@ module _ {A : Type 0} (slot : ℕ) where
       Stands layouts (changed ready s false) fair rest → Stands layouts ready fair (At s Forget ∷ rest)
   stands-forget s layouts ready fair rest n = record {
     fairs = λ drawn a. n.fairs (changed drawn s (λ h. false))
-        (ready-after s layouts layouts ready _ drawn _ a
-        (λ j e. (refl, changed-other ready s false j e, λ h d. ap (λ (f : ℕ → Bool). f h) (changed-other drawn s (λ h. false) j e) ∙ d))
-        (λ r. absurd (false≢true (sym (changed-there ready s false) ∙ r))));
+        (ready-kept s layouts ready false drawn _ a (none-drawn_up drawn s) (λ r. absurd (false≢true r)));
     apart = n.apart;
   }
 
@@ -96,7 +98,7 @@ module _ {A : Type 0} (slot : ℕ) where
       Stands layouts (changed ready s true) fair rest → Stands layouts ready fair (events_at s (redraw_actions (layouts s)) ++ rest)
   stands-redraw s layouts ready fair rest n = record {
     fairs = λ drawn a. fair-redraw slot s rest (layouts s) drawn
-        (λ more up d. n.fairs more (ready-after s layouts layouts ready _ drawn more a (λ j e. (refl, changed-other ready s true j e, up j)) (λ _. d)));
+        (λ more up d. n.fairs more (ready-kept s layouts ready true drawn more a (λ j _. up j) (λ _. d)));
     apart = λ j f. reaches-own slot s j (redraw_actions (layouts s)) rest (own-redraws A 0 (layouts s)) ∙ n.apart j f;
   }
 
@@ -109,15 +111,17 @@ module _ {A : Type 0} (slot : ℕ) where
       actions : List (Action A)
       actions = update_actions k accuracy (layouts s) x
 
+      goes : (drawn more : ℕ → ℕ → Bool) → AreReady layouts ready drawn → Rises drawn more → (ready s ≡ true → AreDrawn (update_layouts k (layouts s)) (more s)) → IsFair slot rest more
+      goes drawn more a up here =
+          n.fairs more (subst (λ (flags : ℕ → Bool). AreReady (changed layouts s (update_layouts k (layouts s))) flags more) (changed-itself ready s)
+          (ready-after s layouts (update_layouts k (layouts s)) ready (ready s) drawn more a (λ j _. up j) here))
+
       fairs : (drawn : ℕ → ℕ → Bool) → AreReady layouts ready drawn → IsFair slot (events_at s actions ++ rest) drawn
       fairs drawn a = elim (cases_Bool (ready s)) [
-        | inl e ↦
-            fair-update slot k accuracy s rest (layouts s) x drawn (a s e)
-            (λ more up d. n.fairs more (ready-after s layouts _ ready ready drawn more a (λ j t. (changed-other layouts s _ j t, refl, up j))
-            (λ _. subst (λ (ls : List Layout). AreDrawn ls (more s)) (sym (changed-there layouts s _)) d)))
+        | inl e ↦ fair-update slot k accuracy s rest (layouts s) x drawn (a s e) (λ more up d. goes drawn more a up (λ _. d))
         | inr e ↦
             fair-apart slot s actions rest drawn (own-update A k accuracy (layouts s) x) (n.apart s (changed-there fair s _ ∙ and_right (fair s) (ready s) e))
-            (λ more up. n.fairs more (ready-after s layouts _ ready ready drawn more a (λ j t. (changed-other layouts s _ j t, refl, up j)) (λ r. absurd (false≢true (sym e ∙ r)))))
+            (λ more up. goes drawn more a up (λ r. absurd (false≢true (sym e ∙ r))))
       ]
 
       apart : (j : ℕ) → fair j ≡ false → reaches (events_at s actions ++ rest) slot j ≡ false
@@ -148,8 +152,7 @@ module _ {A : Type 0} (slot : ℕ) where
       Stands layouts ready fair (Snap source into ∷ events_at into (merge_redrawn_actions k accuracy (layouts into) (layouts source)) ++ rest)
   stands-merge_redrawn k accuracy source into layouts ready fair rest n = record {
     fairs = λ drawn a. fair-merge_redrawn slot k accuracy into rest (layouts into) (layouts source) drawn
-        (λ more up d. n.fairs more (ready-after into layouts _ ready _ drawn more a (λ j t. (changed-other layouts into _ j t, changed-other ready into true j t, up j))
-        (λ _. subst (λ (ls : List Layout). AreDrawn ls (more into)) (sym (changed-there layouts into _)) d)));
+        (λ more up d. n.fairs more (ready-after into layouts _ ready true drawn more a (λ j _. up j) (λ _. d)));
     apart = merged-apart source into fair (fair into && fair source) (redraw_actions joined ++ room_actions k accuracy joined) rest
         (own-append (redraw_actions joined) (room_actions k accuracy joined) (own-redraws A 0 joined) (own-room A k accuracy joined)) (length (layouts source))
         (λ e. and_left (fair into) (fair source) e) (λ e. and_right (fair into) (fair source) e) n.apart;
@@ -182,9 +185,7 @@ module _ {A : Type 0} (slot : ℕ) where
       room = room_actions k accuracy joined
 
       goes : (drawn more : ℕ → ℕ → Bool) → AreReady layouts ready drawn → Rises drawn more → IsFair slot rest more
-      goes drawn more a up =
-          n.fairs more (ready-after into layouts _ ready _ drawn more a (λ j t. (changed-other layouts into _ j t, changed-other ready into false j t, up j))
-          (λ r. absurd (false≢true (sym (changed-there ready into false) ∙ r))))
+      goes drawn more a up = n.fairs more (ready-after into layouts _ ready false drawn more a (λ j _. up j) (λ r. absurd (false≢true r)))
 
       fairs : (drawn : ℕ → ℕ → Bool) → AreReady layouts ready drawn → IsFair slot (merge_events k accuracy source into (layouts into) (layouts source) ++ rest) drawn
       fairs drawn a =

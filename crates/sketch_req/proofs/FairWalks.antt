@@ -1,30 +1,24 @@
 -- What updates, redraws and merges give to fair traces: they turn drawn coins alone, where each level whose next compaction turns its coin has drawn one.
-use Rattle.std.proofs.Common.{◌≡◌, ℕ, zero, suc, ◌+◌, Bool, true, false, not, ◌&&◌, ◌||◌, if◌then◌else◌, List, [], ◌∷◌, ◌++◌, length, refl, sym, ap, ap₂, ◌∙◌, subst, arith, inl, inr}
-use Rattle.std.proofs.lemmas.Bool.{cases_Bool, false≢true}
+use Rattle.std.proofs.Common.{◌≡◌, ℕ, zero, suc, ◌+◌, Bool, true, false, not, ◌&&◌, ◌||◌, List, [], ◌∷◌, ◌++◌, length, refl, sym, ap, ap₂, ◌∙◌, arith, inl, inr}
+use Rattle.std.specs.Prelude.{⊤}
+use Rattle.std.proofs.lemmas.Bool.{cases_Bool, false≢true, or_right}
 use Rattle.std.proofs.lemmas.List.{append-nil}
 use Rattle.sketch_base.specs.Fair.{reaches, is_fair}
-use Rattle.sketch_base.specs.Trace.{Action, Put, Pull, Join, Compact, Forget, Redraw, Clear, Fresh, Turned, Event, joins_actions}
+use Rattle.sketch_base.specs.Trace.{Action, Put, Compact, Redraw, Fresh, Turned, Event, joins_actions}
 use Rattle.sketch_req.specs.Level.{turns_coin}
-use Rattle.sketch_req.specs.Schedule.{Layout, layout_at, joined_layouts, redraws_from, redraw_actions, step_actions, step_layouts, steps_actions, are_full, room_actions, put_layouts, update_actions, update_layouts, merge_redrawn_actions, merge_layouts}
+use Rattle.sketch_req.specs.Schedule.{Layout, taken, layout_at, joined_layouts, redraws_from, redraw_actions, room_actions, put_layouts, update_actions, update_layouts, merge_redrawn_actions, merge_layouts}
 use Rattle.sketch_req.specs.ScheduleLaws.{events_at, AreDrawn}
 use Rattle.sketch_req.specs.Walk.{AreOwn}
 use Rattle.sketch_req.specs.declared.RankAccuracy.{RankAccuracy}
-use Rattle.sketch_req.proofs.Drawn.{Rises, with_drawn, rises-with, drawn-there, HoldsByDrawn, by-room, by-update}
+use Rattle.sketch_req.proofs.Drawn.{Rises, takes_req, with_drawn, rises-with, drawn-there, HoldsByDrawn, by-room, by-update}
 use Rattle.sketch_req.proofs.Layouts.{empty-layout}
-use Rattle.sketch_req.proofs.Walks.{own-step, own-append}
+use Rattle.sketch_req.proofs.WalkRules.{holds-walk}
 
 module _ (A : Type 0) where
-  own-steps : (k : ℕ) (accuracy : RankAccuracy) (more h : ℕ) (ls : List Layout) → AreOwn {A = A} (steps_actions k accuracy more h ls)
-  own-steps k accuracy zero h ls = tt
-  own-steps k accuracy (suc more) h ls = own-append (step_actions k accuracy h ls) (steps_actions k accuracy more (suc h) (step_layouts k h ls)) (own-step A k accuracy h ls) (own-steps k accuracy more (suc h) (step_layouts k h ls))
-
   -- a walk leaves the scratch alone
   pub own-room : (k : ℕ) (accuracy : RankAccuracy) (ls : List Layout) → AreOwn {A = A} (room_actions k accuracy ls)
   own-room k accuracy ls =
-      elim (are_full k ls) as (λ b. AreOwn {A = A} (if b then steps_actions k accuracy (length ls) 0 ls else [])) [
-        | true ↦ own-steps k accuracy (length ls) 0 ls
-        | false ↦ tt
-      ]
+      holds-walk k accuracy (λ _. ⊤) (λ _ _ _. tt) (λ _ actions _ _. AreOwn actions) (λ h ls _ _ _ _ _ rest. (takes_req accuracy (taken k (layout_at ls h)), rest)) (λ _ _. tt) ls tt
 
   -- so does an update
   pub own-update : (k : ℕ) (accuracy : RankAccuracy) (ls : List Layout) (x : A) → AreOwn (update_actions k accuracy ls x)
@@ -63,36 +57,28 @@ module _ {A : Type 0} (slot : ℕ) where
       IsFair (events_at s (redraws_from h ls ++ actions) ++ rest) drawn
   fair-redraws s h [] actions rest drawn go = go drawn (λ t j e. e) (λ j e. absurd (false≢true (ap (λ (l : Layout). turns_coin l.state) (sym (empty-layout j)) ∙ e)))
   fair-redraws s h (l ∷ ls) actions rest drawn go =
-      let R : Bool → Type 0 = λ (b : Bool). IsFair (events_at s (((if b then Redraw h ∷ [] else []) ++ redraws_from (suc h) ls) ++ actions) ++ rest) drawn in
       elim (cases_Bool (turns_coin l.state)) [
-        | inl e ↦ subst R (sym e) (fair-redraws s (suc h) ls actions rest (with_drawn drawn s h) (λ more up above. go more (λ t j d. up t j (rises-with drawn s h t j d)) (λ j. there more up above j)))
-        | inr e ↦ subst R (sym e) (fair-redraws s (suc h) ls actions rest drawn (λ more up above. go more up (λ j. other e more above j)))
+        | inl e ↦
+            rw e (fair-redraws s (suc h) ls actions rest (with_drawn drawn s h)
+            (λ more up above. go more (λ t j d. up t j (rises-with drawn s h t j d)) (all more above (λ _. up s h (drawn-there drawn s h)))))
+        | inr e ↦ rw e (fair-redraws s (suc h) ls actions rest drawn (λ more up above. go more up (all more above (λ turns. absurd (false≢true (sym e ∙ turns))))))
       ]
     where
-      Above : (ℕ → ℕ → Bool) → Type 0
-      Above more = (j : ℕ) → turns_coin (layout_at ls j).state ≡ true → more s (suc h + j) ≡ true
-
-      next : (more : ℕ → ℕ → Bool) (j : ℕ) → more s (suc h + j) ≡ true → more s (h + suc j) ≡ true
-      next more j e = let p : suc h + j ≡ h + suc j = omega arith in subst (λ (i : ℕ). more s i ≡ true) p e
-
-      there : (more : ℕ → ℕ → Bool) → Rises (with_drawn drawn s h) more → Above more → (j : ℕ) → turns_coin (layout_at (l ∷ ls) j).state ≡ true → more s (h + j) ≡ true
-      there more up above zero e = let p : h ≡ h + 0 = omega arith in subst (λ (i : ℕ). more s i ≡ true) p (up s h (drawn-there drawn s h))
-      there more up above (suc j) e = next more j (above j e)
-
-      other : turns_coin l.state ≡ false → (more : ℕ → ℕ → Bool) → Above more → (j : ℕ) → turns_coin (layout_at (l ∷ ls) j).state ≡ true → more s (h + j) ≡ true
-      other f more above zero e = absurd (false≢true (sym f ∙ e))
-      other f more above (suc j) e = next more j (above j e)
+      all : (more : ℕ → ℕ → Bool) → ((j : ℕ) → turns_coin (layout_at ls j).state ≡ true → more s (suc h + j) ≡ true) → (turns_coin l.state ≡ true → more s h ≡ true) →
+          (j : ℕ) → turns_coin (layout_at (l ∷ ls) j).state ≡ true → more s (h + j) ≡ true
+      all more above own zero e = let place : h + 0 ≡ h = omega arith in rw place (own e)
+      all more above own (suc j) e = let place : h + suc j ≡ suc h + j = omega arith in rw place (above j e)
 
   fair-redrawn : (s : ℕ) (ls : List Layout) (actions : List (Action A)) (rest : List (Event A)) (drawn : ℕ → ℕ → Bool) →
       ((more : ℕ → ℕ → Bool) → Rises drawn more → AreDrawn ls (more s) → IsFair (events_at s actions ++ rest) more) →
       IsFair (events_at s (redraw_actions ls ++ actions) ++ rest) drawn
   fair-redrawn s ls actions rest drawn go =
-      fair-redraws s 0 ls actions rest drawn (λ more up a. go more up (λ j e. let p : 0 + j ≡ j = omega arith in subst (λ (i : ℕ). more s i ≡ true) p (a j e)))
+      fair-redraws s 0 ls actions rest drawn (λ more up a. go more up (λ j e. let place : 0 + j ≡ j = omega arith in rw place at (a j e)))
 
   -- a redraw alone
   pub fair-redraw : (s : ℕ) (rest : List (Event A)) (ls : List Layout) (drawn : ℕ → ℕ → Bool) → GoesFair s rest ls drawn → IsFair (events_at s (redraw_actions ls) ++ rest) drawn
   fair-redraw s rest ls drawn go =
-      subst (λ (actions : List (Action A)). IsFair (events_at s actions ++ rest) drawn) (append-nil (redraw_actions ls)) (fair-redrawn s ls [] rest drawn go)
+      rw (append-nil (redraw_actions ls)) at (fair-redrawn s ls [] rest drawn go)
 
   -- a merge that draws coins anew, whatever was drawn before
   pub fair-merge_redrawn : (k : ℕ) (accuracy : RankAccuracy) (s : ℕ) (rest : List (Event A)) (ls others : List Layout) (drawn : ℕ → ℕ → Bool) →
@@ -112,10 +98,7 @@ module _ {A : Type 0} (slot : ℕ) where
   reaches-own s i (Put h x ∷ more) rest o = reaches-own s i more rest o.1
   reaches-own s i (Compact h coin taken ∷ more) rest o = reaches-own s i more rest o.1
   reaches-own s i (Redraw h ∷ more) rest o = reaches-own s i more rest o.1
-  reaches-own s i (Pull ∷ more) rest o = absurd (false≢true o.0)
-  reaches-own s i (Join h ∷ more) rest o = absurd (false≢true o.0)
-  reaches-own s i (Forget ∷ more) rest o = absurd (false≢true o.0)
-  reaches-own s i (Clear ∷ more) rest o = absurd (false≢true o.0)
+  reaches-own s i (other ∷ more) rest o = absurd (false≢true o.0)
 
   -- joins change nothing of what is reached
   pub reaches-joins : (s i more h : ℕ) (actions : List (Action A)) (rest : List (Event A)) →
@@ -133,14 +116,7 @@ module _ {A : Type 0} (slot : ℕ) where
   fair-apart s (Compact h Turned taken ∷ more) rest drawn o apart go =
       let misses = reaches-own s s more rest o.1 ∙ apart in
       ap₂ (λ (a b : Bool). a && b) o.0
-      (ap₂ (λ (a b : Bool). (drawn s h || not a) && b) misses (fair-apart s more rest drawn o.1 apart go) ∙ or_true (drawn s h))
-    where
-      or_true : (b : Bool) → ((b || true) && true) ≡ true
-      or_true true = refl
-      or_true false = refl
+      (ap₂ (λ (a b : Bool). (drawn s h || not a) && b) misses (fair-apart s more rest drawn o.1 apart go) ∙ ap (λ (b : Bool). b && true) (or_right (drawn s h) true refl))
   fair-apart s (Redraw h ∷ more) rest drawn o apart go =
       fair-apart s more rest (with_drawn drawn s h) o.1 apart (λ m up. go m (λ t j d. up t j (rises-with drawn s h t j d)))
-  fair-apart s (Pull ∷ more) rest drawn o apart go = absurd (false≢true o.0)
-  fair-apart s (Join h ∷ more) rest drawn o apart go = absurd (false≢true o.0)
-  fair-apart s (Forget ∷ more) rest drawn o apart go = absurd (false≢true o.0)
-  fair-apart s (Clear ∷ more) rest drawn o apart go = absurd (false≢true o.0)
+  fair-apart s (other ∷ more) rest drawn o apart go = absurd (false≢true o.0)

@@ -1,10 +1,10 @@
 -- What a call makes of a sketch under one word is one sketch, where items that compare equal are equal.
-use Rattle.std.proofs.Common.{◌≡◌, ℕ, zero, suc, ◌<◌, ◌==◌, Bool, true, false, if◌then◌else◌, List, [], ◌∷◌, ◌++◌, length, get_or, Option, refl, sym, ap, ap₂, ◌∙◌, subst, arith, inl, inr, bit_or, Ordering}
+use Rattle.std.proofs.Common.{◌≡◌, ℕ, zero, suc, ◌<◌, Bool, true, false, List, [], ◌∷◌, ◌++◌, length, get_or, refl, sym, ap, ◌∙◌, subst, arith, inl, inr, Ordering}
 use Rattle.std.specs.Cmp.{IsTotalOrder}
 use Rattle.std.specs.List.{AllZip}
 use Rattle.std.specs.Option.{option_to_list}
 use Rattle.std.proofs.lemmas.Bool.{cases_lt}
-use Rattle.std.proofs.lemmas.List.{get_or_default}
+use Rattle.std.proofs.lemmas.List.{get_or_default, length-map}
 use Rattle.sketch_base.specs.Bag.{SameItems, AlikeReq, sort, level_at}
 use Rattle.sketch_base.specs.Tied.{TiesAreEqual}
 use Rattle.sketch_base.specs.Trace.{Action}
@@ -16,7 +16,7 @@ use Rattle.sketch_req.specs.Level.{Level, IsMerged as IsLevelMerged}
 use Rattle.sketch_req.specs.Merged.{IsMergedBy, item_lists, merge_by, redrawn_if}
 use Rattle.sketch_req.specs.Moved.{AreMoved, AreMergedIn, is_moved}
 use Rattle.sketch_req.specs.Schedule.{Layout, layout_of, layouts_of, layout_at}
-use Rattle.sketch_req.specs.Sections.{grown}
+use Rattle.sketch_req.specs.Stored.{level_of}
 use Rattle.sketch_req.specs.Sketch.{Req, IsSound, IsUpdated, update_of, sketch_of}
 use Rattle.sketch_req.specs.Walk.{IsPlaced, AreLevels, appended_first}
 use Rattle.sketch_req.specs.declared.RankAccuracy.{RankAccuracy}
@@ -26,19 +26,13 @@ use Rattle.sketch_req.proofs.Layouts.{length-layouts}
 use Rattle.sketch_req.proofs.ListPlaces.{by-place}
 
 -- a level, from its parts
-abbrev level : {A : Type 0} → List A → Bool → ℕ → ℕ → Bool → ℕ → ℕ → RankAccuracy → Level A
-level items is_sorted state doublings coin lg_weight k accuracy =
-    record { items = items; is_sorted = is_sorted; state = state; doublings = doublings; coin = coin; lg_weight = lg_weight; k = k; accuracy = accuracy }
-
 same-parts : {A : Type 0} (a b : Level A) → a.items ≡ b.items → a.is_sorted ≡ b.is_sorted → layout_of a ≡ layout_of b →
     a.coin ≡ b.coin → a.lg_weight ≡ b.lg_weight → a.k ≡ b.k → a.accuracy ≡ b.accuracy → a ≡ b
 same-parts {A} a b items sorted layout coin place k accuracy =
-    ap (λ (x : List A). level x a.is_sorted a.state a.doublings a.coin a.lg_weight a.k a.accuracy) items
-    ∙ (ap (λ (x : Bool). level b.items x a.state a.doublings a.coin a.lg_weight a.k a.accuracy) sorted
-    ∙ (ap (λ (x : Layout). level b.items b.is_sorted x.state x.doublings a.coin a.lg_weight a.k a.accuracy) layout
-    ∙ (ap (λ (x : Bool). level b.items b.is_sorted b.state b.doublings x a.lg_weight a.k a.accuracy) coin
-    ∙ (ap₂ (λ (x y : ℕ). level b.items b.is_sorted b.state b.doublings b.coin x y a.accuracy) place k
-    ∙ ap (λ (x : RankAccuracy). level b.items b.is_sorted b.state b.doublings b.coin b.lg_weight b.k x) accuracy))))
+    let state : a.state ≡ b.state = ap (λ (l : Layout). l.state) layout in
+    let doublings : a.doublings ≡ b.doublings = ap (λ (l : Layout). l.doublings) layout in
+    let whole : level_of a.items a.is_sorted a.state a.doublings a.coin a.lg_weight a.k a.accuracy ≡ level_of b.items b.is_sorted b.state b.doublings b.coin b.lg_weight b.k b.accuracy = cc in
+    whole
 
 -- the items of a place
 zip-at : {A : Type 0} (R : List A → List A → Type 0) (xs ys : List (List A)) (h : ℕ) → h < length xs → AllZip R xs ys → R (level_at xs h) (level_at ys h)
@@ -69,14 +63,8 @@ module _ {A : Type 0} {cmp : A → A → Ordering} (order : IsTotalOrder cmp) (t
           one-moved k accuracy h x y (placed-at-place cmp k accuracy h ts x a i e) (placed-at-place cmp k accuracy h us y b j f)
           (sym (layout-there ts h x i e) ∙ (ap (λ (l : List Layout). layout_at l h) layouts ∙ layout-there us h y j f))
           (sym (coin-there ts h x i e) ∙ (alike.kept h ∙ coin-there us h y j f)) c d
-          (subst (λ (xs : List A). SameItems cmp (sort cmp xs) (sort cmp y.items)) (items-there ts h x i e)
-          (subst (λ (ys : List A). SameItems cmp (sort cmp (level_at (item_lists ts) h)) (sort cmp ys)) (items-there us h y j f) (zip-at (λ xs ys. SameItems cmp (sort cmp xs) (sort cmp ys))
-          (item_lists ts) (item_lists us) h (many ts h i) alike.levels)))
-        where
-          many : (ls : List (Level A)) (h : ℕ) → h < length ls → h < length (item_lists ls)
-          many [] h i = absurd (omega arith)
-          many (l ∷ ls) zero i = omega arith
-          many (l ∷ ls) (suc h) i = let r = many ls h (omega arith) in omega (arith, r)
+          (rw (← items-there ts h x i e, ← items-there us h y j f)
+          (zip-at (λ xs ys. SameItems cmp (sort cmp xs) (sort cmp ys)) (item_lists ts) (item_lists us) h (omega (arith, i, length-map ts (λ (l : Level A). l.items))) alike.levels))
 
       same : (h : ℕ) (none : Level A) → h < length ts → get_or ts h none ≡ get_or us h none
       same h none i = go (is_moved actions h) refl
@@ -92,10 +80,8 @@ module _ {A : Type 0} {cmp : A → A → Ordering} (order : IsTotalOrder cmp) (t
   -- a level that another one was merged into
   one-merged : (old other a b : Level A) → IsLevelMerged cmp old other a → IsLevelMerged cmp old other b → a ≡ b
   one-merged old other a b p q =
-      p.rest_is ∙ (ap (λ (xs : List A). level xs (if length other.items == 0 then old.is_sorted else true) (bit_or old.state other.state) (grown old.k (bit_or old.state other.state) old.doublings)
-      old.coin old.lg_weight old.k old.accuracy)
-      (items other.items p.none_came p.some_came q.none_came q.some_came)
-      ∙ sym q.rest_is)
+      let same = items other.items p.none_came p.some_came q.none_came q.some_came in
+      p.rest_is ∙ (rw same refl ∙ sym q.rest_is)
     where
       items : (os : List A) → (os ≡ [] → a.items ≡ old.items) → (0 < length os → SameItems cmp (sort cmp (old.items ++ os)) a.items) →
           (os ≡ [] → b.items ≡ old.items) → (0 < length os → SameItems cmp (sort cmp (old.items ++ os)) b.items) → a.items ≡ b.items
@@ -115,12 +101,11 @@ module _ {A : Type 0} {cmp : A → A → Ordering} (order : IsTotalOrder cmp) (t
   -- a sketch, from its parts
   same-sketch : (t u : Req A) → t.k ≡ u.k → t.accuracy ≡ u.accuracy → t.n ≡ u.n → t.levels ≡ u.levels → t.least ≡ u.least → t.greatest ≡ u.greatest → t ≡ u
   same-sketch t u k accuracy n levels least greatest =
-      ap₂ (λ (x : ℕ) (y : RankAccuracy). sketch_of x y t.n t.levels t.least t.greatest) k accuracy
-      ∙ (ap₂ (λ (x : ℕ) (y : List (Level A)). sketch_of u.k u.accuracy x y t.least t.greatest) n levels
-      ∙ ap₂ (λ (x y : Option A). sketch_of u.k u.accuracy u.n u.levels x y) least greatest)
+      let whole : sketch_of t.k t.accuracy t.n t.levels t.least t.greatest ≡ sketch_of u.k u.accuracy u.n u.levels u.least u.greatest = cc in
+      whole
 
   placed-as : (k : ℕ) (accuracy : RankAccuracy) (t : Req A) → IsSound cmp t → t.k ≡ k → t.accuracy ≡ accuracy → AreLevels cmp k accuracy 0 t.levels
-  placed-as k accuracy t sound a b = subst (λ (x : RankAccuracy). AreLevels cmp k x 0 t.levels) b (subst (λ (x : ℕ). AreLevels cmp x t.accuracy 0 t.levels) a sound.placed)
+  placed-as k accuracy t sound a b = rw (a, b) at sound.placed
 
   -- one sketch comes of an update
   pub one-update : (s : Req A) (x : A) (word : List Bool) (t u : Req A) → IsSound cmp t → IsSound cmp u → IsUpdated cmp s x word t → IsUpdated cmp s x word u → t ≡ u

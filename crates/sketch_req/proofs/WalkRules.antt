@@ -1,0 +1,66 @@
+-- What each compaction keeps holds along walks and updates: of the actions that they give, and of the moves of a query's items that these are.
+use Rattle.std.proofs.Common.{◌≡◌, ℕ, zero, suc, ◌-◌, Bool, true, cond, if◌then◌else◌, List, [], ◌∷◌, ◌++◌, length, inl, inr}
+use Rattle.std.proofs.lemmas.Bool.{cases_Bool}
+use Rattle.std.proofs.lemmas.List.{append-nil}
+use Rattle.sketch_base.specs.Trace.{Action, Put}
+use Rattle.sketch_req.specs.Level.{turns_coin}
+use Rattle.sketch_req.specs.Schedule.{Layout, layout_at, is_full, taken, compact_level, compacted_at, step_layouts, steps_actions, steps_layouts, are_full, room_actions, room_layouts, put_layouts, update_layouts}
+use Rattle.sketch_req.specs.ScheduleLaws.{updates_actions, updates_layouts}
+use Rattle.sketch_req.specs.declared.RankAccuracy.{RankAccuracy}
+use Rattle.sketch_req.proofs.Moves.{Move, Gives, Compacts}
+
+-- the move that a compaction of level h gives
+abbrev pub move_at : ℕ → ℕ → List Layout → Move
+move_at k h ls =
+    let l = layout_at ls h in
+    Compacts h (l.count - taken k l) (turns_coin l.state)
+
+-- those of the steps of a walk
+abbrev pub steps_moves : ℕ → ℕ → ℕ → List Layout → List Move
+steps_moves k zero h ls = []
+steps_moves k (suc more) h ls = (if is_full k (layout_at ls h) then move_at k h ls ∷ [] else []) ++ steps_moves k more (suc h) (step_layouts k h ls)
+
+-- those of a walk where levels are full
+abbrev pub room_moves : ℕ → List Layout → List Move
+room_moves k ls = if are_full k ls then steps_moves k (length ls) 0 ls else []
+
+-- the moves of some updates, for the items that pass a test
+abbrev pub updates_moves : {A : Type 0} → ℕ → (A → Bool) → List Layout → List A → List Move
+updates_moves k test ls [] = []
+updates_moves k test ls (x ∷ xs) = Gives (cond (test x) 1 0) ∷ (room_moves k (put_layouts ls) ++ updates_moves k test (update_layouts k ls) xs)
+
+-- what holds of layouts, of the actions and the moves from there on, and of the layouts at the end, holds before a compaction if after it
+module _ {A : Type 0} (k : ℕ) (accuracy : RankAccuracy) (Fits : List Layout → Type 0) (fits-compacted : (h : ℕ) (ls : List Layout) → Fits ls → Fits (compacted_at k h ls))
+    (Holds : List Layout → List (Action A) → List Move → List Layout → Type 0)
+    (compact : (h : ℕ) (ls after : List Layout) (actions : List (Action A)) (moves : List Move) → Fits ls → is_full k (layout_at ls h) ≡ true →
+    Holds (compacted_at k h ls) actions moves after → Holds ls (compact_level k accuracy h ls ∷ actions) (move_at k h ls ∷ moves) after) where
+  holds-steps : (more h : ℕ) (ls after : List Layout) (actions : List (Action A)) (moves : List Move) → Fits ls →
+      (Fits (steps_layouts k more h ls) → Holds (steps_layouts k more h ls) actions moves after) → Holds ls (steps_actions k accuracy more h ls ++ actions) (steps_moves k more h ls ++ moves) after
+  holds-steps zero h ls after actions moves fits go = go fits
+  holds-steps (suc more) h ls after actions moves fits go =
+      elim (cases_Bool (is_full k (layout_at ls h))) [
+        | inl full ↦ rw full (compact h ls after _ _ fits full (holds-steps more (suc h) (compacted_at k h ls) after actions moves (fits-compacted h ls fits) (rw full at go)))
+        | inr not_full ↦ rw not_full (holds-steps more (suc h) ls after actions moves fits (rw not_full at go))
+      ]
+
+  -- along a walk where levels are full
+  pub holds-room : (ls after : List Layout) (actions : List (Action A)) (moves : List Move) → Fits ls →
+      (Fits (room_layouts k ls) → Holds (room_layouts k ls) actions moves after) → Holds ls (room_actions k accuracy ls ++ actions) (room_moves k ls ++ moves) after
+  holds-room ls after actions moves fits go =
+      elim (cases_Bool (are_full k ls)) [
+        | inl full ↦ rw full (holds-steps (length ls) 0 ls after actions moves fits (rw full at go))
+        | inr not_full ↦ rw not_full (rw not_full at go fits)
+      ]
+
+  -- where it ends
+  pub holds-walk : ((ls : List Layout) → Fits ls → Holds ls [] [] ls) → (ls : List Layout) → Fits ls → Holds ls (room_actions k accuracy ls) (room_moves k ls) (room_layouts k ls)
+  holds-walk done ls fits = simp append-nil at (holds-room ls (room_layouts k ls) [] [] fits (done (room_layouts k ls)))
+
+  -- along updates, if it holds before an item comes where it does after it
+  pub holds-updates : (test : A → Bool) → ((ls : List Layout) → Fits ls → Fits (put_layouts ls)) →
+      ((x : A) (ls after : List Layout) (actions : List (Action A)) (moves : List Move) → Holds (put_layouts ls) actions moves after →
+      Holds ls (Put 0 x ∷ actions) (Gives (cond (test x) 1 0) ∷ moves) after) → ((ls : List Layout) → Holds ls [] [] ls) →
+      (ls : List Layout) (items : List A) → Fits ls → Holds ls (updates_actions k accuracy ls items) (updates_moves k test ls items) (updates_layouts k ls items)
+  holds-updates test fits-put put done ls [] fits = done ls
+  holds-updates test fits-put put done ls (x ∷ xs) fits =
+      put x ls _ _ _ (holds-room (put_layouts ls) _ _ _ (fits-put ls fits) (λ fits'. holds-updates test fits-put put done (update_layouts k ls) xs fits'))
