@@ -86,11 +86,6 @@ module _ {A S : Type 0} (bit : S → Bool) (next : S → S) where
         ap (source_by (source_past source x)) after ∙ (sym (source-first source x rest) ∙ ap (source_by source) (sym left)),
       )
 
-  pub redrawn-all : (source : S) (i : ℕ) (ls : List (Level A)) → length ls ≤ i → (drawn_so_far source i ls ≡ ls) × (source_by source (drop i ls) ≡ source)
-  redrawn-all source i ls h =
-      let none : drop i ls ≡ [] = drop_all i ls h in
-      (ap₂ (λ (a b : List (Level A)). a ++ redrawn_by source b) (take_all i ls h) none ∙ append-nil ls, ap (source_by source) none)
-
 -- ---- what stays
 
 -- coins that are drawn leave the layouts
@@ -112,25 +107,7 @@ flat-items (x ∷ rest) = ap (λ xs. x.items ++ xs) (flat-items rest)
 pub placed-redrawn : {A : Type 0} (cmp : A → A → Ordering) (k : ℕ) (accuracy : RankAccuracy) (h : ℕ) (word : List Bool) (ls : List (Level A)) → AreLevels cmp k accuracy h ls → AreLevels cmp k accuracy h (redrawn word ls)
 placed-redrawn cmp k accuracy h word [] a = tt
 placed-redrawn cmp k accuracy h word (x ∷ rest) a =
-    let s = a.0.sound in (
-      record {
-        sound = record {
-          legal_k = s.legal_k;
-          state_fits = s.state_fits;
-          few_doublings = s.few_doublings;
-          reached = s.reached;
-          size_at_least = s.size_at_least;
-          weight_fits = s.weight_fits;
-          few_items = s.few_items;
-          in_order = s.in_order;
-        };
-        k_is = a.0.k_is;
-        accuracy_is = a.0.accuracy_is;
-        place_is = a.0.place_is;
-        marked = a.0.marked;
-      },
-      placed-redrawn cmp k accuracy (suc h) (if turns_coin x.state then drop 1 word else word) rest a.1,
-    )
+    (let first = a.0 in assumption, placed-redrawn cmp k accuracy (suc h) (if turns_coin x.state then drop 1 word else word) rest a.1)
 
 -- ---- the actions
 
