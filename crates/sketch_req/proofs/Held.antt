@@ -10,7 +10,7 @@ use Rattle.sketch_req.specs.Walk.{AreHeld, AreLevels, accuracy_of, appended_firs
 use Rattle.sketch_req.specs.declared.RankAccuracy.{RankAccuracy}
 use Rattle.sketch_req.proofs.HeldExtremes.{longer-room}
 use Rattle.sketch_req.proofs.Layouts.{length-layouts}
-use Rattle.sketch_req.proofs.KeptLevels.{fresh_stored}
+use Rattle.sketch_req.proofs.KeptLevels.{fresh_placed}
 use Rattle.sketch_req.proofs.Redraws.{layouts-ready, layouts-redrawn, placed-redrawn}
 use Rattle.sketch_req.proofs.UpdatedLevels.{few-placed, nominal-appended, placed-appended, retained-appended}
 
@@ -82,9 +82,7 @@ held-sums {A} cmp k n capacity accuracy ls xs some a same retained told = record
 
 -- one empty level
 pub first-levels : {A : Type 0} (cmp : A → A → Ordering) (k : ℕ) (accuracy : RankAccuracy) → IsLegalK k → AreLevels cmp k accuracy 0 (fresh [] true 0 k accuracy ∷ [])
-first-levels cmp k accuracy legal =
-    let stored = fresh_stored cmp 0 k accuracy [] true (omega arith) legal (omega arith) (λ t i d l m. absurd (omega (arith, m))) in
-    (record { sound = stored.kept; k_is = refl; accuracy_is = refl; place_is = refl; marked = λ above. absurd (omega (arith, above)) }, tt)
+first-levels cmp k accuracy legal = (fresh_placed cmp k accuracy 0 legal (omega arith), tt)
 
 -- the k of any levels is that of level 0
 pub placed-own : {A : Type 0} (cmp : A → A → Ordering) (k : ℕ) (accuracy : RankAccuracy) (ls : List (Level A)) → AreLevels cmp k accuracy 0 ls → AreLevels cmp (k_of ls) accuracy 0 ls

@@ -5,7 +5,7 @@ use Rattle.std.specs.Cmp.{IsTotalOrder}
 use Rattle.std.specs.List.{All, AllByRecursion}
 use Rattle.std.proofs.lemmas.Bool.{false≢true}
 use Rattle.std.proofs.lemmas.List.{take_more}
-use Rattle.std.proofs.lemmas.List.Elements.{AllZip-push}
+use Rattle.std.proofs.lemmas.List.Elements.{All-from_recursion, AllZip-push}
 use Rattle.std.proofs.lemmas.List.Sums.{sum_by-cons}
 use Rattle.std.proofs.lemmas.Nat.{pow_pos}
 use Rattle.sketch_base.specs.Bag.{SameItems, expanded, repeated, sort}
@@ -64,17 +64,6 @@ module _ {A : Type 0} where
   pairs-weigh [] = tt
   pairs-weigh (l ∷ ls) = weighed-weigh (2 ^ l.lg_weight) l.items (pairs_of ls) (pow_pos l.lg_weight) (pairs-weigh ls)
 
-  all-with : (p : A × ℕ) (ps : List (A × ℕ)) → 0 < p.1 → All (λ (pair : A × ℕ). 0 < pair.1) ps → All (λ (pair : A × ℕ). 0 < pair.1) (p ∷ ps)
-  all-with p ps positive h = λ k. go k
-    where
-      go : (k : ℕ) (d : A × ℕ) → k < length (p ∷ ps) → 0 < (get_or (p ∷ ps) k d).1
-      go zero d l = positive
-      go (suc k) d l = h k d (omega arith)
-
-  all-places : (pairs : List (A × ℕ)) → HaveWeight pairs → All (λ (pair : A × ℕ). 0 < pair.1) pairs
-  all-places [] h = λ k d l. absurd (omega arith)
-  all-places (p ∷ ps) h = all-with p ps h.0 (all-places ps h.1)
-
   weigh-enough : (pairs : List (A × ℕ)) → HaveWeight pairs → length pairs ≤ sum_by (λ (pair : A × ℕ). pair.1) pairs
   weigh-enough [] h = omega arith
   weigh-enough (p ∷ ps) h = let one = h.0 in omega (arith, sum_by-cons (λ (pair : A × ℕ). pair.1) p ps, weigh-enough ps h.1, one)
@@ -87,22 +76,19 @@ module _ {A : Type 0} {cmp : A → A → Ordering} (order : IsTotalOrder cmp) wh
   -- clones weigh and count the same
   clones-weigh : (ps qs : List (A × ℕ)) → SamePairs cmp ps qs → HaveWeight ps → HaveWeight qs
   clones-weigh [] [] s h = tt
-  clones-weigh [] (q ∷ qs) s h = absurd s
-  clones-weigh (p ∷ ps) [] s h = absurd s
   clones-weigh (p ∷ ps) (q ∷ qs) s h = (subst (λ n. 0 < n) (sym s.0.1) h.0, clones-weigh ps qs s.1 h.1)
+  clones-weigh ps qs s h = absurd s
 
   sum-clones : (ps qs : List (A × ℕ)) → SamePairs cmp ps qs → sum_by (λ (pair : A × ℕ). pair.1) qs ≡ sum_by (λ (pair : A × ℕ). pair.1) ps
   sum-clones [] [] s = refl
-  sum-clones [] (q ∷ qs) s = absurd s
-  sum-clones (p ∷ ps) [] s = absurd s
   sum-clones (p ∷ ps) (q ∷ qs) s = let e = s.0.1 in omega (arith, sum_by-cons (λ (pair : A × ℕ). pair.1) p ps, sum_by-cons (λ (pair : A × ℕ). pair.1) q qs, e, sum-clones ps qs s.1)
+  sum-clones ps qs s = absurd s
 
   copies-clones : (ps qs : List (A × ℕ)) → SamePairs cmp ps qs → SameItems cmp (copies ps) (copies qs)
   copies-clones [] [] s = tt
-  copies-clones [] (q ∷ qs) s = absurd s
-  copies-clones (p ∷ ps) [] s = absurd s
   copies-clones (p ∷ ps) (q ∷ qs) s =
       subst (λ n. SameItems cmp (replicate p.1 p.0 ++ copies ps) (replicate n q.0 ++ copies qs)) (sym s.0.1) (same-copies order p.1 p.0 q.0 (copies ps) (copies qs) s.0.0 (copies-clones ps qs s.1))
+  copies-clones ps qs s = absurd s
 
   same-there : (x y : Option A) → SameAnswer cmp x y → IsSome x → IsSome y
   same-there None y s h = absurd (false≢true h)
@@ -112,7 +98,7 @@ module _ {A : Type 0} {cmp : A → A → Ordering} (order : IsTotalOrder cmp) wh
   module _ (s : Req A) (pairs : List (A × ℕ)) (sound : IsSound cmp s) (same : SamePairs cmp (pairs_of s.levels) pairs) where
     -- each clone weighs something
     pub clones-all_weigh : All (λ (pair : A × ℕ). 0 < pair.1) pairs
-    clones-all_weigh = all-places pairs (clones-weigh (pairs_of s.levels) pairs same (pairs-weigh s.levels))
+    clones-all_weigh = All-from_recursion (λ (pair : A × ℕ). 0 < pair.1) pairs (clones-weigh (pairs_of s.levels) pairs same (pairs-weigh s.levels))
 
     -- they weigh n together
     pub clones-weigh_n : sum_by (λ (pair : A × ℕ). pair.1) pairs ≡ s.n
