@@ -84,11 +84,6 @@ held-sums {A} cmp k n capacity accuracy ls xs some a same retained told = record
 pub first-levels : {A : Type 0} (cmp : A → A → Ordering) (k : ℕ) (accuracy : RankAccuracy) → IsLegalK k → AreLevels cmp k accuracy 0 (fresh [] true 0 k accuracy ∷ [])
 first-levels cmp k accuracy legal = (fresh_placed cmp k accuracy 0 legal (omega arith), tt)
 
--- the k of any levels is that of level 0
-pub placed-own : {A : Type 0} (cmp : A → A → Ordering) (k : ℕ) (accuracy : RankAccuracy) (ls : List (Level A)) → AreLevels cmp k accuracy 0 ls → AreLevels cmp (k_of ls) accuracy 0 ls
-placed-own cmp k accuracy [] a = tt
-placed-own cmp k accuracy (l ∷ ls) a = subst (λ (n : ℕ). AreLevels cmp n accuracy 0 (l ∷ ls)) (sym a.0.k_is) a
-
 -- there is a level after levels took others in
 pub some-taken : {A S : Type 0} {cmp : A → A → Ordering} (bit : S → Bool) (next : S → S) (source after : S) (k : ℕ) (accuracy : RankAccuracy) (redraws : Bool) (ls others ns : List (Level A)) → 0 < length ls →
     AreTakenIn cmp bit next source after k accuracy redraws ls others ns → 0 < length ns

@@ -62,7 +62,7 @@ full-one k l e =
 walk-adds : (k : ℕ) (ls : List Layout) → 0 < length ls → are_full k ls ≡ true → 1 < length (walk_layouts k ls)
 walk-adds k [] some e = absurd (omega arith)
 walk-adds k (l ∷ []) some e =
-    let two : length (step_layouts k 0 (l ∷ [])) ≡ 2 = ap (λ (b : Bool). length (if b then compacted_at k 0 (l ∷ []) else l ∷ [])) (full-one k l e) in
+    let two : length (step_layouts k 0 (l ∷ [])) ≡ 2 = rw (full-one k l e) refl in
     omega (arith, two)
 walk-adds k (l ∷ m ∷ ls) some e = let a = longer-steps k (length (l ∷ m ∷ ls)) 0 (l ∷ m ∷ ls) in omega (arith, a)
 
@@ -111,9 +111,7 @@ module _ {A : Type 0} {cmp : A → A → Ordering} (order : IsTotalOrder cmp) wh
         all-flat P item ns (all-alike-levels P cmp keeps _ (map item ns) room.bag.levels (room-all P k accuracy (layouts_of ms) _ (alone (bag_of ms)) (all-by-level P item ms a)))
 
     none-acted : are_full k (layouts_of ms) ≡ false → AlikeReq cmp (bag_of ms) (bag_of ns)
-    none-acted e =
-        let word = bits_from bit next source (draws_of (room_of k accuracy ms)) in
-        subst (λ (b : Bool). AlikeReq cmp (acts cmp (if b then steps_actions k accuracy (length (layouts_of ms)) 0 (layouts_of ms) else []) word (alone (bag_of ms))).bag (bag_of ns)) e room.bag
+    none-acted e = rw e at room.bag
 
     acted-back : are_full k (layouts_of ms) ≡ false → (P : A → Type 0) → Keeps P → AllByRecursion P (items_in ns) → AllByRecursion P (items_in ms)
     acted-back e P keeps a =

@@ -1,6 +1,7 @@
 -- Coins of levels that are drawn anew, level by level.
-use Rattle.std.proofs.Common.{◌≡◌, ℕ, zero, suc, ◌+◌, ◌-◌, ◌<◌, ◌≤◌, Bool, true, false, cond, if◌then◌else◌, List, [], ◌∷◌, ◌++◌, length, map, flat_map, take, drop, get_or, set, refl, sym, ap, ap₂, ◌∙◌, subst, arith, append_assoc, append-nil, Ordering}
+use Rattle.std.proofs.Common.{inl, inr, ◌≡◌, ℕ, zero, suc, ◌+◌, ◌-◌, ◌<◌, ◌≤◌, Bool, true, false, cond, if◌then◌else◌, List, [], ◌∷◌, ◌++◌, length, map, flat_map, take, drop, get_or, set, refl, sym, ap, ap₂, ◌∙◌, subst, arith, append_assoc, append-nil, Ordering}
 use Rattle.std.specs.Cmp.{IsTotalOrder}
+use Rattle.std.proofs.lemmas.Bool.{cases_Bool}
 use Rattle.std.proofs.lemmas.List.{drop-set-lt, drop_all, drop_more, take_all, take_more_set}
 use Rattle.std.proofs.lemmas.List.Sums.{sum_by-cons}
 use Rattle.sketch_base.specs.Bag.{Bag, AlikeReq}
@@ -37,17 +38,11 @@ module _ {A S : Type 0} (bit : S → Bool) (next : S → S) where
 
   redrawn-next : (source : S) (n m : ℕ) (x : Level A) (rest : List (Level A)) → n ≡ cond (turns_coin x.state) 1 0 + m →
       redrawn (bits_from bit next source n) (x ∷ rest) ≡ redrawn_level x (bit source) ∷ redrawn (bits_from bit next (source_past source x) m) rest
-  redrawn-next source n m x rest e = go (turns_coin x.state) n refl e
-    where
-      all : Bool → List Bool → List (Level A)
-      all b word = let l : Level A = record x { coin = if b then next_bit word else x.coin } in l ∷ redrawn (if b then drop 1 word else word) rest
-
-      one : Bool → List (Level A)
-      one b = let l : Level A = record x { coin = if b then bit source else x.coin } in l ∷ redrawn (bits_from bit next (if b then next source else source) m) rest
-
-      go : (b : Bool) (n : ℕ) → turns_coin x.state ≡ b → n ≡ cond b 1 0 + m → all (turns_coin x.state) (bits_from bit next source n) ≡ one (turns_coin x.state)
-      go true n t q = let z : n ≡ suc m = omega (arith, q) in ap₂ (λ (b : Bool) (i : ℕ). all b (bits_from bit next source i)) t z ∙ sym (ap one t)
-      go false n t q = let z : n ≡ m = omega (arith, q) in ap₂ (λ (b : Bool) (i : ℕ). all b (bits_from bit next source i)) t z ∙ sym (ap one t)
+  redrawn-next source n m x rest e =
+      elim (cases_Bool (turns_coin x.state)) [
+        | inl turns ↦ let one = rw turns at e in let more : n ≡ suc m = omega (arith, one) in rw (turns, more) refl
+        | inr stays ↦ let none = rw stays at e in let same : n ≡ m = omega (arith, none) in rw (stays, same) refl
+      ]
 
   pub redrawn-first : (source : S) (x : Level A) (rest : List (Level A)) → redrawn_by source (x ∷ rest) ≡ redrawn_level x (bit source) ∷ redrawn_by (source_past source x) rest
   redrawn-first source x rest = redrawn-next source (turning_levels (layouts_of (x ∷ rest))) (turning_levels (layouts_of rest)) x rest (turning-first x rest)
@@ -114,21 +109,15 @@ placed-redrawn cmp k accuracy h word (x ∷ rest) a =
 -- as many coins as levels at an odd state
 pub redraws-draw : (A : Type 0) (h : ℕ) (ls : List Layout) → draws_of (redraws_from {A = A} h ls) ≡ turning_levels ls
 redraws-draw A h [] = refl
-redraws-draw A h (l ∷ ls) = go (turns_coin l.state) refl (redraws-draw A (suc h) ls)
-  where
-    first : turning_levels (l ∷ ls) ≡ cond (turns_coin l.state) 1 0 + turning_levels ls
-    first = sum_by-cons (λ (l : Layout). cond (turns_coin l.state) 1 0) l ls
-
-    all : Bool → List (Action A)
-    all b = (if b then Redraw h ∷ [] else []) ++ redraws_from (suc h) ls
-
-    go : (b : Bool) → turns_coin l.state ≡ b → draws_of (redraws_from {A = A} (suc h) ls) ≡ turning_levels ls → draws_of (all (turns_coin l.state)) ≡ turning_levels (l ∷ ls)
-    go true e r =
-        let n = ap {B = ℕ} (λ (b : Bool). cond b 1 0) e in
-        ap (λ (b : Bool). draws_of (all b)) e ∙ omega (arith, sum_by-cons (λ (a : Action A). cond (draws a) 1 0) (Redraw h) (redraws_from (suc h) ls), r, first, n)
-    go false e r =
-        let n = ap {B = ℕ} (λ (b : Bool). cond b 1 0) e in
-        ap (λ (b : Bool). draws_of (all b)) e ∙ omega (arith, r, first, n)
+redraws-draw A h (l ∷ ls) =
+    let first = sum_by-cons (λ (l : Layout). cond (turns_coin l.state) 1 0) l ls in
+    let rest = redraws-draw A (suc h) ls in
+    elim (cases_Bool (turns_coin l.state)) [
+      | inl turns ↦
+          let one = rw turns at first in
+          rw turns (omega (arith, sum_by-cons (λ (a : Action A). cond (draws a) 1 0) (Redraw h) (redraws_from (suc h) ls), rest, one))
+      | inr stays ↦ let none = rw stays at first in rw stays (omega (arith, rest, none))
+    ]
 
 -- they leave the scratch alone
 pub own-redraws : (A : Type 0) (h : ℕ) (ls : List Layout) → AreOwn {A = A} (redraws_from h ls)
@@ -161,35 +150,28 @@ kept-all h f y rest here above (suc i) = let e : h + suc i ≡ suc h + i = omega
 redraws-keep : {A : Type 0} (cmp : A → A → Ordering) (h : ℕ) (word : List Bool) (ls : List (Level A)) (work : Work (Bag A)) → ((i : ℕ) → work.bag.kept (h + i) ≡ coins_of ls i) →
     IsKept h (redrawn word ls) work.bag (acts cmp (redraws_from h (layouts_of ls)) word work).bag
 redraws-keep cmp h word [] work kept = record { levels = refl; kept = kept; below = λ i l. refl }
-redraws-keep {A} cmp h word (x ∷ rest) work kept = go (turns_coin x.state) (λ word work. redraws-keep cmp (suc h) word rest work)
-  where
-    up : (i : ℕ) → suc h + i ≡ h + suc i
-    up i = omega arith
-
-    above : (i : ℕ) → work.bag.kept (suc h + i) ≡ coins_of rest i
-    above i = ap (λ (j : ℕ). work.bag.kept j) (up i) ∙ kept (suc i)
-
-    go : (b : Bool) →
-        ((word : List Bool) (work : Work (Bag A)) → ((i : ℕ) → work.bag.kept (suc h + i) ≡ coins_of rest i) → IsKept (suc h) (redrawn word rest) work.bag (acts cmp (redraws_from (suc h) (layouts_of rest)) word work).bag) →
-        let y : Level A = record x { coin = if b then next_bit word else x.coin } in
-        IsKept h (y ∷ redrawn (if b then drop 1 word else word) rest) work.bag (acts cmp ((if b then Redraw h ∷ [] else []) ++ redraws_from (suc h) (layouts_of rest)) word work).bag
-    go true more =
-        let v : Bool = next_bit word in
-        let f : ℕ → Bool = work.bag.kept in
-        let r = more (drop 1 word) (act cmp (Redraw h) v work) (λ i. changed-other f h v (suc h + i) (λ e. absurd (omega (arith, e))) ∙ above i) in
-        record {
-          levels = r.levels;
-          kept = kept-all h (acts cmp (redraws_from (suc h) (layouts_of rest)) (drop 1 word) (act cmp (Redraw h) v work)).bag.kept (record x { coin = v }) (redrawn (drop 1 word) rest) (r.below h (omega arith) ∙ changed-there f h v) r.kept;
-          below = λ i l. r.below i (omega (arith, l)) ∙ changed-other f h v i (λ e. absurd (omega (arith, e, l)));
-        }
-    go false more =
-        let r = more word work above in
-        let here : h ≡ h + 0 = omega arith in
-        record {
-          levels = r.levels;
-          kept = kept-all h (acts cmp (redraws_from (suc h) (layouts_of rest)) word work).bag.kept x (redrawn word rest) (r.below h (omega arith) ∙ (ap (λ (j : ℕ). work.bag.kept j) here ∙ kept 0)) r.kept;
-          below = λ i l. r.below i (omega (arith, l));
-        }
+redraws-keep {A} cmp h word (x ∷ rest) work kept =
+    let old : ℕ → Bool = work.bag.kept in
+    let up : (i : ℕ) → suc h + i ≡ h + suc i = λ i. omega arith in
+    let above : (i : ℕ) → old (suc h + i) ≡ coins_of rest i = λ i. ap old (up i) ∙ kept (suc i) in
+    elim (cases_Bool (turns_coin x.state)) [
+      | inl turns ↦
+          let bit : Bool = next_bit word in
+          let r = redraws-keep cmp (suc h) (drop 1 word) rest (act cmp (Redraw h) bit work) (λ i. changed-other old h bit (suc h + i) (λ e. absurd (omega (arith, e))) ∙ above i) in
+          rw turns (record {
+            levels = r.levels;
+            kept = kept-all h (acts cmp (redraws_from (suc h) (layouts_of rest)) (drop 1 word) (act cmp (Redraw h) bit work)).bag.kept (record x { coin = bit }) (redrawn (drop 1 word) rest) (r.below h (omega arith) ∙ changed-there old h bit) r.kept;
+            below = λ i l. r.below i (omega (arith, l)) ∙ changed-other old h bit i (λ e. absurd (omega (arith, e, l)));
+          })
+      | inr stays ↦
+          let r = redraws-keep cmp (suc h) word rest work above in
+          let here : h ≡ h + 0 = omega arith in
+          rw stays (record {
+            levels = r.levels;
+            kept = kept-all h (acts cmp (redraws_from (suc h) (layouts_of rest)) word work).bag.kept x (redrawn word rest) (r.below h (omega arith) ∙ (ap old here ∙ kept 0)) r.kept;
+            below = λ i l. r.below i (omega (arith, l));
+          })
+    ]
 
 module _ {A : Type 0} {cmp : A → A → Ordering} (order : IsTotalOrder cmp) where
   -- the actions make of a bag what is made of the levels
