@@ -12,7 +12,8 @@ use Rattle.sketch_req.proofs.HeldExtremes.{longer-room}
 use Rattle.sketch_req.proofs.Layouts.{length-layouts}
 use Rattle.sketch_req.proofs.KeptLevels.{fresh_placed}
 use Rattle.sketch_req.proofs.Redraws.{layouts-ready, layouts-redrawn, placed-redrawn}
-use Rattle.sketch_req.proofs.UpdatedLevels.{few-placed, nominal-appended, placed-appended, retained-appended}
+use Rattle.sketch_req.proofs.Sounds.{few-placed}
+use Rattle.sketch_req.proofs.UpdatedLevels.{nominal-appended, placed-appended, retained-appended}
 
 -- what is known of levels whose k and accuracy are given
 pub record IsOwn {A : Type 0} (cmp : A → A → Ordering) (k : ℕ) (accuracy : RankAccuracy) (ls : List (Level A)) : Type 0 where
