@@ -157,10 +157,11 @@ redraws-keep {A} cmp h word (x ∷ rest) work kept =
     elim (cases_Bool (turns_coin x.state)) [
       | inl turns ↦
           let bit : Bool = next_bit word in
-          let r = redraws-keep cmp (suc h) (drop 1 word) rest (act cmp (Redraw h) bit work) (λ i. changed-other old h bit (suc h + i) (λ e. absurd (omega (arith, e))) ∙ above i) in
+          let drawn : Work (Bag A) = act cmp (Redraw h) bit work in
+          let r = redraws-keep cmp (suc h) (drop 1 word) rest drawn (λ i. changed-other old h bit (suc h + i) (λ e. absurd (omega (arith, e))) ∙ above i) in
           rw turns (record {
             levels = r.levels;
-            kept = kept-all h (acts cmp (redraws_from (suc h) (layouts_of rest)) (drop 1 word) (act cmp (Redraw h) bit work)).bag.kept (record x { coin = bit }) (redrawn (drop 1 word) rest) (r.below h (omega arith) ∙ changed-there old h bit) r.kept;
+            kept = kept-all h (acts cmp (redraws_from (suc h) (layouts_of rest)) (drop 1 word) drawn).bag.kept (record x { coin = bit }) (redrawn (drop 1 word) rest) (r.below h (omega arith) ∙ changed-there old h bit) r.kept;
             below = λ i l. r.below i (omega (arith, l)) ∙ changed-other old h bit i (λ e. absurd (omega (arith, e, l)));
           })
       | inr stays ↦
