@@ -70,10 +70,7 @@ walk-adds k (l ∷ m ∷ ls) some e = let a = longer-steps k (length (l ∷ m �
 pub one-left : (k : ℕ) (ls : List Layout) → 0 < length ls → length (room_layouts k ls) ≡ 1 → are_full k ls ≡ false
 one-left k ls some one =
     elim (cases_Bool (are_full k ls)) [
-      | inl e ↦
-          let w = walk-adds k ls some e in
-          let n = ap (λ (b : Bool). length (if b then walk_layouts k ls else ls)) e in
-          absurd (omega (arith, w, n, one))
+      | inl e ↦ let left = rw e at one in absurd (omega (arith, walk-adds k ls some e, left))
       | inr e ↦ e
     ]
 
