@@ -74,12 +74,9 @@ module _ {A S : Type 0} (bit : S → Bool) (next : S → S) where
       let rest : List (Level A) = drop (i + 1) ls in
       let left : drop i ls ≡ x ∷ rest = drop_more ls i x h ∙ ap (λ (l : Level A). l ∷ rest) (sym e) in
       let up : i < i + 1 = omega arith in
-      let after : drop (i + 1) (set ls i y) ≡ rest = drop-set-lt (i + 1) ls i y up in (
-        ap₂ (λ (a b : List (Level A)). a ++ redrawn_by (source_past source x) b) (take_more_set ls i y h) after
-            ∙ (append_assoc (take i ls) (y ∷ []) (redrawn_by (source_past source x) rest)
-            ∙ (ap (λ l. take i ls ++ l) (sym (redrawn-first source x rest)) ∙ ap (λ (l : List (Level A)). take i ls ++ redrawn_by source l) (sym left))),
-        ap (source_by (source_past source x)) after ∙ (sym (source-first source x rest) ∙ ap (source_by source) (sym left)),
-      )
+      let after : drop (i + 1) (set ls i y) ≡ rest = drop-set-lt (i + 1) ls i y up in
+      rw (after, left, take_more_set ls i y h, append_assoc (take i ls) (y ∷ []) (redrawn_by (source_past source x) rest))
+      (ap (λ l. take i ls ++ l) (sym (redrawn-first source x rest)), sym (source-first source x rest))
 
 -- ---- what stays
 
@@ -159,9 +156,10 @@ redraws-keep {A} cmp h word (x ∷ rest) work kept =
           let bit : Bool = next_bit word in
           let drawn : Work (Bag A) = act cmp (Redraw h) bit work in
           let r = redraws-keep cmp (suc h) (drop 1 word) rest drawn (λ i. changed-other old h bit (suc h + i) (λ e. absurd (omega (arith, e))) ∙ above i) in
+          let here = r.below h (omega arith) ∙ changed-there old h bit in
           rw turns (record {
             levels = r.levels;
-            kept = kept-all h (acts cmp (redraws_from (suc h) (layouts_of rest)) (drop 1 word) drawn).bag.kept (record x { coin = bit }) (redrawn (drop 1 word) rest) (r.below h (omega arith) ∙ changed-there old h bit) r.kept;
+            kept = kept-all h (acts cmp (redraws_from (suc h) (layouts_of rest)) (drop 1 word) drawn).bag.kept (record x { coin = bit }) (redrawn (drop 1 word) rest) here r.kept;
             below = λ i l. r.below i (omega (arith, l)) ∙ changed-other old h bit i (λ e. absurd (omega (arith, e, l)));
           })
       | inr stays ↦
