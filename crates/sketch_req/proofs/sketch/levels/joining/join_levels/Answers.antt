@@ -7,7 +7,7 @@ use Rattle.sketch_req.specs.Merged.{IsCopied}
 use Rattle.sketch_req.specs.Sections.{IsLegalK}
 use Rattle.sketch_req.specs.Walk.{IsPlaced, accuracy_of, k_of}
 use Rattle.sketch_req.specs.declared.RankAccuracy.{RankAccuracy}
-use Rattle.sketch_req.proofs.ClonedBuffers.{IsReady, cloned-above, is-ready}
+use Rattle.sketch_req.proofs.ClonedBuffers.{IsReady, cloned-other, is-ready}
 use Rattle.sketch_req.proofs.MergedLevels.{IsAdded, all-joined-to, is-added, joined-none, joined-there, next-copied, next-joined, placed-at-place}
 use Rattle.sketch_req.proofs.WalkSteps.{opened, own-there}
 use Rattle.sketch_req.proofs.Sounds.{few-placed}
@@ -112,7 +112,7 @@ loop-level-preserved g c =
       joined = next-joined g.met.T.Ord.total _ _ _ _ c.requires.levels.placed _ _ _ _ c.join.new.self i.joined new joined;
       spare = omega (arith, i.spare, c.add_level.ensures.capacity);
       enough = simp length-set i.enough;
-      cloned = λ h l m. cloned-above g.T.Ord.cmp _ _ buffers c.loop-level.level own h (omega (arith, l)) (i.cloned h (omega (arith, l)) m);
+      cloned = λ h l m. cloned-other g.T.Ord.cmp _ _ buffers c.loop-level.level own h (omega (arith, l)) (i.cloned h (omega (arith, l)) m);
       merged_spaces = map-set_same (λ b. b.merged_space) buffers c.loop-level.level own old
           (ap (λ (b : Space g.row.T.Denot). b.merged_space) rest ∙ ap (λ (b : Space g.row.T.Denot). b.merged_space) value) ∙ i.merged_spaces;
       promoted_spaces = map-set_same (λ b. b.promoted_space) buffers c.loop-level.level own old
