@@ -107,14 +107,6 @@ module _ {A : Type 0} {cmp : A → A → Ordering} (order : IsTotalOrder cmp) wh
         let item : Level A → List A = λ level. level.items in
         all-flat P item ns (all-alike-levels P cmp keeps _ (map item ns) room.bag.levels (room-all P k accuracy (layouts_of ms) _ (alone (bag_of ms)) (all-by-level P item ms a)))
 
-    none-acted : are_full k (layouts_of ms) ≡ false → AlikeReq cmp (bag_of ms) (bag_of ns)
-    none-acted e = rw e at room.bag
-
-    acted-back : are_full k (layouts_of ms) ≡ false → (P : A → Type 0) → Keeps P → AllByRecursion P (items_in ns) → AllByRecursion P (items_in ms)
-    acted-back e P keeps a =
-        let item : Level A → List A = λ level. level.items in
-        all-flat P item ms (all-alike-levels P cmp keeps (map item ns) (map item ms) (alike-sym order (bag_of ms) (bag_of ns) (none-acted e)).levels (all-by-level P item ns a))
-
   -- ---- extremes that bound
 
   -- an item within an extreme; where there is none, no item is
@@ -237,6 +229,12 @@ module _ {A : Type 0} {cmp : A → A → Ordering} (order : IsTotalOrder cmp) wh
   pub alike-moves : (xs ys : List A) → SameItems cmp (sort cmp xs) (sort cmp ys) → Moves xs ys
   alike-moves xs ys s P keeps a = all-alike P cmp keeps xs ys s a
 
+  -- so it is where bags are alike
+  levels-move : (ms ns : List (Level A)) → AlikeReq cmp (bag_of ms) (bag_of ns) → Moves (items_in ms) (items_in ns)
+  levels-move ms ns alike P keeps a =
+      let item : Level A → List A = λ level. level.items in
+      all-flat P item ns (all-alike-levels P cmp keeps (map item ms) (map item ns) alike.levels (all-by-level P item ms a))
+
   pub holds-tied : (a b c d : Option A) → SameAnswer cmp a b → SameAnswer cmp c d → (x : A) → Holds a c x → Holds b d x
   holds-tied None b c d s t x h = absurd h.0
   holds-tied (Some l) None c d s t x h = absurd s
@@ -270,8 +268,9 @@ module _ {A : Type 0} {cmp : A → A → Ordering} (order : IsTotalOrder cmp) wh
     pub small-acted : (n : ℕ) (least greatest : Option A) → 0 < length ms → length ns ≡ 1 → IsLeastOf cmp (items_in ms) least → IsGreatestOf cmp (items_in ms) greatest → (n ≤ 4 → AllByRecursion IsNew ms) → IsSmall cmp (sketch_of k accuracy n ns least greatest)
     small-acted n least greatest some one l g new =
         let full = one-left k (layouts_of ms) (omega (arith, some, length-layouts ms)) (sym (ap length room.layouts_are) ∙ (length-layouts ns ∙ one)) in
-        let to : Moves (items_in ms) (items_in ns) = acted-all k accuracy ms ns room in
-        let from : Moves (items_in ns) (items_in ms) = acted-back k accuracy ms ns room full in
+        let alike = rw full at room.bag in
+        let to = levels-move ms ns alike in
+        let from = levels-move ns ms (alike-sym order (bag_of ms) (bag_of ns) alike) in
         let same : layouts_of ns ≡ layouts_of ms = room.layouts_are ∙ ap (λ (b : Bool). if b then walk_layouts k (layouts_of ms) else layouts_of ms) full in
         record {
           least_is = least-moved (items_in ms) (items_in ns) to from least least (SameAnswer-itself order least) l;
