@@ -1,3 +1,4 @@
+use Rattle.sketch_req.proofs.Held.{own-levels}
 -- The loop keeps that the levels below are joined, and that there are clones and room for the others.
 use Rattle.std.proofs.Common.{ℕ, true, [], length-set, ap, sym, ◌∙◌, refl, subst, arith}
 use Rattle.std.proofs.Math.Seq.{map-set_same}
@@ -27,9 +28,7 @@ loop-level-init g c =
     }
 
 legal : (g : Over) (c : After-parameters-k g) → IsLegalK (k_of c.args.levels.now.items)
-legal g c =
-    let here = opened _ _ _ _ _ c.requires.levels.placed c.requires.levels.some c.index.ensures in
-    subst IsLegalK here.placed.k_is here.placed.sound.legal_k
+legal g c = (own-levels g.T.Ord.cmp _ _ _ c.requires.levels.some c.requires.levels.placed).legal
 
 -- the level stands, or was added
 added : (g : Over) (c : After-add_level g) → let ls = c.args.levels.now.items in

@@ -1,3 +1,4 @@
+use Rattle.sketch_req.proofs.Held.{own-levels}
 -- The goals are what a step of a walk says of the levels.
 use Rattle.std.proofs.Common.{◌≡◌, ◌∙◌, ℕ, List, set, true, sym, subst, ap, le-leb, arith}
 use Rattle.std.proofs.lemmas.Bool.{lt-leb}
@@ -30,9 +31,7 @@ module _ (g : Over) (c : After-index_mut g) where
       ∙ le-leb _ _ c.if-num_items-nominal_capacity.false
 
   legal : IsLegalK (k_of ls)
-  legal =
-      let here = opened _ _ _ _ _ c.requires.levels.placed c.requires.within c.index_mut.ensures.value in
-      subst IsLegalK here.placed.k_is here.placed.sound.legal_k
+  legal = (own-levels g.T.Ord.cmp _ _ _ c.requires.levels.some c.requires.levels.placed).legal
 
   needs : StepNeeds (k_of ls) c.args.level c.args.buffers.now.merged_space c.args.buffers.now.promoted_space ls
   needs =
