@@ -100,13 +100,6 @@ module _ {A : Type 0} {cmp : A → A → Ordering} (order : IsTotalOrder cmp) wh
         | false ↦ a
       ]
 
-  module _ {S : Type 0} {bit : S → Bool} {next : S → S} {source after : S} (k : ℕ) (accuracy : RankAccuracy) (ms ns : List (Level A)) (room : AreActed cmp bit next source after k accuracy (room_of k accuracy ms) (room_layouts k (layouts_of ms)) 0 ms ns) where
-    -- what items keep that compare equal holds after actions too
-    pub acted-all : (P : A → Type 0) → Keeps P → AllByRecursion P (items_in ms) → AllByRecursion P (items_in ns)
-    acted-all P keeps a =
-        let item : Level A → List A = λ level. level.items in
-        all-flat P item ns (all-alike-levels P cmp keeps _ (map item ns) room.bag.levels (room-all P k accuracy (layouts_of ms) _ (alone (bag_of ms)) (all-by-level P item ms a)))
-
   -- ---- extremes that bound
 
   -- an item within an extreme; where there is none, no item is
@@ -257,6 +250,12 @@ module _ {A : Type 0} {cmp : A → A → Ordering} (order : IsTotalOrder cmp) wh
   news ls ms e n = absurd cc
 
   module _ {S : Type 0} {bit : S → Bool} {next : S → S} {source after : S} (k : ℕ) (accuracy : RankAccuracy) (ms ns : List (Level A)) (room : AreActed cmp bit next source after k accuracy (room_of k accuracy ms) (room_layouts k (layouts_of ms)) 0 ms ns) where
+    -- what items keep that compare equal holds after actions too
+    pub acted-all : (P : A → Type 0) → Keeps P → AllByRecursion P (items_in ms) → AllByRecursion P (items_in ns)
+    acted-all P keeps a =
+        let item : Level A → List A = λ level. level.items in
+        all-flat P item ns (all-alike-levels P cmp keeps _ (map item ns) room.bag.levels (room-all P k accuracy (layouts_of ms) _ (alone (bag_of ms)) (all-by-level P item ms a)))
+
     -- where one level is left, one stood before
     pub one-before : 0 < length ms → length ns ≡ 1 → length ms ≡ 1
     one-before some one =
