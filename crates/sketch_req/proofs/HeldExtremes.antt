@@ -1,5 +1,5 @@
 -- The extremes of a sketch bound what it retains, and those of a sketch of one level are its items'.
-use Rattle.std.proofs.Common.{◌≡◌, ℕ, zero, suc, ◌/◌, ◌<◌, ◌≤◌, ◌⊎◌, inl, inr, Bool, true, false, if◌then◌else◌, List, [], ◌∷◌, ◌++◌, length, map, drop, Option, None, Some, refl, sym, ap, ap₂, ◌∙◌, subst, arith, Ordering, Less, Equal, Greater, is_gt, nat_le}
+use Rattle.std.proofs.Common.{◌≡◌, ℕ, zero, suc, ◌/◌, ◌<◌, ◌≤◌, inl, inr, Bool, true, false, if◌then◌else◌, List, [], ◌∷◌, ◌++◌, length, map, drop, Option, None, Some, refl, sym, ap, ap₂, ◌∙◌, subst, arith, Ordering, Equal, is_gt, nat_le}
 use Rattle.std.specs.List.{AllByRecursion}
 use Rattle.std.specs.Cmp.{IsTotalOrder}
 use Rattle.std.specs.Option.{option_to_list}
@@ -9,13 +9,12 @@ use Rattle.std.proofs.lemmas.List.Sums.{sum_by-cons}
 use Rattle.sketch_base.specs.Bag.{Bag, SameItems, AlikeReq, sort, with_level}
 use Rattle.sketch_base.specs.Extremes.{TiesWithOne, IsExtremeOf, IsAtMost, IsLeastOf, IsGreatestOf}
 use Rattle.sketch_base.specs.Queries.{SameAnswer}
-use Rattle.sketch_base.specs.Random.{bits_from}
-use Rattle.sketch_base.specs.Trace.{Action, Work, act, acts, alone, bit_of, draws, draws_of, next_bit}
+use Rattle.sketch_base.specs.Trace.{Action, Work, act, acts, alone, bit_of, draws, next_bit}
 use Rattle.sketch_base.proofs.Entries.{SameAnswer-itself}
 use Rattle.sketch_base.proofs.AllParts.{AllIn, all-alike, all-compaction, all-alike-levels, all-flat, all-by-level, all-map}
 use Rattle.sketch_req.specs.Actions.{bag_of, coin_kind}
 use Rattle.sketch_req.specs.Level.{Level, taken_side}
-use Rattle.sketch_req.specs.Schedule.{Layout, new_layout, layout_of, layouts_of, layout_at, nominal, nominal_sum, retained_of, is_full, are_full, taken, compacted, compact_level, compacted_at, step_layouts, steps_actions, steps_layouts, walk_layouts, room_layouts, filled}
+use Rattle.sketch_req.specs.Schedule.{Layout, new_layout, layouts_of, layout_at, nominal, nominal_sum, retained_of, is_full, are_full, taken, compacted, compact_level, compacted_at, step_layouts, steps_actions, steps_layouts, walk_layouts, room_layouts, filled}
 use Rattle.sketch_req.specs.Sketch.{Req, IsSound, HasEnds, IsSmall, items_in, sketch_of}
 use Rattle.sketch_req.specs.Walk.{AreActed, room_of}
 use Rattle.sketch_req.specs.declared.RankAccuracy.{RankAccuracy}

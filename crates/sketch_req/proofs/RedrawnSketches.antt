@@ -1,5 +1,5 @@
 -- A sketch of which coins are drawn anew keeps what every sketch keeps.
-use Rattle.std.proofs.Common.{◌≡◌, Bool, List, flat_map, sym, ap, ◌∙◌, subst, Ordering}
+use Rattle.std.proofs.Common.{◌≡◌, Bool, List, flat_map, sym, ap, ◌∙◌, Ordering}
 use Rattle.std.specs.Cmp.{IsTotalOrder}
 use Rattle.sketch_base.specs.Bag.{SameItems}
 use Rattle.sketch_base.proofs.Entries.{SameAnswer-itself}

@@ -1,5 +1,4 @@
 use Rattle.std.proofs.Common.{◌≡◌, ◌∙◌, refl, sym, ap, subst, List, Some}
-use Rattle.std.proofs.lemmas.Cmp.{tied_back}
 use Rattle.sketch_base.specs.Extremes.{IsExtreme, IsAtMost}
 use Rattle.sketch_req.specs.Sketch.{Req, sketch_of}
 use Rattle.sketch_req.specs.Image.{accuracy_in, IsTold}

@@ -1,4 +1,4 @@
-use Rattle.std.proofs.Common.{rules, arith, ◌∷◌, [], refl, true, ℕ, Ordering, None}
+use Rattle.std.proofs.Common.{rules, ◌∷◌, [], true, ℕ, Ordering, None}
 use Rattle.sketch_req.specs.Level.{fresh}
 use Rattle.sketch_req.specs.Sections.{IsLegalK}
 use Rattle.sketch_req.specs.Sketch.{IsSound, sketch_of}

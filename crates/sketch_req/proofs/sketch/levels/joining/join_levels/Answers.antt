@@ -10,7 +10,7 @@ use Rattle.sketch_req.specs.Walk.{IsPlaced, accuracy_of, k_of}
 use Rattle.sketch_req.specs.declared.RankAccuracy.{RankAccuracy}
 use Rattle.sketch_req.proofs.ClonedBuffers.{IsReady, cloned-other, is-ready}
 use Rattle.sketch_req.proofs.MergedLevels.{IsAdded, all-joined-to, is-added, joined-none, joined-there, next-copied, next-joined, placed-at-place}
-use Rattle.sketch_req.proofs.WalkSteps.{opened, own-there}
+use Rattle.sketch_req.proofs.WalkSteps.{own-there}
 use Rattle.sketch_req.proofs.Sounds.{few-placed}
 use Rattle.sketch_req.proofs.sketch.levels.joining.join_levels.Given.{Over}
 use Rattle.sketch_req.proofs.sketch.levels.joining.join_levels.Goals.{After-parameters-k, After-add_level, After-index_mut-in-loop-level}

@@ -8,7 +8,7 @@ use Rattle.sketch_req.specs.Schedule.{is_full, layout_at, layouts_of}
 use Rattle.sketch_req.specs.Sections.{IsLegalK}
 use Rattle.sketch_req.specs.Walk.{accuracy_of, k_of}
 use Rattle.sketch_req.specs.declared.RankAccuracy.{RankAccuracy}
-use Rattle.sketch_req.proofs.WalkSteps.{opened, own-there, raised, given-there, comes-up, within-raised, stepped, coins-there}
+use Rattle.sketch_req.proofs.WalkSteps.{own-there, raised, given-there, comes-up, within-raised, stepped, coins-there}
 use Rattle.sketch_req.proofs.Walks.{StepNeeds, acted-full, acted-none, is-full-there, step-needs}
 use Rattle.sketch_req.proofs.sketch.levels.walk.step.Given.{Over}
 use Rattle.sketch_req.proofs.sketch.levels.walk.step.Goals.{After-index_mut, After-add_level}
