@@ -5,6 +5,8 @@ use Rattle.std.specs.Cmp.{IsTotalOrder}
 use Rattle.std.specs.List.{All, AllByRecursion}
 use Rattle.std.proofs.lemmas.Bool.{false≢true}
 use Rattle.std.proofs.lemmas.List.{take_more}
+use Rattle.std.proofs.lemmas.List.Concat.{flat_map-append}
+use Rattle.std.proofs.lemmas.List.Folds.{flat_map-map}
 use Rattle.std.proofs.lemmas.List.Elements.{All-from_recursion, AllZip-push}
 use Rattle.std.proofs.lemmas.List.Sums.{sum_by-cons}
 use Rattle.std.proofs.lemmas.Nat.{pow_pos}
@@ -37,19 +39,11 @@ pairs-more {A} cmp all i p y old new l at same pushed h =
     (AllZip-push (λ p q. (cmp p.0 q.0 ≡ Equal) × (q.1 ≡ p.1)) (take i all) old p (y, p.1) h (same, refl)))
 
 -- what the weighted items of the levels stand for is what the levels do
-copies-append : {A : Type 0} (ps qs : List (A × ℕ)) → copies (ps ++ qs) ≡ copies ps ++ copies qs
-copies-append [] qs = refl
-copies-append (p ∷ ps) qs = ap (λ l. replicate p.1 p.0 ++ l) (copies-append ps qs) ∙ sym (append_assoc (replicate p.1 p.0) (copies ps) (copies qs))
-
-copies-weighed : {A : Type 0} (w : ℕ) (xs : List A) → copies (weighed w xs) ≡ flat_map (λ x. replicate w x) xs
-copies-weighed w [] = refl
-copies-weighed w (x ∷ xs) = ap (λ l. replicate w x ++ l) (copies-weighed w xs)
-
 copies-pairs : {A : Type 0} (cmp : A → A → Ordering) (k : ℕ) (accuracy : RankAccuracy) (h : ℕ) (ls : List (Level A)) → AreLevels cmp k accuracy h ls → copies (pairs_of ls) ≡ repeated h (map (λ level. level.items) ls)
 copies-pairs cmp k accuracy h [] are = refl
 copies-pairs {A} cmp k accuracy h (l ∷ ls) are =
-    copies-append (weighed (2 ^ l.lg_weight) l.items) (pairs_of ls) ∙
-    ap₂ (λ (xs ys : List A). xs ++ ys) (copies-weighed (2 ^ l.lg_weight) l.items ∙ ap (λ i. flat_map (λ x. replicate (2 ^ i) x) l.items) are.0.place_is) (copies-pairs cmp k accuracy (suc h) ls are.1)
+    flat_map-append (λ (pair : A × ℕ). replicate pair.1 pair.0) (weighed (2 ^ l.lg_weight) l.items) (pairs_of ls) ∙
+    ap₂ (λ (xs ys : List A). xs ++ ys) (flat_map-map (λ (pair : A × ℕ). replicate pair.1 pair.0) (λ (x : A). (x, 2 ^ l.lg_weight)) l.items ∙ ap (λ i. flat_map (λ x. replicate (2 ^ i) x) l.items) are.0.place_is) (copies-pairs cmp k accuracy (suc h) ls are.1)
 
 module _ {A : Type 0} where
   -- each weighs something
