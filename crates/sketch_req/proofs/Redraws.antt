@@ -3,6 +3,7 @@ use Rattle.std.proofs.Common.{inl, inr, ◌≡◌, ℕ, zero, suc, ◌+◌, ◌-
 use Rattle.std.specs.Cmp.{IsTotalOrder}
 use Rattle.std.proofs.lemmas.Bool.{cases_Bool}
 use Rattle.std.proofs.lemmas.List.{drop-set-lt, drop_more, take_more_set}
+use Rattle.std.proofs.lemmas.List.Folds.{flat_map-map}
 use Rattle.std.proofs.lemmas.List.Sums.{sum_by-cons}
 use Rattle.sketch_base.specs.Bag.{Bag, AlikeReq}
 use Rattle.sketch_base.specs.Random.{bits_from, after_draws}
@@ -92,8 +93,7 @@ items-redrawn {A} word (x ∷ rest) = ap (λ (l : List (List A)). x.items ∷ l)
 
 -- all items, level by level
 pub flat-items : {A : Type 0} (ls : List (Level A)) → items_in ls ≡ flat_map (λ xs. xs) (map (λ level. level.items) ls)
-flat-items [] = refl
-flat-items (x ∷ rest) = ap (λ xs. x.items ++ xs) (flat-items rest)
+flat-items {A} ls = sym (flat_map-map (λ (xs : List A). xs) (λ (level : Level A). level.items) ls)
 
 -- and the places
 pub placed-redrawn : {A : Type 0} (cmp : A → A → Ordering) (k : ℕ) (accuracy : RankAccuracy) (h : ℕ) (word : List Bool) (ls : List (Level A)) → AreLevels cmp k accuracy h ls → AreLevels cmp k accuracy h (redrawn word ls)

@@ -43,7 +43,8 @@ copies-pairs : {A : Type 0} (cmp : A → A → Ordering) (k : ℕ) (accuracy : R
 copies-pairs cmp k accuracy h [] are = refl
 copies-pairs {A} cmp k accuracy h (l ∷ ls) are =
     flat_map-append (λ (pair : A × ℕ). replicate pair.1 pair.0) (weighed (2 ^ l.lg_weight) l.items) (pairs_of ls) ∙
-    ap₂ (λ (xs ys : List A). xs ++ ys) (flat_map-map (λ (pair : A × ℕ). replicate pair.1 pair.0) (λ (x : A). (x, 2 ^ l.lg_weight)) l.items ∙ ap (λ i. flat_map (λ x. replicate (2 ^ i) x) l.items) are.0.place_is) (copies-pairs cmp k accuracy (suc h) ls are.1)
+    ap₂ (λ (xs ys : List A). xs ++ ys)
+    (flat_map-map (λ (pair : A × ℕ). replicate pair.1 pair.0) (λ (x : A). (x, 2 ^ l.lg_weight)) l.items ∙ ap (λ i. flat_map (λ x. replicate (2 ^ i) x) l.items) are.0.place_is) (copies-pairs cmp k accuracy (suc h) ls are.1)
 
 module _ {A : Type 0} where
   -- each weighs something
