@@ -26,6 +26,7 @@ use Rattle.sketch_req.specs.Views.{SamePairs}
 use Rattle.sketch_req.specs.Sketch.{Req, IsSound}
 use Rattle.sketch_req.specs.Walk.{AreLevels}
 use Rattle.sketch_req.specs.declared.RankAccuracy.{RankAccuracy}
+use Rattle.sketch_req.proofs.Copies.{there-alike}
 use Rattle.sketch_req.proofs.Pairs.{weigh-pairs}
 use Rattle.sketch_req.proofs.Ranks.{weight_is}
 
@@ -44,7 +45,8 @@ copies-pairs cmp k accuracy h [] are = refl
 copies-pairs {A} cmp k accuracy h (l ∷ ls) are =
     flat_map-append (λ (pair : A × ℕ). replicate pair.1 pair.0) (weighed (2 ^ l.lg_weight) l.items) (pairs_of ls) ∙
     ap₂ (λ (xs ys : List A). xs ++ ys)
-    (flat_map-map (λ (pair : A × ℕ). replicate pair.1 pair.0) (λ (x : A). (x, 2 ^ l.lg_weight)) l.items ∙ ap (λ i. flat_map (λ x. replicate (2 ^ i) x) l.items) are.0.place_is) (copies-pairs cmp k accuracy (suc h) ls are.1)
+    (flat_map-map (λ (pair : A × ℕ). replicate pair.1 pair.0) (λ (x : A). (x, 2 ^ l.lg_weight)) l.items
+    ∙ ap (λ i. flat_map (λ x. replicate (2 ^ i) x) l.items) are.0.place_is) (copies-pairs cmp k accuracy (suc h) ls are.1)
 
 module _ {A : Type 0} where
   -- each weighs something
@@ -85,11 +87,6 @@ module _ {A : Type 0} {cmp : A → A → Ordering} (order : IsTotalOrder cmp) wh
       subst (λ n. SameItems cmp (replicate p.1 p.0 ++ copies ps) (replicate n q.0 ++ copies qs)) (sym s.0.1) (same-copies order p.1 p.0 q.0 (copies ps) (copies qs) s.0.0 (copies-clones ps qs s.1))
   copies-clones ps qs s = absurd s
 
-  same-there : (x y : Option A) → SameAnswer cmp x y → IsSome x → IsSome y
-  same-there None y s h = absurd (false≢true h)
-  same-there (Some x) None s h = absurd s
-  same-there (Some x) (Some y) s h = refl
-
   module _ (s : Req A) (pairs : List (A × ℕ)) (sound : IsSound cmp s) (same : SamePairs cmp (pairs_of s.levels) pairs) where
     -- each clone weighs something
     pub clones-all_weigh : All (λ (pair : A × ℕ). 0 < pair.1) pairs
@@ -102,7 +99,7 @@ module _ {A : Type 0} {cmp : A → A → Ordering} (order : IsTotalOrder cmp) wh
     -- an extreme is there where a clone is
     pub clones-there : (extreme found : Option A) → IsThere extreme s.n → SameAnswer cmp extreme found → 0 < length pairs → IsSome found
     clones-there extreme found there e l =
-        same-there extreme found e (some-there extreme s.n there (omega (arith, l, weigh-enough pairs (clones-weigh (pairs_of s.levels) pairs same (pairs-weigh s.levels)), clones-weigh_n)))
+        some-there found s.n (there-alike order extreme found s.n e there) (omega (arith, l, weigh-enough pairs (clones-weigh (pairs_of s.levels) pairs same (pairs-weigh s.levels)), clones-weigh_n))
 
     among : (ps : List (A × ℕ)) (extreme found : Option A) → sum_by (λ (pair : A × ℕ). pair.1) ps ≡ s.n → IsThere extreme s.n → SameAnswer cmp extreme found → SameAnswer cmp extreme (extreme_among ps found)
     among [] None found e there a = tt
