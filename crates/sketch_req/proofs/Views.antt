@@ -1,9 +1,8 @@
 -- The weighted items of a sketch's levels, clones of them, and the view that they make.
-use Rattle.std.proofs.Common.{◌≡◌, ℕ, suc, ◌+◌, ◌^◌, ◌<◌, ◌≤◌, List, [], ◌∷◌, ◌++◌, length, map, take, replicate, flat_map, get_or, sum_by, refl, sym, ap, ap₂, ◌∙◌, subst, append_assoc, arith, Result, Ordering, Equal}
+use Rattle.std.proofs.Common.{◌≡◌, ℕ, suc, ◌+◌, ◌^◌, ◌<◌, ◌≤◌, List, [], ◌∷◌, ◌++◌, length, map, take, replicate, flat_map, get_or, sum_by, refl, sym, ap, ap₂, ◌∙◌, subst, arith, Result, Ordering, Equal}
 use Rattle.std.specs.Prelude.{Option, None, Some, IfOk, IsSome}
 use Rattle.std.specs.Cmp.{IsTotalOrder}
 use Rattle.std.specs.List.{All, AllByRecursion}
-use Rattle.std.proofs.lemmas.Bool.{false≢true}
 use Rattle.std.proofs.lemmas.List.{take_more}
 use Rattle.std.proofs.lemmas.List.Concat.{flat_map-append}
 use Rattle.std.proofs.lemmas.List.Folds.{flat_map-map}
