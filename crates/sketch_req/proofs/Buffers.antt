@@ -26,7 +26,7 @@ module _ {A : Type 0} where
   SpaceAt k h layouts buffers = HasSpace k h layouts (get_or (merged_spaces buffers) h 0) (get_or (promoted_spaces buffers) h 0)
 
   -- buffers with as much space at a place
-  pub space-same : (k h : ℕ) (layouts : List Layout) (buffers news : List (Space A)) → get_or (merged_spaces news) h 0 ≡ get_or (merged_spaces buffers) h 0 → get_or (promoted_spaces news) h 0 ≡ get_or (promoted_spaces buffers) h 0 →
+  space-same : (k h : ℕ) (layouts : List Layout) (buffers news : List (Space A)) → get_or (merged_spaces news) h 0 ≡ get_or (merged_spaces buffers) h 0 → get_or (promoted_spaces news) h 0 ≡ get_or (promoted_spaces buffers) h 0 →
       SpaceAt k h layouts buffers → SpaceAt k h layouts news
   space-same k h layouts buffers news merged promoted has = rw (merged, promoted) has
 

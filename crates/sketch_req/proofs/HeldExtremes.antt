@@ -66,7 +66,7 @@ walk-adds k (l ∷ []) some e =
 walk-adds k (l ∷ m ∷ ls) some e = let a = longer-steps k (length (l ∷ m ∷ ls)) 0 (l ∷ m ∷ ls) in omega (arith, a)
 
 -- so one level left means no walk
-pub one-left : (k : ℕ) (ls : List Layout) → 0 < length ls → length (room_layouts k ls) ≡ 1 → are_full k ls ≡ false
+one-left : (k : ℕ) (ls : List Layout) → 0 < length ls → length (room_layouts k ls) ≡ 1 → are_full k ls ≡ false
 one-left k ls some one =
     elim (cases_Bool (are_full k ls)) [
       | inl e ↦ let left = rw e at one in absurd (omega (arith, walk-adds k ls some e, left))

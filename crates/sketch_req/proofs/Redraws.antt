@@ -22,7 +22,7 @@ use Rattle.sketch_req.proofs.Bags.{AlikeLevels, levels-refl}
 use Rattle.sketch_req.proofs.Walks.{acted-start}
 
 -- one level more
-pub turning-first : {A : Type 0} (x : Level A) (rest : List (Level A)) → turning_levels (layouts_of (x ∷ rest)) ≡ cond (turns_coin x.state) 1 0 + turning_levels (layouts_of rest)
+turning-first : {A : Type 0} (x : Level A) (rest : List (Level A)) → turning_levels (layouts_of (x ∷ rest)) ≡ cond (turns_coin x.state) 1 0 + turning_levels (layouts_of rest)
 turning-first x rest = sum_by-cons (λ (l : Layout). cond (turns_coin l.state) 1 0) (layout_of x) (layouts_of rest)
 
 module _ {A S : Type 0} (bit : S → Bool) (next : S → S) where
@@ -45,10 +45,10 @@ module _ {A S : Type 0} (bit : S → Bool) (next : S → S) where
         | inr stays ↦ let none = rw stays at e in let same : n ≡ m = omega (arith, none) in rw (stays, same) refl
       ]
 
-  pub redrawn-first : (source : S) (x : Level A) (rest : List (Level A)) → redrawn_by source (x ∷ rest) ≡ redrawn_level x (bit source) ∷ redrawn_by (source_past source x) rest
+  redrawn-first : (source : S) (x : Level A) (rest : List (Level A)) → redrawn_by source (x ∷ rest) ≡ redrawn_level x (bit source) ∷ redrawn_by (source_past source x) rest
   redrawn-first source x rest = redrawn-next source (turning_levels (layouts_of (x ∷ rest))) (turning_levels (layouts_of rest)) x rest (turning-first x rest)
 
-  pub source-first : (source : S) (x : Level A) (rest : List (Level A)) → source_by source (x ∷ rest) ≡ source_by (source_past source x) rest
+  source-first : (source : S) (x : Level A) (rest : List (Level A)) → source_by source (x ∷ rest) ≡ source_by (source_past source x) rest
   source-first source x rest = ap (after_draws next source) (turning-first x rest) ∙ go (turns_coin x.state)
     where
       go : (b : Bool) → after_draws next source (cond b 1 0 + turning_levels (layouts_of rest)) ≡ source_by (if b then next source else source) rest
@@ -184,7 +184,7 @@ module _ {A : Type 0} {cmp : A → A → Ordering} (order : IsTotalOrder cmp) wh
         kept = λ i. let e : i ≡ 0 + i = omega arith in ap new.kept e ∙ r.kept i;
       }
 
-  pub acted-redrawn : {S : Type 0} (bit : S → Bool) (next : S → S) (source : S) (k : ℕ) (accuracy : RankAccuracy) (ls : List (Level A)) → AreLevels cmp k accuracy 0 ls →
+  acted-redrawn : {S : Type 0} (bit : S → Bool) (next : S → S) (source : S) (k : ℕ) (accuracy : RankAccuracy) (ls : List (Level A)) → AreLevels cmp k accuracy 0 ls →
       AreActed cmp bit next source (source_by bit next source ls) k accuracy (redraw_actions (layouts_of ls)) (layouts_of ls) 0 ls (redrawn_by bit next source ls)
   acted-redrawn bit next source k accuracy ls a =
       let n = redraws-draw A 0 (layouts_of ls) in
