@@ -1,5 +1,5 @@
 -- The buffers of a walk's turns: what stays of them where those of one turn are set.
-use Rattle.std.proofs.Common.{◌≡◌, ℕ, ◌+◌, ◌<◌, List, length, map, get_or, set, sym, ap, ◌∙◌, subst, arith, inl, inr}
+use Rattle.std.proofs.Common.{◌≢◌, ◌≡◌, ℕ, ◌+◌, ◌<◌, List, length, map, get_or, set, sym, ap, ◌∙◌, subst, arith, inl, inr}
 use Rattle.std.proofs.lemmas.Bool.{cases_lt}
 use Rattle.std.proofs.lemmas.List.{map-set, length-map, get_or-map, get_or-set_other, get_or-set_same}
 use Rattle.sketch_req.specs.Buffers.{Space, merged_spaces, promoted_spaces}
@@ -12,13 +12,9 @@ module _ {R B : Type 0} (read : R → B) (d : B) (rooms : List R) (h : ℕ) (roo
   pub read-there : h < length rooms → room ≡ get_or rooms h room → get_or (map read rooms) h d ≡ read room
   read-there within e = get_or-map read rooms h room d within ∙ ap read (sym e)
 
-  -- those above stay where others are set
-  pub read-above : (j : ℕ) → h < j → get_or (map read (set rooms h room)) j d ≡ get_or (map read rooms) j d
-  read-above j above = ap (λ (xs : List B). get_or xs j d) (map-set read rooms h room) ∙ get_or-set_other (map read rooms) h j (read room) d (λ e. absurd (omega (arith, e, above)))
-
-  -- those below stay too
-  pub read-below : (j : ℕ) → j < h → get_or (map read (set rooms h room)) j d ≡ get_or (map read rooms) j d
-  read-below j low = ap (λ (xs : List B). get_or xs j d) (map-set read rooms h room) ∙ get_or-set_other (map read rooms) h j (read room) d (λ e. absurd (omega (arith, e, low)))
+  -- those of other places stay where these are set
+  pub read-other : (j : ℕ) → j ≢ h → get_or (map read (set rooms h room)) j d ≡ get_or (map read rooms) j d
+  read-other j other = ap (λ (xs : List B). get_or xs j d) (map-set read rooms h room) ∙ get_or-set_other (map read rooms) h j (read room) d other
 
   -- what was set
   pub read-here : h < length rooms → get_or (map read (set rooms h room)) h d ≡ read room
@@ -30,7 +26,7 @@ module _ {A : Type 0} where
   SpaceAt k h layouts buffers = HasSpace k h layouts (get_or (merged_spaces buffers) h 0) (get_or (promoted_spaces buffers) h 0)
 
   -- buffers with as much space at a place
-  pub space-same : (k h : ℕ) (layouts : List Layout) (buffers news : List (Space A)) → get_or (merged_spaces news) h 0 ≡ get_or (merged_spaces buffers) h 0 → get_or (promoted_spaces news) h 0 ≡ get_or (promoted_spaces buffers) h 0 →
+  space-same : (k h : ℕ) (layouts : List Layout) (buffers news : List (Space A)) → get_or (merged_spaces news) h 0 ≡ get_or (merged_spaces buffers) h 0 → get_or (promoted_spaces news) h 0 ≡ get_or (promoted_spaces buffers) h 0 →
       SpaceAt k h layouts buffers → SpaceAt k h layouts news
   space-same k h layouts buffers news merged promoted has = rw (merged, promoted) has
 
@@ -39,7 +35,9 @@ module _ {A : Type 0} where
       (j : ℕ) → j < h + 1 → SpaceAt k j (layouts j) (set buffers h own)
   space-more k h layouts buffers own inside below here j within =
       elim (cases_lt j h) [
-        | inl low ↦ space-same k j (layouts j) buffers (set buffers h own) (read-below (λ b. b.merged_space) 0 buffers h own j low) (read-below (λ b. b.promoted_space) 0 buffers h own j low) (below j low)
+        | inl low ↦
+            let other : j ≢ h = omega (arith, low) in
+            space-same k j (layouts j) buffers (set buffers h own) (read-other (λ b. b.merged_space) 0 buffers h own j other) (read-other (λ b. b.promoted_space) 0 buffers h own j other) (below j low)
         | inr high ↦
             let place : h ≡ j = omega (arith, within, high) in
             subst (λ (n : ℕ). SpaceAt k n (layouts n) (set buffers h own)) place

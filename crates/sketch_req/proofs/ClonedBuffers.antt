@@ -1,5 +1,5 @@
 -- Buffers with clones, those of one turn for each level that comes in.
-use Rattle.std.proofs.Common.{◌≡◌, ℕ, ◌+◌, ◌<◌, ◌≤◌, List, [], length, get_or, set, ap, subst, arith, inl, inr, Ordering}
+use Rattle.std.proofs.Common.{◌≢◌, ◌≡◌, ℕ, ◌+◌, ◌<◌, ◌≤◌, List, [], length, get_or, set, ap, subst, arith, inl, inr, Ordering}
 use Rattle.std.proofs.lemmas.Bool.{cases_lt}
 use Rattle.sketch_base.specs.Bag.{SameItems}
 use Rattle.sketch_req.specs.Buffers.{Space, clones_of, clones_spaces, promoted_spaces}
@@ -8,7 +8,7 @@ use Rattle.sketch_req.specs.Merged.{IsCopied, IsCloned}
 use Rattle.sketch_req.specs.Schedule.{Layout, layouts_of, layout_at, retained_of}
 use Rattle.sketch_req.specs.declared.RankAccuracy.{RankAccuracy}
 use Rattle.sketch_req.proofs.MergedLevels.{copied-few, items-there, layout-there}
-use Rattle.sketch_req.proofs.Buffers.{read-there, read-above, read-below, read-here}
+use Rattle.sketch_req.proofs.Buffers.{read-there, read-other, read-here}
 
 -- what a join of level h asks for
 pub record IsReady {A : Type 0} (cmp : A → A → Ordering) (ls others : List (Level A)) (old o : Level A) (own : Space A) : Type 0 where
@@ -22,9 +22,10 @@ module _ {A : Type 0} (cmp : A → A → Ordering) (ls others : List (Level A)) 
   abbrev pub HasClones : List (Space A) → ℕ → Type 0
   HasClones buffers h = IsCloned cmp h ls others (get_or (clones_of buffers) h []) (get_or (clones_spaces buffers) h 0) (get_or (promoted_spaces buffers) h 0)
 
-  has-same : (buffers news : List (Space A)) (h : ℕ) → get_or (clones_of news) h [] ≡ get_or (clones_of buffers) h [] → get_or (clones_spaces news) h 0 ≡ get_or (clones_spaces buffers) h 0 → get_or (promoted_spaces news) h 0 ≡ get_or (promoted_spaces buffers) h 0 →
-      HasClones buffers h → HasClones news h
-  has-same buffers news h clones spaces promoted has = rw (clones, spaces, promoted) has
+  -- the buffers of other places stay
+  pub cloned-other : (buffers : List (Space A)) (h : ℕ) (own : Space A) (j : ℕ) → j ≢ h → HasClones buffers j → HasClones (set buffers h own) j
+  cloned-other buffers h own j other has =
+      rw (read-other (λ b. b.clones) [] buffers h own j other, read-other (λ b. b.clones_space) 0 buffers h own j other, read-other (λ b. b.promoted_space) 0 buffers h own j other) has
 
   -- the buffers of one more level took clones
   pub cloned-more : (buffers : List (Space A)) (h : ℕ) (own : Space A) → h < length buffers → ((j : ℕ) → j < h → j < length others → HasClones buffers j) → (h < length others → IsCloned cmp h ls others own.clones own.clones_space own.promoted_space) →
@@ -32,16 +33,12 @@ module _ {A : Type 0} (cmp : A → A → Ordering) (ls others : List (Level A)) 
   cloned-more buffers h own inside below here j l m =
       elim (cases_lt j h) [
         | inl low ↦
-            has-same buffers (set buffers h own) j (read-below (λ b. b.clones) [] buffers h own j low) (read-below (λ b. b.clones_space) 0 buffers h own j low) (read-below (λ b. b.promoted_space) 0 buffers h own j low) (below j low m)
+            cloned-other buffers h own j (omega (arith, low)) (below j low m)
         | inr high ↦
             let place : h ≡ j = omega (arith, l, high) in
             subst (λ (n : ℕ). n < length others → HasClones (set buffers h own) n) place
             (λ n. rw (read-here (λ b. b.clones) [] buffers h own inside, read-here (λ b. b.clones_space) 0 buffers h own inside, read-here (λ b. b.promoted_space) 0 buffers h own inside) (here n)) m
       ]
-
-  -- the buffers above stay
-  pub cloned-above : (buffers : List (Space A)) (h : ℕ) (own : Space A) (j : ℕ) → h < j → HasClones buffers j → HasClones (set buffers h own) j
-  cloned-above buffers h own j high = has-same buffers (set buffers h own) j (read-above (λ b. b.clones) [] buffers h own j high) (read-above (λ b. b.clones_space) 0 buffers h own j high) (read-above (λ b. b.promoted_space) 0 buffers h own j high)
 
   -- clones and space are ready for it
   pub is-ready : (k : ℕ) (accuracy : RankAccuracy) (h : ℕ) (buffers : List (Space A)) (own : Space A) (old o : Level A) → IsCopied cmp k accuracy h ls old → h < length others → o ≡ get_or others h o → h < length buffers → own ≡ get_or buffers h own →

@@ -10,9 +10,10 @@ use Rattle.sketch_req.specs.Walk.{AreHeld, AreLevels, accuracy_of, appended_firs
 use Rattle.sketch_req.specs.declared.RankAccuracy.{RankAccuracy}
 use Rattle.sketch_req.proofs.HeldExtremes.{longer-room}
 use Rattle.sketch_req.proofs.Layouts.{length-layouts}
-use Rattle.sketch_req.proofs.KeptLevels.{fresh_stored}
+use Rattle.sketch_req.proofs.KeptLevels.{fresh_placed}
 use Rattle.sketch_req.proofs.Redraws.{layouts-ready, layouts-redrawn, placed-redrawn}
-use Rattle.sketch_req.proofs.UpdatedLevels.{few-placed, nominal-appended, placed-appended, retained-appended}
+use Rattle.sketch_req.proofs.Sounds.{few-placed}
+use Rattle.sketch_req.proofs.UpdatedLevels.{length-appended, nominal-appended, placed-appended, retained-appended}
 
 -- what is known of levels whose k and accuracy are given
 pub record IsOwn {A : Type 0} (cmp : A → A → Ordering) (k : ℕ) (accuracy : RankAccuracy) (ls : List (Level A)) : Type 0 where
@@ -43,15 +44,11 @@ own-appended (l ∷ ls) x = (refl, refl)
 pub held-appended : {A : Type 0} (cmp : A → A → Ordering) (k n capacity : ℕ) (accuracy : RankAccuracy) (ls : List (Level A)) (x : A) →
     IsHeld cmp n capacity (held_of k accuracy ls) → retained_of (layouts_of ls) < 4294967295 → IsHeld cmp (n + 1) capacity (held_of k accuracy (appended_first ls x))
 held-appended {A} cmp k n capacity accuracy ls x held few = record {
-  some = longer ls held.some;
+  some = omega (arith, held.some, length-appended ls x);
   placed = placed-appended cmp k accuracy ls x held.placed few;
   retained_is = omega (arith, held.retained_is, retained-appended ls x held.some);
   capacity_is = held.capacity_is ∙ sym (nominal-appended k ls x);
 }
-  where
-    longer : (ls : List (Level A)) → 0 < length ls → 0 < length (appended_first ls x)
-    longer [] some = some
-    longer (l ∷ ls) some = some
 
 -- so it is after coins were drawn anew
 pub held-redrawn : {A : Type 0} (cmp : A → A → Ordering) (k n capacity : ℕ) (accuracy : RankAccuracy) (word : List Bool) (ls : List (Level A)) → IsHeld cmp n capacity (held_of k accuracy ls) →
@@ -73,23 +70,15 @@ few-levels cmp k accuracy ls xs a same = let few = few-placed cmp k accuracy 0 l
 pub held-sums : {A : Type 0} (cmp : A → A → Ordering) (k n capacity : ℕ) (accuracy : RankAccuracy) (ls xs : List (Level A)) → 0 < length ls → AreLevels cmp k accuracy 0 ls → xs ≡ ls →
     n ≡ retained_of (layouts_of xs) → ((k : ℕ) (accuracy : RankAccuracy) → AreLevels cmp k accuracy 0 xs → capacity ≡ nominal_sum k (layouts_of xs)) →
     IsHeld cmp n capacity (held_of k accuracy ls)
-held-sums {A} cmp k n capacity accuracy ls xs some a same retained told = record {
-  some = some;
-  placed = a;
-  retained_is = retained ∙ ap (λ (ys : List (Level A)). retained_of (layouts_of ys)) same;
-  capacity_is = told k accuracy (subst (AreLevels cmp k accuracy 0) (sym same) a) ∙ ap (λ (ys : List (Level A)). nominal_sum k (layouts_of ys)) same;
-}
+held-sums {A} cmp k n capacity accuracy ls xs some a same retained told =
+    let retained_is = rw same at retained in
+    let all = rw same at told in
+    let capacity_is = all k accuracy a in
+    assumption
 
 -- one empty level
 pub first-levels : {A : Type 0} (cmp : A → A → Ordering) (k : ℕ) (accuracy : RankAccuracy) → IsLegalK k → AreLevels cmp k accuracy 0 (fresh [] true 0 k accuracy ∷ [])
-first-levels cmp k accuracy legal =
-    let stored = fresh_stored cmp 0 k accuracy [] true (omega arith) legal (omega arith) (λ t i d l m. absurd (omega (arith, m))) in
-    (record { sound = stored.kept; k_is = refl; accuracy_is = refl; place_is = refl; marked = λ above. absurd (omega (arith, above)) }, tt)
-
--- the k of any levels is that of level 0
-pub placed-own : {A : Type 0} (cmp : A → A → Ordering) (k : ℕ) (accuracy : RankAccuracy) (ls : List (Level A)) → AreLevels cmp k accuracy 0 ls → AreLevels cmp (k_of ls) accuracy 0 ls
-placed-own cmp k accuracy [] a = tt
-placed-own cmp k accuracy (l ∷ ls) a = subst (λ (n : ℕ). AreLevels cmp n accuracy 0 (l ∷ ls)) (sym a.0.k_is) a
+first-levels cmp k accuracy legal = (fresh_placed cmp k accuracy 0 legal (omega arith), tt)
 
 -- there is a level after levels took others in
 pub some-taken : {A S : Type 0} {cmp : A → A → Ordering} (bit : S → Bool) (next : S → S) (source after : S) (k : ℕ) (accuracy : RankAccuracy) (redraws : Bool) (ls others ns : List (Level A)) → 0 < length ls →

@@ -1,5 +1,5 @@
 -- The extremes of a sketch bound what it retains, and those of a sketch of one level are its items'.
-use Rattle.std.proofs.Common.{◌≡◌, ℕ, zero, suc, ◌/◌, ◌<◌, ◌≤◌, ◌⊎◌, inl, inr, Bool, true, false, if◌then◌else◌, List, [], ◌∷◌, ◌++◌, length, map, drop, Option, None, Some, refl, sym, ap, ap₂, ◌∙◌, subst, arith, Ordering, Less, Equal, Greater, is_gt, nat_le}
+use Rattle.std.proofs.Common.{◌≡◌, ℕ, zero, suc, ◌/◌, ◌<◌, ◌≤◌, inl, inr, Bool, true, false, if◌then◌else◌, List, [], ◌∷◌, ◌++◌, length, map, drop, Option, None, Some, refl, sym, ap, ap₂, ◌∙◌, subst, arith, Ordering, Equal, is_gt, nat_le}
 use Rattle.std.specs.List.{AllByRecursion}
 use Rattle.std.specs.Cmp.{IsTotalOrder}
 use Rattle.std.specs.Option.{option_to_list}
@@ -9,18 +9,16 @@ use Rattle.std.proofs.lemmas.List.Sums.{sum_by-cons}
 use Rattle.sketch_base.specs.Bag.{Bag, SameItems, AlikeReq, sort, with_level}
 use Rattle.sketch_base.specs.Extremes.{TiesWithOne, IsExtremeOf, IsAtMost, IsLeastOf, IsGreatestOf}
 use Rattle.sketch_base.specs.Queries.{SameAnswer}
-use Rattle.sketch_base.specs.Random.{bits_from}
-use Rattle.sketch_base.specs.Trace.{Action, Work, act, acts, alone, bit_of, draws, draws_of, next_bit}
+use Rattle.sketch_base.specs.Trace.{Action, Work, act, acts, alone, bit_of, draws, next_bit}
 use Rattle.sketch_base.proofs.Entries.{SameAnswer-itself}
 use Rattle.sketch_base.proofs.AllParts.{AllIn, all-alike, all-compaction, all-alike-levels, all-flat, all-by-level, all-map}
 use Rattle.sketch_req.specs.Actions.{bag_of, coin_kind}
 use Rattle.sketch_req.specs.Level.{Level, taken_side}
-use Rattle.sketch_req.specs.Schedule.{Layout, new_layout, layout_of, layouts_of, layout_at, nominal, nominal_sum, retained_of, is_full, are_full, taken, compacted, compact_level, compacted_at, step_layouts, steps_actions, steps_layouts, walk_layouts, room_layouts, filled}
+use Rattle.sketch_req.specs.Schedule.{Layout, new_layout, layouts_of, layout_at, nominal, nominal_sum, retained_of, is_full, are_full, taken, compacted, compact_level, compacted_at, step_layouts, steps_actions, steps_layouts, walk_layouts, room_layouts, filled}
 use Rattle.sketch_req.specs.Sketch.{Req, IsSound, HasEnds, IsSmall, items_in, sketch_of}
 use Rattle.sketch_req.specs.Walk.{AreActed, room_of}
 use Rattle.sketch_req.specs.declared.RankAccuracy.{RankAccuracy}
 use Rattle.sketch_req.proofs.Bags.{alike-sym}
-use Rattle.sketch_base.specs.Extremes.{IsFrom, IsUpTo}
 use Rattle.sketch_req.proofs.Layouts.{length-layouts}
 
 -- ---- a walk over one level that is full adds another
@@ -63,18 +61,15 @@ full-one k l e =
 walk-adds : (k : ℕ) (ls : List Layout) → 0 < length ls → are_full k ls ≡ true → 1 < length (walk_layouts k ls)
 walk-adds k [] some e = absurd (omega arith)
 walk-adds k (l ∷ []) some e =
-    let two : length (step_layouts k 0 (l ∷ [])) ≡ 2 = ap (λ (b : Bool). length (if b then compacted_at k 0 (l ∷ []) else l ∷ [])) (full-one k l e) in
+    let two : length (step_layouts k 0 (l ∷ [])) ≡ 2 = rw (full-one k l e) refl in
     omega (arith, two)
 walk-adds k (l ∷ m ∷ ls) some e = let a = longer-steps k (length (l ∷ m ∷ ls)) 0 (l ∷ m ∷ ls) in omega (arith, a)
 
 -- so one level left means no walk
-pub one-left : (k : ℕ) (ls : List Layout) → 0 < length ls → length (room_layouts k ls) ≡ 1 → are_full k ls ≡ false
+one-left : (k : ℕ) (ls : List Layout) → 0 < length ls → length (room_layouts k ls) ≡ 1 → are_full k ls ≡ false
 one-left k ls some one =
     elim (cases_Bool (are_full k ls)) [
-      | inl e ↦
-          let w = walk-adds k ls some e in
-          let n = ap (λ (b : Bool). length (if b then walk_layouts k ls else ls)) e in
-          absurd (omega (arith, w, n, one))
+      | inl e ↦ let left = rw e at one in absurd (omega (arith, walk-adds k ls some e, left))
       | inr e ↦ e
     ]
 
@@ -104,66 +99,53 @@ module _ {A : Type 0} {cmp : A → A → Ordering} (order : IsTotalOrder cmp) wh
         | false ↦ a
       ]
 
-  module _ {S : Type 0} {bit : S → Bool} {next : S → S} {source after : S} (k : ℕ) (accuracy : RankAccuracy) (ms ns : List (Level A)) (room : AreActed cmp bit next source after k accuracy (room_of k accuracy ms) (room_layouts k (layouts_of ms)) 0 ms ns) where
-    -- what items keep that compare equal holds after actions too
-    pub acted-all : (P : A → Type 0) → Keeps P → AllByRecursion P (items_in ms) → AllByRecursion P (items_in ns)
-    acted-all P keeps a =
-        let item : Level A → List A = λ level. level.items in
-        all-flat P item ns (all-alike-levels P cmp keeps _ (map item ns) room.bag.levels (room-all P k accuracy (layouts_of ms) _ (alone (bag_of ms)) (all-by-level P item ms a)))
-
-    none-acted : are_full k (layouts_of ms) ≡ false → AlikeReq cmp (bag_of ms) (bag_of ns)
-    none-acted e =
-        let word = bits_from bit next source (draws_of (room_of k accuracy ms)) in
-        subst (λ (b : Bool). AlikeReq cmp (acts cmp (if b then steps_actions k accuracy (length (layouts_of ms)) 0 (layouts_of ms) else []) word (alone (bag_of ms))).bag (bag_of ns)) e room.bag
-
-    acted-back : are_full k (layouts_of ms) ≡ false → (P : A → Type 0) → Keeps P → AllByRecursion P (items_in ns) → AllByRecursion P (items_in ms)
-    acted-back e P keeps a =
-        let item : Level A → List A = λ level. level.items in
-        all-flat P item ms (all-alike-levels P cmp keeps (map item ns) (map item ms) (alike-sym order (bag_of ms) (bag_of ns) (none-acted e)).levels (all-by-level P item ns a))
-
   -- ---- extremes that bound
+
+  -- an item within an extreme; where there is none, no item is
+  abbrev pub Reaches : (A → A → Type 0) → Option A → A → Type 0
+  Reaches Bounds None x = ⊥
+  Reaches Bounds (Some e) x = Bounds e x
+
+  abbrev AtLeast : A → A → Type 0
+  AtLeast x y = IsAtMost cmp x y
+
+  abbrev AtMost : A → A → Type 0
+  AtMost x y = IsAtMost cmp y x
 
   -- an item lies between two extremes
   abbrev pub Holds : Option A → Option A → A → Type 0
-  Holds least greatest x = IsFrom cmp least x × IsUpTo cmp greatest x
+  Holds least greatest x = Reaches AtLeast least x × Reaches AtMost greatest x
 
   -- that is kept by items that compare equal
   pub holds-same : (least greatest : Option A) → Keeps (Holds least greatest)
+  holds-same (Some l) (Some g) x y e h = (ap is_gt (sym (alike_right order x y l e)) ∙ h.0, ap is_gt (sym (order.congr x y g e)) ∙ h.1)
   holds-same None greatest x y e h = absurd h.0
   holds-same (Some l) None x y e h = absurd h.1
-  holds-same (Some l) (Some g) x y e h = (ap is_gt (sym (alike_right order x y l e)) ∙ h.0, ap is_gt (sym (order.congr x y g e)) ∙ h.1)
 
-  from-left : (a b e : Option A) → IsLeastOf cmp (option_to_list a ++ option_to_list b) e → (x : A) → IsFrom cmp a x → IsFrom cmp e x
-  from-left None b e i x h = absurd h
-  from-left (Some l) b None i x h = let n = ap length i in absurd (omega (arith, n))
-  from-left (Some l) b (Some z) i x h = upto order z l x i.bounds.0 h
+  module _ (Bounds : A → A → Type 0) (on : (a b c : A) → Bounds a b → Bounds b c → Bounds a c) where
+    reach-left : (a b e : Option A) → IsExtremeOf cmp Bounds (option_to_list a ++ option_to_list b) e → (x : A) → Reaches Bounds a x → Reaches Bounds e x
+    reach-left (Some l) b (Some z) i x h = on z l x i.bounds.0 h
+    reach-left (Some l) b None i x h = absurd cc
+    reach-left None b e i x h = absurd h
 
-  from-right : (a b e : Option A) → IsLeastOf cmp (option_to_list a ++ option_to_list b) e → (x : A) → IsFrom cmp b x → IsFrom cmp e x
-  from-right a None e i x h = absurd h
-  from-right None (Some l) e i x h = from-left (Some l) None e i x h
-  from-right (Some m) (Some l) None i x h = let n = ap length i in absurd (omega (arith, n))
-  from-right (Some m) (Some l) (Some z) i x h = upto order z l x i.bounds.1.0 h
-
-  up-left : (a b e : Option A) → IsGreatestOf cmp (option_to_list a ++ option_to_list b) e → (x : A) → IsUpTo cmp a x → IsUpTo cmp e x
-  up-left None b e i x h = absurd h
-  up-left (Some g) b None i x h = let n = ap length i in absurd (omega (arith, n))
-  up-left (Some g) b (Some z) i x h = upto order x g z h i.bounds.0
-
-  up-right : (a b e : Option A) → IsGreatestOf cmp (option_to_list a ++ option_to_list b) e → (x : A) → IsUpTo cmp b x → IsUpTo cmp e x
-  up-right a None e i x h = absurd h
-  up-right None (Some g) e i x h = up-left (Some g) None e i x h
-  up-right (Some m) (Some g) None i x h = let n = ap length i in absurd (omega (arith, n))
-  up-right (Some m) (Some g) (Some z) i x h = upto order x g z h i.bounds.1.0
+    reach-right : (a b e : Option A) → IsExtremeOf cmp Bounds (option_to_list a ++ option_to_list b) e → (x : A) → Reaches Bounds b x → Reaches Bounds e x
+    reach-right a None e i x h = absurd h
+    reach-right None (Some l) e i x h = reach-left (Some l) None e i x h
+    reach-right (Some m) (Some l) None i x h = absurd cc
+    reach-right (Some m) (Some l) (Some z) i x h = on z l x i.bounds.1.0 h
 
   -- the extremes of two sketches together bound what either's do
   module _ (a b least c d greatest : Option A) (il : IsLeastOf cmp (option_to_list a ++ option_to_list b) least) (ig : IsGreatestOf cmp (option_to_list c ++ option_to_list d) greatest) where
+    down : (x y z : A) → AtMost x y → AtMost y z → AtMost x z
+    down x y z p q = upto order z y x q p
+
     -- what lay between the first extremes lies between those of both
     pub held-left : (xs : List A) → AllByRecursion (Holds a c) xs → AllByRecursion (Holds least greatest) xs
-    held-left xs h = all-map (Holds a c) (Holds least greatest) (λ x p. (from-left a b least il x p.0, up-left c d greatest ig x p.1)) xs h
+    held-left xs h = all-map (Holds a c) (Holds least greatest) (λ x p. (reach-left AtLeast (upto order) a b least il x p.0, reach-left AtMost down c d greatest ig x p.1)) xs h
 
     -- so does what lay between the others
     pub held-right : (xs : List A) → AllByRecursion (Holds b d) xs → AllByRecursion (Holds least greatest) xs
-    held-right xs h = all-map (Holds b d) (Holds least greatest) (λ x p. (from-right a b least il x p.0, up-right c d greatest ig x p.1)) xs h
+    held-right xs h = all-map (Holds b d) (Holds least greatest) (λ x p. (reach-right AtLeast (upto order) a b least il x p.0, reach-right AtMost down c d greatest ig x p.1)) xs h
 
   -- the items of a sketch lie between its extremes
   pub held : (s : Req A) → IsSound cmp s → AllByRecursion (Holds s.least s.greatest) (items_in s.levels)
@@ -188,23 +170,15 @@ module _ {A : Type 0} {cmp : A → A → Ordering} (order : IsTotalOrder cmp) wh
 
   -- ---- extremes of lists that hold the same items
 
-  missing : (x : A) (ys : List A) → TiesWithOne cmp ys x ⊎ AllByRecursion (λ y. cmp x y ≡ Equal → ⊥) ys
-  missing x [] = inr tt
-  missing x (y ∷ ys) = go (cmp x y) refl (missing x ys)
-    where
-      more : (cmp x y ≡ Equal → ⊥) → TiesWithOne cmp ys x ⊎ AllByRecursion (λ y. cmp x y ≡ Equal → ⊥) ys → TiesWithOne cmp (y ∷ ys) x ⊎ AllByRecursion (λ y. cmp x y ≡ Equal → ⊥) (y ∷ ys)
-      more n (inl t) = inl (inr t)
-      more n (inr m) = inr (n, m)
+  -- what follows from each item that compares equal to one follows where one does
+  by-tie : (Q : Type 0) (x : A) (ys : List A) → TiesWithOne cmp ys x → AllByRecursion (λ y. cmp x y ≡ Equal → Q) ys → Q
+  by-tie Q x [] tie each = absurd tie
+  by-tie Q x (y ∷ ys) (inl tie) each = each.0 tie
+  by-tie Q x (y ∷ ys) (inr tie) each = by-tie Q x ys tie each.1
 
-      go : (r : Ordering) → cmp x y ≡ r → TiesWithOne cmp ys x ⊎ AllByRecursion (λ y. cmp x y ≡ Equal → ⊥) ys → TiesWithOne cmp (y ∷ ys) x ⊎ AllByRecursion (λ y. cmp x y ≡ Equal → ⊥) (y ∷ ys)
-      go Equal e r = inl (inl e)
-      go Less e r = more (λ q. let z : Less ≡ Equal = sym e ∙ q in absurd cc) r
-      go Greater e r = more (λ q. let z : Greater ≡ Equal = sym e ∙ q in absurd cc) r
-
-  not-both : (x : A) (ys : List A) → TiesWithOne cmp ys x → AllByRecursion (λ y. cmp x y ≡ Equal → ⊥) ys → ⊥
-  not-both x [] t n = t
-  not-both x (y ∷ ys) (inl t) n = n.0 t
-  not-both x (y ∷ ys) (inr t) n = not-both x ys t n.1
+  each-ties : (x : A) (ys : List A) → AllByRecursion (λ y. cmp x y ≡ Equal → TiesWithOne cmp ys x) ys
+  each-ties x [] = tt
+  each-ties x (y ∷ ys) = (λ e. inl e, all-map _ (λ z. cmp x z ≡ Equal → TiesWithOne cmp (y ∷ ys) x) (λ z tie e. inr (tie e)) ys (each-ties x ys))
 
   -- what holds of each item of the one holds of each of the other
   abbrev pub Moves : List A → List A → Type 1
@@ -218,23 +192,17 @@ module _ {A : Type 0} {cmp : A → A → Ordering} (order : IsTotalOrder cmp) wh
         go [] n = refl
         go (z ∷ zs) n = absurd n.0
     extreme-moved xs ys to from (Some x) i = record {
-      ties = elim (missing x ys) [
-        | inl t ↦ t
-        | inr n ↦ absurd (not-both x xs i.ties (from (λ y. cmp x y ≡ Equal → ⊥) (λ y z e h q. h (alike_right order y z x e ∙ q)) n))
-      ];
+      ties = by-tie (TiesWithOne cmp ys x) x xs i.ties (from (λ y. cmp x y ≡ Equal → TiesWithOne cmp ys x) (λ y z e tie q. tie (alike_right order y z x e ∙ q)) (each-ties x ys));
       bounds = to (Bounds x) (keeps x) i.bounds;
     }
 
     extreme-tied : (xs : List A) (x y : Option A) → ((a b c : A) → cmp a b ≡ Equal → Bounds a c → Bounds b c) → SameAnswer cmp x y → IsExtremeOf cmp Bounds xs x → IsExtremeOf cmp Bounds xs y
     extreme-tied xs None None other s i = i
-    extreme-tied xs (Some x) (Some y) other s i = record { ties = tie xs i.ties; bounds = all-map (Bounds x) (Bounds y) (λ z b. other x y z s b) xs i.bounds }
-      where
-        tie : (zs : List A) → TiesWithOne cmp zs x → TiesWithOne cmp zs y
-        tie [] t = t
-        tie (z ∷ zs) (inl t) = inl (sym (order.congr x y z s) ∙ t)
-        tie (z ∷ zs) (inr t) = inr (tie zs t)
-    extreme-tied xs None (Some y) other s i = absurd s
-    extreme-tied xs (Some x) None other s i = absurd s
+    extreme-tied xs (Some x) (Some y) other s i = record {
+      ties = by-tie (TiesWithOne cmp xs y) x xs i.ties (all-map _ (λ z. cmp x z ≡ Equal → TiesWithOne cmp xs y) (λ z tie e. tie (sym (order.congr x y z s) ∙ e)) xs (each-ties y xs));
+      bounds = all-map (Bounds x) (Bounds y) (λ z b. other x y z s b) xs i.bounds;
+    }
+    extreme-tied xs x y other s i = absurd s
 
   from-same : (x : A) → Keeps (λ y. IsAtMost cmp x y)
   from-same x y z e h = ap is_gt (sym (alike_right order y z x e)) ∙ h
@@ -253,6 +221,12 @@ module _ {A : Type 0} {cmp : A → A → Ordering} (order : IsTotalOrder cmp) wh
   pub alike-moves : (xs ys : List A) → SameItems cmp (sort cmp xs) (sort cmp ys) → Moves xs ys
   alike-moves xs ys s P keeps a = all-alike P cmp keeps xs ys s a
 
+  -- so it is where bags are alike
+  levels-move : (ms ns : List (Level A)) → AlikeReq cmp (bag_of ms) (bag_of ns) → Moves (items_in ms) (items_in ns)
+  levels-move ms ns alike P keeps a =
+      let item : Level A → List A = λ level. level.items in
+      all-flat P item ns (all-alike-levels P cmp keeps (map item ms) (map item ns) alike.levels (all-by-level P item ms a))
+
   pub holds-tied : (a b c d : Option A) → SameAnswer cmp a b → SameAnswer cmp c d → (x : A) → Holds a c x → Holds b d x
   holds-tied None b c d s t x h = absurd h.0
   holds-tied (Some l) None c d s t x h = absurd s
@@ -269,14 +243,18 @@ module _ {A : Type 0} {cmp : A → A → Ordering} (order : IsTotalOrder cmp) wh
   -- levels of the same layouts are as new
   pub news : (ls ms : List (Level A)) → layouts_of ms ≡ layouts_of ls → AllByRecursion IsNew ls → AllByRecursion IsNew ms
   news [] [] e n = tt
-  news [] (m ∷ ms) e n = let z = ap length e in absurd (omega (arith, z))
-  news (l ∷ ls) [] e n = let z = ap length e in absurd (omega (arith, z))
   news (l ∷ ls) (m ∷ ms) e n =
-      let first : Layout = layout_of l in
       let head = ap (λ (xs : List Layout). layout_at xs 0) e in
       ((ap (λ (x : Layout). x.state) head ∙ n.0.0, ap (λ (x : Layout). x.doublings) head ∙ n.0.1), news ls ms (ap (λ (xs : List Layout). drop 1 xs) e) n.1)
+  news ls ms e n = absurd cc
 
   module _ {S : Type 0} {bit : S → Bool} {next : S → S} {source after : S} (k : ℕ) (accuracy : RankAccuracy) (ms ns : List (Level A)) (room : AreActed cmp bit next source after k accuracy (room_of k accuracy ms) (room_layouts k (layouts_of ms)) 0 ms ns) where
+    -- what items keep that compare equal holds after actions too
+    pub acted-all : (P : A → Type 0) → Keeps P → AllByRecursion P (items_in ms) → AllByRecursion P (items_in ns)
+    acted-all P keeps a =
+        let item : Level A → List A = λ level. level.items in
+        all-flat P item ns (all-alike-levels P cmp keeps _ (map item ns) room.bag.levels (room-all P k accuracy (layouts_of ms) _ (alone (bag_of ms)) (all-by-level P item ms a)))
+
     -- where one level is left, one stood before
     pub one-before : 0 < length ms → length ns ≡ 1 → length ms ≡ 1
     one-before some one =
@@ -288,8 +266,9 @@ module _ {A : Type 0} {cmp : A → A → Ordering} (order : IsTotalOrder cmp) wh
     pub small-acted : (n : ℕ) (least greatest : Option A) → 0 < length ms → length ns ≡ 1 → IsLeastOf cmp (items_in ms) least → IsGreatestOf cmp (items_in ms) greatest → (n ≤ 4 → AllByRecursion IsNew ms) → IsSmall cmp (sketch_of k accuracy n ns least greatest)
     small-acted n least greatest some one l g new =
         let full = one-left k (layouts_of ms) (omega (arith, some, length-layouts ms)) (sym (ap length room.layouts_are) ∙ (length-layouts ns ∙ one)) in
-        let to : Moves (items_in ms) (items_in ns) = acted-all k accuracy ms ns room in
-        let from : Moves (items_in ns) (items_in ms) = acted-back k accuracy ms ns room full in
+        let alike = rw full at room.bag in
+        let to = levels-move ms ns alike in
+        let from = levels-move ns ms (alike-sym order (bag_of ms) (bag_of ns) alike) in
         let same : layouts_of ns ≡ layouts_of ms = room.layouts_are ∙ ap (λ (b : Bool). if b then walk_layouts k (layouts_of ms) else layouts_of ms) full in
         record {
           least_is = least-moved (items_in ms) (items_in ns) to from least least (SameAnswer-itself order least) l;

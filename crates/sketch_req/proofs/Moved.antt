@@ -70,9 +70,7 @@ moved-around {A} coin part below rest rest' old new upper one two above = record
     sorted : (below : List (Level A)) (h : ℕ) (none : Level A) → (h ≡ length below) ⊎ (h ≡ suc (length below)) → (get_or (below ++ new ∷ upper ∷ rest') h none).is_sorted ≡ true
     sorted [] zero none e = one
     sorted [] (suc zero) none e = two
-    sorted [] (suc (suc i)) none (inl q) = absurd (omega (arith, q))
-    sorted [] (suc (suc i)) none (inr q) = absurd (omega (arith, q))
-    sorted (x ∷ below) zero none (inl q) = absurd (omega (arith, q))
-    sorted (x ∷ below) zero none (inr q) = absurd (omega (arith, q))
     sorted (x ∷ below) (suc h) none (inl q) = sorted below h none (inl (omega (arith, q)))
     sorted (x ∷ below) (suc h) none (inr q) = sorted below h none (inr (omega (arith, q)))
+    sorted below h none (inl q) = absurd (omega (arith, q))
+    sorted below h none (inr q) = absurd (omega (arith, q))

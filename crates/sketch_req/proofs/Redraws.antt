@@ -1,7 +1,9 @@
 -- Coins of levels that are drawn anew, level by level.
-use Rattle.std.proofs.Common.{◌≡◌, ℕ, zero, suc, ◌+◌, ◌-◌, ◌<◌, ◌≤◌, Bool, true, false, cond, if◌then◌else◌, List, [], ◌∷◌, ◌++◌, length, map, flat_map, take, drop, get_or, set, refl, sym, ap, ap₂, ◌∙◌, subst, arith, append_assoc, append-nil, Ordering}
+use Rattle.std.proofs.Common.{inl, inr, ◌≡◌, ℕ, zero, suc, ◌+◌, ◌-◌, ◌<◌, ◌≤◌, Bool, true, false, cond, if◌then◌else◌, List, [], ◌∷◌, ◌++◌, length, map, flat_map, take, drop, get_or, set, refl, sym, ap, ◌∙◌, subst, arith, append_assoc, Ordering}
 use Rattle.std.specs.Cmp.{IsTotalOrder}
-use Rattle.std.proofs.lemmas.List.{drop-set-lt, drop_all, drop_more, take_all, take_more_set}
+use Rattle.std.proofs.lemmas.Bool.{cases_Bool}
+use Rattle.std.proofs.lemmas.List.{drop-set-lt, drop_more, take_more_set}
+use Rattle.std.proofs.lemmas.List.Folds.{flat_map-map}
 use Rattle.std.proofs.lemmas.List.Sums.{sum_by-cons}
 use Rattle.sketch_base.specs.Bag.{Bag, AlikeReq}
 use Rattle.sketch_base.specs.Random.{bits_from, after_draws}
@@ -20,7 +22,7 @@ use Rattle.sketch_req.proofs.Bags.{AlikeLevels, levels-refl}
 use Rattle.sketch_req.proofs.Walks.{acted-start}
 
 -- one level more
-pub turning-first : {A : Type 0} (x : Level A) (rest : List (Level A)) → turning_levels (layouts_of (x ∷ rest)) ≡ cond (turns_coin x.state) 1 0 + turning_levels (layouts_of rest)
+turning-first : {A : Type 0} (x : Level A) (rest : List (Level A)) → turning_levels (layouts_of (x ∷ rest)) ≡ cond (turns_coin x.state) 1 0 + turning_levels (layouts_of rest)
 turning-first x rest = sum_by-cons (λ (l : Layout). cond (turns_coin l.state) 1 0) (layout_of x) (layouts_of rest)
 
 module _ {A S : Type 0} (bit : S → Bool) (next : S → S) where
@@ -37,22 +39,16 @@ module _ {A S : Type 0} (bit : S → Bool) (next : S → S) where
 
   redrawn-next : (source : S) (n m : ℕ) (x : Level A) (rest : List (Level A)) → n ≡ cond (turns_coin x.state) 1 0 + m →
       redrawn (bits_from bit next source n) (x ∷ rest) ≡ redrawn_level x (bit source) ∷ redrawn (bits_from bit next (source_past source x) m) rest
-  redrawn-next source n m x rest e = go (turns_coin x.state) n refl e
-    where
-      all : Bool → List Bool → List (Level A)
-      all b word = let l : Level A = record x { coin = if b then next_bit word else x.coin } in l ∷ redrawn (if b then drop 1 word else word) rest
+  redrawn-next source n m x rest e =
+      elim (cases_Bool (turns_coin x.state)) [
+        | inl turns ↦ let one = rw turns at e in let more : n ≡ suc m = omega (arith, one) in rw (turns, more) refl
+        | inr stays ↦ let none = rw stays at e in let same : n ≡ m = omega (arith, none) in rw (stays, same) refl
+      ]
 
-      one : Bool → List (Level A)
-      one b = let l : Level A = record x { coin = if b then bit source else x.coin } in l ∷ redrawn (bits_from bit next (if b then next source else source) m) rest
-
-      go : (b : Bool) (n : ℕ) → turns_coin x.state ≡ b → n ≡ cond b 1 0 + m → all (turns_coin x.state) (bits_from bit next source n) ≡ one (turns_coin x.state)
-      go true n t q = let z : n ≡ suc m = omega (arith, q) in ap₂ (λ (b : Bool) (i : ℕ). all b (bits_from bit next source i)) t z ∙ sym (ap one t)
-      go false n t q = let z : n ≡ m = omega (arith, q) in ap₂ (λ (b : Bool) (i : ℕ). all b (bits_from bit next source i)) t z ∙ sym (ap one t)
-
-  pub redrawn-first : (source : S) (x : Level A) (rest : List (Level A)) → redrawn_by source (x ∷ rest) ≡ redrawn_level x (bit source) ∷ redrawn_by (source_past source x) rest
+  redrawn-first : (source : S) (x : Level A) (rest : List (Level A)) → redrawn_by source (x ∷ rest) ≡ redrawn_level x (bit source) ∷ redrawn_by (source_past source x) rest
   redrawn-first source x rest = redrawn-next source (turning_levels (layouts_of (x ∷ rest))) (turning_levels (layouts_of rest)) x rest (turning-first x rest)
 
-  pub source-first : (source : S) (x : Level A) (rest : List (Level A)) → source_by source (x ∷ rest) ≡ source_by (source_past source x) rest
+  source-first : (source : S) (x : Level A) (rest : List (Level A)) → source_by source (x ∷ rest) ≡ source_by (source_past source x) rest
   source-first source x rest = ap (after_draws next source) (turning-first x rest) ∙ go (turns_coin x.state)
     where
       go : (b : Bool) → after_draws next source (cond b 1 0 + turning_levels (layouts_of rest)) ≡ source_by (if b then next source else source) rest
@@ -79,17 +75,9 @@ module _ {A S : Type 0} (bit : S → Bool) (next : S → S) where
       let rest : List (Level A) = drop (i + 1) ls in
       let left : drop i ls ≡ x ∷ rest = drop_more ls i x h ∙ ap (λ (l : Level A). l ∷ rest) (sym e) in
       let up : i < i + 1 = omega arith in
-      let after : drop (i + 1) (set ls i y) ≡ rest = drop-set-lt (i + 1) ls i y up in (
-        ap₂ (λ (a b : List (Level A)). a ++ redrawn_by (source_past source x) b) (take_more_set ls i y h) after
-            ∙ (append_assoc (take i ls) (y ∷ []) (redrawn_by (source_past source x) rest)
-            ∙ (ap (λ l. take i ls ++ l) (sym (redrawn-first source x rest)) ∙ ap (λ (l : List (Level A)). take i ls ++ redrawn_by source l) (sym left))),
-        ap (source_by (source_past source x)) after ∙ (sym (source-first source x rest) ∙ ap (source_by source) (sym left)),
-      )
-
-  pub redrawn-all : (source : S) (i : ℕ) (ls : List (Level A)) → length ls ≤ i → (drawn_so_far source i ls ≡ ls) × (source_by source (drop i ls) ≡ source)
-  redrawn-all source i ls h =
-      let none : drop i ls ≡ [] = drop_all i ls h in
-      (ap₂ (λ (a b : List (Level A)). a ++ redrawn_by source b) (take_all i ls h) none ∙ append-nil ls, ap (source_by source) none)
+      let after : drop (i + 1) (set ls i y) ≡ rest = drop-set-lt (i + 1) ls i y up in
+      rw (after, left, take_more_set ls i y h, append_assoc (take i ls) (y ∷ []) (redrawn_by (source_past source x) rest))
+      (ap (λ l. take i ls ++ l) (sym (redrawn-first source x rest)), sym (source-first source x rest))
 
 -- ---- what stays
 
@@ -105,53 +93,28 @@ items-redrawn {A} word (x ∷ rest) = ap (λ (l : List (List A)). x.items ∷ l)
 
 -- all items, level by level
 pub flat-items : {A : Type 0} (ls : List (Level A)) → items_in ls ≡ flat_map (λ xs. xs) (map (λ level. level.items) ls)
-flat-items [] = refl
-flat-items (x ∷ rest) = ap (λ xs. x.items ++ xs) (flat-items rest)
+flat-items {A} ls = sym (flat_map-map (λ (xs : List A). xs) (λ (level : Level A). level.items) ls)
 
 -- and the places
 pub placed-redrawn : {A : Type 0} (cmp : A → A → Ordering) (k : ℕ) (accuracy : RankAccuracy) (h : ℕ) (word : List Bool) (ls : List (Level A)) → AreLevels cmp k accuracy h ls → AreLevels cmp k accuracy h (redrawn word ls)
 placed-redrawn cmp k accuracy h word [] a = tt
 placed-redrawn cmp k accuracy h word (x ∷ rest) a =
-    let s = a.0.sound in (
-      record {
-        sound = record {
-          legal_k = s.legal_k;
-          state_fits = s.state_fits;
-          few_doublings = s.few_doublings;
-          reached = s.reached;
-          size_at_least = s.size_at_least;
-          weight_fits = s.weight_fits;
-          few_items = s.few_items;
-          in_order = s.in_order;
-        };
-        k_is = a.0.k_is;
-        accuracy_is = a.0.accuracy_is;
-        place_is = a.0.place_is;
-        marked = a.0.marked;
-      },
-      placed-redrawn cmp k accuracy (suc h) (if turns_coin x.state then drop 1 word else word) rest a.1,
-    )
+    (let first = a.0 in assumption, placed-redrawn cmp k accuracy (suc h) (if turns_coin x.state then drop 1 word else word) rest a.1)
 
 -- ---- the actions
 
 -- as many coins as levels at an odd state
 pub redraws-draw : (A : Type 0) (h : ℕ) (ls : List Layout) → draws_of (redraws_from {A = A} h ls) ≡ turning_levels ls
 redraws-draw A h [] = refl
-redraws-draw A h (l ∷ ls) = go (turns_coin l.state) refl (redraws-draw A (suc h) ls)
-  where
-    first : turning_levels (l ∷ ls) ≡ cond (turns_coin l.state) 1 0 + turning_levels ls
-    first = sum_by-cons (λ (l : Layout). cond (turns_coin l.state) 1 0) l ls
-
-    all : Bool → List (Action A)
-    all b = (if b then Redraw h ∷ [] else []) ++ redraws_from (suc h) ls
-
-    go : (b : Bool) → turns_coin l.state ≡ b → draws_of (redraws_from {A = A} (suc h) ls) ≡ turning_levels ls → draws_of (all (turns_coin l.state)) ≡ turning_levels (l ∷ ls)
-    go true e r =
-        let n = ap {B = ℕ} (λ (b : Bool). cond b 1 0) e in
-        ap (λ (b : Bool). draws_of (all b)) e ∙ omega (arith, sum_by-cons (λ (a : Action A). cond (draws a) 1 0) (Redraw h) (redraws_from (suc h) ls), r, first, n)
-    go false e r =
-        let n = ap {B = ℕ} (λ (b : Bool). cond b 1 0) e in
-        ap (λ (b : Bool). draws_of (all b)) e ∙ omega (arith, r, first, n)
+redraws-draw A h (l ∷ ls) =
+    let first = sum_by-cons (λ (l : Layout). cond (turns_coin l.state) 1 0) l ls in
+    let rest = redraws-draw A (suc h) ls in
+    elim (cases_Bool (turns_coin l.state)) [
+      | inl turns ↦
+          let one = rw turns at first in
+          rw turns (omega (arith, sum_by-cons (λ (a : Action A). cond (draws a) 1 0) (Redraw h) (redraws_from (suc h) ls), rest, one))
+      | inr stays ↦ let none = rw stays at first in rw stays (omega (arith, rest, none))
+    ]
 
 -- they leave the scratch alone
 pub own-redraws : (A : Type 0) (h : ℕ) (ls : List Layout) → AreOwn {A = A} (redraws_from h ls)
@@ -184,35 +147,30 @@ kept-all h f y rest here above (suc i) = let e : h + suc i ≡ suc h + i = omega
 redraws-keep : {A : Type 0} (cmp : A → A → Ordering) (h : ℕ) (word : List Bool) (ls : List (Level A)) (work : Work (Bag A)) → ((i : ℕ) → work.bag.kept (h + i) ≡ coins_of ls i) →
     IsKept h (redrawn word ls) work.bag (acts cmp (redraws_from h (layouts_of ls)) word work).bag
 redraws-keep cmp h word [] work kept = record { levels = refl; kept = kept; below = λ i l. refl }
-redraws-keep {A} cmp h word (x ∷ rest) work kept = go (turns_coin x.state) (λ word work. redraws-keep cmp (suc h) word rest work)
-  where
-    up : (i : ℕ) → suc h + i ≡ h + suc i
-    up i = omega arith
-
-    above : (i : ℕ) → work.bag.kept (suc h + i) ≡ coins_of rest i
-    above i = ap (λ (j : ℕ). work.bag.kept j) (up i) ∙ kept (suc i)
-
-    go : (b : Bool) →
-        ((word : List Bool) (work : Work (Bag A)) → ((i : ℕ) → work.bag.kept (suc h + i) ≡ coins_of rest i) → IsKept (suc h) (redrawn word rest) work.bag (acts cmp (redraws_from (suc h) (layouts_of rest)) word work).bag) →
-        let y : Level A = record x { coin = if b then next_bit word else x.coin } in
-        IsKept h (y ∷ redrawn (if b then drop 1 word else word) rest) work.bag (acts cmp ((if b then Redraw h ∷ [] else []) ++ redraws_from (suc h) (layouts_of rest)) word work).bag
-    go true more =
-        let v : Bool = next_bit word in
-        let f : ℕ → Bool = work.bag.kept in
-        let r = more (drop 1 word) (act cmp (Redraw h) v work) (λ i. changed-other f h v (suc h + i) (λ e. absurd (omega (arith, e))) ∙ above i) in
-        record {
-          levels = r.levels;
-          kept = kept-all h (acts cmp (redraws_from (suc h) (layouts_of rest)) (drop 1 word) (act cmp (Redraw h) v work)).bag.kept (record x { coin = v }) (redrawn (drop 1 word) rest) (r.below h (omega arith) ∙ changed-there f h v) r.kept;
-          below = λ i l. r.below i (omega (arith, l)) ∙ changed-other f h v i (λ e. absurd (omega (arith, e, l)));
-        }
-    go false more =
-        let r = more word work above in
-        let here : h ≡ h + 0 = omega arith in
-        record {
-          levels = r.levels;
-          kept = kept-all h (acts cmp (redraws_from (suc h) (layouts_of rest)) word work).bag.kept x (redrawn word rest) (r.below h (omega arith) ∙ (ap (λ (j : ℕ). work.bag.kept j) here ∙ kept 0)) r.kept;
-          below = λ i l. r.below i (omega (arith, l));
-        }
+redraws-keep {A} cmp h word (x ∷ rest) work kept =
+    let old : ℕ → Bool = work.bag.kept in
+    let up : (i : ℕ) → suc h + i ≡ h + suc i = λ i. omega arith in
+    let above : (i : ℕ) → old (suc h + i) ≡ coins_of rest i = λ i. ap old (up i) ∙ kept (suc i) in
+    elim (cases_Bool (turns_coin x.state)) [
+      | inl turns ↦
+          let bit : Bool = next_bit word in
+          let drawn : Work (Bag A) = act cmp (Redraw h) bit work in
+          let r = redraws-keep cmp (suc h) (drop 1 word) rest drawn (λ i. changed-other old h bit (suc h + i) (λ e. absurd (omega (arith, e))) ∙ above i) in
+          let here = r.below h (omega arith) ∙ changed-there old h bit in
+          rw turns (record {
+            levels = r.levels;
+            kept = kept-all h (acts cmp (redraws_from (suc h) (layouts_of rest)) (drop 1 word) drawn).bag.kept (record x { coin = bit }) (redrawn (drop 1 word) rest) here r.kept;
+            below = λ i l. r.below i (omega (arith, l)) ∙ changed-other old h bit i (λ e. absurd (omega (arith, e, l)));
+          })
+      | inr stays ↦
+          let r = redraws-keep cmp (suc h) word rest work above in
+          let here : h ≡ h + 0 = omega arith in
+          rw stays (record {
+            levels = r.levels;
+            kept = kept-all h (acts cmp (redraws_from (suc h) (layouts_of rest)) word work).bag.kept x (redrawn word rest) (r.below h (omega arith) ∙ (ap old here ∙ kept 0)) r.kept;
+            below = λ i l. r.below i (omega (arith, l));
+          })
+    ]
 
 module _ {A : Type 0} {cmp : A → A → Ordering} (order : IsTotalOrder cmp) where
   -- the actions make of a bag what is made of the levels
@@ -226,7 +184,7 @@ module _ {A : Type 0} {cmp : A → A → Ordering} (order : IsTotalOrder cmp) wh
         kept = λ i. let e : i ≡ 0 + i = omega arith in ap new.kept e ∙ r.kept i;
       }
 
-  pub acted-redrawn : {S : Type 0} (bit : S → Bool) (next : S → S) (source : S) (k : ℕ) (accuracy : RankAccuracy) (ls : List (Level A)) → AreLevels cmp k accuracy 0 ls →
+  acted-redrawn : {S : Type 0} (bit : S → Bool) (next : S → S) (source : S) (k : ℕ) (accuracy : RankAccuracy) (ls : List (Level A)) → AreLevels cmp k accuracy 0 ls →
       AreActed cmp bit next source (source_by bit next source ls) k accuracy (redraw_actions (layouts_of ls)) (layouts_of ls) 0 ls (redrawn_by bit next source ls)
   acted-redrawn bit next source k accuracy ls a =
       let n = redraws-draw A 0 (layouts_of ls) in

@@ -1,11 +1,12 @@
 -- The weighted items of a sketch's levels, clones of them, and the view that they make.
-use Rattle.std.proofs.Common.{◌≡◌, ℕ, zero, suc, ◌+◌, ◌^◌, ◌<◌, ◌≤◌, List, [], ◌∷◌, ◌++◌, length, map, take, replicate, flat_map, get_or, sum_by, refl, sym, ap, ap₂, ◌∙◌, subst, append_assoc, arith, Result, Ordering, Equal}
+use Rattle.std.proofs.Common.{◌≡◌, ℕ, suc, ◌+◌, ◌^◌, ◌<◌, ◌≤◌, List, [], ◌∷◌, ◌++◌, length, map, take, replicate, flat_map, get_or, sum_by, refl, sym, ap, ap₂, ◌∙◌, subst, arith, Result, Ordering, Equal}
 use Rattle.std.specs.Prelude.{Option, None, Some, IfOk, IsSome}
 use Rattle.std.specs.Cmp.{IsTotalOrder}
 use Rattle.std.specs.List.{All, AllByRecursion}
-use Rattle.std.proofs.lemmas.Bool.{false≢true}
 use Rattle.std.proofs.lemmas.List.{take_more}
-use Rattle.std.proofs.lemmas.List.Elements.{AllZip-push}
+use Rattle.std.proofs.lemmas.List.Concat.{flat_map-append}
+use Rattle.std.proofs.lemmas.List.Folds.{flat_map-map}
+use Rattle.std.proofs.lemmas.List.Elements.{All-from_recursion, AllZip-push}
 use Rattle.std.proofs.lemmas.List.Sums.{sum_by-cons}
 use Rattle.std.proofs.lemmas.Nat.{pow_pos}
 use Rattle.sketch_base.specs.Bag.{SameItems, expanded, repeated, sort}
@@ -24,6 +25,7 @@ use Rattle.sketch_req.specs.Views.{SamePairs}
 use Rattle.sketch_req.specs.Sketch.{Req, IsSound}
 use Rattle.sketch_req.specs.Walk.{AreLevels}
 use Rattle.sketch_req.specs.declared.RankAccuracy.{RankAccuracy}
+use Rattle.sketch_req.proofs.Copies.{there-alike}
 use Rattle.sketch_req.proofs.Pairs.{weigh-pairs}
 use Rattle.sketch_req.proofs.Ranks.{weight_is}
 
@@ -37,19 +39,13 @@ pairs-more {A} cmp all i p y old new l at same pushed h =
     (AllZip-push (λ p q. (cmp p.0 q.0 ≡ Equal) × (q.1 ≡ p.1)) (take i all) old p (y, p.1) h (same, refl)))
 
 -- what the weighted items of the levels stand for is what the levels do
-copies-append : {A : Type 0} (ps qs : List (A × ℕ)) → copies (ps ++ qs) ≡ copies ps ++ copies qs
-copies-append [] qs = refl
-copies-append (p ∷ ps) qs = ap (λ l. replicate p.1 p.0 ++ l) (copies-append ps qs) ∙ sym (append_assoc (replicate p.1 p.0) (copies ps) (copies qs))
-
-copies-weighed : {A : Type 0} (w : ℕ) (xs : List A) → copies (weighed w xs) ≡ flat_map (λ x. replicate w x) xs
-copies-weighed w [] = refl
-copies-weighed w (x ∷ xs) = ap (λ l. replicate w x ++ l) (copies-weighed w xs)
-
 copies-pairs : {A : Type 0} (cmp : A → A → Ordering) (k : ℕ) (accuracy : RankAccuracy) (h : ℕ) (ls : List (Level A)) → AreLevels cmp k accuracy h ls → copies (pairs_of ls) ≡ repeated h (map (λ level. level.items) ls)
 copies-pairs cmp k accuracy h [] are = refl
 copies-pairs {A} cmp k accuracy h (l ∷ ls) are =
-    copies-append (weighed (2 ^ l.lg_weight) l.items) (pairs_of ls) ∙
-    ap₂ (λ (xs ys : List A). xs ++ ys) (copies-weighed (2 ^ l.lg_weight) l.items ∙ ap (λ i. flat_map (λ x. replicate (2 ^ i) x) l.items) are.0.place_is) (copies-pairs cmp k accuracy (suc h) ls are.1)
+    flat_map-append (λ (pair : A × ℕ). replicate pair.1 pair.0) (weighed (2 ^ l.lg_weight) l.items) (pairs_of ls) ∙
+    ap₂ (λ (xs ys : List A). xs ++ ys)
+    (flat_map-map (λ (pair : A × ℕ). replicate pair.1 pair.0) (λ (x : A). (x, 2 ^ l.lg_weight)) l.items
+    ∙ ap (λ i. flat_map (λ x. replicate (2 ^ i) x) l.items) are.0.place_is) (copies-pairs cmp k accuracy (suc h) ls are.1)
 
 module _ {A : Type 0} where
   -- each weighs something
@@ -64,17 +60,6 @@ module _ {A : Type 0} where
   pairs-weigh [] = tt
   pairs-weigh (l ∷ ls) = weighed-weigh (2 ^ l.lg_weight) l.items (pairs_of ls) (pow_pos l.lg_weight) (pairs-weigh ls)
 
-  all-with : (p : A × ℕ) (ps : List (A × ℕ)) → 0 < p.1 → All (λ (pair : A × ℕ). 0 < pair.1) ps → All (λ (pair : A × ℕ). 0 < pair.1) (p ∷ ps)
-  all-with p ps positive h = λ k. go k
-    where
-      go : (k : ℕ) (d : A × ℕ) → k < length (p ∷ ps) → 0 < (get_or (p ∷ ps) k d).1
-      go zero d l = positive
-      go (suc k) d l = h k d (omega arith)
-
-  all-places : (pairs : List (A × ℕ)) → HaveWeight pairs → All (λ (pair : A × ℕ). 0 < pair.1) pairs
-  all-places [] h = λ k d l. absurd (omega arith)
-  all-places (p ∷ ps) h = all-with p ps h.0 (all-places ps h.1)
-
   weigh-enough : (pairs : List (A × ℕ)) → HaveWeight pairs → length pairs ≤ sum_by (λ (pair : A × ℕ). pair.1) pairs
   weigh-enough [] h = omega arith
   weigh-enough (p ∷ ps) h = let one = h.0 in omega (arith, sum_by-cons (λ (pair : A × ℕ). pair.1) p ps, weigh-enough ps h.1, one)
@@ -87,32 +72,24 @@ module _ {A : Type 0} {cmp : A → A → Ordering} (order : IsTotalOrder cmp) wh
   -- clones weigh and count the same
   clones-weigh : (ps qs : List (A × ℕ)) → SamePairs cmp ps qs → HaveWeight ps → HaveWeight qs
   clones-weigh [] [] s h = tt
-  clones-weigh [] (q ∷ qs) s h = absurd s
-  clones-weigh (p ∷ ps) [] s h = absurd s
   clones-weigh (p ∷ ps) (q ∷ qs) s h = (subst (λ n. 0 < n) (sym s.0.1) h.0, clones-weigh ps qs s.1 h.1)
+  clones-weigh ps qs s h = absurd s
 
   sum-clones : (ps qs : List (A × ℕ)) → SamePairs cmp ps qs → sum_by (λ (pair : A × ℕ). pair.1) qs ≡ sum_by (λ (pair : A × ℕ). pair.1) ps
   sum-clones [] [] s = refl
-  sum-clones [] (q ∷ qs) s = absurd s
-  sum-clones (p ∷ ps) [] s = absurd s
   sum-clones (p ∷ ps) (q ∷ qs) s = let e = s.0.1 in omega (arith, sum_by-cons (λ (pair : A × ℕ). pair.1) p ps, sum_by-cons (λ (pair : A × ℕ). pair.1) q qs, e, sum-clones ps qs s.1)
+  sum-clones ps qs s = absurd s
 
   copies-clones : (ps qs : List (A × ℕ)) → SamePairs cmp ps qs → SameItems cmp (copies ps) (copies qs)
   copies-clones [] [] s = tt
-  copies-clones [] (q ∷ qs) s = absurd s
-  copies-clones (p ∷ ps) [] s = absurd s
   copies-clones (p ∷ ps) (q ∷ qs) s =
       subst (λ n. SameItems cmp (replicate p.1 p.0 ++ copies ps) (replicate n q.0 ++ copies qs)) (sym s.0.1) (same-copies order p.1 p.0 q.0 (copies ps) (copies qs) s.0.0 (copies-clones ps qs s.1))
-
-  same-there : (x y : Option A) → SameAnswer cmp x y → IsSome x → IsSome y
-  same-there None y s h = absurd (false≢true h)
-  same-there (Some x) None s h = absurd s
-  same-there (Some x) (Some y) s h = refl
+  copies-clones ps qs s = absurd s
 
   module _ (s : Req A) (pairs : List (A × ℕ)) (sound : IsSound cmp s) (same : SamePairs cmp (pairs_of s.levels) pairs) where
     -- each clone weighs something
     pub clones-all_weigh : All (λ (pair : A × ℕ). 0 < pair.1) pairs
-    clones-all_weigh = all-places pairs (clones-weigh (pairs_of s.levels) pairs same (pairs-weigh s.levels))
+    clones-all_weigh = All-from_recursion (λ (pair : A × ℕ). 0 < pair.1) pairs (clones-weigh (pairs_of s.levels) pairs same (pairs-weigh s.levels))
 
     -- they weigh n together
     pub clones-weigh_n : sum_by (λ (pair : A × ℕ). pair.1) pairs ≡ s.n
@@ -121,7 +98,7 @@ module _ {A : Type 0} {cmp : A → A → Ordering} (order : IsTotalOrder cmp) wh
     -- an extreme is there where a clone is
     pub clones-there : (extreme found : Option A) → IsThere extreme s.n → SameAnswer cmp extreme found → 0 < length pairs → IsSome found
     clones-there extreme found there e l =
-        same-there extreme found e (some-there extreme s.n there (omega (arith, l, weigh-enough pairs (clones-weigh (pairs_of s.levels) pairs same (pairs-weigh s.levels)), clones-weigh_n)))
+        some-there found s.n (there-alike order extreme found s.n e there) (omega (arith, l, weigh-enough pairs (clones-weigh (pairs_of s.levels) pairs same (pairs-weigh s.levels)), clones-weigh_n))
 
     among : (ps : List (A × ℕ)) (extreme found : Option A) → sum_by (λ (pair : A × ℕ). pair.1) ps ≡ s.n → IsThere extreme s.n → SameAnswer cmp extreme found → SameAnswer cmp extreme (extreme_among ps found)
     among [] None found e there a = tt

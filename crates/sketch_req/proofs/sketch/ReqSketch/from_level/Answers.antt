@@ -1,5 +1,4 @@
 use Rattle.std.proofs.Common.{◌≡◌, ◌∙◌, refl, sym, ap, subst, List, Some}
-use Rattle.std.proofs.lemmas.Cmp.{tied_back}
 use Rattle.sketch_base.specs.Extremes.{IsExtreme, IsAtMost}
 use Rattle.sketch_req.specs.Sketch.{Req, sketch_of}
 use Rattle.sketch_req.specs.Image.{accuracy_in, IsTold}
@@ -25,7 +24,7 @@ module _ (g : Over) (c : After-new-levels g) where
       let high = subst (λ (l : List g.row.T.Denot). IsExtreme cmp (λ x y. IsAtMost cmp y x) l y) c.items_slice-2.ensures.value c.greatest_of.ensures in
       rebuilt o sketch c.args.level x c.in_ok-least.least y c.in_ok-greatest.greatest c.in_ok-vec.ensures.items refl refl
       c.requires.legal c.requires.placed c.num_items-n.ensures c.requires.some c.requires.fresh
-      low (tied_back o _ _ (c.requires.clones _ _ c.in_ok-least.ensures.cases)) high (tied_back o _ _ (c.requires.clones _ _ c.in_ok-greatest.ensures.cases))
+      low (c.requires.clones _ _ c.in_ok-least.ensures.cases) high (c.requires.clones _ _ c.in_ok-greatest.ensures.cases)
 
 pub from_levels-requires : goal.from_levels-requires
 from_levels-requires g c =

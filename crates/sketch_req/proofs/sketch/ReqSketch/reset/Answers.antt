@@ -1,4 +1,4 @@
-use Rattle.std.proofs.Common.{rules, arith, ◌∷◌, [], refl, true, ℕ, Ordering, None}
+use Rattle.std.proofs.Common.{rules, ◌∷◌, [], true, ℕ, Ordering, None}
 use Rattle.sketch_req.specs.Level.{fresh}
 use Rattle.sketch_req.specs.Sections.{IsLegalK}
 use Rattle.sketch_req.specs.Sketch.{IsSound, sketch_of}
@@ -8,20 +8,7 @@ use Rattle.sketch_req.proofs.sketch.ReqSketch.reset.Goals as goal
 
 -- one empty level
 sound-first : {A : Type 0} (cmp : A → A → Ordering) (k : ℕ) (accuracy : RankAccuracy) → IsLegalK k → IsSound cmp (sketch_of k accuracy 0 (fresh [] true 0 k accuracy ∷ []) None None)
-sound-first cmp k accuracy legal = record {
-  legal_k = legal;
-  has_level = omega arith;
-  has_few_levels = omega arith;
-  placed = first-levels cmp k accuracy legal;
-  weighs_n = refl;
-  n_fits = omega arith;
-  few_items = omega arith;
-  least_there = search rules;
-  greatest_there = search rules;
-  empty_at_first = λ e. refl;
-  ends = λ some. absurd (omega (arith, some));
-  one_level = search rules;
-}
+sound-first cmp k accuracy legal = let placed = first-levels cmp k accuracy legal in search rules
 
 pub invariant_of-self : goal.invariant_of-self
 invariant_of-self g c = rw c.clear.ensures (sound-first g.T.Ord.cmp _ _ c.self.invariant.legal_k)

@@ -5,7 +5,8 @@ use Rattle.sketch_req.specs.Schedule.{Layout, layouts_of, joined_layouts, retain
 use Rattle.sketch_req.specs.Walk.{AreLevels, HaveSpace, accuracy_of, k_of}
 use Rattle.sketch_req.proofs.Held.{IsOwn, own-levels}
 use Rattle.sketch_req.proofs.Layouts.{length-layouts}
-use Rattle.sketch_req.proofs.Mergings.{layouts-joined, weight-joined, retained-joined}
+use Rattle.sketch_req.proofs.Mergings.{layouts-joined}
+use Rattle.sketch_req.proofs.WalkCapacities.{weight-joined, retained-joined}
 use Rattle.sketch_req.proofs.Redraws.{layouts-ready, placed-ready}
 use Rattle.sketch_req.proofs.sketch.levels.joining.join_and_walk.Given.{Over}
 use Rattle.sketch_req.proofs.sketch.levels.joining.join_and_walk.Goals.{After-redraw_if}

@@ -1,3 +1,4 @@
+use Rattle.sketch_req.proofs.Held.{own-levels}
 -- The loop keeps that the levels below are joined, and that there are clones and room for the others.
 use Rattle.std.proofs.Common.{ℕ, true, [], length-set, ap, sym, ◌∙◌, refl, subst, arith}
 use Rattle.std.proofs.Math.Seq.{map-set_same}
@@ -7,12 +8,12 @@ use Rattle.sketch_req.specs.Merged.{IsCopied}
 use Rattle.sketch_req.specs.Sections.{IsLegalK}
 use Rattle.sketch_req.specs.Walk.{IsPlaced, accuracy_of, k_of}
 use Rattle.sketch_req.specs.declared.RankAccuracy.{RankAccuracy}
-use Rattle.sketch_req.proofs.ClonedBuffers.{IsReady, cloned-above, is-ready}
+use Rattle.sketch_req.proofs.ClonedBuffers.{IsReady, cloned-other, is-ready}
 use Rattle.sketch_req.proofs.MergedLevels.{IsAdded, all-joined-to, is-added, joined-none, joined-there, next-copied, next-joined, placed-at-place}
-use Rattle.sketch_req.proofs.WalkSteps.{opened, own-there}
-use Rattle.sketch_req.proofs.UpdatedLevels.{few-placed}
+use Rattle.sketch_req.proofs.WalkSteps.{own-there}
+use Rattle.sketch_req.proofs.Sounds.{few-placed}
 use Rattle.sketch_req.proofs.sketch.levels.joining.join_levels.Given.{Over}
-use Rattle.sketch_req.proofs.sketch.levels.joining.join_levels.Goals.{After-parameters-k, After-add_level, After-index_mut-in-loop-level}
+use Rattle.sketch_req.proofs.sketch.levels.joining.join_levels.Goals.{After-add_level, After-index_mut-in-loop-level}
 use Rattle.sketch_req.proofs.sketch.levels.joining.join_levels.Goals as goal
 
 pub loop-level-init : goal.loop-level-init
@@ -26,11 +27,6 @@ loop-level-init g c =
       promoted_spaces = refl;
     }
 
-legal : (g : Over) (c : After-parameters-k g) → IsLegalK (k_of c.args.levels.now.items)
-legal g c =
-    let here = opened _ _ _ _ _ c.requires.levels.placed c.requires.levels.some c.index.ensures in
-    subst IsLegalK here.placed.k_is here.placed.sound.legal_k
-
 -- the level stands, or was added
 added : (g : Over) (c : After-add_level g) → let ls = c.args.levels.now.items in
     IsAdded c.loop-level.level (fresh [] true c.loop-level.level (k_of ls) (accuracy_of ls)) c.loop-level.levels.items c.add_level.new.levels.items
@@ -42,8 +38,7 @@ added g c =
 
 -- one turn, before the join
 module _ (g : Over) (c : After-index_mut-in-loop-level g) (added : let ls = c.args.levels.now.items in
-    IsAdded c.loop-level.level (fresh [] true c.loop-level.level (k_of ls) (accuracy_of ls)) c.loop-level.levels.items c.add_level.new.levels.items)
-    (legal : IsLegalK (k_of c.args.levels.now.items)) where
+    IsAdded c.loop-level.level (fresh [] true c.loop-level.level (k_of ls) (accuracy_of ls)) c.loop-level.levels.items c.add_level.new.levels.items) where
   abbrev other : Level g.row.T.Denot
   other = c.index-others-level.result
 
@@ -53,6 +48,7 @@ module _ (g : Over) (c : After-index_mut-in-loop-level g) (added : let ls = c.ar
   copied : IsCopied g.T.Ord.cmp (k_of c.args.levels.now.items) (accuracy_of c.args.levels.now.items) c.loop-level.level c.args.levels.now.items c.index_mut.result.now
   copied =
       let low = placed.sound.weight_fits in
+      let legal = (own-levels g.T.Ord.cmp _ _ _ c.requires.levels.some c.requires.levels.placed).legal in
       next-copied g.met.T.Ord.total _ _ _ _ c.requires.levels.placed _ _ _ _ legal (omega (arith, low, placed.place_is))
       c.loop-level.invariant.joined added c.index_mut.ensures.value
 
@@ -65,7 +61,7 @@ module _ (g : Over) (c : After-index_mut-in-loop-level g) (added : let ls = c.ar
 pub add_level-requires-clause-legal : goal.add_level-requires-clause-legal
 add_level-requires-clause-legal g c =
     let own = own-there g.T.Ord.cmp _ _ _ _ _ _ c.requires.levels.placed c.requires.levels.some c.index.ensures c.parameters-k.ensures in
-    subst IsLegalK (sym (ap (λ (p : ℕ × RankAccuracy). p.0) own)) (legal g (goal.at.add_level-requires-clause-legal g c).After-parameters-k)
+    subst IsLegalK (sym (ap (λ (p : ℕ × RankAccuracy). p.0) own)) (own-levels g.T.Ord.cmp _ _ _ c.requires.levels.some c.requires.levels.placed).legal
 
 pub add_level-requires-clause-few : goal.add_level-requires-clause-few
 add_level-requires-clause-few g c =
@@ -84,10 +80,9 @@ join-requires g c =
     let at = goal.at.join-requires g c in
     let before = at.After-index_mut-in-loop-level in
     let new = added g at.After-add_level in
-    let legal = legal g at.After-parameters-k in
-    let ready = ready g before new legal in
+    let ready = ready g before new in
     record {
-      weight = (copied g before new legal).placed.place_is ∙ sym (placed g before new legal).place_is;
+      weight = (copied g before new).placed.place_is ∙ sym (placed g before new).place_is;
       clones = ready.same;
       few = omega (arith, ready.few, c.requires.few);
       space = ready.space;
@@ -99,7 +94,6 @@ loop-level-preserved g c =
     let at = goal.at.loop-level-preserved g c in
     let before = at.After-index_mut-in-loop-level in
     let new = added g at.After-add_level in
-    let legal = legal g at.After-parameters-k in
     let i = c.loop-level.invariant in
     let buffers = c.loop-level.buffers.items in
     let old = c.index_mut-in-loop-level.result.now in
@@ -107,12 +101,12 @@ loop-level-preserved g c =
     let rest = c.join.ensures.rest in
     let value = c.index_mut-in-loop-level.ensures.value in
     let joined = joined-there g.met.T.Ord.total _ (k_of c.args.others.now) _ _ _ _ c.index_mut.result.now _ _
-    (copied g before new legal) c.loop-level-test.true c.index-others-level.is c.join.ensures.ok c.join.ensures.sound in
+    (copied g before new) c.loop-level-test.true c.index-others-level.is c.join.ensures.ok c.join.ensures.sound in
     record {
       joined = next-joined g.met.T.Ord.total _ _ _ _ c.requires.levels.placed _ _ _ _ c.join.new.self i.joined new joined;
       spare = omega (arith, i.spare, c.add_level.ensures.capacity);
       enough = simp length-set i.enough;
-      cloned = λ h l m. cloned-above g.T.Ord.cmp _ _ buffers c.loop-level.level own h (omega (arith, l)) (i.cloned h (omega (arith, l)) m);
+      cloned = λ h l m. cloned-other g.T.Ord.cmp _ _ buffers c.loop-level.level own h (omega (arith, l)) (i.cloned h (omega (arith, l)) m);
       merged_spaces = map-set_same (λ b. b.merged_space) buffers c.loop-level.level own old
           (ap (λ (b : Space g.row.T.Denot). b.merged_space) rest ∙ ap (λ (b : Space g.row.T.Denot). b.merged_space) value) ∙ i.merged_spaces;
       promoted_spaces = map-set_same (λ b. b.promoted_space) buffers c.loop-level.level own old

@@ -8,7 +8,7 @@ use Rattle.sketch_req.proofs.Buffers.{space-more}
 use Rattle.sketch_req.proofs.ClonedBuffers.{cloned-more}
 use Rattle.sketch_req.proofs.MergedLevels.{joined-count}
 use Rattle.sketch_req.proofs.Layouts.{length-layouts}
-use Rattle.sketch_req.proofs.Mergings.{length-joined}
+use Rattle.sketch_req.proofs.WalkCapacities.{length-joined}
 use Rattle.sketch_req.proofs.sketch.levels.joining.reserve_joined.Goals as goal
 
 pub loop-level-init : goal.loop-level-init

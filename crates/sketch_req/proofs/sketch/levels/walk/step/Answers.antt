@@ -1,3 +1,4 @@
+use Rattle.sketch_req.proofs.Held.{own-levels}
 -- The goals are what a step of a walk says of the levels.
 use Rattle.std.proofs.Common.{◌≡◌, ◌∙◌, ℕ, List, set, true, sym, subst, ap, le-leb, arith}
 use Rattle.std.proofs.lemmas.Bool.{lt-leb}
@@ -7,7 +8,7 @@ use Rattle.sketch_req.specs.Schedule.{is_full, layout_at, layouts_of}
 use Rattle.sketch_req.specs.Sections.{IsLegalK}
 use Rattle.sketch_req.specs.Walk.{accuracy_of, k_of}
 use Rattle.sketch_req.specs.declared.RankAccuracy.{RankAccuracy}
-use Rattle.sketch_req.proofs.WalkSteps.{opened, own-there, raised, given-there, comes-up, within-raised, stepped, coins-there}
+use Rattle.sketch_req.proofs.WalkSteps.{own-there, raised, given-there, comes-up, within-raised, stepped, coins-there}
 use Rattle.sketch_req.proofs.Walks.{StepNeeds, acted-full, acted-none, is-full-there, step-needs}
 use Rattle.sketch_req.proofs.sketch.levels.walk.step.Given.{Over}
 use Rattle.sketch_req.proofs.sketch.levels.walk.step.Goals.{After-index_mut, After-add_level}
@@ -30,9 +31,7 @@ module _ (g : Over) (c : After-index_mut g) where
       ∙ le-leb _ _ c.if-num_items-nominal_capacity.false
 
   legal : IsLegalK (k_of ls)
-  legal =
-      let here = opened _ _ _ _ _ c.requires.levels.placed c.requires.within c.index_mut.ensures.value in
-      subst IsLegalK here.placed.k_is here.placed.sound.legal_k
+  legal = (own-levels g.T.Ord.cmp _ _ _ c.requires.levels.some c.requires.levels.placed).legal
 
   needs : StepNeeds (k_of ls) c.args.level c.args.buffers.now.merged_space c.args.buffers.now.promoted_space ls
   needs =

@@ -3,7 +3,7 @@ use Rattle.std.proofs.Common.{◌≡◌, ◌<◌, List, length, length-set, sym,
 use Rattle.sketch_req.specs.Level.{Level}
 use Rattle.sketch_req.specs.Schedule.{layouts_of, steps_actions, steps_layouts}
 use Rattle.sketch_req.specs.Walk.{AreWalked, accuracy_of, k_of}
-use Rattle.sketch_req.proofs.Buffers.{read-above, space-there}
+use Rattle.sketch_req.proofs.Buffers.{read-other, space-there}
 use Rattle.sketch_req.proofs.Held.{IsOwn, own-levels}
 use Rattle.sketch_req.proofs.Layouts.{length-layouts}
 use Rattle.sketch_req.proofs.Walks.{acted-start, walked-more}
@@ -66,8 +66,8 @@ loop-level-preserved g c =
       len = λ h. c.step.ensures.same_len (let n = inside g before in omega (arith, h, n, i.len c.loop-level-test.true, c.loop-level.levels.ok)) ∙ i.len c.loop-level-test.true;
       spare = omega (arith, i.spare, c.step.ensures.capacity);
       as_many = simp length-set i.as_many;
-      merged = λ j h. read-above (λ b. b.merged_space) 0 _ c.loop-level.level c.step.new.buffers j (omega (arith, h)) ∙ i.merged j (omega (arith, h));
-      promoted = λ j h. read-above (λ b. b.promoted_space) 0 _ c.loop-level.level c.step.new.buffers j (omega (arith, h)) ∙ i.promoted j (omega (arith, h));
+      merged = λ j h. read-other (λ b. b.merged_space) 0 _ c.loop-level.level c.step.new.buffers j (omega (arith, h)) ∙ i.merged j (omega (arith, h));
+      promoted = λ j h. read-other (λ b. b.promoted_space) 0 _ c.loop-level.level c.step.new.buffers j (omega (arith, h)) ∙ i.promoted j (omega (arith, h));
     }
 
 pub returns : goal.returns
