@@ -51,8 +51,7 @@ pub SameLevels-put : {A : Type 0} (cmp : A → A → Ordering) → IsTotalOrder 
     SameLevels cmp (put x ls) (put x ms)
 SameLevels-put cmp o x [] [] s = ((tied_itself o x, tt), tt)
 SameLevels-put cmp o x (l ∷ ls) (m ∷ ms) s = (SameItems-append cmp l m (x ∷ []) (x ∷ []) s.0 (tied_itself o x, tt), s.1)
-SameLevels-put cmp o x [] (m ∷ ms) s = absurd s
-SameLevels-put cmp o x (l ∷ ls) [] s = absurd s
+SameLevels-put cmp o x ls ms s = absurd s
 
 -- items put last into the list, and the bound of level 0 moved
 pub put_flat : {A : Type 0} (xs items items' : List A) (bounds : List ℕ) (n : ℕ) → IsFlat items bounds → 0 < length (levels_in items bounds) →
