@@ -59,10 +59,7 @@ pub put_flat : {A : Type 0} (xs items items' : List A) (bounds : List ℕ) (n : 
     IsFlat items' (set bounds 0 n) × (levels_in items' (set bounds 0 n) ≡ put_all xs (levels_in items bounds))
 put_flat {A} xs items items' bounds n f h e m =
     let ls : List (List A) = levels_in items bounds in
-    let r = length-items items bounds f in
-    let a = length-append items xs in
-    let b = ap length e in
-    let k : n ≡ retained ls + length xs = omega (arith, m, b, a, r) in
-    let g1 : items' ≡ flat (put_all xs ls) = e ∙ (ap (λ (i : List A). i ++ xs) (sym f.items_are) ∙ sym (flat-put xs ls)) in
-    let g2 : set bounds 0 n ≡ marks (put_all xs ls) = ap₂ (λ (y : List ℕ) (z : ℕ). set y 0 z) (sym f.bounds_are) k ∙ sym (marks-put xs ls h) in
-    (is_flat items' (set bounds 0 n) (put_all xs ls) g1 g2, levels_of_flat items' (set bounds 0 n) (put_all xs ls) g1 g2)
+    let k : n ≡ retained ls + length xs = omega (arith, m, ap length e, length-append items xs, length-items items bounds f) in
+    let items_are : items' ≡ flat (put_all xs ls) = rw (flat-put xs ls, f.items_are) e in
+    let bounds_are : set bounds 0 n ≡ marks (put_all xs ls) = rw (marks-put xs ls h, f.bounds_are, k) refl in
+    (is_flat items' (set bounds 0 n) (put_all xs ls) items_are bounds_are, levels_of_flat items' (set bounds 0 n) (put_all xs ls) items_are bounds_are)
