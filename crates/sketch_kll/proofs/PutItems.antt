@@ -1,5 +1,5 @@
 -- levels after items are put last into level 0
-use Rattle.std.proofs.Common.{◌≡◌, ℕ, ◌+◌, ◌<◌, List, [], ◌∷◌, ◌++◌, length, set, refl, sym, ap, ap₂, ◌∙◌, arith, Ordering, append_assoc, append-nil, length-append}
+use Rattle.std.proofs.Common.{◌≡◌, ℕ, ◌+◌, ◌<◌, List, [], ◌∷◌, ◌++◌, length, set, refl, sym, ap, arith, Ordering, append_assoc, append-nil, length-append}
 use Rattle.std.specs.Cmp.{IsTotalOrder}
 use Rattle.std.proofs.lemmas.Cmp.{tied_itself}
 use Rattle.sketch_base.proofs.Items.{SameItems-append}
@@ -51,8 +51,7 @@ pub SameLevels-put : {A : Type 0} (cmp : A → A → Ordering) → IsTotalOrder 
     SameLevels cmp (put x ls) (put x ms)
 SameLevels-put cmp o x [] [] s = ((tied_itself o x, tt), tt)
 SameLevels-put cmp o x (l ∷ ls) (m ∷ ms) s = (SameItems-append cmp l m (x ∷ []) (x ∷ []) s.0 (tied_itself o x, tt), s.1)
-SameLevels-put cmp o x [] (m ∷ ms) s = absurd s
-SameLevels-put cmp o x (l ∷ ls) [] s = absurd s
+SameLevels-put cmp o x ls ms s = absurd s
 
 -- items put last into the list, and the bound of level 0 moved
 pub put_flat : {A : Type 0} (xs items items' : List A) (bounds : List ℕ) (n : ℕ) → IsFlat items bounds → 0 < length (levels_in items bounds) →
@@ -60,10 +59,7 @@ pub put_flat : {A : Type 0} (xs items items' : List A) (bounds : List ℕ) (n : 
     IsFlat items' (set bounds 0 n) × (levels_in items' (set bounds 0 n) ≡ put_all xs (levels_in items bounds))
 put_flat {A} xs items items' bounds n f h e m =
     let ls : List (List A) = levels_in items bounds in
-    let r = length-items items bounds f in
-    let a = length-append items xs in
-    let b = ap length e in
-    let k : n ≡ retained ls + length xs = omega (arith, m, b, a, r) in
-    let g1 : items' ≡ flat (put_all xs ls) = e ∙ (ap (λ (i : List A). i ++ xs) (sym f.items_are) ∙ sym (flat-put xs ls)) in
-    let g2 : set bounds 0 n ≡ marks (put_all xs ls) = ap₂ (λ (y : List ℕ) (z : ℕ). set y 0 z) (sym f.bounds_are) k ∙ sym (marks-put xs ls h) in
-    (is_flat items' (set bounds 0 n) (put_all xs ls) g1 g2, levels_of_flat items' (set bounds 0 n) (put_all xs ls) g1 g2)
+    let k : n ≡ retained ls + length xs = omega (arith, m, ap length e, length-append items xs, length-items items bounds f) in
+    let items_are : items' ≡ flat (put_all xs ls) = rw (flat-put xs ls, f.items_are) e in
+    let bounds_are : set bounds 0 n ≡ marks (put_all xs ls) = rw (marks-put xs ls h, f.bounds_are, k) refl in
+    (is_flat items' (set bounds 0 n) (put_all xs ls) items_are bounds_are, levels_of_flat items' (set bounds 0 n) (put_all xs ls) items_are bounds_are)
