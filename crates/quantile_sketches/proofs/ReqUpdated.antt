@@ -22,7 +22,7 @@ use Rattle.sketch_req.specs.declared.RankAccuracy.{RankAccuracy}
 use Rattle.sketch_req.proofs.Unbiased.{AreCompacts, room_compacts, unbiased_list}
 use Rattle.quantile_sketches.specs.declared.audit.commands.Command.TheVariants.{New, Update, UpdateWeighted, Merge, Reset, RoundTrip, Redraw, MergeRedrawn}
 use Rattle.quantile_sketches.specs.Plan.{Plan, start_plan, count_of, events_of, plan_after, plan_from, trace_from, trace_of, plan_of}
-use Rattle.quantile_sketches.specs.ReqPlan.{ReqCommand, shape_in, shape_at, next_shapes}
+use Rattle.quantile_sketches.specs.ReqPlan.{ReqCommand, shape_in, shape_at}
 use Rattle.quantile_sketches.specs.ReqRules.{ReqShape, new_shape, merge_actions_by, req_rules}
 use Rattle.quantile_sketches.specs.ReqRun.{merged_in}
 use Rattle.quantile_sketches.specs.ReqUpdated.{accepted_only_updated, only_updated_after, only_updated_from, was_only_updated, compacted_in, off_tail_at, squared_errors}
@@ -49,12 +49,7 @@ module _ {A : Type 0} where
   compacts_plain : (actions : List (Action A)) → AreCompacts actions → ArePlain actions
   compacts_plain [] c = tt
   compacts_plain (Compact h coin taken ∷ rest) c = (refl, compacts_plain rest c.1)
-  compacts_plain (Put h x ∷ rest) c = absurd c
-  compacts_plain (Pull ∷ rest) c = absurd c
-  compacts_plain (Join h ∷ rest) c = absurd c
-  compacts_plain (Forget ∷ rest) c = absurd c
-  compacts_plain (Redraw h ∷ rest) c = absurd c
-  compacts_plain (Clear ∷ rest) c = absurd c
+  compacts_plain (action ∷ rest) c = absurd c
 
   plain-update : (k : ℕ) (accuracy : RankAccuracy) (ls : List Layout) (x : A) → ArePlain (update_actions k accuracy ls x)
   plain-update k accuracy ls x = (refl, compacts_plain (room_actions k accuracy (put_layouts ls)) (room_compacts A k accuracy (put_layouts ls)))
@@ -172,7 +167,7 @@ module _ {A : Type 0} where
 
   own-after : (plan : Plan ReqShape) (only : ℕ → Bool) (trace : List (Event A)) (streams : ℕ → List A) → AreOwn plan.shapes only trace streams →
       ((j : ℕ) → count_of (req_rules {A = A}) (plan.shapes j) ≡ length (streams j)) → (command : ReqCommand A) →
-      AreOwn (next_shapes plan.shapes command) (only_updated_after plan.shapes only command)
+      AreOwn (plan_after req_rules plan command).shapes (only_updated_after plan only command)
       (trace ++ events_of req_rules plan command) (streams_after req_rules plan streams command)
   own-after plan only trace streams h counts command =
       either-way plan command
@@ -184,13 +179,13 @@ module _ {A : Type 0} where
 
   own-from : (plan : Plan ReqShape) (only : ℕ → Bool) (trace : List (Event A)) (streams : ℕ → List A) → AreOwn plan.shapes only trace streams →
       AreCounted (req_lawful {A = A}) plan streams → (commands : List (ReqCommand A)) →
-      AreOwn (plan_from req_rules plan commands).shapes (only_updated_from plan.shapes only commands) (trace ++ trace_from req_rules plan commands) (streams_from req_rules plan streams commands)
+      AreOwn (plan_from req_rules plan commands).shapes (only_updated_from plan only commands) (trace ++ trace_from req_rules plan commands) (streams_from req_rules plan streams commands)
   own-from plan only trace streams h counts [] = subst (λ (t : List (Event A)). AreOwn plan.shapes only t streams) (sym (append-nil trace)) h
   own-from plan only trace streams h counts (command ∷ rest) =
       let next = plan_after req_rules plan command in
-      let only_next = only_updated_after plan.shapes only command in
+      let only_next = only_updated_after plan only command in
       let streams_next = streams_after req_rules plan streams command in
-      subst (λ (t : List (Event A)). AreOwn (plan_from req_rules next rest).shapes (only_updated_from next.shapes only_next rest) t (streams_from req_rules next streams_next rest))
+      subst (λ (t : List (Event A)). AreOwn (plan_from req_rules next rest).shapes (only_updated_from next only_next rest) t (streams_from req_rules next streams_next rest))
       (append_assoc trace (events_of req_rules plan command) (trace_from req_rules next rest))
       (own-from next only_next (trace ++ events_of req_rules plan command) streams_next
       (own-after plan only trace streams h (λ j. (counts j).0) command) (counts-after (req_lawful {A = A}) plan streams counts command) rest)

@@ -12,11 +12,11 @@ use Rattle.quantile_sketches.specs.Outcome.{WeighsStream, HasExtremes}
 use Rattle.quantile_sketches.specs.Plan.{Plan, start_plan, count_of, events_of, plan_after, plan_of, trace_of}
 use Rattle.quantile_sketches.specs.RuleLaws.{IsLawful}
 use Rattle.quantile_sketches.specs.Rules.{Kind}
-use Rattle.quantile_sketches.specs.Run.{streams_after, stream_of}
+use Rattle.quantile_sketches.specs.Run.{accepted_streams, streams_after, stream_of}
 use Rattle.quantile_sketches.specs.RunSteps.{Held, AreSame, IsExecuted}
-use Rattle.quantile_sketches.proofs.LegalPlans.{steady-start, steady-from, plan-append, trace-more, coins-more, not-none}
+use Rattle.quantile_sketches.proofs.LegalPlans.{steady-start, steady-from, plan-append, trace-more, after-append, coins-more, not-none}
 use Rattle.quantile_sketches.proofs.SlotSteps.{IsOf, Stand, Steps, stand-same, steps}
-use Rattle.quantile_sketches.proofs.Streams.{stream-append, run-counts}
+use Rattle.quantile_sketches.proofs.Streams.{run-counts}
 
 -- the first of the first
 take-front : {X : Type 0} (m n : ℕ) (xs : List X) → m ≤ n → take m (take n xs) ≡ take m xs
@@ -90,7 +90,7 @@ module _ {A C Shape S Source : Type 0} {kind : Kind A C Shape S} (lawful : IsLaw
         ap (λ (t : List (Event A)). play kind.cmp t word start) (trace-more kind.rules commands c)
         ∙ in_turn-append event_draws (happens (act kind.cmp)) (trace_of kind.rules commands) (events_of kind.rules (plan_of kind.rules commands) c) word start in
         subst (λ (p : Plan Shape). Stand kind p (stream_of kind.rules (commands ++ c ∷ [])) (play kind.cmp (trace_of kind.rules (commands ++ c ∷ [])) word start) slots') (sym (plan-append kind.rules start_plan commands c))
-        (subst (λ (f : ℕ → List A). Stand kind (plan_after kind.rules (plan_of kind.rules commands) c) f (play kind.cmp (trace_of kind.rules (commands ++ c ∷ [])) word start) slots') (sym (stream-append kind.rules start_plan (λ q. []) commands c))
+        (subst (λ (f : ℕ → List A). Stand kind (plan_after kind.rules (plan_of kind.rules commands) c) f (play kind.cmp (trace_of kind.rules (commands ++ c ∷ [])) word start) slots') (sym (after-append kind.rules (λ plan. accepted_streams) start_plan (λ q. []) commands c))
         (subst (λ (w : World (Bag A)). Stand kind (plan_after kind.rules (plan_of kind.rules commands) c) (streams_after kind.rules (plan_of kind.rules commands) (stream_of kind.rules commands) c) w slots') (sym played)
         ((step word (front word all)).stands (drop k word) (back word all))))
 
