@@ -68,7 +68,7 @@ module _ {A C Shape S Source : Type 0} {kind : Kind A C Shape S} (lawful : IsLaw
         Steps lawful bit next (plan_of kind.rules commands) (stream_of kind.rules commands) (play kind.cmp (trace_of kind.rules commands) word start) c source slots' source'
     step word agree =
         steps lawful bit next (plan_of kind.rules commands) (steady-from lawful.rules start_plan (steady-start lawful.rules) commands) (stream_of kind.rules commands)
-        (play kind.cmp (trace_of kind.rules commands) word start) slots (st.stand word agree) c source slots' source' x.decided (x.done refl)
+        (play kind.cmp (trace_of kind.rules commands) word start) slots (st.stand word agree) source slots' source' c x.decided (x.done refl)
 
     front : (word : List Bool) → take (k + m) word ≡ bits_from bit next seed (k + m) → take k word ≡ bits_from bit next seed k
     front word all = sym (take-front k (k + m) word (omega arith)) ∙ (ap (take k) all ∙ bits-take bit next seed k (k + m) (omega arith))
