@@ -51,17 +51,14 @@ module _ {S Source : Type 0} where
   one-turn call by (Some s) p q coins left left' (Ok a) (Ok b) n m (t, is, h) (u, is', h') =
       let r = by.one s t u coins left left' h h' in (refl, is ∙ (ap Some r.0 ∙ sym is'), r.1)
   one-turn call by (Some s) p q coins left left' (Ok a) (Err (Sketch e)) n m (t, is, h) (u, is', h') = absurd (ample e m (by.clash s t u coins left left' e h h'))
-  one-turn call by (Some s) p q coins left left' (Ok a) (Err BadLine) n m h h' = absurd h'
-  one-turn call by (Some s) p q coins left left' (Ok a) (Err AbsentSlot) n m h h' = absurd h'
+  one-turn call by (Some s) p q coins left left' (Ok a) w n m h h' = absurd h'
   one-turn call by (Some s) p q coins left left' (Err (Sketch e)) (Ok b) n m (t, is, h) (u, is', h') = absurd (ample e n (by.clash s u t coins left' left e h' h))
   one-turn call by (Some s) p q coins left left' (Err (Sketch e)) (Err (Sketch f)) n m (t, is, h) (u, is', h') =
       let r = by.refuses s t coins left e h (ample e n) in
       let r' = by.refuses s u coins left' f h' (ample f m) in
       (told e InvalidArgument r.0 ∙ sym (told f InvalidArgument r'.0), is ∙ (ap Some (r.1 ∙ sym r'.1) ∙ sym is'), r.2 ∙ sym r'.2)
-  one-turn call by (Some s) p q coins left left' (Err (Sketch e)) (Err BadLine) n m h h' = absurd h'
-  one-turn call by (Some s) p q coins left left' (Err (Sketch e)) (Err AbsentSlot) n m h h' = absurd h'
-  one-turn call by (Some s) p q coins left left' (Err BadLine) w n m h h' = absurd h
-  one-turn call by (Some s) p q coins left left' (Err AbsentSlot) w n m h h' = absurd h
+  one-turn call by (Some s) p q coins left left' (Err (Sketch e)) w n m h h' = absurd h'
+  one-turn call by (Some s) p q coins left left' v w n m h h' = absurd h
 
   one-join : (call : S → Change Source S) → ((p : S) → IsSettled (call p)) → (other : Option S) → AreOne (Joins call other)
   one-join call by None o p q coins left left' v w n m (e, same, stays) (e', same', stays') = (e ∙ sym e', same ∙ sym same', stays ∙ sym stays')
@@ -155,15 +152,12 @@ module _ {A C S Source : Type 0} (behaviour : Behaviour S A C) (bit : Source →
     one-made config slot slots ts us (Ok a) (Ok b) n m (s, o, held, h, is) (t, o', held', h', is') =
         (refl, is ∙ (ap (λ (x : S). slice_set slots slot (Some x)) (one.made config s t h h') ∙ sym is'))
     one-made config slot slots ts us (Ok a) (Err (Sketch e)) n m (s, o, held, h, is) (h', is') = absurd (ample e m (one.made_clash config s e h h'))
-    one-made config slot slots ts us (Ok a) (Err BadLine) n m h h' = absurd h'
-    one-made config slot slots ts us (Ok a) (Err AbsentSlot) n m h h' = absurd h'
+    one-made config slot slots ts us (Ok a) w n m h h' = absurd h'
     one-made config slot slots ts us (Err (Sketch e)) (Ok b) n m (h, is) (t, o, held, h', is') = absurd (ample e n (one.made_clash config t e h' h))
     one-made config slot slots ts us (Err (Sketch e)) (Err (Sketch f)) n m (h, is) (h', is') =
         (told e InvalidArgument (one.made_refuses config e h (ample e n)) ∙ sym (told f InvalidArgument (one.made_refuses config f h' (ample f m))), is ∙ sym is')
-    one-made config slot slots ts us (Err (Sketch e)) (Err BadLine) n m h h' = absurd h'
-    one-made config slot slots ts us (Err (Sketch e)) (Err AbsentSlot) n m h h' = absurd h'
-    one-made config slot slots ts us (Err BadLine) w n m h h' = absurd h
-    one-made config slot slots ts us (Err AbsentSlot) w n m h h' = absurd h
+    one-made config slot slots ts us (Err (Sketch e)) w n m h h' = absurd h'
+    one-made config slot slots ts us v w n m h h' = absurd h
 
     -- ---- each command
 

@@ -25,28 +25,20 @@ mixed-free e = cc
 
 used-free : (a : Standing) → used a ≡ Free → ⊥
 used-free Free e = cc
-used-free Used e = cc
-used-free Mixed e = cc
+used-free a e = cc
 
 used-tree : (a : Standing) → is_tree (used a) ≡ is_tree a
 used-tree Free = refl
-used-tree Used = refl
-used-tree Mixed = refl
+used-tree a = refl
 
 joined-free : (a b : Standing) → joined a b ≡ Free → (a ≡ Free) × (b ≡ Free)
 joined-free Free Free e = (refl, refl)
-joined-free Free Used e = absurd (mixed-free e)
-joined-free Free Mixed e = absurd (mixed-free e)
-joined-free Used b e = absurd (mixed-free e)
-joined-free Mixed b e = absurd (mixed-free e)
+joined-free a b e = cc
 
 -- what two slots make that are merged is a tree where it is free alone
 joined-tree : (a b : Standing) → is_tree (joined a b) ≡ true → joined a b ≡ Free
 joined-tree Free Free e = refl
-joined-tree Free Used e = absurd (false≢true e)
-joined-tree Free Mixed e = absurd (false≢true e)
-joined-tree Used b e = absurd (false≢true e)
-joined-tree Mixed b e = absurd (false≢true e)
+joined-tree a b e = absurd (false≢true e)
 
 -- trees took each coin in once, and free slots have none in common
 record AreTrees (stands : ℕ → Standing) (once : ℕ → Bool) (shares : ℕ → List ℕ) : Type 0 where

@@ -14,27 +14,15 @@ module _ {A : Type 0} where
   -- a trace without its Forgets
   abbrev pub shorn : List (Event A) → List (Event A)
   shorn [] = []
-  shorn (Snap s t ∷ es) = Snap s t ∷ shorn es
   shorn (At s Forget ∷ es) = shorn es
-  shorn (At s (Put h x) ∷ es) = At s (Put h x) ∷ shorn es
-  shorn (At s Pull ∷ es) = At s Pull ∷ shorn es
-  shorn (At s (Join h) ∷ es) = At s (Join h) ∷ shorn es
-  shorn (At s (Compact h coin taken) ∷ es) = At s (Compact h coin taken) ∷ shorn es
-  shorn (At s (Redraw h) ∷ es) = At s (Redraw h) ∷ shorn es
-  shorn (At s Clear ∷ es) = At s Clear ∷ shorn es
+  shorn (e ∷ es) = e ∷ shorn es
 
   -- where some Forgets are left out, the others may be
   pub sheds-shorn : (es es' : List (Event A)) → Sheds es es' → Sheds es' (shorn es)
   sheds-shorn _ _ none = none
   sheds-shorn _ _ (shed s es es' sheds) = sheds-shorn es es' sheds
-  sheds-shorn _ _ (kept (Snap s t) es es' sheds) = kept (Snap s t) es' (shorn es) (sheds-shorn es es' sheds)
   sheds-shorn _ _ (kept (At s Forget) es es' sheds) = shed s es' (shorn es) (sheds-shorn es es' sheds)
-  sheds-shorn _ _ (kept (At s (Put h x)) es es' sheds) = kept (At s (Put h x)) es' (shorn es) (sheds-shorn es es' sheds)
-  sheds-shorn _ _ (kept (At s Pull) es es' sheds) = kept (At s Pull) es' (shorn es) (sheds-shorn es es' sheds)
-  sheds-shorn _ _ (kept (At s (Join h)) es es' sheds) = kept (At s (Join h)) es' (shorn es) (sheds-shorn es es' sheds)
-  sheds-shorn _ _ (kept (At s (Compact h coin taken)) es es' sheds) = kept (At s (Compact h coin taken)) es' (shorn es) (sheds-shorn es es' sheds)
-  sheds-shorn _ _ (kept (At s (Redraw h)) es es' sheds) = kept (At s (Redraw h)) es' (shorn es) (sheds-shorn es es' sheds)
-  sheds-shorn _ _ (kept (At s Clear) es es' sheds) = kept (At s Clear) es' (shorn es) (sheds-shorn es es' sheds)
+  sheds-shorn _ _ (kept e es es' sheds) = kept e es' (shorn es) (sheds-shorn es es' sheds)
 
   -- bags that differ in kept bits alone, and in none that was drawn
   pub record AreSame (drawn : ℕ → Bool) (bag bag' : Bag A) : Type 0 where
