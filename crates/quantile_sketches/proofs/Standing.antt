@@ -1,5 +1,5 @@
 -- Where the sketches stand after accepted commands, under any source of coins.
-use Rattle.std.proofs.Common.{◌≡◌, ℕ, zero, suc, ◌+◌, ◌-◌, ◌≤◌, Bool, true, List, [], ◌∷◌, ◌++◌, length, take, drop, None, Some, refl, sym, ap, ◌∙◌, subst, arith}
+use Rattle.std.proofs.Common.{◌≡◌, ℕ, zero, suc, ◌+◌, ◌-◌, ◌≤◌, Bool, true, false, if◌then◌else◌, List, [], ◌∷◌, ◌++◌, length, take, drop, None, Some, refl, sym, ap, ◌∙◌, subst, arith}
 use Rattle.std.proofs.lemmas.List.{drop-take}
 use Rattle.std.specs.Option.{option_map}
 use Rattle.sketch_base.specs.Bag.{Bag}
@@ -8,7 +8,7 @@ use Rattle.sketch_base.specs.Trace.{Event, World, play, start, coins, event_draw
 use Rattle.sketch_base.proofs.Calls.{bits-take, bits-drop, after_draws-add}
 use Rattle.sketch_base.proofs.PlaysInParts.{in_turn-append}
 use Rattle.quantile_sketches.specs.declared.audit.commands.Command.{Command}
-use Rattle.quantile_sketches.specs.Outcome.{WeighsStream, HasExtremes}
+use Rattle.quantile_sketches.specs.Outcome.{shapes_in, WeighsStream, HasExtremes}
 use Rattle.quantile_sketches.specs.Plan.{Plan, start_plan, count_of, events_of, plan_after, plan_of, trace_of}
 use Rattle.quantile_sketches.specs.RuleLaws.{IsLawful}
 use Rattle.quantile_sketches.specs.Rules.{Kind}
@@ -102,7 +102,17 @@ module _ {A C Shape S Source : Type 0} {kind : Kind A C Shape S} (lawful : IsLaw
       stand = stands-on;
     }
 
+  -- one command more, accepted or refused
+  pub standing-next : (commands : List (Command A C)) (slots : Held S) (source : Source) → Stands commands slots source → (c : Command A C) (accepted : Bool) (slots' : Held S) (source' : Source) →
+      IsExecuted kind bit next c slots source accepted slots' source' → Stands (if accepted then commands ++ c ∷ [] else commands) slots' source'
+  standing-next commands slots source st c true slots' source' x = standing-more commands slots source st c slots' source' x
+  standing-next commands slots source st c false slots' source' x = let left = x.left refl in standing-same commands slots slots' source source' st left.0 left.1
+
   -- ---- what is promised of the sketches
+
+  pub standing-shapes : (commands : List (Command A C)) (slots : Held S) (source : Source) → Stands commands slots source → (q : ℕ) → shapes_in kind.shape slots q ≡ (plan_of kind.rules commands).shapes q
+  standing-shapes commands slots source st =
+      (st.stand (bits_from bit next seed (coins (trace_of kind.rules commands))) (bits-take bit next seed (coins (trace_of kind.rules commands)) (coins (trace_of kind.rules commands)) (omega arith))).shapes
 
   module _ (commands : List (Command A C)) (slots : Held S) (source : Source) (st : Stands commands slots source) (slot : ℕ) (s : S) (held : slots slot ≡ Some s) where
     abbrev pub given : List Bool
