@@ -1,5 +1,6 @@
 -- The same commands make the same sketches, where each accepted call makes one sketch of a sketch.
 use Rattle.std.proofs.Common.{◌≡◌, ◌≢◌, ◌==◌, ℕ, Bool, true, false, List, [], ◌∷◌, Option, None, Some, Result, Ok, Err, slice_set, refl, sym, ap, ◌∙◌, subst, inl, inr}
+use Rattle.std.specs.Prelude.{IsErrOf}
 use Rattle.std.proofs.lemmas.Option.{same_Some}
 use Rattle.std.specs.declared.alloc.Global.{Global}
 use Rattle.std.specs.declared.vec.Vec.{Vec}
@@ -41,6 +42,14 @@ module _ {S Source : Type 0} where
     pub one : IsOne call
     pub clash : (s t u : S) (coins left left' : Source) (e : ErrorKind) → call s coins (Ok tt) t left → call s coins (Err e) u left' → e ≡ OutOfMemory
     pub refuses : (s t : S) (coins left : Source) (e : ErrorKind) → call s coins (Err e) t left → (e ≡ OutOfMemory → ⊥) → (e ≡ InvalidArgument) × (t ≡ s) × (left ≡ coins)
+
+  -- a call that is always refused
+  pub settled-never : {call : Change Source S} → ((s t : S) (coins left : Source) (r : Result Unit ErrorKind) → call s coins r t left → IsErrOf r InvalidArgument × (t ≡ s) × (left ≡ coins)) → IsSettled call
+  settled-never never = record {
+    one = λ s t u coins left left' h h'. absurd (no-err tt InvalidArgument (never s t coins left (Ok tt) h).0);
+    clash = λ s t u coins left left' e h h'. absurd (no-err tt InvalidArgument (never s t coins left (Ok tt) h).0);
+    refuses = λ s t coins left e h n. let stays = never s t coins left (Err e) h in (same-err {T = Unit} e InvalidArgument (Err e) refl stays.0, stays.1, stays.2);
+  }
 
   -- what comes of a slot is one
   abbrev AreOne : (Option S → Source → Verdict → Option S → Source → Type 0) → Type 0
