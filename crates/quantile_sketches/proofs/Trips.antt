@@ -105,6 +105,10 @@ module _ {A : Type 0} (cmp : A → A → Ordering) (slot : ℕ) where
         subst (λ (d : ℕ → ℕ → Bool). Agree es d (lengths_after (At s action) lengths) (happens (act cmp) (At s action) bit world) (happens (act cmp) (At s action) bit world'))
         (changed-itself drawn s) (at-slot s action (drawn s) bit even agree back here scratch)
 
+    -- that they agree before an event makes them agree so behind it
+    abbrev Goes : Event A → Bool → (ℕ → ℕ → Bool) → Type 0
+    Goes e bit drawn' = Agree (e ∷ es) drawn lengths world world' → Agree es drawn' (lengths_after e lengths) (happens (act cmp) e bit world) (happens (act cmp) e bit world')
+
     -- an empty scratch
     no-scratch : {e : Event A} → Agree (e ∷ es) drawn lengths world world' → sum lengths.scratch ≡ 0 → world.scratch.levels ≡ world'.scratch.levels
     no-scratch agree empty =
@@ -119,8 +123,7 @@ module _ {A : Type 0} (cmp : A → A → Ordering) (slot : ℕ) where
         ⊎_elim (λ empty. no-scratch agree (eqb-true (sum lengths.scratch) 0 empty)) (λ here. agree.scratch (back (ap (reaches es slot) (sym (eqb-true s lengths.target here)) ∙ reached)))
         (or_cases (sum lengths.scratch == 0) (s == lengths.target) obeys)
 
-    agree-snap : (s t : ℕ) → Agree (Snap s t ∷ es) drawn lengths world world' →
-        Agree es drawn (lengths_after {A = A} (Snap s t) lengths) (happens (act cmp) (Snap s t) false world) (happens (act cmp) (Snap s t) false world')
+    agree-snap : (s t : ℕ) → Goes (Snap s t) false drawn
     agree-snap s t agree = record {
       lengths_are = ap (lengths_after {A = A} (Snap s t)) agree.lengths_are;
       lengths_are' = ap (lengths_after {A = A} (Snap s t)) agree.lengths_are';
@@ -128,8 +131,7 @@ module _ {A : Type 0} (cmp : A → A → Ordering) (slot : ℕ) where
       scratch = λ reached. (agree.slots s (or_right (reaches es slot s) _ (ap₂ (λ (b c : Bool). b && c) (eq-eqb s s refl) reached))).levels;
     }
 
-    agree-put : (s h : ℕ) (x : A) (bit : Bool) → Agree (At s (Put h x) ∷ es) drawn lengths world world' →
-        Agree es drawn (lengths_after (At s (Put h x)) lengths) (happens (act cmp) (At s (Put h x)) bit world) (happens (act cmp) (At s (Put h x)) bit world')
+    agree-put : (s h : ℕ) (x : A) (bit : Bool) → Goes (At s (Put h x)) bit drawn
     agree-put s h x bit agree = at-own s (Put h x) bit tt agree (λ i e reached. reached)
         (λ reached. let same = agree.slots s reached in record {
           levels = ap (with_level [] h (λ level. level ++ x ∷ [])) same.levels;
@@ -138,8 +140,7 @@ module _ {A : Type 0} (cmp : A → A → Ordering) (slot : ℕ) where
         })
         agree.scratch
 
-    agree-pull : (s : ℕ) (bit : Bool) → (sum lengths.scratch == 0 || s == lengths.target) ≡ true → Agree (At s Pull ∷ es) drawn lengths world world' →
-        Agree es drawn (lengths_after {A = A} (At s Pull) lengths) (happens (act cmp) (At s Pull) bit world) (happens (act cmp) (At s Pull) bit world')
+    agree-pull : (s : ℕ) (bit : Bool) → (sum lengths.scratch == 0 || s == lengths.target) ≡ true → Goes (At s Pull) bit drawn
     agree-pull s bit obeys agree = at-own s Pull bit tt agree (λ i e reached. reached)
         (λ reached. let same = agree.slots s reached in record {
           levels = ap₂ (λ (ls from : List (List A)). with_level [] 0 (λ level. level ++ take 1 (level_at from 0)) ls) same.levels (own-scratch s agree (λ r. r) obeys reached);
@@ -148,8 +149,7 @@ module _ {A : Type 0} (cmp : A → A → Ordering) (slot : ℕ) where
         })
         (λ reached. ap (λ (from : List (List A)). with_level [] 0 (λ level. drop 1 (level_at from 0)) from) (agree.scratch reached))
 
-    agree-join : (s h : ℕ) (bit : Bool) → (sum lengths.scratch == 0 || s == lengths.target) ≡ true → Agree (At s (Join h) ∷ es) drawn lengths world world' →
-        Agree es drawn (lengths_after {A = A} (At s (Join h)) lengths) (happens (act cmp) (At s (Join h)) bit world) (happens (act cmp) (At s (Join h)) bit world')
+    agree-join : (s h : ℕ) (bit : Bool) → (sum lengths.scratch == 0 || s == lengths.target) ≡ true → Goes (At s (Join h)) bit drawn
     agree-join s h bit obeys agree = at-own s (Join h) bit tt agree (λ i e reached. reached)
         (λ reached. let same = agree.slots s reached in record {
           levels = ap₂ (λ (ls from : List (List A)). with_level [] h (λ level. level ++ level_at from h) ls) same.levels (own-scratch s agree (λ r. r) obeys reached);
@@ -158,14 +158,12 @@ module _ {A : Type 0} (cmp : A → A → Ordering) (slot : ℕ) where
         })
         (λ reached. ap (with_level [] h (λ level. [])) (agree.scratch reached))
 
-    agree-forget : (s : ℕ) (bit : Bool) → Agree (At s Forget ∷ es) drawn lengths world world' →
-        Agree es (changed drawn s (λ h. false)) (lengths_after {A = A} (At s Forget) lengths) (happens (act cmp) (At s Forget) bit world) (happens (act cmp) (At s Forget) bit world')
+    agree-forget : (s : ℕ) (bit : Bool) → Goes (At s Forget) bit (changed drawn s (λ h. false))
     agree-forget s bit agree = at-slot s Forget (λ h. false) bit tt agree (λ i e reached. reached)
         (λ reached. let same = agree.slots s reached in record { levels = same.levels; sorted = same.sorted; kept = λ h e. absurd (false≢true e) })
         agree.scratch
 
-    agree-redraw : (s h : ℕ) (bit : Bool) → Agree (At s (Redraw h) ∷ es) drawn lengths world world' →
-        Agree es (changed drawn s (changed (drawn s) h true)) (lengths_after {A = A} (At s (Redraw h)) lengths) (happens (act cmp) (At s (Redraw h)) bit world) (happens (act cmp) (At s (Redraw h)) bit world')
+    agree-redraw : (s h : ℕ) (bit : Bool) → Goes (At s (Redraw h)) bit (changed drawn s (changed (drawn s) h true))
     agree-redraw s h bit agree = at-slot s (Redraw h) (changed (drawn s) h true) bit tt agree (λ i e reached. reached)
         (λ reached. let same = agree.slots s reached in record {
           levels = same.levels;
@@ -174,8 +172,7 @@ module _ {A : Type 0} (cmp : A → A → Ordering) (slot : ℕ) where
         })
         agree.scratch
 
-    agree-clear : (s : ℕ) (bit : Bool) → (sum lengths.scratch == 0 || false) ≡ true → Agree (At s Clear ∷ es) drawn lengths world world' →
-        Agree es (changed drawn s (λ h. false)) (lengths_after {A = A} (At s Clear) lengths) (happens (act cmp) (At s Clear) bit world) (happens (act cmp) (At s Clear) bit world')
+    agree-clear : (s : ℕ) (bit : Bool) → (sum lengths.scratch == 0 || false) ≡ true → Goes (At s Clear) bit (changed drawn s (λ h. false))
     agree-clear s bit obeys agree = at-slot s Clear (λ h. false) bit tt agree
         (λ i e reached. ap₂ (λ (b c : Bool). not b && c) e reached)
         (λ reached. record { levels = refl; sorted = refl; kept = λ h e. absurd (false≢true e) })
@@ -195,17 +192,14 @@ module _ {A : Type 0} (cmp : A → A → Ordering) (slot : ℕ) where
         after : List (List A) → Bool → Bool → List (List A)
         after levels sorted bit = (compaction cmp h taken bit (record { levels = levels; is_sorted = sorted; kept = λ h. false })).levels
 
-    agree-draw : (s h : ℕ) (taken : Taken) (bit : Bool) → TakesEven {A = A} (At s (Compact h Fresh taken)) lengths → Agree (At s (Compact h Fresh taken) ∷ es) drawn lengths world world' →
-        Agree es (changed drawn s (changed (drawn s) h true)) (lengths_after {A = A} (At s (Compact h Fresh taken)) lengths)
-        (happens (act cmp) (At s (Compact h Fresh taken)) bit world) (happens (act cmp) (At s (Compact h Fresh taken)) bit world')
+    agree-draw : (s h : ℕ) (taken : Taken) (bit : Bool) → TakesEven {A = A} (At s (Compact h Fresh taken)) lengths →
+        Goes (At s (Compact h Fresh taken)) bit (changed drawn s (changed (drawn s) h true))
     agree-draw s h taken bit even agree = at-slot s (Compact h Fresh taken) (changed (drawn s) h true) bit even agree (λ i e reached. reached)
         (λ reached. same-compacted s h taken (changed (drawn s) h true) bit bit refl (agree.slots s reached) (drawn-others (drawn s) h))
         agree.scratch
 
     agree-turn : (s h : ℕ) (taken : Taken) (bit : Bool) → TakesEven {A = A} (At s (Compact h Turned taken)) lengths → (drawn s h || not (reaches es slot s)) ≡ true →
-        Agree (At s (Compact h Turned taken) ∷ es) drawn lengths world world' →
-        Agree es drawn (lengths_after {A = A} (At s (Compact h Turned taken)) lengths)
-        (happens (act cmp) (At s (Compact h Turned taken)) bit world) (happens (act cmp) (At s (Compact h Turned taken)) bit world')
+        Goes (At s (Compact h Turned taken)) bit drawn
     agree-turn s h taken bit even fair agree = at-own s (Compact h Turned taken) bit even agree (λ i e reached. reached)
         (λ reached.
         let same = agree.slots s reached in
