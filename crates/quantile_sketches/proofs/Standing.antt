@@ -55,9 +55,6 @@ module _ {A C Shape S Source : Type 0} {kind : Kind A C Shape S} (lawful : IsLaw
 
   -- one more command
   module _ (commands : List (Command A C)) (slots : Held S) (source : Source) (st : Stands commands slots source) (c : Command A C) (slots' : Held S) (source' : Source) (x : IsExecuted kind bit next c slots source true slots' source') where
-    plan : Plan Shape
-    plan = plan_of kind.rules commands
-
     abbrev k : ℕ
     k = coins (trace_of kind.rules commands)
 
@@ -85,14 +82,9 @@ module _ {A C Shape S Source : Type 0} {kind : Kind A C Shape S} (lawful : IsLaw
         Stand kind (plan_of kind.rules (commands ++ c ∷ [])) (stream_of kind.rules (commands ++ c ∷ [])) (play kind.cmp (trace_of kind.rules (commands ++ c ∷ [])) word start) slots'
     stands-on word agree =
         let all : take (k + m) word ≡ bits_from bit next seed (k + m) = subst (λ (n : ℕ). take n word ≡ bits_from bit next seed n) (coins-more kind.rules commands c) agree in
-        let world = play kind.cmp (trace_of kind.rules commands) word start in
-        let played : play kind.cmp (trace_of kind.rules (commands ++ c ∷ [])) word start ≡ play kind.cmp (events_of kind.rules (plan_of kind.rules commands) c) (drop k word) world =
-        ap (λ (t : List (Event A)). play kind.cmp t word start) (trace-more kind.rules commands c)
-        ∙ in_turn-append event_draws (happens (act kind.cmp)) (trace_of kind.rules commands) (events_of kind.rules (plan_of kind.rules commands) c) word start in
-        subst (λ (p : Plan Shape). Stand kind p (stream_of kind.rules (commands ++ c ∷ [])) (play kind.cmp (trace_of kind.rules (commands ++ c ∷ [])) word start) slots') (sym (plan-append kind.rules start_plan commands c))
-        (subst (λ (f : ℕ → List A). Stand kind (plan_after kind.rules (plan_of kind.rules commands) c) f (play kind.cmp (trace_of kind.rules (commands ++ c ∷ [])) word start) slots') (sym (after-append kind.rules (λ plan. accepted_streams) start_plan (λ q. []) commands c))
-        (subst (λ (w : World (Bag A)). Stand kind (plan_after kind.rules (plan_of kind.rules commands) c) (streams_after kind.rules (plan_of kind.rules commands) (stream_of kind.rules commands) c) w slots') (sym played)
-        ((step word (front word all)).stands (drop k word) (back word all))))
+        rw (plan-append kind.rules start_plan commands c, after-append kind.rules (λ plan. accepted_streams) start_plan (λ q. []) commands c, trace-more kind.rules commands c,
+            in_turn-append event_draws (happens (act kind.cmp)) (trace_of kind.rules commands) (events_of kind.rules (plan_of kind.rules commands) c) word start)
+        ((step word (front word all)).stands (drop k word) (back word all))
 
     pub standing-more : Stands (commands ++ c ∷ []) slots' source'
     standing-more = record {

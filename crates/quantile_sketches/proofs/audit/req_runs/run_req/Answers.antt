@@ -1,4 +1,4 @@
-use Rattle.std.proofs.Common.{◌<◌, ◌-◌, ◌^◌, length, arith}
+use Rattle.std.proofs.Common.{arith}
 use Rattle.quantile_sketches.proofs.Given.{given, both, three}
 use Rattle.quantile_sketches.proofs.AfterCommands.{close-by}
 use Rattle.quantile_sketches.proofs.ReqKind.{req_kind_lawful}
@@ -40,13 +40,11 @@ returns-clause-own g c =
 
 pub returns-clause-fair : goal.returns-clause-fair
 returns-clause-fair g c =
-    let few : length c.args.word.now < 2 ^ 64 - 1 = omega arith in
-    given c.run_family.result (λ run enough. runs-fair g.met.T.Ord.total g.T.ReqValue.spelling c.args.commands.now run.slots c.args.word.now enough few) c.run_family.ensures.enough
+    given c.run_family.result (λ run enough. runs-fair g.met.T.Ord.total g.T.ReqValue.spelling c.args.commands.now run.slots c.args.word.now enough (omega arith)) c.run_family.ensures.enough
 
 pub returns-clause-redrawn : goal.returns-clause-redrawn
 returns-clause-redrawn g c =
-    let few : length c.args.word.now < 2 ^ 64 - 1 = omega arith in
-    given c.run_family.result (λ run enough. runs-redrawn g.met.T.Ord.total g.T.ReqValue.spelling c.args.commands.now run.slots c.args.word.now enough few) c.run_family.ensures.enough
+    given c.run_family.result (λ run enough. runs-redrawn g.met.T.Ord.total g.T.ReqValue.spelling c.args.commands.now run.slots c.args.word.now enough (omega arith)) c.run_family.ensures.enough
 
 pub returns-clause-images : goal.returns-clause-images
 returns-clause-images g c =
@@ -56,17 +54,14 @@ returns-clause-images g c =
 
 pub returns-clause-unbiased : goal.returns-clause-unbiased
 returns-clause-unbiased g c =
-    let few : length c.args.word.now < 2 ^ 64 - 1 = omega arith in
-    given c.run_family.result (λ run enough. runs-unbiased g.met.T.Ord.total g.T.ReqValue.spelling c.args.commands.now run.slots c.args.word.now enough few) c.run_family.ensures.enough
+    given c.run_family.result (λ run enough. runs-unbiased g.met.T.Ord.total g.T.ReqValue.spelling c.args.commands.now run.slots c.args.word.now enough (omega arith)) c.run_family.ensures.enough
 
 pub returns-clause-relative : goal.returns-clause-relative
 returns-clause-relative g c =
-    let few : length c.args.word.now < 2 ^ 64 - 1 = omega arith in
-    both c.run_family.result (λ run planned enough. runs-relative g.met.T.Ord.total g.T.ReqValue.spelling c.args.commands.now run.slots c.args.word.now enough few planned)
+    both c.run_family.result (λ run planned enough. runs-relative g.met.T.Ord.total g.T.ReqValue.spelling c.args.commands.now run.slots c.args.word.now enough (omega arith) planned)
     c.run_family.ensures.planned c.run_family.ensures.enough
 
 pub returns-clause-counts : goal.returns-clause-counts
 returns-clause-counts g c =
-    let few : length c.args.word.now < 2 ^ 64 - 1 = omega arith in
-    both c.run_family.result (λ run planned enough. runs-relative_to_counts g.met.T.Ord.total g.T.ReqValue.spelling c.args.commands.now run.slots c.args.word.now enough few planned)
+    both c.run_family.result (λ run planned enough. runs-relative_to_counts g.met.T.Ord.total g.T.ReqValue.spelling c.args.commands.now run.slots c.args.word.now enough (omega arith) planned)
     c.run_family.ensures.planned c.run_family.ensures.enough
