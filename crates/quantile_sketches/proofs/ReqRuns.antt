@@ -159,11 +159,9 @@ module _ {A : Type 0} {cmp : A → A → Ordering} (o : IsTotalOrder cmp) (spell
         let l = left-out (req_kind_lawful o spelling) word commands refused are in
         let t = req-left-out o spelling word refused commands are in
         let shape : (plan_of req_rules fewer).shapes slot ≡ Some (req_shape s) = ap (λ (p : Plan ReqShape). p.shapes slot) (sym l.plan) ∙ there planned slot s held in
-        let streams = ap (λ (f : ℕ → List A). f slot) l.streams in
-        let tails = ap (λ (f : ℕ → ℕ). f slot) t.tails in
-        let enough =
-        subst (λ (xs : List A). off_protected_end cmp s.accuracy y criteria xs ≤ 3 * tails_of fewer slot) streams
-        (subst (λ (n : ℕ). off_protected_end cmp s.accuracy y criteria (stream_of req_rules commands slot) ≤ 3 * n) tails few) in
+        let streams : stream_of req_rules commands slot ≡ stream_of req_rules fewer slot = ap (λ (f : ℕ → List A). f slot) l.streams in
+        let tails : tails_of commands slot ≡ tails_of fewer slot = ap (λ (f : ℕ → ℕ). f slot) t.tails in
+        let enough = rw (streams, tails) at few in
         alike-exact o fewer word slot s shape (played slot s held) y criteria enough ∙ sym (ap (true_rank cmp y criteria) streams)
 
   -- ---- over the runs under all words

@@ -120,8 +120,7 @@ module _ {A : Type 0} where
           let same : streams into ++ streams source ≡ streams into =
           ap (λ (l : List A). streams into ++ l) (no_stream (shapes source) (streams source) (counts source) z) ∙ append-nil (streams into) in
           own-changed shapes only trace streams h into [] (Some merged) (only into) (streams into ++ streams source) (λ j e. ap (picked j) (append-nil trace))
-          (λ t. subst (IsFresh merged (picked into (trace ++ []))) (sym same)
-          (let f = h into t in record { actions_are = ap (picked into) (append-nil trace) ∙ f.actions_are; layouts_are = f.layouts_are }))
+          (λ t. let f = h into t in rw (same, append-nil trace) (record { actions_are = f.actions_are; layouts_are = f.layouts_are }))
       go false z =
           let s = shape_in (shapes into) in
           let other = shape_in (shapes source) in
@@ -131,10 +130,9 @@ module _ {A : Type 0} where
   -- a slot that is no longer only updated, by actions that leave its stream
   ended-own : (shapes : ℕ → Option ReqShape) (only : ℕ → Bool) (trace : List (Event A)) (streams : ℕ → List A) → AreOwn shapes only trace streams → (slot : ℕ) (actions : List (Action A)) →
       AreOwn shapes (changed only slot false) (trace ++ events_at slot actions) streams
-  ended-own shapes only trace streams h slot actions = λ j.
-      subst (λ (o : Option ReqShape). IsOwn o (changed only slot false j) (picked j (trace ++ events_at slot actions)) (streams j)) (changed-own shapes slot j)
-      (subst (λ (l : List A). IsOwn (changed shapes slot (shapes slot) j) (changed only slot false j) (picked j (trace ++ events_at slot actions)) l) (changed-own streams slot j)
-      (own-changed shapes only trace streams h slot (events_at slot actions) (shapes slot) false (streams slot) (λ i e. picked-away i slot trace actions e) (λ t. absurd (false≢true t)) j))
+  ended-own shapes only trace streams h slot actions j =
+      rw (changed-own shapes slot j, changed-own streams slot j) at
+      (own-changed shapes only trace streams h slot (events_at slot actions) (shapes slot) false (streams slot) (λ i e. picked-away i slot trace actions e) (λ t. absurd (false≢true t)) j)
 
   accepted-own : (shapes : ℕ → Option ReqShape) (only : ℕ → Bool) (trace : List (Event A)) (streams : ℕ → List A) → AreOwn shapes only trace streams →
       ((j : ℕ) → count_of (req_rules {A = A}) (shapes j) ≡ length (streams j)) → (command : ReqCommand A) →
@@ -145,14 +143,12 @@ module _ {A : Type 0} where
   accepted-own shapes only trace streams h counts (Update slot x) = λ j.
       let s = shape_in (shapes slot) in
       let actions : List (Action A) = update_actions s.k s.accuracy s.layouts x in
-      subst (λ (b : Bool). IsOwn (changed shapes slot (Some (updated_shape s)) j) b (picked j (trace ++ events_at slot actions))
-      (changed streams slot (streams slot ++ x ∷ []) j)) (changed-own only slot j)
+      rw (changed-own only slot j) at
       (own-changed shapes only trace streams h slot (events_at slot actions) (Some (updated_shape s)) (only slot) (streams slot ++ x ∷ []) (λ i e. picked-away i slot trace actions e)
       (λ t. fresh-updated slot s trace (streams slot) x (h slot t)) j)
   accepted-own shapes only trace streams h counts (UpdateWeighted slot x weight) = λ j.
-      let stream : List A = streams slot ++ replicate weight x in
-      subst (λ (o : Option ReqShape). IsOwn o (changed only slot false j) (picked j (trace ++ [])) (changed streams slot stream j)) (changed-own shapes slot j)
-      (own-changed shapes only trace streams h slot [] (shapes slot) false stream (λ i e. ap (picked i) (append-nil trace)) (λ t. absurd (false≢true t)) j)
+      rw (changed-own shapes slot j) at
+      (own-changed shapes only trace streams h slot [] (shapes slot) false (streams slot ++ replicate weight x) (λ i e. ap (picked i) (append-nil trace)) (λ t. absurd (false≢true t)) j)
   accepted-own shapes only trace streams h counts (Merge into source) = merge-own false shapes only trace streams h counts into source
   accepted-own shapes only trace streams h counts (Reset slot) =
       let s = shape_in (shapes slot) in
@@ -174,19 +170,18 @@ module _ {A : Type 0} where
       (λ (refused : Bool) (shapes : ℕ → Option ReqShape) (events : List (Event A)).
       AreOwn shapes (if refused then only else accepted_only_updated plan.shapes only command) (trace ++ events)
       (if refused then streams else accepted_streams streams command))
-      (subst (λ (t : List (Event A)). AreOwn plan.shapes only t streams) (sym (append-nil trace)) h)
+      (rw (append-nil trace) h)
       (λ e. accepted-own plan.shapes only trace streams h counts command)
 
   own-from : (plan : Plan ReqShape) (only : ℕ → Bool) (trace : List (Event A)) (streams : ℕ → List A) → AreOwn plan.shapes only trace streams →
       AreCounted (req_lawful {A = A}) plan streams → (commands : List (ReqCommand A)) →
       AreOwn (plan_from req_rules plan commands).shapes (only_updated_from plan only commands) (trace ++ trace_from req_rules plan commands) (streams_from req_rules plan streams commands)
-  own-from plan only trace streams h counts [] = subst (λ (t : List (Event A)). AreOwn plan.shapes only t streams) (sym (append-nil trace)) h
+  own-from plan only trace streams h counts [] = rw (append-nil trace) h
   own-from plan only trace streams h counts (command ∷ rest) =
       let next = plan_after req_rules plan command in
       let only_next = only_updated_after plan only command in
       let streams_next = streams_after req_rules plan streams command in
-      subst (λ (t : List (Event A)). AreOwn (plan_from req_rules next rest).shapes (only_updated_from next only_next rest) t (streams_from req_rules next streams_next rest))
-      (append_assoc trace (events_of req_rules plan command) (trace_from req_rules next rest))
+      rw (append_assoc trace (events_of req_rules plan command) (trace_from req_rules next rest)) at
       (own-from next only_next (trace ++ events_of req_rules plan command) streams_next
       (own-after plan only trace streams h (λ j. (counts j).0) command) (counts-after (req_lawful {A = A}) plan streams counts command) rest)
 
@@ -303,8 +298,7 @@ module _ {A : Type 0} (cmp : A → A → Ordering) (commands : List (ReqCommand 
     relative-by levels relative =
         let s = share bits enough error in
         subst (λ (n : ℕ). IsRelative shape.k levels n (squared_errors cmp y criteria commands bits slot) count) (sym s.all)
-        (subst (λ (n : ℕ). IsRelative shape.k levels (s.others + draws_of updates) n count) (sym s.sums)
-        (more_words shape.k levels s.others (draws_of updates) (sum_over_words (draws_of updates) (λ word. error (fresh_bag word))) count relative))
+        (rw s.sums (more_words shape.k levels s.others (draws_of updates) (sum_over_words (draws_of updates) (λ word. error (fresh_bag word))) count relative))
 
     -- its errors are relative
     pub run-relative : UpdatesAreRelative cmp → IsRelative shape.k (compacted_in shape) bits (squared_errors cmp y criteria commands bits slot) count

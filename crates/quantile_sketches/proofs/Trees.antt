@@ -227,10 +227,8 @@ module _ {A : Type 0} where
       let stands' : ℕ → Standing = standings_after kll_rules plan stands command in
       let once' : ℕ → Bool = takes_once events shares once in
       let shares' : ℕ → List ℕ = all_shares events shares in
-      let R : (ℕ → Bool) → (ℕ → List ℕ) → Type 0 = λ (o : ℕ → Bool) (f : ℕ → List ℕ). AreTrees (standings_from kll_rules next stands' rest) o f in
-      subst (λ (o : ℕ → Bool). R o (all_shares (events ++ others) shares)) (sym (takes_once-append events others shares once))
-      (subst (R (takes_once others shares' once')) (sym (all_shares-append events others shares))
-      (trees-from next (steady-after kll_lawful plan st command) stands' once' shares' (as_many-all events shares many) (events-trees plan st stands once shares many i command) rest))
+      rw (takes_once-append events others shares once, all_shares-append events others shares)
+      (trees-from next (steady-after kll_lawful plan st command) stands' once' shares' (as_many-all events shares many) (events-trees plan st stands once shares many i command) rest)
 
   -- so trees of merges take each coin in once
   pub trees-take_once : TreesTakeOnce A
