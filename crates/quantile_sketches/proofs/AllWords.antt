@@ -24,7 +24,8 @@ module _ {A C Shape S : Type 0} {kind : Kind A C Shape S} (lawful : IsLawful kin
   arrived : Arrives lawful word commands refused slots
   arrived = arrives lawful word commands refused slots lead enough few
 
-  stood : Stand kind (plan_of kind.rules (accepted_of arrived.numbers commands)) (stream_of kind.rules (accepted_of arrived.numbers commands)) (play kind.cmp (trace_of kind.rules (accepted_of arrived.numbers commands)) word start) slots
+  stood : Stand kind (plan_of kind.rules (accepted_of arrived.numbers commands)) (stream_of kind.rules (accepted_of arrived.numbers commands))
+      (play kind.cmp (trace_of kind.rules (accepted_of arrived.numbers commands)) word start) slots
   stood = going-stand lawful word commands slots arrived.numbers arrived.source arrived.going few
 
   -- the commands that are refused may be left out

@@ -95,7 +95,8 @@ module _ {A C Shape S T : Type 0} (kind : Kind A C Shape S) (word : List Bool) (
 -- what holds of commands and of fewer ones, where a refused one is left out, holds of a run's and of its accepted ones
 module _ {A C Shape S : Type 0} (kind : Kind A C Shape S) (word : List Bool) (commands : List (Command A C)) (refused : List ℕ) (are : AreRefused kind word commands refused)
     (R : List (Command A C) → List (Command A C) → Type 0) (more : (done fewer : List (Command A C)) (c : Command A C) → R done fewer → R (done ++ c ∷ []) (fewer ++ c ∷ []))
-    (same : (done fewer : List (Command A C)) (c : Command A C) → IsRefusedExactly kind word refused done c (Contains refused (length done)) → Contains refused (length done) → R done fewer → R (done ++ c ∷ []) fewer) where
+    (same : (done fewer : List (Command A C)) (c : Command A C) →
+    IsRefusedExactly kind word refused done c (Contains refused (length done)) → Contains refused (length done) → R done fewer → R (done ++ c ∷ []) fewer) where
   pub left-by : (done rest : List (Command A C)) → commands ≡ done ++ rest → R done (accepted_of refused done) → R commands (accepted_of refused commands)
   left-by done [] at h = subst (λ (l : List (Command A C)). R l (accepted_of refused l)) (sym (at ∙ append-nil done)) h
   left-by done (c ∷ rest) at h =
@@ -142,5 +143,5 @@ module _ {A C Shape S : Type 0} {kind : Kind A C Shape S} (lawful : IsLawful kin
   -- all refused commands may be left out
   pub left-out : (word : List Bool) (commands : List (Command A C)) (refused : List ℕ) → AreRefused kind word commands refused → IsLeftOut kind.rules commands (accepted_of refused commands)
   left-out word commands refused are =
-      left-by kind word commands refused are (IsLeftOut kind.rules) (left-more kind.rules) (λ done fewer command. left-refused word refused done fewer command (Contains refused (length done))) [] commands refl
-      (record { plan = refl; streams = refl; drawn = refl; trace = λ z. refl })
+      left-by kind word commands refused are (IsLeftOut kind.rules) (left-more kind.rules)
+      (λ done fewer command. left-refused word refused done fewer command (Contains refused (length done))) [] commands refl (record { plan = refl; streams = refl; drawn = refl; trace = λ z. refl })

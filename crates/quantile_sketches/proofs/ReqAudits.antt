@@ -47,6 +47,7 @@ module _ {A : Type 0} {cmp : A → A → Ordering} (o : IsTotalOrder cmp) (spell
       IsRelative (shape_at commands slot).k (compacted_in (shape_at commands slot)) bits (scatter_of weights rank) (off_tail_at cmp y criteria commands slot)
   weights-relative rank is =
       let same : scatter_of weights rank ≡ squared_errors cmp y criteria commands bits slot =
-      weights-measured req_rules cmp y criteria commands slot weights words weights-are (λ weight. square (distance weight rank)) ∙ ap (λ (n : ℕ). sum_over_words bits (λ word. square (distance (under word) n))) is in
+      weights-measured req_rules cmp y criteria commands slot weights words weights-are (λ weight. square (distance weight rank))
+      ∙ ap (λ (n : ℕ). sum_over_words bits (λ word. square (distance (under word) n))) is in
       subst (λ (n : ℕ). let s = shape_at commands slot in IsRelative s.k (compacted_in s) bits n (off_tail_at cmp y criteria commands slot)) (sym same)
       (run-relative cmp commands slot only bits (omega arith) y criteria (updates_relative o))

@@ -27,7 +27,8 @@ module _ {A : Type 0} {cmp : A → A → Ordering} (o : IsTotalOrder cmp) (spell
   sheds-left : (before : List (ReqCommand A)) (c : ReqCommand A) (P : Type 0) → IsRefusedExactly (req_kind cmp spelling) word refused before c P → P →
       Sheds (events_of req_rules (plan_of req_rules before) c) []
   sheds-left before (RoundTrip slot) P h p =
-      elim (is_refused {A = A} req_rules (plan_of req_rules before).shapes (RoundTrip slot)) as (λ b. Sheds (if b then [] else accepted_events {A = A} req_rules (plan_of req_rules before) (RoundTrip slot)) []) [
+      let plan = plan_of req_rules before in
+      elim (is_refused {A = A} req_rules plan.shapes (RoundTrip slot)) as (λ b. Sheds (if b then [] else accepted_events {A = A} req_rules plan (RoundTrip slot)) []) [
         | true ↦ none
         | false ↦ shed slot [] [] none
       ]

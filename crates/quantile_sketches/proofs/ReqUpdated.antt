@@ -27,6 +27,7 @@ use Rattle.quantile_sketches.specs.ReqRules.{ReqShape, new_shape, merge_actions_
 use Rattle.quantile_sketches.specs.ReqRun.{merged_in}
 use Rattle.quantile_sketches.specs.ReqUpdated.{accepted_only_updated, only_updated_after, only_updated_from, was_only_updated, compacted_in, off_tail_at, squared_errors}
 use Rattle.quantile_sketches.specs.Run.{accepted_streams, streams_after, streams_from, stream_of, IsUnbiased}
+use Rattle.quantile_sketches.proofs.LegalPlans.{at_slot, changed-away}
 use Rattle.quantile_sketches.proofs.ReqShapes.{events_merged, req_merge_events, accepted_req_events, req_merge_shapes, accepted_req_shapes, updated_shape, either-way}
 use Rattle.quantile_sketches.proofs.ReqPlanFits.{run-fits}
 use Rattle.quantile_sketches.proofs.ReqRuleLaws.{req_lawful, merged_as}
@@ -78,11 +79,10 @@ module _ {A : Type 0} where
   own-changed : (shapes : ℕ → Option ReqShape) (only : ℕ → Bool) (trace : List (Event A)) (streams : ℕ → List A) → AreOwn shapes only trace streams →
       (s : ℕ) (events : List (Event A)) (shape : Option ReqShape) (b : Bool) (stream : List A) → ((j : ℕ) → (j == s) ≡ false → picked j (trace ++ events) ≡ picked j trace) →
       IsOwn shape b (picked s (trace ++ events)) stream → AreOwn (changed shapes s shape) (changed only s b) (trace ++ events) (changed streams s stream)
-  own-changed shapes only trace streams h s events shape b stream away here j = go (j == s) refl
-    where
-      go : (at : Bool) → (j == s) ≡ at → IsOwn (if at then shape else shapes j) (if at then b else only j) (picked j (trace ++ events)) (if at then stream else streams j)
-      go true e = subst (λ (i : ℕ). IsOwn shape b (picked i (trace ++ events)) stream) (sym (eqb-true j s e)) here
-      go false e = subst (λ (actions : List (Action A)). IsOwn (shapes j) (only j) actions (streams j)) (sym (away j e)) (h j)
+  own-changed shapes only trace streams h s events shape b stream away here =
+      at_slot s (λ j. IsOwn (changed shapes s shape j) (changed only s b j) (picked j (trace ++ events)) (changed streams s stream j))
+      (rw (changed-there shapes s shape, changed-there only s b, changed-there streams s stream) here)
+      (λ j e. rw (changed-away shapes s shape j e, changed-away only s b j e, changed-away streams s stream j e, away j e) (h j))
 
   fresh-cleared : (slot k : ℕ) (accuracy : RankAccuracy) (trace : List (Event A)) → IsFresh (new_shape k accuracy) (picked slot (trace ++ events_at slot (Clear ∷ []))) []
   fresh-cleared slot k accuracy trace = record { actions_are = picked-cleared slot trace; layouts_are = refl }

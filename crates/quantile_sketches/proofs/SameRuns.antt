@@ -44,7 +44,8 @@ module _ {S Source : Type 0} where
     pub refuses : (s t : S) (coins left : Source) (e : ErrorKind) → call s coins (Err e) t left → (e ≡ OutOfMemory → ⊥) → (e ≡ InvalidArgument) × (t ≡ s) × (left ≡ coins)
 
   -- a call that is always refused
-  pub settled-never : {call : Change Source S} → ((s t : S) (coins left : Source) (r : Result Unit ErrorKind) → call s coins r t left → IsErrOf r InvalidArgument × (t ≡ s) × (left ≡ coins)) → IsSettled call
+  pub settled-never : {call : Change Source S} → ((s t : S) (coins left : Source) (r : Result Unit ErrorKind) → call s coins r t left →
+      IsErrOf r InvalidArgument × (t ≡ s) × (left ≡ coins)) → IsSettled call
   settled-never never = record {
     one = λ s t u coins left left' h h'. absurd (no-err tt InvalidArgument (never s t coins left (Ok tt) h).0);
     clash = λ s t u coins left left' e h h'. absurd (no-err tt InvalidArgument (never s t coins left (Ok tt) h).0);

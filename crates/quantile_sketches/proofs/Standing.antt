@@ -102,9 +102,10 @@ module _ {A C Shape S Source : Type 0} {kind : Kind A C Shape S} (lawful : IsLaw
 
   -- ---- what is promised of the sketches
 
-  pub standing-shapes : (commands : List (Command A C)) (slots : Held S) (source : Source) → Stands commands slots source → (q : ℕ) → shapes_in kind.shape slots q ≡ (plan_of kind.rules commands).shapes q
+  pub standing-shapes : (commands : List (Command A C)) (slots : Held S) (source : Source) → Stands commands slots source →
+      (q : ℕ) → shapes_in kind.shape slots q ≡ (plan_of kind.rules commands).shapes q
   standing-shapes commands slots source st =
-      (st.stand (bits_from bit next seed (coins (trace_of kind.rules commands))) (bits-take bit next seed (coins (trace_of kind.rules commands)) (coins (trace_of kind.rules commands)) (omega arith))).shapes
+      let n = coins (trace_of kind.rules commands) in (st.stand (bits_from bit next seed n) (bits-take bit next seed n n (omega arith))).shapes
 
   module _ (commands : List (Command A C)) (slots : Held S) (source : Source) (st : Stands commands slots source) (slot : ℕ) (s : S) (held : slots slot ≡ Some s) where
     abbrev pub given : List Bool

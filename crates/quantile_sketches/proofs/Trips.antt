@@ -6,9 +6,10 @@ use Rattle.sketch_base.specs.Bag.{Bag, Taken, level_at, with_level, compaction}
 use Rattle.sketch_base.specs.Fair.{reaches, is_fair}
 use Rattle.sketch_base.specs.Lengths.{ObeysScratch, Along, TakesEven, lengths_after, world_lengths}
 use Rattle.sketch_base.specs.Trace.{Action, Put, Pull, Join, Compact, Forget, Redraw, Clear, Fresh, Turned, Event, Snap, At, Work, World, changed, act, happens, is_req, next_bit, play}
-use Rattle.sketch_base.proofs.Changes.{changed-itself}
+use Rattle.sketch_base.proofs.Changes.{changed-there, changed-itself}
 use Rattle.sketch_base.proofs.Fixed.{lengths-happens}
 use Rattle.sketch_base.proofs.Picks.{Sheds, none, kept, shed}
+use Rattle.quantile_sketches.proofs.LegalPlans.{at_slot, changed-away}
 
 module _ {A : Type 0} where
   -- a trace without its Forgets
@@ -34,11 +35,10 @@ module _ {A : Type 0} where
   one-same : (drawn : ℕ → ℕ → Bool) (slots slots' : ℕ → Bag A) (reach reach' : ℕ → Bool) → ((i : ℕ) → reach i ≡ true → AreSame (drawn i) (slots i) (slots' i)) →
       (s : ℕ) (row : ℕ → Bool) (bag bag' : Bag A) → ((i : ℕ) → (i == s) ≡ false → reach' i ≡ true → reach i ≡ true) → (reach' s ≡ true → AreSame row bag bag') →
       (i : ℕ) → reach' i ≡ true → AreSame (changed drawn s row i) (changed slots s bag i) (changed slots' s bag' i)
-  one-same drawn slots slots' reach reach' all s row bag bag' back here i reached = go (i == s) refl
-    where
-      go : (b : Bool) → (i == s) ≡ b → AreSame (if b then row else drawn i) (if b then bag else slots i) (if b then bag' else slots' i)
-      go true e = here (ap reach' (sym (eqb-true i s e)) ∙ reached)
-      go false e = all i (back i e reached)
+  one-same drawn slots slots' reach reach' all s row bag bag' back here =
+      at_slot s (λ i. reach' i ≡ true → AreSame (changed drawn s row i) (changed slots s bag i) (changed slots' s bag' i))
+      (rw (changed-there drawn s row, changed-there slots s bag, changed-there slots' s bag') here)
+      (λ i e reached. rw (changed-away drawn s row i e, changed-away slots s bag i e, changed-away slots' s bag' i e) (all i (back i e reached)))
 
   -- levels without items
   no-items : (levels levels' : List (List A)) → map length levels ≡ map length levels' → sum (map length levels) ≡ 0 → levels ≡ levels'
@@ -59,11 +59,10 @@ module _ {A : Type 0} where
 -- one bit kept anew
 kept-changed : (row bits bits' : ℕ → Bool) (h : ℕ) (bit bit' : Bool) → bit ≡ bit' → ((j : ℕ) → (j == h) ≡ false → row j ≡ true → bits j ≡ bits' j) →
     (j : ℕ) → row j ≡ true → changed bits h bit j ≡ changed bits' h bit' j
-kept-changed row bits bits' h bit bit' same others j drawn = go (j == h) refl
-  where
-    go : (b : Bool) → (j == h) ≡ b → (if b then bit else bits j) ≡ (if b then bit' else bits' j)
-    go true e = same
-    go false e = others j e drawn
+kept-changed row bits bits' h bit bit' same others =
+    at_slot h (λ j. row j ≡ true → changed bits h bit j ≡ changed bits' h bit' j)
+    (λ drawn. rw (changed-there bits h bit, changed-there bits' h bit') same)
+    (λ j e drawn. rw (changed-away bits h bit j e, changed-away bits' h bit' j e) (others j e drawn))
 
 -- which others were drawn
 drawn-others : (drawn : ℕ → Bool) (h j : ℕ) → (j == h) ≡ false → changed drawn h true j ≡ true → drawn j ≡ true
