@@ -16,6 +16,7 @@ use Rattle.quantile_sketches.specs.KllRules.{KllShape, kll_rules}
 use Rattle.quantile_sketches.specs.Plan.{Plan, start_plan, actions_on, events_at, count_of, shape_after, accepted_events, events_of, plan_after, trace_from}
 use Rattle.quantile_sketches.specs.Rollup.{Standing, Free, Used, Mixed, joined, used, is_tree, accepted_standings, standings_after, standings_from, TreesTakeOnce}
 use Rattle.quantile_sketches.proofs.KllRuleLaws.{kll_lawful}
+use Rattle.quantile_sketches.proofs.Rollups.{coins-from}
 use Rattle.quantile_sketches.proofs.LegalPlans.{changed-away, at_slot, not-none, some-there, then-there, merge-either, IsSteady, steady-start, steady-after, refused-or-taken}
 
 -- ---- standings
@@ -209,29 +210,8 @@ module _ {A : Type 0} where
       let (other, held_other, none) = then-there ((kll_rules {A = A}).merged true s) (plan.shapes source) t u in
       absurd (not-none t none)
 
-  events-trees : (plan : Plan KllShape) → IsSteady (kll_lawful {A = A}) plan → (stands : ℕ → Standing) (once : ℕ → Bool) (shares : ℕ → List ℕ) → AreAsMany shares → AreTrees stands once shares →
-      (command : Command A ℕ) → TreesBy (standings_after kll_rules plan stands command) once shares (events_of kll_rules plan command)
-  events-trees plan st stands once shares many i command =
-      refused-or-taken (kll_rules {A = A}) plan command
-      (λ (refused : Bool) (shapes : ℕ → Option KllShape) (events : List (Event A)).
-      TreesBy (if refused then stands else accepted_standings kll_rules plan.shapes stands command) once shares events) i
-      (λ e. let (t, f) = some-there (shape_after kll_rules plan.shapes command) e in accepted-trees plan st stands once shares many i command t f)
-
-  trees-from : (plan : Plan KllShape) → IsSteady (kll_lawful {A = A}) plan → (stands : ℕ → Standing) (once : ℕ → Bool) (shares : ℕ → List ℕ) → AreAsMany shares → AreTrees stands once shares →
-      (commands : List (Command A ℕ)) → TreesBy (standings_from kll_rules plan stands commands) once shares (trace_from kll_rules plan commands)
-  trees-from plan st stands once shares many i [] = i
-  trees-from plan st stands once shares many i (command ∷ rest) =
-      let next = plan_after kll_rules plan command in
-      let events : List (Event A) = events_of kll_rules plan command in
-      let others : List (Event A) = trace_from kll_rules next rest in
-      let stands' : ℕ → Standing = standings_after kll_rules plan stands command in
-      let once' : ℕ → Bool = takes_once events shares once in
-      let shares' : ℕ → List ℕ = all_shares events shares in
-      rw (takes_once-append events others shares once, all_shares-append events others shares)
-      (trees-from next (steady-after kll_lawful plan st command) stands' once' shares' (as_many-all events shares many) (events-trees plan st stands once shares many i command) rest)
-
   -- so trees of merges take each coin in once
   pub trees-take_once : TreesTakeOnce A
   trees-take_once commands slot t =
-      (trees-from start_plan (steady-start kll_lawful) (λ s. Free) (λ s. true) (λ s. []) (λ i j. refl)
+      (coins-from (λ plan. accepted_standings kll_rules plan.shapes) (λ shapes world. AreTrees) accepted-trees start_plan (steady-start kll_lawful) (λ s. Free) (λ s. true) (λ s. []) (λ i j. refl)
       (record { taken = λ j t. refl; apart = λ i j ne f g. refl }) commands).taken slot t
