@@ -265,8 +265,9 @@ module _ {A : Type 0} {cmp : A → A → Ordering} (o : IsTotalOrder cmp) (spell
           (subst (λ (l : List A). P (req_shape s) l (squared_errors cmp y criteria (accepted runs word) (length word) slot)) (accepted-stream was_only_updated (updated-shed cmp) runs slot show)
           (subst (λ (shape : ReqShape). P shape (stream_of req_rules (accepted runs word) slot) (squared_errors cmp y criteria (accepted runs word) (length word) slot)) accepted-shape is))
 
-      own-relative : IsRelative s.k (length s.levels - 1) (length word) squares (off_protected_end cmp s.accuracy y criteria (stream_of req_rules commands slot))
-      own-relative =
+      -- errors are relative where slots were only updated
+      pub runs-relative : IsRelative s.k (length s.levels - 1) (length word) squares (off_protected_end cmp s.accuracy y criteria (stream_of req_rules commands slot))
+      runs-relative =
           subst (λ (levels : ℕ). IsRelative s.k (levels - 1) (length word) squares (off_protected_end cmp s.accuracy y criteria (stream_of req_rules commands slot))) (length-layouts s.levels)
           (as-run (λ shape stream n. IsRelative shape.k (compacted_in shape) (length word) n (off_protected_end cmp shape.accuracy y criteria stream))
           (run-relative cmp (accepted runs word) slot (show word refl) (length word) (accepted-enough was_only_updated (updated-shed cmp) runs slot show) y criteria (updates_relative o)))
@@ -277,10 +278,6 @@ module _ {A : Type 0} {cmp : A → A → Ordering} (o : IsTotalOrder cmp) (spell
           as-run (λ shape stream n. let count = off_protected_end cmp shape.accuracy y criteria stream in 24 ≤ shape.k → Reaches shape.k count levels → IsRelative shape.k levels (length word) n count)
           (run-relative_to_counts cmp (accepted runs word) slot (show word refl) (length word) (accepted-enough was_only_updated (updated-shed cmp) runs slot show) y criteria (updates_relative_to_counts o) levels)
           great
-
-    -- errors are relative where slots were only updated
-    pub runs-relative : ArePlanned (req_kind cmp spelling) commands slots → AreRelative cmp spelling commands word slots
-    runs-relative planned runs slot s held show y criteria = own-relative planned runs slot s held show y criteria
 
     -- for a k of at least 24, to counts alone
     pub runs-relative_to_counts : ArePlanned (req_kind cmp spelling) commands slots → AreRelativeToCounts cmp spelling commands word slots

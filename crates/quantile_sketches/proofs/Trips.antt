@@ -216,18 +216,13 @@ module _ {A : Type 0} (cmp : A → A → Ordering) (slot : ℕ) where
           lengths_are' =
               agree.lengths_are'
               ∙ sym (ap (λ (f : ℕ → List ℕ). let w : World (List ℕ) = record { slots = f; scratch = lengths.scratch; target = lengths.target } in w) (changed-itself lengths.slots s));
-          slots = λ i reached. left i (i == s) refl reached;
+          slots = at_slot s (λ i. reaches es slot i ≡ true → AreSame (changed drawn s (λ h. false) i) (changed world.slots s (acted s Forget bit world).bag i) (world'.slots i))
+              (λ reached.
+              let same = agree.slots s reached in
+              rw (changed-there drawn s (λ h. false), changed-there world.slots s (acted s Forget bit world).bag) (record { levels = same.levels; sorted = same.sorted; kept = λ h d. absurd (false≢true d) }))
+              (λ i e reached. rw (changed-away drawn s (λ h. false) i e, changed-away world.slots s (acted s Forget bit world).bag i e) (agree.slots i reached));
           scratch = agree.scratch;
         }
-      where
-        left : (i : ℕ) (b : Bool) → (i == s) ≡ b → reaches es slot i ≡ true →
-            AreSame ((if b then (λ h. false) else drawn i)) (if b then (acted s Forget bit world).bag else world.slots i) (world'.slots i)
-        left i true e reached =
-            let same = agree.slots i reached in
-            let here : (world.slots i).levels ≡ (world.slots s).levels = ap (λ (j : ℕ). (world.slots j).levels) (eqb-true i s e) in
-            let flag : (world.slots i).is_sorted ≡ (world.slots s).is_sorted = ap (λ (j : ℕ). (world.slots j).is_sorted) (eqb-true i s e) in
-            record { levels = sym here ∙ same.levels; sorted = sym flag ∙ same.sorted; kept = λ h d. absurd (false≢true d) }
-        left i false e reached = agree.slots i reached
 
   -- so the slot holds the same items in the end
   pub shed-same : (es es' : List (Event A)) → Sheds es es' → (drawn : ℕ → ℕ → Bool) (lengths : World (List ℕ)) → is_fair es slot drawn ≡ true → ObeysScratch es lengths → Along TakesEven es lengths →
