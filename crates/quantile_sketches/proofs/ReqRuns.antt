@@ -64,7 +64,7 @@ use Rattle.quantile_sketches.proofs.WordSums.{sum-long}
 -- ---- of every list of commands
 
 module _ {A : Type 0} where
-  pub req-legal : (commands : List (ReqCommand A)) → IsLegalReq (λ s. 0) (trace_of req_rules commands)
+  req-legal : (commands : List (ReqCommand A)) → IsLegalReq (λ s. 0) (trace_of req_rules commands)
   req-legal commands = let r = run-legal req_lawful commands in record { scratch = r.scratch; sizes = r.meets }
 
 module _ {A : Type 0} {cmp : A → A → Ordering} (o : IsTotalOrder cmp) where

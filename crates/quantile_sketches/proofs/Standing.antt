@@ -32,7 +32,7 @@ pub record Standing {A C Shape S Source : Type 0} (kind : Kind A C Shape S) (bit
       Stand kind (plan_of kind.rules commands) (stream_of kind.rules commands) (play kind.cmp (trace_of kind.rules commands) word start) slots
 
 module _ {A C Shape S Source : Type 0} {kind : Kind A C Shape S} (lawful : IsLawful kind) (bit : Source → Bool) (next : Source → Source) (seed : Source) where
-  abbrev pub Stands : List (Command A C) → Held S → Source → Type 0
+  abbrev Stands : List (Command A C) → Held S → Source → Type 0
   Stands commands slots source = Standing kind bit next seed commands slots source
 
   -- from empty slots on

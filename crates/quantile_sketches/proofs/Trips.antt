@@ -219,7 +219,8 @@ module _ {A : Type 0} (cmp : A → A → Ordering) (slot : ℕ) where
           slots = at_slot s (λ i. reaches es slot i ≡ true → AreSame (changed drawn s (λ h. false) i) (changed world.slots s (acted s Forget bit world).bag i) (world'.slots i))
               (λ reached.
               let same = agree.slots s reached in
-              rw (changed-there drawn s (λ h. false), changed-there world.slots s (acted s Forget bit world).bag) (record { levels = same.levels; sorted = same.sorted; kept = λ h d. absurd (false≢true d) }))
+              rw (changed-there drawn s (λ h. false), changed-there world.slots s (acted s Forget bit world).bag)
+              (record { levels = same.levels; sorted = same.sorted; kept = λ h d. absurd (false≢true d) }))
               (λ i e reached. rw (changed-away drawn s (λ h. false) i e, changed-away world.slots s (acted s Forget bit world).bag i e) (agree.slots i reached));
           scratch = agree.scratch;
         }
