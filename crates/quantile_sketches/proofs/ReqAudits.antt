@@ -1,5 +1,5 @@
 -- What an audit of a REQ slot gives where the slot was only updated: its weights average out, and their errors are relative.
-use Rattle.std.proofs.Common.{◌≡◌, ℕ, ◌*◌, ◌^◌, Bool, true, List, length, map, sum, Option, Some, sym, ap, ◌∙◌, subst, arith, Ordering}
+use Rattle.std.proofs.Common.{◌≡◌, ℕ, ◌*◌, ◌^◌, Bool, true, List, length, sum, Option, Some, sym, ap, ◌∙◌, subst, arith, Ordering}
 use Rattle.std.specs.Cmp.{IsTotalOrder}
 use Rattle.sketch_base.specs.declared.common.SearchCriteria.{SearchCriteria}
 use Rattle.sketch_base.specs.Bag.{weighted_rank}

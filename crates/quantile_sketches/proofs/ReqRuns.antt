@@ -38,7 +38,7 @@ use Rattle.quantile_sketches.specs.Outcome.{Slots, sketch_at, ArePlanned, ArePla
 use Rattle.quantile_sketches.specs.Plan.{Plan, start_plan, plan_of, trace_of}
 use Rattle.quantile_sketches.specs.Refused.{accepted_of, AreRefused}
 use Rattle.quantile_sketches.specs.ReqKind.{FitsReq, req_kind, req_shape}
-use Rattle.quantile_sketches.specs.ReqOutcome.{AreInOrder, HaveFewLevels, AreBelowNominal, TailsAreK, IsExact, TailsAreExact, AreReadBack, AreRelative, AreRelativeToCounts}
+use Rattle.quantile_sketches.specs.ReqOutcome.{AreInOrder, HaveFewLevels, AreBelowNominal, TailsAreK, IsExact, TailsAreExact, AreReadBack, AreRelativeToCounts}
 use Rattle.quantile_sketches.specs.ReqPlan.{ReqCommand, shape_in, tails_of}
 use Rattle.quantile_sketches.specs.ReqRules.{ReqShape, req_rules}
 use Rattle.sketch_req.specs.Relative.{off_protected_end, IsRelative, Reaches}

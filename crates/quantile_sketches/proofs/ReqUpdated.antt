@@ -6,7 +6,7 @@ use Rattle.std.proofs.lemmas.Nat.{pow-add}
 use Rattle.sketch_base.specs.declared.common.SearchCriteria.{SearchCriteria}
 use Rattle.sketch_base.specs.Bag.{Bag, empty_bag, weighted_rank}
 use Rattle.sketch_base.specs.Query.{counted, true_rank}
-use Rattle.sketch_base.specs.Trace.{Action, Put, Pull, Join, Compact, Clear, Forget, Redraw, Event, At, World, changed, bag_after, draws_of, coins, play, start}
+use Rattle.sketch_base.specs.Trace.{Action, Compact, Clear, Forget, Redraw, Event, At, World, changed, bag_after, draws_of, coins, play, start}
 use Rattle.sketch_base.specs.Words.{sum_over_words, distance, square}
 use Rattle.sketch_base.proofs.AllParts.{all-append}
 use Rattle.sketch_base.proofs.Average.{sum_over_words-same}

@@ -4,7 +4,7 @@ use Rattle.std.proofs.lemmas.Bool.{cases_Bool, eqb-false, false≢true}
 use Rattle.std.specs.Cmp.{IsTotalOrder}
 use Rattle.std.specs.Ordering.{is_eq}
 use Rattle.sketch_base.specs.Bag.{Bag}
-use Rattle.sketch_base.specs.declared.error.ErrorKind.TheVariants.{InvalidArgument, OutOfMemory}
+use Rattle.sketch_base.specs.declared.error.ErrorKind.TheVariants.{InvalidArgument}
 use Rattle.sketch_base.specs.declared.error.ErrorKind.{ErrorKind}
 use Rattle.std.specs.declared.alloc.Global.{Global}
 use Rattle.std.specs.declared.vec.Vec.{Vec}
@@ -17,7 +17,7 @@ use Rattle.sketch_kll.specs.Levels.{SameLevels}
 use Rattle.sketch_kll.specs.Sketch.{Kll, bag_of, sketch_of}
 use Rattle.sketch_kll.proofs.ImageTexts.{one_sketch_lem}
 use Rattle.sketch_kll.proofs.OneCall.{one-update, one-weighted, one-merge}
-use Rattle.quantile_sketches.specs.KllBehaviour.{kll, IsMade, IsEmptied, TakesWeighted, DrawsNone, JoinsIn, MergesIn}
+use Rattle.quantile_sketches.specs.KllBehaviour.{kll, IsMade, IsEmptied, DrawsNone, JoinsIn, MergesIn}
 use Rattle.quantile_sketches.specs.SameRun.{CommandsMakeOne}
 use Rattle.quantile_sketches.proofs.Refused.{err-of, kind-of, settled-by, unread, unwritten-kind, so-same, so-most, so-either, below}
 use Rattle.quantile_sketches.proofs.SameRuns.{IsOne, IsSettled, MakesOne, no-err, settled-never, one-run}

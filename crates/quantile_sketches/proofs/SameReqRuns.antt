@@ -17,11 +17,11 @@ use Rattle.sketch_req.specs.Sketch.{Req, sketch_of}
 use Rattle.sketch_req.specs.declared.RankAccuracy.{RankAccuracy}
 use Rattle.sketch_req.proofs.OneCall.{one-update, one-merge}
 use Rattle.sketch_req.proofs.OneSketch.{one_sketch}
-use Rattle.sketch_base.specs.declared.error.ErrorKind.TheVariants.{InvalidArgument, OutOfMemory}
+use Rattle.sketch_base.specs.declared.error.ErrorKind.TheVariants.{InvalidArgument}
 use Rattle.sketch_base.specs.declared.error.ErrorKind.{ErrorKind}
 use Rattle.std.specs.declared.alloc.Global.{Global}
 use Rattle.std.specs.declared.vec.Vec.{Vec}
-use Rattle.quantile_sketches.specs.ReqBehaviour.{req, IsEmptyOf, IsCopied, IsUnfit, JoinsIn}
+use Rattle.quantile_sketches.specs.ReqBehaviour.{req, IsEmptyOf, IsCopied, IsUnfit}
 use Rattle.quantile_sketches.specs.ReqRules.{may_be_k, is_same}
 use Rattle.quantile_sketches.specs.SameRun.{CommandsMakeOne}
 use Rattle.quantile_sketches.proofs.ReqCopies.{copied-levels}

@@ -7,7 +7,7 @@ use Rattle.std.specs.declared.vec.Vec.{Vec}
 use Rattle.sketch_base.specs.declared.error.ErrorKind.{ErrorKind}
 use Rattle.sketch_base.specs.declared.error.ErrorKind.TheVariants.{InvalidArgument, OutOfMemory}
 use Rattle.quantile_sketches.specs.Behaviour.{Behaviour, Change}
-use Rattle.quantile_sketches.specs.declared.answer.Refusal.TheVariants.{BadLine, AbsentSlot, Sketch}
+use Rattle.quantile_sketches.specs.declared.answer.Refusal.TheVariants.{Sketch}
 use Rattle.quantile_sketches.specs.declared.audit.commands.Command.{Command}
 use Rattle.quantile_sketches.specs.declared.audit.commands.Command.TheVariants.{New, Update, UpdateWeighted, Merge, Reset, RoundTrip, Redraw, MergeRedrawn}
 use Rattle.quantile_sketches.specs.SameRun.{AreCarriedOut, CommandsMakeOne}

@@ -2,17 +2,16 @@
 use Rattle.std.proofs.Common.{◌≡◌, ℕ, zero, suc, ◌+◌, ◌-◌, ◌≤◌, Bool, true, false, if◌then◌else◌, List, [], ◌∷◌, ◌++◌, length, take, drop, None, Some, refl, sym, ap, ◌∙◌, subst, arith}
 use Rattle.std.proofs.lemmas.List.{drop-take}
 use Rattle.std.specs.Option.{option_map}
-use Rattle.sketch_base.specs.Bag.{Bag}
 use Rattle.sketch_base.specs.Random.{bits_from, after_draws}
-use Rattle.sketch_base.specs.Trace.{Event, World, play, start, coins, event_draws, act, happens}
+use Rattle.sketch_base.specs.Trace.{play, start, coins, event_draws, act, happens}
 use Rattle.sketch_base.proofs.Calls.{bits-take, bits-drop, after_draws-add}
 use Rattle.sketch_base.proofs.PlaysInParts.{in_turn-append}
 use Rattle.quantile_sketches.specs.declared.audit.commands.Command.{Command}
 use Rattle.quantile_sketches.specs.Outcome.{shapes_in, WeighsStream, HasExtremes}
-use Rattle.quantile_sketches.specs.Plan.{Plan, start_plan, count_of, events_of, plan_after, plan_of, trace_of}
+use Rattle.quantile_sketches.specs.Plan.{start_plan, count_of, events_of, plan_of, trace_of}
 use Rattle.quantile_sketches.specs.RuleLaws.{IsLawful}
 use Rattle.quantile_sketches.specs.Rules.{Kind}
-use Rattle.quantile_sketches.specs.Run.{accepted_streams, streams_after, stream_of}
+use Rattle.quantile_sketches.specs.Run.{accepted_streams, stream_of}
 use Rattle.quantile_sketches.specs.RunSteps.{Held, AreSame, IsExecuted}
 use Rattle.quantile_sketches.proofs.LegalPlans.{steady-start, steady-from, plan-append, trace-more, after-append, coins-more, not-none}
 use Rattle.quantile_sketches.proofs.SlotSteps.{IsOf, Stand, Steps, stand-same, steps}

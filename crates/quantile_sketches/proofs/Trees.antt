@@ -1,11 +1,11 @@
 -- A slot that took updates and free slots alone took each coin in once, and no two free slots have a coin in common.
-use Rattle.std.proofs.Common.{◌≡◌, ℕ, Bool, true, false, ◌&&◌, ◌==◌, if◌then◌else◌, List, [], ◌∷◌, ◌++◌, Option, Some, refl, sym, ap, ◌∙◌, subst, inl, inr, eqb-true}
+use Rattle.std.proofs.Common.{◌≡◌, ℕ, Bool, true, false, ◌&&◌, ◌==◌, if◌then◌else◌, List, [], ◌∷◌, Option, Some, refl, sym, ap, ◌∙◌, subst, inl, inr, eqb-true}
 use Rattle.std.specs.Option.{option_and_then}
 use Rattle.std.proofs.lemmas.Bool.{cases_Bool, and_from, eq-eqb, ne_eqb, false≢true}
 use Rattle.sketch_base.specs.Shares.{shares_after, all_shares, share_no_coin, takes_once}
 use Rattle.sketch_base.specs.Trace.{Action, Clear, Event, Snap, At, Work, changed}
 use Rattle.sketch_base.proofs.Changes.{changed-there}
-use Rattle.sketch_base.proofs.Coins.{AreAsMany, as_many-after, as_many-all, products, AreApart, apart-swapped, apart-cleared, apart-acts, apart-snapped, all_shares-append, takes_once-append, once-elsewhere}
+use Rattle.sketch_base.proofs.Coins.{AreAsMany, as_many-after, products, AreApart, apart-swapped, apart-cleared, apart-acts, apart-snapped, once-elsewhere}
 use Rattle.sketch_kll.specs.Merge.{merge_actions}
 use Rattle.sketch_kll.specs.Schedule.{update_actions}
 use Rattle.sketch_kll.specs.Weighted.{weighted_actions}
@@ -13,11 +13,11 @@ use Rattle.sketch_kll.proofs.RolledCoins.{update-once, merge-once}
 use Rattle.quantile_sketches.specs.declared.audit.commands.Command.{Command}
 use Rattle.quantile_sketches.specs.declared.audit.commands.Command.TheVariants.{New, Update, UpdateWeighted, Merge, Reset, RoundTrip, Redraw, MergeRedrawn}
 use Rattle.quantile_sketches.specs.KllRules.{KllShape, kll_rules}
-use Rattle.quantile_sketches.specs.Plan.{Plan, start_plan, actions_on, events_at, count_of, shape_after, accepted_events, events_of, plan_after, trace_from}
-use Rattle.quantile_sketches.specs.Rollup.{Standing, Free, Used, Mixed, joined, used, is_tree, accepted_standings, standings_after, standings_from, TreesTakeOnce}
+use Rattle.quantile_sketches.specs.Plan.{Plan, start_plan, actions_on, events_at, shape_after, accepted_events}
+use Rattle.quantile_sketches.specs.Rollup.{Standing, Free, Mixed, joined, used, is_tree, accepted_standings, TreesTakeOnce}
 use Rattle.quantile_sketches.proofs.KllRuleLaws.{kll_lawful}
 use Rattle.quantile_sketches.proofs.Rollups.{coins-from}
-use Rattle.quantile_sketches.proofs.LegalPlans.{changed-away, at_slot, not-none, some-there, then-there, merge-either, IsSteady, steady-start, steady-after, refused-or-taken}
+use Rattle.quantile_sketches.proofs.LegalPlans.{changed-away, at_slot, not-none, then-there, merge-either, IsSteady, steady-start}
 
 -- ---- standings
 
