@@ -202,4 +202,4 @@ module _ {A C S Source : Type 0} (behaviour : Behaviour S A C) (bit : Source →
     one-run (command ∷ rest) slots ts us coins left left' (v, n, between, mid, h, on) (w, m, between', mid', h', on') =
         let r = one-command command slots between between' coins mid mid' v w n m h h' in
         one-run rest between ts us mid left left' on
-        (subst (λ (x : Source). AreCarriedOut behaviour bit next rest between x us left') (sym r.2) (subst (λ (x : Slots S). AreCarriedOut behaviour bit next rest x mid' us left') (sym r.1) on'))
+        (rw (r.1, r.2) on')

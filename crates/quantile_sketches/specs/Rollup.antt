@@ -8,7 +8,7 @@ use Rattle.quantile_sketches.specs.declared.audit.commands.Command.{Command}
 use Rattle.quantile_sketches.specs.declared.audit.commands.Command.TheVariants.{New, Update, UpdateWeighted, Merge, Reset, RoundTrip, Redraw, MergeRedrawn}
 use Rattle.quantile_sketches.specs.KllRules.{KllShape, kll_rules}
 use Rattle.quantile_sketches.specs.Outcome.{Slots, EachSketch}
-use Rattle.quantile_sketches.specs.Plan.{Plan, start_plan, count_of, after_command, after_commands, plan_of, trace_of}
+use Rattle.quantile_sketches.specs.Plan.{Plan, start_plan, count_of, after_commands, plan_of, trace_of}
 use Rattle.quantile_sketches.specs.Rules.{Rules}
 
 -- the spread of each sketch that took each coin in once is little for its least k and its count, whatever merges made it
@@ -71,10 +71,7 @@ module _ {A C Shape : Type 0} (rules : Rules A C Shape) where
   accepted_standings shapes stands (Redraw slot) = stands
   accepted_standings shapes stands (MergeRedrawn into source) = merged_standings shapes stands into source
 
-  -- after any command, and after some
-  abbrev pub standings_after : Plan Shape → (ℕ → Standing) → Command A C → ℕ → Standing
-  standings_after = after_command rules (λ plan. accepted_standings plan.shapes)
-
+  -- after some commands, from a plan on
   abbrev pub standings_from : Plan Shape → (ℕ → Standing) → List (Command A C) → ℕ → Standing
   standings_from = after_commands rules (λ plan. accepted_standings plan.shapes)
 
