@@ -53,6 +53,7 @@ module _ {A C Shape : Type 0} (rules : Rules A C Shape) where
       after-append rules accepted start_plan start done c
       ∙ (ap₂ (λ (p : Plan Shape) (s : T). after_command rules accepted p s c) plan state ∙ sym (after-append rules accepted start_plan start fewer c))
 
+  -- what is left out before it is left out with it
   pub left-more : (done fewer : List (Command A C)) (c : Command A C) → IsLeftOut rules done fewer → IsLeftOut rules (done ++ c ∷ []) (fewer ++ c ∷ [])
   left-more done fewer c h = record {
     plan = plan-append rules start_plan done c ∙ (ap (λ (p : Plan Shape). plan_after rules p c) h.plan ∙ sym (plan-append rules start_plan fewer c));

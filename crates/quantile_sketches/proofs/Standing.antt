@@ -101,6 +101,7 @@ module _ {A C Shape S Source : Type 0} {kind : Kind A C Shape S} (lawful : IsLaw
 
   -- ---- what is promised of the sketches
 
+  -- the shapes are the planned ones
   pub standing-shapes : (commands : List (Command A C)) (slots : Held S) (source : Source) → Stands commands slots source →
       (q : ℕ) → shapes_in kind.shape slots q ≡ (plan_of kind.rules commands).shapes q
   standing-shapes commands slots source st =
