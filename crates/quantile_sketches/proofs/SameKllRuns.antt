@@ -70,8 +70,12 @@ module _ {A : Type 0} {cmp : A → A → Ordering} (order : IsTotalOrder cmp) (t
       weighted x weight =
           settled-by (λ s. (weight ≡ 0) ⊎ ((2 ^ 61 ≤ weight) ⊎ (2 ^ 64 ≤ s.n + weight))) (λ s. so-either (so-same weight 0) (so-either (so-most (2 ^ 61) weight) (so-most (2 ^ 64) (s.n + weight))))
           (λ s t u coins left left' h h'. (one-weighted order tied s x weight _ t u h.4 h'.4 h.2 h'.2, h.3 ∙ sym h'.3)) (λ s t coins left r h. h.0)
-          (λ s t coins left e h. (λ denied.
-          h.1 (below 0 weight (λ z. denied (inl (omega (arith, z))))) (below weight (2 ^ 61) (λ z. denied (inr (inl z)))) (below (s.n + weight) (2 ^ 64) (λ z. denied (inr (inr z)))), h.5.0, h.5.1))
+          (λ s t coins left e h. (
+            λ denied.
+                h.1 (below 0 weight (λ z. denied (inl (omega (arith, z))))) (below weight (2 ^ 61) (λ z. denied (inr (inl z)))) (below (s.n + weight) (2 ^ 64) (λ z. denied (inr (inr z)))),
+            h.5.0,
+            h.5.1,
+          ))
 
       -- a merge of an empty sketch, and of one that holds items
       joined-one : (p : Kll A) → IsOne (JoinsIn cmp spelling bit next p)

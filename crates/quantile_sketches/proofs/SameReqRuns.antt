@@ -109,8 +109,12 @@ module _ {A : Type 0} {cmp : A → A → Ordering} (order : IsTotalOrder cmp) (t
           settled-by (λ s. IsUnfit cmp spelling s p)
           (λ s. so-either (so-not (so-accuracy s.accuracy p.accuracy)) (so-either (so-most (2 ^ 64) (s.n + p.n)) (so-most (2 ^ 32) (retained (bag_of s.levels) + retained (bag_of p.levels)))))
           one (λ s t coins left r h. h.0)
-          (λ s t coins left e h. (λ fits.
-          h.1 (same s fits) (below (s.n + p.n) (2 ^ 64) (λ z. fits (inr (inl z)))) (below (retained (bag_of s.levels) + retained (bag_of p.levels)) (2 ^ 32) (λ z. fits (inr (inr z)))), h.6.0, h.6.1))
+          (λ s t coins left e h. (
+            λ fits.
+                h.1 (same s fits) (below (s.n + p.n) (2 ^ 64) (λ z. fits (inr (inl z)))) (below (retained (bag_of s.levels) + retained (bag_of p.levels)) (2 ^ 32) (λ z. fits (inr (inr z)))),
+            h.6.0,
+            h.6.1,
+          ))
         where
           same : (s : Req A) → (IsUnfit cmp spelling s p → ⊥) → s.accuracy ≡ p.accuracy
           same s fits = surely (so-accuracy s.accuracy p.accuracy) (λ differ. fits (inl differ))

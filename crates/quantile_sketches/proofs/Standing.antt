@@ -81,8 +81,12 @@ module _ {A C Shape S Source : Type 0} {kind : Kind A C Shape S} (lawful : IsLaw
         Stand kind (plan_of kind.rules (commands ++ c ∷ [])) (stream_of kind.rules (commands ++ c ∷ [])) (play kind.cmp (trace_of kind.rules (commands ++ c ∷ [])) word start) slots'
     stands-on word agree =
         let all : take (k + m) word ≡ bits_from bit next seed (k + m) = subst (λ (n : ℕ). take n word ≡ bits_from bit next seed n) (coins-more kind.rules commands c) agree in
-        rw (plan-append kind.rules start_plan commands c, after-append kind.rules (λ plan. accepted_streams) start_plan (λ q. []) commands c, trace-more kind.rules commands c,
-            in_turn-append event_draws (happens (act kind.cmp)) (trace_of kind.rules commands) (events_of kind.rules (plan_of kind.rules commands) c) word start)
+        rw (
+          plan-append kind.rules start_plan commands c,
+          after-append kind.rules (λ plan. accepted_streams) start_plan (λ q. []) commands c,
+          trace-more kind.rules commands c,
+          in_turn-append event_draws (happens (act kind.cmp)) (trace_of kind.rules commands) (events_of kind.rules (plan_of kind.rules commands) c) word start,
+        )
         ((step word (front word all)).stands (drop k word) (back word all))
 
     pub standing-more : Stands (commands ++ c ∷ []) slots' source'
