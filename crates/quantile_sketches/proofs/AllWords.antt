@@ -7,20 +7,26 @@ use Rattle.sketch_base.proofs.Alikes.{rank-alike}
 use Rattle.quantile_sketches.specs.declared.audit.commands.Command.{Command}
 use Rattle.quantile_sketches.specs.AllWords.{rank_of}
 use Rattle.quantile_sketches.specs.Audit.{rank_under}
-use Rattle.quantile_sketches.specs.Plan.{count_of, trace_of}
+use Rattle.quantile_sketches.specs.Plan.{count_of, plan_of, trace_of}
 use Rattle.quantile_sketches.specs.Refused.{accepted_of, LeadTo}
 use Rattle.quantile_sketches.specs.RuleLaws.{IsLawful}
 use Rattle.quantile_sketches.specs.Rules.{Kind}
+use Rattle.quantile_sketches.specs.Run.{stream_of}
 use Rattle.quantile_sketches.specs.RunSteps.{Held}
-use Rattle.quantile_sketches.proofs.AfterCommands.{Arrives, arrives}
+use Rattle.quantile_sketches.proofs.AfterCommands.{Arrives, arrives, going-stand}
 use Rattle.quantile_sketches.proofs.Audits.{rank-nothing}
 use Rattle.quantile_sketches.proofs.LeftOut.{IsLeftOut, left-out}
+use Rattle.quantile_sketches.proofs.SlotSteps.{Stand}
 use Rattle.quantile_sketches.proofs.Streams.{run-counts}
 
 module _ {A C Shape S : Type 0} {kind : Kind A C Shape S} (lawful : IsLawful kind) (commands : List (Command A C)) (word : List Bool) (refused : List ℕ) (slots : Held S)
     (lead : LeadTo kind word commands refused slots) (enough : coins (trace_of kind.rules commands) ≤ length word) (few : length word < 2 ^ 64 - 1) where
   arrived : Arrives lawful word commands refused slots
   arrived = arrives lawful word commands refused slots lead enough few
+
+  stood : Stand kind (plan_of kind.rules (accepted_of arrived.numbers commands)) (stream_of kind.rules (accepted_of arrived.numbers commands))
+      (play kind.cmp (trace_of kind.rules (accepted_of arrived.numbers commands)) word start) slots
+  stood = going-stand lawful word commands slots arrived.numbers arrived.source arrived.going few
 
   -- the commands that are refused may be left out
   pub led-left-out : IsLeftOut kind.rules commands (accepted_of refused commands)
@@ -35,9 +41,9 @@ module _ {A C Shape S : Type 0} {kind : Kind A C Shape S} (lawful : IsLawful kin
 
       go : (o : Option S) → slots slot ≡ o → rank_of kind y criteria o ≡ rank_under kind.rules kind.cmp y criteria fewer slot word
       go None absent =
-          let shape = sym (ap (option_map kind.shape) absent) ∙ arrived.going.stand.shapes slot in
+          let shape = sym (ap (option_map kind.shape) absent) ∙ stood.shapes slot in
           sym (rank-nothing lawful y criteria fewer slot word (sym (run-counts lawful.rules fewer slot) ∙ sym (ap (count_of kind.rules) shape)))
       go (Some s) held =
-          let alike = (arrived.going.stand.sketches slot s held).alike in
+          let alike = (stood.sketches slot s held).alike in
           let bag = (play kind.cmp (trace_of kind.rules fewer) word start).slots slot in
           sym (rank-alike lawful.total y criteria bag (kind.bag s) (lawful.alike_levels bag (kind.bag s) alike))

@@ -1,7 +1,6 @@
 -- The accepted commands of a run give the plan, the streams and the coins of all its commands.
-use Rattle.std.proofs.Common.{◌≡◌, ℕ, zero, suc, Bool, true, false, ◌==◌, if◌then◌else◌, List, [], ◌∷◌, ◌++◌, length, fold, Option, refl, sym, ap, ap₂, ◌∙◌, subst, arith, append_assoc, append-nil, zero-add, eqb-true}
-use Rattle.std.specs.Prelude.{Contains}
-use Rattle.std.proofs.lemmas.List.{length_push}
+use Rattle.std.proofs.Common.{◌≡◌, ℕ, Bool, true, false, ◌==◌, if◌then◌else◌, List, [], ◌∷◌, ◌++◌, length, fold, Option, refl, sym, ap, ap₂, ◌∙◌, subst, arith, append_assoc, append-nil, zero-add, eqb-true}
+use Rattle.std.specs.Prelude.{Contains, ◌↔◌}
 use Rattle.std.proofs.lemmas.Map.Views.{Contains-from_any}
 use mathlib.Core.Path.{fun_ext}
 use Rattle.sketch_base.specs.Lengths.{lengths_after}
@@ -9,15 +8,14 @@ use Rattle.sketch_base.specs.Trace.{Event, World, coins}
 use Rattle.sketch_base.proofs.Calls.{coins-at}
 use Rattle.sketch_base.proofs.Changes.{changed-own}
 use Rattle.quantile_sketches.specs.declared.audit.commands.Command.{Command}
-use Rattle.quantile_sketches.specs.declared.audit.commands.Command.TheVariants.{New, Update, UpdateWeighted, Merge, Reset, RoundTrip, Redraw, MergeRedrawn}
+use Rattle.quantile_sketches.specs.declared.audit.commands.Command.TheVariants.{RoundTrip}
 use Rattle.quantile_sketches.specs.RuleLaws.{IsLawful}
-use Rattle.quantile_sketches.specs.Plan.{Plan, start_plan, events_at, is_refused, accepted_shapes, accepted_events, events_of, plan_after, plan_of, trace_of}
+use Rattle.quantile_sketches.specs.Plan.{Plan, start_plan, events_at, is_refused, accepted_shapes, accepted_events, events_of, plan_after, after_command, after_commands, plan_of, trace_of}
 use Rattle.quantile_sketches.specs.Refused.{is_among, accepted_of, IsRefusedExactly, AreRefused}
 use Rattle.quantile_sketches.specs.Rules.{Rules, Kind}
 use Rattle.quantile_sketches.specs.Run.{accepted_streams, streams_after, stream_of}
-use Rattle.quantile_sketches.proofs.LegalPlans.{plan-append, trace-more, coins-more}
-use Rattle.quantile_sketches.proofs.Refusals.{Ends, empty, last, ends, without-more}
-use Rattle.quantile_sketches.proofs.Streams.{stream-append}
+use Rattle.quantile_sketches.proofs.LegalPlans.{plan-append, after-append, trace-more, coins-more}
+use Rattle.quantile_sketches.proofs.Refusals.{without-more}
 
 -- what does not change where only refused commands are left out; the trace, where a round trip has no actions
 pub record IsLeftOut {A C Shape : Type 0} (rules : Rules A C Shape) (commands fewer : List (Command A C)) : Type 0 where
@@ -37,37 +35,80 @@ module _ {A C Shape : Type 0} (rules : Rules A C Shape) where
   -- a command that changes nothing
   record Leaves (plan : Plan Shape) (command : Command A C) : Type 0 where
     plan_is : plan_after rules plan command ≡ plan
-    streams_are : (streams : ℕ → List A) → streams_after rules plan streams command ≡ streams
     drawn_are : coins (events_of rules plan command) ≡ 0
     trace_is : rules.read_back_actions ≡ [] → events_of rules plan command ≡ []
 
   leaves-refused : (plan : Plan Shape) (command : Command A C) → is_refused rules plan.shapes command ≡ true → Leaves plan command
   leaves-refused plan command e = record {
     plan_is = ap (plan_by plan command) e;
-    streams_are = λ streams. ap (λ (b : Bool). if b then streams else accepted_streams streams command) e;
     drawn_are = ap (λ (b : Bool). coins (if b then [] else accepted_events rules plan command)) e;
     trace_is = λ z. ap (λ (b : Bool). if b then [] else accepted_events rules plan command) e;
   }
 
   -- one command more
-  left-more : (done fewer : List (Command A C)) → IsLeftOut rules done fewer → (c : Command A C) → IsLeftOut rules (done ++ c ∷ []) (fewer ++ c ∷ [])
-  left-more done fewer h c = record {
+  pub state-more : {T : Type 0} (accepted : Plan Shape → T → Command A C → T) (start : T) (done fewer : List (Command A C)) (c : Command A C) → plan_of rules done ≡ plan_of rules fewer →
+      after_commands rules accepted start_plan start done ≡ after_commands rules accepted start_plan start fewer →
+      after_commands rules accepted start_plan start (done ++ c ∷ []) ≡ after_commands rules accepted start_plan start (fewer ++ c ∷ [])
+  state-more {T} accepted start done fewer c plan state =
+      after-append rules accepted start_plan start done c
+      ∙ (ap₂ (λ (p : Plan Shape) (s : T). after_command rules accepted p s c) plan state ∙ sym (after-append rules accepted start_plan start fewer c))
+
+  -- what is left out before it is left out with it
+  pub left-more : (done fewer : List (Command A C)) (c : Command A C) → IsLeftOut rules done fewer → IsLeftOut rules (done ++ c ∷ []) (fewer ++ c ∷ [])
+  left-more done fewer c h = record {
     plan = plan-append rules start_plan done c ∙ (ap (λ (p : Plan Shape). plan_after rules p c) h.plan ∙ sym (plan-append rules start_plan fewer c));
-    streams =
-        stream-append rules start_plan (λ q. []) done c
-        ∙ (ap₂ (λ (p : Plan Shape) (f : ℕ → List A). streams_after rules p f c) h.plan h.streams
-        ∙ sym (stream-append rules start_plan (λ q. []) fewer c));
+    streams = state-more (λ plan. accepted_streams) (λ q. []) done fewer c h.plan h.streams;
     drawn = omega (arith, coins-more rules done c, coins-more rules fewer c, h.drawn, ap (λ (p : Plan Shape). coins (events_of rules p c)) h.plan);
     trace = λ z. trace-more rules done c ∙ (ap₂ (λ (t : List (Event A)) (p : Plan Shape). t ++ events_of rules p c) (h.trace z) h.plan ∙ sym (trace-more rules fewer c));
   }
 
-  left-same : (done fewer : List (Command A C)) → IsLeftOut rules done fewer → (c : Command A C) → Leaves (plan_of rules done) c → IsLeftOut rules (done ++ c ∷ []) fewer
-  left-same done fewer h c l = record {
+  left-same : (done fewer : List (Command A C)) → IsLeftOut rules done fewer → (c : Command A C) → Leaves (plan_of rules done) c →
+      streams_after rules (plan_of rules done) (stream_of rules done) c ≡ stream_of rules done → IsLeftOut rules (done ++ c ∷ []) fewer
+  left-same done fewer h c l streams = record {
     plan = plan-append rules start_plan done c ∙ (l.plan_is ∙ h.plan);
-    streams = stream-append rules start_plan (λ q. []) done c ∙ (l.streams_are (stream_of rules done) ∙ h.streams);
+    streams = after-append rules (λ plan. accepted_streams) start_plan (λ q. []) done c ∙ (streams ∙ h.streams);
     drawn = omega (arith, coins-more rules done c, l.drawn_are, h.drawn);
     trace = λ z. trace-more rules done c ∙ (ap (λ (t : List (Event A)). trace_of rules done ++ t) (l.trace_is z) ∙ (append-nil (trace_of rules done) ∙ h.trace z));
   }
+
+-- what a round trip leaves, it leaves whether it is refused or not
+state-trip : {T : Type 0} (b : Bool) (x y : T) → y ≡ x → ((if b then x else y) ≡ x) × ((if b then x else y) ≡ y)
+state-trip true x y e = (refl, sym e)
+state-trip false x y e = (e, refl)
+
+taken : (b : Bool) (P : Type 0) → P ↔ (b ≡ true) → ¬ P → b ≡ false
+taken true P h n = absurd (n (h.1 refl))
+taken false P h n = refl
+
+module _ {A C Shape S T : Type 0} (kind : Kind A C Shape S) (word : List Bool) (refused : List ℕ) (before : List (Command A C))
+    (accepted : Plan Shape → T → Command A C → T) (trips : (plan : Plan Shape) (state : T) (slot : ℕ) → accepted plan state (RoundTrip slot) ≡ state) (state : T) where
+  -- a refused command leaves what a round trip leaves
+  pub state-left : (command : Command A C) (P : Type 0) → IsRefusedExactly kind word refused before command P → P → after_command kind.rules accepted (plan_of kind.rules before) state command ≡ state
+  state-left (RoundTrip slot) P h p = (state-trip (is_refused kind.rules (plan_of kind.rules before).shapes (RoundTrip slot)) state _ (trips (plan_of kind.rules before) state slot)).0
+  state-left command P h p = ap (λ (b : Bool). if b then state else accepted (plan_of kind.rules before) state command) (h.0 p)
+
+  -- and an accepted one changes it
+  pub state-taken : (command : Command A C) (P : Type 0) → IsRefusedExactly kind word refused before command P → ¬ P →
+      after_command kind.rules accepted (plan_of kind.rules before) state command ≡ accepted (plan_of kind.rules before) state command
+  state-taken (RoundTrip slot) P h n = (state-trip (is_refused kind.rules (plan_of kind.rules before).shapes (RoundTrip slot)) state _ (trips (plan_of kind.rules before) state slot)).1
+  state-taken command P h n = ap (λ (b : Bool). if b then state else accepted (plan_of kind.rules before) state command) (taken _ P h n)
+
+-- what holds of commands and of fewer ones, where a refused one is left out, holds of a run's and of its accepted ones
+module _ {A C Shape S : Type 0} (kind : Kind A C Shape S) (word : List Bool) (commands : List (Command A C)) (refused : List ℕ) (are : AreRefused kind word commands refused)
+    (R : List (Command A C) → List (Command A C) → Type 0) (more : (done fewer : List (Command A C)) (c : Command A C) → R done fewer → R (done ++ c ∷ []) (fewer ++ c ∷ []))
+    (same : (done fewer : List (Command A C)) (c : Command A C) →
+    IsRefusedExactly kind word refused done c (Contains refused (length done)) → Contains refused (length done) → R done fewer → R (done ++ c ∷ []) fewer) where
+  pub left-by : (done rest : List (Command A C)) → commands ≡ done ++ rest → R done (accepted_of refused done) → R commands (accepted_of refused commands)
+  left-by done [] at h = subst (λ (l : List (Command A C)). R l (accepted_of refused l)) (sym (at ∙ append-nil done)) h
+  left-by done (c ∷ rest) at h =
+      left-by (done ++ c ∷ []) rest (at ∙ sym (append_assoc done (c ∷ []) rest))
+      (subst (R (done ++ c ∷ [])) (sym (without-more refused 0 (length done) done c (zero-add (length done)))) (add (is_among (length done) refused) refl))
+    where
+      add : (b : Bool) → is_among (length done) refused ≡ b → R (done ++ c ∷ []) (accepted_of refused done ++ (if b then [] else c ∷ []))
+      add true among =
+          let there : Contains refused (length done) = Contains-from_any {eq = λ (n m : ℕ). n == m} (λ n m e. eqb-true n m e) (length done) refused among in
+          subst (R (done ++ c ∷ [])) (sym (append-nil (accepted_of refused done))) (same done (accepted_of refused done) c (are.exact done rest c at) there h)
+      add false among = more done (accepted_of refused done) c h
 
 module _ {A C Shape S : Type 0} {kind : Kind A C Shape S} (lawful : IsLawful kind) where
   -- a round trip changes nothing that is planned
@@ -84,39 +125,24 @@ module _ {A C Shape S : Type 0} {kind : Kind A C Shape S} (lawful : IsLawful kin
             ap (plan_by kind.rules plan trip) e
             ∙ ap₂ (λ (shapes : ℕ → Option Shape) (lengths : World (List ℕ)). let p : Plan Shape = record { shapes = shapes; lengths = lengths } in p)
             (fun_ext (changed-own plan.shapes slot)) (lawful.rules.read_lengths slot plan.lengths);
-        streams_are = λ streams. ap (λ (b : Bool). if b then streams else streams) e;
         drawn_are = ap (λ (b : Bool). coins (if b then [] else accepted_events kind.rules plan trip)) e ∙ (coins-at slot kind.rules.read_back_actions ∙ lawful.rules.read_draws);
         trace_is = λ z. ap (λ (b : Bool). if b then [] else accepted_events kind.rules plan trip) e ∙ ap (events_at slot) z;
       }
 
   -- so does a refused command
   leaves : (word : List Bool) (refused : List ℕ) (before : List (Command A C)) (command : Command A C) (P : Type 0) → IsRefusedExactly kind word refused before command P → P → Leaves kind.rules (plan_of kind.rules before) command
-  leaves word refused before (New slot config) P h p = leaves-refused kind.rules (plan_of kind.rules before) (New slot config) (h.0 p)
-  leaves word refused before (Update slot x) P h p = leaves-refused kind.rules (plan_of kind.rules before) (Update slot x) (h.0 p)
-  leaves word refused before (UpdateWeighted slot x weight) P h p = leaves-refused kind.rules (plan_of kind.rules before) (UpdateWeighted slot x weight) (h.0 p)
-  leaves word refused before (Merge into source) P h p = leaves-refused kind.rules (plan_of kind.rules before) (Merge into source) (h.0 p)
-  leaves word refused before (Reset slot) P h p = leaves-refused kind.rules (plan_of kind.rules before) (Reset slot) (h.0 p)
-  leaves word refused before (Redraw slot) P h p = leaves-refused kind.rules (plan_of kind.rules before) (Redraw slot) (h.0 p)
-  leaves word refused before (MergeRedrawn into source) P h p = leaves-refused kind.rules (plan_of kind.rules before) (MergeRedrawn into source) (h.0 p)
   leaves word refused before (RoundTrip slot) P h p = leaves-trip (plan_of kind.rules before) slot
+  leaves word refused before command P h p = leaves-refused kind.rules (plan_of kind.rules before) command (h.0 p)
 
-  -- refused commands may as well be left out, among the first commands of a run and among all
-  pub left-front : (word : List Bool) (commands : List (Command A C)) (refused : List ℕ) → AreRefused kind word commands refused → (n : ℕ) (before : List (Command A C)) → Ends before → (after : List (Command A C)) → length before ≡ n → commands ≡ before ++ after →
-      IsLeftOut kind.rules before (accepted_of refused before)
-  left-front word commands refused r n _ empty after e at = record { plan = refl; streams = refl; drawn = refl; trace = λ z. refl }
-  left-front word commands refused r zero _ (last front c) after e at = absurd (omega (arith, e, length_push front c))
-  left-front word commands refused r (suc n) _ (last front c) after e at =
-      let whole : commands ≡ front ++ c ∷ after = at ∙ append_assoc front (c ∷ []) after in
-      let h = left-front word commands refused r n front (ends front) (c ∷ after) (omega (arith, e, length_push front c)) whole in
-      subst (IsLeftOut kind.rules (front ++ c ∷ [])) (sym (without-more refused 0 (length front) front c (zero-add (length front)))) (add (is_among (length front) refused) refl h)
-    where
-      add : (b : Bool) → is_among (length front) refused ≡ b → IsLeftOut kind.rules front (accepted_of refused front) → IsLeftOut kind.rules (front ++ c ∷ []) (accepted_of refused front ++ (if b then [] else c ∷ []))
-      add true among h =
-          let there : Contains refused (length front) = Contains-from_any {eq = λ (n m : ℕ). n == m} (λ n m same. eqb-true n m same) (length front) refused among in
-          subst (IsLeftOut kind.rules (front ++ c ∷ [])) (sym (append-nil (accepted_of refused front)))
-          (left-same kind.rules front (accepted_of refused front) h c (leaves word refused front c (Contains refused (length front)) (r.exact front after c (at ∙ append_assoc front (c ∷ []) after)) there))
-      add false among h = left-more kind.rules front (accepted_of refused front) h c
+  -- one that is refused
+  pub left-refused : (word : List Bool) (refused : List ℕ) (done fewer : List (Command A C)) (command : Command A C) (P : Type 0) → IsRefusedExactly kind word refused done command P → P →
+      IsLeftOut kind.rules done fewer → IsLeftOut kind.rules (done ++ command ∷ []) fewer
+  left-refused word refused done fewer command P h p l =
+      left-same kind.rules done fewer l command (leaves word refused done command P h p)
+      (state-left kind word refused done (λ plan. accepted_streams) (λ plan streams slot. refl) (stream_of kind.rules done) command P h p)
 
   -- all refused commands may be left out
   pub left-out : (word : List Bool) (commands : List (Command A C)) (refused : List ℕ) → AreRefused kind word commands refused → IsLeftOut kind.rules commands (accepted_of refused commands)
-  left-out word commands refused r = left-front word commands refused r (length commands) commands (ends commands) [] refl (sym (append-nil commands))
+  left-out word commands refused are =
+      left-by kind word commands refused are (IsLeftOut kind.rules) (left-more kind.rules)
+      (λ done fewer command. left-refused word refused done fewer command (Contains refused (length done))) [] commands refl (record { plan = refl; streams = refl; drawn = refl; trace = λ z. refl })

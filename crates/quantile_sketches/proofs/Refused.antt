@@ -1,12 +1,13 @@
 -- Which errors a call may give, by what it is refused for.
-use Rattle.std.proofs.Common.{◌≡◌, ◌⊎◌, ℕ, ◌<◌, ◌≤◌, ◌==◌, nat_lt, Bool, true, false, Err, refl, inl, inr, arith, eqb-true}
+use Rattle.std.proofs.Common.{◌≡◌, ◌⊎◌, ℕ, ◌<◌, ◌≤◌, ◌==◌, nat_lt, Bool, true, false, Result, Ok, Err, refl, inl, inr, arith, eqb-true}
 use Rattle.std.proofs.lemmas.Bool.{cases_Bool, eqb-false, ltb-true, ltb-false}
-use Rattle.std.specs.Prelude.{IsErrOf}
+use Rattle.std.specs.Prelude.{IsErrOf, ◌↔◌}
 use Rattle.sketch_base.specs.declared.error.ErrorKind.{ErrorKind}
 use Rattle.sketch_base.specs.declared.error.ErrorKind.TheVariants.{InvalidArgument, InvalidData, OutOfMemory}
+use Rattle.quantile_sketches.specs.Behaviour.{Change}
 use Rattle.quantile_sketches.specs.Rules.{none_if}
 use Rattle.quantile_sketches.specs.RunSteps.{Refuses}
-use Rattle.quantile_sketches.proofs.SameRuns.{same-err}
+use Rattle.quantile_sketches.proofs.SameRuns.{IsOne, IsSettled, no-err, same-err}
 
 -- where the test holds the call is refused, and where not it wants memory
 pub refuses-by : {Shape : Type 0} (b : Bool) (shape : Shape) (e : ErrorKind) → (b ≡ true → e ≡ InvalidArgument) → (b ≡ false → e ≡ OutOfMemory) → Refuses (none_if b shape) e
@@ -33,6 +34,16 @@ unread OutOfMemory a d = refl
 pub kind-of : {P : Type 0} (e : ErrorKind) → P ⊎ (P → ⊥) → (P → e ≡ InvalidArgument) → ((P → ⊥) → e ≡ OutOfMemory) → (e ≡ OutOfMemory → ⊥) → e ≡ InvalidArgument
 kind-of e (inl p) f g n = f p
 kind-of e (inr p) f g n = absurd (n (g p))
+
+-- a call that is refused exactly where a sketch is unfit for it, for memory alone where it isn't, and changes nothing then
+pub settled-by : {S Source : Type 0} {call : Change Source S} (Unfit : S → Type 0) → ((s : S) → Unfit s ⊎ (Unfit s → ⊥)) → IsOne call →
+    ((s t : S) (coins left : Source) (r : Result Unit ErrorKind) → call s coins r t left → IsErrOf r InvalidArgument ↔ Unfit s) →
+    ((s t : S) (coins left : Source) (e : ErrorKind) → call s coins (Err e) t left → ((Unfit s → ⊥) → e ≡ OutOfMemory) × (t ≡ s) × (left ≡ coins)) → IsSettled call
+settled-by Unfit decide one exactly stays = record {
+  one = one;
+  clash = λ s t u coins left left' e h h'. (stays s u coins left' e h').0 (λ unfit. no-err tt InvalidArgument ((exactly s t coins left (Ok tt) h).1 unfit));
+  refuses = λ s t coins left e h n. let k = stays s t coins left e h in (kind-of e (decide s) (λ unfit. err-of {T = Unit} e ((exactly s t coins left (Err e) h).1 unfit)) k.0 n, k.1, k.2);
+}
 
 -- an image that is refused for no memory
 pub unwritten-kind : (e : ErrorKind) → (e ≡ InvalidData → ⊥) → (e ≡ OutOfMemory → ⊥) → e ≡ InvalidArgument

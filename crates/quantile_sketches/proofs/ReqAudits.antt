@@ -1,9 +1,6 @@
 -- What an audit of a REQ slot gives where the slot was only updated: its weights average out, and their errors are relative.
-use Rattle.std.proofs.Common.{◌≡◌, ℕ, ◌*◌, ◌^◌, Bool, true, List, length, map, sum, Option, Some, sym, ap, ◌∙◌, subst, arith, Ordering}
-use Rattle.std.proofs.lemmas.List.{length-map}
-use Rattle.std.proofs.lemmas.Option.{slice_get-map}
+use Rattle.std.proofs.Common.{◌≡◌, ℕ, ◌*◌, ◌^◌, Bool, true, List, length, sum, Option, Some, sym, ap, ◌∙◌, subst, arith, Ordering}
 use Rattle.std.specs.Cmp.{IsTotalOrder}
-use Rattle.std.specs.Option.{option_map}
 use Rattle.sketch_base.specs.declared.common.SearchCriteria.{SearchCriteria}
 use Rattle.sketch_base.specs.Bag.{weighted_rank}
 use Rattle.sketch_base.specs.Query.{counted, true_rank}
@@ -20,9 +17,9 @@ use Rattle.quantile_sketches.specs.ReqRules.{req_rules}
 use Rattle.quantile_sketches.specs.ReqUpdated.{was_only_updated, compacted_in, off_tail_at, squared_errors}
 use Rattle.quantile_sketches.specs.Run.{stream_of}
 use Rattle.quantile_sketches.specs.Scatter.{scatter_of}
+use Rattle.quantile_sketches.proofs.Audits.{weights-measured, weights-total}
 use Rattle.quantile_sketches.proofs.ReqLeftOut.{req-left-out}
 use Rattle.quantile_sketches.proofs.ReqUpdated.{bag-shed, run-unbiased, run-relative}
-use Rattle.quantile_sketches.proofs.WordSums.{sum_up, sum-entries, sum-words}
 
 module _ {A : Type 0} {cmp : A → A → Ordering} (o : IsTotalOrder cmp) (spelling : A → Option (List ℕ)) (y : A) (criteria : SearchCriteria)
     (commands : List (ReqCommand A)) (slot : ℕ) (weights : List ℕ) (only : was_only_updated commands slot ≡ true)
@@ -43,24 +40,14 @@ module _ {A : Type 0} {cmp : A → A → Ordering} (o : IsTotalOrder cmp) (spell
 
   -- the weights of an audit sum to the true rank, once for each word
   pub weights-sum : sum weights ≡ length weights * true_rank cmp y criteria (stream_of req_rules commands slot)
-  weights-sum =
-      sum-entries weights (λ k. under (word_of bits k)) (λ k inside. weights-are k (omega (arith, inside, words)))
-      ∙ (ap (λ (m : ℕ). sum_up m (λ k. under (word_of bits k))) words
-      ∙ (sum-words bits under
-      ∙ (run-unbiased cmp commands slot only bits (omega arith) (counted cmp y criteria)
-      ∙ ap (λ (m : ℕ). m * true_rank cmp y criteria (stream_of req_rules commands slot)) (sym words))))
+  weights-sum = weights-total req_rules cmp y criteria commands slot weights words weights-are (run-unbiased cmp commands slot only bits (omega arith) (counted cmp y criteria))
 
   -- and where the slot was only updated their errors are relative
   pub weights-relative : (rank : ℕ) → rank ≡ true_rank cmp y criteria (stream_of req_rules commands slot) →
       IsRelative (shape_at commands slot).k (compacted_in (shape_at commands slot)) bits (scatter_of weights rank) (off_tail_at cmp y criteria commands slot)
   weights-relative rank is =
-      let error : ℕ → ℕ = λ weight. square (distance weight rank) in
-      let long : length (map error weights) ≡ 2 ^ bits = length-map weights error ∙ words in
-      let whole : scatter_of weights rank ≡ sum_over_words bits (λ word. error (under word)) =
-      sum-entries (map error weights) (λ k. error (under (word_of bits k)))
-      (λ k inside. slice_get-map error weights k ∙ ap (option_map error) (weights-are k (omega (arith, inside, long))))
-      ∙ (ap (λ (m : ℕ). sum_up m (λ k. error (under (word_of bits k)))) long ∙ sum-words bits (λ word. error (under word))) in
       let same : scatter_of weights rank ≡ squared_errors cmp y criteria commands bits slot =
-      whole ∙ ap (λ (n : ℕ). sum_over_words bits (λ word. square (distance (under word) n))) is in
+      weights-measured req_rules cmp y criteria commands slot weights words weights-are (λ weight. square (distance weight rank))
+      ∙ ap (λ (n : ℕ). sum_over_words bits (λ word. square (distance (under word) n))) is in
       subst (λ (n : ℕ). let s = shape_at commands slot in IsRelative s.k (compacted_in s) bits n (off_tail_at cmp y criteria commands slot)) (sym same)
       (run-relative cmp commands slot only bits (omega arith) y criteria (updates_relative o))

@@ -9,7 +9,7 @@ use Rattle.sketch_req.proofs.FairSlots.{Stands, stands-end, stands-same, stands-
 use Rattle.quantile_sketches.specs.declared.audit.commands.Command.TheVariants.{New, Update, UpdateWeighted, Merge, Reset, RoundTrip, Redraw, MergeRedrawn}
 use Rattle.quantile_sketches.specs.Plan.{Plan, start_plan, events_of, plan_after, trace_from}
 use Rattle.quantile_sketches.specs.ReqFair.{is_fair_slot}
-use Rattle.quantile_sketches.specs.ReqPlan.{ReqCommand, shape_in, next_shapes}
+use Rattle.quantile_sketches.specs.ReqPlan.{ReqCommand, shape_in}
 use Rattle.quantile_sketches.specs.ReqReady.{Fairness, new_fairness, updated_fairness, with_ready, merged_fairness, fairness_in, accepted_fairness, fairness_after, fairness_from, stays_fair}
 use Rattle.quantile_sketches.specs.ReqRules.{ReqShape, new_shape, req_rules}
 use Rattle.quantile_sketches.specs.Run.{RunIsUnbiasedWhere}
@@ -97,19 +97,19 @@ module _ {A : Type 0} (slot : ℕ) where
   accepted-stands shapes fairs (MergeRedrawn into source) rest n = merge-stands true shapes fairs into source rest n
 
   stands-before : (plan : Plan ReqShape) (fairs : ℕ → Fairness) (command : ReqCommand A) (rest : List (Event A)) →
-      Stand (next_shapes plan.shapes command) (fairness_after plan.shapes fairs command) rest → Stand plan.shapes fairs (events_of req_rules plan command ++ rest)
+      Stand (plan_after req_rules plan command).shapes (fairness_after plan fairs command) rest → Stand plan.shapes fairs (events_of req_rules plan command ++ rest)
   stands-before plan fairs command rest =
       either-way plan command
       (λ (refused : Bool) (shapes : ℕ → Option ReqShape) (events : List (Event A)).
       Stand shapes (if refused then fairs else accepted_fairness plan.shapes fairs command) rest → Stand plan.shapes fairs (events ++ rest))
       (λ n. n) (λ e. accepted-stands plan.shapes fairs command rest)
 
-  stands-from : (plan : Plan ReqShape) (fairs : ℕ → Fairness) (commands : List (ReqCommand A)) → (fairness_from plan.shapes fairs commands slot).is_fair ≡ true →
+  stands-from : (plan : Plan ReqShape) (fairs : ℕ → Fairness) (commands : List (ReqCommand A)) → (fairness_from plan fairs commands slot).is_fair ≡ true →
       Stand plan.shapes fairs (trace_from req_rules plan commands)
   stands-from plan fairs [] e = stands-end slot (layouts_in plan.shapes) (λ j. (fairs j).is_ready) (λ j. (fairs j).is_fair) e
   stands-from plan fairs (command ∷ rest) e =
       let next = plan_after req_rules plan command in
-      stands-before plan fairs command (trace_from req_rules next rest) (stands-from next (fairness_after plan.shapes fairs command) rest e)
+      stands-before plan fairs command (trace_from req_rules next rest) (stands-from next (fairness_after plan fairs command) rest e)
 
 module _ {A : Type 0} where
   -- a slot that stays fair is fair

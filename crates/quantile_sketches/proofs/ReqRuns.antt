@@ -38,7 +38,7 @@ use Rattle.quantile_sketches.specs.Outcome.{Slots, sketch_at, ArePlanned, ArePla
 use Rattle.quantile_sketches.specs.Plan.{Plan, start_plan, plan_of, trace_of}
 use Rattle.quantile_sketches.specs.Refused.{accepted_of, AreRefused}
 use Rattle.quantile_sketches.specs.ReqKind.{FitsReq, req_kind, req_shape}
-use Rattle.quantile_sketches.specs.ReqOutcome.{AreInOrder, HaveFewLevels, AreBelowNominal, TailsAreK, IsExact, TailsAreExact, AreReadBack, AreRelative, AreRelativeToCounts}
+use Rattle.quantile_sketches.specs.ReqOutcome.{AreInOrder, HaveFewLevels, AreBelowNominal, TailsAreK, IsExact, TailsAreExact, AreReadBack, AreRelativeToCounts}
 use Rattle.quantile_sketches.specs.ReqPlan.{ReqCommand, shape_in, tails_of}
 use Rattle.quantile_sketches.specs.ReqRules.{ReqShape, req_rules}
 use Rattle.sketch_req.specs.Relative.{off_protected_end, IsRelative, Reaches}
@@ -64,7 +64,7 @@ use Rattle.quantile_sketches.proofs.WordSums.{sum-long}
 -- ---- of every list of commands
 
 module _ {A : Type 0} where
-  pub req-legal : (commands : List (ReqCommand A)) → IsLegalReq (λ s. 0) (trace_of req_rules commands)
+  req-legal : (commands : List (ReqCommand A)) → IsLegalReq (λ s. 0) (trace_of req_rules commands)
   req-legal commands = let r = run-legal req_lawful commands in record { scratch = r.scratch; sizes = r.meets }
 
 module _ {A : Type 0} {cmp : A → A → Ordering} (o : IsTotalOrder cmp) where
@@ -159,11 +159,9 @@ module _ {A : Type 0} {cmp : A → A → Ordering} (o : IsTotalOrder cmp) (spell
         let l = left-out (req_kind_lawful o spelling) word commands refused are in
         let t = req-left-out o spelling word refused commands are in
         let shape : (plan_of req_rules fewer).shapes slot ≡ Some (req_shape s) = ap (λ (p : Plan ReqShape). p.shapes slot) (sym l.plan) ∙ there planned slot s held in
-        let streams = ap (λ (f : ℕ → List A). f slot) l.streams in
-        let tails = ap (λ (f : ℕ → ℕ). f slot) t.tails in
-        let enough =
-        subst (λ (xs : List A). off_protected_end cmp s.accuracy y criteria xs ≤ 3 * tails_of fewer slot) streams
-        (subst (λ (n : ℕ). off_protected_end cmp s.accuracy y criteria (stream_of req_rules commands slot) ≤ 3 * n) tails few) in
+        let streams : stream_of req_rules commands slot ≡ stream_of req_rules fewer slot = ap (λ (f : ℕ → List A). f slot) l.streams in
+        let tails : tails_of commands slot ≡ tails_of fewer slot = ap (λ (f : ℕ → ℕ). f slot) t.tails in
+        let enough = rw (streams, tails) at few in
         alike-exact o fewer word slot s shape (played slot s held) y criteria enough ∙ sym (ap (true_rank cmp y criteria) streams)
 
   -- ---- over the runs under all words
@@ -267,8 +265,9 @@ module _ {A : Type 0} {cmp : A → A → Ordering} (o : IsTotalOrder cmp) (spell
           (subst (λ (l : List A). P (req_shape s) l (squared_errors cmp y criteria (accepted runs word) (length word) slot)) (accepted-stream was_only_updated (updated-shed cmp) runs slot show)
           (subst (λ (shape : ReqShape). P shape (stream_of req_rules (accepted runs word) slot) (squared_errors cmp y criteria (accepted runs word) (length word) slot)) accepted-shape is))
 
-      own-relative : IsRelative s.k (length s.levels - 1) (length word) squares (off_protected_end cmp s.accuracy y criteria (stream_of req_rules commands slot))
-      own-relative =
+      -- errors are relative where slots were only updated
+      pub runs-relative : IsRelative s.k (length s.levels - 1) (length word) squares (off_protected_end cmp s.accuracy y criteria (stream_of req_rules commands slot))
+      runs-relative =
           subst (λ (levels : ℕ). IsRelative s.k (levels - 1) (length word) squares (off_protected_end cmp s.accuracy y criteria (stream_of req_rules commands slot))) (length-layouts s.levels)
           (as-run (λ shape stream n. IsRelative shape.k (compacted_in shape) (length word) n (off_protected_end cmp shape.accuracy y criteria stream))
           (run-relative cmp (accepted runs word) slot (show word refl) (length word) (accepted-enough was_only_updated (updated-shed cmp) runs slot show) y criteria (updates_relative o)))
@@ -279,10 +278,6 @@ module _ {A : Type 0} {cmp : A → A → Ordering} (o : IsTotalOrder cmp) (spell
           as-run (λ shape stream n. let count = off_protected_end cmp shape.accuracy y criteria stream in 24 ≤ shape.k → Reaches shape.k count levels → IsRelative shape.k levels (length word) n count)
           (run-relative_to_counts cmp (accepted runs word) slot (show word refl) (length word) (accepted-enough was_only_updated (updated-shed cmp) runs slot show) y criteria (updates_relative_to_counts o) levels)
           great
-
-    -- errors are relative where slots were only updated
-    pub runs-relative : ArePlanned (req_kind cmp spelling) commands slots → AreRelative cmp spelling commands word slots
-    runs-relative planned runs slot s held show y criteria = own-relative planned runs slot s held show y criteria
 
     -- for a k of at least 24, to counts alone
     pub runs-relative_to_counts : ArePlanned (req_kind cmp spelling) commands slots → AreRelativeToCounts cmp spelling commands word slots

@@ -6,7 +6,7 @@ use Rattle.std.proofs.lemmas.Nat.{pow-add}
 use Rattle.sketch_base.specs.declared.common.SearchCriteria.{SearchCriteria}
 use Rattle.sketch_base.specs.Bag.{Bag, empty_bag, weighted_rank}
 use Rattle.sketch_base.specs.Query.{counted, true_rank}
-use Rattle.sketch_base.specs.Trace.{Action, Put, Pull, Join, Compact, Clear, Forget, Redraw, Event, At, World, changed, bag_after, draws_of, coins, play, start}
+use Rattle.sketch_base.specs.Trace.{Action, Compact, Clear, Forget, Redraw, Event, At, World, changed, bag_after, draws_of, coins, play, start}
 use Rattle.sketch_base.specs.Words.{sum_over_words, distance, square}
 use Rattle.sketch_base.proofs.AllParts.{all-append}
 use Rattle.sketch_base.proofs.Average.{sum_over_words-same}
@@ -22,11 +22,12 @@ use Rattle.sketch_req.specs.declared.RankAccuracy.{RankAccuracy}
 use Rattle.sketch_req.proofs.Unbiased.{AreCompacts, room_compacts, unbiased_list}
 use Rattle.quantile_sketches.specs.declared.audit.commands.Command.TheVariants.{New, Update, UpdateWeighted, Merge, Reset, RoundTrip, Redraw, MergeRedrawn}
 use Rattle.quantile_sketches.specs.Plan.{Plan, start_plan, count_of, events_of, plan_after, plan_from, trace_from, trace_of, plan_of}
-use Rattle.quantile_sketches.specs.ReqPlan.{ReqCommand, shape_in, shape_at, next_shapes}
+use Rattle.quantile_sketches.specs.ReqPlan.{ReqCommand, shape_in, shape_at}
 use Rattle.quantile_sketches.specs.ReqRules.{ReqShape, new_shape, merge_actions_by, req_rules}
 use Rattle.quantile_sketches.specs.ReqRun.{merged_in}
 use Rattle.quantile_sketches.specs.ReqUpdated.{accepted_only_updated, only_updated_after, only_updated_from, was_only_updated, compacted_in, off_tail_at, squared_errors}
 use Rattle.quantile_sketches.specs.Run.{accepted_streams, streams_after, streams_from, stream_of, IsUnbiased}
+use Rattle.quantile_sketches.proofs.LegalPlans.{at_slot, changed-away}
 use Rattle.quantile_sketches.proofs.ReqShapes.{events_merged, req_merge_events, accepted_req_events, req_merge_shapes, accepted_req_shapes, updated_shape, either-way}
 use Rattle.quantile_sketches.proofs.ReqPlanFits.{run-fits}
 use Rattle.quantile_sketches.proofs.ReqRuleLaws.{req_lawful, merged_as}
@@ -49,12 +50,7 @@ module _ {A : Type 0} where
   compacts_plain : (actions : List (Action A)) → AreCompacts actions → ArePlain actions
   compacts_plain [] c = tt
   compacts_plain (Compact h coin taken ∷ rest) c = (refl, compacts_plain rest c.1)
-  compacts_plain (Put h x ∷ rest) c = absurd c
-  compacts_plain (Pull ∷ rest) c = absurd c
-  compacts_plain (Join h ∷ rest) c = absurd c
-  compacts_plain (Forget ∷ rest) c = absurd c
-  compacts_plain (Redraw h ∷ rest) c = absurd c
-  compacts_plain (Clear ∷ rest) c = absurd c
+  compacts_plain (action ∷ rest) c = absurd c
 
   plain-update : (k : ℕ) (accuracy : RankAccuracy) (ls : List Layout) (x : A) → ArePlain (update_actions k accuracy ls x)
   plain-update k accuracy ls x = (refl, compacts_plain (room_actions k accuracy (put_layouts ls)) (room_compacts A k accuracy (put_layouts ls)))
@@ -83,11 +79,10 @@ module _ {A : Type 0} where
   own-changed : (shapes : ℕ → Option ReqShape) (only : ℕ → Bool) (trace : List (Event A)) (streams : ℕ → List A) → AreOwn shapes only trace streams →
       (s : ℕ) (events : List (Event A)) (shape : Option ReqShape) (b : Bool) (stream : List A) → ((j : ℕ) → (j == s) ≡ false → picked j (trace ++ events) ≡ picked j trace) →
       IsOwn shape b (picked s (trace ++ events)) stream → AreOwn (changed shapes s shape) (changed only s b) (trace ++ events) (changed streams s stream)
-  own-changed shapes only trace streams h s events shape b stream away here j = go (j == s) refl
-    where
-      go : (at : Bool) → (j == s) ≡ at → IsOwn (if at then shape else shapes j) (if at then b else only j) (picked j (trace ++ events)) (if at then stream else streams j)
-      go true e = subst (λ (i : ℕ). IsOwn shape b (picked i (trace ++ events)) stream) (sym (eqb-true j s e)) here
-      go false e = subst (λ (actions : List (Action A)). IsOwn (shapes j) (only j) actions (streams j)) (sym (away j e)) (h j)
+  own-changed shapes only trace streams h s events shape b stream away here =
+      at_slot s (λ j. IsOwn (changed shapes s shape j) (changed only s b j) (picked j (trace ++ events)) (changed streams s stream j))
+      (rw (changed-there shapes s shape, changed-there only s b, changed-there streams s stream) here)
+      (λ j e. rw (changed-away shapes s shape j e, changed-away only s b j e, changed-away streams s stream j e, away j e) (h j))
 
   fresh-cleared : (slot k : ℕ) (accuracy : RankAccuracy) (trace : List (Event A)) → IsFresh (new_shape k accuracy) (picked slot (trace ++ events_at slot (Clear ∷ []))) []
   fresh-cleared slot k accuracy trace = record { actions_are = picked-cleared slot trace; layouts_are = refl }
@@ -125,8 +120,7 @@ module _ {A : Type 0} where
           let same : streams into ++ streams source ≡ streams into =
           ap (λ (l : List A). streams into ++ l) (no_stream (shapes source) (streams source) (counts source) z) ∙ append-nil (streams into) in
           own-changed shapes only trace streams h into [] (Some merged) (only into) (streams into ++ streams source) (λ j e. ap (picked j) (append-nil trace))
-          (λ t. subst (IsFresh merged (picked into (trace ++ []))) (sym same)
-          (let f = h into t in record { actions_are = ap (picked into) (append-nil trace) ∙ f.actions_are; layouts_are = f.layouts_are }))
+          (λ t. let f = h into t in rw (same, append-nil trace) (record { actions_are = f.actions_are; layouts_are = f.layouts_are }))
       go false z =
           let s = shape_in (shapes into) in
           let other = shape_in (shapes source) in
@@ -136,10 +130,9 @@ module _ {A : Type 0} where
   -- a slot that is no longer only updated, by actions that leave its stream
   ended-own : (shapes : ℕ → Option ReqShape) (only : ℕ → Bool) (trace : List (Event A)) (streams : ℕ → List A) → AreOwn shapes only trace streams → (slot : ℕ) (actions : List (Action A)) →
       AreOwn shapes (changed only slot false) (trace ++ events_at slot actions) streams
-  ended-own shapes only trace streams h slot actions = λ j.
-      subst (λ (o : Option ReqShape). IsOwn o (changed only slot false j) (picked j (trace ++ events_at slot actions)) (streams j)) (changed-own shapes slot j)
-      (subst (λ (l : List A). IsOwn (changed shapes slot (shapes slot) j) (changed only slot false j) (picked j (trace ++ events_at slot actions)) l) (changed-own streams slot j)
-      (own-changed shapes only trace streams h slot (events_at slot actions) (shapes slot) false (streams slot) (λ i e. picked-away i slot trace actions e) (λ t. absurd (false≢true t)) j))
+  ended-own shapes only trace streams h slot actions j =
+      rw (changed-own shapes slot j, changed-own streams slot j) at
+      (own-changed shapes only trace streams h slot (events_at slot actions) (shapes slot) false (streams slot) (λ i e. picked-away i slot trace actions e) (λ t. absurd (false≢true t)) j)
 
   accepted-own : (shapes : ℕ → Option ReqShape) (only : ℕ → Bool) (trace : List (Event A)) (streams : ℕ → List A) → AreOwn shapes only trace streams →
       ((j : ℕ) → count_of (req_rules {A = A}) (shapes j) ≡ length (streams j)) → (command : ReqCommand A) →
@@ -150,14 +143,12 @@ module _ {A : Type 0} where
   accepted-own shapes only trace streams h counts (Update slot x) = λ j.
       let s = shape_in (shapes slot) in
       let actions : List (Action A) = update_actions s.k s.accuracy s.layouts x in
-      subst (λ (b : Bool). IsOwn (changed shapes slot (Some (updated_shape s)) j) b (picked j (trace ++ events_at slot actions))
-      (changed streams slot (streams slot ++ x ∷ []) j)) (changed-own only slot j)
+      rw (changed-own only slot j) at
       (own-changed shapes only trace streams h slot (events_at slot actions) (Some (updated_shape s)) (only slot) (streams slot ++ x ∷ []) (λ i e. picked-away i slot trace actions e)
       (λ t. fresh-updated slot s trace (streams slot) x (h slot t)) j)
   accepted-own shapes only trace streams h counts (UpdateWeighted slot x weight) = λ j.
-      let stream : List A = streams slot ++ replicate weight x in
-      subst (λ (o : Option ReqShape). IsOwn o (changed only slot false j) (picked j (trace ++ [])) (changed streams slot stream j)) (changed-own shapes slot j)
-      (own-changed shapes only trace streams h slot [] (shapes slot) false stream (λ i e. ap (picked i) (append-nil trace)) (λ t. absurd (false≢true t)) j)
+      rw (changed-own shapes slot j) at
+      (own-changed shapes only trace streams h slot [] (shapes slot) false (streams slot ++ replicate weight x) (λ i e. ap (picked i) (append-nil trace)) (λ t. absurd (false≢true t)) j)
   accepted-own shapes only trace streams h counts (Merge into source) = merge-own false shapes only trace streams h counts into source
   accepted-own shapes only trace streams h counts (Reset slot) =
       let s = shape_in (shapes slot) in
@@ -172,26 +163,25 @@ module _ {A : Type 0} where
 
   own-after : (plan : Plan ReqShape) (only : ℕ → Bool) (trace : List (Event A)) (streams : ℕ → List A) → AreOwn plan.shapes only trace streams →
       ((j : ℕ) → count_of (req_rules {A = A}) (plan.shapes j) ≡ length (streams j)) → (command : ReqCommand A) →
-      AreOwn (next_shapes plan.shapes command) (only_updated_after plan.shapes only command)
+      AreOwn (plan_after req_rules plan command).shapes (only_updated_after plan only command)
       (trace ++ events_of req_rules plan command) (streams_after req_rules plan streams command)
   own-after plan only trace streams h counts command =
       either-way plan command
       (λ (refused : Bool) (shapes : ℕ → Option ReqShape) (events : List (Event A)).
       AreOwn shapes (if refused then only else accepted_only_updated plan.shapes only command) (trace ++ events)
       (if refused then streams else accepted_streams streams command))
-      (subst (λ (t : List (Event A)). AreOwn plan.shapes only t streams) (sym (append-nil trace)) h)
+      (rw (append-nil trace) h)
       (λ e. accepted-own plan.shapes only trace streams h counts command)
 
   own-from : (plan : Plan ReqShape) (only : ℕ → Bool) (trace : List (Event A)) (streams : ℕ → List A) → AreOwn plan.shapes only trace streams →
       AreCounted (req_lawful {A = A}) plan streams → (commands : List (ReqCommand A)) →
-      AreOwn (plan_from req_rules plan commands).shapes (only_updated_from plan.shapes only commands) (trace ++ trace_from req_rules plan commands) (streams_from req_rules plan streams commands)
-  own-from plan only trace streams h counts [] = subst (λ (t : List (Event A)). AreOwn plan.shapes only t streams) (sym (append-nil trace)) h
+      AreOwn (plan_from req_rules plan commands).shapes (only_updated_from plan only commands) (trace ++ trace_from req_rules plan commands) (streams_from req_rules plan streams commands)
+  own-from plan only trace streams h counts [] = rw (append-nil trace) h
   own-from plan only trace streams h counts (command ∷ rest) =
       let next = plan_after req_rules plan command in
-      let only_next = only_updated_after plan.shapes only command in
+      let only_next = only_updated_after plan only command in
       let streams_next = streams_after req_rules plan streams command in
-      subst (λ (t : List (Event A)). AreOwn (plan_from req_rules next rest).shapes (only_updated_from next.shapes only_next rest) t (streams_from req_rules next streams_next rest))
-      (append_assoc trace (events_of req_rules plan command) (trace_from req_rules next rest))
+      rw (append_assoc trace (events_of req_rules plan command) (trace_from req_rules next rest)) at
       (own-from next only_next (trace ++ events_of req_rules plan command) streams_next
       (own-after plan only trace streams h (λ j. (counts j).0) command) (counts-after (req_lawful {A = A}) plan streams counts command) rest)
 
@@ -308,8 +298,7 @@ module _ {A : Type 0} (cmp : A → A → Ordering) (commands : List (ReqCommand 
     relative-by levels relative =
         let s = share bits enough error in
         subst (λ (n : ℕ). IsRelative shape.k levels n (squared_errors cmp y criteria commands bits slot) count) (sym s.all)
-        (subst (λ (n : ℕ). IsRelative shape.k levels (s.others + draws_of updates) n count) (sym s.sums)
-        (more_words shape.k levels s.others (draws_of updates) (sum_over_words (draws_of updates) (λ word. error (fresh_bag word))) count relative))
+        (rw s.sums (more_words shape.k levels s.others (draws_of updates) (sum_over_words (draws_of updates) (λ word. error (fresh_bag word))) count relative))
 
     -- its errors are relative
     pub run-relative : UpdatesAreRelative cmp → IsRelative shape.k (compacted_in shape) bits (squared_errors cmp y criteria commands bits slot) count

@@ -4,7 +4,7 @@ use Rattle.std.proofs.lemmas.Bool.{cases_Bool, eqb-false, false≢true}
 use Rattle.std.specs.Cmp.{IsTotalOrder}
 use Rattle.std.specs.Ordering.{is_eq}
 use Rattle.sketch_base.specs.Bag.{Bag}
-use Rattle.sketch_base.specs.declared.error.ErrorKind.TheVariants.{InvalidArgument, OutOfMemory}
+use Rattle.sketch_base.specs.declared.error.ErrorKind.TheVariants.{InvalidArgument}
 use Rattle.sketch_base.specs.declared.error.ErrorKind.{ErrorKind}
 use Rattle.std.specs.declared.alloc.Global.{Global}
 use Rattle.std.specs.declared.vec.Vec.{Vec}
@@ -17,10 +17,10 @@ use Rattle.sketch_kll.specs.Levels.{SameLevels}
 use Rattle.sketch_kll.specs.Sketch.{Kll, bag_of, sketch_of}
 use Rattle.sketch_kll.proofs.ImageTexts.{one_sketch_lem}
 use Rattle.sketch_kll.proofs.OneCall.{one-update, one-weighted, one-merge}
-use Rattle.quantile_sketches.specs.KllBehaviour.{kll, IsMade, IsEmptied, TakesWeighted, DrawsNone, JoinsIn, MergesIn}
+use Rattle.quantile_sketches.specs.KllBehaviour.{kll, IsMade, IsEmptied, DrawsNone, JoinsIn, MergesIn}
 use Rattle.quantile_sketches.specs.SameRun.{CommandsMakeOne}
-use Rattle.quantile_sketches.proofs.Refused.{err-of, kind-of, unread, unwritten-kind, so-same, so-most, so-either, below}
-use Rattle.quantile_sketches.proofs.SameRuns.{IsOne, IsSettled, MakesOne, no-err, one-run}
+use Rattle.quantile_sketches.proofs.Refused.{err-of, kind-of, settled-by, unread, unwritten-kind, so-same, so-most, so-either, below}
+use Rattle.quantile_sketches.proofs.SameRuns.{IsOne, IsSettled, MakesOne, no-err, settled-never, one-run}
 
 -- a sketch, from its parts
 from-parts : {A : Type 0} (s t : Kll A) → s.k ≡ t.k → s.min_k ≡ t.min_k → s.n ≡ t.n → s.is_sorted ≡ t.is_sorted → s.levels ≡ t.levels → s.least ≡ t.least → s.greatest ≡ t.greatest → s ≡ t
@@ -59,34 +59,23 @@ module _ {A : Type 0} {cmp : A → A → Ordering} (order : IsTotalOrder cmp) (t
     module _ {Source : Type 0} (bit : Source → Bool) (next : Source → Source) where
       -- what is never done
       never : IsSettled (DrawsNone cmp spelling bit next)
-      never = record {
-        one = λ s t u coins left left' h h'. absurd (no-err tt InvalidArgument h.0);
-        clash = λ s t u coins left left' e h h'. absurd (no-err tt InvalidArgument h.0);
-        refuses = λ s t coins left e h n. (err-of {T = Unit} e h.0, h.1, h.2);
-      }
+      never = settled-never (λ s t coins left r h. h)
 
       taken : (x : A) → IsSettled ((kll cmp spelling).taken x Source bit next)
-      taken x = record {
-        one = λ s t u coins left left' h h'. (one-update order tied s x _ t u h.3 h'.3 h.2.0 h'.2.0, h.2.1 ∙ sym h'.2.1);
-        clash = λ s t u coins left left' e h h'. h'.1 (λ n. no-err tt InvalidArgument (h.0.1 n));
-        refuses = λ s t coins left e h n. (kind-of e (so-same s.n (2 ^ 64 - 1)) (λ p. err-of {T = Unit} e (h.0.1 p)) h.1 n, h.4.0, h.4.1);
-      }
+      taken x =
+          settled-by (λ s. s.n ≡ 2 ^ 64 - 1) (λ s. so-same s.n (2 ^ 64 - 1))
+          (λ s t u coins left left' h h'. (one-update order tied s x _ t u h.3 h'.3 h.2.0 h'.2.0, h.2.1 ∙ sym h'.2.1)) (λ s t coins left r h. h.0) (λ s t coins left e h. (h.1, h.4.0, h.4.1))
 
       weighted : (x : A) (weight : ℕ) → IsSettled ((kll cmp spelling).taken_weighted x weight Source bit next)
-      weighted x weight = record {
-        one = λ s t u coins left left' h h'. (one-weighted order tied s x weight _ t u h.4 h'.4 h.2 h'.2, h.3 ∙ sym h'.3);
-        clash = λ s t u coins left left' e h h'. memory s coins e u left' h' (λ p. no-err tt InvalidArgument (h.0.1 p));
-        refuses = λ s t coins left e h n. (
-          kind-of e (so-either (so-same weight 0) (so-either (so-most (2 ^ 61) weight) (so-most (2 ^ 64) (s.n + weight)))) (λ p. err-of {T = Unit} e (h.0.1 p)) (memory s coins e t left h) n,
-          h.5.0,
-          h.5.1,
-        );
-      }
-        where
-          memory : (s : Kll A) (coins : Source) (e : ErrorKind) (t : Kll A) (left : Source) → TakesWeighted cmp spelling bit next s x weight coins (Err e) t left →
-              ((weight ≡ 0) ⊎ ((2 ^ 61 ≤ weight) ⊎ (2 ^ 64 ≤ s.n + weight)) → ⊥) → e ≡ OutOfMemory
-          memory s coins e t left h denied =
-              h.1 (below 0 weight (λ z. denied (inl (omega (arith, z))))) (below weight (2 ^ 61) (λ z. denied (inr (inl z)))) (below (s.n + weight) (2 ^ 64) (λ z. denied (inr (inr z))))
+      weighted x weight =
+          settled-by (λ s. (weight ≡ 0) ⊎ ((2 ^ 61 ≤ weight) ⊎ (2 ^ 64 ≤ s.n + weight))) (λ s. so-either (so-same weight 0) (so-either (so-most (2 ^ 61) weight) (so-most (2 ^ 64) (s.n + weight))))
+          (λ s t u coins left left' h h'. (one-weighted order tied s x weight _ t u h.4 h'.4 h.2 h'.2, h.3 ∙ sym h'.3)) (λ s t coins left r h. h.0)
+          (λ s t coins left e h. (
+            λ denied.
+                h.1 (below 0 weight (λ z. denied (inl (omega (arith, z))))) (below weight (2 ^ 61) (λ z. denied (inr (inl z)))) (below (s.n + weight) (2 ^ 64) (λ z. denied (inr (inr z)))),
+            h.5.0,
+            h.5.1,
+          ))
 
       -- a merge of an empty sketch, and of one that holds items
       joined-one : (p : Kll A) → IsOne (JoinsIn cmp spelling bit next p)
@@ -104,12 +93,9 @@ module _ {A : Type 0} {cmp : A → A → Ordering} (order : IsTotalOrder cmp) (t
 
       joined : (redraws : Bool) (p : Kll A) → IsSettled (MergesIn cmp spelling bit next redraws p)
       joined true p = never
-      joined false p = record {
-        one = joined-one p;
-        clash = λ s t u coins left left' e h h'. h'.1 (below (s.n + p.n) (2 ^ 64) (λ z. no-err tt InvalidArgument (h.0.1 z)));
-        refuses = λ s t coins left e h n.
-            (kind-of e (so-most (2 ^ 64) (s.n + p.n)) (λ z. err-of {T = Unit} e (h.0.1 z)) (λ denied. h.1 (below (s.n + p.n) (2 ^ 64) denied)) n, h.6.0, h.6.1);
-      }
+      joined false p =
+          settled-by (λ s. 2 ^ 64 ≤ s.n + p.n) (λ s. so-most (2 ^ 64) (s.n + p.n)) (joined-one p) (λ s t coins left r h. h.0)
+          (λ s t coins left e h. (λ denied. h.1 (below (s.n + p.n) (2 ^ 64) denied), h.6.0, h.6.1))
 
       -- each call on KLL sketches makes one sketch of a sketch
       pub makes-one : MakesOne (kll cmp spelling) bit next

@@ -17,18 +17,18 @@ use Rattle.sketch_req.specs.Sketch.{Req, sketch_of}
 use Rattle.sketch_req.specs.declared.RankAccuracy.{RankAccuracy}
 use Rattle.sketch_req.proofs.OneCall.{one-update, one-merge}
 use Rattle.sketch_req.proofs.OneSketch.{one_sketch}
-use Rattle.sketch_base.specs.declared.error.ErrorKind.TheVariants.{InvalidArgument, OutOfMemory}
+use Rattle.sketch_base.specs.declared.error.ErrorKind.TheVariants.{InvalidArgument}
 use Rattle.sketch_base.specs.declared.error.ErrorKind.{ErrorKind}
 use Rattle.std.specs.declared.alloc.Global.{Global}
 use Rattle.std.specs.declared.vec.Vec.{Vec}
-use Rattle.quantile_sketches.specs.ReqBehaviour.{req, IsEmptyOf, IsCopied, IsUnfit, JoinsIn}
+use Rattle.quantile_sketches.specs.ReqBehaviour.{req, IsEmptyOf, IsCopied, IsUnfit}
 use Rattle.quantile_sketches.specs.ReqRules.{may_be_k, is_same}
 use Rattle.quantile_sketches.specs.SameRun.{CommandsMakeOne}
 use Rattle.quantile_sketches.proofs.ReqCopies.{copied-levels}
-use Rattle.quantile_sketches.proofs.Refused.{err-of, kind-of, unread, unwritten-kind, so-same, so-most, so-either, below}
+use Rattle.quantile_sketches.proofs.Refused.{err-of, kind-of, settled-by, unread, unwritten-kind, so-same, so-most, so-either, below}
 use Rattle.quantile_sketches.proofs.ReqObeys.{may-be, same-itself}
 use Rattle.quantile_sketches.proofs.ReqRuleLaws.{legal_k, same_accuracy}
-use Rattle.quantile_sketches.proofs.SameRuns.{IsOne, IsSettled, MakesOne, no-err, one-run}
+use Rattle.quantile_sketches.proofs.SameRuns.{IsOne, IsSettled, MakesOne, no-err, settled-never, one-run}
 
 -- a sketch, from its parts
 from-parts : {A : Type 0} (s t : Req A) → s.k ≡ t.k → s.accuracy ≡ t.accuracy → s.n ≡ t.n → s.levels ≡ t.levels → s.least ≡ t.least → s.greatest ≡ t.greatest → s ≡ t
@@ -88,22 +88,13 @@ module _ {A : Type 0} {cmp : A → A → Ordering} (order : IsTotalOrder cmp) (t
 
     module _ {Source : Type 0} (bit : Source → Bool) (next : Source → Source) where
       taken : (x : A) → IsSettled ((req cmp spelling).taken x Source bit next)
-      taken x = record {
-        one = λ s t u coins left left' h h'. (one-update order tied s x _ t u h.4 h'.4 h.2 h'.2, h.3 ∙ sym h'.3);
-        clash = λ s t u coins left left' e h h'. h'.1 (λ n. no-err tt InvalidArgument (h.0.1 (inl n))) (λ n. no-err tt InvalidArgument (h.0.1 (inr n)));
-        refuses = λ s t coins left e h n. (
-          kind-of e (so-either (so-same s.n (2 ^ 64 - 1)) (so-same (retained (bag_of s.levels)) 4294967295)) (λ p. err-of {T = Unit} e (h.0.1 p)) (λ denied. h.1 (λ n. denied (inl n)) (λ n. denied (inr n))) n,
-          h.5.0,
-          h.5.1,
-        );
-      }
+      taken x =
+          settled-by (λ s. (s.n ≡ 2 ^ 64 - 1) ⊎ (retained (bag_of s.levels) ≡ 4294967295)) (λ s. so-either (so-same s.n (2 ^ 64 - 1)) (so-same (retained (bag_of s.levels)) 4294967295))
+          (λ s t u coins left left' h h'. (one-update order tied s x _ t u h.4 h'.4 h.2 h'.2, h.3 ∙ sym h'.3)) (λ s t coins left r h. h.0)
+          (λ s t coins left e h. (λ denied. h.1 (λ n. denied (inl n)) (λ n. denied (inr n)), h.5.0, h.5.1))
 
       weighted : (x : A) (weight : ℕ) → IsSettled ((req cmp spelling).taken_weighted x weight Source bit next)
-      weighted x weight = record {
-        one = λ s t u coins left left' h h'. absurd (no-err tt InvalidArgument h.0);
-        clash = λ s t u coins left left' e h h'. absurd (no-err tt InvalidArgument h.0);
-        refuses = λ s t coins left e h n. (err-of {T = Unit} e h.0, h.1, h.2);
-      }
+      weighted x weight = settled-never (λ s t coins left r h. h)
 
       redrawn : IsSettled ((req cmp spelling).redrawn Source bit next)
       redrawn = record {
@@ -114,7 +105,16 @@ module _ {A : Type 0} {cmp : A → A → Ordering} (order : IsTotalOrder cmp) (t
 
       -- a merge of an empty sketch, and of one that holds items
       joined : (redraws : Bool) (p : Req A) → IsSettled ((req cmp spelling).joined redraws p Source bit next)
-      joined redraws p = record { one = one; clash = λ s t u coins left left' e h h'. memory s coins e u left' h' (λ u. no-err tt InvalidArgument (h.0.1 u)); refuses = refuses }
+      joined redraws p =
+          settled-by (λ s. IsUnfit cmp spelling s p)
+          (λ s. so-either (so-not (so-accuracy s.accuracy p.accuracy)) (so-either (so-most (2 ^ 64) (s.n + p.n)) (so-most (2 ^ 32) (retained (bag_of s.levels) + retained (bag_of p.levels)))))
+          one (λ s t coins left r h. h.0)
+          (λ s t coins left e h. (
+            λ fits.
+                h.1 (same s fits) (below (s.n + p.n) (2 ^ 64) (λ z. fits (inr (inl z)))) (below (retained (bag_of s.levels) + retained (bag_of p.levels)) (2 ^ 32) (λ z. fits (inr (inr z)))),
+            h.6.0,
+            h.6.1,
+          ))
         where
           same : (s : Req A) → (IsUnfit cmp spelling s p → ⊥) → s.accuracy ≡ p.accuracy
           same s fits = surely (so-accuracy s.accuracy p.accuracy) (λ differ. fits (inl differ))
@@ -132,18 +132,6 @@ module _ {A : Type 0} {cmp : A → A → Ordering} (order : IsTotalOrder cmp) (t
                     let some : 0 < p.n = omega (arith, eqb-false p.n 0 e) in
                     (one-merge order tied redraws s p _ t u h.5 h'.5 (h.3 some) (h'.3 some), h.4 some ∙ sym (h'.4 some))
               ]
-
-          memory : (s : Req A) (coins : Source) (e : ErrorKind) (t : Req A) (left : Source) → JoinsIn cmp spelling bit next redraws p s coins (Err e) t left → (IsUnfit cmp spelling s p → ⊥) → e ≡ OutOfMemory
-          memory s coins e t left h fits =
-              h.1 (same s fits) (below (s.n + p.n) (2 ^ 64) (λ z. fits (inr (inl z)))) (below (retained (bag_of s.levels) + retained (bag_of p.levels)) (2 ^ 32) (λ z. fits (inr (inr z))))
-
-          refuses : (s t : Req A) (coins left : Source) (e : ErrorKind) → JoinsIn cmp spelling bit next redraws p s coins (Err e) t left → (e ≡ OutOfMemory → ⊥) → (e ≡ InvalidArgument) × (t ≡ s) × (left ≡ coins)
-          refuses s t coins left e h n = (
-            kind-of e (so-either (so-not (so-accuracy s.accuracy p.accuracy)) (so-either (so-most (2 ^ 64) (s.n + p.n)) (so-most (2 ^ 32) (retained (bag_of s.levels) + retained (bag_of p.levels)))))
-                (λ u. err-of {T = Unit} e (h.0.1 u)) (memory s coins e t left h) n,
-            h.6.0,
-            h.6.1,
-          )
 
       -- each call on REQ sketches makes one sketch of a sketch
       pub makes-one : MakesOne (req cmp spelling) bit next

@@ -1,12 +1,13 @@
 -- The same commands make the same sketches, where each accepted call makes one sketch of a sketch.
 use Rattle.std.proofs.Common.{◌≡◌, ◌≢◌, ◌==◌, ℕ, Bool, true, false, List, [], ◌∷◌, Option, None, Some, Result, Ok, Err, slice_set, refl, sym, ap, ◌∙◌, subst, inl, inr}
+use Rattle.std.specs.Prelude.{IsErrOf}
 use Rattle.std.proofs.lemmas.Option.{same_Some}
 use Rattle.std.specs.declared.alloc.Global.{Global}
 use Rattle.std.specs.declared.vec.Vec.{Vec}
 use Rattle.sketch_base.specs.declared.error.ErrorKind.{ErrorKind}
 use Rattle.sketch_base.specs.declared.error.ErrorKind.TheVariants.{InvalidArgument, OutOfMemory}
 use Rattle.quantile_sketches.specs.Behaviour.{Behaviour, Change}
-use Rattle.quantile_sketches.specs.declared.answer.Refusal.TheVariants.{BadLine, AbsentSlot, Sketch}
+use Rattle.quantile_sketches.specs.declared.answer.Refusal.TheVariants.{Sketch}
 use Rattle.quantile_sketches.specs.declared.audit.commands.Command.{Command}
 use Rattle.quantile_sketches.specs.declared.audit.commands.Command.TheVariants.{New, Update, UpdateWeighted, Merge, Reset, RoundTrip, Redraw, MergeRedrawn}
 use Rattle.quantile_sketches.specs.SameRun.{AreCarriedOut, CommandsMakeOne}
@@ -42,6 +43,15 @@ module _ {S Source : Type 0} where
     pub clash : (s t u : S) (coins left left' : Source) (e : ErrorKind) → call s coins (Ok tt) t left → call s coins (Err e) u left' → e ≡ OutOfMemory
     pub refuses : (s t : S) (coins left : Source) (e : ErrorKind) → call s coins (Err e) t left → (e ≡ OutOfMemory → ⊥) → (e ≡ InvalidArgument) × (t ≡ s) × (left ≡ coins)
 
+  -- a call that is always refused
+  pub settled-never : {call : Change Source S} → ((s t : S) (coins left : Source) (r : Result Unit ErrorKind) → call s coins r t left →
+      IsErrOf r InvalidArgument × (t ≡ s) × (left ≡ coins)) → IsSettled call
+  settled-never never = record {
+    one = λ s t u coins left left' h h'. absurd (no-err tt InvalidArgument (never s t coins left (Ok tt) h).0);
+    clash = λ s t u coins left left' e h h'. absurd (no-err tt InvalidArgument (never s t coins left (Ok tt) h).0);
+    refuses = λ s t coins left e h n. let stays = never s t coins left (Err e) h in (same-err {T = Unit} e InvalidArgument (Err e) refl stays.0, stays.1, stays.2);
+  }
+
   -- what comes of a slot is one
   abbrev AreOne : (Option S → Source → Verdict → Option S → Source → Type 0) → Type 0
   AreOne turns = (o p q : Option S) (coins left left' : Source) (v w : Verdict) → Ample v → Ample w → turns o coins v p left → turns o coins w q left' → (v ≡ w) × (p ≡ q) × (left ≡ left')
@@ -51,17 +61,14 @@ module _ {S Source : Type 0} where
   one-turn call by (Some s) p q coins left left' (Ok a) (Ok b) n m (t, is, h) (u, is', h') =
       let r = by.one s t u coins left left' h h' in (refl, is ∙ (ap Some r.0 ∙ sym is'), r.1)
   one-turn call by (Some s) p q coins left left' (Ok a) (Err (Sketch e)) n m (t, is, h) (u, is', h') = absurd (ample e m (by.clash s t u coins left left' e h h'))
-  one-turn call by (Some s) p q coins left left' (Ok a) (Err BadLine) n m h h' = absurd h'
-  one-turn call by (Some s) p q coins left left' (Ok a) (Err AbsentSlot) n m h h' = absurd h'
+  one-turn call by (Some s) p q coins left left' (Ok a) w n m h h' = absurd h'
   one-turn call by (Some s) p q coins left left' (Err (Sketch e)) (Ok b) n m (t, is, h) (u, is', h') = absurd (ample e n (by.clash s u t coins left' left e h' h))
   one-turn call by (Some s) p q coins left left' (Err (Sketch e)) (Err (Sketch f)) n m (t, is, h) (u, is', h') =
       let r = by.refuses s t coins left e h (ample e n) in
       let r' = by.refuses s u coins left' f h' (ample f m) in
       (told e InvalidArgument r.0 ∙ sym (told f InvalidArgument r'.0), is ∙ (ap Some (r.1 ∙ sym r'.1) ∙ sym is'), r.2 ∙ sym r'.2)
-  one-turn call by (Some s) p q coins left left' (Err (Sketch e)) (Err BadLine) n m h h' = absurd h'
-  one-turn call by (Some s) p q coins left left' (Err (Sketch e)) (Err AbsentSlot) n m h h' = absurd h'
-  one-turn call by (Some s) p q coins left left' (Err BadLine) w n m h h' = absurd h
-  one-turn call by (Some s) p q coins left left' (Err AbsentSlot) w n m h h' = absurd h
+  one-turn call by (Some s) p q coins left left' (Err (Sketch e)) w n m h h' = absurd h'
+  one-turn call by (Some s) p q coins left left' v w n m h h' = absurd h
 
   one-join : (call : S → Change Source S) → ((p : S) → IsSettled (call p)) → (other : Option S) → AreOne (Joins call other)
   one-join call by None o p q coins left left' v w n m (e, same, stays) (e', same', stays') = (e ∙ sym e', same ∙ sym same', stays ∙ sym stays')
@@ -155,15 +162,12 @@ module _ {A C S Source : Type 0} (behaviour : Behaviour S A C) (bit : Source →
     one-made config slot slots ts us (Ok a) (Ok b) n m (s, o, held, h, is) (t, o', held', h', is') =
         (refl, is ∙ (ap (λ (x : S). slice_set slots slot (Some x)) (one.made config s t h h') ∙ sym is'))
     one-made config slot slots ts us (Ok a) (Err (Sketch e)) n m (s, o, held, h, is) (h', is') = absurd (ample e m (one.made_clash config s e h h'))
-    one-made config slot slots ts us (Ok a) (Err BadLine) n m h h' = absurd h'
-    one-made config slot slots ts us (Ok a) (Err AbsentSlot) n m h h' = absurd h'
+    one-made config slot slots ts us (Ok a) w n m h h' = absurd h'
     one-made config slot slots ts us (Err (Sketch e)) (Ok b) n m (h, is) (t, o, held, h', is') = absurd (ample e n (one.made_clash config t e h' h))
     one-made config slot slots ts us (Err (Sketch e)) (Err (Sketch f)) n m (h, is) (h', is') =
         (told e InvalidArgument (one.made_refuses config e h (ample e n)) ∙ sym (told f InvalidArgument (one.made_refuses config f h' (ample f m))), is ∙ sym is')
-    one-made config slot slots ts us (Err (Sketch e)) (Err BadLine) n m h h' = absurd h'
-    one-made config slot slots ts us (Err (Sketch e)) (Err AbsentSlot) n m h h' = absurd h'
-    one-made config slot slots ts us (Err BadLine) w n m h h' = absurd h
-    one-made config slot slots ts us (Err AbsentSlot) w n m h h' = absurd h
+    one-made config slot slots ts us (Err (Sketch e)) w n m h h' = absurd h'
+    one-made config slot slots ts us v w n m h h' = absurd h
 
     -- ---- each command
 
@@ -198,4 +202,4 @@ module _ {A C S Source : Type 0} (behaviour : Behaviour S A C) (bit : Source →
     one-run (command ∷ rest) slots ts us coins left left' (v, n, between, mid, h, on) (w, m, between', mid', h', on') =
         let r = one-command command slots between between' coins mid mid' v w n m h h' in
         one-run rest between ts us mid left left' on
-        (subst (λ (x : Source). AreCarriedOut behaviour bit next rest between x us left') (sym r.2) (subst (λ (x : Slots S). AreCarriedOut behaviour bit next rest x mid' us left') (sym r.1) on'))
+        (rw (r.1, r.2) on')

@@ -1,22 +1,21 @@
 -- Where the sketches stand after accepted commands, under any source of coins.
-use Rattle.std.proofs.Common.{◌≡◌, ℕ, zero, suc, ◌+◌, ◌-◌, ◌≤◌, Bool, true, List, [], ◌∷◌, ◌++◌, length, take, drop, None, Some, refl, sym, ap, ◌∙◌, subst, arith}
+use Rattle.std.proofs.Common.{◌≡◌, ℕ, zero, suc, ◌+◌, ◌-◌, ◌≤◌, Bool, true, false, if◌then◌else◌, List, [], ◌∷◌, ◌++◌, length, take, drop, None, Some, refl, sym, ap, ◌∙◌, subst, arith}
 use Rattle.std.proofs.lemmas.List.{drop-take}
 use Rattle.std.specs.Option.{option_map}
-use Rattle.sketch_base.specs.Bag.{Bag}
 use Rattle.sketch_base.specs.Random.{bits_from, after_draws}
-use Rattle.sketch_base.specs.Trace.{Event, World, play, start, coins, event_draws, act, happens}
+use Rattle.sketch_base.specs.Trace.{play, start, coins, event_draws, act, happens}
 use Rattle.sketch_base.proofs.Calls.{bits-take, bits-drop, after_draws-add}
 use Rattle.sketch_base.proofs.PlaysInParts.{in_turn-append}
 use Rattle.quantile_sketches.specs.declared.audit.commands.Command.{Command}
-use Rattle.quantile_sketches.specs.Outcome.{WeighsStream, HasExtremes}
-use Rattle.quantile_sketches.specs.Plan.{Plan, start_plan, count_of, events_of, plan_after, plan_of, trace_of}
+use Rattle.quantile_sketches.specs.Outcome.{shapes_in, WeighsStream, HasExtremes}
+use Rattle.quantile_sketches.specs.Plan.{start_plan, count_of, events_of, plan_of, trace_of}
 use Rattle.quantile_sketches.specs.RuleLaws.{IsLawful}
 use Rattle.quantile_sketches.specs.Rules.{Kind}
-use Rattle.quantile_sketches.specs.Run.{streams_after, stream_of}
+use Rattle.quantile_sketches.specs.Run.{accepted_streams, stream_of}
 use Rattle.quantile_sketches.specs.RunSteps.{Held, AreSame, IsExecuted}
-use Rattle.quantile_sketches.proofs.LegalPlans.{steady-start, steady-from, plan-append, trace-more, coins-more, not-none}
+use Rattle.quantile_sketches.proofs.LegalPlans.{steady-start, steady-from, plan-append, trace-more, after-append, coins-more, not-none}
 use Rattle.quantile_sketches.proofs.SlotSteps.{IsOf, Stand, Steps, stand-same, steps}
-use Rattle.quantile_sketches.proofs.Streams.{stream-append, run-counts}
+use Rattle.quantile_sketches.proofs.Streams.{run-counts}
 
 -- the first of the first
 take-front : {X : Type 0} (m n : ℕ) (xs : List X) → m ≤ n → take m (take n xs) ≡ take m xs
@@ -32,7 +31,7 @@ pub record Standing {A C Shape S Source : Type 0} (kind : Kind A C Shape S) (bit
       Stand kind (plan_of kind.rules commands) (stream_of kind.rules commands) (play kind.cmp (trace_of kind.rules commands) word start) slots
 
 module _ {A C Shape S Source : Type 0} {kind : Kind A C Shape S} (lawful : IsLawful kind) (bit : Source → Bool) (next : Source → Source) (seed : Source) where
-  abbrev pub Stands : List (Command A C) → Held S → Source → Type 0
+  abbrev Stands : List (Command A C) → Held S → Source → Type 0
   Stands commands slots source = Standing kind bit next seed commands slots source
 
   -- from empty slots on
@@ -55,9 +54,6 @@ module _ {A C Shape S Source : Type 0} {kind : Kind A C Shape S} (lawful : IsLaw
 
   -- one more command
   module _ (commands : List (Command A C)) (slots : Held S) (source : Source) (st : Stands commands slots source) (c : Command A C) (slots' : Held S) (source' : Source) (x : IsExecuted kind bit next c slots source true slots' source') where
-    plan : Plan Shape
-    plan = plan_of kind.rules commands
-
     abbrev k : ℕ
     k = coins (trace_of kind.rules commands)
 
@@ -68,7 +64,7 @@ module _ {A C Shape S Source : Type 0} {kind : Kind A C Shape S} (lawful : IsLaw
         Steps lawful bit next (plan_of kind.rules commands) (stream_of kind.rules commands) (play kind.cmp (trace_of kind.rules commands) word start) c source slots' source'
     step word agree =
         steps lawful bit next (plan_of kind.rules commands) (steady-from lawful.rules start_plan (steady-start lawful.rules) commands) (stream_of kind.rules commands)
-        (play kind.cmp (trace_of kind.rules commands) word start) slots (st.stand word agree) c source slots' source' x.decided (x.done refl)
+        (play kind.cmp (trace_of kind.rules commands) word start) slots (st.stand word agree) source slots' source' c x.decided (x.done refl)
 
     front : (word : List Bool) → take (k + m) word ≡ bits_from bit next seed (k + m) → take k word ≡ bits_from bit next seed k
     front word all = sym (take-front k (k + m) word (omega arith)) ∙ (ap (take k) all ∙ bits-take bit next seed k (k + m) (omega arith))
@@ -85,14 +81,13 @@ module _ {A C Shape S Source : Type 0} {kind : Kind A C Shape S} (lawful : IsLaw
         Stand kind (plan_of kind.rules (commands ++ c ∷ [])) (stream_of kind.rules (commands ++ c ∷ [])) (play kind.cmp (trace_of kind.rules (commands ++ c ∷ [])) word start) slots'
     stands-on word agree =
         let all : take (k + m) word ≡ bits_from bit next seed (k + m) = subst (λ (n : ℕ). take n word ≡ bits_from bit next seed n) (coins-more kind.rules commands c) agree in
-        let world = play kind.cmp (trace_of kind.rules commands) word start in
-        let played : play kind.cmp (trace_of kind.rules (commands ++ c ∷ [])) word start ≡ play kind.cmp (events_of kind.rules (plan_of kind.rules commands) c) (drop k word) world =
-        ap (λ (t : List (Event A)). play kind.cmp t word start) (trace-more kind.rules commands c)
-        ∙ in_turn-append event_draws (happens (act kind.cmp)) (trace_of kind.rules commands) (events_of kind.rules (plan_of kind.rules commands) c) word start in
-        subst (λ (p : Plan Shape). Stand kind p (stream_of kind.rules (commands ++ c ∷ [])) (play kind.cmp (trace_of kind.rules (commands ++ c ∷ [])) word start) slots') (sym (plan-append kind.rules start_plan commands c))
-        (subst (λ (f : ℕ → List A). Stand kind (plan_after kind.rules (plan_of kind.rules commands) c) f (play kind.cmp (trace_of kind.rules (commands ++ c ∷ [])) word start) slots') (sym (stream-append kind.rules start_plan (λ q. []) commands c))
-        (subst (λ (w : World (Bag A)). Stand kind (plan_after kind.rules (plan_of kind.rules commands) c) (streams_after kind.rules (plan_of kind.rules commands) (stream_of kind.rules commands) c) w slots') (sym played)
-        ((step word (front word all)).stands (drop k word) (back word all))))
+        rw (
+          plan-append kind.rules start_plan commands c,
+          after-append kind.rules (λ plan. accepted_streams) start_plan (λ q. []) commands c,
+          trace-more kind.rules commands c,
+          in_turn-append event_draws (happens (act kind.cmp)) (trace_of kind.rules commands) (events_of kind.rules (plan_of kind.rules commands) c) word start,
+        )
+        ((step word (front word all)).stands (drop k word) (back word all))
 
     pub standing-more : Stands (commands ++ c ∷ []) slots' source'
     standing-more = record {
@@ -102,7 +97,19 @@ module _ {A C Shape S Source : Type 0} {kind : Kind A C Shape S} (lawful : IsLaw
       stand = stands-on;
     }
 
+  -- one command more, accepted or refused
+  pub standing-next : (commands : List (Command A C)) (slots : Held S) (source : Source) → Stands commands slots source → (c : Command A C) (accepted : Bool) (slots' : Held S) (source' : Source) →
+      IsExecuted kind bit next c slots source accepted slots' source' → Stands (if accepted then commands ++ c ∷ [] else commands) slots' source'
+  standing-next commands slots source st c true slots' source' x = standing-more commands slots source st c slots' source' x
+  standing-next commands slots source st c false slots' source' x = let left = x.left refl in standing-same commands slots slots' source source' st left.0 left.1
+
   -- ---- what is promised of the sketches
+
+  -- the shapes are the planned ones
+  pub standing-shapes : (commands : List (Command A C)) (slots : Held S) (source : Source) → Stands commands slots source →
+      (q : ℕ) → shapes_in kind.shape slots q ≡ (plan_of kind.rules commands).shapes q
+  standing-shapes commands slots source st =
+      let n = coins (trace_of kind.rules commands) in (st.stand (bits_from bit next seed n) (bits-take bit next seed n n (omega arith))).shapes
 
   module _ (commands : List (Command A C)) (slots : Held S) (source : Source) (st : Stands commands slots source) (slot : ℕ) (s : S) (held : slots slot ≡ Some s) where
     abbrev pub given : List Bool

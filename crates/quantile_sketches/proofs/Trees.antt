@@ -1,11 +1,11 @@
 -- A slot that took updates and free slots alone took each coin in once, and no two free slots have a coin in common.
-use Rattle.std.proofs.Common.{◌≡◌, ℕ, Bool, true, false, ◌&&◌, ◌==◌, if◌then◌else◌, List, [], ◌∷◌, ◌++◌, Option, Some, refl, sym, ap, ◌∙◌, subst, inl, inr, eqb-true}
+use Rattle.std.proofs.Common.{◌≡◌, ℕ, Bool, true, false, ◌&&◌, ◌==◌, if◌then◌else◌, List, [], ◌∷◌, Option, Some, refl, sym, ap, ◌∙◌, subst, inl, inr, eqb-true}
 use Rattle.std.specs.Option.{option_and_then}
 use Rattle.std.proofs.lemmas.Bool.{cases_Bool, and_from, eq-eqb, ne_eqb, false≢true}
 use Rattle.sketch_base.specs.Shares.{shares_after, all_shares, share_no_coin, takes_once}
 use Rattle.sketch_base.specs.Trace.{Action, Clear, Event, Snap, At, Work, changed}
 use Rattle.sketch_base.proofs.Changes.{changed-there}
-use Rattle.sketch_base.proofs.Coins.{AreAsMany, as_many-after, as_many-all, products, AreApart, apart-swapped, apart-cleared, apart-acts, apart-snapped, all_shares-append, takes_once-append, once-elsewhere}
+use Rattle.sketch_base.proofs.Coins.{AreAsMany, as_many-after, products, AreApart, apart-swapped, apart-cleared, apart-acts, apart-snapped, once-elsewhere}
 use Rattle.sketch_kll.specs.Merge.{merge_actions}
 use Rattle.sketch_kll.specs.Schedule.{update_actions}
 use Rattle.sketch_kll.specs.Weighted.{weighted_actions}
@@ -13,10 +13,11 @@ use Rattle.sketch_kll.proofs.RolledCoins.{update-once, merge-once}
 use Rattle.quantile_sketches.specs.declared.audit.commands.Command.{Command}
 use Rattle.quantile_sketches.specs.declared.audit.commands.Command.TheVariants.{New, Update, UpdateWeighted, Merge, Reset, RoundTrip, Redraw, MergeRedrawn}
 use Rattle.quantile_sketches.specs.KllRules.{KllShape, kll_rules}
-use Rattle.quantile_sketches.specs.Plan.{Plan, start_plan, actions_on, events_at, count_of, shape_after, accepted_events, events_of, plan_after, trace_from}
-use Rattle.quantile_sketches.specs.Rollup.{Standing, Free, Used, Mixed, joined, used, is_tree, accepted_standings, standings_after, standings_from, TreesTakeOnce}
+use Rattle.quantile_sketches.specs.Plan.{Plan, start_plan, actions_on, events_at, shape_after, accepted_events}
+use Rattle.quantile_sketches.specs.Rollup.{Standing, Free, Mixed, joined, used, is_tree, accepted_standings, TreesTakeOnce}
 use Rattle.quantile_sketches.proofs.KllRuleLaws.{kll_lawful}
-use Rattle.quantile_sketches.proofs.LegalPlans.{changed-away, at_slot, not-none, some-there, then-there, IsSteady, steady-start, steady-after, refused-or-taken}
+use Rattle.quantile_sketches.proofs.Rollups.{coins-from}
+use Rattle.quantile_sketches.proofs.LegalPlans.{changed-away, at_slot, not-none, then-there, merge-either, IsSteady, steady-start}
 
 -- ---- standings
 
@@ -25,28 +26,23 @@ mixed-free e = cc
 
 used-free : (a : Standing) → used a ≡ Free → ⊥
 used-free Free e = cc
-used-free Used e = cc
-used-free Mixed e = cc
+used-free a e = cc
 
 used-tree : (a : Standing) → is_tree (used a) ≡ is_tree a
 used-tree Free = refl
-used-tree Used = refl
-used-tree Mixed = refl
+used-tree a = refl
 
 joined-free : (a b : Standing) → joined a b ≡ Free → (a ≡ Free) × (b ≡ Free)
 joined-free Free Free e = (refl, refl)
-joined-free Free Used e = absurd (mixed-free e)
-joined-free Free Mixed e = absurd (mixed-free e)
-joined-free Used b e = absurd (mixed-free e)
-joined-free Mixed b e = absurd (mixed-free e)
+joined-free a b e = cc
 
 -- what two slots make that are merged is a tree where it is free alone
 joined-tree : (a b : Standing) → is_tree (joined a b) ≡ true → joined a b ≡ Free
 joined-tree Free Free e = refl
-joined-tree Free Used e = absurd (false≢true e)
-joined-tree Free Mixed e = absurd (false≢true e)
-joined-tree Used b e = absurd (false≢true e)
-joined-tree Mixed b e = absurd (false≢true e)
+joined-tree a b e = absurd (false≢true e)
+
+turned : (a b : ℕ) → (a == b) ≡ false → (b == a) ≡ false
+turned a b ne = ne_eqb b a (λ (same : b ≡ a). false≢true (sym ne ∙ eq-eqb a b (sym same)))
 
 -- trees took each coin in once, and free slots have none in common
 record AreTrees (stands : ℕ → Standing) (once : ℕ → Bool) (shares : ℕ → List ℕ) : Type 0 where
@@ -107,35 +103,26 @@ module _ (A : Type 0) (stands : ℕ → Standing) (once : ℕ → Bool) (shares 
     kept = once into && (once source && share_no_coin (shares into) (shares source))
 
     -- the slots that are merged, where what they make is free
-    record WereFree : Type 0 where
-      differ : (into == source) ≡ false
-      mine : stands into ≡ Free
-      its : stands source ≡ Free
-
-    were_free : comes ≡ Free → WereFree
-    were_free e =
-        elim (cases_Bool (into == source)) [
-          | inl f ↦ absurd (mixed-free (sym (ap (λ (b : Bool). if b then Mixed else joined (stands into) (stands source)) f) ∙ e))
-          | inr f ↦
-              let both = joined-free (stands into) (stands source) (sym (ap (λ (b : Bool). if b then Mixed else joined (stands into) (stands source)) f) ∙ e) in
-              record { differ = f; mine = both.0; its = both.1 }
+    were_free : comes ≡ Free → ((into == source) ≡ false) × (stands into ≡ Free) × (stands source ≡ Free)
+    were_free =
+        elim (into == source) as (λ b. (if b then Mixed else joined (stands into) (stands source)) ≡ Free → (b ≡ false) × (stands into ≡ Free) × (stands source ≡ Free)) [
+          | true ↦ λ e. absurd (mixed-free e)
+          | false ↦ λ e. let both = joined-free (stands into) (stands source) e in (refl, both.0, both.1)
         ]
 
     comes-tree : is_tree comes ≡ true → comes ≡ Free
-    comes-tree t =
-        elim (cases_Bool (into == source)) [
-          | inl f ↦ absurd (false≢true (sym (ap (λ (b : Bool). is_tree (if b then Mixed else joined (stands into) (stands source))) f) ∙ t))
-          | inr f ↦
-              let is = ap (λ (b : Bool). if b then Mixed else joined (stands into) (stands source)) f in
-              is ∙ joined-tree (stands into) (stands source) (ap is_tree (sym is) ∙ t)
+    comes-tree =
+        elim (into == source) as (λ b. let made = if b then Mixed else joined (stands into) (stands source) in is_tree made ≡ true → made ≡ Free) [
+          | true ↦ λ t. absurd (false≢true t)
+          | false ↦ joined-tree (stands into) (stands source)
         ]
 
     -- another slot that is free is not the source
     free-others : (j : ℕ) → others j ≡ Free → ((j == source) ≡ false) × (stands j ≡ Free)
-    free-others j f =
-        elim (cases_Bool (j == source)) [
-          | inl e ↦ absurd (used-free (stands source) (sym (ap (λ (b : Bool). if b then used (stands source) else stands j) e) ∙ f))
-          | inr e ↦ (e, sym (changed-away stands source (used (stands source)) j e) ∙ f)
+    free-others j =
+        elim (j == source) as (λ b. (if b then used (stands source) else stands j) ≡ Free → (b ≡ false) × (stands j ≡ Free)) [
+          | true ↦ λ f. absurd (used-free (stands source) f)
+          | false ↦ λ f. (refl, f)
         ]
 
     others-tree : (j : ℕ) → is_tree (others j) ≡ is_tree (stands j)
@@ -146,16 +133,9 @@ module _ (A : Type 0) (stands : ℕ → Standing) (once : ℕ → Bool) (shares 
     -- the slot that took the other one in, and a third one
     apart-into : comes ≡ Free → (j : ℕ) → (j == into) ≡ false → others j ≡ Free → AreApart snapped into j
     apart-into e j ne f =
-        let were = were_free e in
+        let (differ, mine, its) = were_free e in
         let (far, free) = free-others j f in
-        apart-snapped A source into j ne shares many (i.apart into j (turned j into ne) were.mine free) (i.apart source j (turned j source far) were.its free)
-      where
-        turned : (a b : ℕ) → (a == b) ≡ false → (b == a) ≡ false
-        turned a b e =
-            elim (cases_Bool (b == a)) [
-              | inl f ↦ absurd (false≢true (sym e ∙ eq-eqb a b (sym (eqb-true b a f))))
-              | inr f ↦ f
-            ]
+        apart-snapped A source into j ne shares many (i.apart into j (turned j into ne) mine free) (i.apart source j (turned j source far) its free)
 
     apart-others : (a b : ℕ) → (a == into) ≡ false → (b == into) ≡ false → (a == b) ≡ false → others a ≡ Free → others b ≡ Free → AreApart snapped a b
     apart-others a b e f ne g h =
@@ -169,7 +149,7 @@ module _ (A : Type 0) (stands : ℕ → Standing) (once : ℕ → Bool) (shares 
         elim (cases_Bool (a == into)) [
           | inl e ↦
               let is : a ≡ into = eqb-true a into e in
-              let far : (b == into) ≡ false = turned a b into ne is in
+              let far : (b == into) ≡ false = ap (λ (m : ℕ). b == m) (sym is) ∙ turned a b ne in
               subst (λ (m : ℕ). AreApart snapped m b) (sym is) (apart-into (sym (here a e) ∙ f) b far (sym (changed-away others into comes b far) ∙ g))
           | inr e ↦
               elim (cases_Bool (b == into)) [
@@ -183,19 +163,16 @@ module _ (A : Type 0) (stands : ℕ → Standing) (once : ℕ → Bool) (shares 
         here : (j : ℕ) → (j == into) ≡ true → after j ≡ comes
         here j e = ap (λ (b : Bool). if b then comes else others j) e
 
-        turned : (a b c : ℕ) → (a == b) ≡ false → a ≡ c → (b == c) ≡ false
-        turned a b c ne is = ne_eqb b c (λ (f : b ≡ c). false≢true (sym ne ∙ eq-eqb a b (is ∙ sym f)))
-
     -- by the actions of the merge
     trees-merge : (actions : List (Action A)) → takes_once (Snap source into ∷ events_at into actions) shares once ≡ changed once into kept →
         TreesBy after once shares (Snap source into ∷ events_at into actions)
     trees-merge actions taken = record {
       taken = λ j t. ap (λ (f : ℕ → Bool). f j) taken ∙ at_slot into (λ j. is_tree (after j) ≡ true → changed once into kept j ≡ true)
           (λ t.
-          let were = were_free (comes-tree (ap is_tree (sym (changed-there others into comes)) ∙ t)) in
-          let none : share_no_coin (shares into) (shares source) ≡ true = eq-eqb (products (shares into) (shares source)) 0 (i.apart into source were.differ were.mine were.its) in
-          let mine : once into ≡ true = i.taken into (ap is_tree were.mine) in
-          let its : once source ≡ true = i.taken source (ap is_tree were.its) in
+          let (differ, mine_free, its_free) = were_free (comes-tree (ap is_tree (sym (changed-there others into comes)) ∙ t)) in
+          let none : share_no_coin (shares into) (shares source) ≡ true = eq-eqb (products (shares into) (shares source)) 0 (i.apart into source differ mine_free its_free) in
+          let mine : once into ≡ true = i.taken into (ap is_tree mine_free) in
+          let its : once source ≡ true = i.taken source (ap is_tree its_free) in
           changed-there once into kept ∙ and_from (once into) _ mine (and_from (once source) _ its none))
           (λ j e t. changed-away once into kept j e ∙ i.taken j (sym (others-tree j) ∙ (ap is_tree (sym (changed-away others into comes j e)) ∙ t))) j t;
       apart = λ a b ne f g. apart-acts into a b ne actions snapped (as_many-after {A = A} (Snap source into) shares many) (apart-after a b ne f g);
@@ -220,20 +197,12 @@ module _ {A : Type 0} where
   accepted-trees plan st stands once shares many i (UpdateWeighted slot x weight) t e =
       trees-mixed A stands once shares many i slot (actions_on (plan.shapes slot) (λ shape. weighted_actions shape.k (plan.lengths.slots slot) x weight))
   accepted-trees plan st stands once shares many i (Merge into source) t e =
-      let shapes = plan.shapes in
-      let (s, held, u) = then-there (λ shape. option_and_then ((kll_rules {A = A}).merged false shape) (shapes source)) (shapes into) t e in
-      let (other, held_other, m) = then-there ((kll_rules {A = A}).merged false s) (shapes source) t u in
+      merge-either kll_rules false plan into source t e
+      (λ (b : Bool) (events : List (Event A)). TreesBy (if b then stands else after A stands once shares many i into source) once shares events)
+      (λ s other held held_other m none. i)
+      (λ s other held held_other m some.
       let work : Work (List ℕ) = record { bag = plan.lengths.slots into; scratch = plan.lengths.slots source } in
-      let snap : Event A = Snap source into in
-      let actions : Option KllShape → Option KllShape → List (Action A) = λ x y. actions_on x (λ mine. actions_on y (λ its. merge_actions mine.k work)) in
-      let is : merge_actions s.k work ≡ actions (shapes into) (shapes source) = ap (λ (o : Option KllShape). actions o (Some other)) (sym held) ∙ ap (actions (shapes into)) (sym held_other) in
-      let R : Bool → List (Action A) → Type 0 = λ (b : Bool) (l : List (Action A)).
-      TreesBy (if b then stands else after A stands once shares many i into source) once shares (if b then [] else snap ∷ events_at into l) in
-      subst (R (count_of (kll_rules {A = A}) (shapes source) == 0)) is
-      (elim (count_of (kll_rules {A = A}) (shapes source) == 0) as (λ b. R b (merge_actions s.k work)) [
-        | true ↦ i
-        | false ↦ trees-merge A stands once shares many i into source (merge_actions s.k work) (merge-once A source into s.k work shares once (st.fits into s held).0)
-      ])
+      trees-merge A stands once shares many i into source (merge_actions s.k work) (merge-once A source into s.k work shares once (st.fits into s held).0))
   accepted-trees plan st stands once shares many i (Redraw slot) t e =
       let (s, held, none) = then-there (kll_rules {A = A}).redrawn (plan.shapes slot) t e in absurd (not-none t none)
   accepted-trees plan st stands once shares many i (MergeRedrawn into source) t e =
@@ -241,31 +210,8 @@ module _ {A : Type 0} where
       let (other, held_other, none) = then-there ((kll_rules {A = A}).merged true s) (plan.shapes source) t u in
       absurd (not-none t none)
 
-  events-trees : (plan : Plan KllShape) → IsSteady (kll_lawful {A = A}) plan → (stands : ℕ → Standing) (once : ℕ → Bool) (shares : ℕ → List ℕ) → AreAsMany shares → AreTrees stands once shares →
-      (command : Command A ℕ) → TreesBy (standings_after kll_rules plan stands command) once shares (events_of kll_rules plan command)
-  events-trees plan st stands once shares many i command =
-      refused-or-taken (kll_rules {A = A}) plan command
-      (λ (refused : Bool) (shapes : ℕ → Option KllShape) (events : List (Event A)).
-      TreesBy (if refused then stands else accepted_standings kll_rules plan.shapes stands command) once shares events) i
-      (λ e. let (t, f) = some-there (shape_after kll_rules plan.shapes command) e in accepted-trees plan st stands once shares many i command t f)
-
-  trees-from : (plan : Plan KllShape) → IsSteady (kll_lawful {A = A}) plan → (stands : ℕ → Standing) (once : ℕ → Bool) (shares : ℕ → List ℕ) → AreAsMany shares → AreTrees stands once shares →
-      (commands : List (Command A ℕ)) → TreesBy (standings_from kll_rules plan stands commands) once shares (trace_from kll_rules plan commands)
-  trees-from plan st stands once shares many i [] = i
-  trees-from plan st stands once shares many i (command ∷ rest) =
-      let next = plan_after kll_rules plan command in
-      let events : List (Event A) = events_of kll_rules plan command in
-      let others : List (Event A) = trace_from kll_rules next rest in
-      let stands' : ℕ → Standing = standings_after kll_rules plan stands command in
-      let once' : ℕ → Bool = takes_once events shares once in
-      let shares' : ℕ → List ℕ = all_shares events shares in
-      let R : (ℕ → Bool) → (ℕ → List ℕ) → Type 0 = λ (o : ℕ → Bool) (f : ℕ → List ℕ). AreTrees (standings_from kll_rules next stands' rest) o f in
-      subst (λ (o : ℕ → Bool). R o (all_shares (events ++ others) shares)) (sym (takes_once-append events others shares once))
-      (subst (R (takes_once others shares' once')) (sym (all_shares-append events others shares))
-      (trees-from next (steady-after kll_lawful plan st command) stands' once' shares' (as_many-all events shares many) (events-trees plan st stands once shares many i command) rest))
-
   -- so trees of merges take each coin in once
   pub trees-take_once : TreesTakeOnce A
   trees-take_once commands slot t =
-      (trees-from start_plan (steady-start kll_lawful) (λ s. Free) (λ s. true) (λ s. []) (λ i j. refl)
+      (coins-from (λ plan. accepted_standings kll_rules plan.shapes) (λ shapes world. AreTrees) accepted-trees start_plan (steady-start kll_lawful) (λ s. Free) (λ s. true) (λ s. []) (λ i j. refl)
       (record { taken = λ j t. refl; apart = λ i j ne f g. refl }) commands).taken slot t

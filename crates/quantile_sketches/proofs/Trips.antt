@@ -6,35 +6,24 @@ use Rattle.sketch_base.specs.Bag.{Bag, Taken, level_at, with_level, compaction}
 use Rattle.sketch_base.specs.Fair.{reaches, is_fair}
 use Rattle.sketch_base.specs.Lengths.{ObeysScratch, Along, TakesEven, lengths_after, world_lengths}
 use Rattle.sketch_base.specs.Trace.{Action, Put, Pull, Join, Compact, Forget, Redraw, Clear, Fresh, Turned, Event, Snap, At, Work, World, changed, act, happens, is_req, next_bit, play}
-use Rattle.sketch_base.proofs.Changes.{changed-itself}
+use Rattle.sketch_base.proofs.Changes.{changed-there, changed-itself}
 use Rattle.sketch_base.proofs.Fixed.{lengths-happens}
 use Rattle.sketch_base.proofs.Picks.{Sheds, none, kept, shed}
+use Rattle.quantile_sketches.proofs.LegalPlans.{at_slot, changed-away}
 
 module _ {A : Type 0} where
   -- a trace without its Forgets
   abbrev pub shorn : List (Event A) → List (Event A)
   shorn [] = []
-  shorn (Snap s t ∷ es) = Snap s t ∷ shorn es
   shorn (At s Forget ∷ es) = shorn es
-  shorn (At s (Put h x) ∷ es) = At s (Put h x) ∷ shorn es
-  shorn (At s Pull ∷ es) = At s Pull ∷ shorn es
-  shorn (At s (Join h) ∷ es) = At s (Join h) ∷ shorn es
-  shorn (At s (Compact h coin taken) ∷ es) = At s (Compact h coin taken) ∷ shorn es
-  shorn (At s (Redraw h) ∷ es) = At s (Redraw h) ∷ shorn es
-  shorn (At s Clear ∷ es) = At s Clear ∷ shorn es
+  shorn (e ∷ es) = e ∷ shorn es
 
   -- where some Forgets are left out, the others may be
   pub sheds-shorn : (es es' : List (Event A)) → Sheds es es' → Sheds es' (shorn es)
   sheds-shorn _ _ none = none
   sheds-shorn _ _ (shed s es es' sheds) = sheds-shorn es es' sheds
-  sheds-shorn _ _ (kept (Snap s t) es es' sheds) = kept (Snap s t) es' (shorn es) (sheds-shorn es es' sheds)
   sheds-shorn _ _ (kept (At s Forget) es es' sheds) = shed s es' (shorn es) (sheds-shorn es es' sheds)
-  sheds-shorn _ _ (kept (At s (Put h x)) es es' sheds) = kept (At s (Put h x)) es' (shorn es) (sheds-shorn es es' sheds)
-  sheds-shorn _ _ (kept (At s Pull) es es' sheds) = kept (At s Pull) es' (shorn es) (sheds-shorn es es' sheds)
-  sheds-shorn _ _ (kept (At s (Join h)) es es' sheds) = kept (At s (Join h)) es' (shorn es) (sheds-shorn es es' sheds)
-  sheds-shorn _ _ (kept (At s (Compact h coin taken)) es es' sheds) = kept (At s (Compact h coin taken)) es' (shorn es) (sheds-shorn es es' sheds)
-  sheds-shorn _ _ (kept (At s (Redraw h)) es es' sheds) = kept (At s (Redraw h)) es' (shorn es) (sheds-shorn es es' sheds)
-  sheds-shorn _ _ (kept (At s Clear) es es' sheds) = kept (At s Clear) es' (shorn es) (sheds-shorn es es' sheds)
+  sheds-shorn _ _ (kept e es es' sheds) = kept e es' (shorn es) (sheds-shorn es es' sheds)
 
   -- bags that differ in kept bits alone, and in none that was drawn
   pub record AreSame (drawn : ℕ → Bool) (bag bag' : Bag A) : Type 0 where
@@ -46,11 +35,10 @@ module _ {A : Type 0} where
   one-same : (drawn : ℕ → ℕ → Bool) (slots slots' : ℕ → Bag A) (reach reach' : ℕ → Bool) → ((i : ℕ) → reach i ≡ true → AreSame (drawn i) (slots i) (slots' i)) →
       (s : ℕ) (row : ℕ → Bool) (bag bag' : Bag A) → ((i : ℕ) → (i == s) ≡ false → reach' i ≡ true → reach i ≡ true) → (reach' s ≡ true → AreSame row bag bag') →
       (i : ℕ) → reach' i ≡ true → AreSame (changed drawn s row i) (changed slots s bag i) (changed slots' s bag' i)
-  one-same drawn slots slots' reach reach' all s row bag bag' back here i reached = go (i == s) refl
-    where
-      go : (b : Bool) → (i == s) ≡ b → AreSame (if b then row else drawn i) (if b then bag else slots i) (if b then bag' else slots' i)
-      go true e = here (ap reach' (sym (eqb-true i s e)) ∙ reached)
-      go false e = all i (back i e reached)
+  one-same drawn slots slots' reach reach' all s row bag bag' back here =
+      at_slot s (λ i. reach' i ≡ true → AreSame (changed drawn s row i) (changed slots s bag i) (changed slots' s bag' i))
+      (rw (changed-there drawn s row, changed-there slots s bag, changed-there slots' s bag') here)
+      (λ i e reached. rw (changed-away drawn s row i e, changed-away slots s bag i e, changed-away slots' s bag' i e) (all i (back i e reached)))
 
   -- levels without items
   no-items : (levels levels' : List (List A)) → map length levels ≡ map length levels' → sum (map length levels) ≡ 0 → levels ≡ levels'
@@ -71,11 +59,10 @@ module _ {A : Type 0} where
 -- one bit kept anew
 kept-changed : (row bits bits' : ℕ → Bool) (h : ℕ) (bit bit' : Bool) → bit ≡ bit' → ((j : ℕ) → (j == h) ≡ false → row j ≡ true → bits j ≡ bits' j) →
     (j : ℕ) → row j ≡ true → changed bits h bit j ≡ changed bits' h bit' j
-kept-changed row bits bits' h bit bit' same others j drawn = go (j == h) refl
-  where
-    go : (b : Bool) → (j == h) ≡ b → (if b then bit else bits j) ≡ (if b then bit' else bits' j)
-    go true e = same
-    go false e = others j e drawn
+kept-changed row bits bits' h bit bit' same others =
+    at_slot h (λ j. row j ≡ true → changed bits h bit j ≡ changed bits' h bit' j)
+    (λ drawn. rw (changed-there bits h bit, changed-there bits' h bit') same)
+    (λ j e drawn. rw (changed-away bits h bit j e, changed-away bits' h bit' j e) (others j e drawn))
 
 -- which others were drawn
 drawn-others : (drawn : ℕ → Bool) (h j : ℕ) → (j == h) ≡ false → changed drawn h true j ≡ true → drawn j ≡ true
@@ -117,6 +104,10 @@ module _ {A : Type 0} (cmp : A → A → Ordering) (slot : ℕ) where
         subst (λ (d : ℕ → ℕ → Bool). Agree es d (lengths_after (At s action) lengths) (happens (act cmp) (At s action) bit world) (happens (act cmp) (At s action) bit world'))
         (changed-itself drawn s) (at-slot s action (drawn s) bit even agree back here scratch)
 
+    -- that they agree before an event makes them agree so behind it
+    abbrev Goes : Event A → Bool → (ℕ → ℕ → Bool) → Type 0
+    Goes e bit drawn' = Agree (e ∷ es) drawn lengths world world' → Agree es drawn' (lengths_after e lengths) (happens (act cmp) e bit world) (happens (act cmp) e bit world')
+
     -- an empty scratch
     no-scratch : {e : Event A} → Agree (e ∷ es) drawn lengths world world' → sum lengths.scratch ≡ 0 → world.scratch.levels ≡ world'.scratch.levels
     no-scratch agree empty =
@@ -131,8 +122,7 @@ module _ {A : Type 0} (cmp : A → A → Ordering) (slot : ℕ) where
         ⊎_elim (λ empty. no-scratch agree (eqb-true (sum lengths.scratch) 0 empty)) (λ here. agree.scratch (back (ap (reaches es slot) (sym (eqb-true s lengths.target here)) ∙ reached)))
         (or_cases (sum lengths.scratch == 0) (s == lengths.target) obeys)
 
-    agree-snap : (s t : ℕ) → Agree (Snap s t ∷ es) drawn lengths world world' →
-        Agree es drawn (lengths_after {A = A} (Snap s t) lengths) (happens (act cmp) (Snap s t) false world) (happens (act cmp) (Snap s t) false world')
+    agree-snap : (s t : ℕ) → Goes (Snap s t) false drawn
     agree-snap s t agree = record {
       lengths_are = ap (lengths_after {A = A} (Snap s t)) agree.lengths_are;
       lengths_are' = ap (lengths_after {A = A} (Snap s t)) agree.lengths_are';
@@ -140,8 +130,7 @@ module _ {A : Type 0} (cmp : A → A → Ordering) (slot : ℕ) where
       scratch = λ reached. (agree.slots s (or_right (reaches es slot s) _ (ap₂ (λ (b c : Bool). b && c) (eq-eqb s s refl) reached))).levels;
     }
 
-    agree-put : (s h : ℕ) (x : A) (bit : Bool) → Agree (At s (Put h x) ∷ es) drawn lengths world world' →
-        Agree es drawn (lengths_after (At s (Put h x)) lengths) (happens (act cmp) (At s (Put h x)) bit world) (happens (act cmp) (At s (Put h x)) bit world')
+    agree-put : (s h : ℕ) (x : A) (bit : Bool) → Goes (At s (Put h x)) bit drawn
     agree-put s h x bit agree = at-own s (Put h x) bit tt agree (λ i e reached. reached)
         (λ reached. let same = agree.slots s reached in record {
           levels = ap (with_level [] h (λ level. level ++ x ∷ [])) same.levels;
@@ -150,8 +139,7 @@ module _ {A : Type 0} (cmp : A → A → Ordering) (slot : ℕ) where
         })
         agree.scratch
 
-    agree-pull : (s : ℕ) (bit : Bool) → (sum lengths.scratch == 0 || s == lengths.target) ≡ true → Agree (At s Pull ∷ es) drawn lengths world world' →
-        Agree es drawn (lengths_after {A = A} (At s Pull) lengths) (happens (act cmp) (At s Pull) bit world) (happens (act cmp) (At s Pull) bit world')
+    agree-pull : (s : ℕ) (bit : Bool) → (sum lengths.scratch == 0 || s == lengths.target) ≡ true → Goes (At s Pull) bit drawn
     agree-pull s bit obeys agree = at-own s Pull bit tt agree (λ i e reached. reached)
         (λ reached. let same = agree.slots s reached in record {
           levels = ap₂ (λ (ls from : List (List A)). with_level [] 0 (λ level. level ++ take 1 (level_at from 0)) ls) same.levels (own-scratch s agree (λ r. r) obeys reached);
@@ -160,8 +148,7 @@ module _ {A : Type 0} (cmp : A → A → Ordering) (slot : ℕ) where
         })
         (λ reached. ap (λ (from : List (List A)). with_level [] 0 (λ level. drop 1 (level_at from 0)) from) (agree.scratch reached))
 
-    agree-join : (s h : ℕ) (bit : Bool) → (sum lengths.scratch == 0 || s == lengths.target) ≡ true → Agree (At s (Join h) ∷ es) drawn lengths world world' →
-        Agree es drawn (lengths_after {A = A} (At s (Join h)) lengths) (happens (act cmp) (At s (Join h)) bit world) (happens (act cmp) (At s (Join h)) bit world')
+    agree-join : (s h : ℕ) (bit : Bool) → (sum lengths.scratch == 0 || s == lengths.target) ≡ true → Goes (At s (Join h)) bit drawn
     agree-join s h bit obeys agree = at-own s (Join h) bit tt agree (λ i e reached. reached)
         (λ reached. let same = agree.slots s reached in record {
           levels = ap₂ (λ (ls from : List (List A)). with_level [] h (λ level. level ++ level_at from h) ls) same.levels (own-scratch s agree (λ r. r) obeys reached);
@@ -170,14 +157,12 @@ module _ {A : Type 0} (cmp : A → A → Ordering) (slot : ℕ) where
         })
         (λ reached. ap (with_level [] h (λ level. [])) (agree.scratch reached))
 
-    agree-forget : (s : ℕ) (bit : Bool) → Agree (At s Forget ∷ es) drawn lengths world world' →
-        Agree es (changed drawn s (λ h. false)) (lengths_after {A = A} (At s Forget) lengths) (happens (act cmp) (At s Forget) bit world) (happens (act cmp) (At s Forget) bit world')
+    agree-forget : (s : ℕ) (bit : Bool) → Goes (At s Forget) bit (changed drawn s (λ h. false))
     agree-forget s bit agree = at-slot s Forget (λ h. false) bit tt agree (λ i e reached. reached)
         (λ reached. let same = agree.slots s reached in record { levels = same.levels; sorted = same.sorted; kept = λ h e. absurd (false≢true e) })
         agree.scratch
 
-    agree-redraw : (s h : ℕ) (bit : Bool) → Agree (At s (Redraw h) ∷ es) drawn lengths world world' →
-        Agree es (changed drawn s (changed (drawn s) h true)) (lengths_after {A = A} (At s (Redraw h)) lengths) (happens (act cmp) (At s (Redraw h)) bit world) (happens (act cmp) (At s (Redraw h)) bit world')
+    agree-redraw : (s h : ℕ) (bit : Bool) → Goes (At s (Redraw h)) bit (changed drawn s (changed (drawn s) h true))
     agree-redraw s h bit agree = at-slot s (Redraw h) (changed (drawn s) h true) bit tt agree (λ i e reached. reached)
         (λ reached. let same = agree.slots s reached in record {
           levels = same.levels;
@@ -186,8 +171,7 @@ module _ {A : Type 0} (cmp : A → A → Ordering) (slot : ℕ) where
         })
         agree.scratch
 
-    agree-clear : (s : ℕ) (bit : Bool) → (sum lengths.scratch == 0 || false) ≡ true → Agree (At s Clear ∷ es) drawn lengths world world' →
-        Agree es (changed drawn s (λ h. false)) (lengths_after {A = A} (At s Clear) lengths) (happens (act cmp) (At s Clear) bit world) (happens (act cmp) (At s Clear) bit world')
+    agree-clear : (s : ℕ) (bit : Bool) → (sum lengths.scratch == 0 || false) ≡ true → Goes (At s Clear) bit (changed drawn s (λ h. false))
     agree-clear s bit obeys agree = at-slot s Clear (λ h. false) bit tt agree
         (λ i e reached. ap₂ (λ (b c : Bool). not b && c) e reached)
         (λ reached. record { levels = refl; sorted = refl; kept = λ h e. absurd (false≢true e) })
@@ -207,17 +191,14 @@ module _ {A : Type 0} (cmp : A → A → Ordering) (slot : ℕ) where
         after : List (List A) → Bool → Bool → List (List A)
         after levels sorted bit = (compaction cmp h taken bit (record { levels = levels; is_sorted = sorted; kept = λ h. false })).levels
 
-    agree-draw : (s h : ℕ) (taken : Taken) (bit : Bool) → TakesEven {A = A} (At s (Compact h Fresh taken)) lengths → Agree (At s (Compact h Fresh taken) ∷ es) drawn lengths world world' →
-        Agree es (changed drawn s (changed (drawn s) h true)) (lengths_after {A = A} (At s (Compact h Fresh taken)) lengths)
-        (happens (act cmp) (At s (Compact h Fresh taken)) bit world) (happens (act cmp) (At s (Compact h Fresh taken)) bit world')
+    agree-draw : (s h : ℕ) (taken : Taken) (bit : Bool) → TakesEven {A = A} (At s (Compact h Fresh taken)) lengths →
+        Goes (At s (Compact h Fresh taken)) bit (changed drawn s (changed (drawn s) h true))
     agree-draw s h taken bit even agree = at-slot s (Compact h Fresh taken) (changed (drawn s) h true) bit even agree (λ i e reached. reached)
         (λ reached. same-compacted s h taken (changed (drawn s) h true) bit bit refl (agree.slots s reached) (drawn-others (drawn s) h))
         agree.scratch
 
     agree-turn : (s h : ℕ) (taken : Taken) (bit : Bool) → TakesEven {A = A} (At s (Compact h Turned taken)) lengths → (drawn s h || not (reaches es slot s)) ≡ true →
-        Agree (At s (Compact h Turned taken) ∷ es) drawn lengths world world' →
-        Agree es drawn (lengths_after {A = A} (At s (Compact h Turned taken)) lengths)
-        (happens (act cmp) (At s (Compact h Turned taken)) bit world) (happens (act cmp) (At s (Compact h Turned taken)) bit world')
+        Goes (At s (Compact h Turned taken)) bit drawn
     agree-turn s h taken bit even fair agree = at-own s (Compact h Turned taken) bit even agree (λ i e reached. reached)
         (λ reached.
         let same = agree.slots s reached in
@@ -235,18 +216,14 @@ module _ {A : Type 0} (cmp : A → A → Ordering) (slot : ℕ) where
           lengths_are' =
               agree.lengths_are'
               ∙ sym (ap (λ (f : ℕ → List ℕ). let w : World (List ℕ) = record { slots = f; scratch = lengths.scratch; target = lengths.target } in w) (changed-itself lengths.slots s));
-          slots = λ i reached. left i (i == s) refl reached;
+          slots = at_slot s (λ i. reaches es slot i ≡ true → AreSame (changed drawn s (λ h. false) i) (changed world.slots s (acted s Forget bit world).bag i) (world'.slots i))
+              (λ reached.
+              let same = agree.slots s reached in
+              rw (changed-there drawn s (λ h. false), changed-there world.slots s (acted s Forget bit world).bag)
+              (record { levels = same.levels; sorted = same.sorted; kept = λ h d. absurd (false≢true d) }))
+              (λ i e reached. rw (changed-away drawn s (λ h. false) i e, changed-away world.slots s (acted s Forget bit world).bag i e) (agree.slots i reached));
           scratch = agree.scratch;
         }
-      where
-        left : (i : ℕ) (b : Bool) → (i == s) ≡ b → reaches es slot i ≡ true →
-            AreSame ((if b then (λ h. false) else drawn i)) (if b then (acted s Forget bit world).bag else world.slots i) (world'.slots i)
-        left i true e reached =
-            let same = agree.slots i reached in
-            let here : (world.slots i).levels ≡ (world.slots s).levels = ap (λ (j : ℕ). (world.slots j).levels) (eqb-true i s e) in
-            let flag : (world.slots i).is_sorted ≡ (world.slots s).is_sorted = ap (λ (j : ℕ). (world.slots j).is_sorted) (eqb-true i s e) in
-            record { levels = sym here ∙ same.levels; sorted = sym flag ∙ same.sorted; kept = λ h d. absurd (false≢true d) }
-        left i false e reached = agree.slots i reached
 
   -- so the slot holds the same items in the end
   pub shed-same : (es es' : List (Event A)) → Sheds es es' → (drawn : ℕ → ℕ → Bool) (lengths : World (List ℕ)) → is_fair es slot drawn ≡ true → ObeysScratch es lengths → Along TakesEven es lengths →

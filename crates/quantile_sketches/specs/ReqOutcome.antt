@@ -1,5 +1,5 @@
 -- What a run on REQ sketches gives beyond what every run gives.
-use Rattle.std.specs.Prelude.{◌≡◌, ℕ, ◌-◌, ◌*◌, ◌^◌, ◌<◌, ◌≤◌, Bool, true, IsTrue, List, [], length, Option, IsSorted}
+use Rattle.std.specs.Prelude.{◌≡◌, ℕ, ◌-◌, ◌*◌, ◌^◌, ◌<◌, ◌≤◌, Bool, IsTrue, List, [], length, Option, IsSorted}
 use Rattle.std.specs.List.{AllByRecursion}
 use Rattle.std.specs.declared.cmp.Ordering.{Ordering}
 use Rattle.sketch_base.specs.declared.common.SearchCriteria.{SearchCriteria}
@@ -16,9 +16,9 @@ use Rattle.sketch_req.specs.Written.{image_text}
 use Rattle.quantile_sketches.specs.Outcome.{Slots, EachSketch}
 use Rattle.quantile_sketches.specs.AllWords.{AllRuns, ShowIn, squares_in}
 use Rattle.quantile_sketches.specs.ReqKind.{HasImage, req_kind}
-use Rattle.quantile_sketches.specs.ReqPlan.{ReqCommand, tails_of, no_shapes}
+use Rattle.quantile_sketches.specs.ReqPlan.{ReqCommand, tails_of}
 use Rattle.quantile_sketches.specs.ReqRules.{req_rules}
-use Rattle.quantile_sketches.specs.ReqRun.{unmerged_from}
+use Rattle.quantile_sketches.specs.ReqRun.{took_no_sketch}
 use Rattle.quantile_sketches.specs.ReqUpdated.{was_only_updated}
 use Rattle.quantile_sketches.specs.Run.{stream_of}
 
@@ -29,10 +29,6 @@ AreInOrder cmp = EachSketch (λ slot s. AllByRecursion (λ level. IsTrue level.i
 -- each sketch of L levels, L at least 2, took at least 2^L items
 abbrev pub HaveFewLevels : {A : Type 0} → Slots (Req A) → Type 0
 HaveFewLevels = EachSketch (λ slot s. 2 ≤ length s.levels → 2 ^ length s.levels ≤ s.n)
-
--- whether a slot took no sketch in that is not empty, since its New or Reset
-abbrev pub took_no_sketch : {A : Type 0} → List (ReqCommand A) → ℕ → Bool
-took_no_sketch = unmerged_from no_shapes (λ slot. true)
 
 -- each such sketch retains less than the sum of its nominal capacities
 abbrev pub AreBelowNominal : {A : Type 0} → List (ReqCommand A) → Slots (Req A) → Type 0

@@ -1,11 +1,11 @@
 -- Slots of a REQ run that stay fair by their commands alone: merged with coins drawn anew, and redrawn after a round trip.
-use Rattle.std.specs.Prelude.{ℕ, ◌==◌, ◌&&◌, not, Bool, true, false, IsTrue, if◌then◌else◌, List, [], ◌∷◌, Option}
+use Rattle.std.specs.Prelude.{ℕ, ◌==◌, ◌&&◌, not, Bool, true, false, IsTrue, if◌then◌else◌, List, Option}
 use Rattle.sketch_base.specs.Trace.{changed}
 use Rattle.sketch_req.specs.Schedule.{joined_layouts, are_full}
 use Rattle.quantile_sketches.specs.declared.audit.commands.Command.TheVariants.{New, Update, UpdateWeighted, Merge, Reset, RoundTrip, Redraw, MergeRedrawn}
-use Rattle.quantile_sketches.specs.Plan.{is_refused}
+use Rattle.quantile_sketches.specs.Plan.{Plan, start_plan, after_command, after_commands}
 use Rattle.quantile_sketches.specs.ReqFair.{is_fair_slot}
-use Rattle.quantile_sketches.specs.ReqPlan.{ReqCommand, shape_in, next_shapes, no_shapes}
+use Rattle.quantile_sketches.specs.ReqPlan.{ReqCommand, shape_in}
 use Rattle.quantile_sketches.specs.ReqRules.{ReqShape, req_rules}
 
 -- what commands alone show of a slot. Ready: each level whose next compaction complements its kept coin has drawn that coin. Fair: each complemented coin in what got into it had been drawn
@@ -54,17 +54,16 @@ accepted_fairness shapes fairs (RoundTrip slot) = changed fairs slot (with_ready
 accepted_fairness shapes fairs (Redraw slot) = changed fairs slot (with_ready (fairs slot) true)
 accepted_fairness shapes fairs (MergeRedrawn into source) = fairness_in true shapes fairs into source
 
--- after any command: a refused one leaves them
-abbrev pub fairness_after : {A : Type 0} → (ℕ → Option ReqShape) → (ℕ → Fairness) → ReqCommand A → ℕ → Fairness
-fairness_after shapes fairs command = if is_refused req_rules shapes command then fairs else accepted_fairness shapes fairs command
+-- after any command, and after some
+abbrev pub fairness_after : {A : Type 0} → Plan ReqShape → (ℕ → Fairness) → ReqCommand A → ℕ → Fairness
+fairness_after = after_command req_rules (λ plan. accepted_fairness plan.shapes)
 
-abbrev pub fairness_from : {A : Type 0} → (ℕ → Option ReqShape) → (ℕ → Fairness) → List (ReqCommand A) → ℕ → Fairness
-fairness_from shapes fairs [] = fairs
-fairness_from shapes fairs (command ∷ rest) = fairness_from (next_shapes shapes command) (fairness_after shapes fairs command) rest
+abbrev pub fairness_from : {A : Type 0} → Plan ReqShape → (ℕ → Fairness) → List (ReqCommand A) → ℕ → Fairness
+fairness_from = after_commands req_rules (λ plan. accepted_fairness plan.shapes)
 
 -- whether a slot stays fair by the commands from a run's start
 abbrev pub stays_fair : {A : Type 0} → List (ReqCommand A) → ℕ → Bool
-stays_fair commands slot = let f = fairness_from no_shapes (λ s. new_fairness) commands slot in f.is_fair
+stays_fair commands slot = let f = fairness_from start_plan (λ s. new_fairness) commands slot in f.is_fair
 
 -- after every list of commands the slots that stay fair are fair
 abbrev pub ReqStaysFair : Type 0 → Type 0

@@ -1,5 +1,5 @@
 -- Slots of a REQ run that were only updated, and that their errors are relative.
-use Rattle.std.specs.Prelude.{ℕ, ◌-◌, ◌≤◌, Bool, true, false, IsTrue, if◌then◌else◌, List, [], ◌∷◌, length, Option}
+use Rattle.std.specs.Prelude.{ℕ, ◌-◌, ◌≤◌, Bool, true, false, IsTrue, List, length, Option}
 use Rattle.std.specs.declared.cmp.Ordering.{Ordering}
 use Rattle.sketch_base.specs.declared.common.SearchCriteria.{SearchCriteria}
 use Rattle.sketch_base.specs.Bag.{weighted_rank}
@@ -8,8 +8,8 @@ use Rattle.sketch_base.specs.Trace.{changed, play, start, coins}
 use Rattle.sketch_base.specs.Words.{sum_over_words, distance, square}
 use Rattle.sketch_req.specs.Relative.{off_protected_end, IsRelative, Reaches}
 use Rattle.quantile_sketches.specs.declared.audit.commands.Command.TheVariants.{New, Update, UpdateWeighted, Merge, Reset, RoundTrip, Redraw, MergeRedrawn}
-use Rattle.quantile_sketches.specs.Plan.{is_refused, trace_of}
-use Rattle.quantile_sketches.specs.ReqPlan.{ReqCommand, shape_at, next_shapes, no_shapes}
+use Rattle.quantile_sketches.specs.Plan.{Plan, start_plan, after_command, after_commands, trace_of}
+use Rattle.quantile_sketches.specs.ReqPlan.{ReqCommand, shape_at}
 use Rattle.quantile_sketches.specs.ReqRules.{ReqShape, req_rules}
 use Rattle.quantile_sketches.specs.ReqRun.{merged_in}
 use Rattle.quantile_sketches.specs.Run.{stream_of}
@@ -26,17 +26,16 @@ accepted_only_updated shapes only (RoundTrip slot) = changed only slot false
 accepted_only_updated shapes only (Redraw slot) = changed only slot false
 accepted_only_updated shapes only (MergeRedrawn into source) = merged_in shapes only into source
 
--- after any command: a refused one leaves them
-abbrev pub only_updated_after : {A : Type 0} → (ℕ → Option ReqShape) → (ℕ → Bool) → ReqCommand A → ℕ → Bool
-only_updated_after shapes only command = if is_refused req_rules shapes command then only else accepted_only_updated shapes only command
+-- after any command, and after some
+abbrev pub only_updated_after : {A : Type 0} → Plan ReqShape → (ℕ → Bool) → ReqCommand A → ℕ → Bool
+only_updated_after = after_command req_rules (λ plan. accepted_only_updated plan.shapes)
 
-abbrev pub only_updated_from : {A : Type 0} → (ℕ → Option ReqShape) → (ℕ → Bool) → List (ReqCommand A) → ℕ → Bool
-only_updated_from shapes only [] = only
-only_updated_from shapes only (command ∷ rest) = only_updated_from (next_shapes shapes command) (only_updated_after shapes only command) rest
+abbrev pub only_updated_from : {A : Type 0} → Plan ReqShape → (ℕ → Bool) → List (ReqCommand A) → ℕ → Bool
+only_updated_from = after_commands req_rules (λ plan. accepted_only_updated plan.shapes)
 
 -- whether a slot was only updated since its New or Reset, after commands from a run's start
 abbrev pub was_only_updated : {A : Type 0} → List (ReqCommand A) → ℕ → Bool
-was_only_updated = only_updated_from no_shapes (λ slot. true)
+was_only_updated = only_updated_from start_plan (λ slot. true)
 
 -- how many levels of a sketch were compacted: all but the top one
 abbrev pub compacted_in : ReqShape → ℕ

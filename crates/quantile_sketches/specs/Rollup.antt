@@ -1,5 +1,5 @@
 -- Rollups: how little a slot spreads that took each coin in once, and how commands alone show that a slot did so.
-use Rattle.std.specs.Prelude.{◌≡◌, ℕ, Bool, true, false, ◌==◌, if◌then◌else◌, IsTrue, List, [], ◌∷◌, Option, Some}
+use Rattle.std.specs.Prelude.{◌≡◌, ℕ, Bool, true, false, ◌==◌, if◌then◌else◌, IsTrue, List, Option, Some}
 use Rattle.sketch_base.specs.Shares.{spread, took_once}
 use Rattle.sketch_base.specs.Trace.{changed}
 use Rattle.sketch_kll.specs.Sketch.{Kll}
@@ -8,7 +8,7 @@ use Rattle.quantile_sketches.specs.declared.audit.commands.Command.{Command}
 use Rattle.quantile_sketches.specs.declared.audit.commands.Command.TheVariants.{New, Update, UpdateWeighted, Merge, Reset, RoundTrip, Redraw, MergeRedrawn}
 use Rattle.quantile_sketches.specs.KllRules.{KllShape, kll_rules}
 use Rattle.quantile_sketches.specs.Outcome.{Slots, EachSketch}
-use Rattle.quantile_sketches.specs.Plan.{Plan, start_plan, count_of, is_refused, plan_after, plan_of, trace_of}
+use Rattle.quantile_sketches.specs.Plan.{Plan, start_plan, count_of, after_commands, plan_of, trace_of}
 use Rattle.quantile_sketches.specs.Rules.{Rules}
 
 -- the spread of each sketch that took each coin in once is little for its least k and its count, whatever merges made it
@@ -71,15 +71,9 @@ module _ {A C Shape : Type 0} (rules : Rules A C Shape) where
   accepted_standings shapes stands (Redraw slot) = stands
   accepted_standings shapes stands (MergeRedrawn into source) = merged_standings shapes stands into source
 
-  -- after any command: a refused one leaves them
-  abbrev pub standings_after : Plan Shape → (ℕ → Standing) → Command A C → ℕ → Standing
-  standings_after plan stands command =
-      if is_refused rules plan.shapes command then stands else accepted_standings plan.shapes stands command
-
+  -- after some commands, from a plan on
   abbrev pub standings_from : Plan Shape → (ℕ → Standing) → List (Command A C) → ℕ → Standing
-  standings_from plan stands [] = stands
-  standings_from plan stands (command ∷ rest) =
-      standings_from (plan_after rules plan command) (standings_after plan stands command) rest
+  standings_from = after_commands rules (λ plan. accepted_standings plan.shapes)
 
   -- the standing of a slot after commands from a run's start
   abbrev pub standing_of : List (Command A C) → ℕ → Standing

@@ -1,12 +1,8 @@
-use Rattle.std.proofs.Common.{Result, Ok, Err, IfOk, ◌*◌, ℕ, length, sym, ap, ◌∙◌}
+use Rattle.std.proofs.Common.{◌*◌, ℕ, length, sym, ap, ◌∙◌}
+use Rattle.quantile_sketches.proofs.Given.{three}
 use Rattle.quantile_sketches.proofs.ReqKind.{req_kind_lawful}
 use Rattle.quantile_sketches.proofs.ReqAudits.{weights-sum, weights-relative}
 use Rattle.quantile_sketches.proofs.audit.req_audits.audit_req.Goals as goal
-
--- what follows of what is given
-three : {T E : Type 0} {P Q R U : T → Type 0} (r : Result T E) → ((x : T) → P x → Q x → R x → U x) → IfOk r P → IfOk r Q → IfOk r R → IfOk r U
-three (Ok x) f p q s = f x p q s
-three (Err e) f p q s = tt
 
 pub audit_family-requires-clause-lawful : goal.audit_family-requires-clause-lawful
 audit_family-requires-clause-lawful g c = req_kind_lawful g.met.T.Ord.total g.T.ReqValue.spelling

@@ -1,21 +1,9 @@
-use Rattle.std.proofs.Common.{◌<◌, ◌-◌, ◌^◌, length, Result, Ok, Err, IfOk, arith}
+use Rattle.std.proofs.Common.{arith}
+use Rattle.quantile_sketches.proofs.Given.{given, both, three}
 use Rattle.quantile_sketches.proofs.AfterCommands.{close-by}
 use Rattle.quantile_sketches.proofs.ReqKind.{req_kind_lawful}
 use Rattle.quantile_sketches.proofs.ReqRuns.{req-load, run-ordered, run-levels, run-small, run-tail, run-tails-own, run-images, runs-unbiased, runs-fair, runs-redrawn, runs-relative, runs-relative_to_counts}
 use Rattle.quantile_sketches.proofs.audit.req_runs.run_req.Goals as goal
-
--- what follows of what is given
-given : {T E : Type 0} {P Q : T → Type 0} (r : Result T E) → ((x : T) → P x → Q x) → IfOk r P → IfOk r Q
-given (Ok x) f p = f x p
-given (Err e) f p = tt
-
-both : {T E : Type 0} {P Q R : T → Type 0} (r : Result T E) → ((x : T) → P x → Q x → R x) → IfOk r P → IfOk r Q → IfOk r R
-both (Ok x) f p q = f x p q
-both (Err e) f p q = tt
-
-three : {T E : Type 0} {P Q R U : T → Type 0} (r : Result T E) → ((x : T) → P x → Q x → R x → U x) → IfOk r P → IfOk r Q → IfOk r R → IfOk r U
-three (Ok x) f p q s = f x p q s
-three (Err e) f p q s = tt
 
 pub run_family-requires-clause-lawful : goal.run_family-requires-clause-lawful
 run_family-requires-clause-lawful g c = req_kind_lawful g.met.T.Ord.total g.T.ReqValue.spelling
@@ -52,13 +40,11 @@ returns-clause-own g c =
 
 pub returns-clause-fair : goal.returns-clause-fair
 returns-clause-fair g c =
-    let few : length c.args.word.now < 2 ^ 64 - 1 = omega arith in
-    given c.run_family.result (λ run enough. runs-fair g.met.T.Ord.total g.T.ReqValue.spelling c.args.commands.now run.slots c.args.word.now enough few) c.run_family.ensures.enough
+    given c.run_family.result (λ run enough. runs-fair g.met.T.Ord.total g.T.ReqValue.spelling c.args.commands.now run.slots c.args.word.now enough (omega arith)) c.run_family.ensures.enough
 
 pub returns-clause-redrawn : goal.returns-clause-redrawn
 returns-clause-redrawn g c =
-    let few : length c.args.word.now < 2 ^ 64 - 1 = omega arith in
-    given c.run_family.result (λ run enough. runs-redrawn g.met.T.Ord.total g.T.ReqValue.spelling c.args.commands.now run.slots c.args.word.now enough few) c.run_family.ensures.enough
+    given c.run_family.result (λ run enough. runs-redrawn g.met.T.Ord.total g.T.ReqValue.spelling c.args.commands.now run.slots c.args.word.now enough (omega arith)) c.run_family.ensures.enough
 
 pub returns-clause-images : goal.returns-clause-images
 returns-clause-images g c =
@@ -68,17 +54,14 @@ returns-clause-images g c =
 
 pub returns-clause-unbiased : goal.returns-clause-unbiased
 returns-clause-unbiased g c =
-    let few : length c.args.word.now < 2 ^ 64 - 1 = omega arith in
-    given c.run_family.result (λ run enough. runs-unbiased g.met.T.Ord.total g.T.ReqValue.spelling c.args.commands.now run.slots c.args.word.now enough few) c.run_family.ensures.enough
+    given c.run_family.result (λ run enough. runs-unbiased g.met.T.Ord.total g.T.ReqValue.spelling c.args.commands.now run.slots c.args.word.now enough (omega arith)) c.run_family.ensures.enough
 
 pub returns-clause-relative : goal.returns-clause-relative
 returns-clause-relative g c =
-    let few : length c.args.word.now < 2 ^ 64 - 1 = omega arith in
-    both c.run_family.result (λ run planned enough. runs-relative g.met.T.Ord.total g.T.ReqValue.spelling c.args.commands.now run.slots c.args.word.now enough few planned)
+    both c.run_family.result (λ run planned enough. runs-relative g.met.T.Ord.total g.T.ReqValue.spelling c.args.commands.now run.slots c.args.word.now enough (omega arith) planned)
     c.run_family.ensures.planned c.run_family.ensures.enough
 
 pub returns-clause-counts : goal.returns-clause-counts
 returns-clause-counts g c =
-    let few : length c.args.word.now < 2 ^ 64 - 1 = omega arith in
-    both c.run_family.result (λ run planned enough. runs-relative_to_counts g.met.T.Ord.total g.T.ReqValue.spelling c.args.commands.now run.slots c.args.word.now enough few planned)
+    both c.run_family.result (λ run planned enough. runs-relative_to_counts g.met.T.Ord.total g.T.ReqValue.spelling c.args.commands.now run.slots c.args.word.now enough (omega arith) planned)
     c.run_family.ensures.planned c.run_family.ensures.enough

@@ -1,0 +1,18 @@
+-- What follows of the value of a result, if there is one, from what is given of it.
+use Rattle.std.proofs.Common.{Result, Ok, Err, IfOk}
+
+pub all : {T E : Type 0} {P : T → Type 0} (r : Result T E) → ((x : T) → P x) → IfOk r P
+all (Ok x) f = f x
+all (Err e) f = tt
+
+pub given : {T E : Type 0} {P Q : T → Type 0} (r : Result T E) → ((x : T) → P x → Q x) → IfOk r P → IfOk r Q
+given (Ok x) f p = f x p
+given (Err e) f p = tt
+
+pub both : {T E : Type 0} {P Q R : T → Type 0} (r : Result T E) → ((x : T) → P x → Q x → R x) → IfOk r P → IfOk r Q → IfOk r R
+both (Ok x) f p q = f x p q
+both (Err e) f p q = tt
+
+pub three : {T E : Type 0} {P Q R U : T → Type 0} (r : Result T E) → ((x : T) → P x → Q x → R x → U x) → IfOk r P → IfOk r Q → IfOk r R → IfOk r U
+three (Ok x) f p q s = f x p q s
+three (Err e) f p q s = tt
