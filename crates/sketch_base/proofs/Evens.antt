@@ -1,7 +1,7 @@
 -- What a trace gains by one level's compactions it loses over all words, where its turned coins are fair.
 use Rattle.std.proofs.Common.{◌≡◌, ◌≢◌, ℕ, zero, suc, ◌+◌, ◌*◌, ◌≤◌, ◌<◌, Bool, true, false, cond, not, ◌||◌, ◌==◌, ◌⊎◌, inl, inr, List, [], ◌∷◌, refl, sym, ap, ◌∙◌, arith, if◌then◌else◌, ⊎_elim, subst, eqb-true, Ordering}
 use Rattle.std.proofs.lemmas.List.Sums.{sum_by-cons}
-use Rattle.std.proofs.lemmas.Bool.{and_parts, cases_eq, or_cases, false≢true}
+use Rattle.std.proofs.lemmas.Bool.{and_parts, cases_eq, not-true, or_cases}
 use Rattle.sketch_base.specs.Bag.{Bag, Taken}
 use Rattle.sketch_base.specs.Trace.{Put, Pull, Join, Compact, Forget, Redraw, Clear, Fresh, Turned, Event, Snap, At, World, changed, is_req, event_draws, coins, happens, act}
 use Rattle.sketch_base.specs.Words.{sum_over_words}
@@ -141,15 +141,11 @@ module _ {A : Type 0} (cmp : A → A → Ordering) (f : A → ℕ) where
       other : h ≡ g → drawn s g ≡ true → bag'.kept h ≡ not (bag.kept h)
       other e d = subst (λ j. bag'.kept j ≡ not (bag.kept j)) (sym e) ((m.slots s).turned d)
 
-      not_true : (b : Bool) → not b ≡ true → b ≡ false
-      not_true true e = absurd (false≢true e)
-      not_true false e = refl
-
       by_rule : h ≡ g → (up cmp f h taken bit bag + up cmp f h taken bit' bag' ≡ down cmp f h taken bag + down cmp f h taken bag') ⊎ (reaches es slot s ≡ false)
       by_rule e =
           ⊎_elim
           (λ d. inl (turned_up cmp f h taken bit bit' bag bag' req (ap not (other e (ap (drawn s) (sym e) ∙ d))) ((m.slots s).levels h (omega (arith, e)))))
-          (λ misses. inr (not_true (reaches es slot s) misses))
+          (λ misses. inr (not-true (reaches es slot s) misses))
           (or_cases (drawn s h) (not (reaches es slot s)) fair)
 
   -- level by level, gains and losses even out over all words

@@ -24,6 +24,5 @@ module _ {A : Type 0} {cmp : A → A → Ordering} (order : IsTotalOrder cmp) (t
   -- answers
   pub same-answers : (a b : Option A) → SameAnswer cmp a b → a ≡ b
   same-answers None None s = refl
-  same-answers None (Some y) s = absurd s
-  same-answers (Some x) None s = absurd s
   same-answers (Some x) (Some y) s = ap (λ (z : A). Some z) (tied x y s)
+  same-answers _ _ s = absurd s
