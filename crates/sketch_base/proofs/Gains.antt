@@ -46,25 +46,13 @@ module _ {A : Type 0} where
   below-more : (m n : ℕ) (es : List (Event A)) → m ≤ n → IsBelow m es → IsBelow n es
   below-more m n [] le b = tt
   below-more m n (At s (Compact h coin taken) ∷ es) le b = (omega (arith, b.0, le), below-more m n es le b.1)
-  below-more m n (At s (Put h x) ∷ es) le b = below-more m n es le b
-  below-more m n (At s Pull ∷ es) le b = below-more m n es le b
-  below-more m n (At s (Join h) ∷ es) le b = below-more m n es le b
-  below-more m n (At s Forget ∷ es) le b = below-more m n es le b
-  below-more m n (At s (Redraw h) ∷ es) le b = below-more m n es le b
-  below-more m n (At s Clear ∷ es) le b = below-more m n es le b
-  below-more m n (Snap s t ∷ es) le b = below-more m n es le b
+  below-more m n (_ ∷ es) le b = below-more m n es le b
 
   -- no event reaches the top level
   pub below_top : (es : List (Event A)) → IsBelow (top_of es) es
   below_top [] = tt
   below_top (At s (Compact h coin taken) ∷ es) = (omega arith, below-more (top_of es) (suc h + top_of es) es (omega arith) (below_top es))
-  below_top (At s (Put h x) ∷ es) = below_top es
-  below_top (At s Pull ∷ es) = below_top es
-  below_top (At s (Join h) ∷ es) = below_top es
-  below_top (At s Forget ∷ es) = below_top es
-  below_top (At s (Redraw h) ∷ es) = below_top es
-  below_top (At s Clear ∷ es) = below_top es
-  below_top (Snap s t ∷ es) = below_top es
+  below_top (_ ∷ es) = below_top es
 
 -- the rules of a trace from here on
 pub record KeepsRules {A : Type 0} (es : List (Event A)) (lengths : World (List ℕ)) : Type 0 where

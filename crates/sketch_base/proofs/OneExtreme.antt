@@ -19,10 +19,9 @@ module _ {A : Type 0} {cmp : A → A → Ordering} (o : IsTotalOrder cmp) where
 
   ties_same : (x : A) (xs ys : List A) → SameItems cmp xs ys → TiesWithOne cmp xs x → TiesWithOne cmp ys x
   ties_same x [] [] z t = t
-  ties_same x [] (y ∷ ys) z t = absurd z
-  ties_same x (w ∷ xs) [] z t = absurd z
   ties_same x (w ∷ xs) (y ∷ ys) z (inl t) = inl (sym (alike_right o w y x z.0) ∙ t)
   ties_same x (w ∷ xs) (y ∷ ys) z (inr t) = inr (ties_same x xs ys z.1 t)
+  ties_same x _ _ z t = absurd z
 
   low_tied : (x y : A) (ys : List A) → AllByRecursion (λ w. IsAtMost cmp y w) ys → TiesWithOne cmp ys x → IsAtMost cmp y x
   low_tied x y [] h t = absurd t

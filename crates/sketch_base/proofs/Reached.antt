@@ -52,11 +52,7 @@ module _ {A : Type 0} where
           go : (b : Bool) → (i == s) ≡ b → (if b then 0 else ranks i) ≡ 0
           go true k = refl
           go false k = none i (ap₂ (λ (b c : Bool). not b && c) k e)
-  counts-unreached (At s Pull ∷ es) slot ranks none = counts-unreached es slot ranks none
-  counts-unreached (At s (Join h) ∷ es) slot ranks none = counts-unreached es slot ranks none
-  counts-unreached (At s (Compact h coin taken) ∷ es) slot ranks none = counts-unreached es slot ranks none
-  counts-unreached (At s Forget ∷ es) slot ranks none = counts-unreached es slot ranks none
-  counts-unreached (At s (Redraw h) ∷ es) slot ranks none = counts-unreached es slot ranks none
+  counts-unreached (At s _ ∷ es) slot ranks none = counts-unreached es slot ranks none
 
   -- nothing of a slot that doesn't get there
   pub counts-none : (es : List (Event A)) (slot s c : ℕ) → reaches es slot s ≡ false → counts_in es slot s c ≡ 0

@@ -80,9 +80,8 @@ module _ {A : Type 0} {cmp : A → A → Ordering} (order : IsTotalOrder cmp) wh
 
     many-quantiles : (fractions : List Rank) (found : List A) → AreQuantiles cmp v criteria fractions found → AreQuantiles cmp whole criteria fractions found
     many-quantiles [] [] k = tt
-    many-quantiles [] (x ∷ xs) k = absurd k
-    many-quantiles (f ∷ fs) [] k = absurd k
     many-quantiles (f ∷ fs) (x ∷ xs) k = (one-quantile f (Some x) k.0, many-quantiles fs xs k.1)
+    many-quantiles _ _ k = absurd k
 
     -- what the view answers is what the bag does
     pub quantile-result : {E : Type 0} (fraction : Rank) (r : Result (Option A) E) → IfOk r (SameAnswer cmp (quantile_of v fraction criteria)) → IfOk r (SameAnswer cmp (quantile_of whole fraction criteria))
