@@ -2,12 +2,12 @@
 use Rattle.std.proofs.Common.{◌≡◌, ℕ, drop, suc, ◌+◌, ◌≤◌, ◌<◌, Bool, true, false, ◌==◌, List, [], ◌∷◌, refl, sym, ap, ◌∙◌, arith, if◌then◌else◌, subst, eqb-true, Ordering}
 use Rattle.std.specs.Prelude.{⊤}
 use Rattle.sketch_base.specs.Bag.{Bag, Taken}
-use Rattle.sketch_base.specs.Trace.{Put, Pull, Join, Compact, Forget, Redraw, Clear, Coin, Event, Snap, At, World, happens, event_draws, next_bit, bit_of, play, act}
+use Rattle.sketch_base.specs.Trace.{Compact, Coin, Event, At, World, happens, event_draws, next_bit, bit_of, play, act}
 use Rattle.sketch_base.specs.Ranks.{true_ranks}
 use Rattle.sketch_base.specs.Lengths.{world_lengths, ObeysScratch, Along, TakesEven}
 use Rattle.sketch_base.proofs.Fixed.{lengths-happens}
 use Rattle.sketch_base.proofs.Acts.{rank}
-use Rattle.sketch_base.proofs.Worlds.{one, held, true_ranks-same, held-ended, held-snap, held-put, held-clear, held-pull, held-join, held-forget, held-redraw}
+use Rattle.sketch_base.proofs.Worlds.{one, held, true_ranks-same, held-ended, held-event}
 use Rattle.sketch_base.proofs.SlotAlone.{sum_below, sum_below-add, sum_below-pick, up, down, compacted, compacted-moves}
 use Rattle.sketch_base.proofs.Reached.{only, counts_in, counts-moved}
 
@@ -118,27 +118,6 @@ module _ {A : Type 0} (cmp : A → A → Ordering) (test : A → Bool) where
   pub accounted : (top : ℕ) (es : List (Event A)) (slot : ℕ) (word : List Bool) (world : World (Bag A)) →
       KeepsRules es (world_lengths world) → IsBelow top es → IsAccounted top es slot word world (held test world)
   accounted top [] slot word world rules below = ap (λ m. m + sum_below top (λ g. 0)) (sym (held-ended test world rules.scratch slot))
-  accounted top (Snap s t ∷ es) slot word world rules below =
-      let next = next_bit word in
-      from_ranks top es slot word _ _ (accounted top es slot word _ (go_on (Snap s t) es next world rules) below) (held-snap test cmp s t next world rules.scratch.0)
-  accounted top (At s (Put h x) ∷ es) slot word world rules below =
-      let next = next_bit word in
-      from_ranks top es slot word _ _ (accounted top es slot word _ (go_on (At s (Put h x)) es next world rules) below) (held-put test cmp s h x next world rules.scratch.0)
-  accounted top (At s Pull ∷ es) slot word world rules below =
-      let next = next_bit word in
-      from_ranks top es slot word _ _ (accounted top es slot word _ (go_on (At s Pull) es next world rules) below) (held-pull test cmp s next world rules.scratch.0)
-  accounted top (At s (Join h) ∷ es) slot word world rules below =
-      let next = next_bit word in
-      from_ranks top es slot word _ _ (accounted top es slot word _ (go_on (At s (Join h)) es next world rules) below) (held-join test cmp s h next world rules.scratch.0)
-  accounted top (At s Forget ∷ es) slot word world rules below =
-      let next = next_bit word in
-      from_ranks top es slot word _ _ (accounted top es slot word _ (go_on (At s Forget) es next world rules) below) (held-forget test cmp s next world)
-  accounted top (At s (Redraw h) ∷ es) slot word world rules below =
-      let next = next_bit word in
-      from_ranks top es slot (drop 1 word) _ _ (accounted top es slot (drop 1 word) _ (go_on (At s (Redraw h)) es next world rules) below) (held-redraw test cmp s h next world)
-  accounted top (At s Clear ∷ es) slot word world rules below =
-      let next = next_bit word in
-      from_ranks top es slot word _ _ (accounted top es slot word _ (go_on (At s Clear) es next world rules) below) (held-clear test cmp s next world rules.scratch.0)
   accounted top (At s (Compact h coin taken) ∷ es) slot word world rules below =
       let e : Event A = At s (Compact h coin taken) in
       let bit = next_bit word in
@@ -152,3 +131,5 @@ module _ {A : Type 0} (cmp : A → A → Ordering) (test : A → Bool) where
     where
       one_more : (t t' l g u d losses gains final : ℕ) → final + losses ≡ t' + gains → t' + d ≡ t + u → l ≡ d + losses → g ≡ u + gains → final + l ≡ t + g
       one_more t t' l g u d losses gains final e h p q = omega (arith, e, h, p, q)
+  accounted top (e ∷ es) slot word world rules below =
+      from_ranks top es slot _ _ _ (accounted top es slot (if event_draws e then drop 1 word else word) _ (go_on e es (next_bit word) world rules) below) (held-event test cmp e (next_bit word) world refl rules.scratch.0)
