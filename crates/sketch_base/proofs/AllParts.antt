@@ -32,7 +32,8 @@ module _ {A : Type 0} (P : A → Type 0) where
   all-half _ [] h = tt
 
   module _ (cmp : A → A → Ordering) where
-    all-insert : (x : A) (xs : List A) → P x → AllByRecursion P xs → AllByRecursion P (insert_in_order cmp x xs)
+    -- of a list with one more item in its place
+    pub all-insert : (x : A) (xs : List A) → P x → AllByRecursion P xs → AllByRecursion P (insert_in_order cmp x xs)
     all-insert x [] p h = (p, tt)
     all-insert x (y ∷ ys) p h = go (is_gt (cmp x y)) (all-insert x ys p h.1)
       where

@@ -16,9 +16,10 @@ use Rattle.sketch_base.specs.Pairs.{begins_equal, copies, distinct, is_below_nex
 use Rattle.sketch_base.specs.Query.{counted}
 use Rattle.sketch_base.specs.Queries.{spread_out, spread_over}
 use Rattle.sketch_base.specs.Views.{IsThere, IsView}
+use Rattle.sketch_base.proofs.AllParts.{all-map}
 use Rattle.sketch_base.proofs.Counts.{Ordered, Ordered-sort, below, counted-equal, items-from_counts}
 use Rattle.sketch_base.proofs.Entries.{Ordered-spread_over}
-use Rattle.sketch_base.proofs.Orders.{less-from_is_lt}
+use Rattle.sketch_base.proofs.Orders.{equal-from_neither, less-from_is_lt}
 use Rattle.sketch_base.proofs.Rises.{Rises, non_decreasing_from_rises}
 use Rattle.sketch_base.proofs.SketchViews.{sum-ones}
 use Rattle.sketch_base.proofs.Sorting.{IsSorted-from_ordered, Ordered-from_sorted}
@@ -86,20 +87,11 @@ module _ {A : Type 0} where
 module _ {A : Type 0} (cmp : A → A → Ordering) where
   same-length : (before : ℕ) (pairs : List (A × ℕ)) → length (joined cmp pairs) ≡ length (joined_weights cmp before pairs)
   same-length before [] = refl
-  same-length before (p ∷ ps) = go (is_below_next cmp p.0 ps) (same-length (before + p.1) ps)
-    where
-      go : (b : Bool) → length (joined cmp ps) ≡ length (joined_weights cmp (before + p.1) ps) →
-          length (if b then p.0 ∷ joined cmp ps else joined cmp ps) ≡ length (if b then (before + p.1) ∷ joined_weights cmp (before + p.1) ps else joined_weights cmp (before + p.1) ps)
-      go true e = ap suc e
-      go false e = e
+  same-length before (p ∷ ps) = grind (arith, same-length (before + p.1) ps)
 
   few-joined : (pairs : List (A × ℕ)) → length (joined cmp pairs) ≤ length pairs
   few-joined [] = omega arith
-  few-joined (p ∷ ps) = go (is_below_next cmp p.0 ps) (few-joined ps)
-    where
-      go : (b : Bool) → length (joined cmp ps) ≤ length ps → length (if b then p.0 ∷ joined cmp ps else joined cmp ps) ≤ length (p ∷ ps)
-      go true e = omega (arith, e)
-      go false e = omega (arith, e)
+  few-joined (p ∷ ps) = grind (arith, few-joined ps)
 
   climbs-joined : (low before : ℕ) (pairs : List (A × ℕ)) → low ≤ before → HaveWeight pairs → Climbs low (joined_weights cmp before pairs)
   climbs-joined low before [] le h = tt
@@ -147,15 +139,10 @@ module _ {A : Type 0} {cmp : A → A → Ordering} (order : IsTotalOrder cmp) wh
       go true ih = (all-joined cmp (λ y. is_gt (cmp p.0 y) ≡ false) ps up.0, ih)
       go false ih = ih
 
-  tied : (o : Ordering) → is_lt o ≡ false → is_gt o ≡ false → o ≡ Equal
-  tied Less l g = absurd (false≢true (sym l))
-  tied Equal l g = refl
-  tied Greater l g = absurd (false≢true (sym g))
-
   -- a weight that is carried on counts the same, since the next item compares equal
   carried-on : (f : A → ℕ) → ((x y : A) → cmp x y ≡ Equal → f x ≡ f y) → (n : ℕ) (x : A) (pairs : List (A × ℕ)) → is_below_next cmp x pairs ≡ false → AllByRecursion (λ y. is_gt (cmp x y) ≡ false) (items_in pairs) → carried n f pairs ≡ n * f x
   carried-on f respects n x [] e up = absurd (false≢true (sym e))
-  carried-on f respects n x (p ∷ ps) e up = ap (λ m. n * m) (sym (respects x p.0 (tied (cmp x p.0) e up.0)))
+  carried-on f respects n x (p ∷ ps) e up = ap (λ m. n * m) (sym (respects x p.0 (equal-from_neither (cmp x p.0) e up.0)))
 
   -- what the joined items stand for counts as the weighted items do
   sum-joined : (f : A → ℕ) → ((x y : A) → cmp x y ≡ Equal → f x ≡ f y) → (low before : ℕ) (pairs : List (A × ℕ)) → low ≤ before → Ordered order (items_in pairs) →
@@ -180,11 +167,8 @@ module _ {A : Type 0} {cmp : A → A → Ordering} (order : IsTotalOrder cmp) wh
   -- what follows an item that is below the next one is above it
   below-all : (x : A) (pairs : List (A × ℕ)) → is_below_next cmp x pairs ≡ true → Ordered order (items_in pairs) → AllByRecursion (λ y. cmp x y ≡ Less) (items_in pairs)
   below-all x [] e up = tt
-  below-all x (p ∷ ps) e up = (less-from_is_lt (cmp x p.0) e, on (items_in ps) up.0)
-    where
-      on : (ys : List A) → AllByRecursion (λ y. is_gt (cmp p.0 y) ≡ false) ys → AllByRecursion (λ y. cmp x y ≡ Less) ys
-      on [] h = tt
-      on (y ∷ ys) h = (below order x p.0 y (less-from_is_lt (cmp x p.0) e) h.0, on ys h.1)
+  below-all x (p ∷ ps) e up =
+      let first = less-from_is_lt (cmp x p.0) e in (first, all-map (λ y. is_gt (cmp p.0 y) ≡ false) (λ y. cmp x y ≡ Less) (λ y. below order x p.0 y first) (items_in ps) up.0)
 
   below-joined : (pairs : List (A × ℕ)) → Ordered order (items_in pairs) → AllBelow cmp (joined cmp pairs)
   below-joined [] up = tt

@@ -8,6 +8,10 @@ pub less-from_is_lt : (o : Ordering) → is_lt o ≡ true → o ≡ Less
 less-from_is_lt Less h = refl
 less-from_is_lt _ h = absurd (false≢true h)
 
+pub equal-from_neither : (o : Ordering) → is_lt o ≡ false → is_gt o ≡ false → o ≡ Equal
+equal-from_neither Equal l g = refl
+equal-from_neither _ l g = cc
+
 pub le_not_gt : (o : Ordering) → is_le o ≡ true → is_gt o ≡ false
 le_not_gt Greater e = absurd (false≢true e)
 le_not_gt _ e = refl
