@@ -93,22 +93,7 @@ module _ {A : Type 0} (cmp : A → A → Ordering) (test : A → Bool) where
 
   held-moves : (s h : ℕ) (coin : Coin) (taken : Taken) (next : Bool) (world : World (Bag A)) (i : ℕ) →
       held test (happens (act cmp) (At s (Compact h coin taken)) next world) i + only s (taken_down s h taken world) i ≡ held test world i + only s (gone_up s h coin taken next world) i
-  held-moves s h coin taken next world i = go (i == s) refl
-    where
-      bag : Bag A
-      bag = world.slots s
-
-      after : Bag A
-      after = compacted cmp (one test) h taken (bit_of coin h next bag) bag
-
-      beside : ℕ
-      beside = if i == world.target then rank (one test) world.scratch else 0
-
-      go : (b : Bool) → (i == s) ≡ b →
-          rank (one test) (if b then after else world.slots i) + beside + (if b then taken_down s h taken world else 0) ≡
-          rank (one test) (world.slots i) + beside + (if b then gone_up s h coin taken next world else 0)
-      go true k = omega (arith, compacted-moves cmp (one test) h taken (bit_of coin h next bag) bag, ap (λ j. rank (one test) (world.slots j)) (eqb-true i s k))
-      go false k = refl
+  held-moves s h coin taken next world i = grind (arith, eqb-true, compacted-moves cmp (one test) h taken (bit_of coin h next (world.slots s)) (world.slots s))
 
   -- one level's number beside the others' sum
   with_picked : (top h c : ℕ) (rest : ℕ → ℕ) → h < top → sum_below top (λ g. (if h == g then c else 0) + rest g) ≡ c + sum_below top rest

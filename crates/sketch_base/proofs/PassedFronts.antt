@@ -36,18 +36,10 @@ module _ {A : Type 0} (test : A → Bool) where
 
   -- an item that passes lies in the front, and one that fails behind it
   pub counts-passed : (xs : List A) (i : ℕ) (d : A) → IsPartitionedBy test xs → i < length xs → test (get_or xs i d) ≡ true → i + 1 ≤ count_by test xs
-  counts-passed xs i d up l h = go (cases_lt i (count_by test xs))
-    where
-      go : (i < count_by test xs) ⊎ (count_by test xs ≤ i) → i + 1 ≤ count_by test xs
-      go (inl m) = omega arith
-      go (inr m) = absurd (false≢true (sym ((parts-count xs up).1 i d m l) ∙ h))
+  counts-passed xs i d up l h = grind (arith, (parts-count xs up).1 i d)
 
   pub counts-failed : (xs : List A) (i : ℕ) (d : A) → IsPartitionedBy test xs → i < length xs → test (get_or xs i d) ≡ false → count_by test xs ≤ i
-  counts-failed xs i d up l h = go (cases_lt i (count_by test xs))
-    where
-      go : (i < count_by test xs) ⊎ (count_by test xs ≤ i) → count_by test xs ≤ i
-      go (inl m) = absurd (false≢true (sym h ∙ (parts-count xs up).0 i d (omega arith) m))
-      go (inr m) = m
+  counts-failed xs i d up l h = grind (arith, (parts-count xs up).0 i d)
 
   -- a count of a search by steps: the count that is sought is above it by less than a step, which ends within the list
   pub record IsCountWithin (xs : List A) (count step : ℕ) : Type 0 where
