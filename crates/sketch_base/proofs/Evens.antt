@@ -6,7 +6,7 @@ use Rattle.sketch_base.specs.Bag.{Bag, Taken}
 use Rattle.sketch_base.specs.Trace.{Put, Pull, Join, Compact, Forget, Redraw, Clear, Fresh, Turned, Event, Snap, At, World, changed, is_req, event_draws, coins, happens, act}
 use Rattle.sketch_base.specs.Words.{sum_over_words}
 use Rattle.sketch_base.proofs.Average.{sum_over_words-add}
-use Rattle.sketch_base.proofs.SlotAlone.{up, down, both_up}
+use Rattle.sketch_base.proofs.Compactions.{up, down, both_up}
 use Rattle.sketch_base.proofs.ComplementedBits.{draw_pairs, turn_pairs, turned_up}
 use Rattle.sketch_base.specs.Fair.{reaches, is_fair}
 use Rattle.sketch_base.proofs.Reached.{counts_in, counts-none, counts-both}

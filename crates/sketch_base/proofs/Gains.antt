@@ -1,14 +1,14 @@
 -- What the compactions of a trace gain and lose, level by level, as far as it counts in a slot in the end: by them its rank in the end differs from its true rank.
-use Rattle.std.proofs.Common.{◌≡◌, ℕ, drop, suc, ◌+◌, ◌≤◌, ◌<◌, Bool, true, false, ◌==◌, List, [], ◌∷◌, refl, sym, ap, ◌∙◌, arith, if◌then◌else◌, subst, eqb-true, Ordering}
+use Rattle.std.proofs.Common.{◌≡◌, ℕ, drop, suc, ◌+◌, ◌≤◌, ◌<◌, Bool, true, false, ◌==◌, ◌||◌, IsTrue, sum, List, [], ◌∷◌, refl, sym, ap, ◌∙◌, arith, if◌then◌else◌, subst, eqb-true, Ordering}
 use Rattle.std.specs.Prelude.{⊤}
 use Rattle.sketch_base.specs.Bag.{Bag, Taken}
 use Rattle.sketch_base.specs.Trace.{Compact, Coin, Event, At, World, happens, event_draws, next_bit, bit_of, play, act}
 use Rattle.sketch_base.specs.Ranks.{true_ranks}
-use Rattle.sketch_base.specs.Lengths.{world_lengths, ObeysScratch, Along, TakesEven}
+use Rattle.sketch_base.specs.Lengths.{bag_lengths, goes_on, world_lengths, ObeysScratch, Along, TakesEven}
 use Rattle.sketch_base.proofs.Fixed.{lengths-happens}
 use Rattle.sketch_base.proofs.Acts.{rank}
 use Rattle.sketch_base.proofs.Worlds.{one, held, true_ranks-same, held-ended, held-event}
-use Rattle.sketch_base.proofs.SlotAlone.{sum_below, sum_below-add, sum_below-pick, up, down, compacted, compacted-moves}
+use Rattle.sketch_base.proofs.Compactions.{sum_below, sum_below-add, sum_below-pick, up, down, compacted, compacted-moves}
 use Rattle.sketch_base.proofs.Reached.{only, counts_in, counts-moved}
 
 module _ {A : Type 0} (cmp : A → A → Ordering) (f : A → ℕ) where
@@ -54,16 +54,19 @@ module _ {A : Type 0} where
   below_top (At s (Compact h coin taken) ∷ es) = (omega arith, below-more (top_of es) (suc h + top_of es) es (omega arith) (below_top es))
   below_top (_ ∷ es) = below_top es
 
--- the rules of a trace from here on
-pub record KeepsRules {A : Type 0} (es : List (Event A)) (lengths : World (List ℕ)) : Type 0 where
-  pub scratch : ObeysScratch es lengths
-  pub even : Along TakesEven es lengths
-
 module _ {A : Type 0} (cmp : A → A → Ordering) (test : A → Bool) where
-  go_on : (e : Event A) (es : List (Event A)) (next : Bool) (world : World (Bag A)) → KeepsRules (e ∷ es) (world_lengths world) → KeepsRules es (world_lengths (happens (act cmp) e next world))
-  go_on e es next world rules =
-      let same = sym (lengths-happens cmp e next world rules.even.0) in
-      record { scratch = subst (λ w. ObeysScratch es w) same rules.scratch.1; even = subst (λ w. Along TakesEven es w) same rules.even.1 }
+  -- the scratch rule along the play: while the scratch holds an item, only events that go on with it come, and at the end it holds none
+  abbrev pub ScratchGoesOn : List (Event A) → List Bool → World (Bag A) → Type 0
+  ScratchGoesOn [] word world = sum (bag_lengths world.scratch) ≡ 0
+  ScratchGoesOn (e ∷ es) word world =
+      IsTrue (sum (bag_lengths world.scratch) == 0 || goes_on e world.target) × ScratchGoesOn es (if event_draws e then drop 1 word else word) (happens (act cmp) e (next_bit word) world)
+
+  -- so it is where the lengths obey it and all compactions take an even number
+  pub scratch_obeys : (es : List (Event A)) (word : List Bool) (world : World (Bag A)) → ObeysScratch es (world_lengths world) → Along TakesEven es (world_lengths world) → ScratchGoesOn es word world
+  scratch_obeys [] word world obeys even = obeys
+  scratch_obeys (e ∷ es) word world obeys even =
+      let same = sym (lengths-happens cmp e (next_bit word) world even.0) in
+      (obeys.0, scratch_obeys es _ _ (subst (λ w. ObeysScratch es w) same obeys.1) (subst (λ w. Along TakesEven es w) same even.1))
 
   -- a slot's rank in the end, and all gains and losses of levels below top
   abbrev end_rank : List (Event A) → ℕ → List Bool → World (Bag A) → ℕ
@@ -101,15 +104,15 @@ module _ {A : Type 0} (cmp : A → A → Ordering) (test : A → Bool) where
 
   -- the rank in the end, without all gains and with all losses, is the true rank
   pub accounted : (top : ℕ) (es : List (Event A)) (slot : ℕ) (word : List Bool) (world : World (Bag A)) →
-      KeepsRules es (world_lengths world) → IsBelow top es → IsAccounted top es slot word world (held test world)
-  accounted top [] slot word world rules below = ap (λ m. m + sum_below top (λ g. 0)) (sym (held-ended test world rules.scratch slot))
+      ScratchGoesOn es word world → IsBelow top es → IsAccounted top es slot word world (held test world)
+  accounted top [] slot word world rules below = ap (λ m. m + sum_below top (λ g. 0)) (sym (held-ended test world rules slot))
   accounted top (At s (Compact h coin taken) ∷ es) slot word world rules below =
       let e : Event A = At s (Compact h coin taken) in
       let bit = next_bit word in
       let later = if event_draws e then drop 1 word else word in
       let next = happens (act cmp) e bit world in
       one_more _ _ _ _ _ _ _ _ _
-      (accounted top es slot later next (go_on e es bit world rules) below.1)
+      (accounted top es slot later next rules.1 below.1)
       (counts-moved test es (held test next) (held test world) slot s (taken_down s h taken world) (gone_up s h coin taken bit world) (held-moves s h coin taken bit world))
       (with_picked top h (counts_in es slot s (taken_down s h taken world)) (λ g. lost cmp (one test) g es slot later next) below.0)
       (with_picked top h (counts_in es slot s (gone_up s h coin taken bit world)) (λ g. gained cmp (one test) g es slot later next) below.0)
@@ -117,4 +120,4 @@ module _ {A : Type 0} (cmp : A → A → Ordering) (test : A → Bool) where
       one_more : (t t' l g u d losses gains final : ℕ) → final + losses ≡ t' + gains → t' + d ≡ t + u → l ≡ d + losses → g ≡ u + gains → final + l ≡ t + g
       one_more t t' l g u d losses gains final e h p q = omega (arith, e, h, p, q)
   accounted top (e ∷ es) slot word world rules below =
-      from_ranks top es slot _ _ _ (accounted top es slot (if event_draws e then drop 1 word else word) _ (go_on e es (next_bit word) world rules) below) (held-event test cmp e (next_bit word) world refl rules.scratch.0)
+      from_ranks top es slot _ _ _ (accounted top es slot (if event_draws e then drop 1 word else word) _ rules.1 below) (held-event test cmp e (next_bit word) world refl rules.0)

@@ -3,7 +3,7 @@ use Rattle.std.proofs.Common.{◌≡◌, ◌≢◌, ℕ, ◌≤◌, ◌<◌, Boo
 use Rattle.std.proofs.lemmas.Bool.{cases_eq, ne_eqb, false≢true}
 use Rattle.sketch_base.specs.Bag.{Bag, Taken, empty_bag, level_at, with_level}
 use Rattle.sketch_base.specs.Trace.{Put, Pull, Join, Forget, Redraw, Clear, Action, Snap, At, World, changed, is_req, happens, act}
-use Rattle.sketch_base.proofs.SlotAlone.{compacted}
+use Rattle.sketch_base.proofs.Compactions.{compacted}
 use Rattle.sketch_base.proofs.ComplementedBits.{Mirrored, level_at-same, level_at-other, mirror-kept, mirror-compact}
 
 -- a coin drawn for one level leaves which others have drawn one
