@@ -35,11 +35,8 @@ module _ {A : Type 0} (P : A → Type 0) where
     -- of a list with one more item in its place
     pub all-insert : (x : A) (xs : List A) → P x → AllByRecursion P xs → AllByRecursion P (insert_in_order cmp x xs)
     all-insert x [] p h = (p, tt)
-    all-insert x (y ∷ ys) p h = go (is_gt (cmp x y)) (all-insert x ys p h.1)
-      where
-        go : (b : Bool) → AllByRecursion P (insert_in_order cmp x ys) → AllByRecursion P (if b then y ∷ insert_in_order cmp x ys else x ∷ y ∷ ys)
-        go true ih = (h.0, ih)
-        go false ih = (p, h)
+    all-insert x (y ∷ ys) p h =
+        elim (is_gt (cmp x y)) as (λ (b : Bool). AllByRecursion P (if b then y ∷ insert_in_order cmp x ys else x ∷ y ∷ ys)) [ true ↦ (h.0, all-insert x ys p h.1) | false ↦ (p, h) ]
 
     -- of the sorted list
     pub all-sort : (xs : List A) → AllByRecursion P xs → AllByRecursion P (sort cmp xs)

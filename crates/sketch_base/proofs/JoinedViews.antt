@@ -97,22 +97,15 @@ module _ {A : Type 0} (cmp : A → A → Ordering) where
   climbs-joined low before [] le h = tt
   climbs-joined low before (p ∷ ps) le h =
       let some = h.0 in
-      let on : Climbs (before + p.1) (joined_weights cmp (before + p.1) ps) = climbs-joined (before + p.1) (before + p.1) ps (omega arith) h.1 in
-      let past : Climbs low (joined_weights cmp (before + p.1) ps) = climbs-joined low (before + p.1) ps (omega (arith, le)) h.1 in
-      go (is_below_next cmp p.0 ps) (omega (arith, le, some)) on past
-    where
-      go : (b : Bool) → low < before + p.1 → Climbs (before + p.1) (joined_weights cmp (before + p.1) ps) → Climbs low (joined_weights cmp (before + p.1) ps) →
-          Climbs low (if b then (before + p.1) ∷ joined_weights cmp (before + p.1) ps else joined_weights cmp (before + p.1) ps)
-      go true l on past = (l, on)
-      go false l on past = past
+      elim (is_below_next cmp p.0 ps) as (λ (b : Bool). Climbs low (if b then (before + p.1) ∷ joined_weights cmp (before + p.1) ps else joined_weights cmp (before + p.1) ps)) [
+        | true ↦ (omega (arith, le, some), climbs-joined (before + p.1) (before + p.1) ps (omega arith) h.1)
+        | false ↦ climbs-joined low (before + p.1) ps (omega (arith, le)) h.1
+      ]
 
   all-joined : (P : A → Type 0) (pairs : List (A × ℕ)) → AllByRecursion P (items_in pairs) → AllByRecursion P (joined cmp pairs)
   all-joined P [] h = tt
-  all-joined P (p ∷ ps) h = go (is_below_next cmp p.0 ps) (all-joined P ps h.1)
-    where
-      go : (b : Bool) → AllByRecursion P (joined cmp ps) → AllByRecursion P (if b then p.0 ∷ joined cmp ps else joined cmp ps)
-      go true ih = (h.0, ih)
-      go false ih = ih
+  all-joined P (p ∷ ps) h =
+      elim (is_below_next cmp p.0 ps) as (λ (b : Bool). AllByRecursion P (if b then p.0 ∷ joined cmp ps else joined cmp ps)) [ true ↦ (h.0, all-joined P ps h.1) | false ↦ all-joined P ps h.1 ]
 
   -- each item is below all after it
   abbrev AllBelow : List A → Type 0
@@ -133,11 +126,11 @@ module _ {A : Type 0} (cmp : A → A → Ordering) where
 module _ {A : Type 0} {cmp : A → A → Ordering} (order : IsTotalOrder cmp) where
   ordered-joined : (pairs : List (A × ℕ)) → Ordered order (items_in pairs) → Ordered order (joined cmp pairs)
   ordered-joined [] up = tt
-  ordered-joined (p ∷ ps) up = go (is_below_next cmp p.0 ps) (ordered-joined ps up.1)
-    where
-      go : (b : Bool) → Ordered order (joined cmp ps) → Ordered order (if b then p.0 ∷ joined cmp ps else joined cmp ps)
-      go true ih = (all-joined cmp (λ y. is_gt (cmp p.0 y) ≡ false) ps up.0, ih)
-      go false ih = ih
+  ordered-joined (p ∷ ps) up =
+      elim (is_below_next cmp p.0 ps) as (λ (b : Bool). Ordered order (if b then p.0 ∷ joined cmp ps else joined cmp ps)) [
+        | true ↦ (all-joined cmp (λ y. is_gt (cmp p.0 y) ≡ false) ps up.0, ordered-joined ps up.1)
+        | false ↦ ordered-joined ps up.1
+      ]
 
   -- a weight that is carried on counts the same, since the next item compares equal
   carried-on : (f : A → ℕ) → ((x y : A) → cmp x y ≡ Equal → f x ≡ f y) → (n : ℕ) (x : A) (pairs : List (A × ℕ)) → is_below_next cmp x pairs ≡ false → AllByRecursion (λ y. is_gt (cmp x y) ≡ false) (items_in pairs) → carried n f pairs ≡ n * f x
@@ -258,32 +251,13 @@ pub record IsNext {A : Type 0} (cmp : A → A → Ordering) (xs xs' : List A) (w
 pub is-next : {A : Type 0} (cmp : A → A → Ordering) (xs xs' : List A) (ws ws' : List ℕ) (before after : ℕ) (old new : List (A × ℕ)) (x : A) (w : ℕ) (b : Bool) →
     old ≡ new ++ (x, w) ∷ [] → after ≡ before + w → b ≡ is_below_next cmp x (reverse new) → xs' ≡ (if b then xs ++ x ∷ [] else xs) → ws' ≡ (if b then ws ++ after ∷ [] else ws) → IsNext cmp xs xs' ws ws' before after old new
 is-next {A} cmp xs xs' ws ws' before after old new x w b is_old is_after is_b is_xs is_ws =
-    subst (λ (l : List (A × ℕ)). IsNext cmp xs xs' ws ws' before after l new) (sym is_old)
-    (subst (λ n. IsNext cmp xs xs' ws ws' before n (new ++ (x, w) ∷ []) new) (sym is_after) (go b is_b is_xs (is_ws ∙ ap (λ n. if b then ws ++ n ∷ [] else ws) is_after)))
-  where
-    turned : reverse (new ++ (x, w) ∷ []) ≡ (x, w) ∷ reverse new
-    turned = reverse-append new ((x, w) ∷ [])
-
-    summed : before + w + sum_by (λ (pair : A × ℕ). pair.1) (reverse new) ≡ before + sum_by (λ (pair : A × ℕ). pair.1) (reverse (new ++ (x, w) ∷ []))
-    summed = omega (arith, ap (sum_by (λ (pair : A × ℕ). pair.1)) turned, sum_by-cons (λ (pair : A × ℕ). pair.1) (x, w) (reverse new))
-
-    go : (b : Bool) → b ≡ is_below_next cmp x (reverse new) → xs' ≡ (if b then xs ++ x ∷ [] else xs) → ws' ≡ (if b then ws ++ (before + w) ∷ [] else ws) → IsNext cmp xs xs' ws ws' before (before + w) (new ++ (x, w) ∷ []) new
-    go true e ex ew = record {
-      items = ap (λ (l : List A). l ++ joined cmp (reverse new)) ex ∙ (append_assoc xs (x ∷ []) (joined cmp (reverse new)) ∙
-          (ap (λ (t : Bool). xs ++ (if t then x ∷ joined cmp (reverse new) else joined cmp (reverse new))) e ∙ ap (λ (l : List (A × ℕ)). xs ++ joined cmp l) (sym turned)));
-      weights = ap (λ (l : List ℕ). l ++ joined_weights cmp (before + w) (reverse new)) ew ∙ (append_assoc ws ((before + w) ∷ []) (joined_weights cmp (before + w) (reverse new)) ∙
-          (ap (λ (t : Bool). ws ++ (if t then (before + w) ∷ joined_weights cmp (before + w) (reverse new) else joined_weights cmp (before + w) (reverse new))) e ∙ ap (λ (l : List (A × ℕ)). ws ++ joined_weights cmp before l) (sym turned)));
-      total = summed;
-    }
-    go false e ex ew = record {
-      items = ap (λ (l : List A). l ++ joined cmp (reverse new)) ex ∙
-          (ap (λ (t : Bool). xs ++ (if t then x ∷ joined cmp (reverse new) else joined cmp (reverse new))) e ∙ ap (λ (l : List (A × ℕ)). xs ++ joined cmp l) (sym turned));
-      weights = ap (λ (l : List ℕ). l ++ joined_weights cmp (before + w) (reverse new)) ew ∙
-          (ap (λ (t : Bool). ws ++ (if t then (before + w) ∷ joined_weights cmp (before + w) (reverse new) else joined_weights cmp (before + w) (reverse new))) e ∙ ap (λ (l : List (A × ℕ)). ws ++ joined_weights cmp before l) (sym turned));
-      total = summed;
+    let turned = reverse-append new ((x, w) ∷ []) in
+    record {
+      items = grind (arith, turned, append_assoc xs (x ∷ []) (joined cmp (reverse new)));
+      weights = grind (arith, turned, append_assoc ws (after ∷ []) (joined_weights cmp after (reverse new)));
+      total = omega (arith, is_after, ap (λ (l : List (A × ℕ)). sum_by (λ (pair : A × ℕ). pair.1) (reverse l)) is_old, ap (sum_by (λ (pair : A × ℕ). pair.1)) turned, sum_by-cons (λ (pair : A × ℕ). pair.1) (x, w) (reverse new));
     }
 
 -- it pushes one item at most
 pub length-pushed : {A : Type 0} (b : Bool) (x : A) (xs ys : List A) → ys ≡ (if b then xs ++ x ∷ [] else xs) → length ys ≤ length xs + 1
-length-pushed true x xs ys e = omega (arith, ap length e, length-append xs (x ∷ []))
-length-pushed false x xs ys e = omega (arith, ap length e)
+length-pushed b x xs ys e = grind (arith, length-append xs (x ∷ []))

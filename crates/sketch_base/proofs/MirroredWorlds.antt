@@ -56,11 +56,8 @@ module _ {A : Type 0} (cmp : A → A → Ordering) (f : A → ℕ) where
   -- and where they change
   one-drawn : (g s : ℕ) (drawn : ℕ → ℕ → Bool) (row : ℕ → Bool) (slots slots' : ℕ → Bag A) (bag bag' : Bag A) → ((i : ℕ) → Mirrored cmp f g (drawn i g) (slots i) (slots' i)) →
       Mirrored cmp f g (row g) bag bag' → (i : ℕ) → Mirrored cmp f g (changed drawn s row i g) (changed slots s bag i) (changed slots' s bag' i)
-  one-drawn g s drawn row slots slots' bag bag' all here i = go (i == s)
-    where
-      go : (b : Bool) → Mirrored cmp f g ((if b then row else drawn i) g) (if b then bag else slots i) (if b then bag' else slots' i)
-      go true = here
-      go false = all i
+  one-drawn g s drawn row slots slots' bag bag' all here i =
+      elim (i == s) as (λ (b : Bool). Mirrored cmp f g ((if b then row else drawn i) g) (if b then bag else slots i) (if b then bag' else slots' i)) [ true ↦ here | false ↦ all i ]
 
   -- what an action that draws nothing makes of a slot's bag
   abbrev acted : ℕ → Action A → World (Bag A) → Bag A
