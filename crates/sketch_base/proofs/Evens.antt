@@ -20,16 +20,11 @@ module _ {A : Type 0} (es : List (Event A)) (slot s : ℕ) where
 
   -- both bits of a drawn coin gain what they lose
   draw_counts : (here : Bool) (u v d : ℕ) → u + v ≡ 2 * d → counts_if here u + counts_if here v ≡ counts_if here d + counts_if here d
-  draw_counts true u v d e = counts-both es slot s u v d d (omega (arith, e))
-  draw_counts false u v d e = refl
+  draw_counts here u v d e = grind (arith, counts-both es slot s u v d d)
 
   -- so do a turned coin and its complement, and where the one slot does not get into the other nothing counts
   turn_counts : (here : Bool) (u v d d' : ℕ) → (here ≡ true → (u + v ≡ d + d') ⊎ (reaches es slot s ≡ false)) → counts_if here u + counts_if here v ≡ counts_if here d + counts_if here d'
-  turn_counts true u v d d' e = ⊎_elim (λ even. counts-both es slot s u v d d' even) nothing (e refl)
-    where
-      nothing : reaches es slot s ≡ false → counts_in es slot s u + counts_in es slot s v ≡ counts_in es slot s d + counts_in es slot s d'
-      nothing misses = let none = counts-none es slot s in omega (arith, none u misses, none v misses, none d misses, none d' misses)
-  turn_counts false u v d d' e = refl
+  turn_counts here u v d d' e = grind (arith, counts-both es slot s u v d d', counts-none es slot s)
 
 module _ {A : Type 0} (cmp : A → A → Ordering) (f : A → ℕ) where
   -- the gains of level g summed over all words, and the losses
