@@ -165,11 +165,11 @@ module _ {A : Type 0} {cmp : A → A → Ordering} (order : IsTotalOrder cmp) wh
 
   below-joined : (pairs : List (A × ℕ)) → Ordered order (items_in pairs) → AllBelow cmp (joined cmp pairs)
   below-joined [] up = tt
-  below-joined (p ∷ ps) up = go (is_below_next cmp p.0 ps) refl (below-joined ps up.1)
-    where
-      go : (b : Bool) → is_below_next cmp p.0 ps ≡ b → AllBelow cmp (joined cmp ps) → AllBelow cmp (if b then p.0 ∷ joined cmp ps else joined cmp ps)
-      go true e ih = (all-joined cmp (λ y. cmp p.0 y ≡ Less) ps (below-all p.0 ps e up.1), ih)
-      go false e ih = ih
+  below-joined (p ∷ ps) up =
+      (elim (is_below_next cmp p.0 ps) as (λ (b : Bool). is_below_next cmp p.0 ps ≡ b → AllBelow cmp (if b then p.0 ∷ joined cmp ps else joined cmp ps)) [
+        | true ↦ λ e. (all-joined cmp (λ y. cmp p.0 y ≡ Less) ps (below-all p.0 ps e up.1), below-joined ps up.1)
+        | false ↦ λ e. below-joined ps up.1
+      ]) refl
 
   distinct-copies : (n : ℕ) (x : A) (rest : List A) → 0 < n → begins_equal cmp x rest ≡ false → distinct cmp (replicate n x ++ rest) ≡ 1 + distinct cmp rest
   distinct-copies zero x rest l e = absurd (omega arith)
