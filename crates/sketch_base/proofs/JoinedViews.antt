@@ -142,20 +142,23 @@ module _ {A : Type 0} {cmp : A → A → Ordering} (order : IsTotalOrder cmp) wh
       sum_by f (spread_over low (joined cmp pairs) (joined_weights cmp before pairs)) ≡ carried (before - low) f pairs + weigh_pairs f pairs
   sum-joined f respects low before [] le up = refl
   sum-joined f respects low before (p ∷ ps) le up =
-      go (is_below_next cmp p.0 ps) refl (sum-joined f respects (before + p.1) (before + p.1) ps (omega arith) up.1) (sum-joined f respects low (before + p.1) ps (omega (arith, le)) up.1)
+      grind (
+        arith,
+        times,
+        carry,
+        sum-joined f respects (before + p.1) (before + p.1) ps (omega arith) up.1,
+        sum-joined f respects low (before + p.1) ps (omega (arith, le)) up.1,
+        sum_by-append f (replicate (before + p.1 - low) p.0) (spread_over (before + p.1) (joined cmp ps) (joined_weights cmp (before + p.1) ps)),
+        sum_by-replicate f (before + p.1 - low) p.0,
+        carried-none (before + p.1 - (before + p.1)) f ps (omega arith),
+        sum_by-cons (λ (pair : A × ℕ). pair.1 * f pair.0) p ps,
+      )
     where
       times : (before + p.1 - low) * f p.0 ≡ (before - low) * f p.0 + p.1 * f p.0
       times = let more : before + p.1 - low ≡ (before - low) + p.1 = omega (arith, le) in ap (λ n. n * f p.0) more ∙ omega arith
 
-      go : (b : Bool) → is_below_next cmp p.0 ps ≡ b →
-          sum_by f (spread_over (before + p.1) (joined cmp ps) (joined_weights cmp (before + p.1) ps)) ≡ carried (before + p.1 - (before + p.1)) f ps + weigh_pairs f ps →
-          sum_by f (spread_over low (joined cmp ps) (joined_weights cmp (before + p.1) ps)) ≡ carried (before + p.1 - low) f ps + weigh_pairs f ps →
-          sum_by f (spread_over low (if b then p.0 ∷ joined cmp ps else joined cmp ps) (if b then (before + p.1) ∷ joined_weights cmp (before + p.1) ps else joined_weights cmp (before + p.1) ps)) ≡ (before - low) * f p.0 + weigh_pairs f (p ∷ ps)
-      go true e on past =
-          sum_by-append f (replicate (before + p.1 - low) p.0) (spread_over (before + p.1) (joined cmp ps) (joined_weights cmp (before + p.1) ps)) ∙
-          omega (arith, sum_by-replicate f (before + p.1 - low) p.0, times, on, carried-none (before + p.1 - (before + p.1)) f ps (omega arith), sum_by-cons (λ (pair : A × ℕ). pair.1 * f pair.0) p ps)
-      go false e on past =
-          omega (arith, past, carried-on f respects (before + p.1 - low) p.0 ps e up.0, times, sum_by-cons (λ (pair : A × ℕ). pair.1 * f pair.0) p ps)
+      carry : is_below_next cmp p.0 ps ≡ false → carried (before + p.1 - low) f ps ≡ (before + p.1 - low) * f p.0
+      carry e = carried-on f respects (before + p.1 - low) p.0 ps e up.0
 
   -- what follows an item that is below the next one is above it
   below-all : (x : A) (pairs : List (A × ℕ)) → is_below_next cmp x pairs ≡ true → Ordered order (items_in pairs) → AllByRecursion (λ y. cmp x y ≡ Less) (items_in pairs)
