@@ -1,5 +1,5 @@
 -- What the compactions of a trace gain and lose, level by level, as far as it counts in a slot in the end: by them its rank in the end differs from its true rank.
-use Rattle.std.proofs.Common.{◌≡◌, ℕ, drop, suc, ◌+◌, ◌≤◌, ◌<◌, Bool, true, false, ◌==◌, ◌||◌, IsTrue, sum, List, [], ◌∷◌, refl, sym, ap, ◌∙◌, arith, if◌then◌else◌, subst, eqb-true, Ordering}
+use Rattle.std.proofs.Common.{◌≡◌, ℕ, drop, suc, ◌+◌, ◌≤◌, ◌<◌, Bool, ◌==◌, ◌||◌, IsTrue, sum, List, [], ◌∷◌, refl, sym, ap, ◌∙◌, arith, if◌then◌else◌, subst, eqb-true, Ordering}
 use Rattle.std.specs.Prelude.{⊤}
 use Rattle.sketch_base.specs.Bag.{Bag, Taken}
 use Rattle.sketch_base.specs.Trace.{Compact, Coin, Event, At, World, happens, event_draws, next_bit, bit_of, play, act}
@@ -8,7 +8,7 @@ use Rattle.sketch_base.specs.Lengths.{bag_lengths, goes_on, world_lengths, Obeys
 use Rattle.sketch_base.proofs.Fixed.{lengths-happens}
 use Rattle.sketch_base.proofs.Acts.{rank}
 use Rattle.sketch_base.proofs.Worlds.{one, held, true_ranks-same, held-ended, held-event}
-use Rattle.sketch_base.proofs.Compactions.{sum_below, sum_below-add, sum_below-pick, up, down, compacted, compacted-moves}
+use Rattle.sketch_base.proofs.Compactions.{sum_below, sum_below-add, sum_below-pick, up, down, compacted-moves}
 use Rattle.sketch_base.proofs.Reached.{only, counts_in, counts-moved}
 
 module _ {A : Type 0} (cmp : A → A → Ordering) (f : A → ℕ) where

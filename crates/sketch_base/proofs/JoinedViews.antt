@@ -1,5 +1,5 @@
 -- Weighted items in order, of which equal ones are joined: the view that they make.
-use Rattle.std.proofs.Common.{◌≡◌, ℕ, zero, suc, ◌+◌, ◌-◌, ◌*◌, ◌<◌, ◌≤◌, Bool, true, false, cond, List, [], ◌∷◌, ◌++◌, length, map, replicate, reverse, sum_by, refl, sym, ap, ap₂, ◌∙◌, subst, append_assoc, length-append, arith, if◌then◌else◌, IsSorted, IsPermutation, Ordering, Less, Equal, Greater, is_gt, is_lt}
+use Rattle.std.proofs.Common.{◌≡◌, ℕ, zero, suc, ◌+◌, ◌-◌, ◌*◌, ◌<◌, ◌≤◌, Bool, true, false, cond, List, [], ◌∷◌, ◌++◌, length, map, replicate, reverse, sum_by, refl, sym, ap, ap₂, ◌∙◌, append_assoc, length-append, arith, if◌then◌else◌, IsSorted, IsPermutation, Ordering, Less, Equal, is_gt, is_lt}
 use Rattle.std.specs.Prelude.{⊤, Option, None, Some, IsSome}
 use Rattle.std.specs.Cmp.{IsTotalOrder}
 use Rattle.std.specs.List.{All, AllByRecursion}
@@ -25,7 +25,7 @@ use Rattle.sketch_base.proofs.SketchViews.{sum-ones}
 use Rattle.sketch_base.proofs.Sorting.{IsSorted-from_ordered, Ordered-from_sorted}
 use Rattle.sketch_base.proofs.Sums.{sum_by-sort}
 
-pub all-by_recursion : {A : Type 0} (P : A → Type 0) (xs : List A) → All P xs → AllByRecursion P xs
+all-by_recursion : {A : Type 0} (P : A → Type 0) (xs : List A) → All P xs → AllByRecursion P xs
 all-by_recursion P [] h = tt
 all-by_recursion P (x ∷ xs) h = (h 0 x (omega arith), all-by_recursion P xs (λ k d l. h (suc k) d (omega arith)))
 

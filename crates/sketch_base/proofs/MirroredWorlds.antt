@@ -1,6 +1,6 @@
 -- Two worlds whose slots agree up to a level, with kept bits there that are each other's complement where a coin was drawn: the events that keep them so.
-use Rattle.std.proofs.Common.{◌≡◌, ◌≢◌, ℕ, ◌≤◌, ◌<◌, Bool, true, false, not, ◌==◌, List, [], ◌∷◌, ◌++◌, take, drop, refl, sym, ap, ap₂, ◌∙◌, arith, if◌then◌else◌, ⊎_elim, subst, eqb-true, Ordering}
-use Rattle.std.proofs.lemmas.Bool.{cases_eq, ne_eqb, false≢true}
+use Rattle.std.proofs.Common.{◌≡◌, ◌≢◌, ℕ, ◌≤◌, ◌<◌, Bool, true, false, not, ◌==◌, List, [], ◌∷◌, ◌++◌, take, drop, refl, sym, ap, ap₂, ◌∙◌, arith, if◌then◌else◌, subst, Ordering}
+use Rattle.std.proofs.lemmas.Bool.{ne_eqb, false≢true}
 use Rattle.sketch_base.specs.Bag.{Bag, Taken, empty_bag, level_at, with_level}
 use Rattle.sketch_base.specs.Trace.{Put, Pull, Join, Forget, Redraw, Clear, Action, Snap, At, World, changed, is_req, happens, act}
 use Rattle.sketch_base.proofs.Changes.{changed-own}

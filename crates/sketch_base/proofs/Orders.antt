@@ -41,7 +41,3 @@ not_gt_lt o _ e h = ap is_lt e
 pub gt_not_gt : (o p : Ordering) → o ≡ ordering_reverse p → is_gt o ≡ true → is_gt p ≡ false
 gt_not_gt o Greater e h = absurd (false≢true (sym (ap is_gt e) ∙ h))
 gt_not_gt o _ e h = refl
-
-pub lt_not_lt : (o p : Ordering) → o ≡ ordering_reverse p → is_lt p ≡ true → is_lt o ≡ false
-lt_not_lt o Less e h = ap is_lt e
-lt_not_lt o _ e h = absurd (false≢true h)

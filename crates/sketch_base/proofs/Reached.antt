@@ -1,7 +1,7 @@
 -- What a rank in one slot before some events counts in another slot after them.
-use Rattle.std.proofs.Common.{◌≡◌, ℕ, ◌+◌, ◌^◌, Bool, true, false, not, ◌&&◌, ◌||◌, ◌==◌, List, [], ◌∷◌, refl, sym, ap, ap₂, ◌∙◌, arith, if◌then◌else◌, eqb-true}
-use Rattle.std.proofs.lemmas.Bool.{false≢true, eq-eqb, or_right}
-use Rattle.sketch_base.specs.Trace.{Put, Pull, Join, Compact, Forget, Redraw, Clear, Event, Snap, At, changed}
+use Rattle.std.proofs.Common.{◌≡◌, ℕ, ◌+◌, Bool, true, false, ◌&&◌, ◌||◌, ◌==◌, List, [], ◌∷◌, refl, sym, ap, ap₂, ◌∙◌, arith, if◌then◌else◌, eqb-true}
+use Rattle.std.proofs.lemmas.Bool.{eq-eqb, or_right}
+use Rattle.sketch_base.specs.Trace.{Put, Clear, Event, Snap, At, changed}
 use Rattle.sketch_base.specs.Ranks.{true_ranks}
 use Rattle.sketch_base.specs.Fair.{reaches}
 use Rattle.sketch_base.proofs.Worlds.{true_ranks-related, true_ranks-same}

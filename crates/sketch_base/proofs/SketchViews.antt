@@ -53,7 +53,7 @@ quantile-empty cmp bag n least greatest fraction criteria weighs l g z =
 
 module _ {A : Type 0} {cmp : A → A → Ordering} (order : IsTotalOrder cmp) where
   -- entries that compare equal to a bag's expanded list are a view of it
-  pub is-view_of : (bag : Bag A) (n : ℕ) (least greatest : Option A) (v : View A) → SameItems cmp (expanded cmp bag) v.entries → weight bag ≡ n → SameAnswer cmp least v.least → SameAnswer cmp greatest v.greatest → IsViewOf cmp bag n least greatest v
+  is-view_of : (bag : Bag A) (n : ℕ) (least greatest : Option A) (v : View A) → SameItems cmp (expanded cmp bag) v.entries → weight bag ≡ n → SameAnswer cmp least v.least → SameAnswer cmp greatest v.greatest → IsViewOf cmp bag n least greatest v
   is-view_of bag n least greatest v same weighs l g = record {
     entries = same;
     weighs_n = sym (length_all_zip (λ x y. cmp x y ≡ Equal) (expanded cmp bag) v.entries same) ∙ (length-expanded cmp bag ∙ weighs);

@@ -1,8 +1,8 @@
-use Rattle.std.proofs.Common.{ℕ, List, reverse, is_lt, ap, sym, ◌∙◌, subst, rules, of_calls, IsPermutation, IsSorted}
+use Rattle.std.proofs.Common.{ℕ, is_lt, rules, of_calls}
 use Rattle.std.proofs.lemmas.Fn.{always_returns_same}
 use Rattle.std.proofs.lemmas.List.{reverse-reverse}
 use Rattle.std.proofs.lemmas.List.Sorted.{ranks_by}
-use Rattle.sketch_base.proofs.JoinedViews.{items_in, sorted-items}
+use Rattle.sketch_base.proofs.JoinedViews.{sorted-items}
 use Rattle.sketch_base.proofs.joining.sort_from_greatest.Goals as goal
 
 pub returns-clause-permutation : goal.returns-clause-permutation

@@ -1,8 +1,6 @@
-use Rattle.std.proofs.Common.{◌<◌, ℕ, List, length, reverse, sym, subst, arith}
+use Rattle.std.proofs.Common.{◌<◌, ℕ, length, arith}
 use Rattle.std.proofs.lemmas.List.Sorted.{sum_by-IsPermutation}
 use Rattle.std.proofs.lemmas.Grind.{common_steps}
-use Rattle.sketch_base.specs.Pairs.{joined}
-use Rattle.sketch_base.specs.Views.{IsView}
 use Rattle.sketch_base.proofs.JoinedViews.{in-order, joined-distinct, joined-entries, joined-view}
 use Rattle.sketch_base.proofs.sorted_view.SortedView.new.Goals as goal
 
