@@ -1,6 +1,6 @@
 -- What a compaction takes of a bag and what it puts up, and sums over the levels below one.
 use Rattle.std.proofs.Common.{◌≡◌, ℕ, zero, suc, ◌+◌, ◌*◌, ◌^◌, ◌≤◌, ◌<◌, Bool, true, false, not, ◌&&◌, ◌==◌, List, [], sum_by, refl, ap, arith, if◌then◌else◌, ⊎_elim, Ordering}
-use Rattle.std.proofs.lemmas.Bool.{cases_eq, eq-eqb, ne_eqb}
+use Rattle.std.proofs.lemmas.Bool.{cases_eq, eqb-true, eq-eqb, ne_eqb}
 use Rattle.sketch_base.specs.Bag.{Bag, Taken, half, cut, parity_up, level_at, with_level, compaction}
 use Rattle.sketch_base.specs.Trace.{changed}
 use Rattle.sketch_base.proofs.Acts.{rank, weigh-added, weigh-replaced, sum_by-cut, sum_by-both_bits}
@@ -17,14 +17,11 @@ sum_below-add (suc n) f g = omega (arith, sum_below-add n f g)
 
 sum_below-none : (n h x : ℕ) → n ≤ h → sum_below n (λ i. if h == i then x else 0) ≡ 0
 sum_below-none zero h x le = refl
-sum_below-none (suc n) h x le =
-    omega (arith, sum_below-none n h x (omega arith), ap (λ (b : Bool). if b then x else 0) (ne_eqb h n (λ e. omega arith)))
+sum_below-none (suc n) h x le = grind (arith, sum_below-none n h x (omega arith), eqb-true)
 
 pub sum_below-pick : (n h x : ℕ) → h < n → sum_below n (λ i. if h == i then x else 0) ≡ x
 sum_below-pick zero h x lt = absurd (omega arith)
-sum_below-pick (suc n) h x lt =
-    ⊎_elim (λ e. omega (arith, sum_below-none n h x (omega arith), ap (λ (b : Bool). if b then x else 0) (eq-eqb h n e)))
-    (λ ne. omega (arith, sum_below-pick n h x (omega arith), ap (λ (b : Bool). if b then x else 0) (ne_eqb h n ne))) (cases_eq h n)
+sum_below-pick (suc n) h x lt = grind (arith, sum_below-none n h x, sum_below-pick n h x, eqb-true)
 
 module _ {A : Type 0} (cmp : A → A → Ordering) (f : A → ℕ) where
   -- a bag after a compaction, with the bit that is kept

@@ -35,8 +35,7 @@ none-there None n h z = refl
 none-there (Some x) n h z = absurd (omega (arith, h, z))
 
 if-none : {A : Type 0} (b : Bool) (x y : Option A) → x ≡ None → y ≡ None → (if b then x else y) ≡ None
-if-none true x y h k = h
-if-none false x y h k = k
+if-none b x y h k = grind arith
 
 -- a bag of no items has no quantiles
 pub quantile-empty : {A : Type 0} (cmp : A → A → Ordering) (bag : Bag A) (n : ℕ) (least greatest : Option A) (fraction : Rank) (criteria : SearchCriteria) → weight bag ≡ n → IsThere least n → IsThere greatest n → n ≡ 0 →
