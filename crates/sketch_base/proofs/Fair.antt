@@ -21,7 +21,8 @@ equal_sums : (w ranks losses gains t consts left right : ℕ) →
 equal_sums w ranks losses gains t consts left right a b c d e g = omega (arith, a, b, c, d, e, ap (λ n. w * n) g)
 
 -- sums over levels and words are equal where each level's are
-equal_below : (top n : ℕ) (f g : ℕ → List Bool → ℕ) → ((i : ℕ) → sum_over_words n (f i) ≡ sum_over_words n (g i)) → sum_over_words n (λ w. sum_below top (λ i. f i w)) ≡ sum_over_words n (λ w. sum_below top (λ i. g i w))
+equal_below : (top n : ℕ) (f g : ℕ → List Bool → ℕ) → ((i : ℕ) → sum_over_words n (f i) ≡ sum_over_words n (g i)) →
+    sum_over_words n (λ w. sum_below top (λ i. f i w)) ≡ sum_over_words n (λ w. sum_below top (λ i. g i w))
 equal_below zero n f g h = refl
 equal_below (suc top) n f g h =
     omega (

@@ -188,19 +188,13 @@ module _ {A : Type 0} {cmp : A → A → Ordering} (order : IsTotalOrder cmp) wh
       let l = up.0 in
       distinct-copies (c - before) x (spread_over c xs cs) (omega (arith, l)) (begins-above cmp x c xs cs h.0 up.1) ∙ (ap (λ m. 1 + m) (distinct-spread c xs cs (omega (arith, e)) up.1 h.1) ∙ omega arith)
 
-  -- weighted items, and the same in order
-  pub record AreInOrder (weighted pairs : List (A × ℕ)) : Type 0 where
-    pub same : IsPermutation weighted pairs
-    pub up : IsSorted cmp (items_in pairs)
-    pub weigh : HaveWeight pairs
-
-  -- weighted items that were put in order
-  pub in-order : (weighted pairs : List (A × ℕ)) → IsPermutation weighted pairs → IsSorted cmp (items_in pairs) → All (λ (pair : A × ℕ). 0 < pair.1) weighted → AreInOrder weighted pairs
-  in-order weighted pairs same up weigh = record { same = same; up = up; weigh = all-by_recursion (λ (pair : A × ℕ). 0 < pair.1) pairs (All-permutation (λ (pair : A × ℕ). 0 < pair.1) weighted pairs same weigh) }
-
-  module _ (weighted pairs : List (A × ℕ)) (are : AreInOrder weighted pairs) where
+  -- weighted items, and the same put in order
+  module _ (weighted pairs : List (A × ℕ)) (same : IsPermutation weighted pairs) (sorted : IsSorted cmp (items_in pairs)) (weights : All (λ (pair : A × ℕ). 0 < pair.1) weighted) where
     up : Ordered order (items_in pairs)
-    up = Ordered-from_sorted cmp order (items_in pairs) are.up
+    up = Ordered-from_sorted cmp order (items_in pairs) sorted
+
+    weigh : HaveWeight pairs
+    weigh = all-by_recursion (λ (pair : A × ℕ). 0 < pair.1) pairs (All-permutation (λ (pair : A × ℕ). 0 < pair.1) weighted pairs same weights)
 
     sum-spread : (f : A → ℕ) → ((x y : A) → cmp x y ≡ Equal → f x ≡ f y) → sum_by f (spread_out (joined cmp pairs) (joined_weights cmp 0 pairs)) ≡ weigh_pairs f pairs
     sum-spread f respects = omega (arith, sum-joined f respects 0 0 pairs (omega arith) up, carried-none (0 - 0) f pairs (omega arith))
@@ -215,12 +209,12 @@ module _ {A : Type 0} {cmp : A → A → Ordering} (order : IsTotalOrder cmp) wh
         (Ordered-spread_over order 0 (joined cmp pairs) (joined_weights cmp 0 pairs) (ordered-joined pairs up))
         (λ z c.
         let one : A → ℕ = λ x. cond (counted cmp z c x) 1 0 in
-        sum_by-sort one cmp (copies weighted) ∙ (sum-copies one weighted ∙ (sym (sum_by-IsPermutation (λ (pair : A × ℕ). pair.1 * one pair.0) weighted pairs are.same) ∙
+        sum_by-sort one cmp (copies weighted) ∙ (sum-copies one weighted ∙ (sym (sum_by-IsPermutation (λ (pair : A × ℕ). pair.1 * one pair.0) weighted pairs same) ∙
         sym (sum-spread one (λ x y e. ap (λ (b : Bool). cond b 1 0) (counted-equal order x y e z c))))))
 
     -- as many items as there are distinct ones
     pub joined-distinct : length (joined cmp pairs) ≡ distinct cmp (spread_out (joined cmp pairs) (joined_weights cmp 0 pairs))
-    joined-distinct = sym (distinct-spread 0 (joined cmp pairs) (joined_weights cmp 0 pairs) (same-length cmp 0 pairs) (climbs-joined cmp 0 0 pairs (omega arith) are.weigh) (below-joined pairs up))
+    joined-distinct = sym (distinct-spread 0 (joined cmp pairs) (joined_weights cmp 0 pairs) (same-length cmp 0 pairs) (climbs-joined cmp 0 0 pairs (omega arith) weigh) (below-joined pairs up))
 
     there : (extreme : Option A) → IsSome extreme → (n : ℕ) → 0 < n → IsThere extreme n
     there None h n l = absurd (false≢true h)
@@ -229,20 +223,17 @@ module _ {A : Type 0} {cmp : A → A → Ordering} (order : IsTotalOrder cmp) wh
     -- and they make a view
     pub joined-view : (least greatest : Option A) → 0 < length weighted → IsSome least → IsSome greatest → IsView cmp (joined cmp pairs) (joined_weights cmp 0 pairs) least greatest
     joined-view least greatest some l g =
-        let enough = long-enough pairs are.weigh in
+        let enough = long-enough pairs weigh in
         let few = few-joined cmp pairs in
-        let as_long = length-permuted in
+        let as_long = length_permutation weighted pairs same in
         let whole : 0 < length (spread_out (joined cmp pairs) (joined_weights cmp 0 pairs)) = omega (arith, long, enough, as_long, some) in
         record {
-          cumulates = record { one_each = same-length cmp 0 pairs; none_falls = non_decreasing_from_rises 0 (joined_weights cmp 0 pairs) (rises-from_climbs 0 (joined_weights cmp 0 pairs) (climbs-joined cmp 0 0 pairs (omega arith) are.weigh)) };
+          cumulates = record { one_each = same-length cmp 0 pairs; none_falls = non_decreasing_from_rises 0 (joined_weights cmp 0 pairs) (rises-from_climbs 0 (joined_weights cmp 0 pairs) (climbs-joined cmp 0 0 pairs (omega arith) weigh)) };
           sorted = IsSorted-from_ordered cmp order (joined cmp pairs) (ordered-joined pairs up);
           each_counts = omega (arith, long, enough, few);
           least_there = there least l (length (spread_out (joined cmp pairs) (joined_weights cmp 0 pairs))) whole;
           greatest_there = there greatest g (length (spread_out (joined cmp pairs) (joined_weights cmp 0 pairs))) whole;
         }
-      where
-        length-permuted : length pairs ≡ length weighted
-        length-permuted = length_permutation weighted pairs are.same
 
 -- one more item: the last of those that stand in reverse
 pub record IsNext {A : Type 0} (cmp : A → A → Ordering) (xs xs' : List A) (ws ws' : List ℕ) (before after : ℕ) (old new : List (A × ℕ)) : Type 0 where
@@ -255,10 +246,11 @@ pub is-next : {A : Type 0} (cmp : A → A → Ordering) (xs xs' : List A) (ws ws
     old ≡ new ++ (x, w) ∷ [] → after ≡ before + w → b ≡ is_below_next cmp x (reverse new) → xs' ≡ (if b then xs ++ x ∷ [] else xs) → ws' ≡ (if b then ws ++ after ∷ [] else ws) → IsNext cmp xs xs' ws ws' before after old new
 is-next {A} cmp xs xs' ws ws' before after old new x w b is_old is_after is_b is_xs is_ws =
     let turned = reverse-append new ((x, w) ∷ []) in
+    let summed : List (A × ℕ) → ℕ = sum_by (λ (pair : A × ℕ). pair.1) in
     record {
       items = grind (arith, turned, append_assoc xs (x ∷ []) (joined cmp (reverse new)));
       weights = grind (arith, turned, append_assoc ws (after ∷ []) (joined_weights cmp after (reverse new)));
-      total = omega (arith, is_after, ap (λ (l : List (A × ℕ)). sum_by (λ (pair : A × ℕ). pair.1) (reverse l)) is_old, ap (sum_by (λ (pair : A × ℕ). pair.1)) turned, sum_by-cons (λ (pair : A × ℕ). pair.1) (x, w) (reverse new));
+      total = omega (arith, is_after, ap (λ (l : List (A × ℕ)). summed (reverse l)) is_old, ap summed turned, sum_by-cons (λ (pair : A × ℕ). pair.1) (x, w) (reverse new));
     }
 
 -- it pushes one item at most

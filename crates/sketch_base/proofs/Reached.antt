@@ -1,6 +1,6 @@
 -- What a rank in one slot before some events counts in another slot after them.
 use Rattle.std.proofs.Common.{◌≡◌, ℕ, ◌+◌, Bool, true, false, ◌&&◌, ◌||◌, ◌==◌, List, [], ◌∷◌, refl, sym, ap, ap₂, ◌∙◌, arith, if◌then◌else◌, eqb-true}
-use Rattle.std.proofs.lemmas.Bool.{eq-eqb, or_right}
+use Rattle.std.proofs.lemmas.Bool.{and_from, eq-eqb, or_left, or_right}
 use Rattle.sketch_base.specs.Trace.{Put, Clear, Event, Snap, At, changed}
 use Rattle.sketch_base.specs.Ranks.{true_ranks}
 use Rattle.sketch_base.specs.Fair.{reaches}
@@ -18,24 +18,12 @@ module _ {A : Type 0} where
   -- ranks of slots that don't get into the slot count nothing in it
   counts-unreached : (es : List (Event A)) (slot : ℕ) (ranks : ℕ → ℕ) → ((i : ℕ) → reaches es slot i ≡ true → ranks i ≡ 0) → true_ranks (λ x. false) es ranks slot ≡ 0
   counts-unreached [] slot ranks none = none slot (eq-eqb slot slot refl)
-  counts-unreached (Snap s t ∷ es) slot ranks none = counts-unreached es slot (changed ranks t (ranks t + ranks s)) each
-    where
-      from : (i : ℕ) → reaches es slot i ≡ true → ranks i ≡ 0
-      from i e = none i (ap (λ (b : Bool). b || (i == s && reaches es slot t)) e)
-
-      source : reaches es slot t ≡ true → ranks s ≡ 0
-      source e = none s (ap₂ (λ (b c : Bool). reaches es slot s || (b && c)) (eq-eqb s s refl) e ∙ or_right (reaches es slot s) true refl)
-
-      each : (i : ℕ) → reaches es slot i ≡ true → changed ranks t (ranks t + ranks s) i ≡ 0
-      each i e = grind (arith, eqb-true, from, source)
-  counts-unreached (At s (Put h x) ∷ es) slot ranks none = counts-unreached es slot (changed ranks s (ranks s + 0)) each
-    where
-      each : (i : ℕ) → reaches es slot i ≡ true → changed ranks s (ranks s + 0) i ≡ 0
-      each i e = grind (arith, eqb-true, none)
-  counts-unreached (At s Clear ∷ es) slot ranks none = counts-unreached es slot (changed ranks s 0) each
-    where
-      each : (i : ℕ) → reaches es slot i ≡ true → changed ranks s 0 i ≡ 0
-      each i e = grind (arith, eqb-true, none)
+  counts-unreached (Snap s t ∷ es) slot ranks none =
+      let from : (i : ℕ) → reaches es slot i ≡ true → ranks i ≡ 0 = λ i e. none i (or_left (reaches es slot i) _ e) in
+      let source : reaches es slot t ≡ true → ranks s ≡ 0 = λ e. none s (or_right (reaches es slot s) _ (and_from (s == s) _ (eq-eqb s s refl) e)) in
+      counts-unreached es slot (changed ranks t (ranks t + ranks s)) (λ i e. grind (arith, eqb-true, from, source))
+  counts-unreached (At s (Put h x) ∷ es) slot ranks none = counts-unreached es slot (changed ranks s (ranks s + 0)) (λ i e. grind (arith, eqb-true, none))
+  counts-unreached (At s Clear ∷ es) slot ranks none = counts-unreached es slot (changed ranks s 0) (λ i e. grind (arith, eqb-true, none))
   counts-unreached (At s _ ∷ es) slot ranks none = counts-unreached es slot ranks none
 
   -- nothing of a slot that doesn't get there
