@@ -12,23 +12,21 @@ use Rattle.sketch_base.proofs.Compactions.{sum_below, sum_below-add, sum_below-p
 use Rattle.sketch_base.proofs.Reached.{only, counts_in, counts-moved}
 
 module _ {A : Type 0} (cmp : A → A → Ordering) (f : A → ℕ) where
-  -- what the compactions of level g gain along the play, as far as it counts in the slot in the end
-  abbrev pub gained : ℕ → List (Event A) → ℕ → List Bool → World (Bag A) → ℕ
-  gained g [] slot word world = 0
-  gained g (At s (Compact h coin taken) ∷ es) slot word world =
+  -- what the compactions of level g move along the play, given what each moves, as far as it counts in the slot in the end
+  abbrev moved : (ℕ → ℕ → Coin → Taken → Bool → World (Bag A) → ℕ) → ℕ → List (Event A) → ℕ → List Bool → World (Bag A) → ℕ
+  moved amount g [] slot word world = 0
+  moved amount g (At s (Compact h coin taken) ∷ es) slot word world =
       let e : Event A = At s (Compact h coin taken) in
-      (if h == g then counts_in es slot s (up cmp f h taken (bit_of coin h (next_bit word) (world.slots s)) (world.slots s)) else 0) +
-      gained g es slot (if event_draws e then drop 1 word else word) (happens (act cmp) e (next_bit word) world)
-  gained g (e ∷ es) slot word world = gained g es slot (if event_draws e then drop 1 word else word) (happens (act cmp) e (next_bit word) world)
+      (if h == g then counts_in es slot s (amount s h coin taken (next_bit word) world) else 0) +
+      moved amount g es slot (if event_draws e then drop 1 word else word) (happens (act cmp) e (next_bit word) world)
+  moved amount g (e ∷ es) slot word world = moved amount g es slot (if event_draws e then drop 1 word else word) (happens (act cmp) e (next_bit word) world)
 
-  -- and what they lose
+  -- what they gain, and what they lose
+  abbrev pub gained : ℕ → List (Event A) → ℕ → List Bool → World (Bag A) → ℕ
+  gained = moved (λ s h coin taken next world. up cmp f h taken (bit_of coin h next (world.slots s)) (world.slots s))
+
   abbrev pub lost : ℕ → List (Event A) → ℕ → List Bool → World (Bag A) → ℕ
-  lost g [] slot word world = 0
-  lost g (At s (Compact h coin taken) ∷ es) slot word world =
-      let e : Event A = At s (Compact h coin taken) in
-      (if h == g then counts_in es slot s (down cmp f h taken (world.slots s)) else 0) +
-      lost g es slot (if event_draws e then drop 1 word else word) (happens (act cmp) e (next_bit word) world)
-  lost g (e ∷ es) slot word world = lost g es slot (if event_draws e then drop 1 word else word) (happens (act cmp) e (next_bit word) world)
+  lost = moved (λ s h coin taken next world. down cmp f h taken (world.slots s))
 
 module _ {A : Type 0} where
   -- all levels that are compacted are below top

@@ -112,15 +112,12 @@ module _ {A : Type 0} (cmp : A → A → Ordering) where
   AllBelow [] = ⊤
   AllBelow (x ∷ xs) = AllByRecursion (λ y. cmp x y ≡ Less) xs × AllBelow xs
 
-  not-equal : (o : Ordering) → o ≡ Less → is_eq o ≡ false
-  not-equal o e = ap is_eq e
-
   begins-above : (x : A) (before : ℕ) (xs : List A) (cs : List ℕ) → AllByRecursion (λ y. cmp x y ≡ Less) xs → Climbs before cs → begins_equal cmp x (spread_over before xs cs) ≡ false
   begins-above x before (y ∷ ys) (c ∷ cs) h up = go (c - before) (let l = up.0 in omega (arith, l))
     where
       go : (n : ℕ) → 0 < n → begins_equal cmp x (replicate n y ++ spread_over c ys cs) ≡ false
       go zero l = absurd (omega arith)
-      go (suc n) l = not-equal (cmp x y) h.0
+      go (suc n) l = ap is_eq h.0
   begins-above x before _ _ h up = refl
 
 module _ {A : Type 0} {cmp : A → A → Ordering} (order : IsTotalOrder cmp) where
