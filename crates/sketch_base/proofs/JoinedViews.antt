@@ -67,10 +67,6 @@ module _ {A : Type 0} where
       sum_by-append f (replicate p.1 p.0) (copies ps) ∙
       omega (arith, sum_by-replicate f p.1 p.0, sum-copies f ps, sum_by-cons (λ (pair : A × ℕ). pair.1 * f pair.0) p ps)
 
-  weigh-ones : (pairs : List (A × ℕ)) → weigh_pairs (λ x. 1) pairs ≡ sum_by (λ (pair : A × ℕ). pair.1) pairs
-  weigh-ones [] = refl
-  weigh-ones (p ∷ ps) = omega (arith, sum_by-cons (λ (pair : A × ℕ). pair.1 * 1) p ps, sum_by-cons (λ (pair : A × ℕ). pair.1) p ps, weigh-ones ps)
-
   long-enough : (pairs : List (A × ℕ)) → HaveWeight pairs → length pairs ≤ weigh_pairs (λ x. 1) pairs
   long-enough [] h = omega arith
   long-enough (p ∷ ps) h = let one = h.0 in omega (arith, sum_by-cons (λ (pair : A × ℕ). pair.1 * 1) p ps, long-enough ps h.1, one)
