@@ -1,6 +1,6 @@
 -- What a compaction takes of a bag and what it puts up, and sums over the levels below one.
-use Rattle.std.proofs.Common.{◌≡◌, ℕ, zero, suc, ◌+◌, ◌*◌, ◌^◌, ◌≤◌, ◌<◌, Bool, true, false, not, ◌&&◌, ◌==◌, List, [], sum_by, refl, ap, arith, if◌then◌else◌, ⊎_elim, Ordering}
-use Rattle.std.proofs.lemmas.Bool.{cases_eq, eqb-true, eq-eqb, ne_eqb}
+use Rattle.std.proofs.Common.{◌≡◌, ℕ, zero, suc, ◌+◌, ◌*◌, ◌^◌, ◌≤◌, ◌<◌, Bool, true, false, not, ◌&&◌, ◌==◌, List, [], sum_by, refl, ap, arith, if◌then◌else◌, Ordering}
+use Rattle.std.proofs.lemmas.Bool.{eqb-true}
 use Rattle.sketch_base.specs.Bag.{Bag, Taken, half, cut, parity_up, level_at, with_level, compaction}
 use Rattle.sketch_base.specs.Trace.{changed}
 use Rattle.sketch_base.proofs.Acts.{rank, weigh-added, weigh-replaced, sum_by-cut, sum_by-both_bits}

@@ -1,5 +1,5 @@
 -- What a rank in one slot before some events counts in another slot after them.
-use Rattle.std.proofs.Common.{◌≡◌, ℕ, ◌+◌, Bool, true, false, ◌&&◌, ◌||◌, ◌==◌, List, [], ◌∷◌, refl, sym, ap, ap₂, ◌∙◌, arith, if◌then◌else◌, eqb-true}
+use Rattle.std.proofs.Common.{◌≡◌, ℕ, ◌+◌, Bool, true, false, ◌==◌, List, [], ◌∷◌, refl, sym, ap, ◌∙◌, arith, if◌then◌else◌, eqb-true}
 use Rattle.std.proofs.lemmas.Bool.{and_from, eq-eqb, or_left, or_right}
 use Rattle.sketch_base.specs.Trace.{Put, Clear, Event, Snap, At, changed}
 use Rattle.sketch_base.specs.Ranks.{true_ranks}

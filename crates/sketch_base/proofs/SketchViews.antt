@@ -1,5 +1,5 @@
 -- A bag and its view: the view's answers are those of the bag's expanded list.
-use Rattle.std.proofs.Common.{◌≡◌, ℕ, suc, ◌*◌, ◌+◌, ◌^◌, Bool, true, false, List, [], ◌∷◌, length, sum_by, refl, sym, ap, ap₂, ◌∙◌, subst, arith, if◌then◌else◌, Result, Ok, Err, Ordering, Equal}
+use Rattle.std.proofs.Common.{◌≡◌, ℕ, suc, ◌*◌, ◌+◌, ◌^◌, Bool, List, [], ◌∷◌, length, sum_by, refl, sym, ap, ap₂, ◌∙◌, subst, arith, if◌then◌else◌, Result, Ok, Err, Ordering, Equal}
 use Rattle.std.specs.Prelude.{Option, None, Some, IfOk, slice_get, ◌==◌}
 use Rattle.std.specs.Cmp.{IsTotalOrder}
 use Rattle.std.specs.declared.vec.Vec.{Vec}
