@@ -16,9 +16,8 @@ module _ {A : Type 0} (P : A → Type 0) where
 
   -- of a front
   pub all-take : (n : ℕ) (xs : List A) → AllByRecursion P xs → AllByRecursion P (take n xs)
-  all-take zero xs h = tt
-  all-take (suc n) [] h = tt
   all-take (suc n) (x ∷ xs) h = (h.0, all-take n xs h.1)
+  all-take _ _ h = tt
 
   -- of an end
   pub all-drop : (n : ℕ) (xs : List A) → AllByRecursion P xs → AllByRecursion P (drop n xs)
@@ -28,19 +27,16 @@ module _ {A : Type 0} (P : A → Type 0) where
 
   -- of each half
   pub all-half : (odd : Bool) (xs : List A) → AllByRecursion P xs → AllByRecursion P (half odd xs)
-  all-half false [] h = tt
-  all-half true [] h = tt
   all-half false (x ∷ xs) h = (h.0, all-half true xs h.1)
   all-half true (x ∷ xs) h = all-half false xs h.1
+  all-half _ [] h = tt
 
   module _ (cmp : A → A → Ordering) where
-    all-insert : (x : A) (xs : List A) → P x → AllByRecursion P xs → AllByRecursion P (insert_in_order cmp x xs)
+    -- of a list with one more item in its place
+    pub all-insert : (x : A) (xs : List A) → P x → AllByRecursion P xs → AllByRecursion P (insert_in_order cmp x xs)
     all-insert x [] p h = (p, tt)
-    all-insert x (y ∷ ys) p h = go (is_gt (cmp x y)) (all-insert x ys p h.1)
-      where
-        go : (b : Bool) → AllByRecursion P (insert_in_order cmp x ys) → AllByRecursion P (if b then y ∷ insert_in_order cmp x ys else x ∷ y ∷ ys)
-        go true ih = (h.0, ih)
-        go false ih = (p, h)
+    all-insert x (y ∷ ys) p h =
+        elim (is_gt (cmp x y)) as (λ (b : Bool). AllByRecursion P (if b then y ∷ insert_in_order cmp x ys else x ∷ y ∷ ys)) [ true ↦ (h.0, all-insert x ys p h.1) | false ↦ (p, h) ]
 
     -- of the sorted list
     pub all-sort : (xs : List A) → AllByRecursion P xs → AllByRecursion P (sort cmp xs)
@@ -49,11 +45,11 @@ module _ {A : Type 0} (P : A → Type 0) where
 
     all-inserted : (x : A) (xs : List A) → AllByRecursion P (insert_in_order cmp x xs) → P x × AllByRecursion P xs
     all-inserted x [] h = (h.0, tt)
-    all-inserted x (y ∷ ys) h = go (is_gt (cmp x y)) h (λ k. all-inserted x ys k)
-      where
-        go : (b : Bool) → AllByRecursion P (if b then y ∷ insert_in_order cmp x ys else x ∷ y ∷ ys) → (AllByRecursion P (insert_in_order cmp x ys) → P x × AllByRecursion P ys) → P x × AllByRecursion P (y ∷ ys)
-        go true h ih = let r = ih h.1 in (r.0, (h.0, r.1))
-        go false h ih = (h.0, h.1)
+    all-inserted x (y ∷ ys) h =
+        (elim (is_gt (cmp x y)) as (λ (b : Bool). AllByRecursion P (if b then y ∷ insert_in_order cmp x ys else x ∷ y ∷ ys) → P x × AllByRecursion P (y ∷ ys)) [
+          | true ↦ λ h. let r = all-inserted x ys h.1 in (r.0, (h.0, r.1))
+          | false ↦ λ h. (h.0, h.1)
+        ]) h
 
     pub all-sorted : (xs : List A) → AllByRecursion P (sort cmp xs) → AllByRecursion P xs
     all-sorted [] h = tt
@@ -65,8 +61,7 @@ module _ {A : Type 0} (P : A → Type 0) where
       pub all-same : (xs ys : List A) → SameItems cmp xs ys → AllByRecursion P xs → AllByRecursion P ys
       all-same [] [] s h = tt
       all-same (x ∷ xs) (y ∷ ys) s h = (keeps x y s.0 h.0, all-same xs ys s.1 h.1)
-      all-same [] (y ∷ ys) s h = absurd s
-      all-same (x ∷ xs) [] s h = absurd s
+      all-same _ _ s h = absurd s
 
       -- the same of a list that is such once both are sorted
       pub all-alike : (xs ys : List A) → SameItems cmp (sort cmp xs) (sort cmp ys) → AllByRecursion P xs → AllByRecursion P ys
@@ -78,10 +73,9 @@ module _ {A : Type 0} (P : A → Type 0) where
 
   -- of one of the levels
   pub all-level : (ls : List (List A)) (h : ℕ) → AllIn ls → AllByRecursion P (level_at ls h)
-  all-level [] zero a = tt
-  all-level [] (suc h) a = tt
   all-level (l ∷ ls) zero a = a.0
   all-level (l ∷ ls) (suc h) a = all-level ls h a.1
+  all-level [] _ a = tt
 
   -- from each level to them all
   pub all-by-place : (ls : List (List A)) → ((h : ℕ) → h < length ls → AllByRecursion P (level_at ls h)) → AllIn ls
@@ -115,8 +109,7 @@ module _ {A : Type 0} (P : A → Type 0) where
   pub all-alike-levels : (cmp : A → A → Ordering) → ((x y : A) → cmp x y ≡ Equal → P x → P y) → (ls ms : List (List A)) → AllZip (λ xs ys. SameItems cmp (sort cmp xs) (sort cmp ys)) ls ms → AllIn ls → AllIn ms
   all-alike-levels cmp keeps [] [] s a = tt
   all-alike-levels cmp keeps (l ∷ ls) (m ∷ ms) s a = (all-alike cmp keeps l m s.0 a.0, all-alike-levels cmp keeps ls ms s.1 a.1)
-  all-alike-levels cmp keeps [] (m ∷ ms) s a = absurd s
-  all-alike-levels cmp keeps (l ∷ ls) [] s a = absurd s
+  all-alike-levels cmp keeps _ _ s a = absurd s
 
   -- all levels one after another
   pub all-flat : {B : Type 0} (items : B → List A) (ls : List B) → AllIn (map items ls) → AllByRecursion P (flat_map items ls)

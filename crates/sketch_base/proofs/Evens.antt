@@ -1,12 +1,12 @@
 -- What a trace gains by one level's compactions it loses over all words, where its turned coins are fair.
 use Rattle.std.proofs.Common.{◌≡◌, ◌≢◌, ℕ, zero, suc, ◌+◌, ◌*◌, ◌≤◌, ◌<◌, Bool, true, false, cond, not, ◌||◌, ◌==◌, ◌⊎◌, inl, inr, List, [], ◌∷◌, refl, sym, ap, ◌∙◌, arith, if◌then◌else◌, ⊎_elim, subst, eqb-true, Ordering}
 use Rattle.std.proofs.lemmas.List.Sums.{sum_by-cons}
-use Rattle.std.proofs.lemmas.Bool.{and_parts, cases_eq, or_cases, false≢true}
+use Rattle.std.proofs.lemmas.Bool.{and_parts, cases_eq, not-true, or_cases}
 use Rattle.sketch_base.specs.Bag.{Bag, Taken}
 use Rattle.sketch_base.specs.Trace.{Put, Pull, Join, Compact, Forget, Redraw, Clear, Fresh, Turned, Event, Snap, At, World, changed, is_req, event_draws, coins, happens, act}
 use Rattle.sketch_base.specs.Words.{sum_over_words}
 use Rattle.sketch_base.proofs.Average.{sum_over_words-add}
-use Rattle.sketch_base.proofs.SlotAlone.{up, down, both_up}
+use Rattle.sketch_base.proofs.Compactions.{up, down, both_up}
 use Rattle.sketch_base.proofs.ComplementedBits.{draw_pairs, turn_pairs, turned_up}
 use Rattle.sketch_base.specs.Fair.{reaches, is_fair}
 use Rattle.sketch_base.proofs.Reached.{counts_in, counts-none, counts-both}
@@ -20,16 +20,11 @@ module _ {A : Type 0} (es : List (Event A)) (slot s : ℕ) where
 
   -- both bits of a drawn coin gain what they lose
   draw_counts : (here : Bool) (u v d : ℕ) → u + v ≡ 2 * d → counts_if here u + counts_if here v ≡ counts_if here d + counts_if here d
-  draw_counts true u v d e = counts-both es slot s u v d d (omega (arith, e))
-  draw_counts false u v d e = refl
+  draw_counts here u v d e = grind (arith, counts-both es slot s u v d d)
 
   -- so do a turned coin and its complement, and where the one slot does not get into the other nothing counts
   turn_counts : (here : Bool) (u v d d' : ℕ) → (here ≡ true → (u + v ≡ d + d') ⊎ (reaches es slot s ≡ false)) → counts_if here u + counts_if here v ≡ counts_if here d + counts_if here d'
-  turn_counts true u v d d' e = ⊎_elim (λ even. counts-both es slot s u v d d' even) nothing (e refl)
-    where
-      nothing : reaches es slot s ≡ false → counts_in es slot s u + counts_in es slot s v ≡ counts_in es slot s d + counts_in es slot s d'
-      nothing misses = let none = counts-none es slot s in omega (arith, none u misses, none v misses, none d misses, none d' misses)
-  turn_counts false u v d d' e = refl
+  turn_counts here u v d d' e = grind (arith, counts-both es slot s u v d d', counts-none es slot s)
 
 module _ {A : Type 0} (cmp : A → A → Ordering) (f : A → ℕ) where
   -- the gains of level g summed over all words, and the losses
@@ -58,23 +53,21 @@ module _ {A : Type 0} (cmp : A → A → Ordering) (f : A → ℕ) where
   even-bits : (g h : ℕ) (es : List (Event A)) (n slot : ℕ) (drawn : ℕ → ℕ → Bool) (next next' : Bool → World (Bag A)) →
       ((bit bit' : Bool) → (h < g → bit ≡ bit') → (h ≡ g → bit' ≡ not bit) → MirroredWorlds cmp f g drawn (next bit) (next' bit')) →
       GoesOn g es n slot drawn → AreEven g es n slot (next false) (next true) (next' false) (next' true)
-  even-bits g h es n slot drawn next next' mirrored rest = ⊎_elim crossed straight (cases_eq h g)
-    where
-      crossed : h ≡ g → AreEven g es n slot (next false) (next true) (next' false) (next' true)
-      crossed e =
-          let pair = λ (bit : Bool). rest (next bit) (next' (not bit)) (mirrored bit (not bit) (λ lt. absurd (omega (arith, e, lt))) (λ _. refl)) in
-          omega (arith, pair false, pair true)
-
-      straight : h ≢ g → AreEven g es n slot (next false) (next true) (next' false) (next' true)
-      straight ne =
-          let pair = λ (bit : Bool). rest (next bit) (next' bit) (mirrored bit bit (λ lt. refl) (λ e. absurd (ne e))) in
-          omega (arith, pair false, pair true)
+  even-bits g h es n slot drawn next next' mirrored rest =
+      ⊎_elim
+      (λ (e : h ≡ g). let pair = λ (bit : Bool). rest (next bit) (next' (not bit)) (mirrored bit (not bit) (λ lt. absurd (omega (arith, e, lt))) (λ _. refl)) in omega (arith, pair false, pair true))
+      (λ (ne : h ≢ g). let pair = λ (bit : Bool). rest (next bit) (next' bit) (mirrored bit bit (λ lt. refl) (λ e. absurd (ne e))) in omega (arith, pair false, pair true))
+      (cases_eq h g)
 
   -- a kept coin drawn anew, if the rest is even from all worlds that are mirrored after it
   even-redraw : (g h s : ℕ) (es : List (Event A)) (n slot : ℕ) (drawn : ℕ → ℕ → Bool) (world world' : World (Bag A)) →
       MirroredWorlds cmp f g drawn world world' → GoesOn g es n slot (changed drawn s (changed (drawn s) h true)) →
       IsEven g (At s (Redraw h) ∷ es) (suc n) slot world world'
   even-redraw g h s es n slot drawn world world' m rest =
+      let next = λ (bit : Bool). happens (act cmp) (At s (Redraw h)) bit world in
+      let next' = λ (bit : Bool). happens (act cmp) (At s (Redraw h)) bit world' in
+      let gains = λ (a b : World (Bag A)). sum_over_words-add n (λ w. gained cmp f g es slot w a) (λ w. gained cmp f g es slot w b) in
+      let losses = λ (a b : World (Bag A)). sum_over_words-add n (λ w. lost cmp f g es slot w a) (λ w. lost cmp f g es slot w b) in
       omega (
         arith,
         even-bits g h es n slot (changed drawn s (changed (drawn s) h true)) next next' (mirrored-redraw cmp f g drawn world world' m s h) rest,
@@ -83,74 +76,40 @@ module _ {A : Type 0} (cmp : A → A → Ordering) (f : A → ℕ) where
         losses (next false) (next true),
         losses (next' false) (next' true),
       )
-    where
-      next : Bool → World (Bag A)
-      next bit = happens (act cmp) (At s (Redraw h)) bit world
-
-      next' : Bool → World (Bag A)
-      next' bit = happens (act cmp) (At s (Redraw h)) bit world'
-
-      gains : (a b : World (Bag A)) → sum_over_words n (λ w. gained cmp f g es slot w a + gained cmp f g es slot w b) ≡ gained_over g es n slot a + gained_over g es n slot b
-      gains a b = sum_over_words-add n (λ w. gained cmp f g es slot w a) (λ w. gained cmp f g es slot w b)
-
-      losses : (a b : World (Bag A)) → sum_over_words n (λ w. lost cmp f g es slot w a + lost cmp f g es slot w b) ≡ lost_over g es n slot a + lost_over g es n slot b
-      losses a b = sum_over_words-add n (λ w. lost cmp f g es slot w a) (λ w. lost cmp f g es slot w b)
 
   -- a draw, if the rest is even from all worlds that are mirrored after it
   even-draw : (g h s : ℕ) (taken : Taken) (es : List (Event A)) (n slot : ℕ) (drawn : ℕ → ℕ → Bool) (world world' : World (Bag A)) →
       is_req taken ≡ true → MirroredWorlds cmp f g drawn world world' → GoesOn g es n slot (changed drawn s (changed (drawn s) h true)) →
       IsEven g (At s (Compact h Fresh taken) ∷ es) (suc n) slot world world'
   even-draw g h s taken es n slot drawn world world' req m rest =
+      let bag = world.slots s in
+      let bag' = world'.slots s in
+      let row = changed (drawn s) h true in
       draw_pairs cmp f n _ _ _ _ _ _ _ _ _ _ _ _ _ _
       (draw_counts es slot s (h == g) (up cmp f h taken false bag) (up cmp f h taken true bag) (down cmp f h taken bag) (both_up cmp f h taken bag))
       (draw_counts es slot s (h == g) (up cmp f h taken false bag') (up cmp f h taken true bag') (down cmp f h taken bag') (both_up cmp f h taken bag'))
       (even-bits g h es n slot (changed drawn s row) (λ bit. compacted_at cmp f s h taken bit world) (λ bit. compacted_at cmp f s h taken bit world')
       (λ bit bit' low here. mirrored-draw cmp f g drawn world world' m s h taken row bit bit' req low (λ e d. here e) (still_drawn (drawn s) g h)) rest)
-    where
-      bag : Bag A
-      bag = world.slots s
-
-      bag' : Bag A
-      bag' = world'.slots s
-
-      row : ℕ → Bool
-      row = changed (drawn s) h true
 
   -- a turned coin: fair, or of a slot that does not get into the asked one
   even-turn : (g h s : ℕ) (taken : Taken) (es : List (Event A)) (n slot : ℕ) (drawn : ℕ → ℕ → Bool) (world world' : World (Bag A)) →
       is_req taken ≡ true → (drawn s h || not (reaches es slot s)) ≡ true → MirroredWorlds cmp f g drawn world world' → GoesOn g es n slot drawn →
       IsEven g (At s (Compact h Turned taken) ∷ es) n slot world world'
   even-turn g h s taken es n slot drawn world world' req fair m rest =
+      let bag = world.slots s in
+      let bag' = world'.slots s in
+      let bit = not (bag.kept h) in
+      let bit' = not (bag'.kept h) in
+      let other : h ≡ g → drawn s g ≡ true → bag'.kept h ≡ not (bag.kept h) = λ e d. subst (λ j. bag'.kept j ≡ not (bag.kept j)) (sym e) ((m.slots s).turned d) in
+      let by_rule : h ≡ g → (up cmp f h taken bit bag + up cmp f h taken bit' bag' ≡ down cmp f h taken bag + down cmp f h taken bag') ⊎ (reaches es slot s ≡ false) = λ e.
+      ⊎_elim
+      (λ d. inl (turned_up cmp f h taken bit bit' bag bag' req (ap not (other e (ap (drawn s) (sym e) ∙ d))) ((m.slots s).levels h (omega (arith, e)))))
+      (λ misses. inr (not-true (reaches es slot s) misses))
+      (or_cases (drawn s h) (not (reaches es slot s)) fair) in
       turn_pairs cmp f n _ _ _ _ _ _ _ _
       (turn_counts es slot s (h == g) _ _ _ _ (λ here. by_rule (eqb-true h g here)))
       (rest (compacted_at cmp f s h taken bit world) (compacted_at cmp f s h taken bit' world')
       (mirrored-turn cmp f g drawn world world' m s h taken bit bit' req (λ lt. ap not ((m.slots s).below h lt)) (λ e d. ap not (other e d))))
-    where
-      bag : Bag A
-      bag = world.slots s
-
-      bag' : Bag A
-      bag' = world'.slots s
-
-      bit : Bool
-      bit = not (bag.kept h)
-
-      bit' : Bool
-      bit' = not (bag'.kept h)
-
-      other : h ≡ g → drawn s g ≡ true → bag'.kept h ≡ not (bag.kept h)
-      other e d = subst (λ j. bag'.kept j ≡ not (bag.kept j)) (sym e) ((m.slots s).turned d)
-
-      not_true : (b : Bool) → not b ≡ true → b ≡ false
-      not_true true e = absurd (false≢true e)
-      not_true false e = refl
-
-      by_rule : h ≡ g → (up cmp f h taken bit bag + up cmp f h taken bit' bag' ≡ down cmp f h taken bag + down cmp f h taken bag') ⊎ (reaches es slot s ≡ false)
-      by_rule e =
-          ⊎_elim
-          (λ d. inl (turned_up cmp f h taken bit bit' bag bag' req (ap not (other e (ap (drawn s) (sym e) ∙ d))) ((m.slots s).levels h (omega (arith, e)))))
-          (λ misses. inr (not_true (reaches es slot s) misses))
-          (or_cases (drawn s h) (not (reaches es slot s)) fair)
 
   -- level by level, gains and losses even out over all words
   pub evens : (g : ℕ) (es : List (Event A)) (n slot : ℕ) (drawn : ℕ → ℕ → Bool) (world world' : World (Bag A)) →

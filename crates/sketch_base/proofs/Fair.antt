@@ -1,27 +1,44 @@
 -- REQ is unbiased where each turned coin of what gets into a slot complements a drawn one.
-use Rattle.std.proofs.Common.{◌≡◌, ℕ, ◌+◌, ◌*◌, ◌^◌, ◌≤◌, Bool, true, List, refl, ap, ◌∙◌, arith, Ordering}
+use Rattle.std.proofs.Common.{◌≡◌, ℕ, zero, suc, ◌+◌, ◌*◌, ◌^◌, ◌≤◌, Bool, true, List, refl, ap, ◌∙◌, arith, Ordering}
 use Rattle.std.proofs.lemmas.Bool.{false≢true}
 use Rattle.sketch_base.specs.Bag.{weighted_rank}
 use Rattle.sketch_base.specs.Trace.{Event, start, play, coins}
 use Rattle.sketch_base.specs.Ranks.{true_ranks, rank_of_trace}
 use Rattle.sketch_base.specs.Words.{sum_over_words}
-use Rattle.sketch_base.specs.Lengths.{start_lengths}
 use Rattle.sketch_base.proofs.Acts.{rank}
 use Rattle.sketch_base.proofs.Sums.{sum_by-expanded}
 use Rattle.sketch_base.proofs.Average.{sum_over_words-same, sum_over_words-add, sum_over_words-const}
-use Rattle.sketch_base.proofs.ReqUnbiased.{equal_below, equal_sums}
+use Rattle.sketch_base.proofs.Compactions.{sum_below}
 use Rattle.sketch_base.proofs.Worlds.{one, held, true_ranks-same, held-settled}
 use Rattle.sketch_base.specs.Fair.{is_fair, none_drawn, FairIsUnbiased}
-use Rattle.sketch_base.proofs.Gains.{KeepsRules, gained, lost, all_gained, all_lost, top_of, below_top, accounted}
+use Rattle.sketch_base.proofs.Gains.{ScratchGoesOn, scratch_obeys, gained, lost, all_gained, all_lost, top_of, below_top, accounted}
 use Rattle.sketch_base.proofs.MirroredWorlds.{MirroredWorlds}
 use Rattle.sketch_base.proofs.Evens.{evens}
+
+-- ranks that come out right where what is gained and what is lost are equal in sum over all words
+equal_sums : (w ranks losses gains t consts left right : ℕ) →
+    left ≡ right → left ≡ ranks + losses → right ≡ consts + gains → consts ≡ w * t → gains ≡ losses → {m : ℕ} → t ≡ m → ranks ≡ w * m
+equal_sums w ranks losses gains t consts left right a b c d e g = omega (arith, a, b, c, d, e, ap (λ n. w * n) g)
+
+-- sums over levels and words are equal where each level's are
+equal_below : (top n : ℕ) (f g : ℕ → List Bool → ℕ) → ((i : ℕ) → sum_over_words n (f i) ≡ sum_over_words n (g i)) →
+    sum_over_words n (λ w. sum_below top (λ i. f i w)) ≡ sum_over_words n (λ w. sum_below top (λ i. g i w))
+equal_below zero n f g h = refl
+equal_below (suc top) n f g h =
+    omega (
+      arith,
+      sum_over_words-add n (λ w. sum_below top (λ i. f i w)) (f top),
+      sum_over_words-add n (λ w. sum_below top (λ i. g i w)) (g top),
+      equal_below top n f g h,
+      h top,
+    )
 
 module _ {A : Type 0} (cmp : A → A → Ordering) (test : A → Bool) where
   -- nothing is drawn at the start, and a world is mirrored by itself
   at_start : (g : ℕ) → MirroredWorlds cmp (one test) g none_drawn start start
   at_start g = record { slots = λ s. record { levels = λ i le. refl; below = λ i lt. refl; turned = λ e. absurd (false≢true e) }; scratch = λ i le. refl }
 
-  pub fair_unbiased : (trace : List (Event A)) (n slot : ℕ) → KeepsRules trace start_lengths → is_fair trace slot none_drawn ≡ true → coins trace ≤ n →
+  pub fair_unbiased : (trace : List (Event A)) (n slot : ℕ) → ((word : List Bool) → ScratchGoesOn cmp test trace word start) → is_fair trace slot none_drawn ≡ true → coins trace ≤ n →
       sum_over_words n (λ word. weighted_rank cmp test ((play cmp trace word start).slots slot)) ≡ 2 ^ n * rank_of_trace test trace slot
   fair_unbiased trace n slot rules fair enough =
       let top = top_of trace in
@@ -32,11 +49,11 @@ module _ {A : Type 0} (cmp : A → A → Ordering) (test : A → Bool) where
       let level = λ (g : ℕ). evens cmp (one test) g trace n slot none_drawn start start enough fair (at_start g) in
       let balanced : sum_over_words n gains ≡ sum_over_words n losses =
       equal_below top n (λ g w. gained cmp (one test) g trace slot w start) (λ g w. lost cmp (one test) g trace slot w start) (λ g. omega (arith, level g)) in
-      let summed = sum_over_words-same n (λ w. ranks w + losses w) (λ w. truth + gains w) (λ w. accounted cmp test top trace slot w start rules (below_top trace)) in
+      let summed = sum_over_words-same n (λ w. ranks w + losses w) (λ w. truth + gains w) (λ w. accounted cmp test top trace slot w start (rules w) (below_top trace)) in
       sum_over_words-same n _ ranks (λ w. sum_by-expanded (one test) cmp ((play cmp trace w start).slots slot)) ∙
       equal_sums (2 ^ n) _ _ _ _ _ _ _ summed (sum_over_words-add n ranks losses) (sum_over_words-add n (λ w. truth) gains) (sum_over_words-const n truth) balanced
       (true_ranks-same test trace (held test start) (λ s. 0) (held-settled test start refl) slot)
 
 -- the law
 pub fair_is_unbiased : {A : Type 0} (cmp : A → A → Ordering) → FairIsUnbiased cmp
-fair_is_unbiased cmp test trace n slot obeys even fair enough = fair_unbiased cmp test trace n slot (record { scratch = obeys; even = even }) fair enough
+fair_is_unbiased cmp test trace n slot obeys even fair enough = fair_unbiased cmp test trace n slot (λ word. scratch_obeys cmp test trace word start obeys even) fair enough

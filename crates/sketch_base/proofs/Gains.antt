@@ -1,34 +1,32 @@
 -- What the compactions of a trace gain and lose, level by level, as far as it counts in a slot in the end: by them its rank in the end differs from its true rank.
-use Rattle.std.proofs.Common.{◌≡◌, ℕ, drop, suc, ◌+◌, ◌≤◌, ◌<◌, Bool, true, false, ◌==◌, List, [], ◌∷◌, refl, sym, ap, ◌∙◌, arith, if◌then◌else◌, subst, eqb-true, Ordering}
+use Rattle.std.proofs.Common.{◌≡◌, ℕ, drop, suc, ◌+◌, ◌≤◌, ◌<◌, Bool, ◌==◌, ◌||◌, IsTrue, sum, List, [], ◌∷◌, refl, sym, ap, ◌∙◌, arith, if◌then◌else◌, subst, eqb-true, Ordering}
 use Rattle.std.specs.Prelude.{⊤}
 use Rattle.sketch_base.specs.Bag.{Bag, Taken}
-use Rattle.sketch_base.specs.Trace.{Put, Pull, Join, Compact, Forget, Redraw, Clear, Coin, Event, Snap, At, World, happens, event_draws, next_bit, bit_of, play, act}
+use Rattle.sketch_base.specs.Trace.{Compact, Coin, Event, At, World, happens, event_draws, next_bit, bit_of, play, act}
 use Rattle.sketch_base.specs.Ranks.{true_ranks}
-use Rattle.sketch_base.specs.Lengths.{world_lengths, ObeysScratch, Along, TakesEven}
+use Rattle.sketch_base.specs.Lengths.{bag_lengths, goes_on, world_lengths, ObeysScratch, Along, TakesEven}
 use Rattle.sketch_base.proofs.Fixed.{lengths-happens}
 use Rattle.sketch_base.proofs.Acts.{rank}
-use Rattle.sketch_base.proofs.Worlds.{one, held, true_ranks-same, held-ended, held-snap, held-put, held-clear, held-pull, held-join, held-forget, held-redraw}
-use Rattle.sketch_base.proofs.SlotAlone.{sum_below, sum_below-add, sum_below-pick, up, down, compacted, compacted-moves}
+use Rattle.sketch_base.proofs.Worlds.{one, held, true_ranks-same, held-ended, held-event}
+use Rattle.sketch_base.proofs.Compactions.{sum_below, sum_below-add, sum_below-pick, up, down, compacted-moves}
 use Rattle.sketch_base.proofs.Reached.{only, counts_in, counts-moved}
 
 module _ {A : Type 0} (cmp : A → A → Ordering) (f : A → ℕ) where
-  -- what the compactions of level g gain along the play, as far as it counts in the slot in the end
-  abbrev pub gained : ℕ → List (Event A) → ℕ → List Bool → World (Bag A) → ℕ
-  gained g [] slot word world = 0
-  gained g (At s (Compact h coin taken) ∷ es) slot word world =
+  -- what the compactions of level g move along the play, given what each moves, as far as it counts in the slot in the end
+  abbrev moved : (ℕ → ℕ → Coin → Taken → Bool → World (Bag A) → ℕ) → ℕ → List (Event A) → ℕ → List Bool → World (Bag A) → ℕ
+  moved amount g [] slot word world = 0
+  moved amount g (At s (Compact h coin taken) ∷ es) slot word world =
       let e : Event A = At s (Compact h coin taken) in
-      (if h == g then counts_in es slot s (up cmp f h taken (bit_of coin h (next_bit word) (world.slots s)) (world.slots s)) else 0) +
-      gained g es slot (if event_draws e then drop 1 word else word) (happens (act cmp) e (next_bit word) world)
-  gained g (e ∷ es) slot word world = gained g es slot (if event_draws e then drop 1 word else word) (happens (act cmp) e (next_bit word) world)
+      (if h == g then counts_in es slot s (amount s h coin taken (next_bit word) world) else 0) +
+      moved amount g es slot (if event_draws e then drop 1 word else word) (happens (act cmp) e (next_bit word) world)
+  moved amount g (e ∷ es) slot word world = moved amount g es slot (if event_draws e then drop 1 word else word) (happens (act cmp) e (next_bit word) world)
 
-  -- and what they lose
+  -- what they gain, and what they lose
+  abbrev pub gained : ℕ → List (Event A) → ℕ → List Bool → World (Bag A) → ℕ
+  gained = moved (λ s h coin taken next world. up cmp f h taken (bit_of coin h next (world.slots s)) (world.slots s))
+
   abbrev pub lost : ℕ → List (Event A) → ℕ → List Bool → World (Bag A) → ℕ
-  lost g [] slot word world = 0
-  lost g (At s (Compact h coin taken) ∷ es) slot word world =
-      let e : Event A = At s (Compact h coin taken) in
-      (if h == g then counts_in es slot s (down cmp f h taken (world.slots s)) else 0) +
-      lost g es slot (if event_draws e then drop 1 word else word) (happens (act cmp) e (next_bit word) world)
-  lost g (e ∷ es) slot word world = lost g es slot (if event_draws e then drop 1 word else word) (happens (act cmp) e (next_bit word) world)
+  lost = moved (λ s h coin taken next world. down cmp f h taken (world.slots s))
 
 module _ {A : Type 0} where
   -- all levels that are compacted are below top
@@ -46,36 +44,27 @@ module _ {A : Type 0} where
   below-more : (m n : ℕ) (es : List (Event A)) → m ≤ n → IsBelow m es → IsBelow n es
   below-more m n [] le b = tt
   below-more m n (At s (Compact h coin taken) ∷ es) le b = (omega (arith, b.0, le), below-more m n es le b.1)
-  below-more m n (At s (Put h x) ∷ es) le b = below-more m n es le b
-  below-more m n (At s Pull ∷ es) le b = below-more m n es le b
-  below-more m n (At s (Join h) ∷ es) le b = below-more m n es le b
-  below-more m n (At s Forget ∷ es) le b = below-more m n es le b
-  below-more m n (At s (Redraw h) ∷ es) le b = below-more m n es le b
-  below-more m n (At s Clear ∷ es) le b = below-more m n es le b
-  below-more m n (Snap s t ∷ es) le b = below-more m n es le b
+  below-more m n (_ ∷ es) le b = below-more m n es le b
 
   -- no event reaches the top level
   pub below_top : (es : List (Event A)) → IsBelow (top_of es) es
   below_top [] = tt
   below_top (At s (Compact h coin taken) ∷ es) = (omega arith, below-more (top_of es) (suc h + top_of es) es (omega arith) (below_top es))
-  below_top (At s (Put h x) ∷ es) = below_top es
-  below_top (At s Pull ∷ es) = below_top es
-  below_top (At s (Join h) ∷ es) = below_top es
-  below_top (At s Forget ∷ es) = below_top es
-  below_top (At s (Redraw h) ∷ es) = below_top es
-  below_top (At s Clear ∷ es) = below_top es
-  below_top (Snap s t ∷ es) = below_top es
-
--- the rules of a trace from here on
-pub record KeepsRules {A : Type 0} (es : List (Event A)) (lengths : World (List ℕ)) : Type 0 where
-  pub scratch : ObeysScratch es lengths
-  pub even : Along TakesEven es lengths
+  below_top (_ ∷ es) = below_top es
 
 module _ {A : Type 0} (cmp : A → A → Ordering) (test : A → Bool) where
-  go_on : (e : Event A) (es : List (Event A)) (next : Bool) (world : World (Bag A)) → KeepsRules (e ∷ es) (world_lengths world) → KeepsRules es (world_lengths (happens (act cmp) e next world))
-  go_on e es next world rules =
-      let same = sym (lengths-happens cmp e next world rules.even.0) in
-      record { scratch = subst (λ w. ObeysScratch es w) same rules.scratch.1; even = subst (λ w. Along TakesEven es w) same rules.even.1 }
+  -- the scratch rule along the play: while the scratch holds an item, only events that go on with it come, and at the end it holds none
+  abbrev pub ScratchGoesOn : List (Event A) → List Bool → World (Bag A) → Type 0
+  ScratchGoesOn [] word world = sum (bag_lengths world.scratch) ≡ 0
+  ScratchGoesOn (e ∷ es) word world =
+      IsTrue (sum (bag_lengths world.scratch) == 0 || goes_on e world.target) × ScratchGoesOn es (if event_draws e then drop 1 word else word) (happens (act cmp) e (next_bit word) world)
+
+  -- so it is where the lengths obey it and all compactions take an even number
+  pub scratch_obeys : (es : List (Event A)) (word : List Bool) (world : World (Bag A)) → ObeysScratch es (world_lengths world) → Along TakesEven es (world_lengths world) → ScratchGoesOn es word world
+  scratch_obeys [] word world obeys even = obeys
+  scratch_obeys (e ∷ es) word world obeys even =
+      let same = sym (lengths-happens cmp e (next_bit word) world even.0) in
+      (obeys.0, scratch_obeys es _ _ (subst (λ w. ObeysScratch es w) same obeys.1) (subst (λ w. Along TakesEven es w) same even.1))
 
   -- a slot's rank in the end, and all gains and losses of levels below top
   abbrev end_rank : List (Event A) → ℕ → List Bool → World (Bag A) → ℕ
@@ -105,22 +94,7 @@ module _ {A : Type 0} (cmp : A → A → Ordering) (test : A → Bool) where
 
   held-moves : (s h : ℕ) (coin : Coin) (taken : Taken) (next : Bool) (world : World (Bag A)) (i : ℕ) →
       held test (happens (act cmp) (At s (Compact h coin taken)) next world) i + only s (taken_down s h taken world) i ≡ held test world i + only s (gone_up s h coin taken next world) i
-  held-moves s h coin taken next world i = go (i == s) refl
-    where
-      bag : Bag A
-      bag = world.slots s
-
-      after : Bag A
-      after = compacted cmp (one test) h taken (bit_of coin h next bag) bag
-
-      beside : ℕ
-      beside = if i == world.target then rank (one test) world.scratch else 0
-
-      go : (b : Bool) → (i == s) ≡ b →
-          rank (one test) (if b then after else world.slots i) + beside + (if b then taken_down s h taken world else 0) ≡
-          rank (one test) (world.slots i) + beside + (if b then gone_up s h coin taken next world else 0)
-      go true k = omega (arith, compacted-moves cmp (one test) h taken (bit_of coin h next bag) bag, ap (λ j. rank (one test) (world.slots j)) (eqb-true i s k))
-      go false k = refl
+  held-moves s h coin taken next world i = grind (arith, eqb-true, compacted-moves cmp (one test) h taken (bit_of coin h next (world.slots s)) (world.slots s))
 
   -- one level's number beside the others' sum
   with_picked : (top h c : ℕ) (rest : ℕ → ℕ) → h < top → sum_below top (λ g. (if h == g then c else 0) + rest g) ≡ c + sum_below top rest
@@ -128,39 +102,20 @@ module _ {A : Type 0} (cmp : A → A → Ordering) (test : A → Bool) where
 
   -- the rank in the end, without all gains and with all losses, is the true rank
   pub accounted : (top : ℕ) (es : List (Event A)) (slot : ℕ) (word : List Bool) (world : World (Bag A)) →
-      KeepsRules es (world_lengths world) → IsBelow top es → IsAccounted top es slot word world (held test world)
-  accounted top [] slot word world rules below = ap (λ m. m + sum_below top (λ g. 0)) (sym (held-ended test world rules.scratch slot))
-  accounted top (Snap s t ∷ es) slot word world rules below =
-      let next = next_bit word in
-      from_ranks top es slot word _ _ (accounted top es slot word _ (go_on (Snap s t) es next world rules) below) (held-snap test cmp s t next world rules.scratch.0)
-  accounted top (At s (Put h x) ∷ es) slot word world rules below =
-      let next = next_bit word in
-      from_ranks top es slot word _ _ (accounted top es slot word _ (go_on (At s (Put h x)) es next world rules) below) (held-put test cmp s h x next world rules.scratch.0)
-  accounted top (At s Pull ∷ es) slot word world rules below =
-      let next = next_bit word in
-      from_ranks top es slot word _ _ (accounted top es slot word _ (go_on (At s Pull) es next world rules) below) (held-pull test cmp s next world rules.scratch.0)
-  accounted top (At s (Join h) ∷ es) slot word world rules below =
-      let next = next_bit word in
-      from_ranks top es slot word _ _ (accounted top es slot word _ (go_on (At s (Join h)) es next world rules) below) (held-join test cmp s h next world rules.scratch.0)
-  accounted top (At s Forget ∷ es) slot word world rules below =
-      let next = next_bit word in
-      from_ranks top es slot word _ _ (accounted top es slot word _ (go_on (At s Forget) es next world rules) below) (held-forget test cmp s next world)
-  accounted top (At s (Redraw h) ∷ es) slot word world rules below =
-      let next = next_bit word in
-      from_ranks top es slot (drop 1 word) _ _ (accounted top es slot (drop 1 word) _ (go_on (At s (Redraw h)) es next world rules) below) (held-redraw test cmp s h next world)
-  accounted top (At s Clear ∷ es) slot word world rules below =
-      let next = next_bit word in
-      from_ranks top es slot word _ _ (accounted top es slot word _ (go_on (At s Clear) es next world rules) below) (held-clear test cmp s next world rules.scratch.0)
+      ScratchGoesOn es word world → IsBelow top es → IsAccounted top es slot word world (held test world)
+  accounted top [] slot word world rules below = ap (λ m. m + sum_below top (λ g. 0)) (sym (held-ended test world rules slot))
   accounted top (At s (Compact h coin taken) ∷ es) slot word world rules below =
       let e : Event A = At s (Compact h coin taken) in
       let bit = next_bit word in
       let later = if event_draws e then drop 1 word else word in
       let next = happens (act cmp) e bit world in
       one_more _ _ _ _ _ _ _ _ _
-      (accounted top es slot later next (go_on e es bit world rules) below.1)
+      (accounted top es slot later next rules.1 below.1)
       (counts-moved test es (held test next) (held test world) slot s (taken_down s h taken world) (gone_up s h coin taken bit world) (held-moves s h coin taken bit world))
       (with_picked top h (counts_in es slot s (taken_down s h taken world)) (λ g. lost cmp (one test) g es slot later next) below.0)
       (with_picked top h (counts_in es slot s (gone_up s h coin taken bit world)) (λ g. gained cmp (one test) g es slot later next) below.0)
     where
       one_more : (t t' l g u d losses gains final : ℕ) → final + losses ≡ t' + gains → t' + d ≡ t + u → l ≡ d + losses → g ≡ u + gains → final + l ≡ t + g
       one_more t t' l g u d losses gains final e h p q = omega (arith, e, h, p, q)
+  accounted top (e ∷ es) slot word world rules below =
+      from_ranks top es slot _ _ _ (accounted top es slot (if event_draws e then drop 1 word else word) _ rules.1 below) (held-event test cmp e (next_bit word) world refl rules.0)

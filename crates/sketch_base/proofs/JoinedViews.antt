@@ -1,5 +1,5 @@
 -- Weighted items in order, of which equal ones are joined: the view that they make.
-use Rattle.std.proofs.Common.{◌≡◌, ℕ, zero, suc, ◌+◌, ◌-◌, ◌*◌, ◌<◌, ◌≤◌, Bool, true, false, cond, List, [], ◌∷◌, ◌++◌, length, map, replicate, reverse, sum_by, refl, sym, ap, ap₂, ◌∙◌, subst, append_assoc, length-append, arith, if◌then◌else◌, IsSorted, IsPermutation, Ordering, Less, Equal, Greater, is_gt, is_lt}
+use Rattle.std.proofs.Common.{◌≡◌, ℕ, zero, suc, ◌+◌, ◌-◌, ◌*◌, ◌<◌, ◌≤◌, Bool, true, false, cond, List, [], ◌∷◌, ◌++◌, length, map, replicate, reverse, sum_by, refl, sym, ap, ap₂, ◌∙◌, append_assoc, length-append, arith, if◌then◌else◌, IsSorted, IsPermutation, Ordering, Less, Equal, is_gt, is_lt}
 use Rattle.std.specs.Prelude.{⊤, Option, None, Some, IsSome}
 use Rattle.std.specs.Cmp.{IsTotalOrder}
 use Rattle.std.specs.List.{All, AllByRecursion}
@@ -16,15 +16,16 @@ use Rattle.sketch_base.specs.Pairs.{begins_equal, copies, distinct, is_below_nex
 use Rattle.sketch_base.specs.Query.{counted}
 use Rattle.sketch_base.specs.Queries.{spread_out, spread_over}
 use Rattle.sketch_base.specs.Views.{IsThere, IsView}
+use Rattle.sketch_base.proofs.AllParts.{all-map}
 use Rattle.sketch_base.proofs.Counts.{Ordered, Ordered-sort, below, counted-equal, items-from_counts}
 use Rattle.sketch_base.proofs.Entries.{Ordered-spread_over}
-use Rattle.sketch_base.proofs.Orders.{less-from_is_lt}
+use Rattle.sketch_base.proofs.Orders.{equal-from_neither, less-from_is_lt}
 use Rattle.sketch_base.proofs.Rises.{Rises, non_decreasing_from_rises}
 use Rattle.sketch_base.proofs.SketchViews.{sum-ones}
 use Rattle.sketch_base.proofs.Sorting.{IsSorted-from_ordered, Ordered-from_sorted}
 use Rattle.sketch_base.proofs.Sums.{sum_by-sort}
 
-pub all-by_recursion : {A : Type 0} (P : A → Type 0) (xs : List A) → All P xs → AllByRecursion P xs
+all-by_recursion : {A : Type 0} (P : A → Type 0) (xs : List A) → All P xs → AllByRecursion P xs
 all-by_recursion P [] h = tt
 all-by_recursion P (x ∷ xs) h = (h 0 x (omega arith), all-by_recursion P xs (λ k d l. h (suc k) d (omega arith)))
 
@@ -66,10 +67,6 @@ module _ {A : Type 0} where
       sum_by-append f (replicate p.1 p.0) (copies ps) ∙
       omega (arith, sum_by-replicate f p.1 p.0, sum-copies f ps, sum_by-cons (λ (pair : A × ℕ). pair.1 * f pair.0) p ps)
 
-  weigh-ones : (pairs : List (A × ℕ)) → weigh_pairs (λ x. 1) pairs ≡ sum_by (λ (pair : A × ℕ). pair.1) pairs
-  weigh-ones [] = refl
-  weigh-ones (p ∷ ps) = omega (arith, sum_by-cons (λ (pair : A × ℕ). pair.1 * 1) p ps, sum_by-cons (λ (pair : A × ℕ). pair.1) p ps, weigh-ones ps)
-
   long-enough : (pairs : List (A × ℕ)) → HaveWeight pairs → length pairs ≤ weigh_pairs (λ x. 1) pairs
   long-enough [] h = omega arith
   long-enough (p ∷ ps) h = let one = h.0 in omega (arith, sum_by-cons (λ (pair : A × ℕ). pair.1 * 1) p ps, long-enough ps h.1, one)
@@ -86,114 +83,89 @@ module _ {A : Type 0} where
 module _ {A : Type 0} (cmp : A → A → Ordering) where
   same-length : (before : ℕ) (pairs : List (A × ℕ)) → length (joined cmp pairs) ≡ length (joined_weights cmp before pairs)
   same-length before [] = refl
-  same-length before (p ∷ ps) = go (is_below_next cmp p.0 ps) (same-length (before + p.1) ps)
-    where
-      go : (b : Bool) → length (joined cmp ps) ≡ length (joined_weights cmp (before + p.1) ps) →
-          length (if b then p.0 ∷ joined cmp ps else joined cmp ps) ≡ length (if b then (before + p.1) ∷ joined_weights cmp (before + p.1) ps else joined_weights cmp (before + p.1) ps)
-      go true e = ap suc e
-      go false e = e
+  same-length before (p ∷ ps) = grind (arith, same-length (before + p.1) ps)
 
   few-joined : (pairs : List (A × ℕ)) → length (joined cmp pairs) ≤ length pairs
   few-joined [] = omega arith
-  few-joined (p ∷ ps) = go (is_below_next cmp p.0 ps) (few-joined ps)
-    where
-      go : (b : Bool) → length (joined cmp ps) ≤ length ps → length (if b then p.0 ∷ joined cmp ps else joined cmp ps) ≤ length (p ∷ ps)
-      go true e = omega (arith, e)
-      go false e = omega (arith, e)
+  few-joined (p ∷ ps) = grind (arith, few-joined ps)
 
   climbs-joined : (low before : ℕ) (pairs : List (A × ℕ)) → low ≤ before → HaveWeight pairs → Climbs low (joined_weights cmp before pairs)
   climbs-joined low before [] le h = tt
   climbs-joined low before (p ∷ ps) le h =
       let some = h.0 in
-      let on : Climbs (before + p.1) (joined_weights cmp (before + p.1) ps) = climbs-joined (before + p.1) (before + p.1) ps (omega arith) h.1 in
-      let past : Climbs low (joined_weights cmp (before + p.1) ps) = climbs-joined low (before + p.1) ps (omega (arith, le)) h.1 in
-      go (is_below_next cmp p.0 ps) (omega (arith, le, some)) on past
-    where
-      go : (b : Bool) → low < before + p.1 → Climbs (before + p.1) (joined_weights cmp (before + p.1) ps) → Climbs low (joined_weights cmp (before + p.1) ps) →
-          Climbs low (if b then (before + p.1) ∷ joined_weights cmp (before + p.1) ps else joined_weights cmp (before + p.1) ps)
-      go true l on past = (l, on)
-      go false l on past = past
+      elim (is_below_next cmp p.0 ps) as (λ (b : Bool). Climbs low (if b then (before + p.1) ∷ joined_weights cmp (before + p.1) ps else joined_weights cmp (before + p.1) ps)) [
+        | true ↦ (omega (arith, le, some), climbs-joined (before + p.1) (before + p.1) ps (omega arith) h.1)
+        | false ↦ climbs-joined low (before + p.1) ps (omega (arith, le)) h.1
+      ]
 
   all-joined : (P : A → Type 0) (pairs : List (A × ℕ)) → AllByRecursion P (items_in pairs) → AllByRecursion P (joined cmp pairs)
   all-joined P [] h = tt
-  all-joined P (p ∷ ps) h = go (is_below_next cmp p.0 ps) (all-joined P ps h.1)
-    where
-      go : (b : Bool) → AllByRecursion P (joined cmp ps) → AllByRecursion P (if b then p.0 ∷ joined cmp ps else joined cmp ps)
-      go true ih = (h.0, ih)
-      go false ih = ih
+  all-joined P (p ∷ ps) h =
+      elim (is_below_next cmp p.0 ps) as (λ (b : Bool). AllByRecursion P (if b then p.0 ∷ joined cmp ps else joined cmp ps)) [ true ↦ (h.0, all-joined P ps h.1) | false ↦ all-joined P ps h.1 ]
 
   -- each item is below all after it
   abbrev AllBelow : List A → Type 0
   AllBelow [] = ⊤
   AllBelow (x ∷ xs) = AllByRecursion (λ y. cmp x y ≡ Less) xs × AllBelow xs
 
-  not-equal : (o : Ordering) → o ≡ Less → is_eq o ≡ false
-  not-equal o e = ap is_eq e
-
   begins-above : (x : A) (before : ℕ) (xs : List A) (cs : List ℕ) → AllByRecursion (λ y. cmp x y ≡ Less) xs → Climbs before cs → begins_equal cmp x (spread_over before xs cs) ≡ false
-  begins-above x before [] cs h up = refl
-  begins-above x before (y ∷ ys) [] h up = refl
   begins-above x before (y ∷ ys) (c ∷ cs) h up = go (c - before) (let l = up.0 in omega (arith, l))
     where
       go : (n : ℕ) → 0 < n → begins_equal cmp x (replicate n y ++ spread_over c ys cs) ≡ false
       go zero l = absurd (omega arith)
-      go (suc n) l = not-equal (cmp x y) h.0
+      go (suc n) l = ap is_eq h.0
+  begins-above x before _ _ h up = refl
 
 module _ {A : Type 0} {cmp : A → A → Ordering} (order : IsTotalOrder cmp) where
   ordered-joined : (pairs : List (A × ℕ)) → Ordered order (items_in pairs) → Ordered order (joined cmp pairs)
   ordered-joined [] up = tt
-  ordered-joined (p ∷ ps) up = go (is_below_next cmp p.0 ps) (ordered-joined ps up.1)
-    where
-      go : (b : Bool) → Ordered order (joined cmp ps) → Ordered order (if b then p.0 ∷ joined cmp ps else joined cmp ps)
-      go true ih = (all-joined cmp (λ y. is_gt (cmp p.0 y) ≡ false) ps up.0, ih)
-      go false ih = ih
-
-  tied : (o : Ordering) → is_lt o ≡ false → is_gt o ≡ false → o ≡ Equal
-  tied Less l g = absurd (false≢true (sym l))
-  tied Equal l g = refl
-  tied Greater l g = absurd (false≢true (sym g))
+  ordered-joined (p ∷ ps) up =
+      elim (is_below_next cmp p.0 ps) as (λ (b : Bool). Ordered order (if b then p.0 ∷ joined cmp ps else joined cmp ps)) [
+        | true ↦ (all-joined cmp (λ y. is_gt (cmp p.0 y) ≡ false) ps up.0, ordered-joined ps up.1)
+        | false ↦ ordered-joined ps up.1
+      ]
 
   -- a weight that is carried on counts the same, since the next item compares equal
   carried-on : (f : A → ℕ) → ((x y : A) → cmp x y ≡ Equal → f x ≡ f y) → (n : ℕ) (x : A) (pairs : List (A × ℕ)) → is_below_next cmp x pairs ≡ false → AllByRecursion (λ y. is_gt (cmp x y) ≡ false) (items_in pairs) → carried n f pairs ≡ n * f x
   carried-on f respects n x [] e up = absurd (false≢true (sym e))
-  carried-on f respects n x (p ∷ ps) e up = ap (λ m. n * m) (sym (respects x p.0 (tied (cmp x p.0) e up.0)))
+  carried-on f respects n x (p ∷ ps) e up = ap (λ m. n * m) (sym (respects x p.0 (equal-from_neither (cmp x p.0) e up.0)))
 
   -- what the joined items stand for counts as the weighted items do
   sum-joined : (f : A → ℕ) → ((x y : A) → cmp x y ≡ Equal → f x ≡ f y) → (low before : ℕ) (pairs : List (A × ℕ)) → low ≤ before → Ordered order (items_in pairs) →
       sum_by f (spread_over low (joined cmp pairs) (joined_weights cmp before pairs)) ≡ carried (before - low) f pairs + weigh_pairs f pairs
   sum-joined f respects low before [] le up = refl
   sum-joined f respects low before (p ∷ ps) le up =
-      go (is_below_next cmp p.0 ps) refl (sum-joined f respects (before + p.1) (before + p.1) ps (omega arith) up.1) (sum-joined f respects low (before + p.1) ps (omega (arith, le)) up.1)
+      grind (
+        arith,
+        times,
+        carry,
+        sum-joined f respects (before + p.1) (before + p.1) ps (omega arith) up.1,
+        sum-joined f respects low (before + p.1) ps (omega (arith, le)) up.1,
+        sum_by-append f (replicate (before + p.1 - low) p.0) (spread_over (before + p.1) (joined cmp ps) (joined_weights cmp (before + p.1) ps)),
+        sum_by-replicate f (before + p.1 - low) p.0,
+        carried-none (before + p.1 - (before + p.1)) f ps (omega arith),
+        sum_by-cons (λ (pair : A × ℕ). pair.1 * f pair.0) p ps,
+      )
     where
       times : (before + p.1 - low) * f p.0 ≡ (before - low) * f p.0 + p.1 * f p.0
       times = let more : before + p.1 - low ≡ (before - low) + p.1 = omega (arith, le) in ap (λ n. n * f p.0) more ∙ omega arith
 
-      go : (b : Bool) → is_below_next cmp p.0 ps ≡ b →
-          sum_by f (spread_over (before + p.1) (joined cmp ps) (joined_weights cmp (before + p.1) ps)) ≡ carried (before + p.1 - (before + p.1)) f ps + weigh_pairs f ps →
-          sum_by f (spread_over low (joined cmp ps) (joined_weights cmp (before + p.1) ps)) ≡ carried (before + p.1 - low) f ps + weigh_pairs f ps →
-          sum_by f (spread_over low (if b then p.0 ∷ joined cmp ps else joined cmp ps) (if b then (before + p.1) ∷ joined_weights cmp (before + p.1) ps else joined_weights cmp (before + p.1) ps)) ≡ (before - low) * f p.0 + weigh_pairs f (p ∷ ps)
-      go true e on past =
-          sum_by-append f (replicate (before + p.1 - low) p.0) (spread_over (before + p.1) (joined cmp ps) (joined_weights cmp (before + p.1) ps)) ∙
-          omega (arith, sum_by-replicate f (before + p.1 - low) p.0, times, on, carried-none (before + p.1 - (before + p.1)) f ps (omega arith), sum_by-cons (λ (pair : A × ℕ). pair.1 * f pair.0) p ps)
-      go false e on past =
-          omega (arith, past, carried-on f respects (before + p.1 - low) p.0 ps e up.0, times, sum_by-cons (λ (pair : A × ℕ). pair.1 * f pair.0) p ps)
+      carry : is_below_next cmp p.0 ps ≡ false → carried (before + p.1 - low) f ps ≡ (before + p.1 - low) * f p.0
+      carry e = carried-on f respects (before + p.1 - low) p.0 ps e up.0
 
   -- what follows an item that is below the next one is above it
   below-all : (x : A) (pairs : List (A × ℕ)) → is_below_next cmp x pairs ≡ true → Ordered order (items_in pairs) → AllByRecursion (λ y. cmp x y ≡ Less) (items_in pairs)
   below-all x [] e up = tt
-  below-all x (p ∷ ps) e up = (less-from_is_lt (cmp x p.0) e, on (items_in ps) up.0)
-    where
-      on : (ys : List A) → AllByRecursion (λ y. is_gt (cmp p.0 y) ≡ false) ys → AllByRecursion (λ y. cmp x y ≡ Less) ys
-      on [] h = tt
-      on (y ∷ ys) h = (below order x p.0 y (less-from_is_lt (cmp x p.0) e) h.0, on ys h.1)
+  below-all x (p ∷ ps) e up =
+      let first = less-from_is_lt (cmp x p.0) e in (first, all-map (λ y. is_gt (cmp p.0 y) ≡ false) (λ y. cmp x y ≡ Less) (λ y. below order x p.0 y first) (items_in ps) up.0)
 
   below-joined : (pairs : List (A × ℕ)) → Ordered order (items_in pairs) → AllBelow cmp (joined cmp pairs)
   below-joined [] up = tt
-  below-joined (p ∷ ps) up = go (is_below_next cmp p.0 ps) refl (below-joined ps up.1)
-    where
-      go : (b : Bool) → is_below_next cmp p.0 ps ≡ b → AllBelow cmp (joined cmp ps) → AllBelow cmp (if b then p.0 ∷ joined cmp ps else joined cmp ps)
-      go true e ih = (all-joined cmp (λ y. cmp p.0 y ≡ Less) ps (below-all p.0 ps e up.1), ih)
-      go false e ih = ih
+  below-joined (p ∷ ps) up =
+      (elim (is_below_next cmp p.0 ps) as (λ (b : Bool). is_below_next cmp p.0 ps ≡ b → AllBelow cmp (if b then p.0 ∷ joined cmp ps else joined cmp ps)) [
+        | true ↦ λ e. (all-joined cmp (λ y. cmp p.0 y ≡ Less) ps (below-all p.0 ps e up.1), below-joined ps up.1)
+        | false ↦ λ e. below-joined ps up.1
+      ]) refl
 
   distinct-copies : (n : ℕ) (x : A) (rest : List A) → 0 < n → begins_equal cmp x rest ≡ false → distinct cmp (replicate n x ++ rest) ≡ 1 + distinct cmp rest
   distinct-copies zero x rest l e = absurd (omega arith)
@@ -209,19 +181,13 @@ module _ {A : Type 0} {cmp : A → A → Ordering} (order : IsTotalOrder cmp) wh
       let l = up.0 in
       distinct-copies (c - before) x (spread_over c xs cs) (omega (arith, l)) (begins-above cmp x c xs cs h.0 up.1) ∙ (ap (λ m. 1 + m) (distinct-spread c xs cs (omega (arith, e)) up.1 h.1) ∙ omega arith)
 
-  -- weighted items, and the same in order
-  pub record AreInOrder (weighted pairs : List (A × ℕ)) : Type 0 where
-    pub same : IsPermutation weighted pairs
-    pub up : IsSorted cmp (items_in pairs)
-    pub weigh : HaveWeight pairs
-
-  -- weighted items that were put in order
-  pub in-order : (weighted pairs : List (A × ℕ)) → IsPermutation weighted pairs → IsSorted cmp (items_in pairs) → All (λ (pair : A × ℕ). 0 < pair.1) weighted → AreInOrder weighted pairs
-  in-order weighted pairs same up weigh = record { same = same; up = up; weigh = all-by_recursion (λ (pair : A × ℕ). 0 < pair.1) pairs (All-permutation (λ (pair : A × ℕ). 0 < pair.1) weighted pairs same weigh) }
-
-  module _ (weighted pairs : List (A × ℕ)) (are : AreInOrder weighted pairs) where
+  -- weighted items, and the same put in order
+  module _ (weighted pairs : List (A × ℕ)) (same : IsPermutation weighted pairs) (sorted : IsSorted cmp (items_in pairs)) (weights : All (λ (pair : A × ℕ). 0 < pair.1) weighted) where
     up : Ordered order (items_in pairs)
-    up = Ordered-from_sorted cmp order (items_in pairs) are.up
+    up = Ordered-from_sorted cmp order (items_in pairs) sorted
+
+    weigh : HaveWeight pairs
+    weigh = all-by_recursion (λ (pair : A × ℕ). 0 < pair.1) pairs (All-permutation (λ (pair : A × ℕ). 0 < pair.1) weighted pairs same weights)
 
     sum-spread : (f : A → ℕ) → ((x y : A) → cmp x y ≡ Equal → f x ≡ f y) → sum_by f (spread_out (joined cmp pairs) (joined_weights cmp 0 pairs)) ≡ weigh_pairs f pairs
     sum-spread f respects = omega (arith, sum-joined f respects 0 0 pairs (omega arith) up, carried-none (0 - 0) f pairs (omega arith))
@@ -236,12 +202,12 @@ module _ {A : Type 0} {cmp : A → A → Ordering} (order : IsTotalOrder cmp) wh
         (Ordered-spread_over order 0 (joined cmp pairs) (joined_weights cmp 0 pairs) (ordered-joined pairs up))
         (λ z c.
         let one : A → ℕ = λ x. cond (counted cmp z c x) 1 0 in
-        sum_by-sort one cmp (copies weighted) ∙ (sum-copies one weighted ∙ (sym (sum_by-IsPermutation (λ (pair : A × ℕ). pair.1 * one pair.0) weighted pairs are.same) ∙
+        sum_by-sort one cmp (copies weighted) ∙ (sum-copies one weighted ∙ (sym (sum_by-IsPermutation (λ (pair : A × ℕ). pair.1 * one pair.0) weighted pairs same) ∙
         sym (sum-spread one (λ x y e. ap (λ (b : Bool). cond b 1 0) (counted-equal order x y e z c))))))
 
     -- as many items as there are distinct ones
     pub joined-distinct : length (joined cmp pairs) ≡ distinct cmp (spread_out (joined cmp pairs) (joined_weights cmp 0 pairs))
-    joined-distinct = sym (distinct-spread 0 (joined cmp pairs) (joined_weights cmp 0 pairs) (same-length cmp 0 pairs) (climbs-joined cmp 0 0 pairs (omega arith) are.weigh) (below-joined pairs up))
+    joined-distinct = sym (distinct-spread 0 (joined cmp pairs) (joined_weights cmp 0 pairs) (same-length cmp 0 pairs) (climbs-joined cmp 0 0 pairs (omega arith) weigh) (below-joined pairs up))
 
     there : (extreme : Option A) → IsSome extreme → (n : ℕ) → 0 < n → IsThere extreme n
     there None h n l = absurd (false≢true h)
@@ -250,20 +216,17 @@ module _ {A : Type 0} {cmp : A → A → Ordering} (order : IsTotalOrder cmp) wh
     -- and they make a view
     pub joined-view : (least greatest : Option A) → 0 < length weighted → IsSome least → IsSome greatest → IsView cmp (joined cmp pairs) (joined_weights cmp 0 pairs) least greatest
     joined-view least greatest some l g =
-        let enough = long-enough pairs are.weigh in
+        let enough = long-enough pairs weigh in
         let few = few-joined cmp pairs in
-        let as_long = length-permuted in
+        let as_long = length_permutation weighted pairs same in
         let whole : 0 < length (spread_out (joined cmp pairs) (joined_weights cmp 0 pairs)) = omega (arith, long, enough, as_long, some) in
         record {
-          cumulates = record { one_each = same-length cmp 0 pairs; none_falls = non_decreasing_from_rises 0 (joined_weights cmp 0 pairs) (rises-from_climbs 0 (joined_weights cmp 0 pairs) (climbs-joined cmp 0 0 pairs (omega arith) are.weigh)) };
+          cumulates = record { one_each = same-length cmp 0 pairs; none_falls = non_decreasing_from_rises 0 (joined_weights cmp 0 pairs) (rises-from_climbs 0 (joined_weights cmp 0 pairs) (climbs-joined cmp 0 0 pairs (omega arith) weigh)) };
           sorted = IsSorted-from_ordered cmp order (joined cmp pairs) (ordered-joined pairs up);
           each_counts = omega (arith, long, enough, few);
           least_there = there least l (length (spread_out (joined cmp pairs) (joined_weights cmp 0 pairs))) whole;
           greatest_there = there greatest g (length (spread_out (joined cmp pairs) (joined_weights cmp 0 pairs))) whole;
         }
-      where
-        length-permuted : length pairs ≡ length weighted
-        length-permuted = length_permutation weighted pairs are.same
 
 -- one more item: the last of those that stand in reverse
 pub record IsNext {A : Type 0} (cmp : A → A → Ordering) (xs xs' : List A) (ws ws' : List ℕ) (before after : ℕ) (old new : List (A × ℕ)) : Type 0 where
@@ -275,32 +238,14 @@ pub record IsNext {A : Type 0} (cmp : A → A → Ordering) (xs xs' : List A) (w
 pub is-next : {A : Type 0} (cmp : A → A → Ordering) (xs xs' : List A) (ws ws' : List ℕ) (before after : ℕ) (old new : List (A × ℕ)) (x : A) (w : ℕ) (b : Bool) →
     old ≡ new ++ (x, w) ∷ [] → after ≡ before + w → b ≡ is_below_next cmp x (reverse new) → xs' ≡ (if b then xs ++ x ∷ [] else xs) → ws' ≡ (if b then ws ++ after ∷ [] else ws) → IsNext cmp xs xs' ws ws' before after old new
 is-next {A} cmp xs xs' ws ws' before after old new x w b is_old is_after is_b is_xs is_ws =
-    subst (λ (l : List (A × ℕ)). IsNext cmp xs xs' ws ws' before after l new) (sym is_old)
-    (subst (λ n. IsNext cmp xs xs' ws ws' before n (new ++ (x, w) ∷ []) new) (sym is_after) (go b is_b is_xs (is_ws ∙ ap (λ n. if b then ws ++ n ∷ [] else ws) is_after)))
-  where
-    turned : reverse (new ++ (x, w) ∷ []) ≡ (x, w) ∷ reverse new
-    turned = reverse-append new ((x, w) ∷ [])
-
-    summed : before + w + sum_by (λ (pair : A × ℕ). pair.1) (reverse new) ≡ before + sum_by (λ (pair : A × ℕ). pair.1) (reverse (new ++ (x, w) ∷ []))
-    summed = omega (arith, ap (sum_by (λ (pair : A × ℕ). pair.1)) turned, sum_by-cons (λ (pair : A × ℕ). pair.1) (x, w) (reverse new))
-
-    go : (b : Bool) → b ≡ is_below_next cmp x (reverse new) → xs' ≡ (if b then xs ++ x ∷ [] else xs) → ws' ≡ (if b then ws ++ (before + w) ∷ [] else ws) → IsNext cmp xs xs' ws ws' before (before + w) (new ++ (x, w) ∷ []) new
-    go true e ex ew = record {
-      items = ap (λ (l : List A). l ++ joined cmp (reverse new)) ex ∙ (append_assoc xs (x ∷ []) (joined cmp (reverse new)) ∙
-          (ap (λ (t : Bool). xs ++ (if t then x ∷ joined cmp (reverse new) else joined cmp (reverse new))) e ∙ ap (λ (l : List (A × ℕ)). xs ++ joined cmp l) (sym turned)));
-      weights = ap (λ (l : List ℕ). l ++ joined_weights cmp (before + w) (reverse new)) ew ∙ (append_assoc ws ((before + w) ∷ []) (joined_weights cmp (before + w) (reverse new)) ∙
-          (ap (λ (t : Bool). ws ++ (if t then (before + w) ∷ joined_weights cmp (before + w) (reverse new) else joined_weights cmp (before + w) (reverse new))) e ∙ ap (λ (l : List (A × ℕ)). ws ++ joined_weights cmp before l) (sym turned)));
-      total = summed;
-    }
-    go false e ex ew = record {
-      items = ap (λ (l : List A). l ++ joined cmp (reverse new)) ex ∙
-          (ap (λ (t : Bool). xs ++ (if t then x ∷ joined cmp (reverse new) else joined cmp (reverse new))) e ∙ ap (λ (l : List (A × ℕ)). xs ++ joined cmp l) (sym turned));
-      weights = ap (λ (l : List ℕ). l ++ joined_weights cmp (before + w) (reverse new)) ew ∙
-          (ap (λ (t : Bool). ws ++ (if t then (before + w) ∷ joined_weights cmp (before + w) (reverse new) else joined_weights cmp (before + w) (reverse new))) e ∙ ap (λ (l : List (A × ℕ)). ws ++ joined_weights cmp before l) (sym turned));
-      total = summed;
+    let turned = reverse-append new ((x, w) ∷ []) in
+    let summed : List (A × ℕ) → ℕ = sum_by (λ (pair : A × ℕ). pair.1) in
+    record {
+      items = grind (arith, turned, append_assoc xs (x ∷ []) (joined cmp (reverse new)));
+      weights = grind (arith, turned, append_assoc ws (after ∷ []) (joined_weights cmp after (reverse new)));
+      total = omega (arith, is_after, ap (λ (l : List (A × ℕ)). summed (reverse l)) is_old, ap summed turned, sum_by-cons (λ (pair : A × ℕ). pair.1) (x, w) (reverse new));
     }
 
 -- it pushes one item at most
 pub length-pushed : {A : Type 0} (b : Bool) (x : A) (xs ys : List A) → ys ≡ (if b then xs ++ x ∷ [] else xs) → length ys ≤ length xs + 1
-length-pushed true x xs ys e = omega (arith, ap length e, length-append xs (x ∷ []))
-length-pushed false x xs ys e = omega (arith, ap length e)
+length-pushed b x xs ys e = grind (arith, length-append xs (x ∷ []))

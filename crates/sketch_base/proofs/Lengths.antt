@@ -1,5 +1,6 @@
 -- Level lengths after events and after actions, part by part, and what events leave in the scratch.
 use Rattle.std.proofs.Common.{◌≡◌, ℕ, Bool, true, ◌||◌, eqb, List, [], ◌∷◌, ◌++◌, sum, fold, refl, ap}
+use Rattle.std.proofs.lemmas.List.Sums.{fold-append}
 use Rattle.sketch_base.specs.Trace.{Action, Event, Work, World}
 use Rattle.sketch_base.specs.Lengths.{act_on_lengths, acts_on_lengths, lengths_after, ObeysScratch}
 
@@ -14,8 +15,7 @@ obeys n b e = ap (λ m. eqb m 0 || b) e
 module _ {A : Type 0} where
   -- of two traces, and of two lists of actions, one after the other
   pub lengths_by-append : (xs ys : List (Event A)) (world : World (List ℕ)) → lengths_by world (xs ++ ys) ≡ lengths_by (lengths_by world xs) ys
-  lengths_by-append [] ys world = refl
-  lengths_by-append (e ∷ xs) ys world = lengths_by-append xs ys (lengths_after e world)
+  lengths_by-append xs ys world = fold-append (λ w e. lengths_after e w) world xs ys
 
   pub acts_on-append : (xs ys : List (Action A)) (work : Work (List ℕ)) → acts_on_lengths (xs ++ ys) work ≡ acts_on_lengths ys (acts_on_lengths xs work)
   acts_on-append [] ys work = refl

@@ -1,31 +1,15 @@
 -- Two worlds whose slots agree up to a level, with kept bits there that are each other's complement where a coin was drawn: the events that keep them so.
-use Rattle.std.proofs.Common.{◌≡◌, ◌≢◌, ℕ, ◌≤◌, ◌<◌, Bool, true, false, not, ◌==◌, List, [], ◌∷◌, ◌++◌, take, drop, refl, sym, ap, ap₂, ◌∙◌, arith, if◌then◌else◌, ⊎_elim, subst, eqb-true, Ordering}
-use Rattle.std.proofs.lemmas.Bool.{cases_eq, ne_eqb, false≢true}
+use Rattle.std.proofs.Common.{◌≡◌, ◌≢◌, ℕ, ◌≤◌, ◌<◌, Bool, true, false, not, ◌==◌, List, [], ◌∷◌, ◌++◌, take, drop, refl, sym, ap, ap₂, ◌∙◌, arith, if◌then◌else◌, subst, Ordering}
+use Rattle.std.proofs.lemmas.Bool.{ne_eqb, false≢true}
 use Rattle.sketch_base.specs.Bag.{Bag, Taken, empty_bag, level_at, with_level}
 use Rattle.sketch_base.specs.Trace.{Put, Pull, Join, Forget, Redraw, Clear, Action, Snap, At, World, changed, is_req, happens, act}
-use Rattle.sketch_base.proofs.SlotAlone.{compacted}
-use Rattle.sketch_base.proofs.ComplementedBits.{Mirrored, level_at-same, level_at-other, mirror-kept, mirror-compact}
+use Rattle.sketch_base.proofs.Changes.{changed-own}
+use Rattle.sketch_base.proofs.Compactions.{compacted}
+use Rattle.sketch_base.proofs.ComplementedBits.{Agree, agree-changed, Mirrored, mirror-kept, mirror-compact}
 
 -- a coin drawn for one level leaves which others have drawn one
 pub still_drawn : (row : ℕ → Bool) (g h : ℕ) → h ≢ g → changed row h true g ≡ true → row g ≡ true
 still_drawn row g h ne d = sym (ap (λ (b : Bool). if b then true else row g) (ne_eqb g h (λ e. ne (sym e)))) ∙ d
-
-module _ {A : Type 0} where
-  -- the levels up to g are the same
-  abbrev pub Agree : ℕ → List (List A) → List (List A) → Type 0
-  Agree g levels levels' = (i : ℕ) → i ≤ g → level_at levels i ≡ level_at levels' i
-
-  agree-changed : (g h : ℕ) (change change' : List A → List A) (levels levels' : List (List A)) → Agree g levels levels' →
-      (h ≤ g → change (level_at levels h) ≡ change' (level_at levels' h)) → Agree g (with_level [] h change levels) (with_level [] h change' levels')
-  agree-changed g h change change' levels levels' agree here i le = ⊎_elim there other (cases_eq i h)
-    where
-      there : i ≡ h → level_at (with_level [] h change levels) i ≡ level_at (with_level [] h change' levels') i
-      there e =
-          subst (λ j. level_at (with_level [] h change levels) j ≡ level_at (with_level [] h change' levels') j) (sym e)
-          (level_at-same h change levels ∙ (here (omega (arith, e, le)) ∙ sym (level_at-same h change' levels')))
-
-      other : i ≢ h → level_at (with_level [] h change levels) i ≡ level_at (with_level [] h change' levels') i
-      other ne = level_at-other h i change levels ne ∙ (agree i le ∙ sym (level_at-other h i change' levels' ne))
 
 module _ {A : Type 0} (cmp : A → A → Ordering) (f : A → ℕ) where
   -- each slot mirrored, by whether its level g has drawn a coin; of the scratch the items alone matter
@@ -44,23 +28,17 @@ module _ {A : Type 0} (cmp : A → A → Ordering) (f : A → ℕ) where
     turned = m.turned;
   }
 
-  -- a slot's bags replaced by mirrored ones, where its drawn levels stay
-  one-changed : (g s : ℕ) (drawn : ℕ → ℕ → Bool) (slots slots' : ℕ → Bag A) (bag bag' : Bag A) → ((i : ℕ) → Mirrored cmp f g (drawn i g) (slots i) (slots' i)) →
-      Mirrored cmp f g (drawn s g) bag bag' → (i : ℕ) → Mirrored cmp f g (drawn i g) (changed slots s bag i) (changed slots' s bag' i)
-  one-changed g s drawn slots slots' bag bag' all here i = go (i == s) refl
-    where
-      go : (b : Bool) → (i == s) ≡ b → Mirrored cmp f g (drawn i g) (if b then bag else slots i) (if b then bag' else slots' i)
-      go true e = subst (λ j. Mirrored cmp f g (drawn j g) bag bag') (sym (eqb-true i s e)) here
-      go false e = all i
-
-  -- and where they change
+  -- a slot's bags replaced by mirrored ones, where its drawn levels change
   one-drawn : (g s : ℕ) (drawn : ℕ → ℕ → Bool) (row : ℕ → Bool) (slots slots' : ℕ → Bag A) (bag bag' : Bag A) → ((i : ℕ) → Mirrored cmp f g (drawn i g) (slots i) (slots' i)) →
       Mirrored cmp f g (row g) bag bag' → (i : ℕ) → Mirrored cmp f g (changed drawn s row i g) (changed slots s bag i) (changed slots' s bag' i)
-  one-drawn g s drawn row slots slots' bag bag' all here i = go (i == s)
-    where
-      go : (b : Bool) → Mirrored cmp f g ((if b then row else drawn i) g) (if b then bag else slots i) (if b then bag' else slots' i)
-      go true = here
-      go false = all i
+  one-drawn g s drawn row slots slots' bag bag' all here i =
+      elim (i == s) as (λ (b : Bool). Mirrored cmp f g ((if b then row else drawn i) g) (if b then bag else slots i) (if b then bag' else slots' i)) [ true ↦ here | false ↦ all i ]
+
+  -- and where they stay
+  one-changed : (g s : ℕ) (drawn : ℕ → ℕ → Bool) (slots slots' : ℕ → Bag A) (bag bag' : Bag A) → ((i : ℕ) → Mirrored cmp f g (drawn i g) (slots i) (slots' i)) →
+      Mirrored cmp f g (drawn s g) bag bag' → (i : ℕ) → Mirrored cmp f g (drawn i g) (changed slots s bag i) (changed slots' s bag' i)
+  one-changed g s drawn slots slots' bag bag' all here i =
+      subst (λ (row : ℕ → Bool). Mirrored cmp f g (row g) (changed slots s bag i) (changed slots' s bag' i)) (changed-own drawn s i) (one-drawn g s drawn (drawn s) slots slots' bag bag' all here i)
 
   -- what an action that draws nothing makes of a slot's bag
   abbrev acted : ℕ → Action A → World (Bag A) → Bag A

@@ -6,47 +6,38 @@ use Rattle.std.proofs.lemmas.Bool.{false≢true}
 -- what one comparison says
 pub less-from_is_lt : (o : Ordering) → is_lt o ≡ true → o ≡ Less
 less-from_is_lt Less h = refl
-less-from_is_lt Equal h = absurd (false≢true h)
-less-from_is_lt Greater h = absurd (false≢true h)
+less-from_is_lt _ h = absurd (false≢true h)
+
+pub equal-from_neither : (o : Ordering) → is_lt o ≡ false → is_gt o ≡ false → o ≡ Equal
+equal-from_neither Equal l g = refl
+equal-from_neither _ l g = cc
 
 pub le_not_gt : (o : Ordering) → is_le o ≡ true → is_gt o ≡ false
-le_not_gt Less e = refl
-le_not_gt Equal e = refl
 le_not_gt Greater e = absurd (false≢true e)
+le_not_gt _ e = refl
 
 pub not_gt_le : (o : Ordering) → is_gt o ≡ false → is_le o ≡ true
-not_gt_le Less e = refl
-not_gt_le Equal e = refl
 not_gt_le Greater e = absurd (false≢true (sym e))
+not_gt_le _ e = refl
 
 pub lt_not_gt : (o : Ordering) → is_lt o ≡ true → is_gt o ≡ false
 lt_not_gt Less e = refl
-lt_not_gt Equal e = absurd (false≢true e)
-lt_not_gt Greater e = absurd (false≢true e)
+lt_not_gt _ e = absurd (false≢true e)
 
 pub gt_not_lt : (o : Ordering) → is_gt o ≡ true → is_lt o ≡ false
 gt_not_lt Less e = sym e
-gt_not_lt Equal e = refl
-gt_not_lt Greater e = refl
+gt_not_lt _ e = refl
 
 -- the other way round
 pub not_lt_gt : (o p : Ordering) → o ≡ ordering_reverse p → is_lt o ≡ false → is_gt p ≡ false
-not_lt_gt o Less e h = refl
-not_lt_gt o Equal e h = refl
 not_lt_gt o Greater e h = absurd (false≢true (sym h ∙ ap is_lt e))
+not_lt_gt o _ e h = refl
 
 -- and of the other way round
 pub not_gt_lt : (o p : Ordering) → o ≡ ordering_reverse p → is_gt p ≡ false → is_lt o ≡ false
-not_gt_lt o Less e h = ap is_lt e
-not_gt_lt o Equal e h = ap is_lt e
 not_gt_lt o Greater e h = absurd (false≢true (sym h))
+not_gt_lt o _ e h = ap is_lt e
 
 pub gt_not_gt : (o p : Ordering) → o ≡ ordering_reverse p → is_gt o ≡ true → is_gt p ≡ false
-gt_not_gt o Less e h = refl
-gt_not_gt o Equal e h = refl
 gt_not_gt o Greater e h = absurd (false≢true (sym (ap is_gt e) ∙ h))
-
-pub lt_not_lt : (o p : Ordering) → o ≡ ordering_reverse p → is_lt p ≡ true → is_lt o ≡ false
-lt_not_lt o Less e h = ap is_lt e
-lt_not_lt o Equal e h = absurd (false≢true h)
-lt_not_lt o Greater e h = absurd (false≢true h)
+gt_not_gt o _ e h = refl

@@ -1,7 +1,7 @@
 -- A front of a list that a test passes: what one item tells of its length, and its end in a part of the list.
-use Rattle.std.proofs.Common.{◌≡◌, ℕ, zero, suc, ◌+◌, ◌-◌, ◌*◌, ◌^◌, ◌<◌, ◌≤◌, Bool, true, false, List, [], ◌∷◌, length, take, drop, get_or, count_by, refl, sym, ap, ◌∙◌, subst, arith, if◌then◌else◌, ◌⊎◌, inl, inr, length-drop}
+use Rattle.std.proofs.Common.{◌≡◌, ℕ, zero, suc, ◌+◌, ◌-◌, ◌*◌, ◌^◌, ◌<◌, ◌≤◌, Bool, true, false, List, [], ◌∷◌, length, take, drop, get_or, count_by, refl, sym, ◌∙◌, subst, arith, if◌then◌else◌, length-drop}
 use Rattle.std.specs.List.Sorted.{IsPartitionedBy}
-use Rattle.std.proofs.lemmas.Bool.{false≢true, cases_lt}
+use Rattle.std.proofs.lemmas.Bool.{false≢true}
 use Rattle.std.proofs.lemmas.List.{get_or-take, get_or-drop, length-take-le}
 use Rattle.sketch_base.specs.Queries.{IsSplitAt}
 use Rattle.sketch_base.proofs.Counts.{counted-parts}
@@ -36,18 +36,10 @@ module _ {A : Type 0} (test : A → Bool) where
 
   -- an item that passes lies in the front, and one that fails behind it
   pub counts-passed : (xs : List A) (i : ℕ) (d : A) → IsPartitionedBy test xs → i < length xs → test (get_or xs i d) ≡ true → i + 1 ≤ count_by test xs
-  counts-passed xs i d up l h = go (cases_lt i (count_by test xs))
-    where
-      go : (i < count_by test xs) ⊎ (count_by test xs ≤ i) → i + 1 ≤ count_by test xs
-      go (inl m) = omega arith
-      go (inr m) = absurd (false≢true (sym ((parts-count xs up).1 i d m l) ∙ h))
+  counts-passed xs i d up l h = grind (arith, (parts-count xs up).1 i d)
 
   pub counts-failed : (xs : List A) (i : ℕ) (d : A) → IsPartitionedBy test xs → i < length xs → test (get_or xs i d) ≡ false → count_by test xs ≤ i
-  counts-failed xs i d up l h = go (cases_lt i (count_by test xs))
-    where
-      go : (i < count_by test xs) ⊎ (count_by test xs ≤ i) → count_by test xs ≤ i
-      go (inl m) = absurd (false≢true (sym h ∙ (parts-count xs up).0 i d (omega arith) m))
-      go (inr m) = m
+  counts-failed xs i d up l h = grind (arith, (parts-count xs up).0 i d)
 
   -- a count of a search by steps: the count that is sought is above it by less than a step, which ends within the list
   pub record IsCountWithin (xs : List A) (count step : ℕ) : Type 0 where

@@ -1,7 +1,7 @@
 -- What a rank in one slot before some events counts in another slot after them.
-use Rattle.std.proofs.Common.{◌≡◌, ℕ, ◌+◌, ◌^◌, Bool, true, false, not, ◌&&◌, ◌||◌, ◌==◌, List, [], ◌∷◌, refl, sym, ap, ap₂, ◌∙◌, arith, if◌then◌else◌, eqb-true}
-use Rattle.std.proofs.lemmas.Bool.{false≢true, eq-eqb}
-use Rattle.sketch_base.specs.Trace.{Put, Pull, Join, Compact, Forget, Redraw, Clear, Event, Snap, At, changed}
+use Rattle.std.proofs.Common.{◌≡◌, ℕ, ◌+◌, Bool, true, false, ◌==◌, List, [], ◌∷◌, refl, sym, ap, ◌∙◌, arith, if◌then◌else◌, eqb-true}
+use Rattle.std.proofs.lemmas.Bool.{and_from, eq-eqb, or_left, or_right}
+use Rattle.sketch_base.specs.Trace.{Put, Clear, Event, Snap, At, changed}
 use Rattle.sketch_base.specs.Ranks.{true_ranks}
 use Rattle.sketch_base.specs.Fair.{reaches}
 use Rattle.sketch_base.proofs.Worlds.{true_ranks-related, true_ranks-same}
@@ -18,72 +18,26 @@ module _ {A : Type 0} where
   -- ranks of slots that don't get into the slot count nothing in it
   counts-unreached : (es : List (Event A)) (slot : ℕ) (ranks : ℕ → ℕ) → ((i : ℕ) → reaches es slot i ≡ true → ranks i ≡ 0) → true_ranks (λ x. false) es ranks slot ≡ 0
   counts-unreached [] slot ranks none = none slot (eq-eqb slot slot refl)
-  counts-unreached (Snap s t ∷ es) slot ranks none = counts-unreached es slot (changed ranks t (ranks t + ranks s)) each
-    where
-      from : (i : ℕ) → reaches es slot i ≡ true → ranks i ≡ 0
-      from i e = none i (ap (λ (b : Bool). b || (i == s && reaches es slot t)) e)
-
-      source : reaches es slot t ≡ true → ranks s ≡ 0
-      source e = none s (ap₂ (λ (b c : Bool). reaches es slot s || (b && c)) (eq-eqb s s refl) e ∙ or_true (reaches es slot s))
-        where
-          or_true : (b : Bool) → (b || true) ≡ true
-          or_true true = refl
-          or_true false = refl
-
-      each : (i : ℕ) → reaches es slot i ≡ true → changed ranks t (ranks t + ranks s) i ≡ 0
-      each i e = go (i == t) refl
-        where
-          go : (b : Bool) → (i == t) ≡ b → (if b then ranks t + ranks s else ranks i) ≡ 0
-          go true k = let there = ap (λ j. reaches es slot j) (sym (eqb-true i t k)) ∙ e in omega (arith, from t there, source there)
-          go false k = from i e
-  counts-unreached (At s (Put h x) ∷ es) slot ranks none = counts-unreached es slot (changed ranks s (ranks s + 0)) each
-    where
-      each : (i : ℕ) → reaches es slot i ≡ true → changed ranks s (ranks s + 0) i ≡ 0
-      each i e = go (i == s) refl
-        where
-          go : (b : Bool) → (i == s) ≡ b → (if b then ranks s + 0 else ranks i) ≡ 0
-          go true k = omega (arith, none s (ap (λ j. reaches es slot j) (sym (eqb-true i s k)) ∙ e))
-          go false k = none i e
-  counts-unreached (At s Clear ∷ es) slot ranks none = counts-unreached es slot (changed ranks s 0) each
-    where
-      each : (i : ℕ) → reaches es slot i ≡ true → changed ranks s 0 i ≡ 0
-      each i e = go (i == s) refl
-        where
-          go : (b : Bool) → (i == s) ≡ b → (if b then 0 else ranks i) ≡ 0
-          go true k = refl
-          go false k = none i (ap₂ (λ (b c : Bool). not b && c) k e)
-  counts-unreached (At s Pull ∷ es) slot ranks none = counts-unreached es slot ranks none
-  counts-unreached (At s (Join h) ∷ es) slot ranks none = counts-unreached es slot ranks none
-  counts-unreached (At s (Compact h coin taken) ∷ es) slot ranks none = counts-unreached es slot ranks none
-  counts-unreached (At s Forget ∷ es) slot ranks none = counts-unreached es slot ranks none
-  counts-unreached (At s (Redraw h) ∷ es) slot ranks none = counts-unreached es slot ranks none
+  counts-unreached (Snap s t ∷ es) slot ranks none =
+      let from : (i : ℕ) → reaches es slot i ≡ true → ranks i ≡ 0 = λ i e. none i (or_left (reaches es slot i) _ e) in
+      let source : reaches es slot t ≡ true → ranks s ≡ 0 = λ e. none s (or_right (reaches es slot s) _ (and_from (s == s) _ (eq-eqb s s refl) e)) in
+      counts-unreached es slot (changed ranks t (ranks t + ranks s)) (λ i e. grind (arith, eqb-true, from, source))
+  counts-unreached (At s (Put h x) ∷ es) slot ranks none = counts-unreached es slot (changed ranks s (ranks s + 0)) (λ i e. grind (arith, eqb-true, none))
+  counts-unreached (At s Clear ∷ es) slot ranks none = counts-unreached es slot (changed ranks s 0) (λ i e. grind (arith, eqb-true, none))
+  counts-unreached (At s _ ∷ es) slot ranks none = counts-unreached es slot ranks none
 
   -- nothing of a slot that doesn't get there
   pub counts-none : (es : List (Event A)) (slot s c : ℕ) → reaches es slot s ≡ false → counts_in es slot s c ≡ 0
-  counts-none es slot s c misses = counts-unreached es slot (only s c) each
-    where
-      each : (i : ℕ) → reaches es slot i ≡ true → only s c i ≡ 0
-      each i e = go (i == s) refl
-        where
-          go : (b : Bool) → (i == s) ≡ b → (if b then c else 0) ≡ 0
-          go true k = absurd (false≢true (sym misses ∙ (ap (λ j. reaches es slot j) (sym (eqb-true i s k)) ∙ e)))
-          go false k = refl
+  counts-none es slot s c misses = counts-unreached es slot (only s c) (λ i e. grind (arith, eqb-true))
 
   -- true ranks add up
   ranks-add : (test : A → Bool) (es : List (Event A)) (a b : ℕ → ℕ) (slot : ℕ) → true_ranks test es a slot + true_ranks (λ x. false) es b slot ≡ true_ranks test es (λ i. a i + b i) slot
   ranks-add test es a b slot =
       true_ranks-related (λ x y z. x + y ≡ z) refl (λ a b c a' b' c' e e'. omega (arith, e, e'))
-      test (λ x. false) test (λ h x. put (test x) h) es a b (λ i. a i + b i) (λ i. refl) slot
-    where
-      put : (passes : Bool) (h : ℕ) → (if passes then 2 ^ h else 0) + 0 ≡ (if passes then 2 ^ h else 0)
-      put passes h = omega arith
+      test (λ x. false) test (λ h x. omega arith) es a b (λ i. a i + b i) (λ i. refl) slot
 
   counts-add : (es : List (Event A)) (slot s a b : ℕ) → counts_in es slot s a + counts_in es slot s b ≡ counts_in es slot s (a + b)
-  counts-add es slot s a b = ranks-add (λ x. false) es (only s a) (only s b) slot ∙ true_ranks-same (λ x. false) es _ _ (λ i. each (i == s)) slot
-    where
-      each : (here : Bool) → (if here then a else 0) + (if here then b else 0) ≡ (if here then a + b else 0)
-      each true = refl
-      each false = refl
+  counts-add es slot s a b = ranks-add (λ x. false) es (only s a) (only s b) slot ∙ true_ranks-same (λ x. false) es _ _ (λ i. grind arith) slot
 
   -- equal sums count the same
   pub counts-both : (es : List (Event A)) (slot s a b c d : ℕ) → a + b ≡ c + d → counts_in es slot s a + counts_in es slot s b ≡ counts_in es slot s c + counts_in es slot s d

@@ -1,5 +1,5 @@
 -- A bag and its view: the view's answers are those of the bag's expanded list.
-use Rattle.std.proofs.Common.{◌≡◌, ℕ, suc, ◌*◌, ◌+◌, ◌^◌, Bool, true, false, List, [], ◌∷◌, length, sum_by, refl, sym, ap, ap₂, ◌∙◌, subst, arith, if◌then◌else◌, Result, Ok, Err, Ordering, Equal}
+use Rattle.std.proofs.Common.{◌≡◌, ℕ, suc, ◌*◌, ◌+◌, ◌^◌, Bool, List, [], ◌∷◌, length, sum_by, refl, sym, ap, ap₂, ◌∙◌, subst, arith, if◌then◌else◌, Result, Ok, Err, Ordering, Equal}
 use Rattle.std.specs.Prelude.{Option, None, Some, IfOk, slice_get, ◌==◌}
 use Rattle.std.specs.Cmp.{IsTotalOrder}
 use Rattle.std.specs.declared.vec.Vec.{Vec}
@@ -35,8 +35,7 @@ none-there None n h z = refl
 none-there (Some x) n h z = absurd (omega (arith, h, z))
 
 if-none : {A : Type 0} (b : Bool) (x y : Option A) → x ≡ None → y ≡ None → (if b then x else y) ≡ None
-if-none true x y h k = h
-if-none false x y h k = k
+if-none b x y h k = grind arith
 
 -- a bag of no items has no quantiles
 pub quantile-empty : {A : Type 0} (cmp : A → A → Ordering) (bag : Bag A) (n : ℕ) (least greatest : Option A) (fraction : Rank) (criteria : SearchCriteria) → weight bag ≡ n → IsThere least n → IsThere greatest n → n ≡ 0 →
@@ -53,7 +52,7 @@ quantile-empty cmp bag n least greatest fraction criteria weighs l g z =
 
 module _ {A : Type 0} {cmp : A → A → Ordering} (order : IsTotalOrder cmp) where
   -- entries that compare equal to a bag's expanded list are a view of it
-  pub is-view_of : (bag : Bag A) (n : ℕ) (least greatest : Option A) (v : View A) → SameItems cmp (expanded cmp bag) v.entries → weight bag ≡ n → SameAnswer cmp least v.least → SameAnswer cmp greatest v.greatest → IsViewOf cmp bag n least greatest v
+  is-view_of : (bag : Bag A) (n : ℕ) (least greatest : Option A) (v : View A) → SameItems cmp (expanded cmp bag) v.entries → weight bag ≡ n → SameAnswer cmp least v.least → SameAnswer cmp greatest v.greatest → IsViewOf cmp bag n least greatest v
   is-view_of bag n least greatest v same weighs l g = record {
     entries = same;
     weighs_n = sym (length_all_zip (λ x y. cmp x y ≡ Equal) (expanded cmp bag) v.entries same) ∙ (length-expanded cmp bag ∙ weighs);
@@ -80,9 +79,8 @@ module _ {A : Type 0} {cmp : A → A → Ordering} (order : IsTotalOrder cmp) wh
 
     many-quantiles : (fractions : List Rank) (found : List A) → AreQuantiles cmp v criteria fractions found → AreQuantiles cmp whole criteria fractions found
     many-quantiles [] [] k = tt
-    many-quantiles [] (x ∷ xs) k = absurd k
-    many-quantiles (f ∷ fs) [] k = absurd k
     many-quantiles (f ∷ fs) (x ∷ xs) k = (one-quantile f (Some x) k.0, many-quantiles fs xs k.1)
+    many-quantiles _ _ k = absurd k
 
     -- what the view answers is what the bag does
     pub quantile-result : {E : Type 0} (fraction : Rank) (r : Result (Option A) E) → IfOk r (SameAnswer cmp (quantile_of v fraction criteria)) → IfOk r (SameAnswer cmp (quantile_of whole fraction criteria))

@@ -10,9 +10,8 @@ module _ {A : Type 0} {cmp : A → A → Ordering} (order : IsTotalOrder cmp) (t
   -- lists
   pub same-items : (xs ys : List A) → SameItems cmp xs ys → xs ≡ ys
   same-items [] [] s = refl
-  same-items [] (y ∷ ys) s = absurd s
-  same-items (x ∷ xs) [] s = absurd s
   same-items (x ∷ xs) (y ∷ ys) s = ap₂ (λ (z : A) (zs : List A). z ∷ zs) (tied x y s.0) (same-items xs ys s.1)
+  same-items _ _ s = absurd s
 
   -- lists in order that hold the same items
   pub same-sorted : (xs ys : List A) → SameItems cmp (sort cmp xs) (sort cmp ys) → IsSorted cmp xs → IsSorted cmp ys → xs ≡ ys
@@ -24,6 +23,5 @@ module _ {A : Type 0} {cmp : A → A → Ordering} (order : IsTotalOrder cmp) (t
   -- answers
   pub same-answers : (a b : Option A) → SameAnswer cmp a b → a ≡ b
   same-answers None None s = refl
-  same-answers None (Some y) s = absurd s
-  same-answers (Some x) None s = absurd s
   same-answers (Some x) (Some y) s = ap (λ (z : A). Some z) (tied x y s)
+  same-answers _ _ s = absurd s

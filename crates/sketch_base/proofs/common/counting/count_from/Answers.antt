@@ -1,8 +1,8 @@
-use Rattle.std.proofs.Common.{◌+◌, ap, sym, ◌∙◌, subst}
+use Rattle.std.proofs.Common.{◌+◌, ap, ◌∙◌}
 use Rattle.sketch_base.specs.Query.{counted}
-use Rattle.sketch_base.specs.Queries.{IsSplitAt}
 use Rattle.sketch_base.proofs.Entries.{counted-parted}
-use Rattle.sketch_base.proofs.PassedFronts.{parts-count, count-of_part}
+use Rattle.sketch_base.proofs.PassedFronts.{count-of_part}
+use Rattle.sketch_base.proofs.QuantilePlaces.{sorted-split}
 use Rattle.sketch_base.proofs.common.counting.count_from.Goals as goal
 
 pub returns-clause-count : goal.returns-clause-count
@@ -13,7 +13,4 @@ returns-clause-count g c =
     ∙ count-of_part (counted g.T.Ord.cmp c.args.query.now c.args.criteria) c.args.items.now c.part_from-start.result.0 c.part_from-start.result.1 parted r.starts r.ends r.within
 
 pub returns-clause-parts : goal.returns-clause-parts
-returns-clause-parts g c =
-    let test = counted g.T.Ord.cmp c.args.query.now c.args.criteria in
-    subst (IsSplitAt test c.args.items.now) (sym (returns-clause-count g c))
-    (parts-count test c.args.items.now (counted-parted g.met.T.Ord.total c.args.items.now c.args.query.now c.args.criteria c.requires.sorted))
+returns-clause-parts g c = sorted-split g.met.T.Ord.total c.args.items.now c.args.query.now c.args.criteria _ c.requires.sorted (returns-clause-count g c)

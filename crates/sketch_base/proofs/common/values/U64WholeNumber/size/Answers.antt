@@ -1,12 +1,10 @@
-use Rattle.std.proofs.Common.{rules, ◌<◌, ◌^◌, ap, sym}
+use Rattle.std.proofs.Common.{rules, ap, sym}
 use Rattle.std.specs.Prelude.{is_some}
 use Rattle.sketch_base.specs.NumberSpellings.{u64_spelled, u64_sized}
 use Rattle.sketch_base.proofs.common.values.U64WholeNumber.size.Goals as goal
 
 pub returns-clause-spelled : goal.returns-clause-spelled
-returns-clause-spelled c = let f : c.args.self.now < 2 ^ 64 = search rules in ap is_some (u64_spelled c.args.self.now f)
+returns-clause-spelled c = ap is_some (u64_spelled c.args.self.now (search rules))
 
 pub returns-clause-size : goal.returns-clause-size
-returns-clause-size c =
-    let f : c.args.self.now < 2 ^ 64 = search rules in
-    sym (u64_sized c.args.self.now (ap is_some (u64_spelled c.args.self.now f)))
+returns-clause-size c = sym (u64_sized c.args.self.now (ap is_some (u64_spelled c.args.self.now (search rules))))
