@@ -62,8 +62,7 @@ module _ {C Shape S : Type 0} (grammar : Grammar C) {kind : Kind ℤ C Shape S} 
       Makes made slot slots v slots' → coins' ≡ coins → OfRun run slots coins → OfRun (run_after run (Some (Load slot)) (reply_of v)) slots' coins'
   loaded run slot made slots coins (Ok tt) slots' coins' h same of = tt
   loaded run slot made slots coins (Err (Sketch e)) slots' coins' h same of = stays run slots coins slots' coins' h.1 same of
-  loaded run slot made slots coins (Err BadLine) slots' coins' h same of = absurd h
-  loaded run slot made slots coins (Err AbsentSlot) slots' coins' h same of = absurd h
+  loaded run slot made slots coins v slots' coins' h same of = absurd h
 
   answered : (run : Known C) (command : Option (Request C)) (line : List (List ℕ)) (slots : Slots S) (coins : ℕ) (r : Reply) (slots' : Slots S) (coins' : ℕ) →
       Answers behaviour command line slots coins r slots' coins' → OfRun run slots coins → OfRun (run_after run command r) slots' coins'
@@ -72,11 +71,7 @@ module _ {C Shape S : Type 0} (grammar : Grammar C) {kind : Kind ℤ C Shape S} 
       subst (λ r. OfRun (run_after run (Some (Run command)) r) slots' coins') (sym is) (carried run command slots coins v slots' coins' h of)
   answered run (Some (Load slot)) line slots coins r slots' coins' (v, is, h, same) of =
       subst (λ r. OfRun (run_after run (Some (Load slot)) r) slots' coins') (sym is) (loaded run slot (Loads behaviour (image_in line)) slots coins v slots' coins' h same of)
-  answered run (Some (Rank slot item criteria)) line slots coins r slots' coins' h of = stays run slots coins slots' coins' h.1 h.2 of
-  answered run (Some (Quantile slot fraction criteria)) line slots coins r slots' coins' h of = stays run slots coins slots' coins' h.1 h.2 of
-  answered run (Some (Cdf slot criteria)) line slots coins r slots' coins' h of = stays run slots coins slots' coins' h.1 h.2 of
-  answered run (Some (Pmf slot criteria)) line slots coins r slots' coins' h of = stays run slots coins slots' coins' h.1 h.2 of
-  answered run (Some (Image slot)) line slots coins r slots' coins' h of = stays run slots coins slots' coins' h.1 h.2 of
+  answered run (Some query) line slots coins r slots' coins' h of = stays run slots coins slots' coins' h.1 h.2 of
 
   -- what holds of a run holds behind the answers
   module _ (Holds : Known C → Slots S → ℕ → Type 0) (by : (run : Known C) (slots : Slots S) (coins : ℕ) → OfRun run slots coins → Holds run slots coins) where

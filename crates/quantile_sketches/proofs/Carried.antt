@@ -53,15 +53,6 @@ given o x e = sym (ap (λ o. not (not (is_some o))) e)
 not-given : {X : Type 0} (o : Option X) → o ≡ None → false ≡ not (not (is_some o))
 not-given o e = sym (ap (λ o. not (not (is_some o))) e)
 
-no-memory : InvalidArgument ≡ OutOfMemory → ⊥
-no-memory e = cc
-
-no-data : InvalidData ≡ OutOfMemory → ⊥
-no-data e = cc
-
-not-refused : InvalidData ≡ InvalidArgument → ⊥
-not-refused e = cc
-
 -- what is owed of an error but for want of memory
 abbrev Unless : ErrorKind → Type 0 → Type 0
 Unless InvalidArgument P = P
@@ -70,15 +61,13 @@ Unless OutOfMemory P = ⊤
 
 unless-refused : {Shape : Type 0} {P : Type 0} (shape : Option Shape) (e : ErrorKind) → Refuses shape e → (shape ≡ None → P) → Unless e P
 unless-refused shape InvalidArgument (inl r) f = f r.1
-unless-refused shape InvalidArgument (inr r) f = absurd (no-memory r.0)
-unless-refused shape InvalidData (inl r) f = absurd (not-refused r.0)
-unless-refused shape InvalidData (inr r) f = absurd (no-data r.0)
 unless-refused shape OutOfMemory r f = tt
+unless-refused shape e (inl r) f = absurd (let is = r.0 in cc)
+unless-refused shape e (inr r) f = absurd (let is = r.0 in cc)
 
 unless-memory : (P : Type 0) (e : ErrorKind) → e ≡ OutOfMemory → Unless e P
-unless-memory P InvalidArgument r = absurd (no-memory r)
-unless-memory P InvalidData r = absurd (no-data r)
 unless-memory P OutOfMemory r = tt
+unless-memory P e r = absurd cc
 
 -- each sketch in the slots keeps what every sketch keeps
 abbrev pub AreSoundIn : {A C Shape S : Type 0} → Kind A C Shape S → Held S → Type 0
@@ -106,19 +95,15 @@ module _ {A C Shape S Source : Type 0} (kind : Kind A C Shape S) (bit : Source �
   -- a command that is no want of memory
   executed : (r : Verdict) (command : Command A C) (slots : Held S) (source : Source) (slots' : Held S) (source' : Source) → r ≢ Err (Sketch OutOfMemory) →
       Comes r command slots source slots' source' → IsExecuted kind bit next command slots source (is_ok r) slots' source'
-  executed (Ok done) command slots source slots' source' n h = h
-  executed (Err BadLine) command slots source slots' source' n h = h
-  executed (Err AbsentSlot) command slots source slots' source' n h = h
-  executed (Err (Sketch InvalidArgument)) command slots source slots' source' n h = no command slots source slots' source' h.0 h.1 h.2
-  executed (Err (Sketch InvalidData)) command slots source slots' source' n h = no command slots source slots' source' h.0 h.1 h.2
   executed (Err (Sketch OutOfMemory)) command slots source slots' source' n h = absurd (n refl)
+  executed (Err (Sketch e)) command slots source slots' source' n h = no command slots source slots' source' h.0 h.1 h.2
+  executed r command slots source slots' source' n h = h
 
   -- one that is not carried out leaves all as it was
   pub left : (e : _) (command : Command A C) (slots : Held S) (source : Source) (slots' : Held S) (source' : Source) →
       Comes (Err e) command slots source slots' source' → AreSame slots slots' × (source' ≡ source)
-  left BadLine command slots source slots' source' h = h.left refl
-  left AbsentSlot command slots source slots' source' h = h.left refl
   left (Sketch e) command slots source slots' source' h = (h.1, h.2)
+  left e command slots source slots' source' h = h.left refl
 
   module _ (command : Command A C) (slots slots' : Slots S) (source source' : Source) where
     -- what comes of a sketch in a slot
@@ -141,8 +126,7 @@ module _ {A C Shape S Source : Type 0} (kind : Kind A C Shape S) (bit : Source �
     turned slot turn by (Some s) new (Err (Sketch e)) held (t, is, h) set_is =
         let d = by.refused s t e (in_slot-held slots slot (Some s) held) h in
         (d.0, in_slot-same slots slots' slot (Some s) new held (is ∙ ap Some d.1) set_is, d.2)
-    turned slot turn by (Some s) new (Err BadLine) held h set_is = absurd h
-    turned slot turn by (Some s) new (Err AbsentSlot) held h set_is = absurd h
+    turned slot turn by (Some s) new r held h set_is = absurd h
 
     -- a command on one slot that the rules decide by its sketch's shape
     ruled : (slot : ℕ) (gives : Shape → Option Shape) →
@@ -211,8 +195,7 @@ module _ {A C Shape S Source : Type 0} {kind : Kind A C Shape S} (lawful : IsLaw
         (record { made = s; fresh = fresh; puts = λ q. ap (λ l. in_slot l q) is ∙ in_slot-set slots slot o (Some s) held q }, stays)
     comes-new slot config (Err (Sketch e)) ((made, is), stays) =
         (unless-refused _ e (obeys.made config (Err e) made).1 (λ none. not-given _ none), (λ q. ap (λ l. in_slot l q) is), stays)
-    comes-new slot config (Err BadLine) h = absurd h.0
-    comes-new slot config (Err AbsentSlot) h = absurd h.0
+    comes-new slot config r h = absurd h.0
 
     -- one slot turns
     changes : (command : Command A C) (slot : ℕ) (turn : Change Source S) → Turned kind bit next command slots slots' source source' slot turn → (r : Verdict) → Changes (Turns turn) slot slots source r slots' source' → Goes r command

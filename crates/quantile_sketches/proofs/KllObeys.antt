@@ -1,7 +1,8 @@
 -- KLL sketches do what the rules of their kind say.
-use Rattle.std.proofs.Common.{◌≡◌, ◌⊎◌, ℕ, ◌+◌, ◌-◌, ◌^◌, ◌==◌, ◌||◌, nat_lt, if◌then◌else◌, Bool, true, false, List, Option, None, Some, Result, Ok, Err, refl, sym, ap, ◌∙◌, inl, inr, arith, eqb-true, Ordering}
-use Rattle.std.specs.Prelude.{◌↔◌, IsTrue, IfOk, IfErr, OnOk}
-use Rattle.std.proofs.lemmas.Bool.{cases_Bool, or_cases, or_parts, eqb-false, ltb-true, ltb-false, false≢true}
+use Rattle.std.proofs.Common.{◌≡◌, ◌≢◌, ◌⊎◌, ℕ, ◌+◌, ◌-◌, ◌^◌, ◌==◌, ◌||◌, nat_lt, if◌then◌else◌, Bool, true, false, List, Option, None, Some, Result, Ok, Err, refl, sym, ap, ◌∙◌, inl, inr, arith, eqb-true, Ordering}
+use Rattle.std.specs.Prelude.{◌↔◌, IsTrue, IsErrOf, IfOk, IfErr, OnOk}
+use Rattle.std.proofs.lemmas.Result.{IfOk-weaker}
+use Rattle.std.proofs.lemmas.Bool.{eqb-false, lt-ltb, ltb-true, ltb-false, false_from_ne_true, false≢true}
 use Rattle.std.specs.Cmp.{IsTotalOrder}
 use Rattle.std.specs.Ordering.{is_eq}
 use Rattle.std.specs.declared.alloc.Global.{Global}
@@ -10,7 +11,7 @@ use Rattle.sketch_base.specs.Bag.{Bag}
 use Rattle.sketch_base.specs.Lengths.{bag_lengths}
 use Rattle.sketch_base.specs.Spelling.{SpellingsTie}
 use Rattle.sketch_base.specs.declared.error.ErrorKind.{ErrorKind}
-use Rattle.sketch_base.specs.declared.error.ErrorKind.TheVariants.{InvalidArgument, OutOfMemory}
+use Rattle.sketch_base.specs.declared.error.ErrorKind.TheVariants.{InvalidArgument, InvalidData, OutOfMemory}
 use Rattle.sketch_base.proofs.SpelledItems.{IsPrefixFree}
 use Rattle.sketch_kll.specs.ImageLaws.{HasImage}
 use Rattle.sketch_kll.specs.Sketch.{Kll, IsSound}
@@ -20,14 +21,27 @@ use Rattle.quantile_sketches.specs.KllBehaviour.{kll, IsMade, IsCopied, IsEmptie
 use Rattle.quantile_sketches.specs.KllRules.{KllShape, empty_shape, updated_shape, weighted_shape, merged_shape, kll_shape, kll_rules, kll_kind}
 use Rattle.quantile_sketches.specs.Rules.{none_if}
 use Rattle.quantile_sketches.specs.RunSteps.{Refuses, IsFresh, IsCopied as IsCopiedBy, IsReadBack, IsUpdated, IsWeighted, IsRedrawn, IsMerged}
-use Rattle.quantile_sketches.proofs.KllKind.{shape-same, not-less, unless-taken, copy_is, updated_by, weighted_by, merged_by}
+use Rattle.quantile_sketches.proofs.KllKind.{shape-same, unless-taken, copy_is, updated_by, weighted_by, merged_by}
+use Rattle.quantile_sketches.proofs.KllRuleLaws.{is_bad_weight, bad-weight, taken-weight}
 use Rattle.quantile_sketches.proofs.Refused.{refuses-by, err-of, unwritten, unread}
 use Rattle.quantile_sketches.proofs.SameRuns.{no-err}
 
 -- nothing is given where a test holds, and only there
-unless-none : (b : Bool) (shape : KllShape) → IsTrue b ↔ (none_if b shape ≡ None)
-unless-none true shape = (λ t. refl, λ none. refl)
-unless-none false shape = (λ t. absurd (false≢true t), λ none. cc)
+pub unless-none : {B : Type 0} (b : Bool) (made : B) → IsTrue b ↔ (none_if b made ≡ None)
+unless-none true made = (λ t. refl, λ none. refl)
+unless-none false made = (λ t. absurd (false≢true t), λ none. cc)
+
+-- an image that is given or refused
+pub imaged : {H : Type 0} (r : Result (Vec ℕ Global) ErrorKind) → OnOk r H → (IsErrOf r InvalidArgument → ¬ H) → IfErr r (λ e. e ≢ InvalidData) →
+    OnOk r H × IfErr r (λ e. ((e ≡ InvalidArgument) × (¬ H)) ⊎ (e ≡ OutOfMemory))
+imaged (Ok v) has denied kind = (has, tt)
+imaged {H} (Err e) has denied kind = (tt, unwritten e (¬ H) (λ is. denied (ap (λ (e : ErrorKind). let r : Result (Vec ℕ Global) ErrorKind = Err e in r) is)) kind)
+
+-- what is never done
+pub never : {S Source : Type 0} (Shape : Type 0) (does : S → Source → Type 0) (s : S) (coins : Source) (r : Result (Unit {0}) ErrorKind) (t : S) (coins' : Source) → IsErrOf r InvalidArgument × (t ≡ s) × (coins' ≡ coins) →
+    Obeys {Shape = Shape} None does s coins r t coins'
+never Shape does s coins (Ok u) t coins' h = absurd (no-err u InvalidArgument h.0)
+never Shape does s coins (Err e) t coins' h = (tt, inl (err-of {T = Unit {0}} e h.0, refl), (h.1, h.2))
 
 module _ {A : Type 0} {cmp : A → A → Ordering} (o : IsTotalOrder cmp) (spelling : A → Option (List ℕ)) where
   made : (k : ℕ) (r : Result (Kll A) ErrorKind) → IsMade cmp spelling k r → IfOk r (IsFresh (kll_kind cmp spelling) ((kll_rules {A = A}).made k)) × IfErr r (Refuses ((kll_rules {A = A}).made k))
@@ -36,7 +50,7 @@ module _ {A : Type 0} {cmp : A → A → Ordering} (o : IsTotalOrder cmp) (spell
       let sound = is.5 in (
         record {
           shape_is =
-              unless-taken (empty_shape k) (nat_lt k 8) s (not-less k 8 (λ less. no-err s InvalidArgument (h.0.1 less)))
+              unless-taken (empty_shape k) (nat_lt k 8) s (false_from_ne_true _ (λ t. no-err s InvalidArgument (h.0.1 (ltb-true k 8 t))))
               (shape-same (empty_shape k) (kll_shape s) (sym is.0) (sym (sound.min_k_at_first (omega (arith, is.1)) ∙ is.0)) (sym is.1) (sym (ap (λ (b : Bag A). bag_lengths b) is.2)));
           bag_is = is.2;
           least_is = is.3;
@@ -56,14 +70,6 @@ module _ {A : Type 0} {cmp : A → A → Ordering} (o : IsTotalOrder cmp) (spell
     greatest_is = h.5;
     sound = h.6;
   }
-
-  copied : (s : Kll A) (r : Result (Kll A) ErrorKind) → IsCopied cmp spelling s r → IfOk r (IsCopiedBy (kll_kind cmp spelling) s) × IfErr r (λ e. e ≡ OutOfMemory)
-  copied s (Ok t) h = (copy_is o spelling s t h.0.0 h.0.1, tt)
-  copied s (Err e) h = (tt, h.1)
-
-  imaged : (s : Kll A) (r : Result (Vec ℕ Global) ErrorKind) → IsImaged cmp spelling s r → OnOk r (HasImage spelling s) × IfErr r (λ e. ((e ≡ InvalidArgument) × (¬ HasImage spelling s)) ⊎ (e ≡ OutOfMemory))
-  imaged s (Ok v) h = (h.1, tt)
-  imaged s (Err e) h = (tt, unwritten e (¬ HasImage spelling s) (λ is. h.2 (ap (λ (e : ErrorKind). let r : Result (Vec ℕ Global) ErrorKind = Err e in r) is)) h.3)
 
   read-back : IsPrefixFree spelling → SpellingsTie cmp spelling → (s : Kll A) (bytes : Vec ℕ Global) (r : Result (Kll A) ErrorKind) → IsImaged cmp spelling s (Ok bytes) → IsLoaded cmp spelling bytes.items r →
       IfOk r (IsReadBack (kll_kind cmp spelling) s) × IfErr r (λ e. e ≡ OutOfMemory)
@@ -85,34 +91,14 @@ module _ {A : Type 0} {cmp : A → A → Ordering} (o : IsTotalOrder cmp) (spell
         Obeys ((kll_rules {A = A}).updated_weighted (kll_shape s) weight) (IsWeighted (kll_kind cmp spelling) bit next s x weight coins) s coins r t coins'
     weighted x weight s coins (Ok u) t coins' was h = (weighted_by o spelling bit next s x weight coins t coins' was h.4 h.0 h.2 h.3, tt, tt)
     weighted x weight s coins (Err e) t coins' was h =
-        (tt, refuses-by (weight == 0 || nat_lt (2 ^ 61 - 1) weight || nat_lt (2 ^ 64 - 1) (s.n + weight)) (weighted_shape (kll_shape s) weight) e bad good, h.5)
+        (tt, refuses-by (is_bad_weight weight s.n) (weighted_shape (kll_shape s) weight) e (λ is. err-of {T = Unit {0}} e (h.0.1 (bad-weight weight s.n is))) good, h.5)
       where
-        bad : (weight == 0 || nat_lt (2 ^ 61 - 1) weight || nat_lt (2 ^ 64 - 1) (s.n + weight)) ≡ true → e ≡ InvalidArgument
-        bad is =
-            elim (or_cases (weight == 0 || nat_lt (2 ^ 61 - 1) weight) (nat_lt (2 ^ 64 - 1) (s.n + weight)) is) [
-              | inl early ↦
-                  elim (or_cases (weight == 0) (nat_lt (2 ^ 61 - 1) weight) early) [
-                    | inl none ↦ err-of {T = Unit {0}} e (h.0.1 (inl (eqb-true weight 0 none)))
-                    | inr great ↦ err-of {T = Unit {0}} e (h.0.1 (inr (inl (omega (arith, ltb-true (2 ^ 61 - 1) weight great)))))
-                  ]
-              | inr heavy ↦ err-of {T = Unit {0}} e (h.0.1 (inr (inr (omega (arith, ltb-true (2 ^ 64 - 1) (s.n + weight) heavy)))))
-            ]
-
-        good : (weight == 0 || nat_lt (2 ^ 61 - 1) weight || nat_lt (2 ^ 64 - 1) (s.n + weight)) ≡ false → e ≡ OutOfMemory
-        good is =
-            let p = or_parts (weight == 0 || nat_lt (2 ^ 61 - 1) weight) (nat_lt (2 ^ 64 - 1) (s.n + weight)) is in
-            let q = or_parts (weight == 0) (nat_lt (2 ^ 61 - 1) weight) p.0 in
-            h.1 (omega (arith, eqb-false weight 0 q.0)) (omega (arith, ltb-false (2 ^ 61 - 1) weight q.1)) (omega (arith, ltb-false (2 ^ 64 - 1) (s.n + weight) p.1))
-
-    -- what is never done
-    never : (does : Kll A → Source → Type 0) (s : Kll A) (coins : Source) (r : Result (Unit {0}) ErrorKind) (t : Kll A) (coins' : Source) → DrawsNone cmp spelling bit next s coins r t coins' →
-        Obeys {Shape = KllShape} None does s coins r t coins'
-    never does s coins (Ok u) t coins' h = absurd (no-err u InvalidArgument h.0)
-    never does s coins (Err e) t coins' h = (tt, inl (err-of {T = Unit {0}} e h.0, refl), (h.1, h.2))
+        good : is_bad_weight weight s.n ≡ false → e ≡ OutOfMemory
+        good is = let fits = taken-weight weight s.n is in h.1 fits.0 fits.1 fits.2
 
     joined : (redraws : Bool) (p s : Kll A) (coins : Source) (r : Result (Unit {0}) ErrorKind) (t : Kll A) (coins' : Source) → IsSound cmp s → MergesIn cmp spelling bit next redraws p s coins r t coins' →
         Obeys ((kll_rules {A = A}).merged redraws (kll_shape s) (kll_shape p)) (λ t coins'. IsMerged (kll_kind cmp spelling) bit next redraws s p coins t coins' × IsSound cmp t) s coins r t coins'
-    joined true p s coins r t coins' was h = never (λ t coins'. IsMerged (kll_kind cmp spelling) bit next true s p coins t coins' × IsSound cmp t) s coins r t coins' h
+    joined true p s coins r t coins' was h = never KllShape (λ t coins'. IsMerged (kll_kind cmp spelling) bit next true s p coins t coins' × IsSound cmp t) s coins r t coins' h
     joined false p s coins (Ok u) t coins' was h = ((merged_by o spelling bit next s p coins t coins' (Ok u) was h.5 h.0 (λ z. h.2 z) h.3 h.4, h.5), tt, tt)
     joined false p s coins (Err e) t coins' was h = (
       tt,
@@ -126,27 +112,23 @@ module _ {A : Type 0} {cmp : A → A → Ordering} (o : IsTotalOrder cmp) (spell
     refuses true s p answer h = (λ t. refl, λ none. h.1 (inl refl))
     refuses false s p answer h =
         let n = unless-none (nat_lt (2 ^ 64 - 1) (s.n + p.n)) (if p.n == 0 then kll_shape s else merged_shape (kll_shape s) (kll_shape p)) in
-        (λ t. n.0 (heavy (h.0 t)), λ none. h.1 (inr (omega (arith, ltb-true (2 ^ 64 - 1) (s.n + p.n) (n.1 none)))))
+        (λ t. n.0 (too-much (h.0 t)), λ none. h.1 (inr (omega (arith, ltb-true (2 ^ 64 - 1) (s.n + p.n) (n.1 none)))))
       where
-        heavy : IsTrue false ⊎ IsTooHeavy cmp spelling s p → nat_lt (2 ^ 64 - 1) (s.n + p.n) ≡ true
-        heavy (inl f) = absurd (false≢true f)
-        heavy (inr much) =
-            elim (cases_Bool (nat_lt (2 ^ 64 - 1) (s.n + p.n))) [
-              | inl t ↦ t
-              | inr f ↦ absurd (omega (arith, much, ltb-false (2 ^ 64 - 1) (s.n + p.n) f))
-            ]
+        too-much : IsTrue false ⊎ IsTooHeavy cmp spelling s p → nat_lt (2 ^ 64 - 1) (s.n + p.n) ≡ true
+        too-much (inl f) = absurd (false≢true f)
+        too-much (inr heavy) = lt-ltb (2 ^ 64 - 1) (s.n + p.n) (omega (arith, heavy))
 
     -- so they obey the rules
     pub kll-obeys : IsPrefixFree spelling → SpellingsTie cmp spelling → ObeysRules (kll cmp spelling) (kll_kind cmp spelling) bit next
     kll-obeys free ties = record {
       made = made;
-      copied = copied;
+      copied = λ s r h. (IfOk-weaker r _ _ (λ t c. copy_is o spelling s t c.0 c.1) h.0, h.1);
       emptied = emptied;
       taken = taken;
       taken_weighted = weighted;
-      redrawn = λ s coins r t coins' was h. never (IsRedrawn (kll_kind cmp spelling) bit next s coins) s coins r t coins' h;
+      redrawn = λ s coins r t coins' was h. never KllShape (IsRedrawn (kll_kind cmp spelling) bit next s coins) s coins r t coins' h;
       joined = λ redraws p sound s coins r t coins' was h. joined redraws p s coins r t coins' was h;
       refuses = λ redraws s p answer sound other h. refuses redraws s p answer h;
-      imaged = λ s r sound h. imaged s r h;
+      imaged = λ s r sound h. imaged r h.1 h.2 h.3;
       read_back = read-back free ties;
     }

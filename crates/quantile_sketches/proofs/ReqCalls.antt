@@ -1,7 +1,7 @@
 -- A REQ sketch that took another one in, or whose kept coins were drawn anew, as a run asks of it.
-use Rattle.std.proofs.Common.{◌≡◌, ◌≢◌, ◌⊎◌, ℕ, ◌+◌, ◌^◌, ◌<◌, ◌≤◌, ◌==◌, nat_lt, Bool, true, false, ◌&&◌, ◌||◌, not, if◌then◌else◌, List, [], ◌++◌, Option, None, Some, Result, Ok, Err, refl, sym, ap, ap₂, ◌∙◌, subst, inl, inr, arith, eqb-true, Ordering}
+use Rattle.std.proofs.Common.{◌≡◌, ◌≢◌, ◌⊎◌, ℕ, ◌+◌, ◌-◌, ◌^◌, ◌<◌, ◌≤◌, ◌==◌, nat_lt, Bool, true, false, ◌&&◌, ◌||◌, not, if◌then◌else◌, List, [], ◌++◌, Option, None, Some, Result, Ok, Err, refl, sym, ap, ap₂, ◌∙◌, subst, inl, inr, arith, eqb-true, Ordering}
 use Rattle.std.specs.Prelude.{◌↔◌, IsErrOf, IsOk, OnOk}
-use Rattle.std.proofs.lemmas.Bool.{cases_Bool, eqb-false, false≢true}
+use Rattle.std.proofs.lemmas.Bool.{cases_Bool, and_parts, both_ways, eqb-false, false_from_ne_true, ltb-true, not-false, not-true, or_cases, or_parts}
 use Rattle.std.specs.Cmp.{IsTotalOrder, tied_itself}
 use Rattle.std.specs.Option.{option_to_list}
 use Rattle.std.specs.Ordering.{is_gt}
@@ -24,10 +24,31 @@ use Rattle.quantile_sketches.specs.Rules.{none_if}
 use Rattle.quantile_sketches.specs.ReqKind.{req_kind, req_shape}
 use Rattle.quantile_sketches.specs.ReqRules.{ReqShape, is_same}
 use Rattle.quantile_sketches.specs.RunSteps.{IsRedrawn, IsMerged}
-use Rattle.quantile_sketches.proofs.KllKind.{not-less, not-great}
 use Rattle.quantile_sketches.proofs.ReqCopies.{same-shape}
 use Rattle.quantile_sketches.proofs.ReqRuleLaws.{same_accuracy, merged_as, no_merge}
 use Rattle.quantile_sketches.proofs.SameRuns.{no-err}
+
+-- an accuracy is its own
+pub same-itself : (a : RankAccuracy) → is_same a a ≡ true
+same-itself HighRank = refl
+same-itself LowRank = refl
+
+-- what one sketch takes in of another
+pub both-retained : {A : Type 0} (s p : Req A) → retained (bag_of s.levels) + retained (bag_of p.levels) ≡ retained_of (layouts_of s.levels) + retained_of (layouts_of p.levels)
+both-retained s p = ap₂ (λ (n m : ℕ). n + m) (retained_is s.levels) (retained_is p.levels)
+
+-- a merge that the rules refuse
+pub unfit : {A : Type 0} (s p : Req A) → no_merge (req_shape s) (req_shape p) ≡ true → (s.accuracy ≢ p.accuracy) ⊎ ((2 ^ 64 ≤ s.n + p.n) ⊎ (2 ^ 32 ≤ retained (bag_of s.levels) + retained (bag_of p.levels)))
+unfit s p is =
+    elim (or_cases (not (is_same s.accuracy p.accuracy)) _ is) [
+      | inl other ↦ inl (λ same. both_ways _ (not-true _ other) (ap (is_same s.accuracy) (sym same) ∙ same-itself s.accuracy))
+      | inr much ↦
+          let both = both-retained s p in
+          elim (or_cases (nat_lt (2 ^ 64 - 1) (s.n + p.n)) (nat_lt 4294967295 (retained_of (layouts_of s.levels) + retained_of (layouts_of p.levels))) (and_parts (not (p.n == 0)) _ much).1) [
+            | inl heavy ↦ inr (inl (omega (arith, ltb-true (2 ^ 64 - 1) (s.n + p.n) heavy)))
+            | inr many ↦ inr (inr (omega (arith, both, ltb-true 4294967295 (retained_of (layouts_of s.levels) + retained_of (layouts_of p.levels)) many)))
+          ]
+    ]
 
 module _ {A : Type 0} {cmp : A → A → Ordering} (o : IsTotalOrder cmp) where
   -- an extreme is that of itself
@@ -40,31 +61,23 @@ module _ {A : Type 0} {cmp : A → A → Ordering} (o : IsTotalOrder cmp) where
   own-greatest (Some x) = record { ties = inl (tied_itself o x); bounds = (ap is_gt (tied_itself o x), tt) }
 
   module _ (spelling : A → Option (List ℕ)) {Source : Type 0} (bit : Source → Bool) (next : Source → Source) where
-    redrawn-is : (s : Req A) (source : Source) → IsSound cmp (redrawn_sketch (bits_from bit next source (coins_of_redraw s)) s) →
-        IsRedrawn (req_kind cmp spelling) bit next s source (redrawn_sketch (bits_from bit next source (coins_of_redraw s)) s) (after_draws next source (coins_of_redraw s))
-    redrawn-is s source sound =
-        let word = bits_from bit next source (coins_of_redraw s) in
-        let t = redrawn_sketch word s in
-        let n = redraws-draw A 0 (layouts_of s.levels) in
-        let shape : List Layout → ReqShape = λ layouts. record { k = s.k; accuracy = s.accuracy; n = s.n; layouts = layouts } in (
-          record {
-            shape_is = ap (λ (layouts : List Layout). Some (shape layouts)) (sym (layouts-redrawn word s.levels));
-            alike =
-                subst (λ (i : ℕ). AlikeReq cmp (bag_after cmp (redraw_actions (layouts_of s.levels)) (bits_from bit next source i) (bag_of s.levels)) (bag_of t.levels)) (sym n)
-                (redraws-are o word s.levels);
-            least_is = own-least s.least;
-            greatest_is = own-greatest s.greatest;
-            sound = sound;
-          },
-          ap (after_draws next source) (sym n),
-        )
-
     -- kept coins drawn anew
     pub redrawn_by : (s t : Req A) (source source' : Source) → IsSound cmp t → t ≡ redrawn_sketch (bits_from bit next source (coins_of_redraw s)) s → source' ≡ after_draws next source (coins_of_redraw s) →
         IsRedrawn (req_kind cmp spelling) bit next s source t source'
     redrawn_by s t source source' sound is drawn =
-        let P : Req A → Source → Type 0 = λ t source'. IsRedrawn (req_kind cmp spelling) bit next s source t source' in
-        subst (λ t. P t source') (sym is) (subst (P _) (sym drawn) (redrawn-is s source (subst (IsSound cmp) is sound)))
+        let word = bits_from bit next source (coins_of_redraw s) in
+        let n = redraws-draw A 0 (layouts_of s.levels) in
+        let shape : List Layout → ReqShape = λ layouts. record { k = s.k; accuracy = s.accuracy; n = s.n; layouts = layouts } in
+        rw is (rw drawn (
+          record {
+            shape_is = ap (λ (layouts : List Layout). Some (shape layouts)) (sym (layouts-redrawn word s.levels));
+            alike = rw n (redraws-are o word s.levels);
+            least_is = own-least s.least;
+            greatest_is = own-greatest s.greatest;
+            sound = rw is at sound;
+          },
+          ap (after_draws next source) (sym n),
+        ))
 
     -- a merge, with coins drawn anew or not
     pub merged_by : (redraws : Bool) (s other t : Req A) (source source' : Source) (r : Result (Unit {0}) ErrorKind) → IsSound cmp t →
@@ -85,34 +98,11 @@ module _ {A : Type 0} {cmp : A → A → Ordering} (o : IsTotalOrder cmp) where
         made : ReqShape
         made = merged_as (req_shape s) (req_shape other) (if other.n == 0 then layouts_of s.levels else merge_layouts s.k (layouts_of s.levels) (layouts_of other.levels))
 
-        is-same : (a : RankAccuracy) → is_same a a ≡ true
-        is-same HighRank = refl
-        is-same LowRank = refl
-
-        side : is_same s.accuracy other.accuracy ≡ true
-        side =
-            elim (cases_Bool (is_same s.accuracy other.accuracy)) [
-              | inl e ↦ e
-              | inr e ↦ absurd (no-err u InvalidArgument (refused.1 (inl (λ same. false≢true (sym e ∙ (ap (is_same s.accuracy) (sym same) ∙ is-same s.accuracy))))))
-            ]
+        taken : no_merge (req_shape s) (req_shape other) ≡ false
+        taken = false_from_ne_true _ (λ is. no-err u InvalidArgument (refused.1 (unfit s other is)))
 
         same : s.accuracy ≡ other.accuracy
-        same = same_accuracy s.accuracy other.accuracy side
-
-        few : nat_lt 4294967295 (retained_of (layouts_of s.levels) + retained_of (layouts_of other.levels)) ≡ false
-        few =
-            not-less 4294967295 (retained_of (layouts_of s.levels) + retained_of (layouts_of other.levels))
-            (λ h. no-err u InvalidArgument (refused.1 (inr (inr (omega (arith, h, retained_is s.levels, retained_is other.levels))))))
-
-        taken : no_merge (req_shape s) (req_shape other) ≡ false
-        taken =
-            let light = not-great (s.n + other.n) (λ h. no-err u InvalidArgument (refused.1 (inr (inl h)))) in
-            ap₂ (λ (b c : Bool). not b || (not (other.n == 0) && c)) side (ap₂ (λ (b c : Bool). b || c) light few)
-            ∙ none (not (other.n == 0))
-          where
-            none : (b : Bool) → (b && false) ≡ false
-            none true = refl
-            none false = refl
+        same = same_accuracy s.accuracy other.accuracy (not-false _ (or_parts (not (is_same s.accuracy other.accuracy)) _ taken).0)
 
         shape : made ≡ req_shape t
         shape =

@@ -1,6 +1,7 @@
 -- REQ's rules are lawful.
 use Rattle.std.proofs.Common.{◌≡◌, ℕ, ◌+◌, ◌-◌, ◌*◌, ◌%◌, ◌^◌, ◌<◌, ◌≤◌, Bool, true, false, ◌||◌, ◌&&◌, ◌==◌, not, nat_le, nat_lt, if◌then◌else◌, List, [], ◌∷◌, append-nil, sum, slice_index, Some, refl, sym, ap, ap₂, ◌∙◌, subst, arith, inl, inr, leb-true, eqb-true}
-use Rattle.std.proofs.lemmas.Bool.{cases_Bool, false≢true, ltb-false, and_parts, or_parts}
+use Rattle.std.proofs.lemmas.Bool.{cases_Bool, false≢true, ltb-false, and_parts, ne_eqb, or_parts}
+pub use Rattle.std.proofs.lemmas.Bool.{not-false}
 use Rattle.sketch_base.specs.Bag.{Taken, AllButLeftover, Lowest, Greatest}
 use Rattle.sketch_base.specs.Lengths.{acts_on_lengths, lengths_after, Along, TakesFew, LeavesTail}
 use Rattle.sketch_base.specs.Ranks.{true_ranks}
@@ -25,11 +26,6 @@ use Rattle.quantile_sketches.proofs.KllRuleLaws.{unless-there}
 use Rattle.quantile_sketches.proofs.LegalPlans.{not-none, some-one}
 use Rattle.quantile_sketches.proofs.ReqMerges.{legal-by, lengths-by, redraw-leads, ranks-redraw, ranks-merge}
 
--- a test that isn't false
-pub not-false : (b : Bool) → not b ≡ false → b ≡ true
-not-false true e = refl
-not-false false e = sym e
-
 -- accuracies that are found to be the same
 pub same_accuracy : (a b : RankAccuracy) → is_same a b ≡ true → a ≡ b
 same_accuracy HighRank HighRank e = refl
@@ -47,9 +43,8 @@ legal_k k e =
 -- nothing is too much
 pub enough_room : (n retained : ℕ) → is_too_much n retained ≡ false → (n < 2 ^ 64) × (retained ≤ 4294967295)
 enough_room n retained e =
-    let a = ltb-false (2 ^ 64 - 1) n (or_parts (nat_lt (2 ^ 64 - 1) n) (nat_lt 4294967295 retained) e).0 in
-    let b = ltb-false 4294967295 retained (or_parts (nat_lt (2 ^ 64 - 1) n) (nat_lt 4294967295 retained) e).1 in
-    (omega (arith, a), omega (arith, b))
+    let parts = or_parts (nat_lt (2 ^ 64 - 1) n) (nat_lt 4294967295 retained) e in
+    (omega (arith, ltb-false (2 ^ 64 - 1) n parts.0), ltb-false 4294967295 retained parts.1)
 
 -- ---- what the shape of a sketch keeps
 
@@ -85,18 +80,6 @@ updated_fits s lengths h e =
 abbrev pub merged_as : ReqShape → ReqShape → List Layout → ReqShape
 merged_as s other layouts = record { k = s.k; accuracy = s.accuracy; n = s.n + other.n; layouts = layouts }
 
-none_fits : (s other : ReqShape) (lengths : List ℕ) → FitsReq s lengths → other.n ≡ 0 → FitsReq (merged_as s other s.layouts) lengths
-none_fits s other lengths h z = record {
-  lengths_are = h.lengths_are;
-  legal = h.legal;
-  are = h.are;
-  two = h.two;
-  weighs = omega (arith, h.weighs, z);
-  fits = omega (arith, h.fits, z);
-  few = h.few;
-  retained = h.retained;
-}
-
 merged_fits : (s other : ReqShape) (lengths others : List ℕ) → FitsReq s lengths → FitsReq other others → is_too_much (s.n + other.n) (retained_of s.layouts + retained_of other.layouts) ≡ false →
     FitsReq (merged_as s other (merge_layouts s.k s.layouts other.layouts)) (counts_of (merge_layouts s.k s.layouts other.layouts))
 merged_fits s other lengths others h o e =
@@ -125,11 +108,7 @@ abbrev pub no_merge : ReqShape → ReqShape → Bool
 no_merge s other = not (is_same s.accuracy other.accuracy) || (not (other.n == 0) && too_much s other)
 
 pub not-much : (s other : ReqShape) → no_merge s other ≡ false → (other.n == 0) ≡ false → too_much s other ≡ false
-not-much s other e b = go (other.n == 0) (too_much s other) b (or_parts (not (is_same s.accuracy other.accuracy)) (not (other.n == 0) && too_much s other) e).1
-  where
-    go : (b c : Bool) → b ≡ false → (not b && c) ≡ false → c ≡ false
-    go true c z f = absurd (false≢true (sym z))
-    go false c z f = f
+not-much s other e b = ap (λ (none : Bool). not none && too_much s other) (sym b) ∙ (or_parts (not (is_same s.accuracy other.accuracy)) _ e).1
 
 -- ---- legal traces
 
@@ -142,13 +121,7 @@ module _ {A : Type 0} where
   -- what leaves 3k leaves 0
   leaves-less : (k : ℕ → ℕ) (e : Event A) (world : World (List ℕ)) → LeavesTail k e world → MeetsReq e world
   leaves-less k (At s (Compact h coin taken)) world f = takes-less (3 * k s) taken (slice_index (world.slots s) h) f
-  leaves-less k (At s (Put h x)) world f = tt
-  leaves-less k (At s Pull) world f = tt
-  leaves-less k (At s (Join h)) world f = tt
-  leaves-less k (At s Forget) world f = tt
-  leaves-less k (At s (Redraw h)) world f = tt
-  leaves-less k (At s Clear) world f = tt
-  leaves-less k (Snap s t) world f = tt
+  leaves-less k e world f = tt
 
   along-less : (k : ℕ → ℕ) (trace : List (Event A)) (world : World (List ℕ)) → Along (LeavesTail k) trace world → Along MeetsReq trace world
   along-less k [] world f = tt
@@ -207,7 +180,7 @@ module _ (A : Type 0) where
       MergesWell redraws s other into source world t
   merge-well redraws s other t e into source world h o z some =
       let u = unless-there _ _ t e in
-      let some_n : (other.n == 0) ≡ false = go (other.n == 0) refl in
+      let some_n : (other.n == 0) ≡ false = ne_eqb other.n 0 (λ e. omega arith) in
       let actions : List (Action A) = merge_actions_by redraws s.k s.accuracy s.layouts other.layouts in
       let snapped : World (List ℕ) = lengths_after {A = A} (Snap source into) world in
       let l = legal (λ i. s.k) (Snap source into ∷ events_at into actions) world (legal-by A redraws (λ i. s.k) s.accuracy source into s.layouts other.layouts world h.legal h.are h.lengths_are o.lengths_are z) in
@@ -220,16 +193,14 @@ module _ (A : Type 0) where
         fits = fits-by _ _ _ (lengths-there actions snapped into _ lengths) (merged_fits s other (world.slots into) (world.slots source) h o (not-much s other u.0 some_n));
         ranks = λ test ranks. ap (λ (f : ℕ → ℕ). f into) (ranks-merge test into redraws s.k s.accuracy s.layouts other.layouts ranks) ∙ (let n : ranks into ≡ ranks into + 0 = omega arith in n);
       })
-    where
-      go : (b : Bool) → (other.n == 0) ≡ b → b ≡ false
-      go true e = absurd (omega (arith, some, eqb-true other.n 0 e))
-      go false e = refl
 
   merge-none : (redraws : Bool) (s other t : ReqShape) → (req_rules {A = A}).merged redraws s other ≡ Some t → other.n ≡ 0 → (lengths : List ℕ) → FitsReq s lengths → FitsReq t lengths
   merge-none redraws s other t e z lengths h =
       let u = unless-there _ _ t e in
+      let n : s.n ≡ s.n + other.n = omega arith in
+      let same : s ≡ merged_as s other s.layouts = λ i. let shape : ReqShape = record s { n = n i } in shape in
       let is : merged_as s other s.layouts ≡ t = ap (λ (n : ℕ). merged_as s other (if n == 0 then s.layouts else merge_layouts s.k s.layouts other.layouts)) (sym z) ∙ u.1 in
-      subst (λ (shape : ReqShape). FitsReq shape lengths) is (none_fits s other lengths h z)
+      subst (λ (shape : ReqShape). FitsReq shape lengths) (same ∙ is) h
 
   merge-counts : (redraws : Bool) (s other t : ReqShape) → (req_rules {A = A}).merged redraws s other ≡ Some t → (t.n ≡ s.n + other.n) × (s.n < 2 ^ 64 → t.n < 2 ^ 64)
   merge-counts redraws s other t e =

@@ -51,15 +51,12 @@ module _ {X : Type 0} (answer : X → Answer) (gives : Result X ErrorKind → Ty
   replies-one : SameReplies (Replies answer gives)
   replies-one (Ok a) (Ok b) n m (x, h, is) (y, k, is') = ap (λ (a : Answer). answer_text (Ok a)) is ∙ (one x y h k ∙ sym (ap (λ (a : Answer). answer_text (Ok a)) is'))
   replies-one (Ok a) (Err (Sketch e)) n m (x, h, is) k = absurd (clash x e h k (λ z. m (of-kind e OutOfMemory z)))
-  replies-one (Ok a) (Err BadLine) n m h k = absurd k
-  replies-one (Ok a) (Err AbsentSlot) n m h k = absurd k
   replies-one (Err (Sketch e)) (Ok b) n m h (y, k, is) = absurd (clash y e k h (λ z. n (of-kind e OutOfMemory z)))
   replies-one (Err (Sketch e)) (Err (Sketch f)) n m h k =
       ap answer_text (of-kind e f (kinds e h (λ z. n (of-kind e OutOfMemory z)) ∙ sym (kinds f k (λ z. m (of-kind f OutOfMemory z)))))
-  replies-one (Err (Sketch e)) (Err BadLine) n m h k = absurd k
-  replies-one (Err (Sketch e)) (Err AbsentSlot) n m h k = absurd k
-  replies-one (Err BadLine) w n m h k = absurd h
-  replies-one (Err AbsentSlot) w n m h k = absurd h
+  replies-one (Ok a) w n m h k = absurd k
+  replies-one (Err (Sketch e)) w n m h k = absurd k
+  replies-one r w n m h k = absurd h
 
 module _ {cmp : ℤ → ℤ → Ordering} (order : IsTotalOrder cmp) (tied : TiesAreEqual cmp) (n : ℕ) where
   -- one item is named
@@ -141,8 +138,7 @@ module _ {C S : Type 0} (behaviour : Behaviour S ℤ C) where
     loaded-so bytes slot slots ts (Err (Sketch e)) n (inl h, is) =
         let z = one.unloaded bytes e h (λ z. n (told e OutOfMemory z)) in inr (told e InvalidData z, subst (λ (e : ErrorKind). behaviour.loaded bytes (Err e)) z h, is)
     loaded-so bytes slot slots ts (Err (Sketch e)) n (inr z, is) = absurd (n (told e OutOfMemory (same-err {T = S} e OutOfMemory (Err e) refl z)))
-    loaded-so bytes slot slots ts (Err BadLine) n h = absurd h
-    loaded-so bytes slot slots ts (Err AbsentSlot) n h = absurd h
+    loaded-so bytes slot slots ts v n h = absurd h
 
     one-load : (bytes : List ℕ) (slot : ℕ) (slots ts us : Slots S) (v w : Verdict) → Loaded bytes slot slots v ts → Loaded bytes slot slots w us → (v ≡ w) × (ts ≡ us)
     one-load bytes slot slots ts us v w (inl (s, ok, h, is)) (inl (t, ok', k, is')) =
