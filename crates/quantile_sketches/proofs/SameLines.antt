@@ -96,8 +96,10 @@ module _ {C S : Type 0} (behaviour : Behaviour S ℤ C) where
     pub pmfs : (s : S) (points : List ℤ) (criteria : SearchCriteria) → SameReplies (Replies Ranks (behaviour.pmf s points criteria))
 
   -- what a slot's sketch is asked
-  reads-one : (told : S → Reply → Type 0) → ((s : S) → SameReplies (told s)) → (slot : ℕ) (slots : Slots S) → SameReplies (Reads told slot slots)
-  reads-one told same slot slots r w n m (o, held, h) (o', held', k) = go o h (subst (λ (x : Option S). Asks told x w) (same_Some o' o (sym held' ∙ held)) k)
+  reads-one : (told : S → Reply → Type 0) → ((s : S) → SameReplies (told s)) → (slot : ℕ) (slots ts us : Slots S) (coins left left' : ℕ) (r w : Reply) → r ≢ Err (Sketch OutOfMemory) → w ≢ Err (Sketch OutOfMemory) →
+      Reads told slot slots r × (ts ≡ slots) × (left ≡ coins) → Reads told slot slots w × (us ≡ slots) × (left' ≡ coins) → (answer_text r ≡ answer_text w) × (ts ≡ us) × (left ≡ left')
+  reads-one told same slot slots ts us coins left left' r w n m ((o, held, h), kept, stays) ((o', held', k), kept', stays') =
+      (go o h (subst (λ (x : Option S). Asks told x w) (same_Some o' o (sym held' ∙ held)) k), kept ∙ sym kept', stays ∙ sym stays')
     where
       go : (o : Option S) → Asks told o r → Asks told o w → answer_text r ≡ answer_text w
       go None h k = ap answer_text (h ∙ sym k)
@@ -157,16 +159,14 @@ module _ {C S : Type 0} (behaviour : Behaviour S ℤ C) where
     one-executed (Run command) line slots ts us coins left left' r w n m (v, is, h) (v', is', k) =
         let a = one-command behaviour coin_of next_state one.calls command slots ts us coins left left' v v' (verdict-ample r v n is) (verdict-ample w v' m is') h k in
         (ap answer_text (is ∙ (ap reply_of a.0 ∙ sym is')), a.1, a.2)
-    one-executed (RankOf slot item criteria) line slots ts us coins left left' r w n m (h, same, stays) (k, same', stays') =
-        (reads-one _ (λ s r w n m h k. ap answer_text (h.2 ∙ (ap (λ (o : Option Rank). let a : Reply = Ok (RankIs o) in a) (one.ranked s item criteria h.0 k.0 h.1 k.1) ∙ sym k.2))) slot slots r w n m h k, same ∙ sym same', stays ∙ sym stays')
-    one-executed (Quantile slot fraction criteria) line slots ts us coins left left' r w n m (h, same, stays) (k, same', stays') =
-        (reads-one _ (λ s. one.found s fraction criteria) slot slots r w n m h k, same ∙ sym same', stays ∙ sym stays')
-    one-executed (Cdf slot criteria) line slots ts us coins left left' r w n m (h, same, stays) (k, same', stays') =
-        (reads-one _ (λ s. spreads-one (points_of line) (behaviour.cdf s (points_of line) criteria) (one.cdfs s (points_of line) criteria)) slot slots r w n m h k, same ∙ sym same', stays ∙ sym stays')
-    one-executed (Pmf slot criteria) line slots ts us coins left left' r w n m (h, same, stays) (k, same', stays') =
-        (reads-one _ (λ s. spreads-one (points_of line) (behaviour.pmf s (points_of line) criteria) (one.pmfs s (points_of line) criteria)) slot slots r w n m h k, same ∙ sym same', stays ∙ sym stays')
-    one-executed (ImageOf slot) line slots ts us coins left left' r w n m (h, same, stays) (k, same', stays') =
-        (reads-one _ shows-one slot slots r w n m h k, same ∙ sym same', stays ∙ sym stays')
+    one-executed (RankOf slot item criteria) line slots ts us coins left left' r w n m h k =
+        reads-one _ (λ s r w n m h k. ap answer_text (h.2 ∙ (ap (λ (o : Option Rank). let a : Reply = Ok (RankIs o) in a) (one.ranked s item criteria h.0 k.0 h.1 k.1) ∙ sym k.2))) slot slots ts us coins left left' r w n m h k
+    one-executed (Quantile slot fraction criteria) line slots ts us coins left left' r w n m h k = reads-one _ (λ s. one.found s fraction criteria) slot slots ts us coins left left' r w n m h k
+    one-executed (Cdf slot criteria) line slots ts us coins left left' r w n m h k =
+        reads-one _ (λ s. spreads-one (points_of line) (behaviour.cdf s (points_of line) criteria) (one.cdfs s (points_of line) criteria)) slot slots ts us coins left left' r w n m h k
+    one-executed (Pmf slot criteria) line slots ts us coins left left' r w n m h k =
+        reads-one _ (λ s. spreads-one (points_of line) (behaviour.pmf s (points_of line) criteria) (one.pmfs s (points_of line) criteria)) slot slots ts us coins left left' r w n m h k
+    one-executed (ImageOf slot) line slots ts us coins left left' r w n m h k = reads-one _ shows-one slot slots ts us coins left left' r w n m h k
     one-executed (Load slot) line slots ts us coins left left' r w n m (v, is, h, stays) (v', is', k, stays') =
         let a = one-load (image_in line) slot slots ts us v v' (loaded-so (image_in line) slot slots ts v (verdict-ample r v n is) h) (loaded-so (image_in line) slot slots us v' (verdict-ample w v' m is') k) in
         (ap answer_text (is ∙ (ap reply_of a.0 ∙ sym is')), a.1, stays ∙ sym stays')
