@@ -95,10 +95,6 @@ merged_fits s other lengths others h o e =
       retained = let t = merge_retains s.k h.legal s.layouts other.layouts h.are in omega (arith, t, r.1);
     }
 
--- the same of other lengths that are those
-fits-by : (s : ReqShape) (lengths others : List ℕ) → others ≡ lengths → FitsReq s lengths → FitsReq s others
-fits-by s lengths others e h = subst (FitsReq s) (sym e) h
-
 -- a merge of a sketch that is not empty would be too much
 abbrev pub too_much : ReqShape → ReqShape → Bool
 too_much s other = is_too_much (s.n + other.n) (retained_of s.layouts + retained_of other.layouts)
@@ -142,19 +138,16 @@ module _ {A : Type 0} where
 
   -- ---- the calls
 
-  abbrev UpdatesWell : ReqShape → ℕ → A → World (List ℕ) → ReqShape → Type 0
-  UpdatesWell s slot x world t = DoWell MeetsReq FitsReq slot (update_actions s.k s.accuracy s.layouts x) world t (λ test. if test x then 1 else 0)
-
-  update-well : (s t : ReqShape) → (req_rules {A = A}).updated s ≡ Some t → (slot : ℕ) (x : A) (world : World (List ℕ)) → FitsReq s (world.slots slot) → sum world.scratch ≡ 0 → UpdatesWell s slot x world t
+  update-well : (s t : ReqShape) → (req_rules {A = A}).updated s ≡ Some t → (slot : ℕ) (x : A) (world : World (List ℕ)) → FitsReq s (world.slots slot) → sum world.scratch ≡ 0 →
+      DoWell MeetsReq FitsReq slot (update_actions s.k s.accuracy s.layouts x) world t (λ test. if test x then 1 else 0)
   update-well s t e slot x world h z =
       let u = unless-there _ _ t e in
       let actions : List (Action A) = update_actions s.k s.accuracy s.layouts x in
       let lengths : (acts_on_lengths actions (record { bag = world.slots slot; scratch = world.scratch })).bag ≡ counts_of (update_layouts s.k s.layouts) =
-      ap (λ (ns : List ℕ). (acts_on_lengths actions (record { bag = ns; scratch = world.scratch })).bag) h.lengths_are
-      ∙ ap (λ (w : Work (List ℕ)). w.bag) (update_lengths A s.k s.accuracy s.layouts x world.scratch h.legal h.are) in
-      subst (UpdatesWell s slot x world) u.1 (record {
+      rw h.lengths_are (ap (λ (w : Work (List ℕ)). w.bag) (update_lengths A s.k s.accuracy s.layouts x world.scratch h.legal h.are)) in
+      rw (← u.1) (record {
         legal = legal (λ i. s.k) (events_at slot actions) world (update_legal A (λ i. s.k) s.accuracy slot s.layouts x world h.legal h.are h.lengths_are z);
-        fits = fits-by _ _ _ (lengths-there actions world slot _ lengths) (updated_fits s (world.slots slot) h u.0);
+        fits = rw (lengths-there actions world slot _ lengths) (updated_fits s (world.slots slot) h u.0);
         ranks = λ test ranks. ranks-one test slot s.k s.accuracy s.layouts x ranks;
       })
 
@@ -163,21 +156,16 @@ module _ {A : Type 0} where
   redraw-well s t e slot world h z =
       let actions : List (Action A) = redraw_actions s.layouts in
       let leads = redraw-leads {A = A} s.k s.accuracy s.layouts h.are in
-      let lengths : (acts_on_lengths actions (record { bag = world.slots slot; scratch = world.scratch })).bag ≡ counts_of s.layouts =
-      ap (λ (ns : List ℕ). (acts_on_lengths actions (record { bag = ns; scratch = world.scratch })).bag) h.lengths_are
-      ∙ ap (λ (w : Work (List ℕ)). w.bag) (leads.lengths world.scratch) in
-      subst (λ (shape : ReqShape). DoWell {A = A} MeetsReq FitsReq slot actions world shape (λ test. 0)) (some-one s t e) (record {
+      let lengths : (acts_on_lengths actions (record { bag = world.slots slot; scratch = world.scratch })).bag ≡ counts_of s.layouts = rw h.lengths_are (ap (λ (w : Work (List ℕ)). w.bag) (leads.lengths world.scratch)) in
+      rw (← some-one s t e) (record {
         legal = legal (λ i. s.k) (events_at slot actions) world (fits-legal (λ i. s.k) s.accuracy actions slot (counts_of s.layouts) world leads.fits h.lengths_are z);
-        fits = fits-by s (world.slots slot) _ (lengths-there actions world slot _ lengths ∙ sym h.lengths_are) h;
+        fits = rw (lengths-there actions world slot _ lengths, ← h.lengths_are) h;
         ranks = λ test ranks. ap (λ (f : ℕ → ℕ). f slot) (ranks-redraw test slot s.layouts ranks) ∙ (let n : ranks slot ≡ ranks slot + 0 = omega arith in n);
       })
 
 module _ (A : Type 0) where
-  abbrev MergesWell : (redraws : Bool) → ReqShape → ReqShape → (into source : ℕ) → World (List ℕ) → ReqShape → Type 0
-  MergesWell redraws s other into source world t = DoWell {A = A} MeetsReq FitsReq into (merge_actions_by redraws s.k s.accuracy s.layouts other.layouts) (lengths_after {A = A} (Snap source into) world) t (λ test. 0)
-
   merge-well : (redraws : Bool) (s other t : ReqShape) → (req_rules {A = A}).merged redraws s other ≡ Some t → (into source : ℕ) (world : World (List ℕ)) → FitsReq s (world.slots into) → FitsReq other (world.slots source) → sum world.scratch ≡ 0 → 0 < other.n →
-      MergesWell redraws s other into source world t
+      DoWell {A = A} MeetsReq FitsReq into (merge_actions_by redraws s.k s.accuracy s.layouts other.layouts) (lengths_after {A = A} (Snap source into) world) t (λ test. 0)
   merge-well redraws s other t e into source world h o z some =
       let u = unless-there _ _ t e in
       let some_n : (other.n == 0) ≡ false = ne_eqb other.n 0 (λ e. omega arith) in
@@ -185,12 +173,11 @@ module _ (A : Type 0) where
       let snapped : World (List ℕ) = lengths_after {A = A} (Snap source into) world in
       let l = legal (λ i. s.k) (Snap source into ∷ events_at into actions) world (legal-by A redraws (λ i. s.k) s.accuracy source into s.layouts other.layouts world h.legal h.are h.lengths_are o.lengths_are z) in
       let lengths : (acts_on_lengths actions (record { bag = world.slots into; scratch = world.slots source })).bag ≡ counts_of (merge_layouts s.k s.layouts other.layouts) =
-      ap₂ (λ (ns ms : List ℕ). (acts_on_lengths actions (record { bag = ns; scratch = ms })).bag) h.lengths_are o.lengths_are
-      ∙ lengths-by A redraws s.k s.accuracy s.layouts other.layouts h.legal h.are in
+      rw (h.lengths_are, o.lengths_are) (lengths-by A redraws s.k s.accuracy s.layouts other.layouts h.legal h.are) in
       let is : merged_as s other (merge_layouts s.k s.layouts other.layouts) ≡ t = ap (λ (b : Bool). merged_as s other (if b then s.layouts else merge_layouts s.k s.layouts other.layouts)) (sym some_n) ∙ u.1 in
-      subst (MergesWell redraws s other into source world) is (record {
+      rw (← is) (record {
         legal = record { scratch = l.scratch.1; meets = l.meets.1 };
-        fits = fits-by _ _ _ (lengths-there actions snapped into _ lengths) (merged_fits s other (world.slots into) (world.slots source) h o (not-much s other u.0 some_n));
+        fits = rw (lengths-there actions snapped into _ lengths) (merged_fits s other (world.slots into) (world.slots source) h o (not-much s other u.0 some_n));
         ranks = λ test ranks. ap (λ (f : ℕ → ℕ). f into) (ranks-merge test into redraws s.k s.accuracy s.layouts other.layouts ranks) ∙ (let n : ranks into ≡ ranks into + 0 = omega arith in n);
       })
 
@@ -239,7 +226,7 @@ module _ {A : Type 0} where
     merge_none = merge-none A;
     read_well = λ s slot world h z. record {
       legal = record { scratch = (obeys (sum world.scratch) _ z, z); meets = (tt, tt) };
-      fits = fits-by s (world.slots slot) _ (changed-there world.slots slot (world.slots slot)) h;
+      fits = rw (changed-there world.slots slot (world.slots slot)) h;
       ranks = λ test ranks. omega arith;
     };
     read_lengths = λ slot world. ap (λ (slots : ℕ → List ℕ). let w : World (List ℕ) = record { slots = slots; scratch = world.scratch; target = world.target } in w) (changed-itself world.slots slot);
