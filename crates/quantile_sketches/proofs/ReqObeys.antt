@@ -1,13 +1,17 @@
 -- REQ sketches do what the rules of their kind say.
-use Rattle.std.proofs.Common.{◌≡◌, ◌⊎◌, ℕ, zero, suc, ◌+◌, ◌-◌, ◌%◌, ◌^◌, ◌<◌, ◌≤◌, ◌==◌, ◌||◌, ◌&&◌, not, nat_lt, if◌then◌else◌, Bool, true, false, List, [], ◌∷◌, Option, None, Some, Result, Ok, Err, refl, sym, ap, ap₂, ◌∙◌, inl, inr, arith, eqb-true, ltb-true, le-leb, eq-eqb, Ordering}
+use Rattle.std.proofs.Common.{◌≡◌, ◌≢◌, ◌⊎◌, ◌++◌, ℕ, zero, suc, ◌+◌, ◌-◌, ◌%◌, ◌^◌, ◌<◌, ◌≤◌, ◌==◌, ◌||◌, ◌&&◌, not, nat_lt, if◌then◌else◌, Bool, true, false, List, [], ◌∷◌, Option, None, Some, Result, Ok, Err, refl, sym, ap, ap₂, ◌∙◌, inl, inr, arith, eqb-true, ltb-true, le-leb, eq-eqb, Ordering}
 use Rattle.std.specs.Prelude.{◌↔◌, IsTrue, IfOk, IfErr, OnOk}
 use Rattle.std.proofs.lemmas.Result.{IfOk-weaker}
-use Rattle.std.proofs.lemmas.Bool.{cases_Bool, both_ways, false_from_ne_true, false≢true, not-true, or_cases, or_parts, true_from_ne_false}
+use Rattle.std.proofs.lemmas.Bool.{and_parts, cases_Bool, both_ways, eqb-false, false_from_ne_true, false≢true, not-true, or_cases, or_parts, true_from_ne_false}
 use mathlib.Core.Path.{fun_ext}
-use Rattle.std.specs.Cmp.{IsTotalOrder}
+use Rattle.std.specs.Cmp.{IsTotalOrder, tied_itself}
+use Rattle.std.specs.Option.{option_to_list}
+use Rattle.std.specs.Ordering.{is_gt}
 use Rattle.std.specs.declared.alloc.Global.{Global}
 use Rattle.std.specs.declared.vec.Vec.{Vec}
 use Rattle.sketch_base.specs.Bag.{Bag, empty_bag, retained}
+use Rattle.sketch_base.specs.Extremes.{IsLeastOf, IsGreatestOf}
+use Rattle.sketch_base.specs.Random.{bits_from, after_draws}
 use Rattle.sketch_base.specs.Spelling.{SpellingsTie}
 use Rattle.sketch_base.specs.declared.error.ErrorKind.{ErrorKind}
 use Rattle.sketch_base.specs.declared.error.ErrorKind.TheVariants.{InvalidArgument, OutOfMemory}
@@ -15,23 +19,23 @@ use Rattle.sketch_base.proofs.SpelledItems.{IsPrefixFree}
 use Rattle.sketch_req.specs.Actions.{bag_of, coins_of}
 use Rattle.sketch_req.specs.ImageLaws.{without_coins}
 use Rattle.sketch_req.specs.Level.{Level, fresh}
-use Rattle.sketch_req.specs.Schedule.{layouts_of, retained_of, update_layouts, merge_layouts}
+use Rattle.sketch_req.specs.Redrawn.{coins_of_redraw}
+use Rattle.sketch_req.specs.Schedule.{Layout, layouts_of, retained_of, merge_layouts}
 use Rattle.sketch_req.specs.Sections.{IsLegalK}
 use Rattle.sketch_req.specs.Sketch.{Req, IsSound}
 use Rattle.sketch_req.specs.declared.RankAccuracy.{RankAccuracy}
 use Rattle.sketch_req.specs.declared.RankAccuracy.TheVariants.{HighRank, LowRank}
 use Rattle.sketch_req.proofs.OneSketch.{one_sketch}
 use Rattle.sketch_req.proofs.Ranks.{retained_is}
+use Rattle.sketch_req.proofs.Redraws.{layouts-redrawn, redraws-are, redraws-draw}
 use Rattle.quantile_sketches.specs.Calls.{Obeys, ObeysRules}
 use Rattle.quantile_sketches.specs.Rules.{none_if}
 use Rattle.quantile_sketches.specs.ReqBehaviour.{req, IsEmptyOf, IsMade, IsCopied, IsImaged, IsLoaded, IsUnfit, TakesIn, TakesNone, DrawsAnew, JoinsIn}
 use Rattle.quantile_sketches.specs.ReqKind.{HasImage, req_kind, req_shape}
 use Rattle.quantile_sketches.specs.ReqRules.{ReqShape, new_shape, may_be_k, is_same, is_too_much, req_rules}
-use Rattle.quantile_sketches.specs.RunSteps.{Refuses, IsFresh, IsCopied as IsCopiedBy, IsReadBack, IsUpdated, IsWeighted, IsRedrawn, IsMerged}
+use Rattle.quantile_sketches.specs.RunSteps.{Refuses, Acts, merge_of, IsFresh, IsCopied as IsCopiedBy, IsReadBack, IsUpdated, IsWeighted, IsRedrawn, IsMerged}
 use Rattle.quantile_sketches.proofs.KllObeys.{imaged, never, unless-none}
 use Rattle.quantile_sketches.proofs.Refused.{refuses-by, err-of, unread}
-use Rattle.quantile_sketches.proofs.ReqCalls.{both-retained, redrawn_by, merged_by, unfit}
-pub use Rattle.quantile_sketches.proofs.ReqCalls.{same-itself}
 use Rattle.quantile_sketches.proofs.ReqCopies.{same-shape, copy_is, read_is}
 use Rattle.quantile_sketches.proofs.ReqRuleLaws.{not-false, same_accuracy, legal_k, enough_room, merged_as, no_merge, not-much}
 use Rattle.quantile_sketches.proofs.SameRuns.{no-err}
@@ -40,7 +44,38 @@ use Rattle.quantile_sketches.proofs.SameRuns.{no-err}
 pub may-be : (k : ℕ) → IsLegalK k → may_be_k k ≡ true
 may-be k l = ap₂ (λ (b c : Bool). b && c) (ap₂ (λ (b c : Bool). b && c) (le-leb 4 k l.at_least) (le-leb k 1024 l.at_most)) (eq-eqb (k % 2) 0 l.even)
 
+-- an accuracy is its own
+pub same-itself : (a : RankAccuracy) → is_same a a ≡ true
+same-itself HighRank = refl
+same-itself LowRank = refl
+
+-- what one sketch takes in of another
+pub both-retained : {A : Type 0} (s p : Req A) → retained (bag_of s.levels) + retained (bag_of p.levels) ≡ retained_of (layouts_of s.levels) + retained_of (layouts_of p.levels)
+both-retained s p = ap₂ (λ (n m : ℕ). n + m) (retained_is s.levels) (retained_is p.levels)
+
+-- a merge that the rules refuse
+pub unfit : {A : Type 0} (s p : Req A) → no_merge (req_shape s) (req_shape p) ≡ true → (s.accuracy ≢ p.accuracy) ⊎ ((2 ^ 64 ≤ s.n + p.n) ⊎ (2 ^ 32 ≤ retained (bag_of s.levels) + retained (bag_of p.levels)))
+unfit s p is =
+    elim (or_cases (not (is_same s.accuracy p.accuracy)) _ is) [
+      | inl other ↦ inl (λ same. both_ways _ (not-true _ other) (ap (is_same s.accuracy) (sym same) ∙ same-itself s.accuracy))
+      | inr much ↦
+          let both = both-retained s p in
+          elim (or_cases (nat_lt (2 ^ 64 - 1) (s.n + p.n)) (nat_lt 4294967295 (retained_of (layouts_of s.levels) + retained_of (layouts_of p.levels))) (and_parts (not (p.n == 0)) _ much).1) [
+            | inl heavy ↦ inr (inl (omega (arith, ltb-true (2 ^ 64 - 1) (s.n + p.n) heavy)))
+            | inr many ↦ inr (inr (omega (arith, both, ltb-true 4294967295 (retained_of (layouts_of s.levels) + retained_of (layouts_of p.levels)) many)))
+          ]
+    ]
+
 module _ {A : Type 0} {cmp : A → A → Ordering} (o : IsTotalOrder cmp) (spelling : A → Option (List ℕ)) where
+  -- an extreme is that of itself
+  own-least : (x : Option A) → IsLeastOf cmp (option_to_list x ++ []) x
+  own-least None = refl
+  own-least (Some x) = record { ties = inl (tied_itself o x); bounds = (ap is_gt (tied_itself o x), tt) }
+
+  own-greatest : (x : Option A) → IsGreatestOf cmp (option_to_list x ++ []) x
+  own-greatest None = refl
+  own-greatest (Some x) = record { ties = inl (tied_itself o x); bounds = (ap is_gt (tied_itself o x), tt) }
+
   no-coins : (level : Level A) → level.coin ≡ false → (h : ℕ) → coins_of (level ∷ []) h ≡ false
   no-coins level e zero = e
   no-coins level e (suc h) = refl
@@ -126,12 +161,48 @@ module _ {A : Type 0} {cmp : A → A → Ordering} (o : IsTotalOrder cmp) (spell
 
     redrawn : (s : Req A) (coins : Source) (r : Result (Unit {0}) ErrorKind) (t : Req A) (coins' : Source) → DrawsAnew cmp spelling bit next s coins r t coins' →
         Obeys (Some (req_shape s)) (IsRedrawn (req_kind cmp spelling) bit next s coins) s coins r t coins'
-    redrawn s coins (Ok u) t coins' h = (redrawn_by o spelling bit next s t coins coins' h.3 h.1 h.2, tt, tt)
+    redrawn s coins (Ok u) t coins' (done, is, drawn, sound) =
+        let word = bits_from bit next coins (coins_of_redraw s) in
+        let n = redraws-draw A 0 (layouts_of s.levels) in
+        let shape : List Layout → ReqShape = λ layouts. record { k = s.k; accuracy = s.accuracy; n = s.n; layouts = layouts } in (
+          rw is (rw drawn (
+            record {
+              shape_is = ap (λ (layouts : List Layout). Some (shape layouts)) (sym (layouts-redrawn word s.levels));
+              alike = rw n (redraws-are o word s.levels);
+              least_is = own-least s.least;
+              greatest_is = own-greatest s.greatest;
+              sound = rw is at sound;
+            },
+            ap (after_draws next coins) (sym n),
+          )),
+          tt,
+          tt,
+        )
     redrawn s coins (Err e) t coins' h = absurd (false≢true h.0)
 
     joined : (redraws : Bool) (p s : Req A) (coins : Source) (r : Result (Unit {0}) ErrorKind) (t : Req A) (coins' : Source) → IsSound cmp p → IsSound cmp s → JoinsIn cmp spelling bit next redraws p s coins r t coins' →
         Obeys ((req_rules {A = A}).merged redraws (req_shape s) (req_shape p)) (λ t coins'. IsMerged (req_kind cmp spelling) bit next redraws s p coins t coins' × IsSound cmp t) s coins r t coins'
-    joined redraws p s coins (Ok u) t coins' other was h = ((merged_by o spelling bit next redraws s p t coins coins' (Ok u) h.5 h.0 h.2 h.3 h.4, h.5), tt, tt)
+    joined redraws p s coins (Ok u) t coins' other was h = ((record { shape_is = ap₂ none_if accepted shape; empty = λ none. let kept = h.2 same none in (kept.1, kept.2); after = after }, h.5), tt, tt)
+      where
+        after : 0 < p.n → Acts (req_kind cmp spelling) bit next (Some (req_shape t)) s (bag_of p.levels) (merge_of (req_kind cmp spelling) redraws s p) (option_to_list p.least) (option_to_list p.greatest) coins t coins'
+        after some = let is = h.3 some in (record { shape_is = refl; alike = is.bag; least_is = is.least; greatest_is = is.greatest; sound = h.5 }, h.4 some)
+
+        accepted : no_merge (req_shape s) (req_shape p) ≡ false
+        accepted = false_from_ne_true _ (λ is. no-err u InvalidArgument (h.0.1 (unfit s p is)))
+
+        same : s.accuracy ≡ p.accuracy
+        same = (fits s p was other accepted).0
+
+        shape : merged_as (req_shape s) (req_shape p) (if p.n == 0 then layouts_of s.levels else merge_layouts s.k (layouts_of s.levels) (layouts_of p.levels)) ≡ req_shape t
+        shape =
+            elim (cases_Bool (p.n == 0)) [
+              | inl e ↦
+                  let n : s.n + p.n ≡ s.n = omega (arith, eqb-true p.n 0 e) in
+                  rw e (same-shape _ _ _ _ _ _ _ _ refl refl n refl ∙ ap req_shape (sym (h.2 same (eqb-true p.n 0 e)).1))
+              | inr e ↦
+                  let is = h.3 (omega (arith, eqb-false p.n 0 e)) in
+                  rw e (same-shape _ _ _ _ _ _ _ _ (sym is.k) (sym is.accuracy) (sym is.n) (sym is.layouts))
+            ]
     joined redraws p s coins (Err e) t coins' other was h =
         (tt, refuses-by (no_merge (req_shape s) (req_shape p)) _ e (λ is. err-of {T = Unit {0}} e (h.0.1 (unfit s p is))) good, h.6)
       where

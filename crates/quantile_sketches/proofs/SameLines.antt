@@ -41,12 +41,13 @@ of-kind e f is = ap (λ (e : ErrorKind). let r : Reply = Err (Sketch e) in r) is
 -- a query that good arguments give one answer, and others are refused
 module _ {X : Type 0} (answer : X → Answer) (gives : Result X ErrorKind → Type 0) (Good : Type 0)
     (one : (x y : X) → gives (Ok x) → gives (Ok y) → answer_text (Ok (answer x)) ≡ answer_text (Ok (answer y)))
-    (refused : (r : Result X ErrorKind) → gives r → (IsErrOf r InvalidArgument ↔ (Good → ⊥)) × IfErr r (λ e. Good → e ≡ OutOfMemory)) where
+    (taken : (x : X) → gives (Ok x) → (Good → ⊥) → IsErrOf {T = X} (Ok x) InvalidArgument) (refused : (e : ErrorKind) → gives (Err e) → (Good → ⊥) → IsErrOf {T = X} (Err e) InvalidArgument)
+    (wanted : (e : ErrorKind) → gives (Err e) → Good → e ≡ OutOfMemory) where
   clash : (x : X) (e : ErrorKind) → gives (Ok x) → gives (Err e) → (e ≡ OutOfMemory → ⊥) → ⊥
-  clash x e h k n = no-err x InvalidArgument ((refused (Ok x) h).0.1 (λ good. n ((refused (Err e) k).1 good)))
+  clash x e h k n = no-err x InvalidArgument (taken x h (λ good. n (wanted e k good)))
 
   kinds : (e : ErrorKind) → gives (Err e) → (e ≡ OutOfMemory → ⊥) → e ≡ InvalidArgument
-  kinds e k n = same-err {T = X} e InvalidArgument (Err e) refl ((refused (Err e) k).0.1 (λ good. n ((refused (Err e) k).1 good)))
+  kinds e k n = same-err {T = X} e InvalidArgument (Err e) refl (refused e k (λ good. n (wanted e k good)))
 
   replies-one : SameReplies (Replies answer gives)
   replies-one (Ok a) (Ok b) n m (x, h, is) (y, k, is') = ap (λ (a : Answer). answer_text (Ok a)) is ∙ (one x y h k ∙ sym (ap (λ (a : Answer). answer_text (Ok a)) is'))
@@ -64,20 +65,12 @@ module _ {cmp : ℤ → ℤ → Ordering} (order : IsTotalOrder cmp) (tied : Tie
   quantile-one bag least greatest fraction criteria =
       replies-one Item (IsQuantile cmp n bag least greatest fraction criteria) (IsFraction fraction)
       (λ x y h k. ap (λ (o : Option ℤ). answer_text (Ok (Item o))) (sym (same-answers order tied (quantile cmp bag least greatest fraction.weight fraction.total criteria) x h.3) ∙ same-answers order tied (quantile cmp bag least greatest fraction.weight fraction.total criteria) y k.3))
-      refused
-    where
-      refused : (r : Result (Option ℤ) ErrorKind) → IsQuantile cmp n bag least greatest fraction criteria r → (IsErrOf r InvalidArgument ↔ (IsFraction fraction → ⊥)) × IfErr r (λ e. IsFraction fraction → e ≡ OutOfMemory)
-      refused (Ok x) h = (h.0, tt)
-      refused (Err e) h = (h.0, λ good. (h.1 good).0)
+      (λ x h. h.0.1) (λ e h. h.0.1) (λ e h good. (h.1 good).0)
 
   -- one list of ranks is given
   pub ranks-one : (points : List ℤ) (weights : List ℕ) → SameReplies (Replies Ranks (AreRanks cmp n points weights))
-  ranks-one points weights = replies-one Ranks (AreRanks cmp n points weights) (IsIncreasing cmp points) one refused
+  ranks-one points weights = replies-one Ranks (AreRanks cmp n points weights) (IsIncreasing cmp points) one (λ x h. h.0.1) (λ e h. h.0.1) (λ e h good. (h.1 good).0)
     where
-      refused : (r : Spread) → AreRanks cmp n points weights r → (IsErrOf r InvalidArgument ↔ (IsIncreasing cmp points → ⊥)) × IfErr r (λ e. IsIncreasing cmp points → e ≡ OutOfMemory)
-      refused (Ok x) h = (h.0, tt)
-      refused (Err e) h = (h.0, λ good. (h.1 good).0)
-
       one : (x y : Option (Vec Rank Global)) → AreRanks cmp n points weights (Ok x) → AreRanks cmp n points weights (Ok y) → answer_text (Ok (Ranks x)) ≡ answer_text (Ok (Ranks y))
       one None None h k = refl
       one None (Some v) h k = absurd (false≢true (h.2.1 (k.2.0 refl)))
