@@ -53,8 +53,7 @@ module _ {C Shape S : Type 0} (grammar : Grammar C) {kind : Kind ℤ C Shape S} 
       )
       go (Err e) done =
           let same = left kind coin_of next_state e command (in_slot slots) coins (in_slot slots') coins' done in (
-            subst (λ (held : Held S). AreExecuted kind coin_of next_state [] 0 commands (λ slot. None) seed held coins') (sym (fun_ext same.0))
-                (subst (λ (n : ℕ). AreExecuted kind coin_of next_state [] 0 commands (λ slot. None) seed (in_slot slots) n) (sym same.1) of),
+            rw (fun_ext same.0, same.1) of,
             standing-same lawful coin_of next_state seed commands (in_slot slots) (in_slot slots') coins coins' st same.0 same.1,
           )
 
@@ -67,26 +66,18 @@ module _ {C Shape S : Type 0} (grammar : Grammar C) {kind : Kind ℤ C Shape S} 
   answered : (run : Known C) (command : Option (Request C)) (line : List (List ℕ)) (slots : Slots S) (coins : ℕ) (r : Reply) (slots' : Slots S) (coins' : ℕ) →
       Answers behaviour command line slots coins r slots' coins' → OfRun run slots coins → OfRun (run_after run command r) slots' coins'
   answered run None line slots coins r slots' coins' h of = stays run slots coins slots' coins' h.1 h.2 of
-  answered run (Some (Run command)) line slots coins r slots' coins' (v, is, h) of =
-      subst (λ r. OfRun (run_after run (Some (Run command)) r) slots' coins') (sym is) (carried run command slots coins v slots' coins' h of)
+  answered run (Some (Run command)) line slots coins r slots' coins' (v, is, h) of = rw is (carried run command slots coins v slots' coins' h of)
   answered run (Some (Load slot)) line slots coins r slots' coins' (v, is, h, same) of =
-      subst (λ r. OfRun (run_after run (Some (Load slot)) r) slots' coins') (sym is) (loaded run slot (Loads behaviour (image_in line)) slots coins v slots' coins' h same of)
+      rw is (loaded run slot (Loads behaviour (image_in line)) slots coins v slots' coins' h same of)
   answered run (Some query) line slots coins r slots' coins' h of = stays run slots coins slots' coins' h.1 h.2 of
 
   -- what holds of a run holds behind the answers
   module _ (Holds : Known C → Slots S → ℕ → Type 0) (by : (run : Known C) (slots : Slots S) (coins : ℕ) → OfRun run slots coins → Holds run slots coins) where
     answers-where : (run : Known C) (slots : Slots S) (coins : ℕ) (ls : List (List ℕ)) (out : List ℕ) → OfRun run slots coins → Serves grammar behaviour slots coins ls out → AnswersWhere grammar behaviour Holds run slots coins ls out
     answers-where run slots coins [] out of e = (by run slots coins of, e)
-    answers-where run slots coins (l ∷ ls) out of (r, slots', coins', rest, a, more, e) = (
-      by run slots coins of,
-      r,
-      slots',
-      coins',
-      rest,
-      a,
-      answers-where (run_after run (request_of grammar (words l)) r) slots' coins' ls rest (answered run (request_of grammar (words l)) (words l) slots coins r slots' coins' a of) more,
-      e,
-    )
+    answers-where run slots coins (l ∷ ls) out of (r, slots', coins', rest, a, more, e) =
+        let after = answered run (request_of grammar (words l)) (words l) slots coins r slots' coins' a of in
+        (by run slots coins of, r, slots', coins', rest, a, answers-where (run_after run (request_of grammar (words l)) r) slots' coins' ls rest after more, e)
 
     -- from empty slots on
     answers-hold : (ls : List (List ℕ)) (out : List ℕ) → Serves grammar behaviour (replicate SLOTS None) seed ls out → AnswersWhere grammar behaviour Holds (Some []) (replicate SLOTS None) seed ls out

@@ -139,23 +139,19 @@ module _ {A C Shape : Type 0} {rules : Rules A C Shape} {bare_rules : Rules Unit
 
   pub plan_from-bare : (plan : Plan Shape) (commands : List (Command A C)) → plan_from rules plan commands ≡ plan_from bare_rules plan (map bare commands)
   plan_from-bare plan [] = refl
-  plan_from-bare plan (c ∷ rest) =
-      plan_from-bare (plan_after rules plan c) rest ∙ ap (λ (p : Plan Shape). plan_from bare_rules p (map bare rest)) (plan-bare plan c)
+  plan_from-bare plan (c ∷ rest) = cc (plan_from-bare (plan_after rules plan c) rest, plan-bare plan c)
 
   trace-bare : (plan : Plan Shape) (commands : List (Command A C)) → map bare_event (trace_from rules plan commands) ≡ trace_from bare_rules plan (map bare commands)
   trace-bare plan [] = refl
   trace-bare plan (c ∷ rest) =
-      map-append bare_event (events_of rules plan c) (trace_from rules (plan_after rules plan c) rest)
-      ∙ ap₂ (λ (xs ys : List (Event Unit)). xs ++ ys) (events-bare plan c)
-      (trace-bare (plan_after rules plan c) rest ∙ ap (λ (p : Plan Shape). trace_from bare_rules p (map bare rest)) (plan-bare plan c))
+      let behind = trace_from rules (plan_after rules plan c) rest in
+      cc (map-append bare_event (events_of rules plan c) behind, events-bare plan c, trace-bare (plan_after rules plan c) rest, plan-bare plan c)
 
   -- two lists of commands that differ in their items alone
   pub same-plan : (commands commands' : List (Command A C)) → map bare commands ≡ map bare commands' → plan_of rules commands ≡ plan_of rules commands'
-  same-plan commands commands' e = plan_from-bare start_plan commands ∙ (ap (plan_from bare_rules start_plan) e ∙ sym (plan_from-bare start_plan commands'))
+  same-plan commands commands' e = cc (plan_from-bare start_plan commands, plan_from-bare start_plan commands')
 
   -- commands that differ in their items alone take as many coins
   pub same-coins : (commands commands' : List (Command A C)) → map bare commands ≡ map bare commands' → coins (trace_of rules commands) ≡ coins (trace_of rules commands')
   same-coins commands commands' e =
-      sym (coins-bare (trace_of rules commands))
-      ∙ (ap coins (trace-bare start_plan commands ∙ (ap (trace_from bare_rules start_plan) e ∙ sym (trace-bare start_plan commands')))
-      ∙ coins-bare (trace_of rules commands'))
+      cc (coins-bare (trace_of rules commands), coins-bare (trace_of rules commands'), trace-bare start_plan commands, trace-bare start_plan commands')

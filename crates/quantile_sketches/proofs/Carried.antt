@@ -61,14 +61,11 @@ Unless InvalidData P = P
 Unless OutOfMemory P = ⊤
 
 unless-refused : {Shape : Type 0} {P : Type 0} (shape : Option Shape) (e : ErrorKind) → Refuses shape e → (shape ≡ None → P) → Unless e P
-unless-refused shape InvalidArgument (inl r) f = f r.1
-unless-refused shape OutOfMemory r f = tt
-unless-refused shape e (inl r) f = absurd (let is = r.0 in cc)
-unless-refused shape e (inr r) f = absurd (let is = r.0 in cc)
+unless-refused shape e (inl r) f = rw r.0 (f r.1)
+unless-refused shape e (inr r) f = rw r.0 tt
 
 unless-memory : (P : Type 0) (e : ErrorKind) → e ≡ OutOfMemory → Unless e P
-unless-memory P OutOfMemory r = tt
-unless-memory P e r = absurd cc
+unless-memory P e wanted = rw wanted tt
 
 -- each sketch in the slots keeps what every sketch keeps
 abbrev pub AreSoundIn : {A C Shape S : Type 0} → Kind A C Shape S → Held S → Type 0
@@ -118,8 +115,7 @@ module _ {A C Shape S Source : Type 0} (kind : Kind A C Shape S) (bit : Source �
     turned : (slot : ℕ) (turn : Change Source S) → Turned slot turn → (o new : Option S) (r : Verdict) → Holds slots slot o → Turns turn o source r new source' → slots' ≡ set slots slot new →
         Comes r command (in_slot slots) source (in_slot slots') source'
     turned slot turn by None new r held (is, same, stays) set_is =
-        subst (λ r. Comes r command (in_slot slots) source (in_slot slots') source') (sym is)
-        (no command (in_slot slots) source (in_slot slots') source' (by.absent (in_slot-held slots slot None held)) (in_slot-same slots slots' slot None new held same set_is) stays)
+        rw is (no command (in_slot slots) source (in_slot slots') source' (by.absent (in_slot-held slots slot None held)) (in_slot-same slots slots' slot None new held same set_is) stays)
     turned slot turn by (Some s) new (Ok done) held (t, is, h) set_is =
         let puts : Puts (in_slot slots) slot t (in_slot slots') = λ q. ap (λ l. in_slot l q) set_is ∙ (in_slot-set slots slot (Some s) new held q ∙ ap (λ x. changed (in_slot slots) slot x q) is) in
         let d = by.done s t (in_slot-held slots slot (Some s) held) h puts in
@@ -220,12 +216,12 @@ module _ {A C Shape S Source : Type 0} {kind : Kind A C Shape S} (lawful : IsLaw
 
         unwritten : (s : S) (e : ErrorKind) → in_slot slots slot ≡ Some s → ((e ≡ InvalidArgument) × (¬ kind.HasImage s)) ⊎ (e ≡ OutOfMemory) → Unless e (IsDecided kind (RoundTrip slot) (in_slot slots) false)
         unwritten s e held (inr m) = unless-memory _ e m
-        unwritten s e held (inl n) = subst (λ e. Unless e (IsDecided kind (RoundTrip slot) (in_slot slots) false)) (sym n.0) (trip-decided slot false s held (λ f. absurd (false≢true f), λ has. absurd (n.1 has)))
+        unwritten s e held (inl n) = rw n.0 (trip-decided slot false s held (λ f. absurd (false≢true f), λ has. absurd (n.1 has)))
 
         refused : (s t : S) (e : ErrorKind) → in_slot slots slot ≡ Some s → RoundTrips behaviour s source (Err e) t source' → Unless e (IsDecided kind (RoundTrip slot) (in_slot slots) false) × (t ≡ s) × (source' ≡ source)
         refused s t e held (inl (bytes, written, (read, same)), stays) = (unless-memory _ e (obeys.read_back s bytes (Err e) written read).1, same, stays)
         refused s t e held (inr (f, written, is, same), stays) =
-            (unwritten s e held (subst (λ e. ((e ≡ InvalidArgument) × (¬ kind.HasImage s)) ⊎ (e ≡ OutOfMemory)) (sym (same-err e f _ refl is)) (obeys.imaged s (Err f) (sound slot s held) written).1), same, stays)
+            (unwritten s e held (rw (same-err e f _ refl is) (obeys.imaged s (Err f) (sound slot s held) written).1), same, stays)
 
     -- a merge with coins drawn anew or not, by the command that asks for it
     module _ (redraws : Bool) (into from : ℕ) (command : Command A C)
@@ -293,8 +289,7 @@ module _ {A C Shape S Source : Type 0} {kind : Kind A C Shape S} (lawful : IsLaw
       comes-merge : (b : Bool) → (into == from) ≡ b → (r : Verdict) → Merges behaviour bit next redraws b into from slots source r slots' source' → Goes r command
       comes-merge true e r h = changes command into (JoinsCopy behaviour bit next redraws) (merge-copy (eqb-true into from e)) r h
       comes-merge false e r (None, its, (o, new, held, (is, same, stays), set_is)) =
-          subst (λ r. Goes r command) (sym is)
-          (no kind bit next command (in_slot slots) source (in_slot slots') source'
+          rw is (no kind bit next command (in_slot slots) source (in_slot slots') source'
           (decide false (not-given _ (ap (λ y. merged-by (in_slot slots into) y) (in_slot-held slots from None its) ∙ merged-none _)))
           (in_slot-same slots slots' into o new held same set_is) stays)
       comes-merge false e r (Some p, its, (o, new, held, turns, set_is)) =
