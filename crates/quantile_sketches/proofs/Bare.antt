@@ -37,7 +37,8 @@ module _ {A : Type 0} where
   bare-append xs ys e f = cc (map-append bare_action xs ys)
 
   -- actions where a test holds, and where not
-  pub bare-if : (b : Bool) (xs ys : List (Action A)) {xs' ys' : List (Action Unit)} → map bare_action xs ≡ xs' → map bare_action ys ≡ ys' → map bare_action (if b then xs else ys) ≡ (if b then xs' else ys')
+  pub bare-if : (b : Bool) (xs ys : List (Action A)) {xs' ys' : List (Action Unit)} → map bare_action xs ≡ xs' → map bare_action ys ≡ ys' →
+      map bare_action (if b then xs else ys) ≡ (if b then xs' else ys')
   bare-if true xs ys e f = e
   bare-if false xs ys e f = f
 
@@ -62,7 +63,9 @@ module _ {A : Type 0} where
 
   coins-bare : (trace : List (Event A)) → coins (map bare_event trace) ≡ coins trace
   coins-bare [] = refl
-  coins-bare (e ∷ rest) = cc (sum_by-cons (λ (e : Event Unit). cond (event_draws e) 1 0) (bare_event e) (map bare_event rest), sum_by-cons (λ (e : Event A). cond (event_draws e) 1 0) e rest, draws-bare e, coins-bare rest)
+  coins-bare (e ∷ rest) =
+      let mine = sum_by-cons (λ (e : Event A). cond (event_draws e) 1 0) e rest in
+      cc (mine, sum_by-cons (λ (e : Event Unit). cond (event_draws e) 1 0) (bare_event e) (map bare_event rest), draws-bare e, coins-bare rest)
 
   events-at : (slot : ℕ) (actions : List (Action A)) → map bare_event (events_at slot actions) ≡ events_at slot (map bare_action actions)
   events-at slot [] = refl
@@ -109,7 +112,8 @@ module _ {A C Shape : Type 0} {rules : Rules A C Shape} {bare_rules : Rules Unit
   actions-on (Some s) f h = h s
 
   -- actions in a slot, where it holds a sketch
-  acts-at : (slot : ℕ) (o : Option Shape) (f : Shape → List (Action A)) {g : Shape → List (Action Unit)} → ((s : Shape) → map bare_action (f s) ≡ g s) → map bare_event (events_at slot (actions_on o f)) ≡ events_at slot (actions_on o g)
+  acts-at : (slot : ℕ) (o : Option Shape) (f : Shape → List (Action A)) {g : Shape → List (Action Unit)} → ((s : Shape) → map bare_action (f s) ≡ g s) →
+      map bare_event (events_at slot (actions_on o f)) ≡ events_at slot (actions_on o g)
   acts-at slot o f h = events-at slot _ ∙ ap (events_at slot) (actions-on o f h)
 
   count-bare : (o : Option Shape) → count_of rules o ≡ count_of bare_rules o

@@ -305,7 +305,8 @@ module _ {A C Shape S Source : Type 0} {kind : Kind A C Shape S} (lawful : IsLaw
         ruled (Update slot x) slot kind.rules.updated (λ accepted e. e) (taken x) (λ s t. Took x s source t source') (f x)
         (λ s t d. d.2.0.shape_is) (λ s t held d puts. record { old = s; taken = d.0; made = t; held = held; ties = d.1; after = d.2; puts = puts }) r h
     comes taken weighted f g (UpdateWeighted slot x weight) r h =
-        ruled (UpdateWeighted slot x weight) slot (λ shape. kind.rules.updated_weighted shape weight) (λ accepted e. e) (weighted x weight) (λ s t. TookWeighted x weight s source t source') (g x weight)
+        ruled (UpdateWeighted slot x weight) slot (λ shape. kind.rules.updated_weighted shape weight) (λ accepted e. e) (weighted x weight) (λ s t. TookWeighted x weight s source t source')
+        (g x weight)
         (λ s t d. d.2.0.shape_is) (λ s t held d puts. record { old = s; taken = d.0; made = t; held = held; ties = d.1; after = d.2; puts = puts }) r h
     comes taken weighted f g (Merge into from) r h = comes-merge false into from (Merge into from) (λ accepted e. e) (λ m. m) (into == from) refl r h
     comes taken weighted f g (Reset slot) r h =
@@ -319,7 +320,8 @@ module _ {A C Shape S Source : Type 0} {kind : Kind A C Shape S} (lawful : IsLaw
         }) r h
     comes taken weighted f g (RoundTrip slot) r h = comes-trip slot r h
     comes taken weighted f g (Redraw slot) r h =
-        ruled (Redraw slot) slot kind.rules.redrawn (λ accepted e. e) (behaviour.redrawn Source bit next) (λ s t. IsRedrawn kind bit next s source t source') (λ s t r was h. obeys.redrawn s source r t source' was h)
+        ruled (Redraw slot) slot kind.rules.redrawn (λ accepted e. e) (behaviour.redrawn Source bit next) (λ s t. IsRedrawn kind bit next s source t source')
+        (λ s t r was h. obeys.redrawn s source r t source' was h)
         (λ s t d. d.0.shape_is) (λ s t held d puts. record { old = s; made = t; held = held; after = d; puts = puts }) r h
     comes taken weighted f g (MergeRedrawn into from) r h = comes-merge true into from (MergeRedrawn into from) (λ accepted e. e) (λ m. m) (into == from) refl r h
 

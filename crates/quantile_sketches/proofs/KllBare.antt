@@ -15,7 +15,8 @@ module _ (A : Type 0) where
   lengths-by : (actions : List (Action A)) {actions' : List (Action Unit)} (work : Work (List ℕ)) → map bare_action actions ≡ actions' → acts_on_lengths actions work ≡ acts_on_lengths actions' work
   lengths-by actions work e = cc (acts-bare actions work)
 
-  bag-by : (actions : List (Action A)) {actions' : List (Action Unit)} (work : Work (List ℕ)) → map bare_action actions ≡ actions' → (acts_on_lengths actions work).bag ≡ (acts_on_lengths actions' work).bag
+  bag-by : (actions : List (Action A)) {actions' : List (Action Unit)} (work : Work (List ℕ)) → map bare_action actions ≡ actions' →
+      (acts_on_lengths actions work).bag ≡ (acts_on_lengths actions' work).bag
   bag-by actions work e = ap (λ (w : Work (List ℕ)). w.bag) (lengths-by actions work e)
 
   bare-room : (k : ℕ) (lengths : List ℕ) → map bare_action (room_actions {A = A} k lengths) ≡ room_actions k lengths
@@ -25,7 +26,8 @@ module _ (A : Type 0) where
   bare-update k lengths x = bare-append (room_actions k lengths) _ (bare-room k lengths) refl
 
   -- an update with a weight
-  bare-digit : (f : List A → List (Action A)) (g : List Unit → List (Action Unit)) (weight : ℕ) (x : A) → map bare_action (f (x ∷ [])) ≡ g (tt ∷ []) → map bare_action (f []) ≡ g [] → map bare_action (f (at_digit weight x)) ≡ g (at_digit weight tt)
+  bare-digit : (f : List A → List (Action A)) (g : List Unit → List (Action Unit)) (weight : ℕ) (x : A) → map bare_action (f (x ∷ [])) ≡ g (tt ∷ []) → map bare_action (f []) ≡ g [] →
+      map bare_action (f (at_digit weight x)) ≡ g (at_digit weight tt)
   bare-digit f g weight x one none =
       elim (weight % 2 == 1) as (λ b. map bare_action (f (if b then x ∷ [] else [])) ≡ g (if b then tt ∷ [] else [])) [
         | true ↦ one
@@ -35,7 +37,8 @@ module _ (A : Type 0) where
   bare-puts : (more level weight : ℕ) (x : A) → map bare_action (puts_actions more level weight x) ≡ puts_actions {A = Unit} more level weight tt
   unfolding puts_actions
   bare-puts zero level weight x = refl
-  bare-puts (suc more) level weight x = bare-append (map (λ y. Put level y) (at_digit weight x)) _ (bare-digit (map (λ y. Put level y)) (map (λ y. Put level y)) weight x refl refl) (bare-puts more (suc level) (weight / 2) x)
+  bare-puts (suc more) level weight x =
+      bare-append (map (λ y. Put level y) (at_digit weight x)) _ (bare-digit (map (λ y. Put level y)) (map (λ y. Put level y)) weight x refl refl) (bare-puts more (suc level) (weight / 2) x)
 
   bare-entering : (k : ℕ) (lengths : List ℕ) (x : A) (weight : ℕ) → map bare_action (entering_actions k lengths x weight) ≡ entering_actions {A = Unit} k lengths tt weight
   bare-entering k lengths x weight =
@@ -53,7 +56,8 @@ module _ (A : Type 0) where
       bare-append step _ (bare-step k level lengths) (bare-walk k more (suc level) _ ∙ ap (walk_actions {A = Unit} k more (suc level)) (bag-by step _ (bare-step k level lengths)))
 
   -- general compress, where there is need of it
-  bare-compress : (b : Bool) (k : ℕ) {lengths lengths' : List ℕ} → lengths ≡ lengths' → map bare_action (if b then compress_actions {A = A} k lengths else []) ≡ (if b then compress_actions k lengths' else [])
+  bare-compress : (b : Bool) (k : ℕ) {lengths lengths' : List ℕ} → lengths ≡ lengths' →
+      map bare_action (if b then compress_actions {A = A} k lengths else []) ≡ (if b then compress_actions k lengths' else [])
   bare-compress b k {lengths} e = bare-if b _ _ (bare-walk k 61 0 lengths ∙ ap (compress_actions {A = Unit} k) e) refl
 
   pub bare-weighted : (k : ℕ) (lengths : List ℕ) (x : A) (weight : ℕ) → map bare_action (weighted_actions k lengths x weight) ≡ weighted_actions {A = Unit} k lengths tt weight

@@ -30,7 +30,8 @@ module _ (A : Type 0) where
       let joined = joined_layouts k layouts others in
       let joins = bare-joins A (length others) 0 in
       let room = bare-room k accuracy joined in
-      bare-if redraws _ _ (bare-append (joins_actions (length others) 0) _ joins (bare-append (redraw_actions joined) _ (bare-redraws 0 joined) room)) (bare-append (joins_actions (length others) 0) _ joins room)
+      bare-if redraws _ _ (bare-append (joins_actions (length others) 0) _ joins (bare-append (redraw_actions joined) _ (bare-redraws 0 joined) room))
+      (bare-append (joins_actions (length others) 0) _ joins room)
 
   -- REQ's rules hang on no item
   pub req-bare : AreBare {A = A} req_rules req_rules

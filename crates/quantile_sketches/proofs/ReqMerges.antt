@@ -25,7 +25,8 @@ abbrev behind : {A : Type 0} → (redraws : Bool) → ℕ → RankAccuracy → L
 behind redraws k accuracy joined = if redraws then redraw_actions joined ++ room_actions k accuracy joined else room_actions k accuracy joined
 
 module _ (A : Type 0) where
-  merge_is : (redraws : Bool) (k : ℕ) (accuracy : RankAccuracy) (ls others : List Layout) → merge_actions_by {A = A} redraws k accuracy ls others ≡ joins_actions (length others) 0 ++ behind redraws k accuracy (joined_layouts k ls others)
+  merge_is : (redraws : Bool) (k : ℕ) (accuracy : RankAccuracy) (ls others : List Layout) →
+      merge_actions_by {A = A} redraws k accuracy ls others ≡ joins_actions (length others) 0 ++ behind redraws k accuracy (joined_layouts k ls others)
   merge_is true k accuracy ls others = refl
   merge_is false k accuracy ls others = refl
 
@@ -34,7 +35,8 @@ module _ (A : Type 0) where
   behind-leads redraws k accuracy ls others l a =
       let joined = joined_layouts k ls others in
       let room = room_leads {A = A} k accuracy l joined (joined_are k l ls others a) in
-      cond_both redraws _ _ (λ actions. Leads {A = A} k accuracy joined actions (merge_layouts k ls others)) (λ e. leads-redraws {A = A} k accuracy 0 joined joined _ (room_actions k accuracy joined) room) (λ e. room)
+      cond_both redraws _ _ (λ actions. Leads {A = A} k accuracy joined actions (merge_layouts k ls others))
+      (λ e. leads-redraws {A = A} k accuracy 0 joined joined _ (room_actions k accuracy joined) room) (λ e. room)
 
   pub legal-by : (redraws : Bool) (k : ℕ → ℕ) (accuracy : RankAccuracy) (source target : ℕ) (ls others : List Layout) (world : World (List ℕ)) → IsLegalK (k target) → AreLayouts (k target) ls →
       world.slots target ≡ counts_of ls → world.slots source ≡ counts_of others → sum world.scratch ≡ 0 →

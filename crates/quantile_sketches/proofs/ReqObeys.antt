@@ -54,7 +54,8 @@ pub both-retained : {A : Type 0} (s p : Req A) → retained (bag_of s.levels) + 
 both-retained s p = ap₂ (λ (n m : ℕ). n + m) (retained_is s.levels) (retained_is p.levels)
 
 -- a merge that the rules refuse
-pub unfit : {A : Type 0} (s p : Req A) → no_merge (req_shape s) (req_shape p) ≡ true → (s.accuracy ≢ p.accuracy) ⊎ ((2 ^ 64 ≤ s.n + p.n) ⊎ (2 ^ 32 ≤ retained (bag_of s.levels) + retained (bag_of p.levels)))
+pub unfit : {A : Type 0} (s p : Req A) → no_merge (req_shape s) (req_shape p) ≡ true →
+    (s.accuracy ≢ p.accuracy) ⊎ ((2 ^ 64 ≤ s.n + p.n) ⊎ (2 ^ 32 ≤ retained (bag_of s.levels) + retained (bag_of p.levels)))
 unfit s p is =
     elim (or_cases (not (is_same s.accuracy p.accuracy)) _ is) [
       | inl other ↦ inl (λ same. both_ways _ (not-true _ other) (ap (is_same s.accuracy) (sym same) ∙ same-itself s.accuracy))
@@ -111,7 +112,8 @@ module _ {A : Type 0} {cmp : A → A → Ordering} (o : IsTotalOrder cmp) (spell
   read-back free ties s bytes (Err e) w h = (tt, unread e h.1 (λ d. h.2 d (without_coins s) [] w.0.1))
 
   -- where nothing is too much
-  fits : (s p : Req A) → IsSound cmp s → IsSound cmp p → no_merge (req_shape s) (req_shape p) ≡ false → (s.accuracy ≡ p.accuracy) × (s.n + p.n < 2 ^ 64) × (retained (bag_of s.levels) + retained (bag_of p.levels) < 2 ^ 32)
+  fits : (s p : Req A) → IsSound cmp s → IsSound cmp p → no_merge (req_shape s) (req_shape p) ≡ false →
+      (s.accuracy ≡ p.accuracy) × (s.n + p.n < 2 ^ 64) × (retained (bag_of s.levels) + retained (bag_of p.levels) < 2 ^ 32)
   fits s p sound other is =
       let same = same_accuracy s.accuracy p.accuracy (not-false _ (or_parts (not (is_same s.accuracy p.accuracy)) _ is).0) in
       let both = both-retained s p in
@@ -180,11 +182,14 @@ module _ {A : Type 0} {cmp : A → A → Ordering} (o : IsTotalOrder cmp) (spell
         )
     redrawn s coins (Err e) t coins' h = absurd (false≢true h.0)
 
-    joined : (redraws : Bool) (p s : Req A) (coins : Source) (r : Result (Unit {0}) ErrorKind) (t : Req A) (coins' : Source) → IsSound cmp p → IsSound cmp s → JoinsIn cmp spelling bit next redraws p s coins r t coins' →
+    joined : (redraws : Bool) (p s : Req A) (coins : Source) (r : Result (Unit {0}) ErrorKind) (t : Req A) (coins' : Source) → IsSound cmp p → IsSound cmp s →
+        JoinsIn cmp spelling bit next redraws p s coins r t coins' →
         Obeys ((req_rules {A = A}).merged redraws (req_shape s) (req_shape p)) (λ t coins'. IsMerged (req_kind cmp spelling) bit next redraws s p coins t coins' × IsSound cmp t) s coins r t coins'
-    joined redraws p s coins (Ok u) t coins' other was h = ((record { shape_is = ap₂ none_if accepted shape; empty = λ none. let kept = h.2 same none in (kept.1, kept.2); after = after }, h.5), tt, tt)
+    joined redraws p s coins (Ok u) t coins' other was h =
+        ((record { shape_is = ap₂ none_if accepted shape; empty = λ none. let kept = h.2 same none in (kept.1, kept.2); after = after }, h.5), tt, tt)
       where
-        after : 0 < p.n → Acts (req_kind cmp spelling) bit next (Some (req_shape t)) s (bag_of p.levels) (merge_of (req_kind cmp spelling) redraws s p) (option_to_list p.least) (option_to_list p.greatest) coins t coins'
+        after : 0 < p.n →
+            Acts (req_kind cmp spelling) bit next (Some (req_shape t)) s (bag_of p.levels) (merge_of (req_kind cmp spelling) redraws s p) (option_to_list p.least) (option_to_list p.greatest) coins t coins'
         after some = let is = h.3 some in (record { shape_is = refl; alike = is.bag; least_is = is.least; greatest_is = is.greatest; sound = h.5 }, h.4 some)
 
         accepted : no_merge (req_shape s) (req_shape p) ≡ false

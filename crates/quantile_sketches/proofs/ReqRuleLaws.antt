@@ -156,7 +156,8 @@ module _ {A : Type 0} where
   redraw-well s t e slot world h z =
       let actions : List (Action A) = redraw_actions s.layouts in
       let leads = redraw-leads {A = A} s.k s.accuracy s.layouts h.are in
-      let lengths : (acts_on_lengths actions (record { bag = world.slots slot; scratch = world.scratch })).bag ≡ counts_of s.layouts = rw h.lengths_are (ap (λ (w : Work (List ℕ)). w.bag) (leads.lengths world.scratch)) in
+      let lengths : (acts_on_lengths actions (record { bag = world.slots slot; scratch = world.scratch })).bag ≡ counts_of s.layouts =
+      rw h.lengths_are (ap (λ (w : Work (List ℕ)). w.bag) (leads.lengths world.scratch)) in
       rw (← some-one s t e) (record {
         legal = legal (λ i. s.k) (events_at slot actions) world (fits-legal (λ i. s.k) s.accuracy actions slot (counts_of s.layouts) world leads.fits h.lengths_are z);
         fits = rw (lengths-there actions world slot _ lengths, ← h.lengths_are) h;

@@ -89,7 +89,8 @@ module _ {C S : Type 0} (behaviour : Behaviour S ℤ C) where
     pub pmfs : (s : S) (points : List ℤ) (criteria : SearchCriteria) → SameReplies (Replies Ranks (behaviour.pmf s points criteria))
 
   -- what a slot's sketch is asked
-  reads-one : (told : S → Reply → Type 0) → ((s : S) → SameReplies (told s)) → (slot : ℕ) (slots ts us : Slots S) (coins left left' : ℕ) (r w : Reply) → r ≢ Err (Sketch OutOfMemory) → w ≢ Err (Sketch OutOfMemory) →
+  reads-one : (told : S → Reply → Type 0) → ((s : S) → SameReplies (told s)) → (slot : ℕ) (slots ts us : Slots S) (coins left left' : ℕ) (r w : Reply) → r ≢ Err (Sketch OutOfMemory) →
+      w ≢ Err (Sketch OutOfMemory) →
       Reads told slot slots r × (ts ≡ slots) × (left ≡ coins) → Reads told slot slots w × (us ≡ slots) × (left' ≡ coins) → (answer_text r ≡ answer_text w) × (ts ≡ us) × (left ≡ left')
   reads-one told same slot slots ts us coins left left' r w n m ((o, held, h), kept, stays) ((o', held', k), kept', stays') =
       (go o h (subst (λ (x : Option S). Asks told x w) (same_Some o' o (sym held' ∙ held)) k), kept ∙ sym kept', stays ∙ sym stays')
@@ -153,7 +154,8 @@ module _ {C S : Type 0} (behaviour : Behaviour S ℤ C) where
         let a = one-command behaviour coin_of next_state one.calls command slots ts us coins left left' v v' (verdict-ample r v n is) (verdict-ample w v' m is') h k in
         (ap answer_text (is ∙ (ap reply_of a.0 ∙ sym is')), a.1, a.2)
     one-executed (RankOf slot item criteria) line slots ts us coins left left' r w n m h k =
-        reads-one _ (λ s r w n m h k. ap answer_text (h.2 ∙ (ap (λ (o : Option Rank). let a : Reply = Ok (RankIs o) in a) (one.ranked s item criteria h.0 k.0 h.1 k.1) ∙ sym k.2))) slot slots ts us coins left left' r w n m h k
+        reads-one _
+        (λ s r w n m h k. ap answer_text (h.2 ∙ (ap (λ (o : Option Rank). let a : Reply = Ok (RankIs o) in a) (one.ranked s item criteria h.0 k.0 h.1 k.1) ∙ sym k.2))) slot slots ts us coins left left' r w n m h k
     one-executed (Quantile slot fraction criteria) line slots ts us coins left left' r w n m h k = reads-one _ (λ s. one.found s fraction criteria) slot slots ts us coins left left' r w n m h k
     one-executed (Cdf slot criteria) line slots ts us coins left left' r w n m h k =
         reads-one _ (λ s. spreads-one (points_of line) (behaviour.cdf s (points_of line) criteria) (one.cdfs s (points_of line) criteria)) slot slots ts us coins left left' r w n m h k
