@@ -42,10 +42,7 @@ in_slot-set slots slot o new h q = go (q == slot) refl
 -- a slot that holds what it held
 in_slot-same : {S : Type 0} (slots slots' : Slots S) (slot : ℕ) (o new : Option S) → Holds slots slot o → new ≡ o → slots' ≡ set slots slot new → AreSame (in_slot slots) (in_slot slots')
 in_slot-same slots slots' slot o new h same is q =
-    ap (λ l. in_slot l q) is
-    ∙ (in_slot-set slots slot o new h q
-    ∙ (ap (λ x. changed (in_slot slots) slot x q) (same ∙ sym (in_slot-held slots slot o h))
-    ∙ changed-own (in_slot slots) slot q))
+    cc (in_slot-set slots slot o new h q, in_slot-held slots slot o h, changed-own (in_slot slots) slot q)
 
 -- a command is accepted where the rules give a shape
 given : {X : Type 0} (o : Option X) (x : X) → o ≡ Some x → true ≡ not (not (is_some o))

@@ -50,8 +50,7 @@ imaged {H} (Err e) has denied kind = (tt, unwritten e (¬ H) (λ is. denied (ap 
 
 -- what is never done
 pub never : {S Source : Type 0} (Shape : Type 0) (does : S → Source → Type 0) (s : S) (coins : Source) (r : Result (Unit {0}) ErrorKind) (t : S) (coins' : Source) →
-    IsErrOf r InvalidArgument × (t ≡ s) × (coins' ≡ coins) →
-    Obeys {Shape = Shape} None does s coins r t coins'
+    IsErrOf r InvalidArgument × (t ≡ s) × (coins' ≡ coins) → Obeys {Shape = Shape} None does s coins r t coins'
 never Shape does s coins (Ok u) t coins' h = absurd (no-err u InvalidArgument h.0)
 never Shape does s coins (Err e) t coins' h = (tt, inl (err-of {T = Unit {0}} e h.0, refl), (h.1, h.2))
 
@@ -116,8 +115,8 @@ module _ {A : Type 0} {cmp : A → A → Ordering} (o : IsTotalOrder cmp) (spell
     joined true p s coins r t coins' was h = never KllShape (λ t coins'. IsMerged (kll_kind cmp spelling) bit next true s p coins t coins' × IsSound cmp t) s coins r t coins' h
     joined false p s coins (Ok u) t coins' was h = ((record { shape_is = ap₂ none_if accepted shape; empty = λ none. let kept = h.2 none in (kept.1, kept.2); after = after }, h.5), tt, tt)
       where
-        after : 0 < p.n →
-            Acts (kll_kind cmp spelling) bit next (Some (kll_shape t)) s (bag_of p) (merge_of (kll_kind cmp spelling) false s p) (option_to_list p.least) (option_to_list p.greatest) coins t coins'
+        after : 0 < p.n → Acts (kll_kind cmp spelling) bit next (Some (kll_shape t)) s (bag_of p) (merge_of (kll_kind cmp spelling) false s p)
+            (option_to_list p.least) (option_to_list p.greatest) coins t coins'
         after some = let is = h.3 some in (record { shape_is = refl; alike = is.bag; least_is = is.least; greatest_is = is.greatest; sound = h.5 }, h.4 some)
 
         accepted : nat_lt (2 ^ 64 - 1) (s.n + p.n) ≡ false

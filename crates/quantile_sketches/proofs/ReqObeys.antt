@@ -2,6 +2,7 @@
 use Rattle.std.proofs.Common.{◌≡◌, ◌≢◌, ◌⊎◌, ◌++◌, ℕ, zero, suc, ◌+◌, ◌-◌, ◌%◌, ◌^◌, ◌<◌, ◌≤◌, ◌==◌, ◌||◌, ◌&&◌, not, nat_lt, if◌then◌else◌, Bool, true, false, List, [], ◌∷◌, Option, None, Some, Result, Ok, Err, refl, sym, ap, ap₂, ◌∙◌, inl, inr, arith, eqb-true, ltb-true, le-leb, eq-eqb, Ordering}
 use Rattle.std.specs.Prelude.{◌↔◌, IsTrue, IfOk, IfErr, OnOk}
 use Rattle.std.proofs.lemmas.Result.{IfOk-weaker}
+use Rattle.std.proofs.lemmas.Bool.Decides.{nat_tests}
 use Rattle.std.proofs.lemmas.Bool.{and_parts, cases_Bool, both_ways, eqb-false, false_from_ne_true, false≢true, not-true, or_cases, or_parts, true_from_ne_false}
 use mathlib.Core.Path.{fun_ext}
 use Rattle.std.specs.Cmp.{IsTotalOrder, tied_itself}
@@ -57,15 +58,9 @@ both-retained s p = ap₂ (λ (n m : ℕ). n + m) (retained_is s.levels) (retain
 pub unfit : {A : Type 0} (s p : Req A) → no_merge (req_shape s) (req_shape p) ≡ true →
     (s.accuracy ≢ p.accuracy) ⊎ ((2 ^ 64 ≤ s.n + p.n) ⊎ (2 ^ 32 ≤ retained (bag_of s.levels) + retained (bag_of p.levels)))
 unfit s p is =
-    elim (or_cases (not (is_same s.accuracy p.accuracy)) _ is) [
-      | inl other ↦ inl (λ same. both_ways _ (not-true _ other) (ap (is_same s.accuracy) (sym same) ∙ same-itself s.accuracy))
-      | inr much ↦
-          let both = both-retained s p in
-          elim (or_cases (nat_lt (2 ^ 64 - 1) (s.n + p.n)) (nat_lt 4294967295 (retained_of (layouts_of s.levels) + retained_of (layouts_of p.levels))) (and_parts (not (p.n == 0)) _ much).1) [
-            | inl heavy ↦ inr (inl (omega (arith, ltb-true (2 ^ 64 - 1) (s.n + p.n) heavy)))
-            | inr many ↦ inr (inr (omega (arith, both, ltb-true 4294967295 (retained_of (layouts_of s.levels) + retained_of (layouts_of p.levels)) many)))
-          ]
-    ]
+    let both = both-retained s p in
+    let same : s.accuracy ≡ p.accuracy → is_same s.accuracy p.accuracy ≡ true = λ e. ap (is_same s.accuracy) (sym e) ∙ same-itself s.accuracy in
+    grind (arith, nat_tests)
 
 module _ {A : Type 0} {cmp : A → A → Ordering} (o : IsTotalOrder cmp) (spelling : A → Option (List ℕ)) where
   -- an extreme is that of itself
@@ -140,11 +135,7 @@ module _ {A : Type 0} {cmp : A → A → Ordering} (o : IsTotalOrder cmp) (spell
   module _ {Source : Type 0} (bit : Source → Bool) (next : Source → Source) where
     -- an update that the rules refuse
     full : (s : Req A) → IsSound cmp s → is_too_much (s.n + 1) (retained_of (layouts_of s.levels) + 1) ≡ true → (s.n ≡ 2 ^ 64 - 1) ⊎ (retained (bag_of s.levels) ≡ 4294967295)
-    full s was is =
-        elim (or_cases (nat_lt (2 ^ 64 - 1) (s.n + 1)) _ is) [
-          | inl l ↦ inl (omega (arith, was.n_fits, ltb-true (2 ^ 64 - 1) (s.n + 1) l))
-          | inr l ↦ inr (omega (arith, was.few_items, retained_is s.levels, ltb-true 4294967295 (retained_of (layouts_of s.levels) + 1) l))
-        ]
+    full s was is = let retains = retained_is s.levels in grind (arith, nat_tests)
 
     taken : (x : A) (s : Req A) (coins : Source) (r : Result (Unit {0}) ErrorKind) (t : Req A) (coins' : Source) → IsSound cmp s → TakesIn cmp spelling bit next s x coins r t coins' →
         Obeys ((req_rules {A = A}).updated (req_shape s)) (IsUpdated (req_kind cmp spelling) bit next s x coins) s coins r t coins'
@@ -188,8 +179,8 @@ module _ {A : Type 0} {cmp : A → A → Ordering} (o : IsTotalOrder cmp) (spell
     joined redraws p s coins (Ok u) t coins' other was h =
         ((record { shape_is = ap₂ none_if accepted shape; empty = λ none. let kept = h.2 same none in (kept.1, kept.2); after = after }, h.5), tt, tt)
       where
-        after : 0 < p.n →
-            Acts (req_kind cmp spelling) bit next (Some (req_shape t)) s (bag_of p.levels) (merge_of (req_kind cmp spelling) redraws s p) (option_to_list p.least) (option_to_list p.greatest) coins t coins'
+        after : 0 < p.n → Acts (req_kind cmp spelling) bit next (Some (req_shape t)) s (bag_of p.levels) (merge_of (req_kind cmp spelling) redraws s p)
+            (option_to_list p.least) (option_to_list p.greatest) coins t coins'
         after some = let is = h.3 some in (record { shape_is = refl; alike = is.bag; least_is = is.least; greatest_is = is.greatest; sound = h.5 }, h.4 some)
 
         accepted : no_merge (req_shape s) (req_shape p) ≡ false

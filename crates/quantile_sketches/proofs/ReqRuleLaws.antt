@@ -1,5 +1,6 @@
 -- REQ's rules are lawful.
 use Rattle.std.proofs.Common.{◌≡◌, ℕ, ◌+◌, ◌-◌, ◌*◌, ◌%◌, ◌^◌, ◌<◌, ◌≤◌, Bool, true, false, ◌||◌, ◌&&◌, ◌==◌, not, nat_le, nat_lt, if◌then◌else◌, List, [], ◌∷◌, append-nil, sum, slice_index, Some, refl, sym, ap, ap₂, ◌∙◌, subst, arith, inl, inr, leb-true, eqb-true}
+use Rattle.std.proofs.lemmas.Bool.Decides.{nat_tests}
 use Rattle.std.proofs.lemmas.Bool.{cases_Bool, false≢true, ltb-false, and_parts, ne_eqb, or_parts}
 pub use Rattle.std.proofs.lemmas.Bool.{not-false}
 use Rattle.sketch_base.specs.Bag.{Taken, AllButLeftover, Lowest, Greatest}
@@ -29,22 +30,16 @@ use Rattle.quantile_sketches.proofs.ReqMerges.{legal-by, lengths-by, redraw-lead
 -- accuracies that are found to be the same
 pub same_accuracy : (a b : RankAccuracy) → is_same a b ≡ true → a ≡ b
 same_accuracy HighRank HighRank e = refl
-same_accuracy HighRank LowRank e = absurd (false≢true e)
-same_accuracy LowRank HighRank e = absurd (false≢true e)
 same_accuracy LowRank LowRank e = refl
+same_accuracy a b e = absurd (false≢true e)
 
 -- a k that may be one
 pub legal_k : (k : ℕ) → may_be_k k ≡ true → IsLegalK k
-legal_k k e =
-    let p = and_parts (nat_le 4 k && nat_le k 1024) (k % 2 == 0) e in
-    let q = and_parts (nat_le 4 k) (nat_le k 1024) p.0 in
-    record { at_least = leb-true 4 k q.0; at_most = leb-true k 1024 q.1; even = eqb-true (k % 2) 0 p.1 }
+legal_k k e = record { at_least = grind (arith, nat_tests); at_most = grind (arith, nat_tests); even = grind (arith, nat_tests) }
 
 -- nothing is too much
 pub enough_room : (n retained : ℕ) → is_too_much n retained ≡ false → (n < 2 ^ 64) × (retained ≤ 4294967295)
-enough_room n retained e =
-    let parts = or_parts (nat_lt (2 ^ 64 - 1) n) (nat_lt 4294967295 retained) e in
-    (omega (arith, ltb-false (2 ^ 64 - 1) n parts.0), ltb-false 4294967295 retained parts.1)
+enough_room n retained e = grind (arith, nat_tests)
 
 -- ---- what the shape of a sketch keeps
 
@@ -195,10 +190,7 @@ module _ (A : Type 0) where
       let u = unless-there (no_merge s other) (merged_as s other (if other.n == 0 then s.layouts else merge_layouts s.k s.layouts other.layouts)) t e in
       let n : t.n ≡ s.n + other.n = ap (λ (shape : ReqShape). shape.n) (sym u.1) in (
         n,
-        λ few. elim (cases_Bool (other.n == 0)) [
-          | inl b ↦ omega (arith, n, few, eqb-true other.n 0 b)
-          | inr b ↦ omega (arith, n, (enough_room (s.n + other.n) (retained_of s.layouts + retained_of other.layouts) (not-much s other u.0 b)).0)
-        ],
+        λ few. grind (arith, nat_tests),
       )
 
 module _ {A : Type 0} where

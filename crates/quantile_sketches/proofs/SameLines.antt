@@ -154,8 +154,7 @@ module _ {C S : Type 0} (behaviour : Behaviour S ℤ C) where
         let a = one-command behaviour coin_of next_state one.calls command slots ts us coins left left' v v' (verdict-ample r v n is) (verdict-ample w v' m is') h k in
         (ap answer_text (is ∙ (ap reply_of a.0 ∙ sym is')), a.1, a.2)
     one-executed (RankOf slot item criteria) line slots ts us coins left left' r w n m h k =
-        reads-one _
-        (λ s r w n m h k. ap answer_text (h.2 ∙ (ap (λ (o : Option Rank). let a : Reply = Ok (RankIs o) in a) (one.ranked s item criteria h.0 k.0 h.1 k.1) ∙ sym k.2))) slot slots ts us coins left left' r w n m h k
+        reads-one _ (λ s r w n m h k. let same = one.ranked s item criteria h.0 k.0 h.1 k.1 in cc (h.2, k.2)) slot slots ts us coins left left' r w n m h k
     one-executed (Quantile slot fraction criteria) line slots ts us coins left left' r w n m h k = reads-one _ (λ s. one.found s fraction criteria) slot slots ts us coins left left' r w n m h k
     one-executed (Cdf slot criteria) line slots ts us coins left left' r w n m h k =
         reads-one _ (λ s. spreads-one (points_of line) (behaviour.cdf s (points_of line) criteria) (one.cdfs s (points_of line) criteria)) slot slots ts us coins left left' r w n m h k
