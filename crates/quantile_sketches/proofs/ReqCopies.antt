@@ -36,17 +36,9 @@ module _ {A : Type 0} {cmp : A → A → Ordering} (o : IsTotalOrder cmp) where
   same-layouts : (xs ys : List (Level A)) → AreSame xs ys → layouts_of ys ≡ layouts_of xs
   same-layouts [] [] c = refl
   same-layouts (x ∷ xs) (y ∷ ys) c =
-      ap₂ (λ (l : Layout) (ls : List Layout). l ∷ ls) (one c.0.items c.0.rest) (same-layouts xs ys c.1)
-    where
-      made : ℕ → ℕ → ℕ → Layout
-      made a b d = record { count = a; state = b; doublings = d }
-
-      one : SameItems cmp x.items y.items → y ≡ record x { items = y.items } → layout_of y ≡ layout_of x
-      one items rest =
-          let n : length y.items ≡ length x.items = sym (length_all_zip (λ x y. cmp x y ≡ Equal) x.items y.items items) in
-          let s : y.state ≡ x.state = ap (λ (l : Level A). l.state) rest in
-          let d : y.doublings ≡ x.doublings = ap (λ (l : Level A). l.doublings) rest in
-          λ i. made (n i) (s i) (d i)
+      let n : length y.items ≡ length x.items = sym (length_all_zip (λ x y. cmp x y ≡ Equal) x.items y.items c.0.items) in
+      let one : layout_of y ≡ layout_of x = ap layout_of c.0.rest ∙ ap (λ (m : ℕ). let l : Layout = record (layout_of x) { count = m } in l) n in
+      ap₂ (λ (l : Layout) (ls : List Layout). l ∷ ls) one (same-layouts xs ys c.1)
   same-layouts xs ys c = absurd c
 
   same-levels : (xs ys : List (Level A)) → AreSame xs ys → AllZip (λ xs ys. SameItems cmp (sort cmp xs) (sort cmp ys)) (map (λ level. level.items) xs) (map (λ level. level.items) ys)

@@ -112,13 +112,8 @@ module _ {A : Type 0} {cmp : A → A → Ordering} (o : IsTotalOrder cmp) (spell
   fits s p sound other is =
       let same = same_accuracy s.accuracy p.accuracy (not-false _ (or_parts (not (is_same s.accuracy p.accuracy)) _ is).0) in
       let both = both-retained s p in
-      elim (cases_Bool (p.n == 0)) [
-        | inl e ↦
-            let none : p.n ≡ 0 = eqb-true p.n 0 e in
-            let empty : retained_of (layouts_of p.levels) ≡ 0 = ap (λ (q : Req A). retained_of (layouts_of q.levels)) (other.empty_at_first none) in
-            (same, omega (arith, none, sound.n_fits), omega (arith, both, empty, sound.few_items))
-        | inr e ↦ let room = enough_room (s.n + p.n) _ (not-much (req_shape s) (req_shape p) is e) in (same, room.0, omega (arith, both, room.1))
-      ]
+      let empty : p.n ≡ 0 → retained_of (layouts_of p.levels) ≡ 0 = λ none. ap (λ (q : Req A). retained_of (layouts_of q.levels)) (other.empty_at_first none) in
+      (same, grind (arith, nat_tests), grind (arith, nat_tests))
 
   -- a sketch that is refused by sound ones
   unfit-not : (s p : Req A) → IsSound cmp s → IsSound cmp p → IsUnfit cmp spelling s p → no_merge (req_shape s) (req_shape p) ≡ false → ⊥
