@@ -103,15 +103,11 @@ not-much s other e b = ap (λ (none : Bool). not none && too_much s other) (sym 
 
 -- ---- legal traces
 
-takes-less : (stay : ℕ) (taken : Taken) (n : ℕ) → TakesFew stay taken n → TakesFew 0 taken n
-takes-less stay AllButLeftover n few = absurd few
-takes-less stay (Lowest count) n few = (few.0, few.1, omega (arith, few.2))
-takes-less stay (Greatest count) n few = (few.0, few.1, omega (arith, few.2))
-
 module _ {A : Type 0} where
   -- what leaves 3k leaves 0
   leaves-less : (k : ℕ → ℕ) (e : Event A) (world : World (List ℕ)) → LeavesTail k e world → MeetsReq e world
-  leaves-less k (At s (Compact h coin taken)) world f = takes-less (3 * k s) taken (slice_index (world.slots s) h) f
+  leaves-less k (At s (Compact h coin AllButLeftover)) world f = absurd f
+  leaves-less k (At s (Compact h coin taken)) world f = (f.0, f.1, omega (arith, f.2))
   leaves-less k e world f = tt
 
   along-less : (k : ℕ → ℕ) (trace : List (Event A)) (world : World (List ℕ)) → Along (LeavesTail k) trace world → Along MeetsReq trace world
@@ -126,10 +122,7 @@ module _ {A : Type 0} where
   lengths-there actions world s lengths e = ap (λ (w : World (List ℕ)). w.slots s) (lengths_at actions world s) ∙ (changed-there world.slots s _ ∙ e)
 
   ranks-one : (test : A → Bool) (s k : ℕ) (accuracy : RankAccuracy) (ls : List Layout) (x : A) (ranks : ℕ → ℕ) → true_ranks test (events_at s (update_actions k accuracy ls x)) ranks s ≡ ranks s + (if test x then 1 else 0)
-  ranks-one test s k accuracy ls x ranks =
-      let actions : List (Action A) = update_actions k accuracy ls x in
-      ap (λ (trace : List (Event A)). true_ranks test trace ranks s) (sym (append-nil (events_at s actions)))
-      ∙ (ap (λ (f : ℕ → ℕ). f s) (ranks-update test k accuracy s ls x [] ranks) ∙ changed-there ranks s _)
+  ranks-one test s k accuracy ls x ranks = ap (λ (f : ℕ → ℕ). f s) (rw append-nil at (ranks-update test k accuracy s ls x [] ranks)) ∙ changed-there ranks s _
 
   -- ---- the calls
 
