@@ -8,15 +8,14 @@ use Rattle.quantile_sketches.specs.Behaviour.{Behaviour, coin_of}
 use Rattle.quantile_sketches.specs.RunsBehindLines.{Known, run_after, AreOfRun, EachKeeps, AnswersWhere}
 use Rattle.quantile_sketches.specs.Calls.{ObeysRules}
 use Rattle.quantile_sketches.specs.Command.{request_of}
-use Rattle.quantile_sketches.specs.declared.answer.Refusal.TheVariants.{BadLine, AbsentSlot, Sketch}
+use Rattle.quantile_sketches.specs.declared.answer.Refusal.TheVariants.{Sketch}
 use Rattle.quantile_sketches.specs.declared.audit.commands.Command.{Command}
 use Rattle.quantile_sketches.specs.declared.command.Request.{Request}
-use Rattle.quantile_sketches.specs.declared.command.Request.TheVariants.{Run, Rank, Quantile, Cdf, Pmf, Image, Load}
+use Rattle.quantile_sketches.specs.declared.command.Request.TheVariants.{Run, Load}
 use Rattle.quantile_sketches.specs.declared.table.TheConstants.{SLOTS}
 use Rattle.quantile_sketches.specs.RuleLaws.{IsLawful}
 use Rattle.quantile_sketches.specs.Lines.{Serves}
 use Rattle.quantile_sketches.specs.Reader.{Grammar}
-use Rattle.quantile_sketches.specs.Refused.{AreExecuted}
 use Rattle.quantile_sketches.specs.Rules.{Kind}
 use Rattle.quantile_sketches.specs.LineSteps.{Slots, in_slot, Verdict, Reply, reply_of, Makes, Loads, Answers, CarriesOutItem}
 use Rattle.quantile_sketches.specs.RunSteps.{Held}

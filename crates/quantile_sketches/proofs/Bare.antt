@@ -1,14 +1,13 @@
 -- What commands make of level lengths, coins and shapes hangs on no item.
-use Rattle.std.proofs.Common.{◌≡◌, ℕ, zero, suc, ◌+◌, Bool, true, false, ◌==◌, cond, not, if◌then◌else◌, List, [], ◌∷◌, ◌++◌, map, Option, None, Some, is_some, refl, sym, ap, ap₂, ◌∙◌}
+use Rattle.std.proofs.Common.{◌≡◌, ℕ, zero, suc, ◌+◌, Bool, true, false, cond, not, if◌then◌else◌, List, [], ◌∷◌, ◌++◌, map, Option, None, Some, is_some, refl, ap, ◌∙◌}
 use Rattle.std.proofs.lemmas.List.{map-append}
 use Rattle.std.proofs.lemmas.List.Sums.{sum_by-cons}
-use Rattle.std.specs.Option.{option_and_then, option_map}
 use Rattle.sketch_base.specs.Lengths.{acts_on_lengths}
-use Rattle.sketch_base.specs.Trace.{Action, Put, Pull, Join, Compact, Forget, Redraw, Clear, Fresh, Turned, Event, Snap, At, Work, World, changed, coins, event_draws, joins_actions}
+use Rattle.sketch_base.specs.Trace.{Action, Put, Pull, Join, Compact, Forget, Redraw, Clear, Fresh, Event, Snap, At, Work, World, coins, event_draws, joins_actions}
 use Rattle.quantile_sketches.specs.declared.audit.commands.Command.{Command}
-use Rattle.quantile_sketches.specs.declared.audit.commands.Command.TheVariants.{New, Update, UpdateWeighted, Merge, Reset, RoundTrip, Redraw, MergeRedrawn}
+use Rattle.quantile_sketches.specs.declared.audit.commands.Command.TheVariants.{New, Update, UpdateWeighted, Merge, RoundTrip, Redraw, MergeRedrawn}
 use Rattle.quantile_sketches.specs.RuleLaws.{lengths_by}
-use Rattle.quantile_sketches.specs.Plan.{Plan, start_plan, slot_of, actions_on, events_at, count_of, shape_merged, shape_after, is_refused, merge_events, accepted_events, events_of, plan_after, plan_from, trace_from, plan_of, trace_of}
+use Rattle.quantile_sketches.specs.Plan.{Plan, start_plan, slot_of, actions_on, events_at, count_of, shape_after, is_refused, merge_events, accepted_events, events_of, plan_after, plan_from, trace_from, plan_of, trace_of}
 use Rattle.quantile_sketches.specs.Rules.{Rules}
 use Rattle.quantile_sketches.specs.Run.{bare}
 

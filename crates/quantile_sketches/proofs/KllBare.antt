@@ -1,11 +1,9 @@
 -- KLL's actions hang on items in their Puts alone, so its level lengths hang on none.
-use Rattle.std.proofs.Common.{◌≡◌, ℕ, zero, suc, ◌-◌, ◌/◌, ◌%◌, ◌==◌, Bool, true, false, nat_lt, if◌then◌else◌, List, [], ◌∷◌, ◌++◌, length, map, slice_index, refl, sym, ap, ap₂, ◌∙◌}
-use Rattle.std.proofs.lemmas.List.{map-append}
+use Rattle.std.proofs.Common.{◌≡◌, ℕ, zero, suc, ◌-◌, ◌/◌, ◌%◌, ◌==◌, Bool, true, false, nat_lt, if◌then◌else◌, List, [], ◌∷◌, length, map, slice_index, refl, ap, ◌∙◌}
 use Rattle.sketch_base.specs.Lengths.{acts_on_lengths}
-use Rattle.sketch_base.specs.Trace.{Action, Put, Pull, Compact, Fresh, Work, joins_actions}
-use Rattle.sketch_base.specs.Bag.{AllButLeftover}
+use Rattle.sketch_base.specs.Trace.{Action, Put, Work}
 use Rattle.sketch_kll.specs.Merge.{pull_actions, pulls_actions, taking_actions, merge_actions}
-use Rattle.sketch_kll.specs.Schedule.{are_full, lowest_full, room_actions, update_actions, updated_lengths, updates_actions, lengths_after_actions, passes_at, step_actions, walk_actions, compress_actions}
+use Rattle.sketch_kll.specs.Schedule.{are_full, room_actions, update_actions, updated_lengths, updates_actions, passes_at, step_actions, walk_actions, compress_actions}
 use Rattle.sketch_kll.specs.Weighted.{at_digit, puts_actions, entering_actions, weighted_actions, weighted_lengths}
 use Rattle.quantile_sketches.specs.KllRules.{kll_rules}
 use Rattle.quantile_sketches.proofs.Bare.{bare_action, bare-append, bare-if, acts-bare, AreBare, bare-joins}

@@ -1,5 +1,5 @@
 -- KLL sketches do what the rules of their kind say.
-use Rattle.std.proofs.Common.{◌≡◌, ◌≢◌, ◌⊎◌, ℕ, ◌+◌, ◌-◌, ◌^◌, ◌==◌, ◌||◌, nat_lt, if◌then◌else◌, Bool, true, false, List, Option, None, Some, Result, Ok, Err, refl, sym, ap, ap₂, ◌∙◌, ◌<◌, length, min, inl, inr, arith, eqb-true, Ordering}
+use Rattle.std.proofs.Common.{◌≡◌, ◌≢◌, ◌⊎◌, ℕ, ◌+◌, ◌-◌, ◌^◌, ◌==◌, nat_lt, if◌then◌else◌, Bool, true, false, List, Option, None, Some, Result, Ok, Err, refl, sym, ap, ap₂, ◌∙◌, ◌<◌, length, min, inl, inr, arith, eqb-true, Ordering}
 use Rattle.std.specs.Prelude.{◌↔◌, IsTrue, IsErrOf, IfOk, IfErr, OnOk}
 use Rattle.std.proofs.lemmas.Result.{IfOk-weaker}
 use Rattle.std.proofs.lemmas.Bool.{cases_lt, eqb-false, lt-ltb, ne_eqb, ltb-true, ltb-false, false_from_ne_true, false≢true}
@@ -16,7 +16,6 @@ use Rattle.sketch_base.specs.Trace.{Work}
 use Rattle.sketch_base.specs.declared.error.ErrorKind.{ErrorKind}
 use Rattle.sketch_base.specs.declared.error.ErrorKind.TheVariants.{InvalidArgument, InvalidData, OutOfMemory}
 use Rattle.sketch_base.proofs.SpelledItems.{IsPrefixFree}
-use Rattle.sketch_kll.specs.ImageLaws.{HasImage}
 use Rattle.sketch_kll.specs.Merged.{coins_of_merge}
 use Rattle.sketch_kll.specs.Sketch.{Kll, bag_of, coins_of_update, IsSound}
 use Rattle.sketch_kll.specs.Weighted.{coins_of_weighted}
@@ -27,10 +26,10 @@ use Rattle.sketch_kll.proofs.UnbiasedUpdates.{alike-lengths}
 use Rattle.sketch_kll.proofs.Weighted.{weighted_lengths_are}
 use Rattle.sketch_kll.proofs.ImageTexts.{one_sketch_lem}
 use Rattle.quantile_sketches.specs.Calls.{Obeys, ObeysRules}
-use Rattle.quantile_sketches.specs.KllBehaviour.{kll, IsMade, IsCopied, IsEmptied, IsImaged, IsLoaded, IsTooHeavy, TakesIn, TakesWeighted, DrawsNone, MergesIn}
+use Rattle.quantile_sketches.specs.KllBehaviour.{kll, IsMade, IsImaged, IsLoaded, IsTooHeavy, TakesIn, TakesWeighted, MergesIn}
 use Rattle.quantile_sketches.specs.KllRules.{KllShape, empty_shape, updated_shape, weighted_shape, merged_shape, kll_shape, kll_rules, kll_kind}
 use Rattle.quantile_sketches.specs.Rules.{none_if}
-use Rattle.quantile_sketches.specs.RunSteps.{Refuses, Acts, merge_of, IsFresh, IsCopied as IsCopiedBy, IsReadBack, IsUpdated, IsWeighted, IsRedrawn, IsMerged}
+use Rattle.quantile_sketches.specs.RunSteps.{Refuses, Acts, merge_of, IsFresh, IsReadBack, IsUpdated, IsWeighted, IsRedrawn, IsMerged}
 use Rattle.quantile_sketches.proofs.KllBare.{update-lengths, weighted-lengths, merge-lengths}
 use Rattle.quantile_sketches.proofs.KllKind.{shape-same, copy_is}
 use Rattle.quantile_sketches.proofs.KllRuleLaws.{is_bad_weight, bad-weight, taken-weight, merged-some, merged-none}

@@ -1,8 +1,7 @@
 -- REQ's actions hang on items in their Puts alone.
-use Rattle.std.proofs.Common.{◌≡◌, ℕ, zero, suc, Bool, true, false, if◌then◌else◌, List, [], ◌∷◌, ◌++◌, length, map, refl, ap, ap₂, ◌∙◌}
-use Rattle.std.proofs.lemmas.List.{map-append}
+use Rattle.std.proofs.Common.{◌≡◌, ℕ, zero, suc, Bool, if◌then◌else◌, List, [], ◌∷◌, length, map, refl, ap}
 use Rattle.sketch_base.specs.Trace.{Action, Put, Redraw, joins_actions}
-use Rattle.sketch_req.specs.Schedule.{Layout, is_full, are_full, layout_at, put_layouts, joined_layouts, compact_level, step_actions, step_layouts, steps_actions, room_actions, walk_actions, redraws_from, redraw_actions}
+use Rattle.sketch_req.specs.Schedule.{Layout, is_full, are_full, layout_at, put_layouts, joined_layouts, step_actions, steps_actions, room_actions, redraws_from, redraw_actions}
 use Rattle.sketch_req.specs.Level.{turns_coin}
 use Rattle.sketch_req.specs.declared.RankAccuracy.{RankAccuracy}
 use Rattle.quantile_sketches.specs.ReqRules.{merge_actions_by, req_rules}

@@ -1,11 +1,10 @@
 -- REQ sketches are a lawful kind.
-use Rattle.std.proofs.Common.{◌≡◌, ℕ, Bool, List, [], ◌∷◌, ◌++◌, length, map, drop, Option, refl, sym, ap₂, ◌∙◌, subst, Ordering}
-use Rattle.std.proofs.lemmas.Bool.{false≢true}
+use Rattle.std.proofs.Common.{◌≡◌, ℕ, Bool, List, [], ◌∷◌, length, map, Option, refl, sym, ap₂, ◌∙◌, Ordering}
 use Rattle.std.proofs.lemmas.List.Elements.{length_all_zip}
 use Rattle.std.specs.Cmp.{IsTotalOrder}
 use Rattle.std.specs.declared.cmp.Ordering.TheVariants.{Equal}
-use Rattle.sketch_base.specs.Bag.{Bag, AlikeReq, sort, with_level, empty_bag}
-use Rattle.sketch_base.specs.Trace.{Action, Put, Pull, Join, Compact, Forget, Redraw, Clear, Fresh, Turned, Work, act, acts, alone, bag_after, next_bit}
+use Rattle.sketch_base.specs.Bag.{Bag, AlikeReq, sort, empty_bag}
+use Rattle.sketch_base.specs.Trace.{Action, Put, Work, act, acts, alone, next_bit}
 use Rattle.sketch_base.proofs.Alikes.{acts-req}
 use Rattle.sketch_base.proofs.Fixed.{length-sort}
 use Rattle.sketch_req.specs.Schedule.{Layout, put_layouts, redraw_actions, room_actions, update_actions}

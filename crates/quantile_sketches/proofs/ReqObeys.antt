@@ -1,9 +1,9 @@
 -- REQ sketches do what the rules of their kind say.
-use Rattle.std.proofs.Common.{◌≡◌, ◌≢◌, ◌⊎◌, ◌++◌, ℕ, zero, suc, ◌+◌, ◌-◌, ◌%◌, ◌^◌, ◌<◌, ◌≤◌, ◌==◌, ◌||◌, ◌&&◌, not, nat_lt, if◌then◌else◌, Bool, true, false, List, [], ◌∷◌, Option, None, Some, Result, Ok, Err, refl, sym, ap, ap₂, ◌∙◌, inl, inr, arith, eqb-true, ltb-true, le-leb, eq-eqb, Ordering}
-use Rattle.std.specs.Prelude.{◌↔◌, IsTrue, IfOk, IfErr, OnOk}
+use Rattle.std.proofs.Common.{◌≡◌, ◌≢◌, ◌⊎◌, ◌++◌, ℕ, zero, suc, ◌+◌, ◌-◌, ◌%◌, ◌^◌, ◌<◌, ◌≤◌, ◌==◌, ◌&&◌, not, if◌then◌else◌, Bool, true, false, List, [], ◌∷◌, Option, None, Some, Result, Ok, Err, refl, sym, ap, ap₂, ◌∙◌, inl, inr, arith, eqb-true, le-leb, eq-eqb, Ordering}
+use Rattle.std.specs.Prelude.{◌↔◌, IsTrue, IfOk, IfErr}
 use Rattle.std.proofs.lemmas.Result.{IfOk-weaker}
 use Rattle.std.proofs.lemmas.Bool.Decides.{nat_tests}
-use Rattle.std.proofs.lemmas.Bool.{and_parts, cases_Bool, both_ways, eqb-false, false_from_ne_true, false≢true, not-true, or_cases, or_parts, true_from_ne_false}
+use Rattle.std.proofs.lemmas.Bool.{cases_Bool, both_ways, eqb-false, false_from_ne_true, false≢true, not-true, or_parts, true_from_ne_false}
 use mathlib.Core.Path.{fun_ext}
 use Rattle.std.specs.Cmp.{IsTotalOrder, tied_itself}
 use Rattle.std.specs.Option.{option_to_list}
@@ -31,14 +31,14 @@ use Rattle.sketch_req.proofs.Ranks.{retained_is}
 use Rattle.sketch_req.proofs.Redraws.{layouts-redrawn, redraws-are, redraws-draw}
 use Rattle.quantile_sketches.specs.Calls.{Obeys, ObeysRules}
 use Rattle.quantile_sketches.specs.Rules.{none_if}
-use Rattle.quantile_sketches.specs.ReqBehaviour.{req, IsEmptyOf, IsMade, IsCopied, IsImaged, IsLoaded, IsUnfit, TakesIn, TakesNone, DrawsAnew, JoinsIn}
-use Rattle.quantile_sketches.specs.ReqKind.{HasImage, req_kind, req_shape}
+use Rattle.quantile_sketches.specs.ReqBehaviour.{req, IsEmptyOf, IsMade, IsImaged, IsLoaded, IsUnfit, TakesIn, DrawsAnew, JoinsIn}
+use Rattle.quantile_sketches.specs.ReqKind.{req_kind, req_shape}
 use Rattle.quantile_sketches.specs.ReqRules.{ReqShape, new_shape, may_be_k, is_same, is_too_much, req_rules}
-use Rattle.quantile_sketches.specs.RunSteps.{Refuses, Acts, merge_of, IsFresh, IsCopied as IsCopiedBy, IsReadBack, IsUpdated, IsWeighted, IsRedrawn, IsMerged}
+use Rattle.quantile_sketches.specs.RunSteps.{Refuses, Acts, merge_of, IsFresh, IsReadBack, IsUpdated, IsWeighted, IsRedrawn, IsMerged}
 use Rattle.quantile_sketches.proofs.KllObeys.{imaged, never, unless-none}
 use Rattle.quantile_sketches.proofs.Refused.{refuses-by, err-of, unread}
 use Rattle.quantile_sketches.proofs.ReqCopies.{same-shape, copy_is, read_is}
-use Rattle.quantile_sketches.proofs.ReqRuleLaws.{not-false, same_accuracy, legal_k, enough_room, merged_as, no_merge, not-much}
+use Rattle.quantile_sketches.proofs.ReqRuleLaws.{not-false, same_accuracy, legal_k, enough_room, merged_as, no_merge}
 use Rattle.quantile_sketches.proofs.SameRuns.{no-err}
 
 -- a legal k may be one

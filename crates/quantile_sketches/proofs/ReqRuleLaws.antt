@@ -1,12 +1,12 @@
 -- REQ's rules are lawful.
-use Rattle.std.proofs.Common.{◌≡◌, ℕ, ◌+◌, ◌-◌, ◌*◌, ◌%◌, ◌^◌, ◌<◌, ◌≤◌, Bool, true, false, ◌||◌, ◌&&◌, ◌==◌, not, nat_le, nat_lt, if◌then◌else◌, List, [], ◌∷◌, append-nil, sum, slice_index, Some, refl, sym, ap, ap₂, ◌∙◌, subst, arith, inl, inr, leb-true, eqb-true}
+use Rattle.std.proofs.Common.{◌≡◌, ℕ, ◌+◌, ◌-◌, ◌^◌, ◌<◌, ◌≤◌, Bool, true, false, ◌||◌, ◌&&◌, ◌==◌, not, if◌then◌else◌, List, [], ◌∷◌, append-nil, sum, Some, refl, sym, ap, ◌∙◌, subst, arith}
 use Rattle.std.proofs.lemmas.Bool.Decides.{nat_tests}
-use Rattle.std.proofs.lemmas.Bool.{cases_Bool, false≢true, ltb-false, and_parts, ne_eqb, or_parts}
+use Rattle.std.proofs.lemmas.Bool.{false≢true, ne_eqb, or_parts}
 pub use Rattle.std.proofs.lemmas.Bool.{not-false}
-use Rattle.sketch_base.specs.Bag.{Taken, AllButLeftover, Lowest, Greatest}
-use Rattle.sketch_base.specs.Lengths.{acts_on_lengths, lengths_after, Along, TakesFew, LeavesTail}
+use Rattle.sketch_base.specs.Bag.{AllButLeftover}
+use Rattle.sketch_base.specs.Lengths.{acts_on_lengths, lengths_after, Along, LeavesTail}
 use Rattle.sketch_base.specs.Ranks.{true_ranks}
-use Rattle.sketch_base.specs.Trace.{Action, Put, Pull, Join, Compact, Forget, Redraw, Clear, Event, Snap, At, Work, World}
+use Rattle.sketch_base.specs.Trace.{Action, Compact, Event, Snap, At, Work, World}
 use Rattle.sketch_base.proofs.Changes.{changed-there, changed-itself}
 use Rattle.sketch_base.proofs.Lengths.{obeys}
 use Rattle.sketch_req.specs.Schedule.{Layout, counts_of, retained_of, update_actions, update_layouts, redraw_actions, merge_layouts}

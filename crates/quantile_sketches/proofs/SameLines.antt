@@ -1,6 +1,6 @@
 -- The same lines, on the same sketches and under the same coins, have the same answers.
 use Rattle.std.proofs.Common.{◌≡◌, ◌≢◌, ◌⊎◌, ℕ, ℤ, List, [], ◌∷◌, ◌++◌, Option, None, Some, Result, Ok, Err, slice_set, refl, sym, ap, ◌∙◌, subst, inl, inr, Ordering}
-use Rattle.std.specs.Prelude.{◌↔◌, IsErrOf, IfErr}
+use Rattle.std.specs.Prelude.{IsErrOf}
 use Rattle.std.proofs.lemmas.Bool.{false≢true}
 use Rattle.std.proofs.lemmas.Option.{same_Some}
 use Rattle.std.specs.Cmp.{IsTotalOrder}
@@ -25,8 +25,8 @@ use Rattle.quantile_sketches.specs.SameRun.{ServesAmply, LinesAnswerOne}
 use Rattle.quantile_sketches.specs.LineSteps.{Slots, Verdict, Reply, reply_of, Replies, Makes, Asks, Reads, Spreads, Shows, Loads, Executes, Answers}
 use Rattle.quantile_sketches.specs.Words.{words, points_of, image_in}
 use Rattle.quantile_sketches.specs.declared.answer.Answer.{Answer}
-use Rattle.quantile_sketches.specs.declared.answer.Answer.TheVariants.{Rank as RankIs, Item, Ranks}
-use Rattle.quantile_sketches.specs.declared.answer.Refusal.TheVariants.{BadLine, AbsentSlot, Sketch}
+use Rattle.quantile_sketches.specs.declared.answer.Answer.TheVariants.{Item, Ranks}
+use Rattle.quantile_sketches.specs.declared.answer.Refusal.TheVariants.{Sketch}
 use Rattle.quantile_sketches.specs.declared.command.Request.{Request}
 use Rattle.quantile_sketches.specs.declared.command.Request.TheVariants.{Run, Rank as RankOf, Quantile, Cdf, Pmf, Image as ImageOf, Load}
 use Rattle.quantile_sketches.proofs.SameRuns.{MakesOne, no-err, same-err, told, one-command}

@@ -1,4 +1,4 @@
-use Rattle.std.proofs.Common.{◌≡◌, ℕ, ℤ, Bool, true, false, List, Some}
+use Rattle.std.proofs.Common.{ℕ, Bool, true, false, List}
 use Rattle.std.proofs.lemmas.Cmp.{int_cmp_total}
 use Rattle.std.specs.Ordering.{int_cmp}
 use Rattle.sketch_base.specs.Spelling.{i64_spelling}
@@ -10,16 +10,9 @@ use Rattle.quantile_sketches.specs.Lines.{lines}
 use Rattle.quantile_sketches.specs.Reader.{kll_grammar, req_grammar}
 use Rattle.quantile_sketches.specs.ReqBehaviour.{req}
 use Rattle.quantile_sketches.specs.Served.{ServesFamily, ServesRun, ServesAsPromised, KllPromise, ReqPromise}
-use Rattle.quantile_sketches.specs.RunSteps.{Held}
-use Rattle.quantile_sketches.specs.declared.audit.commands.Command.{Command}
-use Rattle.quantile_sketches.specs.KllRules.{kll_kind}
-use Rattle.quantile_sketches.specs.ReqKind.{req_kind}
-use Rattle.quantile_sketches.specs.ReqPlan.{ReqCommand}
-use Rattle.sketch_kll.specs.Sketch.{Kll}
-use Rattle.sketch_req.specs.Sketch.{Req}
 use Rattle.quantile_sketches.proofs.KllRuns.{sound-small}
 use Rattle.quantile_sketches.proofs.ReqRuns.{alike-exact}
-use Rattle.quantile_sketches.proofs.Standing.{Standing, standing-is, standing-shape, standing-weight, standing-extremes, given}
+use Rattle.quantile_sketches.proofs.Standing.{standing-is, standing-shape, standing-weight, standing-extremes, given}
 use Rattle.quantile_sketches.proofs.Answered.{answers-rest, answers-keep}
 use Rattle.quantile_sketches.proofs.KllKind.{kll_kind_lawful}
 use Rattle.quantile_sketches.proofs.KllObeys.{kll-obeys}

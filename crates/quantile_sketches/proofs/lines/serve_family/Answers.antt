@@ -1,7 +1,5 @@
-use Rattle.std.proofs.Common.{ℕ, List, Option, None, IfSome, replicate, subst}
-use Rattle.std.specs.Io.KnownBytes.{Appends}
+use Rattle.std.proofs.Common.{None, replicate}
 use Rattle.quantile_sketches.specs.declared.table.TheConstants.{SLOTS}
-use Rattle.quantile_sketches.specs.Lines.{lines, Begins}
 use Rattle.quantile_sketches.proofs.FirstLine.{nothing_ahead}
 use Rattle.quantile_sketches.proofs.LineRuns.{begins-unread}
 use denote.MutBor.{MutBor}

@@ -1,4 +1,4 @@
-use Rattle.std.proofs.Common.{◌≡◌, true, false, ap, rules, if◌then◌else◌}
+use Rattle.std.proofs.Common.{rules}
 use Rattle.sketch_base.specs.declared.error.ErrorKind.TheVariants.{InvalidArgument, OutOfMemory}
 use Rattle.quantile_sketches.proofs.Slots.{refused_early}
 use Rattle.quantile_sketches.proofs.table.update.Goals as goal
