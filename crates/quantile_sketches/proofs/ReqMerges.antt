@@ -25,10 +25,11 @@ abbrev behind : {A : Type 0} → (redraws : Bool) → ℕ → RankAccuracy → L
 behind redraws k accuracy joined = if redraws then redraw_actions joined ++ room_actions k accuracy joined else room_actions k accuracy joined
 
 module _ (A : Type 0) where
-  merge_is : (redraws : Bool) (k : ℕ) (accuracy : RankAccuracy) (ls others : List Layout) →
+  -- a merge joins levels and goes on from them
+  merge_is : (ls others : List Layout) (redraws : Bool) (k : ℕ) (accuracy : RankAccuracy) →
       merge_actions_by {A = A} redraws k accuracy ls others ≡ joins_actions (length others) 0 ++ behind redraws k accuracy (joined_layouts k ls others)
-  merge_is true k accuracy ls others = refl
-  merge_is false k accuracy ls others = refl
+  merge_is ls others true k accuracy = refl
+  merge_is ls others false k accuracy = refl
 
   behind-leads : (redraws : Bool) (k : ℕ) (accuracy : RankAccuracy) (ls others : List Layout) → IsLegalK k → AreLayouts k ls →
       Leads {A = A} k accuracy (joined_layouts k ls others) (behind redraws k accuracy (joined_layouts k ls others)) (merge_layouts k ls others)
@@ -42,17 +43,17 @@ module _ (A : Type 0) where
       world.slots target ≡ counts_of ls → world.slots source ≡ counts_of others → sum world.scratch ≡ 0 →
       IsLegalFrom {A = A} k (Snap source target ∷ events_at target (merge_actions_by redraws (k target) accuracy ls others)) world
   legal-by redraws k accuracy source target ls others world l a e c z =
-      rw (merge_is redraws (k target) accuracy ls others) (joined_legal A k accuracy source target ls others _ _ world (behind-leads redraws (k target) accuracy ls others l a) e c z)
+      rw (merge_is ls others redraws (k target) accuracy) (joined_legal A k accuracy source target ls others _ _ world (behind-leads redraws (k target) accuracy ls others l a) e c z)
 
   pub leaves-by : (redraws : Bool) (k t : ℕ) (accuracy : RankAccuracy) (source target : ℕ) (ls others : List Layout) (world : World (List ℕ)) (leaves : ℕ → Bool) → IsLegalK k → AreLayouts k ls →
       world.slots target ≡ counts_of ls → world.slots source ≡ counts_of others → t ≤ k →
       leaves_at_least {A = A} (tail_side accuracy) (3 * t) (Snap source target ∷ events_at target (merge_actions_by redraws k accuracy ls others)) world leaves ≡ changed leaves target (leaves target && leaves source)
   leaves-by redraws k t accuracy source target ls others world leaves l a e c le =
-      rw (merge_is redraws k accuracy ls others) (joined_leaves A k t accuracy source target ls others _ _ world leaves (behind-leads redraws k accuracy ls others l a) e c le)
+      rw (merge_is ls others redraws k accuracy) (joined_leaves A k t accuracy source target ls others _ _ world leaves (behind-leads redraws k accuracy ls others l a) e c le)
 
   pub lengths-by : (redraws : Bool) (k : ℕ) (accuracy : RankAccuracy) (ls others : List Layout) → IsLegalK k → AreLayouts k ls →
       (acts_on_lengths (merge_actions_by {A = A} redraws k accuracy ls others) (record { bag = counts_of ls; scratch = counts_of others })).bag ≡ counts_of (merge_layouts k ls others)
-  lengths-by redraws k accuracy ls others l a = rw (merge_is redraws k accuracy ls others) (joined_lengths A k accuracy ls others _ _ (behind-leads redraws k accuracy ls others l a))
+  lengths-by redraws k accuracy ls others l a = rw (merge_is ls others redraws k accuracy) (joined_lengths A k accuracy ls others _ _ (behind-leads redraws k accuracy ls others l a))
 
   -- coins drawn anew are REQ's actions, and so are those of a merge
   pub redraw-req : (ls : List Layout) → AllByRecursion (λ action. IsTrue (is_req_action {A = A} action)) (redraw_actions ls)

@@ -51,11 +51,11 @@ same-itself HighRank = refl
 same-itself LowRank = refl
 
 -- what one sketch takes in of another
-pub both-retained : {A : Type 0} (s p : Req A) → retained (bag_of s.levels) + retained (bag_of p.levels) ≡ retained_of (layouts_of s.levels) + retained_of (layouts_of p.levels)
+both-retained : {A : Type 0} (s p : Req A) → retained (bag_of s.levels) + retained (bag_of p.levels) ≡ retained_of (layouts_of s.levels) + retained_of (layouts_of p.levels)
 both-retained s p = ap₂ (λ (n m : ℕ). n + m) (retained_is s.levels) (retained_is p.levels)
 
 -- a merge that the rules refuse
-pub unfit : {A : Type 0} (s p : Req A) → no_merge (req_shape s) (req_shape p) ≡ true →
+unfit : {A : Type 0} (s p : Req A) → no_merge (req_shape s) (req_shape p) ≡ true →
     (s.accuracy ≢ p.accuracy) ⊎ ((2 ^ 64 ≤ s.n + p.n) ⊎ (2 ^ 32 ≤ retained (bag_of s.levels) + retained (bag_of p.levels)))
 unfit s p is =
     let both = both-retained s p in
