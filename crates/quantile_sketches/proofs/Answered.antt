@@ -8,15 +8,14 @@ use Rattle.quantile_sketches.specs.Behaviour.{Behaviour, coin_of}
 use Rattle.quantile_sketches.specs.RunsBehindLines.{Known, run_after, AreOfRun, EachKeeps, AnswersWhere}
 use Rattle.quantile_sketches.specs.Calls.{ObeysRules}
 use Rattle.quantile_sketches.specs.Command.{request_of}
-use Rattle.quantile_sketches.specs.declared.answer.Refusal.TheVariants.{BadLine, AbsentSlot, Sketch}
+use Rattle.quantile_sketches.specs.declared.answer.Refusal.TheVariants.{Sketch}
 use Rattle.quantile_sketches.specs.declared.audit.commands.Command.{Command}
 use Rattle.quantile_sketches.specs.declared.command.Request.{Request}
-use Rattle.quantile_sketches.specs.declared.command.Request.TheVariants.{Run, Rank, Quantile, Cdf, Pmf, Image, Load}
+use Rattle.quantile_sketches.specs.declared.command.Request.TheVariants.{Run, Load}
 use Rattle.quantile_sketches.specs.declared.table.TheConstants.{SLOTS}
 use Rattle.quantile_sketches.specs.RuleLaws.{IsLawful}
 use Rattle.quantile_sketches.specs.Lines.{Serves}
 use Rattle.quantile_sketches.specs.Reader.{Grammar}
-use Rattle.quantile_sketches.specs.Refused.{AreExecuted}
 use Rattle.quantile_sketches.specs.Rules.{Kind}
 use Rattle.quantile_sketches.specs.LineSteps.{Slots, in_slot, Verdict, Reply, reply_of, Makes, Loads, Answers, CarriesOutItem}
 use Rattle.quantile_sketches.specs.RunSteps.{Held}
@@ -53,8 +52,7 @@ module _ {C Shape S : Type 0} (grammar : Grammar C) {kind : Kind ℤ C Shape S} 
       )
       go (Err e) done =
           let same = left kind coin_of next_state e command (in_slot slots) coins (in_slot slots') coins' done in (
-            subst (λ (held : Held S). AreExecuted kind coin_of next_state [] 0 commands (λ slot. None) seed held coins') (sym (fun_ext same.0))
-                (subst (λ (n : ℕ). AreExecuted kind coin_of next_state [] 0 commands (λ slot. None) seed (in_slot slots) n) (sym same.1) of),
+            rw (fun_ext same.0, same.1) of,
             standing-same lawful coin_of next_state seed commands (in_slot slots) (in_slot slots') coins coins' st same.0 same.1,
           )
 
@@ -62,36 +60,23 @@ module _ {C Shape S : Type 0} (grammar : Grammar C) {kind : Kind ℤ C Shape S} 
       Makes made slot slots v slots' → coins' ≡ coins → OfRun run slots coins → OfRun (run_after run (Some (Load slot)) (reply_of v)) slots' coins'
   loaded run slot made slots coins (Ok tt) slots' coins' h same of = tt
   loaded run slot made slots coins (Err (Sketch e)) slots' coins' h same of = stays run slots coins slots' coins' h.1 same of
-  loaded run slot made slots coins (Err BadLine) slots' coins' h same of = absurd h
-  loaded run slot made slots coins (Err AbsentSlot) slots' coins' h same of = absurd h
+  loaded run slot made slots coins v slots' coins' h same of = absurd h
 
   answered : (run : Known C) (command : Option (Request C)) (line : List (List ℕ)) (slots : Slots S) (coins : ℕ) (r : Reply) (slots' : Slots S) (coins' : ℕ) →
       Answers behaviour command line slots coins r slots' coins' → OfRun run slots coins → OfRun (run_after run command r) slots' coins'
   answered run None line slots coins r slots' coins' h of = stays run slots coins slots' coins' h.1 h.2 of
-  answered run (Some (Run command)) line slots coins r slots' coins' (v, is, h) of =
-      subst (λ r. OfRun (run_after run (Some (Run command)) r) slots' coins') (sym is) (carried run command slots coins v slots' coins' h of)
+  answered run (Some (Run command)) line slots coins r slots' coins' (v, is, h) of = rw is (carried run command slots coins v slots' coins' h of)
   answered run (Some (Load slot)) line slots coins r slots' coins' (v, is, h, same) of =
-      subst (λ r. OfRun (run_after run (Some (Load slot)) r) slots' coins') (sym is) (loaded run slot (Loads behaviour (image_in line)) slots coins v slots' coins' h same of)
-  answered run (Some (Rank slot item criteria)) line slots coins r slots' coins' h of = stays run slots coins slots' coins' h.1 h.2 of
-  answered run (Some (Quantile slot fraction criteria)) line slots coins r slots' coins' h of = stays run slots coins slots' coins' h.1 h.2 of
-  answered run (Some (Cdf slot criteria)) line slots coins r slots' coins' h of = stays run slots coins slots' coins' h.1 h.2 of
-  answered run (Some (Pmf slot criteria)) line slots coins r slots' coins' h of = stays run slots coins slots' coins' h.1 h.2 of
-  answered run (Some (Image slot)) line slots coins r slots' coins' h of = stays run slots coins slots' coins' h.1 h.2 of
+      rw is (loaded run slot (Loads behaviour (image_in line)) slots coins v slots' coins' h same of)
+  answered run (Some query) line slots coins r slots' coins' h of = stays run slots coins slots' coins' h.1 h.2 of
 
   -- what holds of a run holds behind the answers
   module _ (Holds : Known C → Slots S → ℕ → Type 0) (by : (run : Known C) (slots : Slots S) (coins : ℕ) → OfRun run slots coins → Holds run slots coins) where
     answers-where : (run : Known C) (slots : Slots S) (coins : ℕ) (ls : List (List ℕ)) (out : List ℕ) → OfRun run slots coins → Serves grammar behaviour slots coins ls out → AnswersWhere grammar behaviour Holds run slots coins ls out
     answers-where run slots coins [] out of e = (by run slots coins of, e)
-    answers-where run slots coins (l ∷ ls) out of (r, slots', coins', rest, a, more, e) = (
-      by run slots coins of,
-      r,
-      slots',
-      coins',
-      rest,
-      a,
-      answers-where (run_after run (request_of grammar (words l)) r) slots' coins' ls rest (answered run (request_of grammar (words l)) (words l) slots coins r slots' coins' a of) more,
-      e,
-    )
+    answers-where run slots coins (l ∷ ls) out of (r, slots', coins', rest, a, more, e) =
+        let after = answered run (request_of grammar (words l)) (words l) slots coins r slots' coins' a of in
+        (by run slots coins of, r, slots', coins', rest, a, answers-where (run_after run (request_of grammar (words l)) r) slots' coins' ls rest after more, e)
 
     -- from empty slots on
     answers-hold : (ls : List (List ℕ)) (out : List ℕ) → Serves grammar behaviour (replicate SLOTS None) seed ls out → AnswersWhere grammar behaviour Holds (Some []) (replicate SLOTS None) seed ls out

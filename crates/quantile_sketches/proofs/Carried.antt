@@ -5,6 +5,7 @@ use Rattle.std.proofs.lemmas.Bool.{eqb-false, false≢true}
 use Rattle.std.proofs.lemmas.Grind.{get_or-set_at}
 use Rattle.std.proofs.lemmas.List.{get_or-set_other}
 use Rattle.std.proofs.lemmas.Option.{get_or_from_slice_get, slice_get_within}
+use Rattle.std.proofs.lemmas.Result.{on_ok_weaker}
 use Rattle.std.specs.Cmp.{tied_itself}
 use Rattle.std.specs.Option.{option_map, option_and_then}
 use Rattle.std.specs.declared.cmp.Ordering.TheVariants.{Equal}
@@ -41,10 +42,7 @@ in_slot-set slots slot o new h q = go (q == slot) refl
 -- a slot that holds what it held
 in_slot-same : {S : Type 0} (slots slots' : Slots S) (slot : ℕ) (o new : Option S) → Holds slots slot o → new ≡ o → slots' ≡ set slots slot new → AreSame (in_slot slots) (in_slot slots')
 in_slot-same slots slots' slot o new h same is q =
-    ap (λ l. in_slot l q) is
-    ∙ (in_slot-set slots slot o new h q
-    ∙ (ap (λ x. changed (in_slot slots) slot x q) (same ∙ sym (in_slot-held slots slot o h))
-    ∙ changed-own (in_slot slots) slot q))
+    cc (in_slot-set slots slot o new h q, in_slot-held slots slot o h, changed-own (in_slot slots) slot q)
 
 -- a command is accepted where the rules give a shape
 given : {X : Type 0} (o : Option X) (x : X) → o ≡ Some x → true ≡ not (not (is_some o))
@@ -53,15 +51,6 @@ given o x e = sym (ap (λ o. not (not (is_some o))) e)
 not-given : {X : Type 0} (o : Option X) → o ≡ None → false ≡ not (not (is_some o))
 not-given o e = sym (ap (λ o. not (not (is_some o))) e)
 
-no-memory : InvalidArgument ≡ OutOfMemory → ⊥
-no-memory e = cc
-
-no-data : InvalidData ≡ OutOfMemory → ⊥
-no-data e = cc
-
-not-refused : InvalidData ≡ InvalidArgument → ⊥
-not-refused e = cc
-
 -- what is owed of an error but for want of memory
 abbrev Unless : ErrorKind → Type 0 → Type 0
 Unless InvalidArgument P = P
@@ -69,16 +58,11 @@ Unless InvalidData P = P
 Unless OutOfMemory P = ⊤
 
 unless-refused : {Shape : Type 0} {P : Type 0} (shape : Option Shape) (e : ErrorKind) → Refuses shape e → (shape ≡ None → P) → Unless e P
-unless-refused shape InvalidArgument (inl r) f = f r.1
-unless-refused shape InvalidArgument (inr r) f = absurd (no-memory r.0)
-unless-refused shape InvalidData (inl r) f = absurd (not-refused r.0)
-unless-refused shape InvalidData (inr r) f = absurd (no-data r.0)
-unless-refused shape OutOfMemory r f = tt
+unless-refused shape e (inl r) f = rw r.0 (f r.1)
+unless-refused shape e (inr r) f = rw r.0 tt
 
 unless-memory : (P : Type 0) (e : ErrorKind) → e ≡ OutOfMemory → Unless e P
-unless-memory P InvalidArgument r = absurd (no-memory r)
-unless-memory P InvalidData r = absurd (no-data r)
-unless-memory P OutOfMemory r = tt
+unless-memory P e wanted = rw wanted tt
 
 -- each sketch in the slots keeps what every sketch keeps
 abbrev pub AreSoundIn : {A C Shape S : Type 0} → Kind A C Shape S → Held S → Type 0
@@ -106,19 +90,15 @@ module _ {A C Shape S Source : Type 0} (kind : Kind A C Shape S) (bit : Source �
   -- a command that is no want of memory
   executed : (r : Verdict) (command : Command A C) (slots : Held S) (source : Source) (slots' : Held S) (source' : Source) → r ≢ Err (Sketch OutOfMemory) →
       Comes r command slots source slots' source' → IsExecuted kind bit next command slots source (is_ok r) slots' source'
-  executed (Ok done) command slots source slots' source' n h = h
-  executed (Err BadLine) command slots source slots' source' n h = h
-  executed (Err AbsentSlot) command slots source slots' source' n h = h
-  executed (Err (Sketch InvalidArgument)) command slots source slots' source' n h = no command slots source slots' source' h.0 h.1 h.2
-  executed (Err (Sketch InvalidData)) command slots source slots' source' n h = no command slots source slots' source' h.0 h.1 h.2
   executed (Err (Sketch OutOfMemory)) command slots source slots' source' n h = absurd (n refl)
+  executed (Err (Sketch e)) command slots source slots' source' n h = no command slots source slots' source' h.0 h.1 h.2
+  executed r command slots source slots' source' n h = h
 
   -- one that is not carried out leaves all as it was
   pub left : (e : _) (command : Command A C) (slots : Held S) (source : Source) (slots' : Held S) (source' : Source) →
       Comes (Err e) command slots source slots' source' → AreSame slots slots' × (source' ≡ source)
-  left BadLine command slots source slots' source' h = h.left refl
-  left AbsentSlot command slots source slots' source' h = h.left refl
   left (Sketch e) command slots source slots' source' h = (h.1, h.2)
+  left e command slots source slots' source' h = h.left refl
 
   module _ (command : Command A C) (slots slots' : Slots S) (source source' : Source) where
     -- what comes of a sketch in a slot
@@ -132,8 +112,7 @@ module _ {A C Shape S Source : Type 0} (kind : Kind A C Shape S) (bit : Source �
     turned : (slot : ℕ) (turn : Change Source S) → Turned slot turn → (o new : Option S) (r : Verdict) → Holds slots slot o → Turns turn o source r new source' → slots' ≡ set slots slot new →
         Comes r command (in_slot slots) source (in_slot slots') source'
     turned slot turn by None new r held (is, same, stays) set_is =
-        subst (λ r. Comes r command (in_slot slots) source (in_slot slots') source') (sym is)
-        (no command (in_slot slots) source (in_slot slots') source' (by.absent (in_slot-held slots slot None held)) (in_slot-same slots slots' slot None new held same set_is) stays)
+        rw is (no command (in_slot slots) source (in_slot slots') source' (by.absent (in_slot-held slots slot None held)) (in_slot-same slots slots' slot None new held same set_is) stays)
     turned slot turn by (Some s) new (Ok done) held (t, is, h) set_is =
         let puts : Puts (in_slot slots) slot t (in_slot slots') = λ q. ap (λ l. in_slot l q) set_is ∙ (in_slot-set slots slot (Some s) new held q ∙ ap (λ x. changed (in_slot slots) slot x q) is) in
         let d = by.done s t (in_slot-held slots slot (Some s) held) h puts in
@@ -141,27 +120,7 @@ module _ {A C Shape S Source : Type 0} (kind : Kind A C Shape S) (bit : Source �
     turned slot turn by (Some s) new (Err (Sketch e)) held (t, is, h) set_is =
         let d = by.refused s t e (in_slot-held slots slot (Some s) held) h in
         (d.0, in_slot-same slots slots' slot (Some s) new held (is ∙ ap Some d.1) set_is, d.2)
-    turned slot turn by (Some s) new (Err BadLine) held h set_is = absurd h
-    turned slot turn by (Some s) new (Err AbsentSlot) held h set_is = absurd h
-
-    -- a command on one slot that the rules decide by its sketch's shape
-    ruled : (slot : ℕ) (gives : Shape → Option Shape) →
-        ((accepted : Bool) → accepted ≡ not (not (is_some (option_and_then gives (option_map kind.shape (in_slot slots slot))))) → IsDecided kind command (in_slot slots) accepted) →
-        (turn : Change Source S) (does : S → S → Type 0) →
-        ((s t : S) (r : Result Unit ErrorKind) → in_slot slots slot ≡ Some s → turn s source r t source' → Obeys (gives (kind.shape s)) (λ t source'. does s t) s source r t source') →
-        ((s t : S) → does s t → gives (kind.shape s) ≡ Some (kind.shape t)) →
-        ((s t : S) → in_slot slots slot ≡ Some s → does s t → Puts (in_slot slots) slot t (in_slot slots') → IsDone kind bit next command (in_slot slots) source (in_slot slots') source') →
-        Turned slot turn
-    ruled slot gives decide turn does obeys shape done = record {
-      absent = λ h. decide false (not-given _ (by h));
-      done = λ s t held h puts.
-          let d = (obeys s t (Ok tt) held h).0 in (decide true (given _ (kind.shape t) (by held ∙ shape s t d)), done s t held d puts);
-      refused = λ s t e held h.
-          let o = obeys s t (Err e) held h in (unless-refused _ e o.1 (λ none. decide false (not-given _ (by held ∙ none))), o.2.0, o.2.1);
-    }
-      where
-        by : {o : Option S} → in_slot slots slot ≡ o → option_and_then gives (option_map kind.shape (in_slot slots slot)) ≡ option_and_then gives (option_map kind.shape o)
-        by h = ap (λ o. option_and_then gives (option_map kind.shape o)) h
+    turned slot turn by (Some s) new r held h set_is = absurd h
 
 -- ---- each command
 
@@ -173,18 +132,15 @@ module _ {A C Shape S Source : Type 0} {kind : Kind A C Shape S} (lawful : IsLaw
   abbrev TookWeighted : A → ℕ → S → Source → S → Source → Type 0
   TookWeighted x weight s source t source' = (y : A) × (kind.cmp x y ≡ Equal) × IsWeighted kind bit next s y weight source t source'
 
+  item-obeys : (x : A) (shape : Option Shape) (does : A → S → Source → Type 0) → (s : S) (source : Source) (r : Result Unit ErrorKind) (t : S) (source' : Source) → Obeys shape (does x) s source r t source' →
+      Obeys shape (λ t source'. (y : A) × (kind.cmp x y ≡ Equal) × does y t source') s source r t source'
+  item-obeys x shape does s source r t source' h = (on_ok_weaker r (λ d. (x, tied_itself lawful.total x, d)) h.0, h.1, h.2)
+
   clone-obeys : (IsClone : A → Type 0) (x : A) → ((y : A) → IsClone y → kind.cmp x y ≡ Equal) → (behave : A → Change Source S) (shape : Option Shape) (does : A → S → Source → Type 0) →
       (s : S) (source : Source) (r : Result Unit ErrorKind) (t : S) (source' : Source) → ((y : A) → behave y s source r t source' → Obeys shape (does y) s source r t source') → Cloned IsClone behave s source r t source' →
       Obeys shape (λ t source'. (y : A) × (kind.cmp x y ≡ Equal) × does y t source') s source r t source'
-  clone-obeys IsClone x ties behave shape does s source (Ok tt) t source' f (inl (y, is, h)) = ((y, ties y is, (f y h).0), tt, tt)
-  clone-obeys IsClone x ties behave shape does s source (Ok tt) t source' f (inr all) = ((x, tied_itself lawful.total x, (f x (all x)).0), tt, tt)
-  clone-obeys IsClone x ties behave shape does s source (Err e) t source' f (inl (y, is, h)) = let o = f y h in (tt, o.1, o.2)
-  clone-obeys IsClone x ties behave shape does s source (Err e) t source' f (inr all) = let o = f x (all x) in (tt, o.1, o.2)
-
-  item-obeys : (x : A) (shape : Option Shape) (does : A → S → Source → Type 0) → (s : S) (source : Source) (r : Result Unit ErrorKind) (t : S) (source' : Source) → Obeys shape (does x) s source r t source' →
-      Obeys shape (λ t source'. (y : A) × (kind.cmp x y ≡ Equal) × does y t source') s source r t source'
-  item-obeys x shape does s source (Ok tt) t source' h = ((x, tied_itself lawful.total x, h.0), tt, tt)
-  item-obeys x shape does s source (Err e) t source' h = (tt, h.1, h.2)
+  clone-obeys IsClone x ties behave shape does s source r t source' f (inl (y, is, h)) = let o = f y h in (on_ok_weaker r (λ d. (y, ties y is, d)) o.0, o.1, o.2)
+  clone-obeys IsClone x ties behave shape does s source r t source' f (inr all) = item-obeys x shape does s source r t source' (f x (all x))
 
   -- a sketch is a copy of itself
   same-answer : (o : Option A) → SameAnswer kind.cmp o o
@@ -211,37 +167,30 @@ module _ {A C Shape S Source : Type 0} {kind : Kind A C Shape S} (lawful : IsLaw
         (record { made = s; fresh = fresh; puts = λ q. ap (λ l. in_slot l q) is ∙ in_slot-set slots slot o (Some s) held q }, stays)
     comes-new slot config (Err (Sketch e)) ((made, is), stays) =
         (unless-refused _ e (obeys.made config (Err e) made).1 (λ none. not-given _ none), (λ q. ap (λ l. in_slot l q) is), stays)
-    comes-new slot config (Err BadLine) h = absurd h.0
-    comes-new slot config (Err AbsentSlot) h = absurd h.0
+    comes-new slot config r h = absurd h.0
 
     -- one slot turns
     changes : (command : Command A C) (slot : ℕ) (turn : Change Source S) → Turned kind bit next command slots slots' source source' slot turn → (r : Verdict) → Changes (Turns turn) slot slots source r slots' source' → Goes r command
     changes command slot turn by r (o, new, held, turns, is) = turned kind bit next command slots slots' source source' slot turn by o new r held turns is
 
-    comes-update : (slot : ℕ) (x : A) (taken : Change Source S) → ((s t : S) (r : Result Unit ErrorKind) → kind.IsSound s → taken s source r t source' → Obeys (kind.rules.updated (kind.shape s)) (Took x s source) s source r t source') →
-        (r : Verdict) → Changes (Turns taken) slot slots source r slots' source' → Goes r (Update slot x)
-    comes-update slot x taken follows =
-        changes (Update slot x) slot taken
-        (ruled kind bit next (Update slot x) slots slots' source source' slot kind.rules.updated (λ accepted e. e) taken (λ s t. Took x s source t source') (λ s t r held. follows s t r (sound slot s held))
-        (λ s t d. d.2.0.shape_is) (λ s t held d puts. record { old = s; taken = d.0; made = t; held = held; ties = d.1; after = d.2; puts = puts }))
-
-    comes-weighted : (slot : ℕ) (x : A) (weight : ℕ) (taken : Change Source S) →
-        ((s t : S) (r : Result Unit ErrorKind) → kind.IsSound s → taken s source r t source' → Obeys (kind.rules.updated_weighted (kind.shape s) weight) (TookWeighted x weight s source) s source r t source') →
-        (r : Verdict) → Changes (Turns taken) slot slots source r slots' source' → Goes r (UpdateWeighted slot x weight)
-    comes-weighted slot x weight taken follows =
-        changes (UpdateWeighted slot x weight) slot taken
-        (ruled kind bit next (UpdateWeighted slot x weight) slots slots' source source' slot (λ shape. kind.rules.updated_weighted shape weight) (λ accepted e. e) taken (λ s t. TookWeighted x weight s source t source') (λ s t r held. follows s t r (sound slot s held))
-        (λ s t d. d.2.0.shape_is) (λ s t held d puts. record { old = s; taken = d.0; made = t; held = held; ties = d.1; after = d.2; puts = puts }))
-
-    comes-reset : (slot : ℕ) (r : Verdict) → Changes (Turns (Empties behaviour)) slot slots source r slots' source' → Goes r (Reset slot)
-    comes-reset slot = changes (Reset slot) slot (Empties behaviour) (record {
-      absent = λ h. not-given _ (ap (λ o. option_map kind.rules.emptied (option_map kind.shape o)) h);
-      done = λ s t held h puts. (
-        given _ (kind.rules.emptied (kind.shape s)) (ap (λ o. option_map kind.rules.emptied (option_map kind.shape o)) held),
-        (record { old = s; held = held; made = record { made = t; fresh = obeys.emptied s t h.1; puts = puts } }, h.2),
-      );
-      refused = λ s t e held h. absurd (no-err tt e (sym h.0));
+    -- one that the rules decide by its sketch's shape
+    ruled : (command : Command A C) (slot : ℕ) (gives : Shape → Option Shape) →
+        ((accepted : Bool) → accepted ≡ not (not (is_some (option_and_then gives (option_map kind.shape (in_slot slots slot))))) → IsDecided kind command (in_slot slots) accepted) →
+        (turn : Change Source S) (does : S → S → Type 0) →
+        ((s t : S) (r : Result Unit ErrorKind) → kind.IsSound s → turn s source r t source' → Obeys (gives (kind.shape s)) (λ t source'. does s t) s source r t source') →
+        ((s t : S) → does s t → gives (kind.shape s) ≡ Some (kind.shape t)) →
+        ((s t : S) → in_slot slots slot ≡ Some s → does s t → Puts (in_slot slots) slot t (in_slot slots') → IsDone kind bit next command (in_slot slots) source (in_slot slots') source') →
+        (r : Verdict) → Changes (Turns turn) slot slots source r slots' source' → Goes r command
+    ruled command slot gives decide turn does follows shape done = changes command slot turn (record {
+      absent = λ h. decide false (not-given _ (by h));
+      done = λ s t held h puts.
+          let d = (follows s t (Ok tt) (sound slot s held) h).0 in (decide true (given _ (kind.shape t) (by held ∙ shape s t d)), done s t held d puts);
+      refused = λ s t e held h.
+          let o = follows s t (Err e) (sound slot s held) h in (unless-refused _ e o.1 (λ none. decide false (not-given _ (by held ∙ none))), o.2.0, o.2.1);
     })
+      where
+        by : {o : Option S} → in_slot slots slot ≡ o → option_and_then gives (option_map kind.shape (in_slot slots slot)) ≡ option_and_then gives (option_map kind.shape o)
+        by h = ap (λ o. option_and_then gives (option_map kind.shape o)) h
 
     -- a round trip
     trip-decided : (slot : ℕ) (accepted : Bool) (s : S) → in_slot slots slot ≡ Some s → IsTrue accepted ↔ kind.HasImage s → IsDecided kind (RoundTrip slot) (in_slot slots) accepted
@@ -264,12 +213,12 @@ module _ {A C Shape S Source : Type 0} {kind : Kind A C Shape S} (lawful : IsLaw
 
         unwritten : (s : S) (e : ErrorKind) → in_slot slots slot ≡ Some s → ((e ≡ InvalidArgument) × (¬ kind.HasImage s)) ⊎ (e ≡ OutOfMemory) → Unless e (IsDecided kind (RoundTrip slot) (in_slot slots) false)
         unwritten s e held (inr m) = unless-memory _ e m
-        unwritten s e held (inl n) = subst (λ e. Unless e (IsDecided kind (RoundTrip slot) (in_slot slots) false)) (sym n.0) (trip-decided slot false s held (λ f. absurd (false≢true f), λ has. absurd (n.1 has)))
+        unwritten s e held (inl n) = rw n.0 (trip-decided slot false s held (λ f. absurd (false≢true f), λ has. absurd (n.1 has)))
 
         refused : (s t : S) (e : ErrorKind) → in_slot slots slot ≡ Some s → RoundTrips behaviour s source (Err e) t source' → Unless e (IsDecided kind (RoundTrip slot) (in_slot slots) false) × (t ≡ s) × (source' ≡ source)
         refused s t e held (inl (bytes, written, (read, same)), stays) = (unless-memory _ e (obeys.read_back s bytes (Err e) written read).1, same, stays)
         refused s t e held (inr (f, written, is, same), stays) =
-            (unwritten s e held (subst (λ e. ((e ≡ InvalidArgument) × (¬ kind.HasImage s)) ⊎ (e ≡ OutOfMemory)) (sym (same-err e f _ refl is)) (obeys.imaged s (Err f) (sound slot s held) written).1), same, stays)
+            (unwritten s e held (rw (same-err e f _ refl is) (obeys.imaged s (Err f) (sound slot s held) written).1), same, stays)
 
     -- a merge with coins drawn anew or not, by the command that asks for it
     module _ (redraws : Bool) (into from : ℕ) (command : Command A C)
@@ -337,19 +286,11 @@ module _ {A C Shape S Source : Type 0} {kind : Kind A C Shape S} (lawful : IsLaw
       comes-merge : (b : Bool) → (into == from) ≡ b → (r : Verdict) → Merges behaviour bit next redraws b into from slots source r slots' source' → Goes r command
       comes-merge true e r h = changes command into (JoinsCopy behaviour bit next redraws) (merge-copy (eqb-true into from e)) r h
       comes-merge false e r (None, its, (o, new, held, (is, same, stays), set_is)) =
-          subst (λ r. Goes r command) (sym is)
-          (no kind bit next command (in_slot slots) source (in_slot slots') source'
+          rw is (no kind bit next command (in_slot slots) source (in_slot slots') source'
           (decide false (not-given _ (ap (λ y. merged-by (in_slot slots into) y) (in_slot-held slots from None its) ∙ merged-none _)))
           (in_slot-same slots slots' into o new held same set_is) stays)
       comes-merge false e r (Some p, its, (o, new, held, turns, set_is)) =
           turned kind bit next command slots slots' source source' into (behaviour.joined redraws p Source bit next) (merge-other p (in_slot-held slots from (Some p) its)) o new r held turns set_is
-
-    -- coins that are drawn anew
-    comes-redraw : (slot : ℕ) (r : Verdict) → Changes (Turns (behaviour.redrawn Source bit next)) slot slots source r slots' source' → Goes r (Redraw slot)
-    comes-redraw slot =
-        changes (Redraw slot) slot (behaviour.redrawn Source bit next)
-        (ruled kind bit next (Redraw slot) slots slots' source source' slot kind.rules.redrawn (λ accepted e. e) (behaviour.redrawn Source bit next) (λ s t. IsRedrawn kind bit next s source t source') (λ s t r held h. obeys.redrawn s source r t source' (sound slot s held) h)
-        (λ s t d. d.0.shape_is) (λ s t held d puts. record { old = s; made = t; held = held; after = d; puts = puts }))
 
     -- any command, by how its item is taken
     comes : (taken : A → Change Source S) (weighted : A → ℕ → Change Source S) →
@@ -357,12 +298,28 @@ module _ {A C Shape S Source : Type 0} {kind : Kind A C Shape S} (lawful : IsLaw
         ((x : A) (weight : ℕ) (s t : S) (r : Result Unit ErrorKind) → kind.IsSound s → weighted x weight s source r t source' → Obeys (kind.rules.updated_weighted (kind.shape s) weight) (TookWeighted x weight s source) s source r t source') →
         (command : Command A C) (r : Verdict) → CarriesOut behaviour bit next taken weighted command slots source r slots' source' → Goes r command
     comes taken weighted f g (New slot config) r h = comes-new slot config r h
-    comes taken weighted f g (Update slot x) r h = comes-update slot x (taken x) (f x) r h
-    comes taken weighted f g (UpdateWeighted slot x weight) r h = comes-weighted slot x weight (weighted x weight) (g x weight) r h
+    comes taken weighted f g (Update slot x) r h =
+        ruled (Update slot x) slot kind.rules.updated (λ accepted e. e) (taken x) (λ s t. Took x s source t source') (f x)
+        (λ s t d. d.2.0.shape_is) (λ s t held d puts. record { old = s; taken = d.0; made = t; held = held; ties = d.1; after = d.2; puts = puts }) r h
+    comes taken weighted f g (UpdateWeighted slot x weight) r h =
+        ruled (UpdateWeighted slot x weight) slot (λ shape. kind.rules.updated_weighted shape weight) (λ accepted e. e) (weighted x weight) (λ s t. TookWeighted x weight s source t source')
+        (g x weight)
+        (λ s t d. d.2.0.shape_is) (λ s t held d puts. record { old = s; taken = d.0; made = t; held = held; ties = d.1; after = d.2; puts = puts }) r h
     comes taken weighted f g (Merge into from) r h = comes-merge false into from (Merge into from) (λ accepted e. e) (λ m. m) (into == from) refl r h
-    comes taken weighted f g (Reset slot) r h = comes-reset slot r h
+    comes taken weighted f g (Reset slot) r h =
+        changes (Reset slot) slot (Empties behaviour) (record {
+          absent = λ h. not-given _ (ap (λ o. option_map kind.rules.emptied (option_map kind.shape o)) h);
+          done = λ s t held h puts. (
+            given _ (kind.rules.emptied (kind.shape s)) (ap (λ o. option_map kind.rules.emptied (option_map kind.shape o)) held),
+            (record { old = s; held = held; made = record { made = t; fresh = obeys.emptied s t h.1; puts = puts } }, h.2),
+          );
+          refused = λ s t e held h. absurd (no-err tt e (sym h.0));
+        }) r h
     comes taken weighted f g (RoundTrip slot) r h = comes-trip slot r h
-    comes taken weighted f g (Redraw slot) r h = comes-redraw slot r h
+    comes taken weighted f g (Redraw slot) r h =
+        ruled (Redraw slot) slot kind.rules.redrawn (λ accepted e. e) (behaviour.redrawn Source bit next) (λ s t. IsRedrawn kind bit next s source t source')
+        (λ s t r was h. obeys.redrawn s source r t source' was h)
+        (λ s t d. d.0.shape_is) (λ s t held d puts. record { old = s; made = t; held = held; after = d; puts = puts }) r h
     comes taken weighted f g (MergeRedrawn into from) r h = comes-merge true into from (MergeRedrawn into from) (λ accepted e. e) (λ m. m) (into == from) refl r h
 
     comes-clone : (IsClone : A → A → Type 0) → ((x y : A) → IsClone x y → kind.cmp x y ≡ Equal) → (command : Command A C) (r : Verdict) →

@@ -12,15 +12,12 @@ use Rattle.std.specs.Fmt.{decimal, signed_decimal}
 pub put_more : (text : List ℕ) (rest start : ℕ) (room : List ℕ) → 10 ≤ rest → rest < 2 ^ 64 → start < length room → text ≡ decimal rest ++ drop (start + 1) room →
     text ≡ decimal (rest / 10) ++ drop start (set room start (48 + rest % 10))
 put_more text rest start room h l s e =
-    e ∙ (ap (λ (t : List ℕ). t ++ drop (start + 1) room) (decimal_step rest h l)
-    ∙ (append_assoc (decimal (rest / 10)) ((48 + rest % 10) ∷ []) (drop (start + 1) room)
-    ∙ ap (λ (t : List ℕ). decimal (rest / 10) ++ t) (sym (drop-set room start (48 + rest % 10) s))))
+    cc (decimal_step rest h l, append_assoc (decimal (rest / 10)) ((48 + rest % 10) ∷ []) (drop (start + 1) room), drop-set room start (48 + rest % 10) s)
 
 -- the last digit to be put, which is the first
 pub put_last : (text : List ℕ) (rest start : ℕ) (room : List ℕ) → rest < 10 → start < length room → text ≡ decimal rest ++ drop (start + 1) room →
     text ≡ drop start (set room start (48 + rest))
-put_last text rest start room h s e =
-    e ∙ (ap (λ (t : List ℕ). t ++ drop (start + 1) room) (decimal_digit rest h) ∙ sym (drop-set room start (48 + rest) s))
+put_last text rest start room h s e = cc (decimal_digit rest h, drop-set room start (48 + rest) s)
 
 -- a number's text is that of its size, after a minus where it is negative
 pub negative : (z : ℤ) (n : ℕ) → lt_z z (pos 0) ≡ true → n ≡ nat_abs z → signed_decimal z ≡ 45 ∷ decimal n

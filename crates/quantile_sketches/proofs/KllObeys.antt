@@ -1,69 +1,73 @@
 -- KLL sketches do what the rules of their kind say.
-use Rattle.std.proofs.Common.{◌≡◌, ◌⊎◌, ℕ, ◌+◌, ◌-◌, ◌^◌, ◌==◌, ◌||◌, nat_lt, if◌then◌else◌, Bool, true, false, List, Option, None, Some, Result, Ok, Err, refl, sym, ap, ◌∙◌, inl, inr, arith, eqb-true, Ordering}
-use Rattle.std.specs.Prelude.{◌↔◌, IsTrue, IfOk, IfErr, OnOk}
-use Rattle.std.proofs.lemmas.Bool.{cases_Bool, or_cases, or_parts, eqb-false, ltb-true, ltb-false, false≢true}
+use Rattle.std.proofs.Common.{◌≡◌, ◌≢◌, ◌⊎◌, ℕ, ◌+◌, ◌-◌, ◌^◌, ◌==◌, nat_lt, if◌then◌else◌, Bool, true, false, List, Option, None, Some, Result, Ok, Err, refl, sym, ap, ap₂, ◌∙◌, ◌<◌, length, min, inl, inr, arith, eqb-true, Ordering}
+use Rattle.std.specs.Prelude.{◌↔◌, IsTrue, IsErrOf, IfOk, IfErr, OnOk}
+use Rattle.std.proofs.lemmas.Result.{IfOk-weaker}
+use Rattle.std.proofs.lemmas.Bool.{cases_lt, eqb-false, lt-ltb, ne_eqb, ltb-true, ltb-false, false_from_ne_true, false≢true}
 use Rattle.std.specs.Cmp.{IsTotalOrder}
+use Rattle.std.specs.Option.{option_to_list}
 use Rattle.std.specs.Ordering.{is_eq}
 use Rattle.std.specs.declared.alloc.Global.{Global}
 use Rattle.std.specs.declared.vec.Vec.{Vec}
-use Rattle.sketch_base.specs.Bag.{Bag}
+use Rattle.sketch_base.specs.Bag.{Bag, empty_bag}
 use Rattle.sketch_base.specs.Lengths.{bag_lengths}
+use Rattle.sketch_base.specs.Random.{bits_from}
 use Rattle.sketch_base.specs.Spelling.{SpellingsTie}
+use Rattle.sketch_base.specs.Trace.{Work}
 use Rattle.sketch_base.specs.declared.error.ErrorKind.{ErrorKind}
-use Rattle.sketch_base.specs.declared.error.ErrorKind.TheVariants.{InvalidArgument, OutOfMemory}
+use Rattle.sketch_base.specs.declared.error.ErrorKind.TheVariants.{InvalidArgument, InvalidData, OutOfMemory}
 use Rattle.sketch_base.proofs.SpelledItems.{IsPrefixFree}
-use Rattle.sketch_kll.specs.ImageLaws.{HasImage}
-use Rattle.sketch_kll.specs.Sketch.{Kll, IsSound}
+use Rattle.sketch_kll.specs.Merged.{coins_of_merge}
+use Rattle.sketch_kll.specs.Sketch.{Kll, bag_of, coins_of_update, IsSound}
+use Rattle.sketch_kll.specs.Weighted.{coins_of_weighted}
+use Rattle.sketch_kll.proofs.AlikeSteps.{length-lengths}
+use Rattle.sketch_kll.proofs.MergeSchedule.{merge_lengths}
+use Rattle.sketch_kll.proofs.Schedules.{update_lengths}
+use Rattle.sketch_kll.proofs.UnbiasedUpdates.{alike-lengths}
+use Rattle.sketch_kll.proofs.Weighted.{weighted_lengths_are}
 use Rattle.sketch_kll.proofs.ImageTexts.{one_sketch_lem}
 use Rattle.quantile_sketches.specs.Calls.{Obeys, ObeysRules}
-use Rattle.quantile_sketches.specs.KllBehaviour.{kll, IsMade, IsCopied, IsEmptied, IsImaged, IsLoaded, IsTooHeavy, TakesIn, TakesWeighted, DrawsNone, MergesIn}
+use Rattle.quantile_sketches.specs.KllBehaviour.{kll, IsMade, IsImaged, IsLoaded, IsTooHeavy, TakesIn, TakesWeighted, MergesIn}
 use Rattle.quantile_sketches.specs.KllRules.{KllShape, empty_shape, updated_shape, weighted_shape, merged_shape, kll_shape, kll_rules, kll_kind}
 use Rattle.quantile_sketches.specs.Rules.{none_if}
-use Rattle.quantile_sketches.specs.RunSteps.{Refuses, IsFresh, IsCopied as IsCopiedBy, IsReadBack, IsUpdated, IsWeighted, IsRedrawn, IsMerged}
-use Rattle.quantile_sketches.proofs.KllKind.{shape-same, not-less, unless-taken, copy_is, updated_by, weighted_by, merged_by}
+use Rattle.quantile_sketches.specs.RunSteps.{Refuses, Acts, merge_of, IsFresh, IsReadBack, IsUpdated, IsWeighted, IsRedrawn, IsMerged}
+use Rattle.quantile_sketches.proofs.KllBare.{update-lengths, weighted-lengths, merge-lengths}
+use Rattle.quantile_sketches.proofs.KllKind.{shape-same, copy_is}
+use Rattle.quantile_sketches.proofs.KllRuleLaws.{is_bad_weight, bad-weight, taken-weight, merged-some, merged-none}
 use Rattle.quantile_sketches.proofs.Refused.{refuses-by, err-of, unwritten, unread}
 use Rattle.quantile_sketches.proofs.SameRuns.{no-err}
 
 -- nothing is given where a test holds, and only there
-unless-none : (b : Bool) (shape : KllShape) → IsTrue b ↔ (none_if b shape ≡ None)
-unless-none true shape = (λ t. refl, λ none. refl)
-unless-none false shape = (λ t. absurd (false≢true t), λ none. cc)
+pub unless-none : {B : Type 0} (b : Bool) (made : B) → IsTrue b ↔ (none_if b made ≡ None)
+unless-none true made = (λ t. refl, λ none. refl)
+unless-none false made = (λ t. absurd (false≢true t), λ none. cc)
+
+-- an image that is given or refused
+pub imaged : {H : Type 0} (r : Result (Vec ℕ Global) ErrorKind) → OnOk r H → (IsErrOf r InvalidArgument → ¬ H) → IfErr r (λ e. e ≢ InvalidData) →
+    OnOk r H × IfErr r (λ e. ((e ≡ InvalidArgument) × (¬ H)) ⊎ (e ≡ OutOfMemory))
+imaged (Ok v) has denied kind = (has, tt)
+imaged {H} (Err e) has denied kind = (tt, unwritten e (¬ H) (λ is. denied (ap (λ (e : ErrorKind). let r : Result (Vec ℕ Global) ErrorKind = Err e in r) is)) kind)
+
+-- what is never done
+pub never : {S Source : Type 0} (Shape : Type 0) (does : S → Source → Type 0) (s : S) (coins : Source) (r : Result (Unit {0}) ErrorKind) (t : S) (coins' : Source) →
+    IsErrOf r InvalidArgument × (t ≡ s) × (coins' ≡ coins) → Obeys {Shape = Shape} None does s coins r t coins'
+never Shape does s coins (Ok u) t coins' h = absurd (no-err u InvalidArgument h.0)
+never Shape does s coins (Err e) t coins' h = (tt, inl (err-of {T = Unit {0}} e h.0, refl), (h.1, h.2))
 
 module _ {A : Type 0} {cmp : A → A → Ordering} (o : IsTotalOrder cmp) (spelling : A → Option (List ℕ)) where
-  made : (k : ℕ) (r : Result (Kll A) ErrorKind) → IsMade cmp spelling k r → IfOk r (IsFresh (kll_kind cmp spelling) ((kll_rules {A = A}).made k)) × IfErr r (Refuses ((kll_rules {A = A}).made k))
-  made k (Ok s) h =
-      let is = h.2 in
-      let sound = is.5 in (
-        record {
-          shape_is =
-              unless-taken (empty_shape k) (nat_lt k 8) s (not-less k 8 (λ less. no-err s InvalidArgument (h.0.1 less)))
-              (shape-same (empty_shape k) (kll_shape s) (sym is.0) (sym (sound.min_k_at_first (omega (arith, is.1)) ∙ is.0)) (sym is.1) (sym (ap (λ (b : Bag A). bag_lengths b) is.2)));
-          bag_is = is.2;
-          least_is = is.3;
-          greatest_is = is.4;
-          sound = sound;
-        },
-        tt,
-      )
-  made k (Err e) h =
-      (tt, refuses-by (nat_lt k 8) (empty_shape k) e (λ t. err-of {T = Kll A} e (h.0.1 (ltb-true k 8 t))) (λ f. h.1 (omega (arith, ltb-false k 8 f))))
-
-  emptied : (s t : Kll A) → IsEmptied cmp spelling s t → IsFresh (kll_kind cmp spelling) (Some ((kll_rules {A = A}).emptied (kll_shape s))) t
-  emptied s t h = record {
-    shape_is = ap Some (shape-same (empty_shape s.k) (kll_shape t) (sym h.0) (sym h.1) (sym h.2) (sym (ap (λ (b : Bag A). bag_lengths b) h.3)));
-    bag_is = h.3;
-    least_is = h.4;
-    greatest_is = h.5;
-    sound = h.6;
+  fresh-of : (k : ℕ) (shape : Option KllShape) (s : Kll A) → (s.k ≡ k) × (s.n ≡ 0) × (bag_of s ≡ empty_bag) × (s.least ≡ None) × (s.greatest ≡ None) × IsSound cmp s →
+      shape ≡ Some (empty_shape k) → IsFresh (kll_kind cmp spelling) shape s
+  fresh-of k shape s is e = record {
+    shape_is = e ∙ ap Some (shape-same (empty_shape k) (kll_shape s) (sym is.0) (sym (is.5.min_k_at_first (omega (arith, is.1)) ∙ is.0)) (sym is.1) (sym (ap (λ (b : Bag A). bag_lengths b) is.2)));
+    bag_is = is.2;
+    least_is = is.3;
+    greatest_is = is.4;
+    sound = is.5;
   }
 
-  copied : (s : Kll A) (r : Result (Kll A) ErrorKind) → IsCopied cmp spelling s r → IfOk r (IsCopiedBy (kll_kind cmp spelling) s) × IfErr r (λ e. e ≡ OutOfMemory)
-  copied s (Ok t) h = (copy_is o spelling s t h.0.0 h.0.1, tt)
-  copied s (Err e) h = (tt, h.1)
-
-  imaged : (s : Kll A) (r : Result (Vec ℕ Global) ErrorKind) → IsImaged cmp spelling s r → OnOk r (HasImage spelling s) × IfErr r (λ e. ((e ≡ InvalidArgument) × (¬ HasImage spelling s)) ⊎ (e ≡ OutOfMemory))
-  imaged s (Ok v) h = (h.1, tt)
-  imaged s (Err e) h = (tt, unwritten e (¬ HasImage spelling s) (λ is. h.2 (ap (λ (e : ErrorKind). let r : Result (Vec ℕ Global) ErrorKind = Err e in r) is)) h.3)
+  made : (k : ℕ) (r : Result (Kll A) ErrorKind) → IsMade cmp spelling k r → IfOk r (IsFresh (kll_kind cmp spelling) ((kll_rules {A = A}).made k)) × IfErr r (Refuses ((kll_rules {A = A}).made k))
+  made k (Ok s) h = (fresh-of k _ s h.2 (ap (λ (b : Bool). none_if b (empty_shape k)) (false_from_ne_true _ (λ t. no-err s InvalidArgument (h.0.1 (ltb-true k 8 t))))), tt)
+  made k (Err e) h =
+      (tt, refuses-by (nat_lt k 8) (empty_shape k) e (λ t. err-of {T = Kll A} e (h.0.1 (ltb-true k 8 t))) (λ f. h.1 (omega (arith, ltb-false k 8 f))))
 
   read-back : IsPrefixFree spelling → SpellingsTie cmp spelling → (s : Kll A) (bytes : Vec ℕ Global) (r : Result (Kll A) ErrorKind) → IsImaged cmp spelling s (Ok bytes) → IsLoaded cmp spelling bytes.items r →
       IfOk r (IsReadBack (kll_kind cmp spelling) s) × IfErr r (λ e. e ≡ OutOfMemory)
@@ -71,10 +75,19 @@ module _ {A : Type 0} {cmp : A → A → Ordering} (o : IsTotalOrder cmp) (spell
       (copy_is o spelling s t (one_sketch_lem o (λ x y. is_eq (cmp x y)) (λ x y. refl) spelling free ties bytes.items s t w.0.1 h.0.0).copied h.0.1, tt)
   read-back free ties s bytes (Err e) w h = (tt, unread e h.1 (λ d. h.2 d s w.0.1))
 
+  some-lengths : (s : Kll A) → IsSound cmp s → 0 < length (bag_lengths (bag_of s))
+  some-lengths s sound = omega (arith, sound.has_level, length-lengths s.levels)
+
   module _ {Source : Type 0} (bit : Source → Bool) (next : Source → Source) where
     taken : (x : A) (s : Kll A) (coins : Source) (r : Result (Unit {0}) ErrorKind) (t : Kll A) (coins' : Source) → IsSound cmp s → TakesIn cmp spelling bit next s x coins r t coins' →
         Obeys ((kll_rules {A = A}).updated (kll_shape s)) (IsUpdated (kll_kind cmp spelling) bit next s x coins) s coins r t coins'
-    taken x s coins (Ok u) t coins' was h = (updated_by o spelling bit next s x coins t coins' was h.3 h.0 h.2.0 h.2.1, tt, tt)
+    taken x s coins (Ok u) t coins' was h =
+        let is = h.2.0 in
+        let lengths = update_lengths cmp s.k (bag_of s) x (bits_from bit next coins (coins_of_update s x)) (some-lengths s was) in
+        let shape = shape-same (updated_shape (kll_shape s)) (kll_shape t) (sym is.k) (sym is.min_k) (sym is.n)
+        (sym (update-lengths A s.k (bag_lengths (bag_of s)) x) ∙ (sym lengths ∙ alike-lengths o _ (bag_of t) is.bag)) in
+        let accepted = ne_eqb s.n (2 ^ 64 - 1) (λ e. no-err u InvalidArgument (h.0.1 e)) in
+        ((record { shape_is = ap₂ none_if accepted shape; alike = is.bag; least_is = is.least; greatest_is = is.greatest; sound = h.3 }, h.2.1), tt, tt)
     taken x s coins (Err e) t coins' was h = (
       tt,
       refuses-by (s.n == 2 ^ 64 - 1) (updated_shape (kll_shape s)) e (λ t. err-of {T = Unit {0}} e (h.0.1 (eqb-true s.n (2 ^ 64 - 1) t))) (λ f. h.1 (eqb-false s.n (2 ^ 64 - 1) f)),
@@ -83,37 +96,44 @@ module _ {A : Type 0} {cmp : A → A → Ordering} (o : IsTotalOrder cmp) (spell
 
     weighted : (x : A) (weight : ℕ) (s : Kll A) (coins : Source) (r : Result (Unit {0}) ErrorKind) (t : Kll A) (coins' : Source) → IsSound cmp s → TakesWeighted cmp spelling bit next s x weight coins r t coins' →
         Obeys ((kll_rules {A = A}).updated_weighted (kll_shape s) weight) (IsWeighted (kll_kind cmp spelling) bit next s x weight coins) s coins r t coins'
-    weighted x weight s coins (Ok u) t coins' was h = (weighted_by o spelling bit next s x weight coins t coins' was h.4 h.0 h.2 h.3, tt, tt)
+    weighted x weight s coins (Ok u) t coins' was h =
+        let is = h.2 in
+        let lengths = weighted_lengths_are cmp o s.k weight (bag_of s) x (bits_from bit next coins (coins_of_weighted s x weight)) (some-lengths s was) in
+        let shape = shape-same (weighted_shape (kll_shape s) weight) (kll_shape t) (sym is.k) (sym is.min_k) (sym is.n)
+        (sym (weighted-lengths A s.k (bag_lengths (bag_of s)) x weight) ∙ (sym lengths ∙ alike-lengths o _ (bag_of t) is.bag)) in
+        let accepted = false_from_ne_true (is_bad_weight weight s.n) (λ bad. no-err u InvalidArgument (h.0.1 (bad-weight weight s.n bad))) in
+        ((record { shape_is = ap₂ none_if accepted shape; alike = is.bag; least_is = is.least; greatest_is = is.greatest; sound = h.4 }, h.3), tt, tt)
     weighted x weight s coins (Err e) t coins' was h =
-        (tt, refuses-by (weight == 0 || nat_lt (2 ^ 61 - 1) weight || nat_lt (2 ^ 64 - 1) (s.n + weight)) (weighted_shape (kll_shape s) weight) e bad good, h.5)
+        (tt, refuses-by (is_bad_weight weight s.n) (weighted_shape (kll_shape s) weight) e (λ is. err-of {T = Unit {0}} e (h.0.1 (bad-weight weight s.n is))) good, h.5)
       where
-        bad : (weight == 0 || nat_lt (2 ^ 61 - 1) weight || nat_lt (2 ^ 64 - 1) (s.n + weight)) ≡ true → e ≡ InvalidArgument
-        bad is =
-            elim (or_cases (weight == 0 || nat_lt (2 ^ 61 - 1) weight) (nat_lt (2 ^ 64 - 1) (s.n + weight)) is) [
-              | inl early ↦
-                  elim (or_cases (weight == 0) (nat_lt (2 ^ 61 - 1) weight) early) [
-                    | inl none ↦ err-of {T = Unit {0}} e (h.0.1 (inl (eqb-true weight 0 none)))
-                    | inr great ↦ err-of {T = Unit {0}} e (h.0.1 (inr (inl (omega (arith, ltb-true (2 ^ 61 - 1) weight great)))))
-                  ]
-              | inr heavy ↦ err-of {T = Unit {0}} e (h.0.1 (inr (inr (omega (arith, ltb-true (2 ^ 64 - 1) (s.n + weight) heavy)))))
-            ]
-
-        good : (weight == 0 || nat_lt (2 ^ 61 - 1) weight || nat_lt (2 ^ 64 - 1) (s.n + weight)) ≡ false → e ≡ OutOfMemory
-        good is =
-            let p = or_parts (weight == 0 || nat_lt (2 ^ 61 - 1) weight) (nat_lt (2 ^ 64 - 1) (s.n + weight)) is in
-            let q = or_parts (weight == 0) (nat_lt (2 ^ 61 - 1) weight) p.0 in
-            h.1 (omega (arith, eqb-false weight 0 q.0)) (omega (arith, ltb-false (2 ^ 61 - 1) weight q.1)) (omega (arith, ltb-false (2 ^ 64 - 1) (s.n + weight) p.1))
-
-    -- what is never done
-    never : (does : Kll A → Source → Type 0) (s : Kll A) (coins : Source) (r : Result (Unit {0}) ErrorKind) (t : Kll A) (coins' : Source) → DrawsNone cmp spelling bit next s coins r t coins' →
-        Obeys {Shape = KllShape} None does s coins r t coins'
-    never does s coins (Ok u) t coins' h = absurd (no-err u InvalidArgument h.0)
-    never does s coins (Err e) t coins' h = (tt, inl (err-of {T = Unit {0}} e h.0, refl), (h.1, h.2))
+        good : is_bad_weight weight s.n ≡ false → e ≡ OutOfMemory
+        good is = let fits = taken-weight weight s.n is in h.1 fits.0 fits.1 fits.2
 
     joined : (redraws : Bool) (p s : Kll A) (coins : Source) (r : Result (Unit {0}) ErrorKind) (t : Kll A) (coins' : Source) → IsSound cmp s → MergesIn cmp spelling bit next redraws p s coins r t coins' →
         Obeys ((kll_rules {A = A}).merged redraws (kll_shape s) (kll_shape p)) (λ t coins'. IsMerged (kll_kind cmp spelling) bit next redraws s p coins t coins' × IsSound cmp t) s coins r t coins'
-    joined true p s coins r t coins' was h = never (λ t coins'. IsMerged (kll_kind cmp spelling) bit next true s p coins t coins' × IsSound cmp t) s coins r t coins' h
-    joined false p s coins (Ok u) t coins' was h = ((merged_by o spelling bit next s p coins t coins' (Ok u) was h.5 h.0 (λ z. h.2 z) h.3 h.4, h.5), tt, tt)
+    joined true p s coins r t coins' was h = never KllShape (λ t coins'. IsMerged (kll_kind cmp spelling) bit next true s p coins t coins' × IsSound cmp t) s coins r t coins' h
+    joined false p s coins (Ok u) t coins' was h = ((record { shape_is = ap₂ none_if accepted shape; empty = λ none. let kept = h.2 none in (kept.1, kept.2); after = after }, h.5), tt, tt)
+      where
+        after : 0 < p.n → Acts (kll_kind cmp spelling) bit next (Some (kll_shape t)) s (bag_of p) (merge_of (kll_kind cmp spelling) false s p)
+            (option_to_list p.least) (option_to_list p.greatest) coins t coins'
+        after some = let is = h.3 some in (record { shape_is = refl; alike = is.bag; least_is = is.least; greatest_is = is.greatest; sound = h.5 }, h.4 some)
+
+        accepted : nat_lt (2 ^ 64 - 1) (s.n + p.n) ≡ false
+        accepted = false_from_ne_true _ (λ heavy. no-err u InvalidArgument (h.0.1 (omega (arith, ltb-true (2 ^ 64 - 1) (s.n + p.n) heavy))))
+
+        shape : (if p.n == 0 then kll_shape s else merged_shape (kll_shape s) (kll_shape p)) ≡ kll_shape t
+        shape =
+            elim (cases_lt 0 p.n) [
+              | inl some ↦
+                  let is = h.3 some in
+                  let work : Work (Bag A) = record { bag = bag_of s; scratch = bag_of p } in
+                  let lengths = merge_lengths cmp s.k work (bits_from bit next coins (coins_of_merge s p)) (some-lengths s was) in
+                  merged-some (kll_shape s) (kll_shape p) some
+                  ∙ shape-same (merged_shape (kll_shape s) (kll_shape p)) (kll_shape t) (sym is.k)
+                  (ap (λ (n : ℕ). if nat_lt 1 n then min s.min_k p.min_k else s.min_k) (length-lengths p.levels) ∙ sym is.min_k) (sym is.n)
+                  (sym (merge-lengths A s.k (record { bag = bag_lengths (bag_of s); scratch = bag_lengths (bag_of p) })) ∙ (sym lengths ∙ alike-lengths o _ (bag_of t) is.bag))
+              | inr none ↦ merged-none (kll_shape s) (kll_shape p) (omega arith) ∙ ap kll_shape (sym (h.2 (omega arith)).1)
+            ]
     joined false p s coins (Err e) t coins' was h = (
       tt,
       refuses-by (nat_lt (2 ^ 64 - 1) (s.n + p.n)) _ e (λ t. err-of {T = Unit {0}} e (h.0.1 (omega (arith, ltb-true (2 ^ 64 - 1) (s.n + p.n) t))))
@@ -126,27 +146,23 @@ module _ {A : Type 0} {cmp : A → A → Ordering} (o : IsTotalOrder cmp) (spell
     refuses true s p answer h = (λ t. refl, λ none. h.1 (inl refl))
     refuses false s p answer h =
         let n = unless-none (nat_lt (2 ^ 64 - 1) (s.n + p.n)) (if p.n == 0 then kll_shape s else merged_shape (kll_shape s) (kll_shape p)) in
-        (λ t. n.0 (heavy (h.0 t)), λ none. h.1 (inr (omega (arith, ltb-true (2 ^ 64 - 1) (s.n + p.n) (n.1 none)))))
+        (λ t. n.0 (too-much (h.0 t)), λ none. h.1 (inr (omega (arith, ltb-true (2 ^ 64 - 1) (s.n + p.n) (n.1 none)))))
       where
-        heavy : IsTrue false ⊎ IsTooHeavy cmp spelling s p → nat_lt (2 ^ 64 - 1) (s.n + p.n) ≡ true
-        heavy (inl f) = absurd (false≢true f)
-        heavy (inr much) =
-            elim (cases_Bool (nat_lt (2 ^ 64 - 1) (s.n + p.n))) [
-              | inl t ↦ t
-              | inr f ↦ absurd (omega (arith, much, ltb-false (2 ^ 64 - 1) (s.n + p.n) f))
-            ]
+        too-much : IsTrue false ⊎ IsTooHeavy cmp spelling s p → nat_lt (2 ^ 64 - 1) (s.n + p.n) ≡ true
+        too-much (inl f) = absurd (false≢true f)
+        too-much (inr heavy) = lt-ltb (2 ^ 64 - 1) (s.n + p.n) (omega (arith, heavy))
 
     -- so they obey the rules
     pub kll-obeys : IsPrefixFree spelling → SpellingsTie cmp spelling → ObeysRules (kll cmp spelling) (kll_kind cmp spelling) bit next
     kll-obeys free ties = record {
       made = made;
-      copied = copied;
-      emptied = emptied;
+      copied = λ s r h. (IfOk-weaker r _ _ (λ t c. copy_is o spelling s t c.0 c.1) h.0, h.1);
+      emptied = λ s t h. fresh-of s.k _ t (h.0, h.2, h.3, h.4, h.5, h.6) refl;
       taken = taken;
       taken_weighted = weighted;
-      redrawn = λ s coins r t coins' was h. never (IsRedrawn (kll_kind cmp spelling) bit next s coins) s coins r t coins' h;
+      redrawn = λ s coins r t coins' was h. never KllShape (IsRedrawn (kll_kind cmp spelling) bit next s coins) s coins r t coins' h;
       joined = λ redraws p sound s coins r t coins' was h. joined redraws p s coins r t coins' was h;
       refuses = λ redraws s p answer sound other h. refuses redraws s p answer h;
-      imaged = λ s r sound h. imaged s r h;
+      imaged = λ s r sound h. imaged r h.1 h.2 h.3;
       read_back = read-back free ties;
     }

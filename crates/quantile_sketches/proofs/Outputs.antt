@@ -1,7 +1,8 @@
 -- writes one after another: what is out, what waits and what is left of what was owed
-use Rattle.std.proofs.Common.{◌≡◌, ℕ, ◌+◌, ◌-◌, ◌≤◌, List, [], ◌++◌, length, take, drop, refl, sym, ap, subst, ◌∙◌, arith, Option, Some, None, Result, Ok, Err, IsOk, IsErr, OnOk}
+use Rattle.std.proofs.Common.{◌≡◌, ℕ, ◌+◌, ◌-◌, ◌≤◌, List, [], ◌++◌, length, take, drop, refl, sym, ap, ◌∙◌, arith, Option, Some, None, Result, Ok, Err, IsOk, IsErr, OnOk}
 use Rattle.std.proofs.Math.Seq.{take-add}
 use Rattle.std.specs.Io.KnownBytes.{Appends, Keeps}
+use Rattle.std.proofs.lemmas.Result.{IfOk-from_err}
 use Rattle.std.proofs.lemmas.List.{append_assoc, append-nil, take-append-drop, take_rest, length-drop}
 use Rattle.quantile_sketches.specs.Output.{Writes}
 
@@ -27,21 +28,19 @@ pub keeps_same : (c : Option (List ℕ)) → Keeps c c
 keeps_same None = tt
 keeps_same (Some xs) = refl
 
--- nothing is said of a call that fails
-no-ok : {T E : Type 0} (P : Type 0) (r : Result T E) → IsErr r → OnOk r P
-no-ok P (Ok done) e = absurd (cc)
-no-ok P (Err fault) e = tt
+-- what is so holds of a call that is done
+ok-so : {T E : Type 0} {P : Type 0} (r : Result T E) → P → OnOk r P
+ok-so (Ok done) p = p
+ok-so (Err fault) p = tt
 
 -- some bytes of a text are out, and then more
 pub writes-some : (c c' c'' : Option (List ℕ)) (bytes : List ℕ) (written count : ℕ) → written ≤ length bytes → Appends c c' (take written bytes) →
     count ≤ length (take (length bytes - written) (drop written bytes)) → Appends c' c'' (take count (take (length bytes - written) (drop written bytes))) →
     (written + count ≤ length bytes) × Appends c c'' (take (written + count) bytes)
 writes-some c c' c'' bytes written count h a k b =
-    let l : length (take (length bytes - written) (drop written bytes)) ≡ length bytes - written = ap (λ (t : List ℕ). length t) (take_rest bytes written) ∙ length-drop written bytes in
-    let e : take written bytes ++ take count (take (length bytes - written) (drop written bytes)) ≡ take (written + count) bytes =
-    ap (λ (t : List ℕ). take written bytes ++ take count t) (take_rest bytes written) ∙ sym (take-add written count bytes) in
-    let P : List ℕ → Type 0 = λ t. Appends c c'' t in
-    (omega (arith, h, k, l), subst P e (appends_on c c' c'' (take written bytes) (take count (take (length bytes - written) (drop written bytes))) a b))
+    let rest = take_rest bytes written in
+    let few : count ≤ length (drop written bytes) = rw rest at k in
+    (omega (arith, h, few, length-drop written bytes), rw (take-add written count bytes) (appends_on c c' c'' (take written bytes) (take count (drop written bytes)) a (rw rest at b)))
 
 -- some first bytes are out where a write fails
 pub writes-stop : {T E : Type 0} (c c' c'' : Option (List ℕ)) (waiting : List ℕ) (r : Result T E) (written : ℕ) (bytes : List ℕ) →
@@ -51,31 +50,23 @@ writes-stop c c' c'' waiting r written bytes fails a k = record {
   left = drop written bytes;
   parts = sym (take-append-drop written bytes);
   out = appends_kept c c' c'' (take written bytes) a k;
-  waits = no-ok _ r fails;
+  waits = IfOk-from_err r _ fails;
 }
 
 -- nothing is out
 pub writes-none : {T E : Type 0} (c : Option (List ℕ)) (r : Result T E) (owed waiting : List ℕ) → owed ≡ waiting → Writes r c c owed waiting
-writes-none c r owed waiting e = record { sent = []; left = owed; parts = refl; out = appends_none c; waits = done r }
-  where
-    done : {T E : Type 0} (r : Result T E) → OnOk r (owed ≡ waiting)
-    done (Ok u) = e
-    done (Err f) = tt
+writes-none c r owed waiting e = record { sent = []; left = owed; parts = refl; out = appends_none c; waits = ok-so r e }
 
 -- all that was owed is out, but for a flush
 pub writes-flushed : {T E T' E' : Type 0} {done : T} {c c' : Option (List ℕ)} {owed : List ℕ} (c'' : Option (List ℕ)) (text : List ℕ) (r' : Result T' E') →
     text ≡ owed → Writes {T = T} {E = E} (Ok done) c c' owed [] → Keeps c' c'' → Writes r' c c'' text []
-writes-flushed {T} {E} {T'} {E'} {done} {c} {c'} c'' text r' e h k = record {
+writes-flushed {c = c} {c' = c'} c'' text r' e h k = record {
   sent = h.sent;
   left = h.left;
   parts = e ∙ h.parts;
   out = appends_kept c c' c'' h.sent h.out k;
-  waits = go r';
+  waits = ok-so r' h.waits;
 }
-  where
-    go : (r' : Result T' E') → OnOk r' (h.left ≡ [])
-    go (Ok u) = h.waits
-    go (Err x) = tt
 
 -- another call fails, with more behind
 pub writes-early : {T E T' E' : Type 0} {r : Result T E} {c c' : Option (List ℕ)} {owed waiting : List ℕ} (text more waiting' : List ℕ) (r' : Result T' E') →
@@ -83,9 +74,9 @@ pub writes-early : {T E T' E' : Type 0} {r : Result T E} {c c' : Option (List �
 writes-early text more waiting' r' e fails h = record {
   sent = h.sent;
   left = h.left ++ more;
-  parts = e ∙ (ap (λ (t : List ℕ). t ++ more) h.parts ∙ append_assoc h.sent h.left more);
+  parts = cc (append_assoc h.sent h.left more);
   out = h.out;
-  waits = no-ok _ r' fails;
+  waits = IfOk-from_err r' _ fails;
 }
 
 -- what holds of a call that is done
@@ -96,16 +87,11 @@ held-ok (Err x) ok p = absurd (cc)
 -- what waits goes out, with more behind
 pub writes-on : {T E T' E' : Type 0} {r : Result T E} {r' : Result T' E'} {c c' c'' : Option (List ℕ)} {owed waiting owed' waiting' : List ℕ} (text more : List ℕ) →
     text ≡ owed ++ more → Writes r c c' owed waiting → IsOk r → owed' ≡ waiting ++ more → Writes r' c' c'' owed' waiting' → Writes r' c c'' text waiting'
-writes-on {T} {E} {T'} {E'} {r} {r'} {c} {c'} {c''} {owed} {waiting} {owed'} {waiting'} text more e h ok f k =
-    let w : h.left ≡ waiting = held-ok r ok h.waits in record {
+writes-on {r = r} {c = c} {c' = c'} {c'' = c''} {waiting = waiting} text more e h ok f k =
+    let held : h.left ≡ waiting = held-ok r ok h.waits in record {
       sent = h.sent ++ k.sent;
       left = k.left;
-      parts =
-          e ∙ (ap (λ (t : List ℕ). t ++ more) h.parts
-          ∙ (append_assoc h.sent h.left more
-          ∙ (ap (λ (t : List ℕ). h.sent ++ (t ++ more)) w
-          ∙ (ap (λ (t : List ℕ). h.sent ++ t) (sym f ∙ k.parts)
-          ∙ sym (append_assoc h.sent k.sent k.left)))));
+      parts = cc (append_assoc h.sent h.left more, append_assoc h.sent k.sent k.left);
       out = appends_on c c' c'' h.sent k.sent h.out k.out;
       waits = k.waits;
     }
@@ -124,9 +110,4 @@ writes-fail w first rest text waiting' r' e fails h =
 
 -- the same of another call that is done
 pub writes-as : {T E T' E' : Type 0} {r : Result T E} {c c' : Option (List ℕ)} {owed waiting : List ℕ} (r' : Result T' E') → Writes r c c' owed waiting → IsOk r → Writes r' c c' owed waiting
-writes-as {T} {E} {T'} {E'} {r} {c} {c'} {owed} {waiting} r' h ok = record { sent = h.sent; left = h.left; parts = h.parts; out = h.out; waits = go r r' ok h.waits }
-  where
-    go : (r : Result T E) (r' : Result T' E') → IsOk r → OnOk r (h.left ≡ waiting) → OnOk r' (h.left ≡ waiting)
-    go (Ok u) (Ok v) ok e = e
-    go (Ok u) (Err x) ok e = tt
-    go (Err x) r' ok e = absurd (cc)
+writes-as {r = r} r' h ok = record { sent = h.sent; left = h.left; parts = h.parts; out = h.out; waits = ok-so r' (held-ok r ok h.waits) }

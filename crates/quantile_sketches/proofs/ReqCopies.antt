@@ -35,33 +35,22 @@ module _ {A : Type 0} {cmp : A → A → Ordering} (o : IsTotalOrder cmp) where
 
   same-layouts : (xs ys : List (Level A)) → AreSame xs ys → layouts_of ys ≡ layouts_of xs
   same-layouts [] [] c = refl
-  same-layouts [] (y ∷ ys) c = absurd c
-  same-layouts (x ∷ xs) [] c = absurd c
   same-layouts (x ∷ xs) (y ∷ ys) c =
-      ap₂ (λ (l : Layout) (ls : List Layout). l ∷ ls) (one c.0.items c.0.rest) (same-layouts xs ys c.1)
-    where
-      made : ℕ → ℕ → ℕ → Layout
-      made a b d = record { count = a; state = b; doublings = d }
-
-      one : SameItems cmp x.items y.items → y ≡ record x { items = y.items } → layout_of y ≡ layout_of x
-      one items rest =
-          let n : length y.items ≡ length x.items = sym (length_all_zip (λ x y. cmp x y ≡ Equal) x.items y.items items) in
-          let s : y.state ≡ x.state = ap (λ (l : Level A). l.state) rest in
-          let d : y.doublings ≡ x.doublings = ap (λ (l : Level A). l.doublings) rest in
-          λ i. made (n i) (s i) (d i)
+      let n : length y.items ≡ length x.items = sym (length_all_zip (λ x y. cmp x y ≡ Equal) x.items y.items c.0.items) in
+      let one : layout_of y ≡ layout_of x = ap layout_of c.0.rest ∙ ap (λ (m : ℕ). let l : Layout = record (layout_of x) { count = m } in l) n in
+      ap₂ (λ (l : Layout) (ls : List Layout). l ∷ ls) one (same-layouts xs ys c.1)
+  same-layouts xs ys c = absurd c
 
   same-levels : (xs ys : List (Level A)) → AreSame xs ys → AllZip (λ xs ys. SameItems cmp (sort cmp xs) (sort cmp ys)) (map (λ level. level.items) xs) (map (λ level. level.items) ys)
   same-levels [] [] c = tt
-  same-levels [] (y ∷ ys) c = absurd c
-  same-levels (x ∷ xs) [] c = absurd c
   same-levels (x ∷ xs) (y ∷ ys) c = (sorted_items o x.items y.items (SameCounts-from_items o x.items y.items c.0.items), same-levels xs ys c.1)
+  same-levels xs ys c = absurd c
 
   same-coins : (xs ys : List (Level A)) → AreSame xs ys → (h : ℕ) → coins_of xs h ≡ coins_of ys h
   same-coins [] [] c h = refl
-  same-coins [] (y ∷ ys) c h = absurd c
-  same-coins (x ∷ xs) [] c h = absurd c
   same-coins (x ∷ xs) (y ∷ ys) c zero = sym (ap (λ (l : Level A). l.coin) c.0.rest)
   same-coins (x ∷ xs) (y ∷ ys) c (suc h) = same-coins xs ys c.1 h
+  same-coins xs ys c h = absurd c
 
   same-bag : (xs ys : List (Level A)) → AreSame xs ys → AlikeReq cmp (bag_of xs) (bag_of ys)
   same-bag xs ys c = record { levels = same-levels xs ys c; kept = same-coins xs ys c }
@@ -69,9 +58,8 @@ module _ {A : Type 0} {cmp : A → A → Ordering} (o : IsTotalOrder cmp) where
   -- copied levels are the same
   pub copied-levels : (xs ys : List (Level A)) → AllZip (IsLevelCopy cmp) xs ys → AreSame xs ys
   copied-levels [] [] c = tt
-  copied-levels [] (y ∷ ys) c = absurd c
-  copied-levels (x ∷ xs) [] c = absurd c
   copied-levels (x ∷ xs) (y ∷ ys) c = (record { items = c.0.items; rest = c.0.rest }, copied-levels xs ys c.1)
+  copied-levels xs ys c = absurd c
 
   -- what a level keeps that forgets its coin
   forgotten-bag : (xs : List (Level A)) → bag_of (map forgotten xs) ≡ record (bag_of xs) { kept = λ h. false }

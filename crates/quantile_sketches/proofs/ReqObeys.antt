@@ -1,12 +1,18 @@
 -- REQ sketches do what the rules of their kind say.
-use Rattle.std.proofs.Common.{◌≡◌, ◌⊎◌, ℕ, zero, suc, ◌+◌, ◌-◌, ◌%◌, ◌^◌, ◌<◌, ◌≤◌, ◌==◌, ◌||◌, ◌&&◌, not, nat_lt, if◌then◌else◌, Bool, true, false, List, [], ◌∷◌, Option, None, Some, Result, Ok, Err, refl, sym, ap, ap₂, ◌∙◌, inl, inr, arith, eqb-true, ltb-true, le-leb, eq-eqb, Ordering}
-use Rattle.std.specs.Prelude.{◌↔◌, IsTrue, IfOk, IfErr, OnOk}
-use Rattle.std.proofs.lemmas.Bool.{cases_Bool, or_cases, or_parts, and_parts, false≢true}
+use Rattle.std.proofs.Common.{◌≡◌, ◌≢◌, ◌⊎◌, ◌++◌, ℕ, zero, suc, ◌+◌, ◌-◌, ◌%◌, ◌^◌, ◌<◌, ◌≤◌, ◌==◌, ◌&&◌, not, if◌then◌else◌, Bool, true, false, List, [], ◌∷◌, Option, None, Some, Result, Ok, Err, refl, sym, ap, ap₂, ◌∙◌, inl, inr, arith, eqb-true, le-leb, eq-eqb, Ordering}
+use Rattle.std.specs.Prelude.{◌↔◌, IsTrue, IfOk, IfErr}
+use Rattle.std.proofs.lemmas.Result.{IfOk-weaker}
+use Rattle.std.proofs.lemmas.Bool.Decides.{nat_tests}
+use Rattle.std.proofs.lemmas.Bool.{cases_Bool, both_ways, eqb-false, false_from_ne_true, false≢true, not-true, or_parts, true_from_ne_false}
 use mathlib.Core.Path.{fun_ext}
-use Rattle.std.specs.Cmp.{IsTotalOrder}
+use Rattle.std.specs.Cmp.{IsTotalOrder, tied_itself}
+use Rattle.std.specs.Option.{option_to_list}
+use Rattle.std.specs.Ordering.{is_gt}
 use Rattle.std.specs.declared.alloc.Global.{Global}
 use Rattle.std.specs.declared.vec.Vec.{Vec}
 use Rattle.sketch_base.specs.Bag.{Bag, empty_bag, retained}
+use Rattle.sketch_base.specs.Extremes.{IsLeastOf, IsGreatestOf}
+use Rattle.sketch_base.specs.Random.{bits_from, after_draws}
 use Rattle.sketch_base.specs.Spelling.{SpellingsTie}
 use Rattle.sketch_base.specs.declared.error.ErrorKind.{ErrorKind}
 use Rattle.sketch_base.specs.declared.error.ErrorKind.TheVariants.{InvalidArgument, OutOfMemory}
@@ -14,29 +20,26 @@ use Rattle.sketch_base.proofs.SpelledItems.{IsPrefixFree}
 use Rattle.sketch_req.specs.Actions.{bag_of, coins_of}
 use Rattle.sketch_req.specs.ImageLaws.{without_coins}
 use Rattle.sketch_req.specs.Level.{Level, fresh}
-use Rattle.sketch_req.specs.Schedule.{layouts_of, retained_of, update_layouts, merge_layouts}
+use Rattle.sketch_req.specs.Redrawn.{coins_of_redraw}
+use Rattle.sketch_req.specs.Schedule.{Layout, layouts_of, retained_of, merge_layouts}
 use Rattle.sketch_req.specs.Sections.{IsLegalK}
 use Rattle.sketch_req.specs.Sketch.{Req, IsSound}
 use Rattle.sketch_req.specs.declared.RankAccuracy.{RankAccuracy}
 use Rattle.sketch_req.specs.declared.RankAccuracy.TheVariants.{HighRank, LowRank}
 use Rattle.sketch_req.proofs.OneSketch.{one_sketch}
 use Rattle.sketch_req.proofs.Ranks.{retained_is}
+use Rattle.sketch_req.proofs.Redraws.{layouts-redrawn, redraws-are, redraws-draw}
 use Rattle.quantile_sketches.specs.Calls.{Obeys, ObeysRules}
 use Rattle.quantile_sketches.specs.Rules.{none_if}
-use Rattle.quantile_sketches.specs.ReqBehaviour.{req, IsEmptyOf, IsMade, IsCopied, IsImaged, IsLoaded, IsUnfit, TakesIn, TakesNone, DrawsAnew, JoinsIn}
-use Rattle.quantile_sketches.specs.ReqKind.{HasImage, req_kind, req_shape}
+use Rattle.quantile_sketches.specs.ReqBehaviour.{req, IsEmptyOf, IsMade, IsImaged, IsLoaded, IsUnfit, TakesIn, DrawsAnew, JoinsIn}
+use Rattle.quantile_sketches.specs.ReqKind.{req_kind, req_shape}
 use Rattle.quantile_sketches.specs.ReqRules.{ReqShape, new_shape, may_be_k, is_same, is_too_much, req_rules}
-use Rattle.quantile_sketches.specs.RunSteps.{Refuses, IsFresh, IsCopied as IsCopiedBy, IsReadBack, IsUpdated, IsWeighted, IsRedrawn, IsMerged}
-use Rattle.quantile_sketches.proofs.Refused.{refuses-by, err-of, unwritten, unread}
-use Rattle.quantile_sketches.proofs.ReqCalls.{redrawn_by, merged_by}
+use Rattle.quantile_sketches.specs.RunSteps.{Refuses, Acts, merge_of, IsFresh, IsReadBack, IsUpdated, IsWeighted, IsRedrawn, IsMerged}
+use Rattle.quantile_sketches.proofs.KllObeys.{imaged, never, unless-none}
+use Rattle.quantile_sketches.proofs.Refused.{refuses-by, err-of, unread}
 use Rattle.quantile_sketches.proofs.ReqCopies.{same-shape, copy_is, read_is}
 use Rattle.quantile_sketches.proofs.ReqRuleLaws.{not-false, same_accuracy, legal_k, enough_room, merged_as, no_merge}
 use Rattle.quantile_sketches.proofs.SameRuns.{no-err}
-
--- a test that holds not
-not-so : (b : Bool) → not b ≡ true → b ≡ false
-not-so true e = absurd (false≢true e)
-not-so false e = refl
 
 -- a legal k may be one
 pub may-be : (k : ℕ) → IsLegalK k → may_be_k k ≡ true
@@ -47,7 +50,28 @@ pub same-itself : (a : RankAccuracy) → is_same a a ≡ true
 same-itself HighRank = refl
 same-itself LowRank = refl
 
+-- what one sketch takes in of another
+both-retained : {A : Type 0} (s p : Req A) → retained (bag_of s.levels) + retained (bag_of p.levels) ≡ retained_of (layouts_of s.levels) + retained_of (layouts_of p.levels)
+both-retained s p = ap₂ (λ (n m : ℕ). n + m) (retained_is s.levels) (retained_is p.levels)
+
+-- a merge that the rules refuse
+unfit : {A : Type 0} (s p : Req A) → no_merge (req_shape s) (req_shape p) ≡ true →
+    (s.accuracy ≢ p.accuracy) ⊎ ((2 ^ 64 ≤ s.n + p.n) ⊎ (2 ^ 32 ≤ retained (bag_of s.levels) + retained (bag_of p.levels)))
+unfit s p is =
+    let both = both-retained s p in
+    let same : s.accuracy ≡ p.accuracy → is_same s.accuracy p.accuracy ≡ true = λ e. ap (is_same s.accuracy) (sym e) ∙ same-itself s.accuracy in
+    grind (arith, nat_tests)
+
 module _ {A : Type 0} {cmp : A → A → Ordering} (o : IsTotalOrder cmp) (spelling : A → Option (List ℕ)) where
+  -- an extreme is that of itself
+  own-least : (x : Option A) → IsLeastOf cmp (option_to_list x ++ []) x
+  own-least None = refl
+  own-least (Some x) = record { ties = inl (tied_itself o x); bounds = (ap is_gt (tied_itself o x), tt) }
+
+  own-greatest : (x : Option A) → IsGreatestOf cmp (option_to_list x ++ []) x
+  own-greatest None = refl
+  own-greatest (Some x) = record { ties = inl (tied_itself o x); bounds = (ap is_gt (tied_itself o x), tt) }
+
   no-coins : (level : Level A) → level.coin ≡ false → (h : ℕ) → coins_of (level ∷ []) h ≡ false
   no-coins level e zero = e
   no-coins level e (suc h) = refl
@@ -68,25 +92,13 @@ module _ {A : Type 0} {cmp : A → A → Ordering} (o : IsTotalOrder cmp) (spell
   made config (Ok s) h = (empty-of config.0 config.1 _ s h.2 (ap (λ (b : Bool). none_if (not b) (new_shape config.0 config.1)) legal), tt)
     where
       legal : may_be_k config.0 ≡ true
-      legal =
-          elim (cases_Bool (may_be_k config.0)) [
-            | inl t ↦ t
-            | inr f ↦ absurd (no-err s InvalidArgument (h.0.1 (λ l. false≢true (sym f ∙ may-be config.0 l))))
-          ]
+      legal = true_from_ne_false _ (λ f. no-err s InvalidArgument (h.0.1 (λ l. both_ways _ f (may-be config.0 l))))
   made config (Err e) h = (
     tt,
     refuses-by (not (may_be_k config.0)) (new_shape config.0 config.1) e
-        (λ t. err-of {T = Req A} e (h.0.1 (λ l. false≢true (sym (not-so (may_be_k config.0) t) ∙ may-be config.0 l))))
+        (λ t. err-of {T = Req A} e (h.0.1 (λ l. both_ways _ (not-true _ t) (may-be config.0 l))))
         (λ f. h.1 (legal_k config.0 (not-false (may_be_k config.0) f))),
   )
-
-  copied : (s : Req A) (r : Result (Req A) ErrorKind) → IsCopied cmp spelling s r → IfOk r (IsCopiedBy (req_kind cmp spelling) s) × IfErr r (λ e. e ≡ OutOfMemory)
-  copied s (Ok t) h = (copy_is o spelling s t h.0.0 h.0.1, tt)
-  copied s (Err e) h = (tt, h.1)
-
-  imaged : (s : Req A) (r : Result (Vec ℕ Global) ErrorKind) → IsImaged cmp spelling s r → OnOk r (HasImage spelling s) × IfErr r (λ e. ((e ≡ InvalidArgument) × (¬ HasImage spelling s)) ⊎ (e ≡ OutOfMemory))
-  imaged s (Ok v) h = (h.1, tt)
-  imaged s (Err e) h = (tt, unwritten e (¬ HasImage spelling s) (λ is. h.2 (ap (λ (e : ErrorKind). let r : Result (Vec ℕ Global) ErrorKind = Err e in r) is)) h.3)
 
   read-back : IsPrefixFree spelling → SpellingsTie cmp spelling → (s : Req A) (bytes : Vec ℕ Global) (r : Result (Req A) ErrorKind) → IsImaged cmp spelling s (Ok bytes) → IsLoaded cmp spelling bytes.items r →
       IfOk r (IsReadBack (req_kind cmp spelling) s) × IfErr r (λ e. e ≡ OutOfMemory)
@@ -94,159 +106,111 @@ module _ {A : Type 0} {cmp : A → A → Ordering} (o : IsTotalOrder cmp) (spell
       (read_is o spelling s t (one_sketch o spelling free ties bytes.items (without_coins s) t [] h.0.0.0 w.0.1 h.0.0.1).0 h.0.1, tt)
   read-back free ties s bytes (Err e) w h = (tt, unread e h.1 (λ d. h.2 d (without_coins s) [] w.0.1))
 
-  -- what one sketch takes in of another
-  both-retained : (s p : Req A) → retained (bag_of s.levels) + retained (bag_of p.levels) ≡ retained_of (layouts_of s.levels) + retained_of (layouts_of p.levels)
-  both-retained s p = ap₂ (λ (n m : ℕ). n + m) (retained_is s.levels) (retained_is p.levels)
-
-  unfit : (s p : Req A) → no_merge (req_shape s) (req_shape p) ≡ true → IsUnfit cmp spelling s p
-  unfit s p is =
-      elim (or_cases (not (is_same s.accuracy p.accuracy)) _ is) [
-        | inl other ↦ inl (λ same. false≢true (sym (not-so (is_same s.accuracy p.accuracy) other) ∙ (ap (is_same s.accuracy) (sym same) ∙ same-itself s.accuracy)))
-        | inr much ↦
-            let both = both-retained s p in
-            elim (or_cases (nat_lt (2 ^ 64 - 1) (s.n + p.n)) (nat_lt 4294967295 (retained_of (layouts_of s.levels) + retained_of (layouts_of p.levels))) (and_parts (not (p.n == 0)) _ much).1) [
-              | inl heavy ↦ inr (inl (omega (arith, ltb-true (2 ^ 64 - 1) (s.n + p.n) heavy)))
-              | inr many ↦ inr (inr (omega (arith, both, ltb-true 4294967295 (retained_of (layouts_of s.levels) + retained_of (layouts_of p.levels)) many)))
-            ]
-      ]
-
-  -- where nothing is too much, of a sketch that is not empty
-  fits : (s p : Req A) → no_merge (req_shape s) (req_shape p) ≡ false → (s.accuracy ≡ p.accuracy) × ((p.n == 0) ≡ false → (s.n + p.n < 2 ^ 64) × (retained (bag_of s.levels) + retained (bag_of p.levels) < 2 ^ 32))
-  fits s p is = (same_accuracy s.accuracy p.accuracy (not-false (is_same s.accuracy p.accuracy) parts.0), room)
-    where
-      parts : (not (is_same s.accuracy p.accuracy) ≡ false) × ((not (p.n == 0) && is_too_much (s.n + p.n) (retained_of (layouts_of s.levels) + retained_of (layouts_of p.levels))) ≡ false)
-      parts = or_parts (not (is_same s.accuracy p.accuracy)) _ is
-
-      free : (b c : Bool) → b ≡ false → (not b && c) ≡ false → c ≡ false
-      free true c z f = absurd (false≢true (sym z))
-      free false c z f = f
-
-      room : (p.n == 0) ≡ false → (s.n + p.n < 2 ^ 64) × (retained (bag_of s.levels) + retained (bag_of p.levels) < 2 ^ 32)
-      room some =
-          let e = enough_room (s.n + p.n) (retained_of (layouts_of s.levels) + retained_of (layouts_of p.levels)) (free (p.n == 0) _ some parts.1) in
-          let both = both-retained s p in
-          (e.0, omega (arith, both, e.1))
+  -- where nothing is too much
+  fits : (s p : Req A) → IsSound cmp s → IsSound cmp p → no_merge (req_shape s) (req_shape p) ≡ false →
+      (s.accuracy ≡ p.accuracy) × (s.n + p.n < 2 ^ 64) × (retained (bag_of s.levels) + retained (bag_of p.levels) < 2 ^ 32)
+  fits s p sound other is =
+      let same = same_accuracy s.accuracy p.accuracy (not-false _ (or_parts (not (is_same s.accuracy p.accuracy)) _ is).0) in
+      let both = both-retained s p in
+      let empty : p.n ≡ 0 → retained_of (layouts_of p.levels) ≡ 0 = λ none. ap (λ (q : Req A). retained_of (layouts_of q.levels)) (other.empty_at_first none) in
+      (same, grind (arith, nat_tests), grind (arith, nat_tests))
 
   -- a sketch that is refused by sound ones
   unfit-not : (s p : Req A) → IsSound cmp s → IsSound cmp p → IsUnfit cmp spelling s p → no_merge (req_shape s) (req_shape p) ≡ false → ⊥
-  unfit-not s p sound other (inl differ) is = differ (fits s p is).0
-  unfit-not s p sound other (inr much) is =
-      elim (cases_Bool (p.n == 0)) [
-        | inl e ↦ none (eqb-true p.n 0 e) much
-        | inr e ↦ some ((fits s p is).1 e) much
-      ]
-    where
-      none : p.n ≡ 0 → (2 ^ 64 ≤ s.n + p.n) ⊎ (2 ^ 32 ≤ retained (bag_of s.levels) + retained (bag_of p.levels)) → ⊥
-      none z (inl heavy) = omega (arith, z, heavy, sound.n_fits)
-      none z (inr many) =
-          let both = both-retained s p in
-          let empty : retained_of (layouts_of p.levels) ≡ 0 = ap (λ (q : Req A). retained_of (layouts_of q.levels)) (other.empty_at_first z) in
-          omega (arith, both, empty, many, sound.few_items)
-
-      some : (s.n + p.n < 2 ^ 64) × (retained (bag_of s.levels) + retained (bag_of p.levels) < 2 ^ 32) → (2 ^ 64 ≤ s.n + p.n) ⊎ (2 ^ 32 ≤ retained (bag_of s.levels) + retained (bag_of p.levels)) → ⊥
-      some f (inl heavy) = omega (arith, f.0, heavy)
-      some f (inr many) = omega (arith, f.1, many)
+  unfit-not s p sound other (inl differ) is = differ (fits s p sound other is).0
+  unfit-not s p sound other (inr (inl heavy)) is = omega (arith, heavy, (fits s p sound other is).1)
+  unfit-not s p sound other (inr (inr many)) is = omega (arith, many, (fits s p sound other is).2)
 
   refuses : (redraws : Bool) (s p : Req A) (answer : Bool) → IsSound cmp s → IsSound cmp p → IsTrue answer ↔ IsUnfit cmp spelling s p →
       IsTrue answer ↔ ((req_rules {A = A}).merged redraws (req_shape s) (req_shape p) ≡ None)
-  refuses redraws s p answer sound other h = (λ t. ap (λ (b : Bool). none_if b made-of) (bad (h.0 t)), λ none. h.1 (unfit s p (not-given (no_merge (req_shape s) (req_shape p)) none)))
-    where
-      made-of : ReqShape
-      made-of = merged_as (req_shape s) (req_shape p) (if p.n == 0 then layouts_of s.levels else merge_layouts s.k (layouts_of s.levels) (layouts_of p.levels))
-
-      bad : IsUnfit cmp spelling s p → no_merge (req_shape s) (req_shape p) ≡ true
-      bad u =
-          elim (cases_Bool (no_merge (req_shape s) (req_shape p))) [
-            | inl t ↦ t
-            | inr f ↦ absurd (unfit-not s p sound other u f)
-          ]
-
-      not-given : (b : Bool) → none_if b made-of ≡ None → b ≡ true
-      not-given true e = refl
-      not-given false e = cc
+  refuses redraws s p answer sound other h =
+      let none = unless-none (no_merge (req_shape s) (req_shape p)) _ in
+      (λ t. none.0 (true_from_ne_false _ (unfit-not s p sound other (h.0 t))), λ absent. h.1 (unfit s p (none.1 absent)))
 
   module _ {Source : Type 0} (bit : Source → Bool) (next : Source → Source) where
+    -- an update that the rules refuse
+    full : (s : Req A) → IsSound cmp s → is_too_much (s.n + 1) (retained_of (layouts_of s.levels) + 1) ≡ true → (s.n ≡ 2 ^ 64 - 1) ⊎ (retained (bag_of s.levels) ≡ 4294967295)
+    full s was is = let retains = retained_is s.levels in grind (arith, nat_tests)
+
     taken : (x : A) (s : Req A) (coins : Source) (r : Result (Unit {0}) ErrorKind) (t : Req A) (coins' : Source) → IsSound cmp s → TakesIn cmp spelling bit next s x coins r t coins' →
         Obeys ((req_rules {A = A}).updated (req_shape s)) (IsUpdated (req_kind cmp spelling) bit next s x coins) s coins r t coins'
     taken x s coins (Ok v) t coins' was h =
-        let u = h.2 in (
-          (
-            record {
-              shape_is =
-                  ap (λ (b : Bool). none_if b (record { k = s.k; accuracy = s.accuracy; n = s.n + 1; layouts = update_layouts s.k (layouts_of s.levels) })) (ap₂ (λ (b c : Bool). b || c) light few)
-                  ∙ ap Some (same-shape _ _ _ _ _ _ _ _ (sym u.k) (sym u.accuracy) (sym u.n) (sym u.layouts));
-              alike = u.bag;
-              least_is = u.least;
-              greatest_is = u.greatest;
-              sound = h.4;
-            },
-            h.3,
-          ),
-          tt,
-          tt,
-        )
-      where
-        free : (b : Bool) → (b ≡ true → ⊥) → b ≡ false
-        free true f = absurd (f refl)
-        free false f = refl
-
-        light : nat_lt (2 ^ 64 - 1) (s.n + 1) ≡ false
-        light =
-            free _ (λ l. no-err v InvalidArgument (h.0.1 (inl (omega (arith, was.n_fits, ltb-true (2 ^ 64 - 1) (s.n + 1) l)))))
-
-        few : nat_lt 4294967295 (retained_of (layouts_of s.levels) + 1) ≡ false
-        few =
-            free _ (λ l. no-err v InvalidArgument (h.0.1 (inr (omega (arith, was.few_items, retained_is s.levels, ltb-true 4294967295 (retained_of (layouts_of s.levels) + 1) l)))))
+        let u = h.2 in
+        let shape = same-shape _ _ _ _ _ _ _ _ (sym u.k) (sym u.accuracy) (sym u.n) (sym u.layouts) in
+        let accepted = false_from_ne_true (is_too_much (s.n + 1) (retained_of (layouts_of s.levels) + 1)) (λ is. no-err v InvalidArgument (h.0.1 (full s was is))) in
+        ((record { shape_is = ap₂ none_if accepted shape; alike = u.bag; least_is = u.least; greatest_is = u.greatest; sound = h.4 }, h.3), tt, tt)
     taken x s coins (Err e) t coins' was h =
-        (tt, refuses-by (is_too_much (s.n + 1) (retained_of (layouts_of s.levels) + 1)) _ e bad good, h.5)
+        (tt, refuses-by (is_too_much (s.n + 1) (retained_of (layouts_of s.levels) + 1)) _ e (λ is. err-of {T = Unit {0}} e (h.0.1 (full s was is))) good, h.5)
       where
-        bad : is_too_much (s.n + 1) (retained_of (layouts_of s.levels) + 1) ≡ true → e ≡ InvalidArgument
-        bad is =
-            elim (or_cases (nat_lt (2 ^ 64 - 1) (s.n + 1)) _ is) [
-              | inl l ↦ err-of {T = Unit {0}} e (h.0.1 (inl (omega (arith, was.n_fits, ltb-true (2 ^ 64 - 1) (s.n + 1) l))))
-              | inr l ↦ err-of {T = Unit {0}} e (h.0.1 (inr (omega (arith, was.few_items, retained_is s.levels, ltb-true 4294967295 (retained_of (layouts_of s.levels) + 1) l))))
-            ]
-
         good : is_too_much (s.n + 1) (retained_of (layouts_of s.levels) + 1) ≡ false → e ≡ OutOfMemory
         good is =
             let room = enough_room (s.n + 1) (retained_of (layouts_of s.levels) + 1) is in
             h.1 (λ n. omega (arith, n, room.0)) (λ n. omega (arith, n, retained_is s.levels, room.1))
 
-    weighted : (x : A) (weight : ℕ) (s : Req A) (coins : Source) (r : Result (Unit {0}) ErrorKind) (t : Req A) (coins' : Source) → TakesNone cmp spelling bit next s coins r t coins' →
-        Obeys {Shape = ReqShape} None (IsWeighted (req_kind cmp spelling) bit next s x weight coins) s coins r t coins'
-    weighted x weight s coins (Ok u) t coins' h = absurd (no-err u InvalidArgument h.0)
-    weighted x weight s coins (Err e) t coins' h = (tt, inl (err-of {T = Unit {0}} e h.0, refl), (h.1, h.2))
-
     redrawn : (s : Req A) (coins : Source) (r : Result (Unit {0}) ErrorKind) (t : Req A) (coins' : Source) → DrawsAnew cmp spelling bit next s coins r t coins' →
         Obeys (Some (req_shape s)) (IsRedrawn (req_kind cmp spelling) bit next s coins) s coins r t coins'
-    redrawn s coins (Ok u) t coins' h = (redrawn_by o spelling bit next s t coins coins' h.3 h.1 h.2, tt, tt)
+    redrawn s coins (Ok u) t coins' (done, is, drawn, sound) =
+        let word = bits_from bit next coins (coins_of_redraw s) in
+        let n = redraws-draw A 0 (layouts_of s.levels) in
+        let shape : List Layout → ReqShape = λ layouts. record { k = s.k; accuracy = s.accuracy; n = s.n; layouts = layouts } in (
+          rw is (rw drawn (
+            record {
+              shape_is = ap (λ (layouts : List Layout). Some (shape layouts)) (sym (layouts-redrawn word s.levels));
+              alike = rw n (redraws-are o word s.levels);
+              least_is = own-least s.least;
+              greatest_is = own-greatest s.greatest;
+              sound = rw is at sound;
+            },
+            ap (after_draws next coins) (sym n),
+          )),
+          tt,
+          tt,
+        )
     redrawn s coins (Err e) t coins' h = absurd (false≢true h.0)
 
-    joined : (redraws : Bool) (p s : Req A) (coins : Source) (r : Result (Unit {0}) ErrorKind) (t : Req A) (coins' : Source) → JoinsIn cmp spelling bit next redraws p s coins r t coins' →
+    joined : (redraws : Bool) (p s : Req A) (coins : Source) (r : Result (Unit {0}) ErrorKind) (t : Req A) (coins' : Source) → IsSound cmp p → IsSound cmp s →
+        JoinsIn cmp spelling bit next redraws p s coins r t coins' →
         Obeys ((req_rules {A = A}).merged redraws (req_shape s) (req_shape p)) (λ t coins'. IsMerged (req_kind cmp spelling) bit next redraws s p coins t coins' × IsSound cmp t) s coins r t coins'
-    joined redraws p s coins (Ok u) t coins' h = ((merged_by o spelling bit next redraws s p t coins coins' (Ok u) h.5 h.0 h.2 h.3 h.4, h.5), tt, tt)
-    joined redraws p s coins (Err e) t coins' h =
+    joined redraws p s coins (Ok u) t coins' other was h =
+        ((record { shape_is = ap₂ none_if accepted shape; empty = λ none. let kept = h.2 same none in (kept.1, kept.2); after = after }, h.5), tt, tt)
+      where
+        after : 0 < p.n → Acts (req_kind cmp spelling) bit next (Some (req_shape t)) s (bag_of p.levels) (merge_of (req_kind cmp spelling) redraws s p)
+            (option_to_list p.least) (option_to_list p.greatest) coins t coins'
+        after some = let is = h.3 some in (record { shape_is = refl; alike = is.bag; least_is = is.least; greatest_is = is.greatest; sound = h.5 }, h.4 some)
+
+        accepted : no_merge (req_shape s) (req_shape p) ≡ false
+        accepted = false_from_ne_true _ (λ is. no-err u InvalidArgument (h.0.1 (unfit s p is)))
+
+        same : s.accuracy ≡ p.accuracy
+        same = (fits s p was other accepted).0
+
+        shape : merged_as (req_shape s) (req_shape p) (if p.n == 0 then layouts_of s.levels else merge_layouts s.k (layouts_of s.levels) (layouts_of p.levels)) ≡ req_shape t
+        shape =
+            elim (cases_Bool (p.n == 0)) [
+              | inl e ↦
+                  let n : s.n + p.n ≡ s.n = omega (arith, eqb-true p.n 0 e) in
+                  rw e (same-shape _ _ _ _ _ _ _ _ refl refl n refl ∙ ap req_shape (sym (h.2 same (eqb-true p.n 0 e)).1))
+              | inr e ↦
+                  let is = h.3 (omega (arith, eqb-false p.n 0 e)) in
+                  rw e (same-shape _ _ _ _ _ _ _ _ (sym is.k) (sym is.accuracy) (sym is.n) (sym is.layouts))
+            ]
+    joined redraws p s coins (Err e) t coins' other was h =
         (tt, refuses-by (no_merge (req_shape s) (req_shape p)) _ e (λ is. err-of {T = Unit {0}} e (h.0.1 (unfit s p is))) good, h.6)
       where
         good : no_merge (req_shape s) (req_shape p) ≡ false → e ≡ OutOfMemory
-        good is =
-            let f = fits s p is in
-            elim (cases_Bool (p.n == 0)) [
-              | inl z ↦ absurd (false≢true (h.2 f.0 (eqb-true p.n 0 z)).0)
-              | inr z ↦ let room = f.1 z in h.1 f.0 room.0 room.1
-            ]
+        good is = let room = fits s p was other is in h.1 room.0 room.1 room.2
 
     -- so they obey the rules
     pub req-obeys : IsPrefixFree spelling → SpellingsTie cmp spelling → ObeysRules (req cmp spelling) (req_kind cmp spelling) bit next
     req-obeys free ties = record {
       made = made;
-      copied = copied;
+      copied = λ s r h. (IfOk-weaker r _ _ (λ t c. copy_is o spelling s t c.0 c.1) h.0, h.1);
       emptied = λ s t h. empty-of s.k s.accuracy _ t h refl;
       taken = taken;
-      taken_weighted = λ x weight s coins r t coins' was h. weighted x weight s coins r t coins' h;
+      taken_weighted = λ x weight s coins r t coins' was h. never ReqShape (IsWeighted (req_kind cmp spelling) bit next s x weight coins) s coins r t coins' h;
       redrawn = λ s coins r t coins' was h. redrawn s coins r t coins' h;
-      joined = λ redraws p sound s coins r t coins' was h. joined redraws p s coins r t coins' h;
-      refuses = λ redraws s p answer sound other h. refuses redraws s p answer sound other h;
-      imaged = λ s r sound h. imaged s r h;
+      joined = λ redraws p sound s coins r t coins' was h. joined redraws p s coins r t coins' sound was h;
+      refuses = refuses;
+      imaged = λ s r sound h. imaged r h.1 h.2 h.3;
       read_back = read-back free ties;
     }

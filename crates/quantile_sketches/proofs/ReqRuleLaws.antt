@@ -1,10 +1,12 @@
 -- REQ's rules are lawful.
-use Rattle.std.proofs.Common.{◌≡◌, ℕ, ◌+◌, ◌-◌, ◌*◌, ◌%◌, ◌^◌, ◌<◌, ◌≤◌, Bool, true, false, ◌||◌, ◌&&◌, ◌==◌, not, nat_le, nat_lt, if◌then◌else◌, List, [], ◌∷◌, append-nil, sum, slice_index, Some, refl, sym, ap, ap₂, ◌∙◌, subst, arith, inl, inr, leb-true, eqb-true}
-use Rattle.std.proofs.lemmas.Bool.{cases_Bool, false≢true, ltb-false, and_parts, or_parts}
-use Rattle.sketch_base.specs.Bag.{Taken, AllButLeftover, Lowest, Greatest}
-use Rattle.sketch_base.specs.Lengths.{acts_on_lengths, lengths_after, Along, TakesFew, LeavesTail}
+use Rattle.std.proofs.Common.{◌≡◌, ℕ, ◌+◌, ◌-◌, ◌^◌, ◌<◌, ◌≤◌, Bool, true, false, ◌||◌, ◌&&◌, ◌==◌, not, if◌then◌else◌, List, [], ◌∷◌, append-nil, sum, Some, refl, sym, ap, ◌∙◌, subst, arith}
+use Rattle.std.proofs.lemmas.Bool.Decides.{nat_tests}
+use Rattle.std.proofs.lemmas.Bool.{false≢true, ne_eqb, or_parts}
+pub use Rattle.std.proofs.lemmas.Bool.{not-false}
+use Rattle.sketch_base.specs.Bag.{AllButLeftover}
+use Rattle.sketch_base.specs.Lengths.{acts_on_lengths, lengths_after, Along, LeavesTail}
 use Rattle.sketch_base.specs.Ranks.{true_ranks}
-use Rattle.sketch_base.specs.Trace.{Action, Put, Pull, Join, Compact, Forget, Redraw, Clear, Event, Snap, At, Work, World}
+use Rattle.sketch_base.specs.Trace.{Action, Compact, Event, Snap, At, Work, World}
 use Rattle.sketch_base.proofs.Changes.{changed-there, changed-itself}
 use Rattle.sketch_base.proofs.Lengths.{obeys}
 use Rattle.sketch_req.specs.Schedule.{Layout, counts_of, retained_of, update_actions, update_layouts, redraw_actions, merge_layouts}
@@ -25,31 +27,19 @@ use Rattle.quantile_sketches.proofs.KllRuleLaws.{unless-there}
 use Rattle.quantile_sketches.proofs.LegalPlans.{not-none, some-one}
 use Rattle.quantile_sketches.proofs.ReqMerges.{legal-by, lengths-by, redraw-leads, ranks-redraw, ranks-merge}
 
--- a test that isn't false
-pub not-false : (b : Bool) → not b ≡ false → b ≡ true
-not-false true e = refl
-not-false false e = sym e
-
 -- accuracies that are found to be the same
 pub same_accuracy : (a b : RankAccuracy) → is_same a b ≡ true → a ≡ b
 same_accuracy HighRank HighRank e = refl
-same_accuracy HighRank LowRank e = absurd (false≢true e)
-same_accuracy LowRank HighRank e = absurd (false≢true e)
 same_accuracy LowRank LowRank e = refl
+same_accuracy a b e = absurd (false≢true e)
 
 -- a k that may be one
 pub legal_k : (k : ℕ) → may_be_k k ≡ true → IsLegalK k
-legal_k k e =
-    let p = and_parts (nat_le 4 k && nat_le k 1024) (k % 2 == 0) e in
-    let q = and_parts (nat_le 4 k) (nat_le k 1024) p.0 in
-    record { at_least = leb-true 4 k q.0; at_most = leb-true k 1024 q.1; even = eqb-true (k % 2) 0 p.1 }
+legal_k k e = record { at_least = grind (arith, nat_tests); at_most = grind (arith, nat_tests); even = grind (arith, nat_tests) }
 
 -- nothing is too much
 pub enough_room : (n retained : ℕ) → is_too_much n retained ≡ false → (n < 2 ^ 64) × (retained ≤ 4294967295)
-enough_room n retained e =
-    let a = ltb-false (2 ^ 64 - 1) n (or_parts (nat_lt (2 ^ 64 - 1) n) (nat_lt 4294967295 retained) e).0 in
-    let b = ltb-false 4294967295 retained (or_parts (nat_lt (2 ^ 64 - 1) n) (nat_lt 4294967295 retained) e).1 in
-    (omega (arith, a), omega (arith, b))
+enough_room n retained e = grind (arith, nat_tests)
 
 -- ---- what the shape of a sketch keeps
 
@@ -85,18 +75,6 @@ updated_fits s lengths h e =
 abbrev pub merged_as : ReqShape → ReqShape → List Layout → ReqShape
 merged_as s other layouts = record { k = s.k; accuracy = s.accuracy; n = s.n + other.n; layouts = layouts }
 
-none_fits : (s other : ReqShape) (lengths : List ℕ) → FitsReq s lengths → other.n ≡ 0 → FitsReq (merged_as s other s.layouts) lengths
-none_fits s other lengths h z = record {
-  lengths_are = h.lengths_are;
-  legal = h.legal;
-  are = h.are;
-  two = h.two;
-  weighs = omega (arith, h.weighs, z);
-  fits = omega (arith, h.fits, z);
-  few = h.few;
-  retained = h.retained;
-}
-
 merged_fits : (s other : ReqShape) (lengths others : List ℕ) → FitsReq s lengths → FitsReq other others → is_too_much (s.n + other.n) (retained_of s.layouts + retained_of other.layouts) ≡ false →
     FitsReq (merged_as s other (merge_layouts s.k s.layouts other.layouts)) (counts_of (merge_layouts s.k s.layouts other.layouts))
 merged_fits s other lengths others h o e =
@@ -112,10 +90,6 @@ merged_fits s other lengths others h o e =
       retained = let t = merge_retains s.k h.legal s.layouts other.layouts h.are in omega (arith, t, r.1);
     }
 
--- the same of other lengths that are those
-fits-by : (s : ReqShape) (lengths others : List ℕ) → others ≡ lengths → FitsReq s lengths → FitsReq s others
-fits-by s lengths others e h = subst (FitsReq s) (sym e) h
-
 -- a merge of a sketch that is not empty would be too much
 abbrev pub too_much : ReqShape → ReqShape → Bool
 too_much s other = is_too_much (s.n + other.n) (retained_of s.layouts + retained_of other.layouts)
@@ -125,30 +99,16 @@ abbrev pub no_merge : ReqShape → ReqShape → Bool
 no_merge s other = not (is_same s.accuracy other.accuracy) || (not (other.n == 0) && too_much s other)
 
 pub not-much : (s other : ReqShape) → no_merge s other ≡ false → (other.n == 0) ≡ false → too_much s other ≡ false
-not-much s other e b = go (other.n == 0) (too_much s other) b (or_parts (not (is_same s.accuracy other.accuracy)) (not (other.n == 0) && too_much s other) e).1
-  where
-    go : (b c : Bool) → b ≡ false → (not b && c) ≡ false → c ≡ false
-    go true c z f = absurd (false≢true (sym z))
-    go false c z f = f
+not-much s other e b = ap (λ (none : Bool). not none && too_much s other) (sym b) ∙ (or_parts (not (is_same s.accuracy other.accuracy)) _ e).1
 
 -- ---- legal traces
-
-takes-less : (stay : ℕ) (taken : Taken) (n : ℕ) → TakesFew stay taken n → TakesFew 0 taken n
-takes-less stay AllButLeftover n few = absurd few
-takes-less stay (Lowest count) n few = (few.0, few.1, omega (arith, few.2))
-takes-less stay (Greatest count) n few = (few.0, few.1, omega (arith, few.2))
 
 module _ {A : Type 0} where
   -- what leaves 3k leaves 0
   leaves-less : (k : ℕ → ℕ) (e : Event A) (world : World (List ℕ)) → LeavesTail k e world → MeetsReq e world
-  leaves-less k (At s (Compact h coin taken)) world f = takes-less (3 * k s) taken (slice_index (world.slots s) h) f
-  leaves-less k (At s (Put h x)) world f = tt
-  leaves-less k (At s Pull) world f = tt
-  leaves-less k (At s (Join h)) world f = tt
-  leaves-less k (At s Forget) world f = tt
-  leaves-less k (At s (Redraw h)) world f = tt
-  leaves-less k (At s Clear) world f = tt
-  leaves-less k (Snap s t) world f = tt
+  leaves-less k (At s (Compact h coin AllButLeftover)) world f = absurd f
+  leaves-less k (At s (Compact h coin taken)) world f = (f.0, f.1, omega (arith, f.2))
+  leaves-less k e world f = tt
 
   along-less : (k : ℕ → ℕ) (trace : List (Event A)) (world : World (List ℕ)) → Along (LeavesTail k) trace world → Along MeetsReq trace world
   along-less k [] world f = tt
@@ -162,26 +122,20 @@ module _ {A : Type 0} where
   lengths-there actions world s lengths e = ap (λ (w : World (List ℕ)). w.slots s) (lengths_at actions world s) ∙ (changed-there world.slots s _ ∙ e)
 
   ranks-one : (test : A → Bool) (s k : ℕ) (accuracy : RankAccuracy) (ls : List Layout) (x : A) (ranks : ℕ → ℕ) → true_ranks test (events_at s (update_actions k accuracy ls x)) ranks s ≡ ranks s + (if test x then 1 else 0)
-  ranks-one test s k accuracy ls x ranks =
-      let actions : List (Action A) = update_actions k accuracy ls x in
-      ap (λ (trace : List (Event A)). true_ranks test trace ranks s) (sym (append-nil (events_at s actions)))
-      ∙ (ap (λ (f : ℕ → ℕ). f s) (ranks-update test k accuracy s ls x [] ranks) ∙ changed-there ranks s _)
+  ranks-one test s k accuracy ls x ranks = ap (λ (f : ℕ → ℕ). f s) (rw append-nil at (ranks-update test k accuracy s ls x [] ranks)) ∙ changed-there ranks s _
 
   -- ---- the calls
 
-  abbrev UpdatesWell : ReqShape → ℕ → A → World (List ℕ) → ReqShape → Type 0
-  UpdatesWell s slot x world t = DoWell MeetsReq FitsReq slot (update_actions s.k s.accuracy s.layouts x) world t (λ test. if test x then 1 else 0)
-
-  update-well : (s t : ReqShape) → (req_rules {A = A}).updated s ≡ Some t → (slot : ℕ) (x : A) (world : World (List ℕ)) → FitsReq s (world.slots slot) → sum world.scratch ≡ 0 → UpdatesWell s slot x world t
+  update-well : (s t : ReqShape) → (req_rules {A = A}).updated s ≡ Some t → (slot : ℕ) (x : A) (world : World (List ℕ)) → FitsReq s (world.slots slot) → sum world.scratch ≡ 0 →
+      DoWell MeetsReq FitsReq slot (update_actions s.k s.accuracy s.layouts x) world t (λ test. if test x then 1 else 0)
   update-well s t e slot x world h z =
       let u = unless-there _ _ t e in
       let actions : List (Action A) = update_actions s.k s.accuracy s.layouts x in
       let lengths : (acts_on_lengths actions (record { bag = world.slots slot; scratch = world.scratch })).bag ≡ counts_of (update_layouts s.k s.layouts) =
-      ap (λ (ns : List ℕ). (acts_on_lengths actions (record { bag = ns; scratch = world.scratch })).bag) h.lengths_are
-      ∙ ap (λ (w : Work (List ℕ)). w.bag) (update_lengths A s.k s.accuracy s.layouts x world.scratch h.legal h.are) in
-      subst (UpdatesWell s slot x world) u.1 (record {
+      rw h.lengths_are (ap (λ (w : Work (List ℕ)). w.bag) (update_lengths A s.k s.accuracy s.layouts x world.scratch h.legal h.are)) in
+      rw (← u.1) (record {
         legal = legal (λ i. s.k) (events_at slot actions) world (update_legal A (λ i. s.k) s.accuracy slot s.layouts x world h.legal h.are h.lengths_are z);
-        fits = fits-by _ _ _ (lengths-there actions world slot _ lengths) (updated_fits s (world.slots slot) h u.0);
+        fits = rw (lengths-there actions world slot _ lengths) (updated_fits s (world.slots slot) h u.0);
         ranks = λ test ranks. ranks-one test slot s.k s.accuracy s.layouts x ranks;
       })
 
@@ -191,55 +145,45 @@ module _ {A : Type 0} where
       let actions : List (Action A) = redraw_actions s.layouts in
       let leads = redraw-leads {A = A} s.k s.accuracy s.layouts h.are in
       let lengths : (acts_on_lengths actions (record { bag = world.slots slot; scratch = world.scratch })).bag ≡ counts_of s.layouts =
-      ap (λ (ns : List ℕ). (acts_on_lengths actions (record { bag = ns; scratch = world.scratch })).bag) h.lengths_are
-      ∙ ap (λ (w : Work (List ℕ)). w.bag) (leads.lengths world.scratch) in
-      subst (λ (shape : ReqShape). DoWell {A = A} MeetsReq FitsReq slot actions world shape (λ test. 0)) (some-one s t e) (record {
+      rw h.lengths_are (ap (λ (w : Work (List ℕ)). w.bag) (leads.lengths world.scratch)) in
+      rw (← some-one s t e) (record {
         legal = legal (λ i. s.k) (events_at slot actions) world (fits-legal (λ i. s.k) s.accuracy actions slot (counts_of s.layouts) world leads.fits h.lengths_are z);
-        fits = fits-by s (world.slots slot) _ (lengths-there actions world slot _ lengths ∙ sym h.lengths_are) h;
+        fits = rw (lengths-there actions world slot _ lengths, ← h.lengths_are) h;
         ranks = λ test ranks. ap (λ (f : ℕ → ℕ). f slot) (ranks-redraw test slot s.layouts ranks) ∙ (let n : ranks slot ≡ ranks slot + 0 = omega arith in n);
       })
 
 module _ (A : Type 0) where
-  abbrev MergesWell : (redraws : Bool) → ReqShape → ReqShape → (into source : ℕ) → World (List ℕ) → ReqShape → Type 0
-  MergesWell redraws s other into source world t = DoWell {A = A} MeetsReq FitsReq into (merge_actions_by redraws s.k s.accuracy s.layouts other.layouts) (lengths_after {A = A} (Snap source into) world) t (λ test. 0)
-
   merge-well : (redraws : Bool) (s other t : ReqShape) → (req_rules {A = A}).merged redraws s other ≡ Some t → (into source : ℕ) (world : World (List ℕ)) → FitsReq s (world.slots into) → FitsReq other (world.slots source) → sum world.scratch ≡ 0 → 0 < other.n →
-      MergesWell redraws s other into source world t
+      DoWell {A = A} MeetsReq FitsReq into (merge_actions_by redraws s.k s.accuracy s.layouts other.layouts) (lengths_after {A = A} (Snap source into) world) t (λ test. 0)
   merge-well redraws s other t e into source world h o z some =
       let u = unless-there _ _ t e in
-      let some_n : (other.n == 0) ≡ false = go (other.n == 0) refl in
+      let some_n : (other.n == 0) ≡ false = ne_eqb other.n 0 (λ e. omega arith) in
       let actions : List (Action A) = merge_actions_by redraws s.k s.accuracy s.layouts other.layouts in
       let snapped : World (List ℕ) = lengths_after {A = A} (Snap source into) world in
       let l = legal (λ i. s.k) (Snap source into ∷ events_at into actions) world (legal-by A redraws (λ i. s.k) s.accuracy source into s.layouts other.layouts world h.legal h.are h.lengths_are o.lengths_are z) in
       let lengths : (acts_on_lengths actions (record { bag = world.slots into; scratch = world.slots source })).bag ≡ counts_of (merge_layouts s.k s.layouts other.layouts) =
-      ap₂ (λ (ns ms : List ℕ). (acts_on_lengths actions (record { bag = ns; scratch = ms })).bag) h.lengths_are o.lengths_are
-      ∙ lengths-by A redraws s.k s.accuracy s.layouts other.layouts h.legal h.are in
+      rw (h.lengths_are, o.lengths_are) (lengths-by A redraws s.k s.accuracy s.layouts other.layouts h.legal h.are) in
       let is : merged_as s other (merge_layouts s.k s.layouts other.layouts) ≡ t = ap (λ (b : Bool). merged_as s other (if b then s.layouts else merge_layouts s.k s.layouts other.layouts)) (sym some_n) ∙ u.1 in
-      subst (MergesWell redraws s other into source world) is (record {
+      rw (← is) (record {
         legal = record { scratch = l.scratch.1; meets = l.meets.1 };
-        fits = fits-by _ _ _ (lengths-there actions snapped into _ lengths) (merged_fits s other (world.slots into) (world.slots source) h o (not-much s other u.0 some_n));
+        fits = rw (lengths-there actions snapped into _ lengths) (merged_fits s other (world.slots into) (world.slots source) h o (not-much s other u.0 some_n));
         ranks = λ test ranks. ap (λ (f : ℕ → ℕ). f into) (ranks-merge test into redraws s.k s.accuracy s.layouts other.layouts ranks) ∙ (let n : ranks into ≡ ranks into + 0 = omega arith in n);
       })
-    where
-      go : (b : Bool) → (other.n == 0) ≡ b → b ≡ false
-      go true e = absurd (omega (arith, some, eqb-true other.n 0 e))
-      go false e = refl
 
   merge-none : (redraws : Bool) (s other t : ReqShape) → (req_rules {A = A}).merged redraws s other ≡ Some t → other.n ≡ 0 → (lengths : List ℕ) → FitsReq s lengths → FitsReq t lengths
   merge-none redraws s other t e z lengths h =
       let u = unless-there _ _ t e in
+      let n : s.n ≡ s.n + other.n = omega arith in
+      let same : s ≡ merged_as s other s.layouts = λ i. let shape : ReqShape = record s { n = n i } in shape in
       let is : merged_as s other s.layouts ≡ t = ap (λ (n : ℕ). merged_as s other (if n == 0 then s.layouts else merge_layouts s.k s.layouts other.layouts)) (sym z) ∙ u.1 in
-      subst (λ (shape : ReqShape). FitsReq shape lengths) is (none_fits s other lengths h z)
+      subst (λ (shape : ReqShape). FitsReq shape lengths) (same ∙ is) h
 
   merge-counts : (redraws : Bool) (s other t : ReqShape) → (req_rules {A = A}).merged redraws s other ≡ Some t → (t.n ≡ s.n + other.n) × (s.n < 2 ^ 64 → t.n < 2 ^ 64)
   merge-counts redraws s other t e =
       let u = unless-there (no_merge s other) (merged_as s other (if other.n == 0 then s.layouts else merge_layouts s.k s.layouts other.layouts)) t e in
       let n : t.n ≡ s.n + other.n = ap (λ (shape : ReqShape). shape.n) (sym u.1) in (
         n,
-        λ few. elim (cases_Bool (other.n == 0)) [
-          | inl b ↦ omega (arith, n, few, eqb-true other.n 0 b)
-          | inr b ↦ omega (arith, n, (enough_room (s.n + other.n) (retained_of s.layouts + retained_of other.layouts) (not-much s other u.0 b)).0)
-        ],
+        λ few. grind (arith, nat_tests),
       )
 
 module _ {A : Type 0} where
@@ -268,7 +212,7 @@ module _ {A : Type 0} where
     merge_none = merge-none A;
     read_well = λ s slot world h z. record {
       legal = record { scratch = (obeys (sum world.scratch) _ z, z); meets = (tt, tt) };
-      fits = fits-by s (world.slots slot) _ (changed-there world.slots slot (world.slots slot)) h;
+      fits = rw (changed-there world.slots slot (world.slots slot)) h;
       ranks = λ test ranks. omega arith;
     };
     read_lengths = λ slot world. ap (λ (slots : ℕ → List ℕ). let w : World (List ℕ) = record { slots = slots; scratch = world.scratch; target = world.target } in w) (changed-itself world.slots slot);

@@ -1,6 +1,6 @@
 -- The same lines, on the same sketches and under the same coins, have the same answers.
 use Rattle.std.proofs.Common.{◌≡◌, ◌≢◌, ◌⊎◌, ℕ, ℤ, List, [], ◌∷◌, ◌++◌, Option, None, Some, Result, Ok, Err, slice_set, refl, sym, ap, ◌∙◌, subst, inl, inr, Ordering}
-use Rattle.std.specs.Prelude.{◌↔◌, IsErrOf, IfErr}
+use Rattle.std.specs.Prelude.{IsErrOf}
 use Rattle.std.proofs.lemmas.Bool.{false≢true}
 use Rattle.std.proofs.lemmas.Option.{same_Some}
 use Rattle.std.specs.Cmp.{IsTotalOrder}
@@ -25,8 +25,8 @@ use Rattle.quantile_sketches.specs.SameRun.{ServesAmply, LinesAnswerOne}
 use Rattle.quantile_sketches.specs.LineSteps.{Slots, Verdict, Reply, reply_of, Replies, Makes, Asks, Reads, Spreads, Shows, Loads, Executes, Answers}
 use Rattle.quantile_sketches.specs.Words.{words, points_of, image_in}
 use Rattle.quantile_sketches.specs.declared.answer.Answer.{Answer}
-use Rattle.quantile_sketches.specs.declared.answer.Answer.TheVariants.{Rank as RankIs, Item, Ranks}
-use Rattle.quantile_sketches.specs.declared.answer.Refusal.TheVariants.{BadLine, AbsentSlot, Sketch}
+use Rattle.quantile_sketches.specs.declared.answer.Answer.TheVariants.{Item, Ranks}
+use Rattle.quantile_sketches.specs.declared.answer.Refusal.TheVariants.{Sketch}
 use Rattle.quantile_sketches.specs.declared.command.Request.{Request}
 use Rattle.quantile_sketches.specs.declared.command.Request.TheVariants.{Run, Rank as RankOf, Quantile, Cdf, Pmf, Image as ImageOf, Load}
 use Rattle.quantile_sketches.proofs.SameRuns.{MakesOne, no-err, same-err, told, one-command}
@@ -41,25 +41,23 @@ of-kind e f is = ap (λ (e : ErrorKind). let r : Reply = Err (Sketch e) in r) is
 -- a query that good arguments give one answer, and others are refused
 module _ {X : Type 0} (answer : X → Answer) (gives : Result X ErrorKind → Type 0) (Good : Type 0)
     (one : (x y : X) → gives (Ok x) → gives (Ok y) → answer_text (Ok (answer x)) ≡ answer_text (Ok (answer y)))
-    (refused : (r : Result X ErrorKind) → gives r → (IsErrOf r InvalidArgument ↔ (Good → ⊥)) × IfErr r (λ e. Good → e ≡ OutOfMemory)) where
+    (taken : (x : X) → gives (Ok x) → (Good → ⊥) → IsErrOf {T = X} (Ok x) InvalidArgument) (refused : (e : ErrorKind) → gives (Err e) → (Good → ⊥) → IsErrOf {T = X} (Err e) InvalidArgument)
+    (wanted : (e : ErrorKind) → gives (Err e) → Good → e ≡ OutOfMemory) where
   clash : (x : X) (e : ErrorKind) → gives (Ok x) → gives (Err e) → (e ≡ OutOfMemory → ⊥) → ⊥
-  clash x e h k n = no-err x InvalidArgument ((refused (Ok x) h).0.1 (λ good. n ((refused (Err e) k).1 good)))
+  clash x e h k n = no-err x InvalidArgument (taken x h (λ good. n (wanted e k good)))
 
   kinds : (e : ErrorKind) → gives (Err e) → (e ≡ OutOfMemory → ⊥) → e ≡ InvalidArgument
-  kinds e k n = same-err {T = X} e InvalidArgument (Err e) refl ((refused (Err e) k).0.1 (λ good. n ((refused (Err e) k).1 good)))
+  kinds e k n = same-err {T = X} e InvalidArgument (Err e) refl (refused e k (λ good. n (wanted e k good)))
 
   replies-one : SameReplies (Replies answer gives)
   replies-one (Ok a) (Ok b) n m (x, h, is) (y, k, is') = ap (λ (a : Answer). answer_text (Ok a)) is ∙ (one x y h k ∙ sym (ap (λ (a : Answer). answer_text (Ok a)) is'))
   replies-one (Ok a) (Err (Sketch e)) n m (x, h, is) k = absurd (clash x e h k (λ z. m (of-kind e OutOfMemory z)))
-  replies-one (Ok a) (Err BadLine) n m h k = absurd k
-  replies-one (Ok a) (Err AbsentSlot) n m h k = absurd k
   replies-one (Err (Sketch e)) (Ok b) n m h (y, k, is) = absurd (clash y e k h (λ z. n (of-kind e OutOfMemory z)))
   replies-one (Err (Sketch e)) (Err (Sketch f)) n m h k =
       ap answer_text (of-kind e f (kinds e h (λ z. n (of-kind e OutOfMemory z)) ∙ sym (kinds f k (λ z. m (of-kind f OutOfMemory z)))))
-  replies-one (Err (Sketch e)) (Err BadLine) n m h k = absurd k
-  replies-one (Err (Sketch e)) (Err AbsentSlot) n m h k = absurd k
-  replies-one (Err BadLine) w n m h k = absurd h
-  replies-one (Err AbsentSlot) w n m h k = absurd h
+  replies-one (Ok a) w n m h k = absurd k
+  replies-one (Err (Sketch e)) w n m h k = absurd k
+  replies-one r w n m h k = absurd h
 
 module _ {cmp : ℤ → ℤ → Ordering} (order : IsTotalOrder cmp) (tied : TiesAreEqual cmp) (n : ℕ) where
   -- one item is named
@@ -67,20 +65,12 @@ module _ {cmp : ℤ → ℤ → Ordering} (order : IsTotalOrder cmp) (tied : Tie
   quantile-one bag least greatest fraction criteria =
       replies-one Item (IsQuantile cmp n bag least greatest fraction criteria) (IsFraction fraction)
       (λ x y h k. ap (λ (o : Option ℤ). answer_text (Ok (Item o))) (sym (same-answers order tied (quantile cmp bag least greatest fraction.weight fraction.total criteria) x h.3) ∙ same-answers order tied (quantile cmp bag least greatest fraction.weight fraction.total criteria) y k.3))
-      refused
-    where
-      refused : (r : Result (Option ℤ) ErrorKind) → IsQuantile cmp n bag least greatest fraction criteria r → (IsErrOf r InvalidArgument ↔ (IsFraction fraction → ⊥)) × IfErr r (λ e. IsFraction fraction → e ≡ OutOfMemory)
-      refused (Ok x) h = (h.0, tt)
-      refused (Err e) h = (h.0, λ good. (h.1 good).0)
+      (λ x h. h.0.1) (λ e h. h.0.1) (λ e h good. (h.1 good).0)
 
   -- one list of ranks is given
   pub ranks-one : (points : List ℤ) (weights : List ℕ) → SameReplies (Replies Ranks (AreRanks cmp n points weights))
-  ranks-one points weights = replies-one Ranks (AreRanks cmp n points weights) (IsIncreasing cmp points) one refused
+  ranks-one points weights = replies-one Ranks (AreRanks cmp n points weights) (IsIncreasing cmp points) one (λ x h. h.0.1) (λ e h. h.0.1) (λ e h good. (h.1 good).0)
     where
-      refused : (r : Spread) → AreRanks cmp n points weights r → (IsErrOf r InvalidArgument ↔ (IsIncreasing cmp points → ⊥)) × IfErr r (λ e. IsIncreasing cmp points → e ≡ OutOfMemory)
-      refused (Ok x) h = (h.0, tt)
-      refused (Err e) h = (h.0, λ good. (h.1 good).0)
-
       one : (x y : Option (Vec Rank Global)) → AreRanks cmp n points weights (Ok x) → AreRanks cmp n points weights (Ok y) → answer_text (Ok (Ranks x)) ≡ answer_text (Ok (Ranks y))
       one None None h k = refl
       one None (Some v) h k = absurd (false≢true (h.2.1 (k.2.0 refl)))
@@ -99,8 +89,11 @@ module _ {C S : Type 0} (behaviour : Behaviour S ℤ C) where
     pub pmfs : (s : S) (points : List ℤ) (criteria : SearchCriteria) → SameReplies (Replies Ranks (behaviour.pmf s points criteria))
 
   -- what a slot's sketch is asked
-  reads-one : (told : S → Reply → Type 0) → ((s : S) → SameReplies (told s)) → (slot : ℕ) (slots : Slots S) → SameReplies (Reads told slot slots)
-  reads-one told same slot slots r w n m (o, held, h) (o', held', k) = go o h (subst (λ (x : Option S). Asks told x w) (same_Some o' o (sym held' ∙ held)) k)
+  reads-one : (told : S → Reply → Type 0) → ((s : S) → SameReplies (told s)) → (slot : ℕ) (slots ts us : Slots S) (coins left left' : ℕ) (r w : Reply) → r ≢ Err (Sketch OutOfMemory) →
+      w ≢ Err (Sketch OutOfMemory) →
+      Reads told slot slots r × (ts ≡ slots) × (left ≡ coins) → Reads told slot slots w × (us ≡ slots) × (left' ≡ coins) → (answer_text r ≡ answer_text w) × (ts ≡ us) × (left ≡ left')
+  reads-one told same slot slots ts us coins left left' r w n m ((o, held, h), kept, stays) ((o', held', k), kept', stays') =
+      (go o h (subst (λ (x : Option S). Asks told x w) (same_Some o' o (sym held' ∙ held)) k), kept ∙ sym kept', stays ∙ sym stays')
     where
       go : (o : Option S) → Asks told o r → Asks told o w → answer_text r ≡ answer_text w
       go None h k = ap answer_text (h ∙ sym k)
@@ -141,8 +134,7 @@ module _ {C S : Type 0} (behaviour : Behaviour S ℤ C) where
     loaded-so bytes slot slots ts (Err (Sketch e)) n (inl h, is) =
         let z = one.unloaded bytes e h (λ z. n (told e OutOfMemory z)) in inr (told e InvalidData z, subst (λ (e : ErrorKind). behaviour.loaded bytes (Err e)) z h, is)
     loaded-so bytes slot slots ts (Err (Sketch e)) n (inr z, is) = absurd (n (told e OutOfMemory (same-err {T = S} e OutOfMemory (Err e) refl z)))
-    loaded-so bytes slot slots ts (Err BadLine) n h = absurd h
-    loaded-so bytes slot slots ts (Err AbsentSlot) n h = absurd h
+    loaded-so bytes slot slots ts v n h = absurd h
 
     one-load : (bytes : List ℕ) (slot : ℕ) (slots ts us : Slots S) (v w : Verdict) → Loaded bytes slot slots v ts → Loaded bytes slot slots w us → (v ≡ w) × (ts ≡ us)
     one-load bytes slot slots ts us v w (inl (s, ok, h, is)) (inl (t, ok', k, is')) =
@@ -161,16 +153,14 @@ module _ {C S : Type 0} (behaviour : Behaviour S ℤ C) where
     one-executed (Run command) line slots ts us coins left left' r w n m (v, is, h) (v', is', k) =
         let a = one-command behaviour coin_of next_state one.calls command slots ts us coins left left' v v' (verdict-ample r v n is) (verdict-ample w v' m is') h k in
         (ap answer_text (is ∙ (ap reply_of a.0 ∙ sym is')), a.1, a.2)
-    one-executed (RankOf slot item criteria) line slots ts us coins left left' r w n m (h, same, stays) (k, same', stays') =
-        (reads-one _ (λ s r w n m h k. ap answer_text (h.2 ∙ (ap (λ (o : Option Rank). let a : Reply = Ok (RankIs o) in a) (one.ranked s item criteria h.0 k.0 h.1 k.1) ∙ sym k.2))) slot slots r w n m h k, same ∙ sym same', stays ∙ sym stays')
-    one-executed (Quantile slot fraction criteria) line slots ts us coins left left' r w n m (h, same, stays) (k, same', stays') =
-        (reads-one _ (λ s. one.found s fraction criteria) slot slots r w n m h k, same ∙ sym same', stays ∙ sym stays')
-    one-executed (Cdf slot criteria) line slots ts us coins left left' r w n m (h, same, stays) (k, same', stays') =
-        (reads-one _ (λ s. spreads-one (points_of line) (behaviour.cdf s (points_of line) criteria) (one.cdfs s (points_of line) criteria)) slot slots r w n m h k, same ∙ sym same', stays ∙ sym stays')
-    one-executed (Pmf slot criteria) line slots ts us coins left left' r w n m (h, same, stays) (k, same', stays') =
-        (reads-one _ (λ s. spreads-one (points_of line) (behaviour.pmf s (points_of line) criteria) (one.pmfs s (points_of line) criteria)) slot slots r w n m h k, same ∙ sym same', stays ∙ sym stays')
-    one-executed (ImageOf slot) line slots ts us coins left left' r w n m (h, same, stays) (k, same', stays') =
-        (reads-one _ shows-one slot slots r w n m h k, same ∙ sym same', stays ∙ sym stays')
+    one-executed (RankOf slot item criteria) line slots ts us coins left left' r w n m h k =
+        reads-one _ (λ s r w n m h k. let same = one.ranked s item criteria h.0 k.0 h.1 k.1 in cc (h.2, k.2)) slot slots ts us coins left left' r w n m h k
+    one-executed (Quantile slot fraction criteria) line slots ts us coins left left' r w n m h k = reads-one _ (λ s. one.found s fraction criteria) slot slots ts us coins left left' r w n m h k
+    one-executed (Cdf slot criteria) line slots ts us coins left left' r w n m h k =
+        reads-one _ (λ s. spreads-one (points_of line) (behaviour.cdf s (points_of line) criteria) (one.cdfs s (points_of line) criteria)) slot slots ts us coins left left' r w n m h k
+    one-executed (Pmf slot criteria) line slots ts us coins left left' r w n m h k =
+        reads-one _ (λ s. spreads-one (points_of line) (behaviour.pmf s (points_of line) criteria) (one.pmfs s (points_of line) criteria)) slot slots ts us coins left left' r w n m h k
+    one-executed (ImageOf slot) line slots ts us coins left left' r w n m h k = reads-one _ shows-one slot slots ts us coins left left' r w n m h k
     one-executed (Load slot) line slots ts us coins left left' r w n m (v, is, h, stays) (v', is', k, stays') =
         let a = one-load (image_in line) slot slots ts us v v' (loaded-so (image_in line) slot slots ts v (verdict-ample r v n is) h) (loaded-so (image_in line) slot slots us v' (verdict-ample w v' m is') k) in
         (ap answer_text (is ∙ (ap reply_of a.0 ∙ sym is')), a.1, stays ∙ sym stays')

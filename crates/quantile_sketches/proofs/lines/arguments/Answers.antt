@@ -5,10 +5,8 @@ use Rattle.quantile_sketches.proofs.lines.arguments.Goals as goal
 -- a list of two
 two : {A : Type 0} (text : A → List ℕ) (ws : List A) (a b : A) → 2 ≤ length ws → length ws < 3 → a ≡ get_or ws 0 a → b ≡ get_or ws 1 b →
     map text ws ≡ text a ∷ text b ∷ []
-two text [] a b h k e t = absurd (omega (arith, h))
-two text (x ∷ []) a b h k e t = absurd (omega (arith, h))
 two text (x ∷ y ∷ []) a b h k e t = ap (λ z. text z ∷ text y ∷ []) (sym e) ∙ ap (λ z. text a ∷ text z ∷ []) (sym t)
-two text (x ∷ y ∷ z ∷ zs) a b h k e t = absurd (omega (arith, k))
+two text ws a b h k e t = absurd (omega arith)
 
 pub returns-in_default-as_str : goal.returns-in_default-as_str
 returns-in_default-as_str c =

@@ -1,7 +1,5 @@
-use Rattle.std.proofs.Common.{ℕ, List, Option, None, IfSome, replicate, subst}
-use Rattle.std.specs.Io.KnownBytes.{Appends}
+use Rattle.std.proofs.Common.{None, replicate}
 use Rattle.quantile_sketches.specs.declared.table.TheConstants.{SLOTS}
-use Rattle.quantile_sketches.specs.Lines.{lines, Begins}
 use Rattle.quantile_sketches.proofs.FirstLine.{nothing_ahead}
 use Rattle.quantile_sketches.proofs.LineRuns.{begins-unread}
 use denote.MutBor.{MutBor}
@@ -12,7 +10,4 @@ returns-in-Err-Input-clause-broken_off g c =
     let told = rw c.in-Err-Input.field-0-is at c.in-Err-Input.ensures in
     let known =
     nothing_ahead (λ (r : MutBor g.row.R.Denot). g.R.Read.remaining r.now) c.in_ok-input.input _ c.in_ok-input.ensures.inner c.in_ok-input.ensures.empty c.in_ok-input.ensures.capacity in
-    let P : Option (List ℕ) → Type 0 = λ t. IfSome t (λ text. (sent : List ℕ)
-    × Begins g.S.Config.Config.grammar g.S.Family.behaviour (replicate SLOTS None) c.args.seed (lines text) sent
-    × Appends (g.W.Write.contents c.args.output.now) (g.W.Write.contents c.answer_lines.new.output) sent) in
-    subst P known (begins-unread g.S.Config.Config.grammar g.S.Family.behaviour (replicate SLOTS None) c.args.seed _ _ _ told)
+    rw (← known) (begins-unread g.S.Config.Config.grammar g.S.Family.behaviour (replicate SLOTS None) c.args.seed _ _ _ told)

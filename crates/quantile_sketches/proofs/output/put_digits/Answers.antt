@@ -1,4 +1,4 @@
-use Rattle.std.proofs.Common.{◌≡◌, ◌<◌, ◌^◌, ◌+◌, ◌-◌, ◌/◌, ◌%◌, ◌++◌, ℕ, List, sym, subst, arith, drop, set}
+use Rattle.std.proofs.Common.{◌≡◌, ◌+◌, ◌-◌, ◌++◌, ℕ, List, sym, arith, drop}
 use Rattle.std.specs.Fmt.{decimal}
 use Rattle.quantile_sketches.proofs.Decimals.{put_more, put_last, tenth}
 use Rattle.quantile_sketches.proofs.output.put_digits.Goals as goal
@@ -11,11 +11,11 @@ loop-rest-preserved c =
     let t = tenth l.rest k (omega arith) (omega (arith, l.invariant.below)) in
     let less : k - 1 + 1 ≡ l.start - 1 + 20 - c.args.end + 1 = omega (arith, t.0, l.invariant.within, l.invariant.above, c.requires.some) in
     let before : l.start - 1 + 1 ≡ l.start = omega (arith, t.0, l.invariant.within, l.invariant.above, c.requires.some) in
-    let P : ℕ → Type 0 = λ n. text ≡ decimal (l.rest / 10) ++ drop n (set l.room l.start (48 + l.rest % 10)) in record {
+    record {
       within = omega arith;
       above = omega (arith, t.0, l.invariant.within, l.invariant.above, c.requires.some);
-      below = subst (λ (n : ℕ). l.rest / 10 < 10 ^ n) less t.1;
-      digits = subst P (sym before) (put_more text l.rest l.start l.room (omega arith) (omega arith) (omega arith) l.invariant.digits);
+      below = rw less at t.1;
+      digits = rw before (put_more text l.rest l.start l.room (omega arith) (omega arith) (omega arith) l.invariant.digits);
     }
 
 pub returns-clause-digits : goal.returns-clause-digits

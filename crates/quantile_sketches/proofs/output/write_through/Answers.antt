@@ -1,5 +1,4 @@
-use Rattle.std.proofs.Common.{◌++◌, ℕ, List, refl, sym, subst}
-use Rattle.quantile_sketches.specs.Output.{Writes}
+use Rattle.std.proofs.Common.{◌++◌, refl}
 use Rattle.quantile_sketches.proofs.Outputs.{writes-early, writes-on}
 use Rattle.quantile_sketches.proofs.output.write_through.Goals as goal
 
@@ -9,5 +8,4 @@ returns-in_err-write_out g c =
 
 pub returns : goal.returns
 returns g c =
-    let P : List ℕ → Type 0 = λ waiting. Writes c.write_bytes.result (g.W.Write.contents c.args.output.now) (g.W.Write.contents c.write_bytes.new.output) (c.args.waiting.now.items ++ c.args.bytes.now) waiting in
-    subst P (sym c.in_ok-write_out.ensures.nothing_waits) (writes-on (c.args.waiting.now.items ++ c.args.bytes.now) c.args.bytes.now refl c.in_ok-write_out.ensures.written refl refl c.write_bytes.ensures)
+    rw c.in_ok-write_out.ensures.nothing_waits (writes-on (c.args.waiting.now.items ++ c.args.bytes.now) c.args.bytes.now refl c.in_ok-write_out.ensures.written refl refl c.write_bytes.ensures)

@@ -1,25 +1,18 @@
-use Rattle.std.proofs.Common.{ℕ, List, Ok, Err, subst, rules}
+use Rattle.std.proofs.Common.{rules}
 use Rattle.quantile_sketches.proofs.Slots.{reads_back, stays_unread, stays_unwritten}
 use Rattle.quantile_sketches.proofs.table.round_trip.Goals as goal
 
 pub returns-in_err-bytes : goal.returns-in_err-bytes
 returns-in_err-bytes g c coins =
-    let failed = c.in_err-bytes.ensures in
     stays_unwritten g.S.Family.behaviour c.args.slot.now c.in-Some.sketch c.in_err-bytes.field-0.0 c.from_residual.result coins (search rules)
-    failed (search rules)
+    c.in_err-bytes.ensures (search rules)
 
 pub returns-in_err-sketch : goal.returns-in_err-sketch
 returns-in_err-sketch g c coins =
-    let written = c.in_ok-bytes.ensures in
-    let failed = c.in_err-sketch.ensures in
-    let P : List ℕ → Type 0 = λ bs. g.S.Family.behaviour.loaded bs (Err c.in_err-sketch.field-0.0) in
     stays_unread g.S.Family.behaviour c.args.slot.now c.in-Some.sketch c.in_ok-bytes.bytes c.in_err-sketch.field-0.0 c.from_residual-in_err-sketch.result coins
-    (search rules) written (subst P c.deref.ensures.value failed) (search rules)
+    (search rules) c.in_ok-bytes.ensures (rw c.deref.ensures.value at c.in_err-sketch.ensures) (search rules)
 
 pub returns : goal.returns
 returns g c coins =
-    let written = c.in_ok-bytes.ensures in
-    let read = c.in_ok-sketch.ensures in
-    let P : List ℕ → Type 0 = λ bs. g.S.Family.behaviour.loaded bs (Ok c.in_ok-sketch.field-0) in
     reads_back g.S.Family.behaviour c.args.slot.now c.in-Some.sketch c.in_ok-sketch.field-0 c.in_ok-bytes.bytes coins
-    (search rules) written (subst P c.deref.ensures.value read)
+    (search rules) c.in_ok-bytes.ensures (rw c.deref.ensures.value at c.in_ok-sketch.ensures)

@@ -1,18 +1,14 @@
-use Rattle.std.proofs.Common.{◌≡◌, true, false, ap, rules, if◌then◌else◌}
+use Rattle.std.proofs.Common.{rules}
 use Rattle.sketch_base.specs.declared.error.ErrorKind.TheVariants.{InvalidArgument, OutOfMemory}
 use Rattle.quantile_sketches.proofs.Slots.{refused_early}
 use Rattle.quantile_sketches.proofs.table.update.Goals as goal
 
 pub returns-in_err-unless : goal.returns-in_err-unless
 returns-in_err-unless g c =
-    let full : c.is_full.result ≡ true = search rules in
     refused_early g.S.Family.behaviour (g.S.Item.Clone.is_clone c.args.item.now) (λ x. g.S.Family.behaviour.taken x g.row.B.Denot g.B.RandomBits.bit g.B.RandomBits.next)
-    c.args.slot.now c.in_ok-sketch.sketch.now c.is_full.result c.from_residual-in_err-unless.result c.args.coins.now (search rules) c.is_full.ensures InvalidArgument
-    (ap (λ b. if b then InvalidArgument else OutOfMemory) full) (search rules)
+    c.args.slot.now c.in_ok-sketch.sketch.now c.is_full.result c.from_residual-in_err-unless.result c.args.coins.now (search rules) c.is_full.ensures InvalidArgument (search rules) (search rules)
 
 pub returns-in_err-clone : goal.returns-in_err-clone
 returns-in_err-clone g c =
-    let free : c.is_full.result ≡ false = search rules in
     refused_early g.S.Family.behaviour (g.S.Item.Clone.is_clone c.args.item.now) (λ x. g.S.Family.behaviour.taken x g.row.B.Denot g.B.RandomBits.bit g.B.RandomBits.next)
-    c.args.slot.now c.in_ok-sketch.sketch.now c.is_full.result c.from_residual-in_err-clone.result c.args.coins.now (search rules) c.is_full.ensures OutOfMemory
-    (ap (λ b. if b then InvalidArgument else OutOfMemory) free) (search rules)
+    c.args.slot.now c.in_ok-sketch.sketch.now c.is_full.result c.from_residual-in_err-clone.result c.args.coins.now (search rules) c.is_full.ensures OutOfMemory (search rules) (search rules)

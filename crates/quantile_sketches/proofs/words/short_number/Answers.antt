@@ -1,18 +1,19 @@
-use Rattle.std.proofs.Common.{◌≡◌, ◌<◌, length, get_or, arith}
+use Rattle.std.proofs.Common.{◌≡◌, ◌<◌, ◌≤◌, ◌^◌, length, get_or, arith}
+use Rattle.std.proofs.Math.Nat.{pow-le-pow_right}
 use Rattle.std.proofs.lemmas.Int.Digits.{digits_value_more}
 use Rattle.std.proofs.lemmas.Str.{digit_value_digit}
-use Rattle.quantile_sketches.proofs.ShortNumbers.{few_digits, one_digit_more, all_digits_more, space_there}
+use Rattle.quantile_sketches.proofs.ShortNumbers.{one_digit_more, all_digits_more, space_there}
 use Rattle.quantile_sketches.proofs.words.short_number.Goals as goal
 use Rattle.quantile_sketches.proofs.words.short_number.Goals.{then-len-text, else-len-text}
 
 pub overflow_mul-number : goal.overflow_mul-number
 overflow_mul-number c =
-    let few = few_digits c.loop-len.len 17 (omega (arith, c.loop-len-test.true, c.min.ensures)) in
+    let few : 10 ^ c.loop-len.len ≤ 10 ^ 17 = pow-le-pow_right (omega arith) {j = 17} (omega (arith, c.loop-len-test.true, c.min.ensures)) in
     omega (arith, c.loop-len.invariant.below, few)
 
 pub overflow_add-number : goal.overflow_add-number
 overflow_add-number c =
-    let few = few_digits c.loop-len.len 17 (omega (arith, c.loop-len-test.true, c.min.ensures)) in
+    let few : 10 ^ c.loop-len.len ≤ 10 ^ 17 = pow-le-pow_right (omega arith) {j = 17} (omega (arith, c.loop-len-test.true, c.min.ensures)) in
     omega (arith, c.loop-len.invariant.below, few, c.if-is_ascii_digit.ensures.cases)
 
 pub loop-len-preserved : goal.loop-len-preserved
@@ -32,7 +33,7 @@ returns c =
       | then-len-text w ↦ λ h. space_there _ c.if-len-text.value w.value-is c.if-text-len-ne32.false
       | else-len-text w ↦ λ h. absurd (omega (arith, h, w.if-len-text))
     ] in
-    let few = few_digits c.loop-len.len 18 c.loop-len.invariant.few in record {
+    let few : 10 ^ c.loop-len.len ≤ 10 ^ 18 = pow-le-pow_right (omega arith) c.loop-len.invariant.few in record {
       within = c.loop-len.invariant.within;
       some = omega (arith, c.if-len-eq0.false);
       digits = c.loop-len.invariant.digits;

@@ -1,4 +1,4 @@
-use Rattle.std.proofs.Common.{ℕ, List, Ok, Err, Some, inl, inr, ap, subst, ◌∙◌, rules, ◌≡◌, length, arith, refl}
+use Rattle.std.proofs.Common.{Ok, Err, Some, inl, inr, ap, ◌∙◌, rules, ◌≡◌, length, arith, refl}
 use Rattle.std.proofs.lemmas.Option.{slice_get_read}
 use Rattle.hex.specs.Hex.{encode_lower}
 use Rattle.sketch_base.specs.declared.error.ErrorKind.TheVariants.{OutOfMemory}
@@ -10,12 +10,11 @@ returns-in_err-bytes-in-Load g c = rw c.in-Load.is (Err (Sketch OutOfMemory), se
 
 pub returns-in_err-bytes-in-Image : goal.returns-in_err-bytes-in-Image
 returns-in_err-bytes-in-Image g c =
-    let failed = c.in_err-bytes-in-Image.ensures in
     rw c.in-Image.is (
       (
         Some c.in_ok-sketch-in-Image.field-0.now,
         c.in_ok-sketch-in-Image.ensures.found,
-        inr (inl (c.in_err-bytes-in-Image.field-0.0, failed, search rules)),
+        inr (inl (c.in_err-bytes-in-Image.field-0.0, c.in_err-bytes-in-Image.ensures, search rules)),
       ),
       refl,
       refl,
@@ -23,13 +22,12 @@ returns-in_err-bytes-in-Image g c =
 
 pub returns-in_ok-image_text-in-Image : goal.returns-in_ok-image_text-in-Image
 returns-in_ok-image_text-in-Image g c =
-    let written = c.in_ok-bytes-in-Image.ensures in
     let same = c.in_ok-image_text-in-Image.ensures.text ∙ ap encode_lower c.deref.ensures.value in
     rw c.in-Image.is (
       (
         Some c.in_ok-sketch-in-Image.field-0.now,
         c.in_ok-sketch-in-Image.ensures.found,
-        inl (c.in_ok-bytes-in-Image.bytes, c.in_ok-image_text-in-Image.field-0, written, same, refl),
+        inl (c.in_ok-bytes-in-Image.bytes, c.in_ok-image_text-in-Image.field-0, c.in_ok-bytes-in-Image.ensures, same, refl),
       ),
       refl,
       refl,
@@ -37,15 +35,12 @@ returns-in_ok-image_text-in-Image g c =
 
 pub returns-in_err-load-in-Load : goal.returns-in_err-load-in-Load
 returns-in_err-load-in-Load g c =
-    let failed = c.in_err-load-in-Load.ensures in
-    let P : List ℕ → Type 0 = λ bs. g.S.Family.behaviour.loaded bs (Err c.in_err-load-in-Load.field-0.0) in
-    rw c.in-Load.is (Err (Sketch c.in_err-load-in-Load.field-0.0), search rules, (inl (subst P (c.deref-in-Load.ensures.value ∙ c.in_ok-bytes-in-Load.ensures.bytes) failed), refl), refl)
+    let unread = rw (c.deref-in-Load.ensures.value ∙ c.in_ok-bytes-in-Load.ensures.bytes) at c.in_err-load-in-Load.ensures in
+    rw c.in-Load.is (Err (Sketch c.in_err-load-in-Load.field-0.0), search rules, (inl unread, refl), refl)
 
 pub returns-in_ok-load-in-Load : goal.returns-in_ok-load-in-Load
 returns-in_ok-load-in-Load g c =
-    let read = c.in_ok-load-in-Load.ensures in
     let l : 256 ≡ length c.self.inside.slots.items = omega (arith, c.self.invariant, c.self.inside.slots.ok) in
-    let P : List ℕ → Type 0 = λ bs. g.S.Family.behaviour.loaded bs (Ok c.in_ok-load-in-Load.field-0) in
-    let made = subst P (c.deref-in-Load.ensures.value ∙ c.in_ok-bytes-in-Load.ensures.bytes) read in
+    let made = rw (c.deref-in-Load.ensures.value ∙ c.in_ok-bytes-in-Load.ensures.bytes) at c.in_ok-load-in-Load.ensures in
     let held = slice_get_read c.self.inside.slots.items 256 c.in-Load.slot c.index_mut.result.now l (omega arith) c.index_mut.ensures.value in
     rw c.in-Load.is (rw (← c.self.view_is) (Ok tt, refl, (c.in_ok-load-in-Load.field-0, c.index_mut.result.now, held, inl made, refl), refl))
