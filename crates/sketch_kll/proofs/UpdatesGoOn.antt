@@ -28,10 +28,12 @@ use Rattle.sketch_kll.proofs.UpdatesInTurn.{updates_fields}
 module _ {A : Type 0} {cmp : A → A → Ordering} (o : IsTotalOrder cmp) where
   -- updates by a single item are its update
   pub one_updates : OneUpdates cmp
-  one_updates s x word t = (
-    λ h. record { k = h.k; min_k = h.min_k; n = h.n; is_sorted = h.is_sorted ∙ and_right s.is_sorted false refl; bag = rw (← append-nil (update_of s x)) h.bag; least = h.least; greatest = h.greatest },
-    λ h. record { k = h.k; min_k = h.min_k; n = h.n; is_sorted = h.is_sorted ∙ sym (and_right s.is_sorted false refl); bag = rw (append-nil (update_of s x)) h.bag; least = h.least; greatest = h.greatest },
-  )
+  one_updates s x word t =
+      let off = and_right s.is_sorted false refl in
+      let whole = append-nil (update_of s x) in (
+        λ h. record { k = h.k; min_k = h.min_k; n = h.n; is_sorted = h.is_sorted ∙ off; bag = rw (← whole) h.bag; least = h.least; greatest = h.greatest },
+        λ h. record { k = h.k; min_k = h.min_k; n = h.n; is_sorted = h.is_sorted ∙ sym off; bag = rw whole h.bag; least = h.least; greatest = h.greatest },
+      )
 
   -- what an update makes of the fields of a sketch
   pub record UpdatedFields {S : Type 0} (bit : S → Bool) (next : S → S) (source after : S) (s : Kll A) (x : A) (t : Kll A) : Type 0 where
@@ -40,16 +42,17 @@ module _ {A : Type 0} {cmp : A → A → Ordering} (o : IsTotalOrder cmp) where
     pub source_is : after ≡ after_draws next source (coins_of_update s x)
 
   -- an update, which takes one item in, makes such fields
-  pub updated_fields : {S : Type 0} (bit : S → Bool) (next : S → S) {source after : S} {s : Kll A} (x : A) {k old_k : ℕ} {old_flag flag : Bool} {rows : List (List A)} (ls : List (List A)) {ms : List (List A)} {least greatest kept_least kept_greatest : Option A} →
-      IsSound cmp s → s.n < 2 ^ 64 → old_k ≡ s.k → old_flag ≡ s.is_sorted → rows ≡ s.levels → SameLevels cmp (with_room cmp old_k old_flag (bit source) rows) ls → UpperSorted cmp ls → k ≡ old_k → flag ≡ false →
-      after ≡ cond (is_full old_k rows) (next source) source → ms ≡ put x ls →
+  pub updated_fields : {S : Type 0} (bit : S → Bool) (next : S → S) {source after : S} {s : Kll A} (x : A) {k old_k : ℕ} {old_flag flag : Bool} {rows : List (List A)}
+      (ls : List (List A)) {ms : List (List A)} {least greatest kept_least kept_greatest : Option A} →
+      IsSound cmp s → s.n < 2 ^ 64 → old_k ≡ s.k → old_flag ≡ s.is_sorted → rows ≡ s.levels → SameLevels cmp (with_room cmp old_k old_flag (bit source) rows) ls → UpperSorted cmp ls →
+      k ≡ old_k → flag ≡ false → after ≡ cond (is_full old_k rows) (next source) source → ms ≡ put x ls →
       Ties cmp (least_with cmp x s.least) least → kept_least ≡ least → Ties cmp (greatest_with cmp x s.greatest) greatest → kept_greatest ≡ greatest →
       UpdatedFields bit next source after s x (sketch_of k s.min_k (s.n + 1) flag ms kept_least kept_greatest)
   updated_fields {S} bit next {source} {after} {s} x {k} {old_k} {old_flag} {flag} {rows} ls {ms} {least} {greatest} {kept_least} {kept_greatest}
       sound small own_k own_flag own_levels alike upper k_is flag_is drawn put_in least_ties least_is greatest_ties greatest_is =
-      let kept = kept_levels o sound own_k own_flag own_levels in
+      let start = taking_none cmp o bit next source old_k old_flag rows (kept_levels o sound own_k own_flag own_levels) in
       let light : weight rows + 0 < 2 ^ 64 = omega (arith, ap weight own_levels, sound.weighs_n, small) in
-      let took = taking_more cmp o bit next source source after old_k old_flag old_flag rows [] x rows ls ms (taking_none cmp o bit next source old_k old_flag rows kept) light alike upper put_in drawn in
+      let took = taking_more cmp o bit next source source after old_k old_flag old_flag rows [] x rows ls ms start light alike upper put_in drawn in
       let made = updates_fields o bit next sound (omega arith) (SameItems-refl cmp o (x ∷ [])) own_k own_flag own_levels k_is took.taken
       (least_of_both o x s.least least least_ties) least_is (greatest_of_both o x s.greatest greatest greatest_ties) greatest_is in
       let coins : coins_of_updates s (x ∷ []) ≡ coins_of_update s x = ap draws_of (append-nil (update_of s x)) in
@@ -87,8 +90,8 @@ module _ {A : Type 0} {cmp : A → A → Ordering} (o : IsTotalOrder cmp) where
       let first : List (Action A) = updates_actions s.k lengths items in
       let later : List ℕ = updates_lengths s.k lengths items in
       let rest : List Bool = drop (draws_of first) word in
-      let there : map length t.levels ≡ later =
-      sym (alike-lengths o _ _ a.bag) ∙ (lengths-acts cmp first word (alone (bag_of s)) (updates_kll s.k lengths items some0) ∙ ap (λ (w : Work (List ℕ)). w.bag) (updates_lengths_are {A = A} s.k lengths items some0)) in
+      let made = lengths-acts cmp first word (alone (bag_of s)) (updates_kll s.k lengths items some0) ∙ ap (λ (w : Work (List ℕ)). w.bag) (updates_lengths_are {A = A} s.k lengths items some0) in
+      let there : map length t.levels ≡ later = sym (alike-lengths o _ _ a.bag) ∙ made in
       let on : AlikeKll cmp (bag_after cmp (updates_actions s.k later more) rest (bag_of t)) (bag_of u) =
       subst (λ (actions : List (Action A)). AlikeKll cmp (bag_after cmp actions rest (bag_of t)) (bag_of u)) (ap₂ (λ (k : ℕ) (l : List ℕ). updates_actions k l more) a.k there) b.bag in
       let both = alike_on o first (updates_actions s.k later more) (work_of lengths) word rest (bag_of s) (bag_of t) (bag_of u) (fine-updates s.k lengths items some0)
@@ -99,7 +102,8 @@ module _ {A : Type 0} {cmp : A → A → Ordering} (o : IsTotalOrder cmp) where
         min_k = b.min_k ∙ a.min_k;
         n = omega (arith, a.n, b.n, n);
         is_sorted = b.is_sorted ∙ (ap (λ (f : Bool). f && eqb (length more) 0) a.is_sorted ∙ flags s.is_sorted items);
-        bag = rw (updates-append s.k lengths items more) (subst (λ (w : Work (Bag A)). AlikeKll cmp w.bag (bag_of u)) (sym (in_turn-append draws (act cmp) first (updates_actions s.k later more) word (alone (bag_of s)))) both);
+        bag = rw (updates-append s.k lengths items more)
+            (subst (λ (w : Work (Bag A)). AlikeKll cmp w.bag (bag_of u)) (sym (in_turn-append draws (act cmp) first (updates_actions s.k later more) word (alone (bag_of s)))) both);
         least = rw (← append_assoc (option_to_list s.least) items more) (extreme_on (λ x y. IsAtMost cmp x y) (λ x y z. upto o x y z) (option_to_list s.least ++ items) more t.least u.least a.least b.least);
         greatest = rw (← append_assoc (option_to_list s.greatest) items more) (extreme_on (λ x y. IsAtMost cmp y x) (λ x y z b c. upto o z y x c b) (option_to_list s.greatest ++ items) more t.greatest u.greatest a.greatest b.greatest);
       }

@@ -6,7 +6,7 @@ use Rattle.std.specs.Cmp.{IsTotalOrder}
 use Rattle.std.proofs.Math.Bool.{and-true}
 use Rattle.std.proofs.lemmas.Cmp.{tied_itself}
 use Rattle.sketch_base.specs.Bag.{AlikeKll, SameItems}
-use Rattle.sketch_base.specs.Extremes.{IsLeastOf, IsGreatestOf, IsAtMost}
+use Rattle.sketch_base.specs.Extremes.{IsLeastOf, IsGreatestOf}
 use Rattle.sketch_base.specs.Random.{bits_from, after_draws}
 use Rattle.sketch_base.specs.Trace.{Action, bag_after, draws_of}
 use Rattle.sketch_base.proofs.Alikes.{acts-kll}
@@ -22,7 +22,7 @@ use Rattle.sketch_kll.proofs.ItemsBetween.{all_none, ends_there, from_all, from-
 use Rattle.sketch_kll.proofs.MergeActions.{PullsAct, beside, pulls_act}
 use Rattle.sketch_kll.proofs.MergeSchedule.{goes-kll, pulls_are}
 use Rattle.sketch_kll.proofs.Merged.{alike-refl, alike-same}
-use Rattle.sketch_kll.proofs.MergedSketches.{none_at_first, ties_alone}
+use Rattle.sketch_kll.proofs.MergedSketches.{none_at_first, ties_both}
 use Rattle.sketch_kll.proofs.UnbiasedUpdates.{alike-trans}
 
 module _ {A : Type 0} {cmp : A → A → Ordering} (o : IsTotalOrder cmp) where
@@ -60,10 +60,7 @@ module _ {A : Type 0} {cmp : A → A → Ordering} (o : IsTotalOrder cmp) where
   one_ties : (a b least greatest : Option A) (items : List A) → length items ≡ 1 → a ≡ None → b ≡ None → IsLeastOf cmp (option_to_list a ++ items) least → IsGreatestOf cmp (option_to_list b ++ items) greatest →
       AllByRecursion (λ y. Ties cmp y least × Ties cmp y greatest) items
   one_ties a b least greatest [] n na nb l g = tt
-  one_ties a b least greatest (x ∷ []) n na nb l g = (
-    (ties_alone o (λ x y. IsAtMost cmp x y) a (Some x) least x na l (tied_itself o x), ties_alone o (λ x y. IsAtMost cmp y x) b (Some x) greatest x nb g (tied_itself o x)),
-    tt,
-  )
+  one_ties a b least greatest (x ∷ []) n na nb l g = (ties_both o a (Some x) b (Some x) least greatest x na nb l g (tied_itself o x, tied_itself o x), tt)
   one_ties a b least greatest (x ∷ y ∷ items) n na nb l g = absurd (omega (arith, n))
 
   -- what updates by all items in turn make of the fields of a sketch
@@ -73,7 +70,8 @@ module _ {A : Type 0} {cmp : A → A → Ordering} (o : IsTotalOrder cmp) where
     pub source_is : after ≡ after_draws next source (coins_of_updates s items)
 
   -- taking clones of the items in makes such fields
-  pub updates_fields : {S : Type 0} (bit : S → Bool) (next : S → S) {source after : S} {s : Kll A} {items clones : List A} {k old_k : ℕ} {old_flag flag : Bool} {rows ms : List (List A)} {least greatest kept_least kept_greatest : Option A} →
+  pub updates_fields : {S : Type 0} (bit : S → Bool) (next : S → S) {source after : S} {s : Kll A} {items clones : List A}
+      {k old_k : ℕ} {old_flag flag : Bool} {rows ms : List (List A)} {least greatest kept_least kept_greatest : Option A} →
       IsSound cmp s → 0 < length items → SameItems cmp items clones → old_k ≡ s.k → old_flag ≡ s.is_sorted → rows ≡ s.levels → k ≡ old_k →
       HaveTaken cmp bit next source after old_k old_flag flag rows clones ms →
       IsLeastOf cmp (option_to_list s.least ++ items) least → kept_least ≡ least → IsGreatestOf cmp (option_to_list s.greatest ++ items) greatest → kept_greatest ≡ greatest →
@@ -84,7 +82,8 @@ module _ {A : Type 0} {cmp : A → A → Ordering} (o : IsTotalOrder cmp) where
       taken_same bit next source after s.k s.is_sorted flag s.levels items clones ms sound.has_level same (rw (← own_k, ← own_flag, ← own_levels) taken) in
       let low = all-parts (λ y. IsFrom cmp least y) (option_to_list s.least) items (from_all o _ least least_of) in
       let high = all-parts (λ y. IsUpTo cmp greatest y) (option_to_list s.greatest) items (up_to_all o _ greatest greatest_of) in
-      let between = m.between least greatest (all-both (λ y. IsFrom cmp least y) (λ y. IsUpTo cmp greatest y) items low.1 high.1, still_between o s.least s.greatest least greatest low.0 high.0 s.levels sound.items_between) in
+      let between = m.between least greatest
+      (all-both (λ y. IsFrom cmp least y) (λ y. IsUpTo cmp greatest y) items low.1 high.1, still_between o s.least s.greatest least greatest low.0 high.0 s.levels sound.items_between) in
       let weighs : weight ms ≡ s.n + length items = omega (arith, m.weighs, sound.weighs_n) in
       let ends = ends_there o (s.n + length items) least greatest ms (omega arith) (omega (arith, weighs)) between in
       rw (k_kept, own_k, least_is, greatest_is) (record {
@@ -108,7 +107,10 @@ module _ {A : Type 0} {cmp : A → A → Ordering} (o : IsTotalOrder cmp) where
               let none : s.n ≡ 0 = omega arith in
               let no_least = none_at_first s.least s.n none sound.least_there in
               let no_greatest = none_at_first s.greatest s.n none sound.greatest_there in
-              m.ties least greatest (one_ties s.least s.greatest least greatest items (omega arith) no_least no_greatest least_of greatest_of, all_none o (λ y. Ties cmp y least × Ties cmp y greatest) s.least s.greatest s.levels no_least sound.items_between);
+              m.ties least greatest (
+                one_ties s.least s.greatest least greatest items (omega arith) no_least no_greatest least_of greatest_of,
+                all_none o (λ y. Ties cmp y least × Ties cmp y greatest) s.least s.greatest s.levels no_least sound.items_between,
+              );
         };
         updated_are = record { k = refl; min_k = refl; n = refl; is_sorted = m.flag_is; bag = m.bag; least = least_of; greatest = greatest_of };
         source_is = m.source_is;
