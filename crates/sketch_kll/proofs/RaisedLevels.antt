@@ -36,10 +36,9 @@ levels_with_top items bounds f =
 -- a compaction of the top level makes the level above it, whether an empty one stands there or not
 pub compacted-top : {A : Type 0} (cmp : A → A → Ordering) (last coin : Bool) (h : ℕ) (ls : List (List A)) → suc h ≡ length ls →
     compacted cmp last coin h (ls ++ [] ∷ []) ≡ compacted cmp last coin h ls
-compacted-top cmp last coin h [] e = absurd (omega arith)
 compacted-top cmp last coin zero (l ∷ []) e = refl
-compacted-top cmp last coin zero (l ∷ m ∷ ls) e = absurd (omega arith)
 compacted-top cmp last coin (suc h) (l ∷ ls) e = ap (λ x. l ∷ x) (compacted-top cmp last coin h ls (omega arith))
+compacted-top cmp last coin h ls e = absurd (omega arith)
 
 AllSorted-top : {A : Type 0} (cmp : A → A → Ordering) (ls : List (List A)) → AllSorted cmp ls → AllSorted cmp (ls ++ [] ∷ [])
 AllSorted-top cmp [] u = ((λ k d l b. absurd (omega arith)), tt)

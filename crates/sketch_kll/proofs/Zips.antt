@@ -10,6 +10,12 @@ zip-trans R S step [] [] (z ∷ zs) r s = absurd s
 zip-trans R S step (x ∷ xs) (y ∷ ys) [] r s = absurd s
 zip-trans R S step xs ys zs r s = absurd r
 
+-- the other way round
+pub zip-back : {X : Type 0} (R : X → X → Type 0) → ((x y : X) → R x y → R y x) → (xs ys : List X) → AllZip R xs ys → AllZip R ys xs
+zip-back R back [] [] r = tt
+zip-back R back (x ∷ xs) (y ∷ ys) r = (back x y r.0, zip-back R back xs ys r.1)
+zip-back R back xs ys r = absurd r
+
 -- numbers that are the same for related items
 pub zip-map : {X : Type 0} (R : X → X → Type 0) (f : X → ℕ) → ((x y : X) → R x y → f x ≡ f y) → (xs ys : List X) → AllZip R xs ys → map f xs ≡ map f ys
 zip-map R f same [] [] r = refl
