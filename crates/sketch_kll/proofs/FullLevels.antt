@@ -40,12 +40,9 @@ seeks_more k ls level h s c =
     let d : length (first_level (drop level ls)) < capacity_at k 8 (length (drop (suc level) ls)) = rw n c in
     let b : nat_le (capacity_at k 8 (length (drop (suc level) ls))) (length (first_level (drop level ls))) ≡ false = lt-leb _ _ d in
     let f : full_level k (first_level (drop level ls) ∷ drop (suc level) ls) ≡ suc (full_level k (drop (suc level) ls)) = rw b refl in
-    let g = ap (full_level k) e ∙ f in
-    let t = ap (λ (x : List (List _)). total_of k 8 (length x)) e in
-    let r = ap retained e in
     record {
-      same = omega (arith, s.same, g);
-      more = omega (arith, s.more, t, r, d);
+      same = omega (arith, s.same, ap (full_level k) e ∙ f);
+      more = omega (arith, s.more, ap (λ (x : List (List _)). total_of k 8 (length x)) e, ap retained e, d);
     }
 
 -- the loop finds a level before it has passed the top

@@ -22,11 +22,10 @@ heavy_top k extra (l ∷ m ∷ ls) h t f =
       | inr e ↦ leb-false _ _ e
     ] in
     let z : full_level k (l ∷ m ∷ ls) ≡ suc (full_level k (m ∷ ls)) = rw (lt-leb (capacity_at k 8 (suc (length ls))) (length l) short) refl in
-    let ih = heavy_top k (extra + 1) (m ∷ ls) (omega arith) (omega arith) (omega (arith, z)) in
     let p : 2 ^ (suc (suc (length ls)) - 1) ≡ 2 * 2 ^ (suc (length ls) - 1) =
     (let a : suc (suc (length ls)) - 1 ≡ suc (suc (length ls) - 1) = omega arith in ap (λ (i : ℕ). 2 ^ i) a ∙ pow-succ' 2 (suc (length ls) - 1)) in
     let q : capacity_at k 8 0 + extra + (suc (suc (length ls)) - 1) ≡ capacity_at k 8 0 + (extra + 1) + (suc (length ls) - 1) = omega arith in
-    rw (p, q) (omega (arith, ih))
+    rw (p, q) (omega (arith, heavy_top k (extra + 1) (m ∷ ls) (omega arith) (omega arith) (omega (arith, z))))
 
 -- more levels take nothing from the total capacity
 pub total_up_to : (k m n : ℕ) → m ≤ n → total_of k 8 m ≤ total_of k 8 n
@@ -45,8 +44,7 @@ no_more_levels k ls few h w t f =
       | inr b ↦
           let e : length ls ≡ 61 = omega arith in
           let g = heavy_top k 0 ls h (omega (arith, t)) f in
-          let g' = subst (λ (n : ℕ). 2 ^ (n - 1) * (capacity_at k 8 0 + 0 + (n - 1)) ≤ weight ls) e g in
-          absurd (omega (arith, g', capacity_eight k 0))
+          absurd (omega (arith, subst (λ (n : ℕ). 2 ^ (n - 1) * (capacity_at k 8 0 + 0 + (n - 1)) ≤ weight ls) e g, capacity_eight k 0))
     ]
 
 -- a compaction of the lowest full level leaves at most 61 levels
@@ -117,8 +115,6 @@ retained-weight (l ∷ ls) = let h = retained-weight ls in omega (arith, h)
 pub one_level_left : {A : Type 0} (cmp : A → A → Ordering) (k : ℕ) (is_sorted coin : Bool) (ls : List (List A)) → length ls ≡ 1 → weight ls ≤ 1 →
     length (with_room cmp k is_sorted coin ls) ≡ 1
 one_level_left cmp k is_sorted coin ls e w =
-    let r = retained-weight ls in
     let t : total_of k 8 (length ls) ≡ 0 + capacity_at k 8 0 = ap (total_of k 8) e in
-    let c = capacity_eight k 0 in
-    let f : false ≡ is_full k ls = sym (lt-leb (total_of k 8 (length ls)) (retained ls) (omega (arith, r, t, c))) in
+    let f : false ≡ is_full k ls = sym (lt-leb (total_of k 8 (length ls)) (retained ls) (omega (arith, retained-weight ls, t, capacity_eight k 0))) in
     ap length (with_room_spare cmp k is_sorted coin ls f) ∙ e

@@ -43,8 +43,7 @@ sound_stored cmp k min_k n flag items bounds total least greatest f t s =
 pub known_total : {A : Type 0} {cmp : A → A → Ordering} {k total : ℕ} {items : List A} {bounds : List ℕ} → AreStored cmp k items bounds total →
     (len : ℕ) → len ≡ length bounds → total ≡ total_of k 8 (len - 1)
 known_total {k = k} {items = items} {bounds = bounds} stored len len_is =
-    let bounds_len = length-bounds items bounds stored.flat in
-    stored.total_is ∙ ap (total_of k 8) (omega (arith, bounds_len, len_is))
+    stored.total_is ∙ ap (total_of k 8) (omega (arith, length-bounds items bounds stored.flat, len_is))
 
 -- what a compaction leaves in the vectors is stored once the total capacity fits it
 pub record CompactedStored {A : Type 0} (cmp : A → A → Ordering) (last coin : Bool) (k level : ℕ) (ls : List (List A)) (items : List A) (bounds : List ℕ) : Type 0 where
