@@ -27,9 +27,8 @@ seeks_found k ls level h s c =
     let n : length (drop (suc level) ls) ≡ length ls - 1 - level = length-drop (suc level) ls ∙ omega arith in
     let b : nat_le (capacity_at k 8 (length (drop (suc level) ls))) (length (first_level (drop level ls))) ≡ true =
     ap (λ (i : ℕ). nat_le (capacity_at k 8 i) (length (first_level (drop level ls)))) n ∙ le-leb _ _ c in
-    let f : full_level k (first_level (drop level ls) ∷ drop (suc level) ls) ≡ 0 = rw b refl in
-    let g : full_level k (drop level ls) ≡ 0 = ap (full_level k) e ∙ f in
-    omega (arith, s.same, g)
+    let f : full_level k (drop level ls) ≡ 0 = rw (e, b) refl in
+    omega (arith, s.same, f)
 
 -- a level that is not full is passed over
 pub seeks_more : {A : Type 0} (k : ℕ) (ls : List (List A)) (level : ℕ) → level < length ls → SeeksFull k ls level →

@@ -1,5 +1,5 @@
 -- What a call makes of a sketch under one word is one sketch, where items that compare equal are equal.
-use Rattle.std.proofs.Common.{◌≡◌, ℕ, Bool, List, [], ◌∷◌, ◌++◌, Option, refl, sym, ap, ap₂, ◌∙◌, Ordering}
+use Rattle.std.proofs.Common.{◌≡◌, ℕ, Bool, List, [], ◌∷◌, ◌++◌, refl, sym, ap₂, ◌∙◌, Ordering}
 use Rattle.std.specs.Cmp.{IsTotalOrder}
 use Rattle.std.specs.List.{AllZip}
 use Rattle.std.specs.Option.{option_to_list}
@@ -15,11 +15,6 @@ use Rattle.sketch_kll.specs.Merged.{IsMerged}
 use Rattle.sketch_kll.specs.Sketch.{Kll, IsSound, IsUpdated, bag_of}
 use Rattle.sketch_kll.specs.Updates.{AreUpdated}
 use Rattle.sketch_kll.specs.Weighted.{IsWeighted}
-
--- a sketch, from its parts
-abbrev sketch : {A : Type 0} → ℕ → ℕ → ℕ → Bool → List (List A) → Option A → Option A → Kll A
-sketch k min_k n is_sorted levels least greatest =
-    record { k = k; min_k = min_k; n = n; is_sorted = is_sorted; levels = levels; least = least; greatest = greatest }
 
 module _ {A : Type 0} {cmp : A → A → Ordering} (order : IsTotalOrder cmp) (tied : TiesAreEqual cmp) where
   abbrev SameSorted : List A → List A → Type 0
@@ -45,10 +40,7 @@ module _ {A : Type 0} {cmp : A → A → Ordering} (order : IsTotalOrder cmp) (t
       let levels = one-levels t.levels u.levels between.levels between.level_zero a.upper_sorted b.upper_sorted in
       let least = same-answers order tied t.least u.least (one_least order ends ends t.least u.least (SameItems-refl cmp order ends) l l') in
       let greatest = same-answers order tied t.greatest u.greatest (one_greatest order tops tops t.greatest u.greatest (SameItems-refl cmp order tops) g g') in
-      ap₂ (λ (x y : ℕ). sketch x y t.n t.is_sorted t.levels t.least t.greatest) k min_k
-      ∙ (ap₂ (λ (x : ℕ) (y : Bool). sketch u.k u.min_k x y t.levels t.least t.greatest) n is_sorted
-      ∙ (ap₂ (λ (x : List (List A)) (y : Option A). sketch u.k u.min_k u.n u.is_sorted x y t.greatest) levels least
-      ∙ ap (λ (x : Option A). sketch u.k u.min_k u.n u.is_sorted u.levels u.least x) greatest))
+      λ i. record { k = k i; min_k = min_k i; n = n i; is_sorted = is_sorted i; levels = levels i; least = least i; greatest = greatest i }
 
   -- an update makes one sketch
   pub one-update : (s : Kll A) (x : A) (word : List Bool) (t u : Kll A) → IsSound cmp t → IsSound cmp u → IsUpdated cmp s x word t → IsUpdated cmp s x word u → t ≡ u

@@ -1,5 +1,5 @@
 -- levels as they are stored: empty, those of a sound sketch, after a compaction, and after a merge
-use Rattle.std.proofs.Common.{Option, ◌≡◌, ℕ, ◌-◌, ◌<◌, ◌≤◌, Bool, List, [], ◌∷◌, ◌++◌, length, drop, replicate, sym, ap, ◌∙◌, subst, arith, Ordering, length-drop}
+use Rattle.std.proofs.Common.{Option, ◌≡◌, ℕ, ◌-◌, ◌<◌, ◌≤◌, Bool, List, [], ◌∷◌, ◌++◌, length, drop, replicate, set, sym, ap, ◌∙◌, subst, arith, Ordering, length-drop}
 use Rattle.sketch_kll.specs.Capacity.{total_of}
 use Rattle.sketch_kll.specs.Flat.{levels_in, IsFlat}
 use Rattle.sketch_kll.specs.Join.{joined, joined_bounds}
@@ -10,6 +10,8 @@ use Rattle.sketch_kll.proofs.Flats.{is_flat, levels_of_flat, length-bounds}
 use Rattle.sketch_kll.proofs.JoinedLevels.{prepared}
 use Rattle.sketch_kll.proofs.Merged.{joined_size}
 use Rattle.sketch_kll.proofs.NoMoreLevels.{few_compacted}
+use Rattle.sketch_kll.specs.Steps.{put_all}
+use Rattle.sketch_kll.proofs.PutItems.{put_flat, length-put, UpperSorted-put}
 use Rattle.sketch_kll.proofs.RaisedLevels.{raised, raised_is}
 
 -- no item between two bounds is one empty level
@@ -44,6 +46,16 @@ pub known_total : {A : Type 0} {cmp : A → A → Ordering} {k total : ℕ} {ite
     (len : ℕ) → len ≡ length bounds → total ≡ total_of k 8 (len - 1)
 known_total {k = k} {items = items} {bounds = bounds} stored len len_is =
     stored.total_is ∙ ap (total_of k 8) (omega (arith, length-bounds items bounds stored.flat, len_is))
+
+-- levels into whose lowest one items were put are stored
+pub put_stored : {A : Type 0} {cmp : A → A → Ordering} {k total len : ℕ} {items items' : List A} {bounds : List ℕ} (xs : List A) → AreStored cmp k items bounds total → items' ≡ items ++ xs → len ≡ length items' →
+    AreStored cmp k items' (set bounds 0 len) total × (levels_in items' (set bounds 0 len) ≡ put_all xs (levels_in items bounds))
+put_stored {A} {cmp} {k} {total} {len} {items} {items'} {bounds} xs stored items_are len_is =
+    let put = put_flat xs items items' bounds len stored.flat stored.some items_are len_is in
+    let count = ap length put.1 ∙ length-put xs (levels_in items bounds) stored.some in
+    let sorted : UpperSorted cmp (levels_in items' (set bounds 0 len)) = rw put.1 (UpperSorted-put cmp xs _ stored.sorted) in
+    let total_is = stored.total_is ∙ ap (total_of k 8) (sym count) in
+    (record { k_above = stored.k_above; flat = put.0; total_is = total_is; some = omega (arith, count, stored.some); few = omega (arith, count, stored.few); sorted = sorted }, put.1)
 
 -- what a compaction leaves in the vectors is stored once the total capacity fits it
 pub record CompactedStored {A : Type 0} (cmp : A → A → Ordering) (last coin : Bool) (k level : ℕ) (ls : List (List A)) (items : List A) (bounds : List ℕ) : Type 0 where
