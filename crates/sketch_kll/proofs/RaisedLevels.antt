@@ -1,5 +1,5 @@
 -- levels with an empty one put above the top, as a compaction of the top level needs it
-use Rattle.std.proofs.Common.{eqb, eqb-true, ◌≡◌, ℕ, zero, suc, ◌+◌, ◌<◌, Bool, cond, List, [], ◌∷◌, ◌++◌, length, refl, sym, ap, ap₂, ◌∙◌, subst, arith, Ordering, length-append, append-nil, replicate, inl, inr}
+use Rattle.std.proofs.Common.{eqb, eqb-true, ◌≡◌, ℕ, zero, suc, ◌+◌, ◌<◌, Bool, cond, List, [], ◌∷◌, ◌++◌, length, refl, sym, ap, ap₂, ◌∙◌, arith, Ordering, length-append, append-nil, replicate, inl, inr}
 use Rattle.std.proofs.lemmas.Bool.{cases_Bool, eqb-false}
 use Rattle.sketch_kll.specs.Levels.{retained, first_level, compacted, AllSorted, UpperSorted}
 use Rattle.sketch_kll.specs.Stored.{AreStored}
@@ -75,24 +75,21 @@ first-top (l ∷ ls) some = refl
 pub raised_is : {A : Type 0} {cmp : A → A → Ordering} {k total level : ℕ} {items : List A} {old new : List ℕ} {ls : List (List A)} (last coin : Bool) →
     AreStored cmp k items old total → levels_in items old ≡ ls → level < length ls → new ≡ raised level old → Raised cmp last coin level items old new
 raised_is {A} {cmp} {k} {total} {level} {items} {old} {new} {ls} last coin stored own inside new_is =
-    let Goal : List ℕ → Type 0 = λ (b : List ℕ). Raised cmp last coin level items old b in
     let bounds_len = length-bounds items old stored.flat in
     let levels_len = ap length own in
-    subst Goal (sym new_is) (
+    rw new_is (
     elim (cases_Bool (eqb (level + 2) (length old))) [
       | inl is_top ↦
           let top = eqb-true (level + 2) (length old) is_top in
           let above = levels_with_tops 1 items old stored.flat in
-          let one_more : Goal (old ++ 0 ∷ []) = record {
+          rw is_top (record {
             flat = above.0;
             within = omega (arith, length-append old (0 ∷ []), top);
-            same = ap (compacted cmp last coin level) above.1 ∙ compacted-top cmp last coin level (levels_in items old) (omega (arith, top, bounds_len));
+            same = rw above.1 (compacted-top cmp last coin level (levels_in items old) (omega (arith, top, bounds_len)));
             sorted = λ u. rw above.1 (UpperSorted-append cmp (levels_in items old) (replicate 1 []) stored.some u (AllSorted-none cmp 1));
-            first = ap first_level above.1 ∙ first-top (levels_in items old) stored.some;
-          } in
-          rw is_top one_more
+            first = rw above.1 (first-top (levels_in items old) stored.some);
+          })
       | inr is_below ↦
           let below = eqb-false (level + 2) (length old) is_below in
-          let as_many : Goal old = record { flat = stored.flat; within = omega (arith, inside, bounds_len, levels_len, below); same = refl; sorted = λ u. u; first = refl } in
-          rw is_below as_many
+          rw is_below (record { flat = stored.flat; within = omega (arith, inside, bounds_len, levels_len, below); same = refl; sorted = λ u. u; first = refl })
     ])

@@ -48,7 +48,8 @@ known_total {k = k} {items = items} {bounds = bounds} stored len len_is =
     stored.total_is ∙ ap (total_of k 8) (omega (arith, length-bounds items bounds stored.flat, len_is))
 
 -- levels into whose lowest one items were put are stored
-pub put_stored : {A : Type 0} {cmp : A → A → Ordering} {k total len : ℕ} {items items' : List A} {bounds : List ℕ} (xs : List A) → AreStored cmp k items bounds total → items' ≡ items ++ xs → len ≡ length items' →
+pub put_stored : {A : Type 0} {cmp : A → A → Ordering} {k total len : ℕ} {items items' : List A} {bounds : List ℕ} (xs : List A) →
+    AreStored cmp k items bounds total → items' ≡ items ++ xs → len ≡ length items' →
     AreStored cmp k items' (set bounds 0 len) total × (levels_in items' (set bounds 0 len) ≡ put_all xs (levels_in items bounds))
 put_stored {A} {cmp} {k} {total} {len} {items} {items'} {bounds} xs stored items_are len_is =
     let put = put_flat xs items items' bounds len stored.flat stored.some items_are len_is in

@@ -1,5 +1,5 @@
 -- updates by a single item are its update, and updates by some items and then by more are updates by all
-use Rattle.std.proofs.Common.{◌≡◌, ℕ, ◌+◌, ◌^◌, ◌<◌, Bool, true, false, cond, eqb, ◌&&◌, List, [], ◌∷◌, ◌++◌, length, map, Option, None, Some, ◌⊎◌, inl, inr, refl, sym, ap, ap₂, ◌∙◌, subst, arith, append_assoc, append-nil, drop, length-append, Ordering, Equal}
+use Rattle.std.proofs.Common.{◌≡◌, ℕ, ◌+◌, ◌^◌, ◌<◌, Bool, true, false, cond, eqb, ◌&&◌, List, [], ◌∷◌, ◌++◌, length, map, Option, None, Some, ◌⊎◌, inl, inr, refl, sym, ap, ◌∙◌, subst, arith, append_assoc, append-nil, drop, length-append, Ordering, Equal}
 use Rattle.std.specs.Option.{option_to_list}
 use Rattle.std.specs.Cmp.{IsTotalOrder}
 use Rattle.std.proofs.lemmas.Bool.{and_right, ne_eqb}
@@ -93,8 +93,7 @@ module _ {A : Type 0} {cmp : A → A → Ordering} (o : IsTotalOrder cmp) where
       let fine = fine-updates s.k lengths items some0 in
       let made = lengths-acts cmp first word (alone (bag_of s)) (fine-kll first (work_of lengths) fine) ∙ ap (λ (w : Work (List ℕ)). w.bag) (updates_lengths_are {A = A} s.k lengths items some0) in
       let there : map length t.levels ≡ later = sym (alike-lengths o _ _ a.bag) ∙ made in
-      let on : AlikeKll cmp (bag_after cmp (updates_actions s.k later more) rest (bag_of t)) (bag_of u) =
-      subst (λ (actions : List (Action A)). AlikeKll cmp (bag_after cmp actions rest (bag_of t)) (bag_of u)) (ap₂ (λ (k : ℕ) (l : List ℕ). updates_actions k l more) a.k there) b.bag in
+      let on : AlikeKll cmp (bag_after cmp (updates_actions s.k later more) rest (bag_of t)) (bag_of u) = rw (a.k, there) at b.bag in
       let both = alike_on o first (updates_actions s.k later more) (work_of lengths) word rest (bag_of s) (bag_of t) (bag_of u) fine
       (fine-kll _ (work_of later) (fine-updates s.k later more (updates_some s.k lengths items some0))) a.bag on in
       let n = length-append items more in
