@@ -1,5 +1,5 @@
 -- the loop that seeks the lowest full level, and what it finds
-use Rattle.std.proofs.Common.{◌≡◌, ℕ, suc, ◌+◌, ◌-◌, ◌<◌, ◌≤◌, Bool, true, false, nat_le, List, [], ◌∷◌, length, map, sum, slice_index, cond, subst, drop, refl, ap₂, sym, ap, ◌∙◌, arith, Ordering, length-drop, leb-true, leb-false, le-leb, inl, inr}
+use Rattle.std.proofs.Common.{◌≡◌, ℕ, suc, ◌+◌, ◌-◌, ◌<◌, ◌≤◌, Bool, true, false, nat_le, List, [], ◌∷◌, length, map, sum, slice_index, cond, drop, refl, ap₂, sym, ap, ◌∙◌, arith, Ordering, length-drop, leb-true, leb-false, le-leb, inl, inr}
 use Rattle.std.proofs.lemmas.Bool.{cases_Bool, lt-leb}
 use Rattle.std.proofs.lemmas.List.{drop_all}
 use Rattle.std.proofs.lemmas.List.Sums.{sum_by-cons}
@@ -75,15 +75,14 @@ lowest_full_due k (n ∷ above) h t =
     let s = sum_by-cons (λ (m : ℕ). m) n above in
     elim (cases_Bool (nat_le (capacity_at k 8 (length above)) n)) [
       | inl e ↦
-          let c = leb-true (capacity_at k 8 (length above)) n e in
           let d : suc (length above) - 1 - 0 ≡ length above = omega arith in
-          rw e (omega arith, subst (λ (m : ℕ). capacity_at k 8 m ≤ n) (sym d) c)
+          rw e (omega arith, rw d (leb-true (capacity_at k 8 (length above)) n e))
       | inr e ↦
           let c = leb-false (capacity_at k 8 (length above)) n e in
           let more : 0 < length above = positive above (omega (arith, t, c, s)) in
           let ih = lowest_full_due k above more (omega (arith, t, c, s)) in
           let d : suc (length above) - 1 - suc (lowest_full k above) ≡ length above - 1 - lowest_full k above = omega arith in
-          rw e (omega (arith, ih.0), subst (λ (m : ℕ). capacity_at k 8 m ≤ slice_index above (lowest_full k above)) (sym d) ih.1)
+          rw e (omega (arith, ih.0), rw d ih.1)
     ]
   where
     positive : (ns : List ℕ) → 0 < sum ns → 0 < length ns

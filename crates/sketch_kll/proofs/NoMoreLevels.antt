@@ -51,12 +51,8 @@ no_more_levels k ls few h w t f =
 pub still_few : {A : Type 0} (cmp : A → A → Ordering) (k : ℕ) (last coin : Bool) (ls : List (List A)) → 0 < length ls → length ls ≤ 61 → weight ls < 2 ^ 64 →
     total_of k 8 (length ls) ≤ retained ls → length (compacted cmp last coin (full_level k ls) ls) ≤ 61
 still_few cmp k last coin ls h few w f =
-    let a = full_level_at k ls h f in
-    let s = compacted_size cmp last coin (full_level k ls) ls a.0 in
-    elim (cases_lt (suc (full_level k ls)) (length ls)) [
-      | inl b ↦ omega (arith, s.same b)
-      | inr b ↦ let n = no_more_levels k ls few h w f (omega arith) in omega (arith, n, s.at_most)
-    ]
+    let s = compacted_size cmp last coin (full_level k ls) ls (full_level_at k ls h f).0 in
+    grind (arith, few, s.same, s.at_most, no_more_levels k ls few h w f)
 
 -- a compaction below level 60 leaves some levels, and at most 61
 pub few_compacted : {A : Type 0} (cmp : A → A → Ordering) (level : ℕ) (last coin : Bool) (ls raised ms : List (List A)) → length ls ≤ 61 →
@@ -67,20 +63,12 @@ few_compacted cmp level last coin ls raised ms few h low e alike =
     let s = compacted_size cmp last coin level ls h in
     let z = alike_size cmp (compacted cmp last coin level raised) ms alike in
     let c = ap length e in
-    elim (cases_lt (suc level) (length ls)) [
-      | inl b ↦ let n = s.same b in (omega (arith, n, z.counts, c), omega (arith, n, z.counts, c))
-      | inr b ↦ (omega (arith, s.at_least, z.counts, c), omega (arith, s.at_most, z.counts, c, b, low))
-    ]
+    (omega (arith, s.at_least, z.counts, c), grind (arith, s.same, s.at_most, z.counts, c))
 
 -- a level 60 is never the lowest full one
 pub full_level_low : {A : Type 0} (k : ℕ) (ls : List (List A)) → 0 < length ls → length ls ≤ 61 → weight ls < 2 ^ 64 →
     total_of k 8 (length ls) ≤ retained ls → full_level k ls < 60
-full_level_low k ls h few w f =
-    let a = full_level_at k ls h f in
-    elim (cases_lt (suc (full_level k ls)) (length ls)) [
-      | inl b ↦ omega (arith, few)
-      | inr b ↦ let n = no_more_levels k ls few h w f (omega arith) in omega (arith, n, a.0)
-    ]
+full_level_low k ls h few w f = grind (arith, no_more_levels k ls few h w f, (full_level_at k ls h f).0)
 
 -- what room for one more item leaves
 pub record RoomMade {A : Type 0} (k : ℕ) (ls ms : List (List A)) : Type 0 where
