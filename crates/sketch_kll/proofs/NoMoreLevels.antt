@@ -10,7 +10,7 @@ use Rattle.sketch_kll.proofs.CompactedSizes.{compacted_size, alike_size}
 use Rattle.sketch_kll.proofs.FullLevels.{full_level_at, with_room_spare}
 
 -- a top level that is the lowest full one weighs much: all below it lack an item at least
-pub heavy_top : {A : Type 0} (k extra : ℕ) (ls : List (List A)) → 0 < length ls → total_of k 8 (length ls) + extra ≤ retained ls →
+heavy_top : {A : Type 0} (k extra : ℕ) (ls : List (List A)) → 0 < length ls → total_of k 8 (length ls) + extra ≤ retained ls →
     length ls ≤ full_level k ls + 1 →
     2 ^ (length ls - 1) * (capacity_at k 8 0 + extra + (length ls - 1)) ≤ weight ls
 heavy_top k extra [] h t f = absurd (omega arith)
@@ -48,7 +48,7 @@ no_more_levels k ls few h w t f =
     ]
 
 -- a compaction of the lowest full level leaves at most 61 levels
-pub still_few : {A : Type 0} (cmp : A → A → Ordering) (k : ℕ) (last coin : Bool) (ls : List (List A)) → 0 < length ls → length ls ≤ 61 → weight ls < 2 ^ 64 →
+still_few : {A : Type 0} (cmp : A → A → Ordering) (k : ℕ) (last coin : Bool) (ls : List (List A)) → 0 < length ls → length ls ≤ 61 → weight ls < 2 ^ 64 →
     total_of k 8 (length ls) ≤ retained ls → length (compacted cmp last coin (full_level k ls) ls) ≤ 61
 still_few cmp k last coin ls h few w f =
     let s = compacted_size cmp last coin (full_level k ls) ls (full_level_at k ls h f).0 in

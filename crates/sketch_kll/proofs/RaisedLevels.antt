@@ -36,7 +36,7 @@ levels_with_tops {A} j items bounds f =
     (is_flat items (bounds ++ replicate j 0) (ls ++ replicate j []) e g, levels_of_flat items (bounds ++ replicate j 0) (ls ++ replicate j []) e g)
 
 -- a compaction of the top level makes the level above it, whether an empty one stands there or not
-pub compacted-top : {A : Type 0} (cmp : A → A → Ordering) (last coin : Bool) (h : ℕ) (ls : List (List A)) → suc h ≡ length ls →
+compacted-top : {A : Type 0} (cmp : A → A → Ordering) (last coin : Bool) (h : ℕ) (ls : List (List A)) → suc h ≡ length ls →
     compacted cmp last coin h (ls ++ [] ∷ []) ≡ compacted cmp last coin h ls
 compacted-top cmp last coin zero (l ∷ []) e = refl
 compacted-top cmp last coin (suc h) (l ∷ ls) e = ap (λ x. l ∷ x) (compacted-top cmp last coin h ls (omega arith))

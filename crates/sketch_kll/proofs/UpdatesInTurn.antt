@@ -27,7 +27,7 @@ use Rattle.sketch_kll.proofs.UnbiasedUpdates.{alike-trans}
 
 module _ {A : Type 0} {cmp : A → A → Ordering} (o : IsTotalOrder cmp) where
   -- items that compare equal place by place are taken alike
-  pub taken_same : {S : Type 0} (bit : S → Bool) (next : S → S) (source after : S) (k : ℕ) (flag nf : Bool) (ls : List (List A)) (xs ys : List A) (ms : List (List A)) → 0 < length ls →
+  taken_same : {S : Type 0} (bit : S → Bool) (next : S → S) (source after : S) (k : ℕ) (flag nf : Bool) (ls : List (List A)) (xs ys : List A) (ms : List (List A)) → 0 < length ls →
       SameItems cmp xs ys → HaveTaken cmp bit next source after k flag nf ls ys ms → HaveTaken cmp bit next source after k flag nf ls xs ms
   taken_same {S} bit next source after k flag nf ls xs ys ms some s t =
       let n : length xs ≡ length ys = length-same cmp xs ys s in
