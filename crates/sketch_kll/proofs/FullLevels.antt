@@ -1,4 +1,4 @@
--- the loop that seeks the lowest full level, and what it finds
+-- the loop that seeks the lowest full level, and what it finds, on levels and on their lengths
 use Rattle.std.proofs.Common.{◌≡◌, ℕ, suc, ◌+◌, ◌-◌, ◌<◌, ◌≤◌, Bool, true, false, nat_le, List, [], ◌∷◌, length, map, sum, slice_index, cond, drop, refl, ap₂, sym, ap, ◌∙◌, arith, Ordering, length-drop, leb-true, leb-false, le-leb, inl, inr}
 use Rattle.std.proofs.lemmas.Bool.{cases_Bool, lt-leb}
 use Rattle.std.proofs.lemmas.List.{drop_all}
@@ -58,10 +58,12 @@ pub sum-lengths : {A : Type 0} (ls : List (List A)) → sum (map length ls) ≡ 
 sum-lengths [] = refl
 sum-lengths (l ∷ ls) = sum_by-cons (λ (n : ℕ). n) (length l) (map length ls) ∙ ap (λ (n : ℕ). length l + n) (sum-lengths ls)
 
+-- the lowest full level is told by their lengths alone
 pub lowest_full_is : {A : Type 0} (k : ℕ) (ls : List (List A)) → lowest_full k (map length ls) ≡ full_level k ls
 lowest_full_is k [] = refl
 lowest_full_is k (l ∷ ls) = ap₂ (λ (n m : ℕ). cond (nat_le (capacity_at k 8 n) (length l)) 0 (suc m)) (length-lengths ls) (lowest_full_is k ls)
 
+-- so is the length of a level
 pub length-at : {A : Type 0} (ls : List (List A)) (level : ℕ) → slice_index (map length ls) level ≡ length (first_level (drop level ls))
 length-at (l ∷ ls) (suc level) = length-at ls level
 length-at [] (suc level) = refl

@@ -1,4 +1,4 @@
--- levels with an empty one put above the top, as a compaction of the top level needs it
+-- levels with empty ones put above the top, as a compaction of the top level and a merge need them
 use Rattle.std.proofs.Common.{eqb, eqb-true, ◌≡◌, ℕ, zero, suc, ◌+◌, ◌<◌, Bool, cond, List, [], ◌∷◌, ◌++◌, length, refl, sym, ap, ap₂, ◌∙◌, arith, Ordering, length-append, append-nil, replicate, inl, inr}
 use Rattle.std.proofs.lemmas.Bool.{cases_Bool, eqb-false}
 use Rattle.sketch_kll.specs.Levels.{retained, first_level, compacted, AllSorted, UpperSorted}
@@ -76,7 +76,6 @@ pub raised_is : {A : Type 0} {cmp : A → A → Ordering} {k total level : ℕ} 
     AreStored cmp k items old total → levels_in items old ≡ ls → level < length ls → new ≡ raised level old → Raised cmp last coin level items old new
 raised_is {A} {cmp} {k} {total} {level} {items} {old} {new} {ls} last coin stored own inside new_is =
     let bounds_len = length-bounds items old stored.flat in
-    let levels_len = ap length own in
     rw new_is (
     elim (cases_Bool (eqb (level + 2) (length old))) [
       | inl is_top ↦
@@ -91,5 +90,5 @@ raised_is {A} {cmp} {k} {total} {level} {items} {old} {new} {ls} last coin store
           })
       | inr is_below ↦
           let below = eqb-false (level + 2) (length old) is_below in
-          rw is_below (record { flat = stored.flat; within = omega (arith, inside, bounds_len, levels_len, below); same = refl; sorted = λ u. u; first = refl })
+          rw is_below (record { flat = stored.flat; within = omega (arith, inside, bounds_len, ap length own, below); same = refl; sorted = λ u. u; first = refl })
     ])

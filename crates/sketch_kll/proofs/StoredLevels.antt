@@ -1,4 +1,4 @@
--- levels as they are stored: empty, those of a sound sketch, after a compaction, and after a merge
+-- levels as they are stored: empty, those of a sound sketch, with items put in, after a compaction, and after a merge
 use Rattle.std.proofs.Common.{Option, ◌≡◌, ℕ, ◌-◌, ◌<◌, ◌≤◌, Bool, List, [], ◌∷◌, ◌++◌, length, drop, replicate, set, sym, ap, ◌∙◌, subst, arith, Ordering, length-drop}
 use Rattle.sketch_kll.specs.Capacity.{total_of}
 use Rattle.sketch_kll.specs.Flat.{levels_in, IsFlat}
