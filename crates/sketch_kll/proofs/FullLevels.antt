@@ -1,7 +1,9 @@
--- the loop that seeks the lowest full level, and what it finds
-use Rattle.std.proofs.Common.{◌≡◌, ℕ, suc, ◌+◌, ◌-◌, ◌<◌, ◌≤◌, Bool, true, false, nat_le, List, [], ◌∷◌, length, drop, refl, sym, ap, ◌∙◌, arith, Ordering, length-drop, leb-true, leb-false, le-leb, inl, inr}
+-- the loop that seeks the lowest full level, and what it finds, on levels and on their lengths
+use Rattle.std.proofs.Common.{◌≡◌, ℕ, suc, ◌+◌, ◌-◌, ◌<◌, ◌≤◌, Bool, true, false, nat_le, List, [], ◌∷◌, length, map, sum, slice_index, cond, drop, refl, ap₂, sym, ap, ◌∙◌, arith, Ordering, length-drop, leb-true, leb-false, le-leb, inl, inr}
 use Rattle.std.proofs.lemmas.Bool.{cases_Bool, lt-leb}
 use Rattle.std.proofs.lemmas.List.{drop_all}
+use Rattle.std.proofs.lemmas.List.Sums.{sum_by-cons}
+use Rattle.sketch_kll.specs.Schedule.{lowest_full}
 use Rattle.sketch_kll.specs.Capacity.{capacity_at, total_of}
 use Rattle.sketch_kll.specs.Levels.{retained, first_level, compacted}
 use Rattle.sketch_kll.specs.Flat.{levels_in, IsFlat}
@@ -25,9 +27,8 @@ seeks_found k ls level h s c =
     let n : length (drop (suc level) ls) ≡ length ls - 1 - level = length-drop (suc level) ls ∙ omega arith in
     let b : nat_le (capacity_at k 8 (length (drop (suc level) ls))) (length (first_level (drop level ls))) ≡ true =
     ap (λ (i : ℕ). nat_le (capacity_at k 8 i) (length (first_level (drop level ls)))) n ∙ le-leb _ _ c in
-    let f : full_level k (first_level (drop level ls) ∷ drop (suc level) ls) ≡ 0 = rw b refl in
-    let g : full_level k (drop level ls) ≡ 0 = ap (full_level k) e ∙ f in
-    omega (arith, s.same, g)
+    let f : full_level k (drop level ls) ≡ 0 = rw (e, b) refl in
+    omega (arith, s.same, f)
 
 -- a level that is not full is passed over
 pub seeks_more : {A : Type 0} (k : ℕ) (ls : List (List A)) (level : ℕ) → level < length ls → SeeksFull k ls level →
@@ -38,39 +39,64 @@ seeks_more k ls level h s c =
     let d : length (first_level (drop level ls)) < capacity_at k 8 (length (drop (suc level) ls)) = rw n c in
     let b : nat_le (capacity_at k 8 (length (drop (suc level) ls))) (length (first_level (drop level ls))) ≡ false = lt-leb _ _ d in
     let f : full_level k (first_level (drop level ls) ∷ drop (suc level) ls) ≡ suc (full_level k (drop (suc level) ls)) = rw b refl in
-    let g = ap (full_level k) e ∙ f in
-    let t = ap (λ (x : List (List _)). total_of k 8 (length x)) e in
-    let r = ap retained e in
     record {
-      same = omega (arith, s.same, g);
-      more = omega (arith, s.more, t, r, d);
+      same = omega (arith, s.same, ap (full_level k) e ∙ f);
+      more = omega (arith, s.more, ap (λ (x : List (List _)). total_of k 8 (length x)) e, ap retained e, d);
     }
 
 -- the loop finds a level before it has passed the top
 pub seeks_never : {A : Type 0} (k : ℕ) (ls : List (List A)) (level : ℕ) → 0 < length ls → length ls ≤ level → SeeksFull k ls level → ⊥
 seeks_never k ls level h l s = let e = drop_all level ls l in let r = ap retained e in omega (arith, s.more, r)
 
+-- a schedule by lengths is that of the levels
+pub length-lengths : {A : Type 0} (ls : List (List A)) → length (map length ls) ≡ length ls
+length-lengths [] = refl
+length-lengths (l ∷ ls) = ap suc (length-lengths ls)
+
+-- the lengths of the levels add up to what is retained
+pub sum-lengths : {A : Type 0} (ls : List (List A)) → sum (map length ls) ≡ retained ls
+sum-lengths [] = refl
+sum-lengths (l ∷ ls) = sum_by-cons (λ (n : ℕ). n) (length l) (map length ls) ∙ ap (λ (n : ℕ). length l + n) (sum-lengths ls)
+
+-- the lowest full level is told by their lengths alone
+pub lowest_full_is : {A : Type 0} (k : ℕ) (ls : List (List A)) → lowest_full k (map length ls) ≡ full_level k ls
+lowest_full_is k [] = refl
+lowest_full_is k (l ∷ ls) = ap₂ (λ (n m : ℕ). cond (nat_le (capacity_at k 8 n) (length l)) 0 (suc m)) (length-lengths ls) (lowest_full_is k ls)
+
+-- so is the length of a level
+pub length-at : {A : Type 0} (ls : List (List A)) (level : ℕ) → slice_index (map length ls) level ≡ length (first_level (drop level ls))
+length-at (l ∷ ls) (suc level) = length-at ls level
+length-at [] (suc level) = refl
+length-at ls level = refl
+
+-- the lowest level at its capacity is there where the levels are full
+pub lowest_full_due : (k : ℕ) (lengths : List ℕ) → 0 < length lengths → total_of k 8 (length lengths) ≤ sum lengths →
+    (lowest_full k lengths < length lengths) × (capacity_at k 8 (length lengths - 1 - lowest_full k lengths) ≤ slice_index lengths (lowest_full k lengths))
+lowest_full_due k [] h t = absurd (omega arith)
+lowest_full_due k (n ∷ above) h t =
+    let s = sum_by-cons (λ (m : ℕ). m) n above in
+    elim (cases_Bool (nat_le (capacity_at k 8 (length above)) n)) [
+      | inl e ↦
+          let d : suc (length above) - 1 - 0 ≡ length above = omega arith in
+          rw e (omega arith, rw d (leb-true (capacity_at k 8 (length above)) n e))
+      | inr e ↦
+          let c = leb-false (capacity_at k 8 (length above)) n e in
+          let more : 0 < length above = positive above (omega (arith, t, c, s)) in
+          let ih = lowest_full_due k above more (omega (arith, t, c, s)) in
+          let d : suc (length above) - 1 - suc (lowest_full k above) ≡ length above - 1 - lowest_full k above = omega arith in
+          rw e (omega (arith, ih.0), rw d ih.1)
+    ]
+  where
+    positive : (ns : List ℕ) → 0 < sum ns → 0 < length ns
+    positive [] h = absurd (omega (arith, h))
+    positive (m ∷ ns) h = omega arith
+
 -- where the levels are full, one of them is
 pub full_level_at : {A : Type 0} (k : ℕ) (ls : List (List A)) → 0 < length ls → total_of k 8 (length ls) ≤ retained ls →
     (full_level k ls < length ls) × (capacity_at k 8 (length ls - 1 - full_level k ls) ≤ length (first_level (drop (full_level k ls) ls)))
-full_level_at k [] h t = absurd (omega arith)
-full_level_at {A} k (l ∷ ls) h t =
-    elim (cases_Bool (nat_le (capacity_at k 8 (length ls)) (length l))) [
-      | inl e ↦
-          let c = leb-true (capacity_at k 8 (length ls)) (length l) e in
-          let n : suc (length ls) - 1 - 0 ≡ length ls = omega arith in
-          rw e (omega arith, rw n c)
-      | inr e ↦
-          let c = leb-false (capacity_at k 8 (length ls)) (length l) e in
-          let more : 0 < length ls = positive ls (omega (arith, t, c)) in
-          let ih = full_level_at k ls more (omega (arith, t, c)) in
-          let n : suc (length ls) - 1 - suc (full_level k ls) ≡ length ls - 1 - full_level k ls = omega arith in
-          rw e (omega (arith, ih.0), rw n ih.1)
-    ]
-  where
-    positive : (ls : List (List A)) → total_of k 8 (length ls) < retained ls → 0 < length ls
-    positive [] h = absurd (omega arith)
-    positive (l ∷ ls) h = omega arith
+full_level_at k ls h t =
+    let due = lowest_full_due k (map length ls) (omega (arith, h, length-lengths ls)) (rw (length-lengths ls, sum-lengths ls) t) in
+    rw (length-lengths ls, lowest_full_is k ls, length-at ls (full_level k ls)) at due
 
 -- fullness by lengths
 pub full_by_lengths : {A : Type 0} (items : List A) (bounds : List ℕ) → IsFlat items bounds → (k n : ℕ) → n ≡ total_of k 8 (length bounds - 1) →

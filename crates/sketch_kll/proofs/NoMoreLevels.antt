@@ -10,7 +10,7 @@ use Rattle.sketch_kll.proofs.CompactedSizes.{compacted_size, alike_size}
 use Rattle.sketch_kll.proofs.FullLevels.{full_level_at, with_room_spare}
 
 -- a top level that is the lowest full one weighs much: all below it lack an item at least
-pub heavy_top : {A : Type 0} (k extra : ℕ) (ls : List (List A)) → 0 < length ls → total_of k 8 (length ls) + extra ≤ retained ls →
+heavy_top : {A : Type 0} (k extra : ℕ) (ls : List (List A)) → 0 < length ls → total_of k 8 (length ls) + extra ≤ retained ls →
     length ls ≤ full_level k ls + 1 →
     2 ^ (length ls - 1) * (capacity_at k 8 0 + extra + (length ls - 1)) ≤ weight ls
 heavy_top k extra [] h t f = absurd (omega arith)
@@ -22,11 +22,10 @@ heavy_top k extra (l ∷ m ∷ ls) h t f =
       | inr e ↦ leb-false _ _ e
     ] in
     let z : full_level k (l ∷ m ∷ ls) ≡ suc (full_level k (m ∷ ls)) = rw (lt-leb (capacity_at k 8 (suc (length ls))) (length l) short) refl in
-    let ih = heavy_top k (extra + 1) (m ∷ ls) (omega arith) (omega arith) (omega (arith, z)) in
     let p : 2 ^ (suc (suc (length ls)) - 1) ≡ 2 * 2 ^ (suc (length ls) - 1) =
     (let a : suc (suc (length ls)) - 1 ≡ suc (suc (length ls) - 1) = omega arith in ap (λ (i : ℕ). 2 ^ i) a ∙ pow-succ' 2 (suc (length ls) - 1)) in
     let q : capacity_at k 8 0 + extra + (suc (suc (length ls)) - 1) ≡ capacity_at k 8 0 + (extra + 1) + (suc (length ls) - 1) = omega arith in
-    rw (p, q) (omega (arith, ih))
+    rw (p, q) (omega (arith, heavy_top k (extra + 1) (m ∷ ls) (omega arith) (omega arith) (omega (arith, z))))
 
 -- more levels take nothing from the total capacity
 pub total_up_to : (k m n : ℕ) → m ≤ n → total_of k 8 m ≤ total_of k 8 n
@@ -45,20 +44,15 @@ no_more_levels k ls few h w t f =
       | inr b ↦
           let e : length ls ≡ 61 = omega arith in
           let g = heavy_top k 0 ls h (omega (arith, t)) f in
-          let g' = subst (λ (n : ℕ). 2 ^ (n - 1) * (capacity_at k 8 0 + 0 + (n - 1)) ≤ weight ls) e g in
-          absurd (omega (arith, g', capacity_eight k 0))
+          absurd (omega (arith, subst (λ (n : ℕ). 2 ^ (n - 1) * (capacity_at k 8 0 + 0 + (n - 1)) ≤ weight ls) e g, capacity_eight k 0))
     ]
 
 -- a compaction of the lowest full level leaves at most 61 levels
-pub still_few : {A : Type 0} (cmp : A → A → Ordering) (k : ℕ) (last coin : Bool) (ls : List (List A)) → 0 < length ls → length ls ≤ 61 → weight ls < 2 ^ 64 →
+still_few : {A : Type 0} (cmp : A → A → Ordering) (k : ℕ) (last coin : Bool) (ls : List (List A)) → 0 < length ls → length ls ≤ 61 → weight ls < 2 ^ 64 →
     total_of k 8 (length ls) ≤ retained ls → length (compacted cmp last coin (full_level k ls) ls) ≤ 61
 still_few cmp k last coin ls h few w f =
-    let a = full_level_at k ls h f in
-    let s = compacted_size cmp last coin (full_level k ls) ls a.0 in
-    elim (cases_lt (suc (full_level k ls)) (length ls)) [
-      | inl b ↦ omega (arith, s.same b)
-      | inr b ↦ let n = no_more_levels k ls few h w f (omega arith) in omega (arith, n, s.at_most)
-    ]
+    let s = compacted_size cmp last coin (full_level k ls) ls (full_level_at k ls h f).0 in
+    grind (arith, few, s.same, s.at_most, no_more_levels k ls few h w f)
 
 -- a compaction below level 60 leaves some levels, and at most 61
 pub few_compacted : {A : Type 0} (cmp : A → A → Ordering) (level : ℕ) (last coin : Bool) (ls raised ms : List (List A)) → length ls ≤ 61 →
@@ -69,20 +63,12 @@ few_compacted cmp level last coin ls raised ms few h low e alike =
     let s = compacted_size cmp last coin level ls h in
     let z = alike_size cmp (compacted cmp last coin level raised) ms alike in
     let c = ap length e in
-    elim (cases_lt (suc level) (length ls)) [
-      | inl b ↦ let n = s.same b in (omega (arith, n, z.counts, c), omega (arith, n, z.counts, c))
-      | inr b ↦ (omega (arith, s.at_least, z.counts, c), omega (arith, s.at_most, z.counts, c, b, low))
-    ]
+    (omega (arith, s.at_least, z.counts, c), grind (arith, s.same, s.at_most, z.counts, c))
 
 -- a level 60 is never the lowest full one
 pub full_level_low : {A : Type 0} (k : ℕ) (ls : List (List A)) → 0 < length ls → length ls ≤ 61 → weight ls < 2 ^ 64 →
     total_of k 8 (length ls) ≤ retained ls → full_level k ls < 60
-full_level_low k ls h few w f =
-    let a = full_level_at k ls h f in
-    elim (cases_lt (suc (full_level k ls)) (length ls)) [
-      | inl b ↦ omega (arith, few)
-      | inr b ↦ let n = no_more_levels k ls few h w f (omega arith) in omega (arith, n, a.0)
-    ]
+full_level_low k ls h few w f = grind (arith, no_more_levels k ls few h w f, (full_level_at k ls h f).0)
 
 -- what room for one more item leaves
 pub record RoomMade {A : Type 0} (k : ℕ) (ls ms : List (List A)) : Type 0 where
@@ -117,8 +103,6 @@ retained-weight (l ∷ ls) = let h = retained-weight ls in omega (arith, h)
 pub one_level_left : {A : Type 0} (cmp : A → A → Ordering) (k : ℕ) (is_sorted coin : Bool) (ls : List (List A)) → length ls ≡ 1 → weight ls ≤ 1 →
     length (with_room cmp k is_sorted coin ls) ≡ 1
 one_level_left cmp k is_sorted coin ls e w =
-    let r = retained-weight ls in
     let t : total_of k 8 (length ls) ≡ 0 + capacity_at k 8 0 = ap (total_of k 8) e in
-    let c = capacity_eight k 0 in
-    let f : false ≡ is_full k ls = sym (lt-leb (total_of k 8 (length ls)) (retained ls) (omega (arith, r, t, c))) in
+    let f : false ≡ is_full k ls = sym (lt-leb (total_of k 8 (length ls)) (retained ls) (omega (arith, retained-weight ls, t, capacity_eight k 0))) in
     ap length (with_room_spare cmp k is_sorted coin ls f) ∙ e

@@ -1,60 +1,46 @@
 -- What a call makes of a sketch under one word is one sketch, where items that compare equal are equal.
-use Rattle.std.proofs.Common.{◌≡◌, ℕ, Bool, List, [], ◌∷◌, ◌++◌, Option, refl, sym, ap, ap₂, ◌∙◌, Ordering}
+use Rattle.std.proofs.Common.{◌≡◌, ℕ, Bool, List, [], ◌∷◌, ◌++◌, refl, sym, ap₂, ◌∙◌, Ordering}
 use Rattle.std.specs.Cmp.{IsTotalOrder}
 use Rattle.std.specs.List.{AllZip}
 use Rattle.std.specs.Option.{option_to_list}
 use Rattle.sketch_base.specs.Bag.{Bag, AlikeKll, SameItems, sort, level_at}
 use Rattle.sketch_base.specs.Extremes.{IsLeastOf, IsGreatestOf}
 use Rattle.sketch_base.specs.Tied.{TiesAreEqual}
-use Rattle.sketch_base.proofs.Items.{SameItems-back, SameItems-refl, SameItems-trans}
+use Rattle.sketch_base.proofs.Items.{SameItems-refl}
 use Rattle.sketch_base.proofs.OneExtreme.{one_least, one_greatest}
 use Rattle.sketch_base.proofs.Tied.{same-items, same-sorted, same-answers}
+use Rattle.sketch_kll.proofs.UnbiasedUpdates.{alike-back, alike-trans}
 use Rattle.sketch_kll.specs.Levels.{AllSorted, UpperSorted}
 use Rattle.sketch_kll.specs.Merged.{IsMerged}
 use Rattle.sketch_kll.specs.Sketch.{Kll, IsSound, IsUpdated, bag_of}
 use Rattle.sketch_kll.specs.Updates.{AreUpdated}
 use Rattle.sketch_kll.specs.Weighted.{IsWeighted}
 
--- a sketch, from its parts
-abbrev sketch : {A : Type 0} → ℕ → ℕ → ℕ → Bool → List (List A) → Option A → Option A → Kll A
-sketch k min_k n is_sorted levels least greatest =
-    record { k = k; min_k = min_k; n = n; is_sorted = is_sorted; levels = levels; least = least; greatest = greatest }
-
 module _ {A : Type 0} {cmp : A → A → Ordering} (order : IsTotalOrder cmp) (tied : TiesAreEqual cmp) where
-  -- levels in order that are alike to the same ones
-  one-sorted : (ms ts us : List (List A)) → AllZip (λ xs ys. SameItems cmp (sort cmp xs) (sort cmp ys)) ms ts → AllZip (λ xs ys. SameItems cmp (sort cmp xs) (sort cmp ys)) ms us →
-      AllSorted cmp ts → AllSorted cmp us → ts ≡ us
-  one-sorted [] [] [] p q a b = refl
-  one-sorted [] [] (u ∷ us) p q a b = absurd q
-  one-sorted [] (t ∷ ts) us p q a b = absurd p
-  one-sorted (m ∷ ms) [] us p q a b = absurd p
-  one-sorted (m ∷ ms) (t ∷ ts) [] p q a b = absurd q
-  one-sorted (m ∷ ms) (t ∷ ts) (u ∷ us) p q a b =
-      let same = SameItems-trans cmp order (sort cmp t) (sort cmp m) (sort cmp u) (SameItems-back order (sort cmp m) (sort cmp t) p.0) q.0 in
-      ap₂ (λ (l : List A) (ls : List (List A)). l ∷ ls) (same-sorted order tied t u same a.0 b.0) (one-sorted ms ts us p.1 q.1 a.1 b.1)
+  abbrev SameSorted : List A → List A → Type 0
+  SameSorted xs ys = SameItems cmp (sort cmp xs) (sort cmp ys)
+
+  -- alike levels in order
+  one-sorted : (ts us : List (List A)) → AllZip SameSorted ts us → AllSorted cmp ts → AllSorted cmp us → ts ≡ us
+  one-sorted [] [] p a b = refl
+  one-sorted (t ∷ ts) (u ∷ us) p a b = ap₂ (λ (l : List A) (ls : List (List A)). l ∷ ls) (same-sorted order tied t u p.0 a.0 b.0) (one-sorted ts us p.1 a.1 b.1)
+  one-sorted ts us p a b = absurd p
 
   -- so it is where the lowest ones are the same item by item
-  one-levels : (ms ts us : List (List A)) → AllZip (λ xs ys. SameItems cmp (sort cmp xs) (sort cmp ys)) ms ts → AllZip (λ xs ys. SameItems cmp (sort cmp xs) (sort cmp ys)) ms us →
-      SameItems cmp (level_at ms 0) (level_at ts 0) → SameItems cmp (level_at ms 0) (level_at us 0) → UpperSorted cmp ts → UpperSorted cmp us → ts ≡ us
-  one-levels [] [] [] p q c d a b = refl
-  one-levels [] [] (u ∷ us) p q c d a b = absurd q
-  one-levels [] (t ∷ ts) us p q c d a b = absurd p
-  one-levels (m ∷ ms) [] us p q c d a b = absurd p
-  one-levels (m ∷ ms) (t ∷ ts) [] p q c d a b = absurd q
-  one-levels (m ∷ ms) (t ∷ ts) (u ∷ us) p q c d a b =
-      ap₂ (λ (l : List A) (ls : List (List A)). l ∷ ls) (sym (same-items order tied m t c) ∙ same-items order tied m u d) (one-sorted ms ts us p.1 q.1 a b)
+  one-levels : (ts us : List (List A)) → AllZip SameSorted ts us → SameItems cmp (level_at ts 0) (level_at us 0) → UpperSorted cmp ts → UpperSorted cmp us → ts ≡ us
+  one-levels [] [] p c a b = refl
+  one-levels (t ∷ ts) (u ∷ us) p c a b = ap₂ (λ (l : List A) (ls : List (List A)). l ∷ ls) (same-items order tied t u c) (one-sorted ts us p.1 a b)
+  one-levels ts us p c a b = absurd p
 
   one-sketch : (bag : Bag A) (ends tops : List A) (t u : Kll A) → IsSound cmp t → IsSound cmp u → t.k ≡ u.k → t.min_k ≡ u.min_k → t.n ≡ u.n → t.is_sorted ≡ u.is_sorted →
       AlikeKll cmp bag (bag_of t) → AlikeKll cmp bag (bag_of u) →
       IsLeastOf cmp ends t.least → IsLeastOf cmp ends u.least → IsGreatestOf cmp tops t.greatest → IsGreatestOf cmp tops u.greatest → t ≡ u
   one-sketch bag ends tops t u a b k min_k n is_sorted p q l l' g g' =
-      let levels = one-levels bag.levels t.levels u.levels p.levels q.levels p.level_zero q.level_zero a.upper_sorted b.upper_sorted in
+      let between = alike-trans order _ _ _ (alike-back order bag (bag_of t) p) q in
+      let levels = one-levels t.levels u.levels between.levels between.level_zero a.upper_sorted b.upper_sorted in
       let least = same-answers order tied t.least u.least (one_least order ends ends t.least u.least (SameItems-refl cmp order ends) l l') in
       let greatest = same-answers order tied t.greatest u.greatest (one_greatest order tops tops t.greatest u.greatest (SameItems-refl cmp order tops) g g') in
-      ap₂ (λ (x y : ℕ). sketch x y t.n t.is_sorted t.levels t.least t.greatest) k min_k
-      ∙ (ap₂ (λ (x : ℕ) (y : Bool). sketch u.k u.min_k x y t.levels t.least t.greatest) n is_sorted
-      ∙ (ap₂ (λ (x : List (List A)) (y : Option A). sketch u.k u.min_k u.n u.is_sorted x y t.greatest) levels least
-      ∙ ap (λ (x : Option A). sketch u.k u.min_k u.n u.is_sorted u.levels u.least x) greatest))
+      λ i. record { k = k i; min_k = min_k i; n = n i; is_sorted = is_sorted i; levels = levels i; least = least i; greatest = greatest i }
 
   -- an update makes one sketch
   pub one-update : (s : Kll A) (x : A) (word : List Bool) (t u : Kll A) → IsSound cmp t → IsSound cmp u → IsUpdated cmp s x word t → IsUpdated cmp s x word u → t ≡ u

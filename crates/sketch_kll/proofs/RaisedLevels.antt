@@ -1,54 +1,60 @@
--- levels with an empty one put above the top, as a compaction of the top level needs it
-use Rattle.std.proofs.Common.{eqb, eqb-true, ◌≡◌, ℕ, zero, suc, ◌+◌, ◌*◌, ◌<◌, Bool, cond, List, [], ◌∷◌, ◌++◌, length, refl, sym, ap, ap₂, ◌∙◌, subst, arith, Ordering, length-append, inl, inr}
+-- levels with empty ones put above the top, as a compaction of the top level and a merge need them
+use Rattle.std.proofs.Common.{eqb, eqb-true, ◌≡◌, ℕ, zero, suc, ◌+◌, ◌<◌, Bool, cond, List, [], ◌∷◌, ◌++◌, length, refl, sym, ap, ap₂, ◌∙◌, arith, Ordering, length-append, append-nil, replicate, inl, inr}
 use Rattle.std.proofs.lemmas.Bool.{cases_Bool, eqb-false}
-use Rattle.sketch_kll.specs.Levels.{retained, weight, first_level, compacted, AllSorted, UpperSorted}
+use Rattle.sketch_kll.specs.Levels.{retained, first_level, compacted, AllSorted, UpperSorted}
 use Rattle.sketch_kll.specs.Stored.{AreStored}
 use Rattle.sketch_kll.specs.Flat.{flat, marks, levels_in, IsFlat}
-use Rattle.sketch_kll.proofs.Flats.{is_flat, levels_of_flat, length-bounds}
+use Rattle.sketch_kll.proofs.Flats.{is_flat, levels_of_flat, length-bounds, length-flat}
 
--- a level above the top
-flat-top : {A : Type 0} (ls : List (List A)) → flat (ls ++ [] ∷ []) ≡ flat ls
-flat-top [] = refl
-flat-top (l ∷ ls) = ap (λ x. x ++ l) (flat-top ls)
+-- empty levels above the top
+flat-tops : {A : Type 0} (j : ℕ) (ls : List (List A)) → flat (ls ++ replicate j []) ≡ flat ls
+flat-tops j (l ∷ ls) = ap (λ x. x ++ l) (flat-tops j ls)
+flat-tops {A} j [] = none j
+  where
+    none : (j : ℕ) → flat {A = A} (replicate j []) ≡ []
+    none zero = refl
+    none (suc j) = append-nil (flat (replicate j [])) ∙ none j
 
-retained-top : {A : Type 0} (ls : List (List A)) → retained (ls ++ [] ∷ []) ≡ retained ls
-retained-top [] = refl
-retained-top (l ∷ ls) = ap (λ x. length l + x) (retained-top ls)
+retained-tops : {A : Type 0} (j : ℕ) (ls : List (List A)) → retained (ls ++ replicate j []) ≡ retained ls
+retained-tops j ls = sym (length-flat (ls ++ replicate j [])) ∙ (ap length (flat-tops j ls) ∙ length-flat ls)
 
-weight-top : {A : Type 0} (ls : List (List A)) → weight (ls ++ [] ∷ []) ≡ weight ls
-weight-top [] = refl
-weight-top (l ∷ ls) = ap (λ x. length l + 2 * x) (weight-top ls)
+marks-tops : {A : Type 0} (j : ℕ) (ls : List (List A)) → marks (ls ++ replicate j []) ≡ marks ls ++ replicate j 0
+marks-tops j (l ∷ ls) = ap₂ (λ (x : ℕ) (y : List ℕ). x ∷ y) (retained-tops j (l ∷ ls)) (marks-tops j ls)
+marks-tops {A} j [] = none j
+  where
+    none : (j : ℕ) → marks {A = A} (replicate j []) ≡ 0 ∷ replicate j 0
+    none zero = refl
+    none (suc j) = ap₂ (λ (x : ℕ) (y : List ℕ). x ∷ y) (retained-tops {A = A} (suc j) []) (none j)
 
-marks-top : {A : Type 0} (ls : List (List A)) → marks (ls ++ [] ∷ []) ≡ marks ls ++ 0 ∷ []
-marks-top [] = refl
-marks-top (l ∷ ls) = ap₂ (λ (x : ℕ) (y : List ℕ). x ∷ y) (retained-top (l ∷ ls)) (marks-top ls)
-
--- one more bound adds an empty level above the top
-pub levels_with_top : {A : Type 0} (items : List A) (bounds : List ℕ) → IsFlat items bounds →
-    IsFlat items (bounds ++ 0 ∷ []) × (levels_in items (bounds ++ 0 ∷ []) ≡ levels_in items bounds ++ [] ∷ [])
-levels_with_top items bounds f =
-    let ls = levels_in items bounds in
-    let e : items ≡ flat (levels_in items bounds ++ [] ∷ []) = sym (flat-top (levels_in items bounds) ∙ f.items_are) in
-    let g : bounds ++ 0 ∷ [] ≡ marks (levels_in items bounds ++ [] ∷ []) =
-    sym (marks-top (levels_in items bounds) ∙ ap (λ (b : List ℕ). b ++ 0 ∷ []) f.bounds_are) in
-    (is_flat items (bounds ++ 0 ∷ []) (levels_in items bounds ++ [] ∷ []) e g, levels_of_flat items (bounds ++ 0 ∷ []) (levels_in items bounds ++ [] ∷ []) e g)
+-- bounds at 0 add empty levels above the top
+pub levels_with_tops : {A : Type 0} (j : ℕ) (items : List A) (bounds : List ℕ) → IsFlat items bounds →
+    IsFlat items (bounds ++ replicate j 0) × (levels_in items (bounds ++ replicate j 0) ≡ levels_in items bounds ++ replicate j [])
+levels_with_tops {A} j items bounds f =
+    let ls : List (List A) = levels_in items bounds in
+    let e : items ≡ flat (ls ++ replicate j []) = sym (flat-tops j ls ∙ f.items_are) in
+    let g : bounds ++ replicate j 0 ≡ marks (ls ++ replicate j []) = sym (marks-tops j ls ∙ ap (λ (b : List ℕ). b ++ replicate j 0) f.bounds_are) in
+    (is_flat items (bounds ++ replicate j 0) (ls ++ replicate j []) e g, levels_of_flat items (bounds ++ replicate j 0) (ls ++ replicate j []) e g)
 
 -- a compaction of the top level makes the level above it, whether an empty one stands there or not
-pub compacted-top : {A : Type 0} (cmp : A → A → Ordering) (last coin : Bool) (h : ℕ) (ls : List (List A)) → suc h ≡ length ls →
+compacted-top : {A : Type 0} (cmp : A → A → Ordering) (last coin : Bool) (h : ℕ) (ls : List (List A)) → suc h ≡ length ls →
     compacted cmp last coin h (ls ++ [] ∷ []) ≡ compacted cmp last coin h ls
-compacted-top cmp last coin h [] e = absurd (omega arith)
 compacted-top cmp last coin zero (l ∷ []) e = refl
-compacted-top cmp last coin zero (l ∷ m ∷ ls) e = absurd (omega arith)
 compacted-top cmp last coin (suc h) (l ∷ ls) e = ap (λ x. l ∷ x) (compacted-top cmp last coin h ls (omega arith))
+compacted-top cmp last coin h ls e = absurd (omega arith)
 
-AllSorted-top : {A : Type 0} (cmp : A → A → Ordering) (ls : List (List A)) → AllSorted cmp ls → AllSorted cmp (ls ++ [] ∷ [])
-AllSorted-top cmp [] u = ((λ k d l b. absurd (omega arith)), tt)
-AllSorted-top cmp (l ∷ ls) u = (u.0, AllSorted-top cmp ls u.1)
+AllSorted-append : {A : Type 0} (cmp : A → A → Ordering) (ls ms : List (List A)) → AllSorted cmp ls → AllSorted cmp ms → AllSorted cmp (ls ++ ms)
+AllSorted-append cmp [] ms u v = v
+AllSorted-append cmp (l ∷ ls) ms u v = (u.0, AllSorted-append cmp ls ms u.1 v)
 
--- an empty level is in order
-pub UpperSorted-top : {A : Type 0} (cmp : A → A → Ordering) (ls : List (List A)) → UpperSorted cmp ls → UpperSorted cmp (ls ++ [] ∷ [])
-UpperSorted-top cmp [] u = tt
-UpperSorted-top cmp (l ∷ ls) u = AllSorted-top cmp ls u
+-- levels in order above others
+pub UpperSorted-append : {A : Type 0} (cmp : A → A → Ordering) (ls ms : List (List A)) → 0 < length ls → UpperSorted cmp ls → AllSorted cmp ms → UpperSorted cmp (ls ++ ms)
+UpperSorted-append cmp [] ms h u v = absurd (omega arith)
+UpperSorted-append cmp (l ∷ ls) ms h u v = AllSorted-append cmp ls ms u v
+
+-- empty levels are in order
+pub AllSorted-none : {A : Type 0} (cmp : A → A → Ordering) (j : ℕ) → AllSorted cmp (replicate j [])
+AllSorted-none cmp zero = tt
+AllSorted-none cmp (suc j) = ((λ k d l b. absurd (omega arith)), AllSorted-none cmp j)
 
 -- bounds with a level above the one that is compacted
 abbrev pub raised : ℕ → List ℕ → List ℕ
@@ -69,24 +75,20 @@ first-top (l ∷ ls) some = refl
 pub raised_is : {A : Type 0} {cmp : A → A → Ordering} {k total level : ℕ} {items : List A} {old new : List ℕ} {ls : List (List A)} (last coin : Bool) →
     AreStored cmp k items old total → levels_in items old ≡ ls → level < length ls → new ≡ raised level old → Raised cmp last coin level items old new
 raised_is {A} {cmp} {k} {total} {level} {items} {old} {new} {ls} last coin stored own inside new_is =
-    let Goal : List ℕ → Type 0 = λ (b : List ℕ). Raised cmp last coin level items old b in
     let bounds_len = length-bounds items old stored.flat in
-    let levels_len = ap length own in
-    subst Goal (sym new_is) (
+    rw new_is (
     elim (cases_Bool (eqb (level + 2) (length old))) [
       | inl is_top ↦
           let top = eqb-true (level + 2) (length old) is_top in
-          let above = levels_with_top items old stored.flat in
-          let one_more : Goal (old ++ 0 ∷ []) = record {
+          let above = levels_with_tops 1 items old stored.flat in
+          rw is_top (record {
             flat = above.0;
             within = omega (arith, length-append old (0 ∷ []), top);
-            same = ap (compacted cmp last coin level) above.1 ∙ compacted-top cmp last coin level (levels_in items old) (omega (arith, top, bounds_len));
-            sorted = λ u. subst (λ (x : List (List A)). UpperSorted cmp x) (sym above.1) (UpperSorted-top cmp (levels_in items old) u);
-            first = ap first_level above.1 ∙ first-top (levels_in items old) stored.some;
-          } in
-          rw is_top one_more
+            same = rw above.1 (compacted-top cmp last coin level (levels_in items old) (omega (arith, top, bounds_len)));
+            sorted = λ u. rw above.1 (UpperSorted-append cmp (levels_in items old) (replicate 1 []) stored.some u (AllSorted-none cmp 1));
+            first = rw above.1 (first-top (levels_in items old) stored.some);
+          })
       | inr is_below ↦
           let below = eqb-false (level + 2) (length old) is_below in
-          let as_many : Goal old = record { flat = stored.flat; within = omega (arith, inside, bounds_len, levels_len, below); same = refl; sorted = λ u. u; first = refl } in
-          rw is_below as_many
+          rw is_below (record { flat = stored.flat; within = omega (arith, inside, bounds_len, ap length own, below); same = refl; sorted = λ u. u; first = refl })
     ])

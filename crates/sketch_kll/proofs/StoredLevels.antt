@@ -1,5 +1,5 @@
--- levels as they are stored: empty, those of a sound sketch, after a compaction, and after a merge
-use Rattle.std.proofs.Common.{Option, ◌≡◌, ℕ, ◌-◌, ◌<◌, ◌≤◌, Bool, List, [], ◌∷◌, ◌++◌, length, drop, replicate, sym, ap, ◌∙◌, subst, arith, Ordering, length-drop}
+-- levels as they are stored: empty, those of a sound sketch, with items put in, after a compaction, and after a merge
+use Rattle.std.proofs.Common.{Option, ◌≡◌, ℕ, ◌-◌, ◌<◌, ◌≤◌, Bool, List, [], ◌∷◌, ◌++◌, length, drop, replicate, set, sym, ap, ◌∙◌, subst, arith, Ordering, length-drop}
 use Rattle.sketch_kll.specs.Capacity.{total_of}
 use Rattle.sketch_kll.specs.Flat.{levels_in, IsFlat}
 use Rattle.sketch_kll.specs.Join.{joined, joined_bounds}
@@ -8,8 +8,10 @@ use Rattle.sketch_kll.specs.Sketch.{IsSound, sketch_of}
 use Rattle.sketch_kll.specs.Stored.{Stored, AreStored}
 use Rattle.sketch_kll.proofs.Flats.{is_flat, levels_of_flat, length-bounds}
 use Rattle.sketch_kll.proofs.JoinedLevels.{prepared}
-use Rattle.sketch_kll.proofs.Merged.{JoinedSize, joined_size}
+use Rattle.sketch_kll.proofs.Merged.{joined_size}
 use Rattle.sketch_kll.proofs.NoMoreLevels.{few_compacted}
+use Rattle.sketch_kll.specs.Steps.{put_all}
+use Rattle.sketch_kll.proofs.PutItems.{put_flat, length-put, UpperSorted-put}
 use Rattle.sketch_kll.proofs.RaisedLevels.{raised, raised_is}
 
 -- no item between two bounds is one empty level
@@ -43,8 +45,18 @@ sound_stored cmp k min_k n flag items bounds total least greatest f t s =
 pub known_total : {A : Type 0} {cmp : A → A → Ordering} {k total : ℕ} {items : List A} {bounds : List ℕ} → AreStored cmp k items bounds total →
     (len : ℕ) → len ≡ length bounds → total ≡ total_of k 8 (len - 1)
 known_total {k = k} {items = items} {bounds = bounds} stored len len_is =
-    let bounds_len = length-bounds items bounds stored.flat in
-    stored.total_is ∙ ap (total_of k 8) (omega (arith, bounds_len, len_is))
+    stored.total_is ∙ ap (total_of k 8) (omega (arith, length-bounds items bounds stored.flat, len_is))
+
+-- levels into whose lowest one items were put are stored
+pub put_stored : {A : Type 0} {cmp : A → A → Ordering} {k total len : ℕ} {items items' : List A} {bounds : List ℕ} (xs : List A) →
+    AreStored cmp k items bounds total → items' ≡ items ++ xs → len ≡ length items' →
+    AreStored cmp k items' (set bounds 0 len) total × (levels_in items' (set bounds 0 len) ≡ put_all xs (levels_in items bounds))
+put_stored {A} {cmp} {k} {total} {len} {items} {items'} {bounds} xs stored items_are len_is =
+    let put = put_flat xs items items' bounds len stored.flat stored.some items_are len_is in
+    let count = ap length put.1 ∙ length-put xs (levels_in items bounds) stored.some in
+    let sorted : UpperSorted cmp (levels_in items' (set bounds 0 len)) = rw put.1 (UpperSorted-put cmp xs _ stored.sorted) in
+    let total_is = stored.total_is ∙ ap (total_of k 8) (sym count) in
+    (record { k_above = stored.k_above; flat = put.0; total_is = total_is; some = omega (arith, count, stored.some); few = omega (arith, count, stored.few); sorted = sorted }, put.1)
 
 -- what a compaction leaves in the vectors is stored once the total capacity fits it
 pub record CompactedStored {A : Type 0} (cmp : A → A → Ordering) (last coin : Bool) (k level : ℕ) (ls : List (List A)) (items : List A) (bounds : List ℕ) : Type 0 where
@@ -65,12 +77,11 @@ compacted_stored {A} {cmp} {k} {total} {level} {items} {items'} {bounds} {wide} 
     let few = few_compacted cmp level last coin (levels_in items bounds) (levels_in items wide) (levels_in items' bounds') stored.few inside low
     up.same alike in
     let bounds_len = length-bounds items' bounds' flat in
-    let Alike : List (List A) → Type 0 = λ (ms : List (List A)). SameLevels cmp ms (levels_in items' bounds') in
     let sorted = ordered (up.sorted stored.sorted) in
     record {
       flat = flat;
       few = omega (arith, bounds_len, few.1);
-      same = subst Alike (up.same ∙ ap (compacted cmp last coin level) own) alike;
+      same = rw (← own, ← up.same) alike;
       sorted = sorted;
       stored = λ total' len len_is total_is.
           record { k_above = stored.k_above; flat = flat; total_is = total_is ∙ ap (total_of k 8) (omega (arith, bounds_len, len_is)); some = few.0; few = few.1; sorted = sorted };
@@ -80,8 +91,7 @@ compacted_stored {A} {cmp} {k} {total} {level} {items} {items'} {bounds} {wide} 
 pub sound_inside : {A : Type 0} {cmp : A → A → Ordering} {inside seen : Stored A} {min_k n : ℕ} {least greatest : Option A} → inside ≡ seen →
     IsSound cmp (sketch_of seen.k min_k n seen.is_sorted seen.levels least greatest) →
     IsSound cmp (sketch_of inside.k min_k n inside.is_sorted inside.levels least greatest)
-sound_inside {A} {cmp} {min_k = min_k} {n = n} {least = least} {greatest = greatest} view_is sound =
-    subst (λ (y : Stored A). IsSound cmp (sketch_of y.k min_k n y.is_sorted y.levels least greatest)) (sym view_is) sound
+sound_inside view_is sound = rw view_is sound
 
 -- levels that others were merged into from level 1 up
 pub record JoinedStored {A : Type 0} (cmp : A → A → Ordering) (k : ℕ) (ls us : List (List A)) (items : List A) (bounds : List ℕ) (total : ℕ) : Type 0 where
@@ -102,16 +112,9 @@ joined_stored {A} {cmp} {k} {total} {total'} {items} {upper} {taken} {merged} {i
     let wide_is = prepared runs stored flat_upper two few widened took in
     let ls : List (List A) = levels_in items bounds in
     let us : List (List A) = levels_in upper (drop 1 runs) in
-    let Fit : List A → List ℕ → Type 0 =
-    λ (xs : List A) (bs : List ℕ). IsFlat xs bs × SameLevels cmp (joined cmp ls us) (levels_in xs bs) × UpperSorted cmp (levels_in xs bs) in
-    let Alike : List (List A) → Type 0 = λ (ms : List (List A)). SameLevels cmp ms (levels_in merged (joined_bounds wide runs)) in
-    let here : Fit merged (joined_bounds wide runs) = (flat, subst Alike wide_is.same alike, sorted) in
-    let there : Fit items' bounds' = subst (λ (xs : List A). Fit xs bounds') (sym items_are) (subst (λ (bs : List ℕ). Fit merged bs) (sym bounds_are) here) in
+    let same : SameLevels cmp (joined cmp ls us) (levels_in merged (joined_bounds wide runs)) = rw (← wide_is.same) alike in
     let upper_len = length-bounds upper (drop 1 runs) flat_upper in
-    let bounds_len = length-bounds items' bounds' there.0 in
-    let sizes : JoinedSize ls us (levels_in items' bounds') =
-    joined_size cmp ls us (levels_in items' bounds') stored.some stored.few (omega (arith, upper_len, length-drop 1 runs, few)) there.1 in
-    record {
-      stored = record { k_above = stored.k_above; flat = there.0; total_is = total_is ∙ ap (total_of k 8) (omega (arith, bounds_len, len_is)); some = sizes.some; few = sizes.few; sorted = there.2 };
-      same = there.1;
-    }
+    let bounds_len = length-bounds merged (joined_bounds wide runs) flat in
+    let total : total' ≡ total_of k 8 (length (levels_in merged (joined_bounds wide runs))) = total_is ∙ ap (total_of k 8) (omega (arith, bounds_len, len_is, ap length bounds_are)) in
+    let sizes = joined_size cmp ls us (levels_in merged (joined_bounds wide runs)) stored.some stored.few (omega (arith, upper_len, length-drop 1 runs, few)) same in
+    rw (items_are, bounds_are) (record { stored = record { k_above = stored.k_above; flat = flat; total_is = total; some = sizes.some; few = sizes.few; sorted = sorted }; same = same })

@@ -1,7 +1,7 @@
-use Rattle.std.proofs.Common.{◌≡◌, ℕ, Bool, List, ◌+◌, ◌<◌, ◌≤◌, ◌⊎◌, inl, inr, suc, length, arith, sym, ap, subst, IsTrue, IsSorted, ◌∙◌, refl}
+use Rattle.std.proofs.Common.{◌≡◌, ℕ, Bool, List, ◌+◌, ◌<◌, ◌≤◌, ◌⊎◌, inl, inr, suc, length, arith, ap, ◌∙◌, refl}
 use Rattle.std.proofs.lemmas.Bool.{cases_eq, leb-true}
 use Rattle.sketch_kll.specs.Capacity.{total_of}
-use Rattle.sketch_kll.specs.Levels.{retained, first_level, SameLevels, UpperSorted}
+use Rattle.sketch_kll.specs.Levels.{retained, SameLevels, UpperSorted}
 use Rattle.sketch_kll.specs.Compress.{stepped, stepped_source}
 use Rattle.sketch_kll.specs.Stored.{Stored}
 use Rattle.sketch_kll.proofs.Flats.{SameLevels-refl}
@@ -37,8 +37,7 @@ compress_level-requires-clause-few g c =
 pub compress_level-requires-clause-flag : goal.compress_level-requires-clause-flag
 compress_level-requires-clause-flag g c = λ t z.
     let i = c.loop-self.invariant in
-    subst (λ (ls : List (List g.row.T.Denot)). IsSorted g.T.Ord.cmp (first_level ls)) (sym (i.start z))
-    (c.requires.flag (subst (λ (f : Bool). IsTrue f) i.kept.flag_is t))
+    rw (i.start z) (c.requires.flag (rw i.kept.flag_is at t))
 
 pub compress_level-requires-clause-spare : goal.compress_level-requires-clause-spare
 compress_level-requires-clause-spare g c =
@@ -58,11 +57,8 @@ loop-self-preserved g c =
     let few = c.loop-self-test.ensures.few in
     let above : 8 ≤ k = omega (arith, ap (λ (y : Stored g.row.T.Denot). y.k) c.self.view_is, c.self.invariant.k_above) in
     let b : Bool = g.B.RandomBits.bit c.loop-self.coins in
-    let levels : SameLevels g.T.Ord.cmp (stepped g.T.Ord.cmp k flag b c.loop-self.level ls) ms =
-    subst (λ (j : ℕ). SameLevels g.T.Ord.cmp (stepped g.T.Ord.cmp j flag b c.loop-self.level ls) ms) i.kept.k_is
-    (subst (λ (f : Bool). SameLevels g.T.Ord.cmp (stepped g.T.Ord.cmp x.k f b c.loop-self.level ls) ms) i.kept.flag_is e.levels) in
-    let source : c.compress_level.new.coins ≡ stepped_source g.B.RandomBits.next k c.loop-self.level c.loop-self.coins ls =
-    e.coins ∙ ap (λ (j : ℕ). stepped_source g.B.RandomBits.next j c.loop-self.level c.loop-self.coins ls) i.kept.k_is in
+    let levels : SameLevels g.T.Ord.cmp (stepped g.T.Ord.cmp k flag b c.loop-self.level ls) ms = rw (← i.kept.k_is, ← i.kept.flag_is) e.levels in
+    let source : c.compress_level.new.coins ≡ stepped_source g.B.RandomBits.next k c.loop-self.level c.loop-self.coins ls = rw (← i.kept.k_is) e.coins in
     let s : WalkStep k c.loop-self.level ls ms = walk_step g.T.Ord.cmp k c.loop-self.level flag b ls ms above t few i.weighs i.behind levels in
     let w = walk_more g.T.Ord.cmp g.met.T.Ord.total g.B.RandomBits.bit g.B.RandomBits.next k flag c.loop-self.level c.loop-self.coins c.compress_level.new.coins _ ls ms _
     (omega (arith, t, few)) source levels i.levels i.source in
@@ -91,9 +87,8 @@ returns g c =
     let flag : Bool = c.args.self.now.is_sorted in
     let ls : List (List g.row.T.Denot) = x.levels in
     let l0 : List (List g.row.T.Denot) = c.args.self.now.levels in
-    let sorted : UpperSorted g.T.Ord.cmp l0 = subst (λ (y : Stored g.row.T.Denot). UpperSorted g.T.Ord.cmp y.levels) c.self.view_is c.self.invariant.sorted in
-    let over : (length ls ≤ c.loop-self.level) ⊎ (retained ls < total_of k 8 (length ls)) =
-    subst (λ (j : ℕ). (length ls ≤ c.loop-self.level) ⊎ (retained ls < total_of j 8 (length ls))) i.kept.k_is (c.loop-self-test.ensures.over refl) in
+    let sorted : UpperSorted g.T.Ord.cmp l0 = rw (← c.self.view_is) c.self.invariant.sorted in
+    let over : (length ls ≤ c.loop-self.level) ⊎ (retained ls < total_of k 8 (length ls)) = rw (← i.kept.k_is) (c.loop-self-test.ensures.over refl) in
     let r = walk_ended g.T.Ord.cmp g.met.T.Ord.total g.B.RandomBits.bit g.B.RandomBits.next k flag c.loop-self.level c.args.coins.now c.loop-self.coins l0 ls sorted c.requires.flag over i.levels i.source in
     record {
       kept = i.kept;

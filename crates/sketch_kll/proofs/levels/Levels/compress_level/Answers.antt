@@ -1,5 +1,4 @@
-use Rattle.std.proofs.Common.{◌≡◌, List, sym, subst, true, rules}
-use Rattle.sketch_kll.specs.Levels.{SameLevels}
+use Rattle.std.proofs.Common.{◌≡◌, true, rules}
 use Rattle.sketch_kll.specs.Compress.{passes}
 use Rattle.sketch_kll.proofs.Flats.{SameLevels-refl}
 use Rattle.sketch_kll.proofs.CompressWalks.{stepped_passed}
@@ -9,4 +8,4 @@ pub returns-else-not-level_passes-clause-levels : goal.returns-else-not-level_pa
 returns-else-not-level_passes-clause-levels g c =
     let x = c.args.self.now in
     let p : true ≡ passes x.k x.levels c.args.level = search rules in
-    subst (λ (y : List (List g.row.T.Denot)). SameLevels g.T.Ord.cmp y x.levels) (sym (stepped_passed g.T.Ord.cmp x.k x.is_sorted (g.B.RandomBits.bit c.args.coins.now) c.args.level x.levels p)) (SameLevels-refl g.T.Ord.cmp g.met.T.Ord.total x.levels)
+    rw (stepped_passed g.T.Ord.cmp x.k x.is_sorted (g.B.RandomBits.bit c.args.coins.now) c.args.level x.levels p) (SameLevels-refl g.T.Ord.cmp g.met.T.Ord.total x.levels)

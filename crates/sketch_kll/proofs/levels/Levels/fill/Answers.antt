@@ -1,12 +1,13 @@
-use Rattle.std.proofs.Common.{◌≡◌, List, length, reverse, set, drop, arith, ap, sym, subst, ◌∙◌, rules}
+use Rattle.std.proofs.Common.{◌≡◌, length, reverse, set, drop, arith, ap, ◌∙◌, rules}
 use Rattle.sketch_kll.specs.Capacity.{total_of}
-use Rattle.sketch_kll.specs.Flat.{levels_in, IsFlat}
-use Rattle.sketch_kll.specs.Levels.{retained, UpperSorted}
+use Rattle.sketch_kll.specs.Flat.{levels_in}
+use Rattle.sketch_kll.specs.Levels.{retained}
 use Rattle.sketch_kll.specs.Steps.{put_all}
 use Rattle.sketch_kll.specs.Stored.{Stored}
 use Rattle.sketch_kll.specs.Take.{left_over}
 use Rattle.sketch_kll.proofs.Flats.{length-items}
-use Rattle.sketch_kll.proofs.PutItems.{put_flat, length-put, UpperSorted-put}
+use Rattle.sketch_kll.specs.Stored.{AreStored}
+use Rattle.sketch_kll.proofs.StoredLevels.{put_stored}
 use Rattle.sketch_kll.proofs.levels.Levels.fill.Goals as goal
 use Rattle.sketch_kll.proofs.levels.Levels.fill.Goals.{After-saturating_sub-keep, After-len-3}
 
@@ -47,27 +48,13 @@ move_back-requires-clause-room g c =
 
 -- the levels with the run put in
 filled : (g : _) (c : After-len-3 g) →
-    IsFlat c.move_back.new.to.items (set c.self.inside.bounds.items 0 c.len-3.result) × (levels_in c.move_back.new.to.items (set c.self.inside.bounds.items 0 c.len-3.result)
+    AreStored g.T.Ord.cmp c.self.inside.k c.move_back.new.to.items (set c.self.inside.bounds.items 0 c.len-3.result) c.self.inside.total_capacity
+    × (levels_in c.move_back.new.to.items (set c.self.inside.bounds.items 0 c.len-3.result)
     ≡ put_all (reverse (drop c.saturating_sub-keep.result c.args.items.now.items)) (levels_in c.self.inside.items.items c.self.inside.bounds.items))
-filled g c =
-    let x = c.self.inside in
-    put_flat (reverse (drop c.saturating_sub-keep.result c.args.items.now.items)) x.items.items c.move_back.new.to.items x.bounds.items c.len-3.result
-    c.self.invariant.flat c.self.invariant.some c.move_back.ensures.to (search rules)
+filled g c = put_stored (reverse (drop c.saturating_sub-keep.result c.args.items.now.items)) c.self.invariant c.move_back.ensures.to (search rules)
 
 pub invariant_of-self : goal.invariant_of-self
-invariant_of-self g c =
-    let x = c.self.inside in
-    let r = filled g (goal.at.invariant_of-self g c).After-len-3 in
-    let xs : List g.row.T.Denot = reverse (drop c.saturating_sub-keep.result c.args.items.now.items) in
-    let m = ap length r.1 ∙ length-put xs (levels_in x.items.items x.bounds.items) c.self.invariant.some in
-    record {
-      k_above = c.self.invariant.k_above;
-      flat = r.0;
-      total_is = c.self.invariant.total_is ∙ ap (total_of x.k 8) (sym m);
-      some = omega (arith, m, c.self.invariant.some);
-      few = omega (arith, m, c.self.invariant.few);
-      sorted = subst (λ (ls : List (List g.row.T.Denot)). UpperSorted g.T.Ord.cmp ls) (sym r.1) (UpperSorted-put g.T.Ord.cmp xs _ c.self.invariant.sorted);
-    }
+invariant_of-self g c = (filled g (goal.at.invariant_of-self g c).After-len-3).0
 
 pub returns-clause-levels : goal.returns-clause-levels
 returns-clause-levels g c =

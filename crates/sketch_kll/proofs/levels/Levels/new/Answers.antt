@@ -1,4 +1,4 @@
-use Rattle.std.proofs.Common.{refl, rules}
+use Rattle.std.proofs.Common.{rules}
 use Rattle.sketch_kll.proofs.StoredLevels.{empty_stored, new_levels}
 use Rattle.sketch_kll.proofs.levels.Levels.new.Goals as goal
 
@@ -7,6 +7,3 @@ invariant_of-result g c = empty_stored g.T.Ord.cmp c.args.k _ _ _ c.requires.k (
 
 pub returns-clause-levels : goal.returns-clause-levels
 returns-clause-levels g c = (new_levels c.new.result.items c.in_ok-vec.field-0.items (search rules) (search rules)).1
-
-pub returns-clause-flag : goal.returns-clause-flag
-returns-clause-flag g c = refl

@@ -5,8 +5,7 @@ use Rattle.sketch_kll.proofs.levels.merging.clone_levels.Goals as goal
 
 pub split_off-requires : goal.split_off-requires
 split_off-requires g c =
-    let b = bound_within c.args.items.now.items c.args.bounds.now c.requires.flat 1 in
-    omega (arith, b, c.in_ok-upper.ensures.cases.1, c.args.items.now.ok)
+    omega (arith, bound_within c.args.items.now.items c.args.bounds.now c.requires.flat 1, c.in_ok-upper.ensures.cases.1, c.args.items.now.ok)
 
 pub returns : goal.returns
 returns g c =
