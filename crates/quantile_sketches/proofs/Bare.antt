@@ -3,11 +3,11 @@ use Rattle.std.proofs.Common.{◌≡◌, ℕ, zero, suc, ◌+◌, Bool, true, fa
 use Rattle.std.proofs.lemmas.List.{map-append}
 use Rattle.std.proofs.lemmas.List.Sums.{sum_by-cons}
 use Rattle.sketch_base.specs.Lengths.{acts_on_lengths}
-use Rattle.sketch_base.specs.Trace.{Action, Put, Pull, Join, Compact, Forget, Redraw, Clear, Fresh, Event, Snap, At, Work, World, coins, event_draws, joins_actions}
+use Rattle.sketch_base.specs.Trace.{Action, Put, Pull, Join, Compact, Forget, Redraw, Clear, Fresh, Event, Snap, At, Work, World, coins, event_draws, joins_actions, events_at}
 use Rattle.quantile_sketches.specs.declared.audit.commands.Command.{Command}
 use Rattle.quantile_sketches.specs.declared.audit.commands.Command.TheVariants.{New, Update, UpdateWeighted, Merge, RoundTrip, Redraw, MergeRedrawn}
 use Rattle.quantile_sketches.specs.RuleLaws.{lengths_by}
-use Rattle.quantile_sketches.specs.Plan.{Plan, start_plan, slot_of, actions_on, events_at, count_of, shape_after, is_refused, merge_events, accepted_events, events_of, plan_after, plan_from, trace_from, plan_of, trace_of}
+use Rattle.quantile_sketches.specs.Plan.{Plan, start_plan, slot_of, actions_on, count_of, shape_after, is_refused, merge_events, accepted_events, events_of, plan_after, plan_from, trace_from, plan_of, trace_of}
 use Rattle.quantile_sketches.specs.Rules.{Rules}
 use Rattle.quantile_sketches.specs.Run.{bare}
 
@@ -140,7 +140,7 @@ module _ {A C Shape : Type 0} {rules : Rules A C Shape} {bare_rules : Rules Unit
   plan-bare : (plan : Plan Shape) (c : Command A C) → plan_after rules plan c ≡ plan_after bare_rules plan (bare c)
   plan-bare plan c = cc (refused-bare plan.shapes c, slot-bare c, shape-bare plan.shapes c, lengths-bare (events_of rules plan c) plan.lengths, events-bare plan c)
 
-  pub plan_from-bare : (plan : Plan Shape) (commands : List (Command A C)) → plan_from rules plan commands ≡ plan_from bare_rules plan (map bare commands)
+  plan_from-bare : (plan : Plan Shape) (commands : List (Command A C)) → plan_from rules plan commands ≡ plan_from bare_rules plan (map bare commands)
   plan_from-bare plan [] = refl
   plan_from-bare plan (c ∷ rest) = cc (plan_from-bare (plan_after rules plan c) rest, plan-bare plan c)
 

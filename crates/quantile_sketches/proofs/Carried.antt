@@ -51,7 +51,7 @@ given o x e = sym (ap (λ o. not (not (is_some o))) e)
 not-given : {X : Type 0} (o : Option X) → o ≡ None → false ≡ not (not (is_some o))
 not-given o e = sym (ap (λ o. not (not (is_some o))) e)
 
--- what is owed of an error but for want of memory
+-- what is owed of an error but where memory runs out
 abbrev Unless : ErrorKind → Type 0 → Type 0
 Unless InvalidArgument P = P
 Unless InvalidData P = P
@@ -87,7 +87,7 @@ module _ {A C Shape S Source : Type 0} (kind : Kind A C Shape S) (bit : Source �
       IsExecuted kind bit next command slots source false slots' source'
   no command slots source slots' source' d same stays = record { decided = d; done = λ f. absurd (false≢true f); left = λ f. (same, stays) }
 
-  -- a command that is no want of memory
+  -- a command that memory lets be done
   executed : (r : Verdict) (command : Command A C) (slots : Held S) (source : Source) (slots' : Held S) (source' : Source) → r ≢ Err (Sketch OutOfMemory) →
       Comes r command slots source slots' source' → IsExecuted kind bit next command slots source (is_ok r) slots' source'
   executed (Err (Sketch OutOfMemory)) command slots source slots' source' n h = absurd (n refl)
@@ -237,7 +237,7 @@ module _ {A C Shape S Source : Type 0} {kind : Kind A C Shape S} (lawful : IsLaw
       merge-absent : in_slot slots into ≡ None → IsDecided kind command (in_slot slots) false
       merge-absent h = decide false (not-given _ (ap (λ x. merged-by x (in_slot slots from)) h))
 
-      -- a sketch takes another in that stands in a slot, or a copy of it
+      -- a sketch takes in another that is in a slot, or a copy of it
       takes-in : (s p copy t : S) → in_slot slots into ≡ Some s → in_slot slots from ≡ Some p → IsCopied kind p copy → IsMerged kind bit next redraws s copy source t source' → kind.IsSound t → Puts (in_slot slots) into t (in_slot slots') →
           IsDecided kind command (in_slot slots) true × IsDone kind bit next command (in_slot slots) source (in_slot slots') source'
       takes-in s p copy t held its copied merged sound puts = (

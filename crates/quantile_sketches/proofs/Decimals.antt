@@ -1,4 +1,4 @@
--- digits that are put from the last one on
+-- Digits that are put from the last one on.
 use Rattle.std.proofs.Common.{◌≡◌, ℕ, ℤ, pos, zero, suc, negsuc, ◌+◌, ◌-◌, ◌*◌, ◌<◌, ◌≤◌, ◌^◌, ◌/◌, ◌%◌, true, false, List, [], ◌∷◌, ◌++◌, length, drop, set, sym, ap, ◌∙◌, arith}
 use Rattle.std.proofs.Math.IntN.{nat_abs}
 use Rattle.std.proofs.lemmas.Fmt.{decimal_digit, decimal_step}
@@ -20,11 +20,11 @@ pub put_last : (text : List ℕ) (rest start : ℕ) (room : List ℕ) → rest <
 put_last text rest start room h s e = cc (decimal_digit rest h, drop-set room start (48 + rest) s)
 
 -- a number's text is that of its size, after a minus where it is negative
-pub negative : (z : ℤ) (n : ℕ) → lt_z z (pos 0) ≡ true → n ≡ nat_abs z → signed_decimal z ≡ 45 ∷ decimal n
+negative : (z : ℤ) (n : ℕ) → lt_z z (pos 0) ≡ true → n ≡ nat_abs z → signed_decimal z ≡ 45 ∷ decimal n
 negative (pos k) n l e = absurd (grind (arith, ints))
 negative (negsuc k) n l e = ap (λ (m : ℕ). 45 ∷ decimal m) (sym e)
 
-pub natural : (z : ℤ) (n : ℕ) → lt_z z (pos 0) ≡ false → n ≡ nat_abs z → signed_decimal z ≡ decimal n
+natural : (z : ℤ) (n : ℕ) → lt_z z (pos 0) ≡ false → n ≡ nat_abs z → signed_decimal z ≡ decimal n
 natural (pos k) n l e = ap (λ (m : ℕ). decimal m) (sym e)
 natural (negsuc k) n l e = absurd (grind (arith, ints))
 

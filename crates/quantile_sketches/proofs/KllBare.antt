@@ -3,7 +3,7 @@ use Rattle.std.proofs.Common.{◌≡◌, ℕ, zero, suc, ◌-◌, ◌/◌, ◌%�
 use Rattle.sketch_base.specs.Lengths.{acts_on_lengths}
 use Rattle.sketch_base.specs.Trace.{Action, Put, Work}
 use Rattle.sketch_kll.specs.Merge.{pull_actions, pulls_actions, taking_actions, merge_actions}
-use Rattle.sketch_kll.specs.Schedule.{are_full, room_actions, update_actions, updated_lengths, updates_actions, passes_at, step_actions, walk_actions, compress_actions}
+use Rattle.sketch_kll.specs.Schedule.{are_full, actions_if_full, update_actions, updated_lengths, updates_actions, passes_at, step_actions, walk_actions, compress_actions}
 use Rattle.sketch_kll.specs.Weighted.{at_digit, puts_actions, entering_actions, weighted_actions, weighted_lengths}
 use Rattle.quantile_sketches.specs.KllRules.{kll_rules}
 use Rattle.quantile_sketches.proofs.Bare.{bare_action, bare-append, bare-if, acts-bare, AreBare, bare-joins}
@@ -17,11 +17,11 @@ module _ (A : Type 0) where
       (acts_on_lengths actions work).bag ≡ (acts_on_lengths actions' work).bag
   bag-by actions work e = ap (λ (w : Work (List ℕ)). w.bag) (lengths-by actions work e)
 
-  bare-room : (k : ℕ) (lengths : List ℕ) → map bare_action (room_actions {A = A} k lengths) ≡ room_actions k lengths
+  bare-room : (k : ℕ) (lengths : List ℕ) → map bare_action (actions_if_full {A = A} k lengths) ≡ actions_if_full k lengths
   bare-room k lengths = bare-if (are_full k lengths) _ _ refl refl
 
-  pub bare-update : (k : ℕ) (lengths : List ℕ) (x : A) → map bare_action (update_actions k lengths x) ≡ update_actions {A = Unit} k lengths tt
-  bare-update k lengths x = bare-append (room_actions k lengths) _ (bare-room k lengths) refl
+  bare-update : (k : ℕ) (lengths : List ℕ) (x : A) → map bare_action (update_actions k lengths x) ≡ update_actions {A = Unit} k lengths tt
+  bare-update k lengths x = bare-append (actions_if_full k lengths) _ (bare-room k lengths) refl
 
   -- an update with a weight
   bare-digit : (f : List A → List (Action A)) (g : List Unit → List (Action Unit)) (weight : ℕ) (x : A) → map bare_action (f (x ∷ [])) ≡ g (tt ∷ []) → map bare_action (f []) ≡ g [] →
@@ -58,7 +58,7 @@ module _ (A : Type 0) where
       map bare_action (if b then compress_actions {A = A} k lengths else []) ≡ (if b then compress_actions k lengths' else [])
   bare-compress b k {lengths} e = bare-if b _ _ (bare-walk k 61 0 lengths ∙ ap (compress_actions {A = Unit} k) e) refl
 
-  pub bare-weighted : (k : ℕ) (lengths : List ℕ) (x : A) (weight : ℕ) → map bare_action (weighted_actions k lengths x weight) ≡ weighted_actions {A = Unit} k lengths tt weight
+  bare-weighted : (k : ℕ) (lengths : List ℕ) (x : A) (weight : ℕ) → map bare_action (weighted_actions k lengths x weight) ≡ weighted_actions {A = Unit} k lengths tt weight
   bare-weighted k lengths x weight =
       let entering = entering_actions k lengths x weight in
       let enters = bare-entering k lengths x weight in
@@ -66,7 +66,7 @@ module _ (A : Type 0) where
 
   -- a merge
   bare-pull : (k : ℕ) (lengths : List ℕ) → map bare_action (pull_actions {A = A} k lengths) ≡ pull_actions k lengths
-  bare-pull k lengths = bare-append (room_actions k lengths) _ (bare-room k lengths) refl
+  bare-pull k lengths = bare-append (actions_if_full k lengths) _ (bare-room k lengths) refl
 
   bare-pulls : (k more : ℕ) (work : Work (List ℕ)) → map bare_action (pulls_actions {A = A} k more work) ≡ pulls_actions k more work
   bare-pulls k zero work = refl
@@ -77,7 +77,7 @@ module _ (A : Type 0) where
   bare-taking : (k : ℕ) (work : Work (List ℕ)) → map bare_action (taking_actions {A = A} k work) ≡ taking_actions k work
   bare-taking k work = bare-append (pulls_actions k (slice_index work.scratch 0) work) _ (bare-pulls k (slice_index work.scratch 0) work) (bare-joins A (length work.scratch - 1) 1)
 
-  pub bare-merge : (k : ℕ) (work : Work (List ℕ)) → map bare_action (merge_actions {A = A} k work) ≡ merge_actions k work
+  bare-merge : (k : ℕ) (work : Work (List ℕ)) → map bare_action (merge_actions {A = A} k work) ≡ merge_actions k work
   bare-merge k work =
       let taking = taking_actions {A = A} k work in
       bare-append taking _ (bare-taking k work) (bare-compress (nat_lt 1 (length work.scratch)) k (bag-by taking work (bare-taking k work)))

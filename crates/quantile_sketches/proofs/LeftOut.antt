@@ -4,13 +4,13 @@ use Rattle.std.specs.Prelude.{Contains, ◌↔◌}
 use Rattle.std.proofs.lemmas.Map.Views.{Contains-from_any}
 use mathlib.Core.Path.{fun_ext}
 use Rattle.sketch_base.specs.Lengths.{lengths_after}
-use Rattle.sketch_base.specs.Trace.{Event, World, coins}
-use Rattle.sketch_base.proofs.Calls.{coins-at}
+use Rattle.sketch_base.specs.Trace.{Event, World, coins, events_at}
+use Rattle.sketch_base.proofs.CallsInTurn.{coins-at}
 use Rattle.sketch_base.proofs.Changes.{changed-own}
 use Rattle.quantile_sketches.specs.declared.audit.commands.Command.{Command}
 use Rattle.quantile_sketches.specs.declared.audit.commands.Command.TheVariants.{RoundTrip}
 use Rattle.quantile_sketches.specs.RuleLaws.{IsLawful}
-use Rattle.quantile_sketches.specs.Plan.{Plan, start_plan, events_at, is_refused, accepted_shapes, accepted_events, events_of, plan_after, after_command, after_commands, plan_of, trace_of}
+use Rattle.quantile_sketches.specs.Plan.{Plan, start_plan, is_refused, accepted_shapes, accepted_events, events_of, plan_after, after_command, after_commands, plan_of, trace_of}
 use Rattle.quantile_sketches.specs.Refused.{is_among, accepted_of, IsRefusedExactly, AreRefused}
 use Rattle.quantile_sketches.specs.Rules.{Rules, Kind}
 use Rattle.quantile_sketches.specs.Run.{accepted_streams, streams_after, stream_of}

@@ -1,4 +1,4 @@
--- writes one after another: what is out, what waits and what is left of what was owed
+-- Writes one after another: what is out, what waits and what is left of what was owed.
 use Rattle.std.proofs.Common.{◌≡◌, ℕ, ◌+◌, ◌-◌, ◌≤◌, List, [], ◌++◌, length, take, drop, refl, sym, ap, ◌∙◌, arith, Option, Some, None, Result, Ok, Err, IsOk, IsErr, OnOk}
 use Rattle.std.proofs.Math.Seq.{take-add}
 use Rattle.std.specs.Io.KnownBytes.{Appends, Keeps}
@@ -11,13 +11,13 @@ pub appends_none : (w : Option (List ℕ)) → Appends w w []
 appends_none None = tt
 appends_none (Some xs) = sym (append-nil xs)
 
-pub appends_on : (w0 w w' : Option (List ℕ)) (a b : List ℕ) → Appends w0 w a → Appends w w' b → Appends w0 w' (a ++ b)
+appends_on : (w0 w w' : Option (List ℕ)) (a b : List ℕ) → Appends w0 w a → Appends w w' b → Appends w0 w' (a ++ b)
 appends_on None w w' a b h k = tt
 appends_on (Some xs) None w' a b h k = absurd h
 appends_on (Some xs) (Some ys) None a b h k = absurd k
 appends_on (Some xs) (Some ys) (Some zs) a b h k = k ∙ (ap (λ (t : List ℕ). t ++ b) h ∙ append_assoc xs a b)
 
-pub appends_kept : (w0 w w' : Option (List ℕ)) (a : List ℕ) → Appends w0 w a → Keeps w w' → Appends w0 w' a
+appends_kept : (w0 w w' : Option (List ℕ)) (a : List ℕ) → Appends w0 w a → Keeps w w' → Appends w0 w' a
 appends_kept None w w' a h k = tt
 appends_kept (Some xs) None w' a h k = absurd h
 appends_kept (Some xs) (Some ys) None a h k = absurd k

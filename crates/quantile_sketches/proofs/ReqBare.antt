@@ -1,7 +1,7 @@
 -- REQ's actions hang on items in their Puts alone.
 use Rattle.std.proofs.Common.{◌≡◌, ℕ, zero, suc, Bool, if◌then◌else◌, List, [], ◌∷◌, length, map, refl, ap}
 use Rattle.sketch_base.specs.Trace.{Action, Put, Redraw, joins_actions}
-use Rattle.sketch_req.specs.Schedule.{Layout, is_full, are_full, layout_at, put_layouts, joined_layouts, step_actions, steps_actions, room_actions, redraws_from, redraw_actions}
+use Rattle.sketch_req.specs.Schedule.{Layout, is_full, are_full, layout_at, put_layouts, joined_layouts, step_actions, steps_actions, actions_if_full, redraws_from, redraw_actions}
 use Rattle.sketch_req.specs.Level.{turns_coin}
 use Rattle.sketch_req.specs.declared.RankAccuracy.{RankAccuracy}
 use Rattle.quantile_sketches.specs.ReqRules.{merge_actions_by, req_rules}
@@ -15,7 +15,7 @@ module _ (A : Type 0) where
   bare-steps k accuracy zero h layouts = refl
   bare-steps k accuracy (suc more) h layouts = bare-append (step_actions k accuracy h layouts) _ (bare-step k accuracy h layouts) (bare-steps k accuracy more (suc h) _)
 
-  bare-room : (k : ℕ) (accuracy : RankAccuracy) (layouts : List Layout) → map bare_action (room_actions {A = A} k accuracy layouts) ≡ room_actions k accuracy layouts
+  bare-room : (k : ℕ) (accuracy : RankAccuracy) (layouts : List Layout) → map bare_action (actions_if_full {A = A} k accuracy layouts) ≡ actions_if_full k accuracy layouts
   bare-room k accuracy layouts = bare-if (are_full k layouts) _ _ (bare-steps k accuracy (length layouts) 0 layouts) refl
 
   bare-redraws : (h : ℕ) (layouts : List Layout) → map bare_action (redraws_from {A = A} h layouts) ≡ redraws_from h layouts

@@ -7,14 +7,14 @@ use Rattle.sketch_base.specs.Bag.{Bag, AlikeReq, sort, empty_bag}
 use Rattle.sketch_base.specs.Trace.{Action, Put, Work, act, acts, alone, next_bit}
 use Rattle.sketch_base.proofs.Alikes.{acts-req}
 use Rattle.sketch_base.proofs.Fixed.{length-sort}
-use Rattle.sketch_req.specs.Schedule.{Layout, put_layouts, redraw_actions, room_actions, update_actions}
+use Rattle.sketch_req.specs.Schedule.{Layout, put_layouts, redraw_actions, actions_if_full, update_actions}
 use Rattle.sketch_req.specs.Walk.{AreOwn}
 use Rattle.sketch_req.specs.declared.RankAccuracy.{RankAccuracy}
 use Rattle.sketch_kll.proofs.WeightedTakes.{put-levels}
 use Rattle.sketch_req.proofs.Bags.{alike-refl, alike-trans, AlikeLevels}
 use Rattle.sketch_req.proofs.FairWalks.{own-room, own-update}
 use Rattle.sketch_req.proofs.Walks.{own-bag}
-use Rattle.sketch_req.proofs.Ranks.{weight_is}
+use Rattle.sketch_req.proofs.Rank.{weight_is}
 use Rattle.sketch_req.proofs.Redraws.{own-redraws}
 use Rattle.sketch_req.proofs.Walks.{own-req}
 use Rattle.quantile_sketches.specs.RuleLaws.{IsLawful}
@@ -42,7 +42,7 @@ module _ {A : Type 0} {cmp : A → A → Ordering} (o : IsTotalOrder cmp) where
   update-alike x y tie k accuracy ls word a b was =
       let put : AlikeReq cmp (act cmp (Put 0 x) (next_bit word) b).bag (act cmp (Put 0 y) (next_bit word) b).bag = record { levels = put-levels o x y tie 0 b.bag.levels; kept = λ h. refl } in
       alike-trans o _ _ _ (alike-own (update_actions k accuracy ls x) word a b (own-update A k accuracy ls x) was)
-      (alike-own (room_actions k accuracy (put_layouts ls)) word (act cmp (Put 0 x) (next_bit word) b) (act cmp (Put 0 y) (next_bit word) b) (own-room A k accuracy (put_layouts ls)) put)
+      (alike-own (actions_if_full k accuracy (put_layouts ls)) word (act cmp (Put 0 x) (next_bit word) b) (act cmp (Put 0 y) (next_bit word) b) (own-room A k accuracy (put_layouts ls)) put)
 
   -- REQ sketches are a lawful kind
   pub req_kind_lawful : (spelling : A → Option (List ℕ)) → IsLawful (req_kind cmp spelling)

@@ -69,7 +69,7 @@ module _ {A : Type 0} {cmp : A → A → Ordering} (o : IsTotalOrder cmp) (spell
             trace = sheds-more done fewer c [] _ (append-nil (trace_of req_rules fewer)) h (sheds-left done c P exact there);
           }
 
--- so it is where commands lead to sketches
+-- the same holds where commands lead to sketches
 pub led-sheds : {A : Type 0} {cmp : A → A → Ordering} (o : IsTotalOrder cmp) (spelling : A → Option (List ℕ)) (commands : List (ReqCommand A)) (word : List Bool) (refused : List ℕ) (slots : Held (Req A)) →
     LeadTo (req_kind cmp spelling) word commands refused slots → coins (trace_of req_rules commands) ≤ length word → length word < 2 ^ 64 - 1 →
     Sheds (trace_of req_rules commands) (trace_of req_rules (accepted_of refused commands))

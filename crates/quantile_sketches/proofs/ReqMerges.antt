@@ -4,10 +4,10 @@ use Rattle.std.proofs.lemmas.Bool.{cond_both}
 use Rattle.std.specs.List.{AllByRecursion}
 use Rattle.sketch_base.specs.Lengths.{acts_on_lengths, leaves_at_least}
 use Rattle.sketch_base.specs.Ranks.{true_ranks}
-use Rattle.sketch_base.specs.Trace.{Action, Redraw, Snap, World, changed, is_req_action, joins_actions}
+use Rattle.sketch_base.specs.Trace.{Action, Redraw, Snap, World, changed, is_req_action, joins_actions, events_at}
 use Rattle.sketch_base.proofs.AllParts.{all-append}
 use Rattle.sketch_req.specs.Level.{turns_coin}
-use Rattle.sketch_req.specs.Schedule.{Layout, counts_of, joined_layouts, redraws_from, redraw_actions, room_actions, merge_layouts}
+use Rattle.sketch_req.specs.Schedule.{Layout, counts_of, joined_layouts, redraws_from, redraw_actions, actions_if_full, merge_layouts}
 use Rattle.sketch_req.specs.ScheduleLaws.{AreLayouts, IsLegalFrom, tail_side}
 use Rattle.sketch_req.specs.Sections.{IsLegalK}
 use Rattle.sketch_req.specs.declared.RankAccuracy.{RankAccuracy}
@@ -17,12 +17,11 @@ use Rattle.sketch_req.proofs.LegalWalks.{Leads, leads-none, leads-redraws, room_
 use Rattle.sketch_req.proofs.Redraws.{own-redraws}
 use Rattle.sketch_req.proofs.Unbiased.{room_compacts, joins_req, merge_req, ranks-compacts}
 use Rattle.sketch_req.proofs.Walks.{own-req}
-use Rattle.quantile_sketches.specs.Plan.{events_at}
 use Rattle.quantile_sketches.specs.ReqRules.{merge_actions_by}
 
 -- what comes behind the joins of a merge
 abbrev behind : {A : Type 0} → (redraws : Bool) → ℕ → RankAccuracy → List Layout → List (Action A)
-behind redraws k accuracy joined = if redraws then redraw_actions joined ++ room_actions k accuracy joined else room_actions k accuracy joined
+behind redraws k accuracy joined = if redraws then redraw_actions joined ++ actions_if_full k accuracy joined else actions_if_full k accuracy joined
 
 module _ (A : Type 0) where
   -- a merge joins levels and goes on from them
@@ -37,7 +36,7 @@ module _ (A : Type 0) where
       let joined = joined_layouts k ls others in
       let room = room_leads {A = A} k accuracy l joined (joined_are k l ls others a) in
       cond_both redraws _ _ (λ actions. Leads {A = A} k accuracy joined actions (merge_layouts k ls others))
-      (λ e. leads-redraws {A = A} k accuracy 0 joined joined _ (room_actions k accuracy joined) room) (λ e. room)
+      (λ e. leads-redraws {A = A} k accuracy 0 joined joined _ (actions_if_full k accuracy joined) room) (λ e. room)
 
   pub legal-by : (redraws : Bool) (k : ℕ → ℕ) (accuracy : RankAccuracy) (source target : ℕ) (ls others : List Layout) (world : World (List ℕ)) → IsLegalK (k target) → AreLayouts (k target) ls →
       world.slots target ≡ counts_of ls → world.slots source ≡ counts_of others → sum world.scratch ≡ 0 →
@@ -56,20 +55,20 @@ module _ (A : Type 0) where
   lengths-by redraws k accuracy ls others l a = rw (merge_is ls others redraws k accuracy) (joined_lengths A k accuracy ls others _ _ (behind-leads redraws k accuracy ls others l a))
 
   -- coins drawn anew are REQ's actions, and so are those of a merge
-  pub redraw-req : (ls : List Layout) → AllByRecursion (λ action. IsTrue (is_req_action {A = A} action)) (redraw_actions ls)
+  redraw-req : (ls : List Layout) → AllByRecursion (λ action. IsTrue (is_req_action {A = A} action)) (redraw_actions ls)
   redraw-req ls = own-req (redraw_actions ls) (own-redraws A 0 ls)
 
   pub merge-req : (redraws : Bool) (k : ℕ) (accuracy : RankAccuracy) (ls others : List Layout) → AllByRecursion (λ action. IsTrue (is_req_action {A = A} action)) (merge_actions_by redraws k accuracy ls others)
   merge-req true k accuracy ls others =
       let joined = joined_layouts k ls others in
-      joins_req (length others) 0 (redraw_actions joined ++ room_actions k accuracy joined)
-      (all-append (λ action. IsTrue (is_req_action {A = A} action)) (redraw_actions joined) (room_actions k accuracy joined) (redraw-req joined) (merge_req A k accuracy joined []))
+      joins_req (length others) 0 (redraw_actions joined ++ actions_if_full k accuracy joined)
+      (all-append (λ action. IsTrue (is_req_action {A = A} action)) (redraw_actions joined) (actions_if_full k accuracy joined) (redraw-req joined) (merge_req A k accuracy joined []))
   merge-req false k accuracy ls others = merge_req A k accuracy ls others
 
 module _ {A : Type 0} (test : A → Bool) (s : ℕ) where
   -- compactions, Joins and coins drawn anew leave the true ranks
-  ranks-room : (k : ℕ) (accuracy : RankAccuracy) (ls : List Layout) (ranks : ℕ → ℕ) → true_ranks test (events_at s (room_actions k accuracy ls)) ranks ≡ ranks
-  ranks-room k accuracy ls ranks = rw append-nil at (ranks-compacts test s (room_actions k accuracy ls) [] ranks (room_compacts A k accuracy ls))
+  ranks-room : (k : ℕ) (accuracy : RankAccuracy) (ls : List Layout) (ranks : ℕ → ℕ) → true_ranks test (events_at s (actions_if_full k accuracy ls)) ranks ≡ ranks
+  ranks-room k accuracy ls ranks = rw append-nil at (ranks-compacts test s (actions_if_full k accuracy ls) [] ranks (room_compacts A k accuracy ls))
 
   ranks-joins : (more h : ℕ) (actions : List (Action A)) (ranks : ℕ → ℕ) → true_ranks test (events_at s (joins_actions more h ++ actions)) ranks ≡ true_ranks test (events_at s actions) ranks
   ranks-joins zero h actions ranks = refl
@@ -90,7 +89,7 @@ module _ {A : Type 0} (test : A → Bool) (s : ℕ) where
   pub ranks-merge : (redraws : Bool) (k : ℕ) (accuracy : RankAccuracy) (ls others : List Layout) (ranks : ℕ → ℕ) → true_ranks test (events_at s (merge_actions_by redraws k accuracy ls others)) ranks ≡ ranks
   ranks-merge true k accuracy ls others ranks =
       let joined = joined_layouts k ls others in
-      ranks-joins (length others) 0 _ ranks ∙ (ranks-redraws 0 joined (room_actions k accuracy joined) ranks ∙ ranks-room k accuracy joined ranks)
+      ranks-joins (length others) 0 _ ranks ∙ (ranks-redraws 0 joined (actions_if_full k accuracy joined) ranks ∙ ranks-room k accuracy joined ranks)
   ranks-merge false k accuracy ls others ranks = ranks-joins (length others) 0 _ ranks ∙ ranks-room k accuracy (joined_layouts k ls others) ranks
 
 -- coins drawn anew lead to the same layouts

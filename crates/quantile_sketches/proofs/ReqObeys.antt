@@ -26,8 +26,8 @@ use Rattle.sketch_req.specs.Sections.{IsLegalK}
 use Rattle.sketch_req.specs.Sketch.{Req, IsSound}
 use Rattle.sketch_req.specs.declared.RankAccuracy.{RankAccuracy}
 use Rattle.sketch_req.specs.declared.RankAccuracy.TheVariants.{HighRank, LowRank}
-use Rattle.sketch_req.proofs.OneSketch.{one_sketch}
-use Rattle.sketch_req.proofs.Ranks.{retained_is}
+use Rattle.sketch_req.proofs.OneText.{one_sketch}
+use Rattle.sketch_req.proofs.Rank.{retained_is}
 use Rattle.sketch_req.proofs.Redraws.{layouts-redrawn, redraws-are, redraws-draw}
 use Rattle.quantile_sketches.specs.Calls.{Obeys, ObeysRules}
 use Rattle.quantile_sketches.specs.Rules.{none_if}
@@ -36,7 +36,7 @@ use Rattle.quantile_sketches.specs.ReqKind.{req_kind, req_shape}
 use Rattle.quantile_sketches.specs.ReqRules.{ReqShape, new_shape, may_be_k, is_same, is_too_much, req_rules}
 use Rattle.quantile_sketches.specs.RunSteps.{Refuses, Acts, merge_of, IsFresh, IsReadBack, IsUpdated, IsWeighted, IsRedrawn, IsMerged}
 use Rattle.quantile_sketches.proofs.KllObeys.{imaged, never, unless-none}
-use Rattle.quantile_sketches.proofs.Refused.{refuses-by, err-of, unread}
+use Rattle.quantile_sketches.proofs.CallErrors.{refuses-by, err-of, unread}
 use Rattle.quantile_sketches.proofs.ReqCopies.{same-shape, copy_is, read_is}
 use Rattle.quantile_sketches.proofs.ReqRuleLaws.{not-false, same_accuracy, legal_k, enough_room, merged_as, no_merge}
 use Rattle.quantile_sketches.proofs.SameRuns.{no-err}

@@ -6,7 +6,7 @@ pub use Rattle.std.proofs.lemmas.Bool.{not-false}
 use Rattle.sketch_base.specs.Bag.{AllButLeftover}
 use Rattle.sketch_base.specs.Lengths.{acts_on_lengths, lengths_after, Along, LeavesTail}
 use Rattle.sketch_base.specs.Ranks.{true_ranks}
-use Rattle.sketch_base.specs.Trace.{Action, Compact, Event, Snap, At, Work, World}
+use Rattle.sketch_base.specs.Trace.{Action, Compact, Event, Snap, At, Work, World, events_at}
 use Rattle.sketch_base.proofs.Changes.{changed-there, changed-itself}
 use Rattle.sketch_base.proofs.Lengths.{obeys}
 use Rattle.sketch_req.specs.Schedule.{Layout, counts_of, retained_of, update_actions, update_layouts, redraw_actions, merge_layouts}
@@ -20,7 +20,6 @@ use Rattle.sketch_req.proofs.LegalTraces.{lengths_at, along-even, fits-legal, up
 use Rattle.sketch_req.proofs.LegalWalks.{room_leads}
 use Rattle.sketch_req.proofs.Unbiased.{ranks-update}
 use Rattle.quantile_sketches.specs.RuleLaws.{lengths_by, IsLegalBy, DoWell, AreLawful}
-use Rattle.quantile_sketches.specs.Plan.{events_at}
 use Rattle.quantile_sketches.specs.ReqKind.{FitsReq, MeetsReq}
 use Rattle.quantile_sketches.specs.ReqRules.{ReqShape, new_shape, may_be_k, is_same, is_too_much, merge_actions_by, req_rules}
 use Rattle.quantile_sketches.proofs.KllRuleLaws.{unless-there}
@@ -98,7 +97,7 @@ too_much s other = is_too_much (s.n + other.n) (retained_of s.layouts + retained
 abbrev pub no_merge : ReqShape → ReqShape → Bool
 no_merge s other = not (is_same s.accuracy other.accuracy) || (not (other.n == 0) && too_much s other)
 
-pub not-much : (s other : ReqShape) → no_merge s other ≡ false → (other.n == 0) ≡ false → too_much s other ≡ false
+not-much : (s other : ReqShape) → no_merge s other ≡ false → (other.n == 0) ≡ false → too_much s other ≡ false
 not-much s other e b = ap (λ (none : Bool). not none && too_much s other) (sym b) ∙ (or_parts (not (is_same s.accuracy other.accuracy)) _ e).1
 
 -- ---- legal traces

@@ -28,8 +28,8 @@ use Rattle.sketch_req.specs.Written.{image_text}
 use Rattle.sketch_req.specs.declared.RankAccuracy.{RankAccuracy}
 use Rattle.sketch_req.proofs.WalkCapacities.{upper_weighs}
 use Rattle.sketch_req.proofs.Layouts.{length-layouts}
-use Rattle.sketch_req.proofs.OneSketch.{one_sketch}
-use Rattle.sketch_req.proofs.Ranks.{retained_is}
+use Rattle.sketch_req.proofs.OneText.{one_sketch}
+use Rattle.sketch_req.proofs.Rank.{retained_is}
 use Rattle.sketch_req.proofs.Relatives.{updates_relative, updates_relative_to_counts}
 use Rattle.sketch_req.proofs.WrittenSketches.{written_lem}
 use Rattle.quantile_sketches.specs.AllWords.{rank_of, AllRuns, ShowIn, IsUnbiasedIn, squares_in, AreUnbiasedWhere}
@@ -38,7 +38,7 @@ use Rattle.quantile_sketches.specs.Outcome.{Slots, sketch_at, ArePlanned, ArePla
 use Rattle.quantile_sketches.specs.Plan.{Plan, start_plan, plan_of, trace_of}
 use Rattle.quantile_sketches.specs.Refused.{accepted_of, AreRefused}
 use Rattle.quantile_sketches.specs.ReqKind.{FitsReq, req_kind, req_shape}
-use Rattle.quantile_sketches.specs.ReqOutcome.{AreInOrder, HaveFewLevels, AreBelowNominal, TailsAreK, IsExact, TailsAreExact, AreReadBack, AreRelativeToCounts}
+use Rattle.quantile_sketches.specs.ReqOutcome.{AreSortedInOrder, HaveFewLevels, AreBelowNominal, TailsAreK, IsExact, TailsAreExact, AreReadBack, AreRelativeToCounts}
 use Rattle.quantile_sketches.specs.ReqPlan.{ReqCommand, shape_in, tails_of}
 use Rattle.quantile_sketches.specs.ReqRules.{ReqShape, req_rules}
 use Rattle.sketch_req.specs.Relative.{off_protected_end, IsRelative, Reaches}
@@ -119,7 +119,7 @@ module _ {A : Type 0} {cmp : A → A → Ordering} (o : IsTotalOrder cmp) (spell
   fits planned slot s held = (steady-from req_lawful start_plan (steady-start req_lawful) commands).fits slot (req_shape s) (there planned slot s held)
 
   -- levels are in order
-  pub run-ordered : AreSound (req_kind cmp spelling) slots → AreInOrder cmp slots
+  pub run-ordered : AreSound (req_kind cmp spelling) slots → AreSortedInOrder cmp slots
   run-ordered sound slot s held = in-order cmp s.k s.accuracy 0 s.levels (sound slot s held).placed
 
   -- they are few

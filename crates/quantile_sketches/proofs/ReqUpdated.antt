@@ -6,17 +6,17 @@ use Rattle.std.proofs.lemmas.Nat.{pow-add}
 use Rattle.sketch_base.specs.declared.common.SearchCriteria.{SearchCriteria}
 use Rattle.sketch_base.specs.Bag.{Bag, empty_bag, weighted_rank}
 use Rattle.sketch_base.specs.Query.{counted, true_rank}
-use Rattle.sketch_base.specs.Trace.{Action, Compact, Clear, Forget, Redraw, Event, At, World, changed, bag_after, draws_of, coins, play, start}
+use Rattle.sketch_base.specs.Trace.{Action, Compact, Clear, Forget, Redraw, Event, At, World, changed, bag_after, draws_of, coins, play, start, events_at}
 use Rattle.sketch_base.specs.Words.{sum_over_words, distance, square}
 use Rattle.sketch_base.proofs.AllParts.{all-append}
 use Rattle.sketch_base.proofs.Average.{sum_over_words-same}
-use Rattle.sketch_base.proofs.Calls.{coins-at}
+use Rattle.sketch_base.proofs.CallsInTurn.{coins-at}
 use Rattle.sketch_base.proofs.Changes.{changed-there, changed-own}
 use Rattle.sketch_base.proofs.Picks.{is_plain, ArePlain, stays, picked, pick, Sheds, play-picked, play-shed, sum-picked, picked-cleared, picked-away, picked-joined, picked-more}
 use Rattle.sketch_base.proofs.PlaysInParts.{play-at}
 use Rattle.sketch_req.specs.Relative.{IsRelative, UpdatesAreRelative, Reaches, UpdatesAreRelativeToCounts}
-use Rattle.sketch_req.specs.Schedule.{Layout, new_layout, room_actions, put_layouts, update_actions, update_layouts, redraw_actions, merge_layouts}
-use Rattle.sketch_req.specs.ScheduleLaws.{events_at, updates_actions, updates_layouts, updates_trace}
+use Rattle.sketch_req.specs.Schedule.{Layout, new_layout, actions_if_full, put_layouts, update_actions, update_layouts, redraw_actions, merge_layouts}
+use Rattle.sketch_req.specs.ScheduleLaws.{updates_actions, updates_layouts, updates_trace}
 use Rattle.sketch_req.specs.Sections.{IsLegalK}
 use Rattle.sketch_req.specs.declared.RankAccuracy.{RankAccuracy}
 use Rattle.sketch_req.proofs.Unbiased.{AreCompacts, room_compacts, unbiased_list}
@@ -53,7 +53,7 @@ module _ {A : Type 0} where
   compacts_plain (action ∷ rest) c = absurd c
 
   plain-update : (k : ℕ) (accuracy : RankAccuracy) (ls : List Layout) (x : A) → ArePlain (update_actions k accuracy ls x)
-  plain-update k accuracy ls x = (refl, compacts_plain (room_actions k accuracy (put_layouts ls)) (room_compacts A k accuracy (put_layouts ls)))
+  plain-update k accuracy ls x = (refl, compacts_plain (actions_if_full k accuracy (put_layouts ls)) (room_compacts A k accuracy (put_layouts ls)))
 
   plain-updates : (k : ℕ) (accuracy : RankAccuracy) (ls : List Layout) (xs : List A) → ArePlain (updates_actions k accuracy ls xs)
   plain-updates k accuracy ls [] = tt
@@ -242,7 +242,7 @@ module _ {A : Type 0} (cmp : A → A → Ordering) (commands : List (ReqCommand 
       empty_either true = refl
       empty_either false = refl
 
-  -- so it is whatever round trips are left out
+  -- the same holds whatever round trips are left out
   pub bag-shed : (fewer : List (Event A)) → Sheds trace fewer → (word : List Bool) → (play cmp fewer word start).slots slot ≡ (play cmp trace word start).slots slot
   bag-shed fewer sheds word = play-shed cmp slot trace fewer sheds plain word start
 

@@ -22,7 +22,7 @@ use Rattle.quantile_sketches.specs.Reader.{kll_grammar, req_grammar}
 use Rattle.quantile_sketches.specs.ReqBehaviour.{req}
 use Rattle.quantile_sketches.specs.SameRun.{LinesAnswerOne}
 use Rattle.quantile_sketches.specs.Served.{kll_of_i64, req_of_i64}
-use Rattle.quantile_sketches.proofs.Refused.{unread-kind}
+use Rattle.quantile_sketches.proofs.CallErrors.{unread-kind}
 use Rattle.quantile_sketches.proofs.SameKllRuns.{makes-one as kll-makes-one}
 use Rattle.quantile_sketches.proofs.SameLines.{AnswersOne, quantile-one, ranks-one, one-text}
 use Rattle.quantile_sketches.proofs.SameReqRuns.{makes-one as req-makes-one}

@@ -19,7 +19,7 @@ use Rattle.sketch_kll.proofs.ImageTexts.{one_sketch_lem}
 use Rattle.sketch_kll.proofs.OneCall.{one-update, one-weighted, one-merge}
 use Rattle.quantile_sketches.specs.KllBehaviour.{kll, IsMade, IsEmptied, DrawsNone, JoinsIn, MergesIn}
 use Rattle.quantile_sketches.specs.SameRun.{CommandsMakeOne}
-use Rattle.quantile_sketches.proofs.Refused.{err-of, kind-of, settled-by, unread, unwritten-kind, so-same, so-most, so-either, below}
+use Rattle.quantile_sketches.proofs.CallErrors.{err-of, kind-of, settled-by, unread, unwritten-kind, so-same, so-most, so-either, below}
 use Rattle.quantile_sketches.proofs.SameRuns.{IsOne, IsSettled, MakesOne, no-err, settled-never, one-run}
 
 -- a sketch, from its parts

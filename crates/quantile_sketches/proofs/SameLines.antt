@@ -17,13 +17,13 @@ use Rattle.sketch_base.specs.declared.error.ErrorKind.TheVariants.{InvalidArgume
 use Rattle.sketch_base.proofs.Tied.{same-answers}
 use Rattle.quantile_sketches.specs.Answer.{answer_text, ranks_text}
 use Rattle.sketch_base.specs.Random.{next_state}
-use Rattle.quantile_sketches.specs.Behaviour.{Behaviour, Spread, coin_of}
+use Rattle.quantile_sketches.specs.Behaviour.{Behaviour, Masses, coin_of}
 use Rattle.quantile_sketches.specs.Command.{request_of}
 use Rattle.quantile_sketches.specs.Queried.{IsQuantile, AreRanks}
 use Rattle.quantile_sketches.specs.Reader.{Grammar}
 use Rattle.quantile_sketches.specs.SameRun.{ServesAmply, LinesAnswerOne}
-use Rattle.quantile_sketches.specs.LineSteps.{Slots, Verdict, Reply, reply_of, Replies, Makes, Asks, Reads, Spreads, Shows, Loads, Executes, Answers}
-use Rattle.quantile_sketches.specs.Words.{words, points_of, image_in}
+use Rattle.quantile_sketches.specs.LineSteps.{Slots, Verdict, Reply, reply_of, Replies, Makes, Asks, Reads, AnswersMasses, Shows, ReadsImage, Executes, Answers}
+use Rattle.quantile_sketches.specs.LineWords.{words, points_of, image_in}
 use Rattle.quantile_sketches.specs.declared.answer.Answer.{Answer}
 use Rattle.quantile_sketches.specs.declared.answer.Answer.TheVariants.{Item, Ranks}
 use Rattle.quantile_sketches.specs.declared.answer.Refusal.TheVariants.{Sketch}
@@ -99,7 +99,7 @@ module _ {C S : Type 0} (behaviour : Behaviour S ℤ C) where
       go None h k = ap answer_text (h ∙ sym k)
       go (Some s) h k = same s r w n m h k
 
-  spreads-one : (points : List ℤ) (gives : Spread → Type 0) → SameReplies (Replies Ranks gives) → SameReplies (Spreads behaviour points gives)
+  spreads-one : (points : List ℤ) (gives : Masses → Type 0) → SameReplies (Replies Ranks gives) → SameReplies (AnswersMasses behaviour points gives)
   spreads-one points gives same r w n m (inl (bad, e)) (inl (bad', e')) = ap answer_text (e ∙ sym e')
   spreads-one points gives same r w n m (inl (bad, e)) (inr (good, k)) = absurd (false≢true (sym bad ∙ good))
   spreads-one points gives same r w n m (inr (good, h)) (inl (bad, e)) = absurd (false≢true (sym bad ∙ good))
@@ -128,7 +128,7 @@ module _ {C S : Type 0} (behaviour : Behaviour S ℤ C) where
         ((s : S) × (v ≡ Ok tt) × behaviour.loaded bytes (Ok s) × (ts ≡ slice_set slots slot (Some s)))
         ⊎ ((v ≡ Err (Sketch InvalidData)) × behaviour.loaded bytes (Err InvalidData) × (ts ≡ slots))
 
-    loaded-so : (bytes : List ℕ) (slot : ℕ) (slots ts : Slots S) (v : Verdict) → v ≢ Err (Sketch OutOfMemory) → Makes (Loads behaviour bytes) slot slots v ts → Loaded bytes slot slots v ts
+    loaded-so : (bytes : List ℕ) (slot : ℕ) (slots ts : Slots S) (v : Verdict) → v ≢ Err (Sketch OutOfMemory) → Makes (ReadsImage behaviour bytes) slot slots v ts → Loaded bytes slot slots v ts
     loaded-so bytes slot slots ts (Ok done) n (s, o, held, inl h, is) = inl (s, refl, h, is)
     loaded-so bytes slot slots ts (Ok done) n (s, o, held, inr e, is) = absurd (no-err s OutOfMemory e)
     loaded-so bytes slot slots ts (Err (Sketch e)) n (inl h, is) =

@@ -16,7 +16,7 @@ use Rattle.sketch_req.specs.Level.{Level}
 use Rattle.sketch_req.specs.Sketch.{Req, sketch_of}
 use Rattle.sketch_req.specs.declared.RankAccuracy.{RankAccuracy}
 use Rattle.sketch_req.proofs.OneCall.{one-update, one-merge}
-use Rattle.sketch_req.proofs.OneSketch.{one_sketch}
+use Rattle.sketch_req.proofs.OneText.{one_sketch}
 use Rattle.sketch_base.specs.declared.error.ErrorKind.TheVariants.{InvalidArgument}
 use Rattle.sketch_base.specs.declared.error.ErrorKind.{ErrorKind}
 use Rattle.std.specs.declared.alloc.Global.{Global}
@@ -25,7 +25,7 @@ use Rattle.quantile_sketches.specs.ReqBehaviour.{req, IsEmptyOf, IsCopied, IsUnf
 use Rattle.quantile_sketches.specs.ReqRules.{may_be_k, is_same}
 use Rattle.quantile_sketches.specs.SameRun.{CommandsMakeOne}
 use Rattle.quantile_sketches.proofs.ReqCopies.{copied-levels}
-use Rattle.quantile_sketches.proofs.Refused.{err-of, kind-of, settled-by, unread, unwritten-kind, so-same, so-most, so-either, below}
+use Rattle.quantile_sketches.proofs.CallErrors.{err-of, kind-of, settled-by, unread, unwritten-kind, so-same, so-most, so-either, below}
 use Rattle.quantile_sketches.proofs.ReqObeys.{may-be, same-itself}
 use Rattle.quantile_sketches.proofs.ReqRuleLaws.{legal_k, same_accuracy}
 use Rattle.quantile_sketches.proofs.SameRuns.{IsOne, IsSettled, MakesOne, no-err, settled-never, one-run}

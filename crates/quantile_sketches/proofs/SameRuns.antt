@@ -13,7 +13,7 @@ use Rattle.quantile_sketches.specs.declared.audit.commands.Command.TheVariants.{
 use Rattle.quantile_sketches.specs.SameRun.{AreCarriedOut, CommandsMakeOne}
 use Rattle.quantile_sketches.specs.LineSteps.{Slots, Verdict, Turns, Joins, Changes, Makes, Empties, RoundTrips, JoinsCopy, Merges, CarriesOutItem}
 
--- no want of memory
+-- memory does not run out
 abbrev Ample : Verdict → Type 0
 Ample v = v ≢ Err (Sketch OutOfMemory)
 

@@ -4,7 +4,7 @@ use Rattle.std.proofs.lemmas.List.{drop-take}
 use Rattle.std.specs.Option.{option_map}
 use Rattle.sketch_base.specs.Random.{bits_from, after_draws}
 use Rattle.sketch_base.specs.Trace.{play, start, coins, event_draws, act, happens}
-use Rattle.sketch_base.proofs.Calls.{bits-take, bits-drop, after_draws-add}
+use Rattle.sketch_base.proofs.CallsInTurn.{bits-take, bits-drop, after_draws-add}
 use Rattle.sketch_base.proofs.PlaysInParts.{in_turn-append}
 use Rattle.quantile_sketches.specs.declared.audit.commands.Command.{Command}
 use Rattle.quantile_sketches.specs.Outcome.{shapes_in, WeighsStream, HasExtremes}

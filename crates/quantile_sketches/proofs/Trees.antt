@@ -3,7 +3,7 @@ use Rattle.std.proofs.Common.{◌≡◌, ℕ, Bool, true, false, ◌&&◌, ◌==
 use Rattle.std.specs.Option.{option_and_then}
 use Rattle.std.proofs.lemmas.Bool.{cases_Bool, and_from, eq-eqb, ne_eqb, false≢true}
 use Rattle.sketch_base.specs.Shares.{shares_after, all_shares, share_no_coin, takes_once}
-use Rattle.sketch_base.specs.Trace.{Action, Clear, Event, Snap, At, Work, changed}
+use Rattle.sketch_base.specs.Trace.{Action, Clear, Event, Snap, At, Work, changed, events_at}
 use Rattle.sketch_base.proofs.Changes.{changed-there}
 use Rattle.sketch_base.proofs.Coins.{AreAsMany, as_many-after, products, AreApart, apart-swapped, apart-cleared, apart-acts, apart-snapped, once-elsewhere}
 use Rattle.sketch_kll.specs.Merge.{merge_actions}
@@ -13,7 +13,7 @@ use Rattle.sketch_kll.proofs.RolledCoins.{update-once, merge-once}
 use Rattle.quantile_sketches.specs.declared.audit.commands.Command.{Command}
 use Rattle.quantile_sketches.specs.declared.audit.commands.Command.TheVariants.{New, Update, UpdateWeighted, Merge, Reset, RoundTrip, Redraw, MergeRedrawn}
 use Rattle.quantile_sketches.specs.KllRules.{KllShape, kll_rules}
-use Rattle.quantile_sketches.specs.Plan.{Plan, start_plan, actions_on, events_at, shape_after, accepted_events}
+use Rattle.quantile_sketches.specs.Plan.{Plan, start_plan, actions_on, shape_after, accepted_events}
 use Rattle.quantile_sketches.specs.Rollup.{Standing, Free, Mixed, joined, used, is_tree, accepted_standings, TreesTakeOnce}
 use Rattle.quantile_sketches.proofs.KllRuleLaws.{kll_lawful}
 use Rattle.quantile_sketches.proofs.Rollups.{coins-from}
@@ -49,7 +49,7 @@ record AreTrees (stands : ℕ → Standing) (once : ℕ → Bool) (shares : ℕ 
   taken : (j : ℕ) → is_tree (stands j) ≡ true → once j ≡ true
   apart : (i j : ℕ) → (i == j) ≡ false → stands i ≡ Free → stands j ≡ Free → AreApart shares i j
 
--- after some events, by which the slots come to stand so
+-- after some events, by which the slots get this standing
 abbrev TreesBy : {A : Type 0} → (ℕ → Standing) → (ℕ → Bool) → (ℕ → List ℕ) → List (Event A) → Type 0
 TreesBy stands once shares events = AreTrees stands (takes_once events shares once) (all_shares events shares)
 

@@ -1,4 +1,4 @@
--- how a run of the program ends, by the words after its name
+-- How a run of the program ends, by the words after its name.
 use Rattle.std.specs.Prelude.{ℕ, List, Bool, Option, Some, None, Result, ⊤, codes}
 use Rattle.std.specs.declared.io.Error.{Error}
 use Rattle.quantile_sketches.specs.declared.lines.Ending.{Ending}

@@ -1,4 +1,4 @@
--- what is owed to an output: a beginning of it is out, and the rest waits
+-- What is owed to an output: a beginning of it is out, and the rest waits.
 use Rattle.std.specs.Prelude.{◌≡◌, ℕ, List, ◌++◌, Option, Result, OnOk}
 use Rattle.std.specs.Io.KnownBytes.{Appends}
 

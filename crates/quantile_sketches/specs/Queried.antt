@@ -8,7 +8,7 @@ use Rattle.sketch_base.specs.declared.common.Rank.{Rank}
 use Rattle.sketch_base.specs.declared.common.SearchCriteria.{SearchCriteria}
 use Rattle.sketch_base.specs.declared.error.ErrorKind.{ErrorKind}
 use Rattle.sketch_base.specs.declared.error.ErrorKind.TheVariants.{InvalidArgument, OutOfMemory}
-use Rattle.quantile_sketches.specs.Behaviour.{Spread}
+use Rattle.quantile_sketches.specs.Behaviour.{Masses}
 
 module _ {A : Type 0} (cmp : A → A → Ordering) where
   -- the weight that the sketch holds up to or below an item, of all its weight; none where it is empty
@@ -27,7 +27,7 @@ module _ {A : Type 0} (cmp : A → A → Ordering) where
       × IfOk r (SameAnswer cmp (quantile cmp bag least greatest fraction.weight fraction.total criteria))
 
   -- these weights out of n, refused where the split points do not increase, or for memory; none where the sketch is empty
-  abbrev pub AreRanks : ℕ → List A → List ℕ → Spread → Type 0
+  abbrev pub AreRanks : ℕ → List A → List ℕ → Masses → Type 0
   AreRanks n points weights r =
       (IsErrOf r InvalidArgument ↔ ¬ (IsIncreasing cmp points))
       × IfErr r (λ e. IsIncreasing cmp points → (e ≡ OutOfMemory) × (0 < n))

@@ -1,4 +1,4 @@
--- what a REQ sketch gives where a command calls it
+-- What a REQ sketch gives where a command calls it.
 use Rattle.std.specs.Prelude.{◌≡◌, ◌≢◌, ◌⊎◌, ◌^◌, ◌+◌, ◌-◌, ◌<◌, ◌≤◌, ◌↔◌, ℕ, Bool, true, List, [], ◌∷◌, Option, None, Result, IsErrOf, IsOk, IfOk, IfErr, OnOk, OnErr, IsTrue}
 use Rattle.std.specs.declared.alloc.Global.{Global}
 use Rattle.std.specs.declared.vec.Vec.{Vec}

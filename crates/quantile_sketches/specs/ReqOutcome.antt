@@ -23,8 +23,8 @@ use Rattle.quantile_sketches.specs.ReqUpdated.{was_only_updated}
 use Rattle.quantile_sketches.specs.Run.{stream_of}
 
 -- each level that says that it is sorted is
-abbrev pub AreInOrder : {A : Type 0} → (A → A → Ordering) → Slots (Req A) → Type 0
-AreInOrder cmp = EachSketch (λ slot s. AllByRecursion (λ level. IsTrue level.is_sorted → IsSorted cmp level.items) s.levels)
+abbrev pub AreSortedInOrder : {A : Type 0} → (A → A → Ordering) → Slots (Req A) → Type 0
+AreSortedInOrder cmp = EachSketch (λ slot s. AllByRecursion (λ level. IsTrue level.is_sorted → IsSorted cmp level.items) s.levels)
 
 -- each sketch of L levels, L at least 2, took at least 2^L items
 abbrev pub HaveFewLevels : {A : Type 0} → Slots (Req A) → Type 0

@@ -1,4 +1,4 @@
--- the run of commands behind the answers to lines
+-- The run of commands behind the answers to lines.
 use Rattle.std.specs.Prelude.{◌≡◌, ℕ, ℤ, List, [], ◌∷◌, ◌++◌, Option, None, Some, Ok, Err, ⊤}
 use Rattle.std.specs.Option.{option_map}
 use Rattle.sketch_base.specs.Random.{next_state}
@@ -12,7 +12,7 @@ use Rattle.quantile_sketches.specs.Reader.{Grammar}
 use Rattle.quantile_sketches.specs.Refused.{AreExecuted}
 use Rattle.quantile_sketches.specs.Rules.{Kind}
 use Rattle.quantile_sketches.specs.LineSteps.{Slots, in_slot, Reply, Answers}
-use Rattle.quantile_sketches.specs.Words.{words}
+use Rattle.quantile_sketches.specs.LineWords.{words}
 
 -- the accepted commands of a run; none are known once a `load` was accepted
 abbrev pub Known : Type 0 → Type 0

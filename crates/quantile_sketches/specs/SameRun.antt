@@ -8,7 +8,7 @@ use Rattle.quantile_sketches.specs.declared.answer.Refusal.TheVariants.{Sketch}
 use Rattle.quantile_sketches.specs.declared.audit.commands.Command.{Command}
 use Rattle.quantile_sketches.specs.Reader.{Grammar}
 use Rattle.quantile_sketches.specs.LineSteps.{Slots, Verdict, Reply, Answers, CarriesOutItem}
-use Rattle.quantile_sketches.specs.Words.{words}
+use Rattle.quantile_sketches.specs.LineWords.{words}
 
 module _ {S A C Source : Type 0} (behaviour : Behaviour S A C) (bit : Source → Bool) (next : Source → Source) where
   -- commands are carried out one after the other, from some sketches and coins on to others; some may be refused, but none because memory ran out

@@ -1,4 +1,4 @@
--- what is written for a text of commands on KLL or on REQ sketches, from empty slots on
+-- What is written for a text of commands on KLL or on REQ sketches, from empty slots on.
 use Rattle.std.specs.Prelude.{ℕ, ℤ, Bool, true, false, List, [], None, Some, replicate}
 use Rattle.std.specs.Ordering.{int_cmp}
 use Rattle.sketch_base.specs.Spelling.{i64_spelling}

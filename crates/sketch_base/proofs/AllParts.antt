@@ -51,7 +51,7 @@ module _ {A : Type 0} (P : A → Type 0) where
           | false ↦ λ h. (h.0, h.1)
         ]) h
 
-    pub all-sorted : (xs : List A) → AllByRecursion P (sort cmp xs) → AllByRecursion P xs
+    all-sorted : (xs : List A) → AllByRecursion P (sort cmp xs) → AllByRecursion P xs
     all-sorted [] h = tt
     all-sorted (x ∷ xs) h = let r = all-inserted x (sort cmp xs) h in (r.0, all-sorted xs r.1)
 
@@ -67,7 +67,7 @@ module _ {A : Type 0} (P : A → Type 0) where
       pub all-alike : (xs ys : List A) → SameItems cmp (sort cmp xs) (sort cmp ys) → AllByRecursion P xs → AllByRecursion P ys
       all-alike xs ys s h = all-sorted ys (all-same (sort cmp xs) (sort cmp ys) s (all-sort xs h))
 
-  -- so it is of levels
+  -- the same holds of levels
   abbrev pub AllIn : List (List A) → Type 0
   AllIn = AllByRecursion (AllByRecursion P)
 

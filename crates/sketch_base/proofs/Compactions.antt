@@ -19,6 +19,7 @@ sum_below-none : (n h x : ℕ) → n ≤ h → sum_below n (λ i. if h == i then
 sum_below-none zero h x le = refl
 sum_below-none (suc n) h x le = grind (arith, sum_below-none n h x (omega arith), eqb-true)
 
+-- a sum of which one term alone is not 0
 pub sum_below-pick : (n h x : ℕ) → h < n → sum_below n (λ i. if h == i then x else 0) ≡ x
 sum_below-pick zero h x lt = absurd (omega arith)
 sum_below-pick (suc n) h x lt = grind (arith, sum_below-none n h x, sum_below-pick n h x, eqb-true)

@@ -59,7 +59,7 @@ module _ {A : Type 0} (cmp : A → A → Ordering) (test : A → Bool) where
   ScratchGoesOn (e ∷ es) word world =
       IsTrue (sum (bag_lengths world.scratch) == 0 || goes_on e world.target) × ScratchGoesOn es (if event_draws e then drop 1 word else word) (happens (act cmp) e (next_bit word) world)
 
-  -- so it is where the lengths obey it and all compactions take an even number
+  -- the same holds where the lengths obey it and all compactions take an even number
   pub scratch_obeys : (es : List (Event A)) (word : List Bool) (world : World (Bag A)) → ObeysScratch es (world_lengths world) → Along TakesEven es (world_lengths world) → ScratchGoesOn es word world
   scratch_obeys [] word world obeys even = obeys
   scratch_obeys (e ∷ es) word world obeys even =

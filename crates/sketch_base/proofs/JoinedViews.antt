@@ -228,7 +228,7 @@ module _ {A : Type 0} {cmp : A → A → Ordering} (order : IsTotalOrder cmp) wh
           greatest_there = there greatest g (length (spread_out (joined cmp pairs) (joined_weights cmp 0 pairs))) whole;
         }
 
--- one more item: the last of those that stand in reverse
+-- one more item: the last of those in reverse order
 pub record IsNext {A : Type 0} (cmp : A → A → Ordering) (xs xs' : List A) (ws ws' : List ℕ) (before after : ℕ) (old new : List (A × ℕ)) : Type 0 where
   pub items : xs' ++ joined cmp (reverse new) ≡ xs ++ joined cmp (reverse old)
   pub weights : ws' ++ joined_weights cmp after (reverse new) ≡ ws ++ joined_weights cmp before (reverse old)

@@ -12,18 +12,22 @@ pub equal-from_neither : (o : Ordering) → is_lt o ≡ false → is_gt o ≡ fa
 equal-from_neither Equal l g = refl
 equal-from_neither _ l g = cc
 
+-- what is at most is not above
 pub le_not_gt : (o : Ordering) → is_le o ≡ true → is_gt o ≡ false
 le_not_gt Greater e = absurd (false≢true e)
 le_not_gt _ e = refl
 
+-- what is not above is at most
 pub not_gt_le : (o : Ordering) → is_gt o ≡ false → is_le o ≡ true
 not_gt_le Greater e = absurd (false≢true (sym e))
 not_gt_le _ e = refl
 
+-- what is below is not above
 pub lt_not_gt : (o : Ordering) → is_lt o ≡ true → is_gt o ≡ false
 lt_not_gt Less e = refl
 lt_not_gt _ e = absurd (false≢true e)
 
+-- what is above is not below
 pub gt_not_lt : (o : Ordering) → is_gt o ≡ true → is_lt o ≡ false
 gt_not_lt Less e = sym e
 gt_not_lt _ e = refl
@@ -38,6 +42,7 @@ pub not_gt_lt : (o p : Ordering) → o ≡ ordering_reverse p → is_gt p ≡ fa
 not_gt_lt o Greater e h = absurd (false≢true (sym h))
 not_gt_lt o _ e h = ap is_lt e
 
+-- what is above another has it not above itself
 pub gt_not_gt : (o p : Ordering) → o ≡ ordering_reverse p → is_gt o ≡ true → is_gt p ≡ false
 gt_not_gt o Greater e h = absurd (false≢true (sym (ap is_gt e) ∙ h))
 gt_not_gt o _ e h = refl

@@ -30,7 +30,7 @@ module _ {A : Type 0} (test : A → Bool) where
           fails zero d l m = absurd (omega arith)
           fails (suc k) d l m = r.1.1.1 k d (omega arith) (omega arith)
 
-  -- where the passing items stand before the others, as many stand in front as pass
+  -- where the passing items come before the others, as many come first as pass
   pub parts-count : (xs : List A) → IsPartitionedBy test xs → IsSplitAt test xs (count_by test xs)
   parts-count xs up = let r = front xs up in subst (IsSplitAt test xs) (counted-parts test xs r.0 r.1.0 r.1.1) r.1.1
 

@@ -7,6 +7,7 @@ pub ok-weaker : {T E : Type 0} (r : Result T E) (P Q : T → Type 0) → ((x : T
 ok-weaker (Ok x) P Q f h = f x h
 ok-weaker (Err e) P Q f h = h
 
+-- what holds of a value, weakened
 pub some-weaker : {T : Type 0} (o : Option T) (P Q : T → Type 0) → ((x : T) → P x → Q x) → IfSome o P → IfSome o Q
 some-weaker None P Q f h = h
 some-weaker (Some x) P Q f h = f x h

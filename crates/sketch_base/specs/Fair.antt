@@ -1,11 +1,26 @@
 -- REQ traces that are fair to a slot: each complemented coin in what gets into it had been drawn.
-use Rattle.std.specs.Prelude.{◌≡◌, ℕ, ◌*◌, ◌^◌, ◌≤◌, ◌==◌, Bool, true, false, not, ◌&&◌, ◌||◌, IsTrue, List, [], ◌∷◌}
+use Rattle.std.specs.Prelude.{◌≡◌, ℕ, ◌*◌, ◌^◌, ◌≤◌, ◌==◌, Bool, true, false, not, ◌&&◌, ◌||◌, IsTrue, List, [], ◌∷◌, ⊤}
 use Rattle.std.specs.declared.cmp.Ordering.{Ordering}
 use Rattle.sketch_base.specs.Bag.{weighted_rank}
 use Rattle.sketch_base.specs.Trace.{Put, Pull, Join, Compact, Forget, Redraw, Clear, Fresh, Turned, Event, Snap, At, changed, is_req, play, start, coins}
 use Rattle.sketch_base.specs.Lengths.{start_lengths, ObeysScratch, Along, TakesEven}
 use Rattle.sketch_base.specs.Ranks.{rank_of_trace}
 use Rattle.sketch_base.specs.Words.{sum_over_words}
+
+-- a REQ trace of updates alone: Puts, Clears and compactions, where each turned coin complements a coin that was drawn for that level of the slot since its Clear
+abbrev pub IsByUpdates : {A : Type 0} → List (Event A) → (ℕ → ℕ → Bool) → Type 0
+IsByUpdates [] drawn = ⊤
+IsByUpdates (At s (Put h x) ∷ es) drawn = IsByUpdates es drawn
+IsByUpdates (At s Clear ∷ es) drawn = IsByUpdates es (changed drawn s (λ h. false))
+IsByUpdates (At s (Compact h Fresh taken) ∷ es) drawn =
+    IsTrue (is_req taken) × IsByUpdates es (changed drawn s (changed (drawn s) h true))
+IsByUpdates (At s (Compact h Turned taken) ∷ es) drawn =
+    IsTrue (is_req taken) × IsTrue (drawn s h) × IsByUpdates es drawn
+IsByUpdates (At s Pull ∷ es) drawn = ⊥
+IsByUpdates (At s (Join h) ∷ es) drawn = ⊥
+IsByUpdates (At s Forget ∷ es) drawn = ⊥
+IsByUpdates (At s (Redraw h) ∷ es) drawn = ⊥
+IsByUpdates (Snap s t ∷ es) drawn = ⊥
 
 -- whether what slot s holds before the events may get into the slot in the end
 abbrev pub reaches : {A : Type 0} → List (Event A) → (slot s : ℕ) → Bool

@@ -1,4 +1,4 @@
--- items that compare equal are equal
+-- Items that compare equal are equal.
 use Rattle.std.specs.Prelude.{◌≡◌}
 use Rattle.std.specs.declared.cmp.Ordering.{Ordering}
 use Rattle.std.specs.declared.cmp.Ordering.TheVariants.{Equal}

@@ -1,4 +1,4 @@
--- an empty sketch is sound
+-- An empty sketch is sound.
 use Rattle.std.proofs.Common.{None, ◌≡◌, ℕ, ◌<◌, ◌≤◌, ◌^◌, Bool, false, List, [], ◌∷◌, refl, sym, subst, arith, Ordering}
 use Rattle.sketch_kll.specs.Sketch.{IsSound, sketch_of, empty_sketch}
 

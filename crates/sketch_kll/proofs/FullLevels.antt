@@ -1,4 +1,4 @@
--- the loop that seeks the lowest full level, and what it finds, on levels and on their lengths
+-- The loop that seeks the lowest full level, and what it finds, on levels and on their lengths.
 use Rattle.std.proofs.Common.{◌≡◌, ℕ, suc, ◌+◌, ◌-◌, ◌<◌, ◌≤◌, Bool, true, false, nat_le, List, [], ◌∷◌, length, map, sum, slice_index, cond, drop, refl, ap₂, sym, ap, ◌∙◌, arith, Ordering, length-drop, leb-true, leb-false, le-leb, inl, inr}
 use Rattle.std.proofs.lemmas.Bool.{cases_Bool, lt-leb}
 use Rattle.std.proofs.lemmas.List.{drop_all}
@@ -7,7 +7,7 @@ use Rattle.sketch_kll.specs.Schedule.{lowest_full}
 use Rattle.sketch_kll.specs.Capacity.{capacity_at, total_of}
 use Rattle.sketch_kll.specs.Levels.{retained, first_level, compacted}
 use Rattle.sketch_kll.specs.Flat.{levels_in, IsFlat}
-use Rattle.sketch_kll.specs.Steps.{full_level, is_full, with_room, needs_sorting}
+use Rattle.sketch_kll.specs.Steps.{full_level, is_full, compacted_if_full, needs_sorting}
 use Rattle.sketch_kll.proofs.Flats.{length-bounds, length-items, drop_level}
 
 -- the loop that seeks a level to compact, one step on
@@ -113,10 +113,10 @@ full_by_lengths {A} items bounds f k n e =
 
 -- room for an item in full levels comes by a compaction
 pub with_room_full : {A : Type 0} (cmp : A → A → Ordering) (k level : ℕ) (is_sorted coin last : Bool) (ls : List (List A)) →
-    true ≡ is_full k ls → level ≡ full_level k ls → last ≡ needs_sorting is_sorted level → with_room cmp k is_sorted coin ls ≡ compacted cmp last coin level ls
+    true ≡ is_full k ls → level ≡ full_level k ls → last ≡ needs_sorting is_sorted level → compacted_if_full cmp k is_sorted coin ls ≡ compacted cmp last coin level ls
 with_room_full cmp k level is_sorted coin last ls f e l = rw (← f, l, e) refl
 
 -- levels that are not full stay as they are
 pub with_room_spare : {A : Type 0} (cmp : A → A → Ordering) (k : ℕ) (is_sorted coin : Bool) (ls : List (List A)) →
-    false ≡ is_full k ls → with_room cmp k is_sorted coin ls ≡ ls
+    false ≡ is_full k ls → compacted_if_full cmp k is_sorted coin ls ≡ ls
 with_room_spare cmp k is_sorted coin ls f = rw (← f) refl

@@ -1,10 +1,10 @@
--- a compaction never makes a 62nd level, since a full level 60 would weigh too much
+-- A compaction never makes a 62nd level, since a full level 60 would weigh too much.
 use Rattle.std.proofs.Common.{◌≡◌, ℕ, zero, suc, ◌+◌, ◌-◌, ◌*◌, ◌^◌, ◌<◌, ◌≤◌, Bool, false, nat_le, List, [], ◌∷◌, length, refl, sym, ap, ◌∙◌, subst, arith, Ordering, leb-true, leb-false, inl, inr}
 use Rattle.std.proofs.Math.Nat.{pow-succ'}
 use Rattle.std.proofs.lemmas.Bool.{cases_Bool, lt-leb, cases_lt, cases_eq}
 use Rattle.sketch_kll.specs.Capacity.{capacity_at, total_of}
 use Rattle.sketch_kll.specs.Levels.{retained, weight, compacted, SameLevels}
-use Rattle.sketch_kll.specs.Steps.{full_level, is_full, with_room, needs_sorting}
+use Rattle.sketch_kll.specs.Steps.{full_level, is_full, compacted_if_full, needs_sorting}
 use Rattle.sketch_kll.proofs.Capacities.{capacity_eight}
 use Rattle.sketch_kll.proofs.CompactedSizes.{compacted_size, alike_size}
 use Rattle.sketch_kll.proofs.FullLevels.{full_level_at, with_room_spare}
@@ -80,7 +80,7 @@ pub record RoomMade {A : Type 0} (k : ℕ) (ls ms : List (List A)) : Type 0 wher
 -- room for an item is made so
 pub room_made : {A : Type 0} (cmp : A → A → Ordering) (k : ℕ) (is_sorted coin : Bool) (ls : List (List A)) → 0 < length ls → length ls ≤ 61 →
     weight ls < 2 ^ 64 →
-    retained ls ≤ total_of k 8 (length ls) → RoomMade k ls (with_room cmp k is_sorted coin ls)
+    retained ls ≤ total_of k 8 (length ls) → RoomMade k ls (compacted_if_full cmp k is_sorted coin ls)
 room_made cmp k is_sorted coin ls h few w t =
     elim (cases_Bool (is_full k ls)) [
       | inl e ↦
@@ -101,7 +101,7 @@ retained-weight (l ∷ ls) = let h = retained-weight ls in omega (arith, h)
 
 -- room for the first two items takes no level
 pub one_level_left : {A : Type 0} (cmp : A → A → Ordering) (k : ℕ) (is_sorted coin : Bool) (ls : List (List A)) → length ls ≡ 1 → weight ls ≤ 1 →
-    length (with_room cmp k is_sorted coin ls) ≡ 1
+    length (compacted_if_full cmp k is_sorted coin ls) ≡ 1
 one_level_left cmp k is_sorted coin ls e w =
     let t : total_of k 8 (length ls) ≡ 0 + capacity_at k 8 0 = ap (total_of k 8) e in
     let f : false ≡ is_full k ls = sym (lt-leb (total_of k 8 (length ls)) (retained ls) (omega (arith, retained-weight ls, t, capacity_eight k 0))) in

@@ -26,7 +26,7 @@ module _ {A : Type 0} {cmp : A → A → Ordering} (order : IsTotalOrder cmp) (t
   one-sorted (t ∷ ts) (u ∷ us) p a b = ap₂ (λ (l : List A) (ls : List (List A)). l ∷ ls) (same-sorted order tied t u p.0 a.0 b.0) (one-sorted ts us p.1 a.1 b.1)
   one-sorted ts us p a b = absurd p
 
-  -- so it is where the lowest ones are the same item by item
+  -- the same holds where the lowest ones are the same item by item
   one-levels : (ts us : List (List A)) → AllZip SameSorted ts us → SameItems cmp (level_at ts 0) (level_at us 0) → UpperSorted cmp ts → UpperSorted cmp us → ts ≡ us
   one-levels [] [] p c a b = refl
   one-levels (t ∷ ts) (u ∷ us) p c a b = ap₂ (λ (l : List A) (ls : List (List A)). l ∷ ls) (same-items order tied t u c) (one-sorted ts us p.1 a b)

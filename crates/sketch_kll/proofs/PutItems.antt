@@ -1,4 +1,4 @@
--- levels after items are put last into level 0
+-- Levels after items are put last into level 0.
 use Rattle.std.proofs.Common.{◌≡◌, ℕ, ◌+◌, ◌<◌, List, [], ◌∷◌, ◌++◌, length, set, refl, sym, ap, arith, Ordering, append_assoc, append-nil, length-append}
 use Rattle.std.specs.Cmp.{IsTotalOrder}
 use Rattle.std.proofs.lemmas.Cmp.{tied_itself}

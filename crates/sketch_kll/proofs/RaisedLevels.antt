@@ -1,4 +1,4 @@
--- levels with empty ones put above the top, as a compaction of the top level and a merge need them
+-- Levels with empty ones put above the top, as a compaction of the top level and a merge need them.
 use Rattle.std.proofs.Common.{eqb, eqb-true, ◌≡◌, ℕ, zero, suc, ◌+◌, ◌<◌, Bool, cond, List, [], ◌∷◌, ◌++◌, length, refl, sym, ap, ap₂, ◌∙◌, arith, Ordering, length-append, append-nil, replicate, inl, inr}
 use Rattle.std.proofs.lemmas.Bool.{cases_Bool, eqb-false}
 use Rattle.sketch_kll.specs.Levels.{retained, first_level, compacted, AllSorted, UpperSorted}
@@ -35,7 +35,7 @@ levels_with_tops {A} j items bounds f =
     let g : bounds ++ replicate j 0 ≡ marks (ls ++ replicate j []) = sym (marks-tops j ls ∙ ap (λ (b : List ℕ). b ++ replicate j 0) f.bounds_are) in
     (is_flat items (bounds ++ replicate j 0) (ls ++ replicate j []) e g, levels_of_flat items (bounds ++ replicate j 0) (ls ++ replicate j []) e g)
 
--- a compaction of the top level makes the level above it, whether an empty one stands there or not
+-- a compaction of the top level makes the level above it, whether there is an empty one or not
 compacted-top : {A : Type 0} (cmp : A → A → Ordering) (last coin : Bool) (h : ℕ) (ls : List (List A)) → suc h ≡ length ls →
     compacted cmp last coin h (ls ++ [] ∷ []) ≡ compacted cmp last coin h ls
 compacted-top cmp last coin zero (l ∷ []) e = refl

@@ -1,4 +1,4 @@
--- levels as they are stored: empty, those of a sound sketch, with items put in, after a compaction, and after a merge
+-- Levels as they are stored: empty, those of a sound sketch, with items put in, after a compaction, and after a merge.
 use Rattle.std.proofs.Common.{Option, ◌≡◌, ℕ, ◌-◌, ◌<◌, ◌≤◌, Bool, List, [], ◌∷◌, ◌++◌, length, drop, replicate, set, sym, ap, ◌∙◌, subst, arith, Ordering, length-drop}
 use Rattle.sketch_kll.specs.Capacity.{total_of}
 use Rattle.sketch_kll.specs.Flat.{levels_in, IsFlat}
@@ -41,7 +41,7 @@ pub sound_stored : {A : Type 0} (cmp : A → A → Ordering) (k min_k n : ℕ) (
 sound_stored cmp k min_k n flag items bounds total least greatest f t s =
     record { k_above = omega (arith, s.eight_below_min_k, s.min_k_below_k); flat = f; total_is = t; some = s.has_level; few = s.has_few_levels; sorted = s.upper_sorted }
 
--- the total capacity goes by the number of bounds
+-- the total capacity depends on the number of bounds
 pub known_total : {A : Type 0} {cmp : A → A → Ordering} {k total : ℕ} {items : List A} {bounds : List ℕ} → AreStored cmp k items bounds total →
     (len : ℕ) → len ≡ length bounds → total ≡ total_of k 8 (len - 1)
 known_total {k = k} {items = items} {bounds = bounds} stored len len_is =

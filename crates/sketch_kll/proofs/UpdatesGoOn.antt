@@ -1,4 +1,4 @@
--- updates by a single item are its update, and updates by some items and then by more are updates by all
+-- Updates by a single item are its update, and updates by some items and then by more are updates by all.
 use Rattle.std.proofs.Common.{◌≡◌, ℕ, ◌+◌, ◌^◌, ◌<◌, Bool, true, false, cond, eqb, ◌&&◌, List, [], ◌∷◌, ◌++◌, length, map, Option, None, Some, ◌⊎◌, inl, inr, refl, sym, ap, ◌∙◌, subst, arith, append_assoc, append-nil, drop, length-append, Ordering, Equal}
 use Rattle.std.specs.Option.{option_to_list}
 use Rattle.std.specs.Cmp.{IsTotalOrder}
@@ -15,7 +15,7 @@ use Rattle.sketch_base.proofs.PlaysInParts.{in_turn-append}
 use Rattle.sketch_kll.specs.Levels.{weight, SameLevels, UpperSorted}
 use Rattle.sketch_kll.specs.Schedule.{updates_actions, updates_lengths}
 use Rattle.sketch_kll.specs.Sketch.{Kll, IsSound, IsUpdated, Ties, bag_of, coins_of_update, greatest_with, least_with, sketch_of, update_of}
-use Rattle.sketch_kll.specs.Steps.{is_full, put, with_room}
+use Rattle.sketch_kll.specs.Steps.{is_full, put, compacted_if_full}
 use Rattle.sketch_kll.specs.Updates.{AreUpdated, OneUpdates, UpdatesGoOn, coins_of_updates}
 use Rattle.sketch_kll.proofs.AlikeSteps.{length-lengths}
 use Rattle.sketch_kll.proofs.ItemsBetween.{greatest_of_both, least_of_both}
@@ -44,7 +44,7 @@ module _ {A : Type 0} {cmp : A → A → Ordering} (o : IsTotalOrder cmp) where
   -- an update, which takes one item in, makes such fields
   pub updated_fields : {S : Type 0} (bit : S → Bool) (next : S → S) {source after : S} {s : Kll A} (x : A) {k old_k : ℕ} {old_flag flag : Bool} {rows : List (List A)}
       (ls : List (List A)) {ms : List (List A)} {least greatest kept_least kept_greatest : Option A} →
-      IsSound cmp s → s.n < 2 ^ 64 → old_k ≡ s.k → old_flag ≡ s.is_sorted → rows ≡ s.levels → SameLevels cmp (with_room cmp old_k old_flag (bit source) rows) ls → UpperSorted cmp ls →
+      IsSound cmp s → s.n < 2 ^ 64 → old_k ≡ s.k → old_flag ≡ s.is_sorted → rows ≡ s.levels → SameLevels cmp (compacted_if_full cmp old_k old_flag (bit source) rows) ls → UpperSorted cmp ls →
       k ≡ old_k → flag ≡ false → after ≡ cond (is_full old_k rows) (next source) source → ms ≡ put x ls →
       Ties cmp (least_with cmp x s.least) least → kept_least ≡ least → Ties cmp (greatest_with cmp x s.greatest) greatest → kept_greatest ≡ greatest →
       UpdatedFields bit next source after s x (sketch_of k s.min_k (s.n + 1) flag ms kept_least kept_greatest)

@@ -1,4 +1,4 @@
--- a sketch after updates by some items in turn: it keeps what every sketch keeps, and is what their actions make of it
+-- A sketch after updates by some items in turn: it keeps what every sketch keeps, and is what their actions make of it.
 use Rattle.std.proofs.Common.{◌≡◌, ℕ, ◌+◌, ◌<◌, Bool, true, eqb, ◌&&◌, List, [], ◌∷◌, ◌++◌, length, map, Option, None, Some, refl, sym, ap, ◌∙◌, subst, arith, append-nil, Ordering}
 use Rattle.std.specs.List.{AllByRecursion}
 use Rattle.std.specs.Option.{option_to_list}

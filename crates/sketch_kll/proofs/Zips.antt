@@ -1,4 +1,4 @@
--- lists that are related place by place
+-- Lists that are related place by place.
 use Rattle.std.proofs.Common.{◌≡◌, ℕ, List, [], ◌∷◌, map, refl, ap₂}
 use Rattle.std.specs.List.{AllZip}
 

@@ -1,4 +1,4 @@
--- what a call makes of a sketch under one word is one sketch, where items that compare equal are equal
+-- What a call makes of a sketch under one word is one sketch, where items that compare equal are equal.
 use Rattle.std.specs.Prelude.{◌≡◌, ℕ, Bool, List}
 use Rattle.std.specs.declared.cmp.Ordering.{Ordering}
 use Rattle.sketch_kll.specs.Merged.{IsMerged}

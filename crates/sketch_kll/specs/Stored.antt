@@ -1,4 +1,4 @@
--- the levels of a sketch as their model, and how they are stored
+-- The levels of a sketch as their model, and how they are stored.
 use Rattle.std.specs.Prelude.{◌≡◌, ℕ, ◌<◌, ◌≤◌, ◌+◌, Bool, List, [], ◌∷◌, length, drop, vec_len, vec_capacity}
 use Rattle.std.specs.declared.cmp.Ordering.{Ordering}
 use Rattle.sketch_kll.specs.declared.levels.merging.Incoming.{Incoming}

@@ -9,7 +9,7 @@ ghost use Rattle.sketch_kll.specs.Flat.{levels_in, IsFlat};
 ghost use Rattle.sketch_kll.specs.Levels.{retained, weight as weight_in, first_level, compacted, SameLevels, UpperSorted};
 ghost use Rattle.sketch_kll.specs.Rank.{counted_weight};
 ghost use Rattle.sketch_kll.specs.Sketch.{Ties, greatest_with, least_with, newer_or};
-ghost use Rattle.sketch_kll.specs.Steps.{full_level, is_full, with_room, needs_sorting, put};
+ghost use Rattle.sketch_kll.specs.Steps.{full_level, is_full, compacted_if_full, needs_sorting, put};
 ghost use Rattle.sketch_kll.specs.Stored.{KeepsLevels, KeepsRoom};
 
 mod compress;
@@ -117,7 +117,7 @@ impl<T: Ord + Drop> Levels<T> {
         requires spare { length self.old.levels + 1 < self.old.bounds_room }
         ensures kept { KeepsRoom self.old self.new }
         ensures levels { SameLevels T.cmp
-            (with_room T.cmp self.old.k self.old.is_sorted (B.bit coins.old) self.old.levels)
+            (compacted_if_full T.cmp self.old.k self.old.is_sorted (B.bit coins.old) self.old.levels)
             self.new.levels }
         ensures sorted { UpperSorted T.cmp self.new.levels }
         ensures shorter { retained self.new.levels ≤ retained self.old.levels }

@@ -53,7 +53,7 @@ module _ {A : Type 0} where
       rw (now_is, ← read-there (λ b. b.merged_space) 0 buffers h own inside there, ← read-there (λ b. b.promoted_space) 0 buffers h own inside there)
       (space-same k h (steps_layouts k h 0 layouts) start buffers merged promoted (fit.fits h within))
 
-  -- so it is of other buffers that have as much
+  -- the same holds of other buffers that have as much
   pub space-kept : (k : ℕ) (layouts : List Layout) (buffers news : List (Space A)) → merged_spaces news ≡ merged_spaces buffers → promoted_spaces news ≡ promoted_spaces buffers → HaveSpace k layouts buffers → HaveSpace k layouts news
   space-kept k layouts buffers news merged promoted fit = record {
     enough = omega (arith, fit.enough, ap length merged, length-map news (λ (b : Space A). b.merged_space), length-map buffers (λ (b : Space A). b.merged_space));

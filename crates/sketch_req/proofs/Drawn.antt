@@ -3,11 +3,11 @@ use Rattle.std.specs.Prelude.{⊤}
 use Rattle.std.proofs.Common.{◌≡◌, ◌≢◌, ℕ, suc, ◌/◌, ◌%◌, Bool, true, false, not, ◌==◌, if◌then◌else◌, List, ◌∷◌, ◌++◌, refl, sym, ap, ◌∙◌, inl, inr}
 use Rattle.std.proofs.lemmas.Bool.{cases_Bool, cases_eq}
 use Rattle.sketch_base.specs.Bag.{Taken, with_level}
-use Rattle.sketch_base.specs.Trace.{Put, Compact, Fresh, Turned, Event, At, changed, is_req}
+use Rattle.sketch_base.specs.Trace.{Put, Compact, Fresh, Turned, Event, At, changed, is_req, events_at}
 use Rattle.sketch_base.proofs.Changes.{changed-there, changed-other}
 use Rattle.sketch_req.specs.Level.{taken_side, turns_coin}
-use Rattle.sketch_req.specs.Schedule.{Layout, new_layout, layout_at, taken, compacted, filled, compact_level, compacted_at, room_actions, room_layouts, put_layouts, update_actions, update_layouts}
-use Rattle.sketch_req.specs.ScheduleLaws.{events_at, AreDrawn}
+use Rattle.sketch_req.specs.Schedule.{Layout, new_layout, layout_at, taken, compacted, filled, compact_level, compacted_at, actions_if_full, layouts_if_full, put_layouts, update_actions, update_layouts}
+use Rattle.sketch_req.specs.ScheduleLaws.{AreDrawn}
 use Rattle.sketch_req.specs.declared.RankAccuracy.{RankAccuracy}
 use Rattle.sketch_req.specs.declared.RankAccuracy.TheVariants.{HighRank, LowRank}
 use Rattle.sketch_req.proofs.Layouts.{layout-other}
@@ -58,6 +58,7 @@ if-true : (b c : Bool) → c ≡ true → (if b then true else c) ≡ true
 if-true true c e = refl
 if-true false c e = e
 
+-- one more level of which a coin was drawn
 pub rises-with : (drawn : ℕ → ℕ → Bool) (s h : ℕ) → Rises drawn (with_drawn drawn s h)
 rises-with drawn s h t j e =
     let own = changed (drawn s) h true in
@@ -102,8 +103,8 @@ module _ {A : Type 0} (Holds : List (Event A) → (ℕ → ℕ → Bool) → Typ
             rw odd (by_drawn.turned h side events drawn (takes_req accuracy (taken k l)) there (go drawn (λ t j q. q) (drawn_compacted k h ls (drawn s) a there)))
       ]
 
-  -- a walk goes by what was drawn
-  pub by-room : (ls : List Layout) (drawn : ℕ → ℕ → Bool) → AreDrawn ls (drawn s) → Goes (room_layouts k ls) drawn → Holds (events_at s (room_actions k accuracy ls) ++ rest) drawn
+  -- a walk depends on what was drawn
+  pub by-room : (ls : List Layout) (drawn : ℕ → ℕ → Bool) → AreDrawn ls (drawn s) → Goes (layouts_if_full k ls) drawn → Holds (events_at s (actions_if_full k accuracy ls) ++ rest) drawn
   by-room ls =
       holds-walk k accuracy (λ _. ⊤) (λ _ _ _. tt)
       (λ ls actions _ after. (drawn : ℕ → ℕ → Bool) → AreDrawn ls (drawn s) → Goes after drawn → Holds (events_at s actions ++ rest) drawn)
@@ -114,4 +115,4 @@ module _ {A : Type 0} (Holds : List (Event A) → (ℕ → ℕ → Bool) → Typ
   -- so does an update
   pub by-update : (ls : List Layout) (x : A) (drawn : ℕ → ℕ → Bool) → AreDrawn ls (drawn s) → Goes (update_layouts k ls) drawn → Holds (events_at s (update_actions k accuracy ls x) ++ rest) drawn
   by-update ls x drawn a go =
-      by_drawn.put x (events_at s (room_actions k accuracy (put_layouts ls)) ++ rest) drawn (by-room (put_layouts ls) drawn (drawn_put ls (drawn s) a) go)
+      by_drawn.put x (events_at s (actions_if_full k accuracy (put_layouts ls)) ++ rest) drawn (by-room (put_layouts ls) drawn (drawn_put ls (drawn s) a) go)

@@ -2,10 +2,10 @@
 use Rattle.std.proofs.Common.{◌≡◌, ◌≢◌, ℕ, Bool, true, false, not, ◌&&◌, ◌||◌, ◌==◌, if◌then◌else◌, List, [], ◌∷◌, ◌++◌, length, refl, sym, ap, ap₂, ◌∙◌, subst, inl, inr, eqb-true}
 use Rattle.std.proofs.lemmas.Bool.{cases_Bool, cases_eq, and_left, and_right, false≢true}
 use Rattle.sketch_base.specs.Fair.{reaches}
-use Rattle.sketch_base.specs.Trace.{Action, Forget, Clear, Event, Snap, At, changed, joins_actions}
+use Rattle.sketch_base.specs.Trace.{Action, Forget, Clear, Event, Snap, At, changed, joins_actions, events_at}
 use Rattle.sketch_base.proofs.Changes.{changed-there, changed-other, changed-itself}
-use Rattle.sketch_req.specs.Schedule.{Layout, new_layout, joined_layouts, are_full, redraw_actions, room_actions, walk_actions, update_actions, update_layouts, merge_redrawn_actions, merge_layouts}
-use Rattle.sketch_req.specs.ScheduleLaws.{events_at, merge_events, AreDrawn}
+use Rattle.sketch_req.specs.Schedule.{Layout, new_layout, joined_layouts, are_full, redraw_actions, actions_if_full, walk_actions, update_actions, update_layouts, merge_redrawn_actions, merge_layouts}
+use Rattle.sketch_req.specs.ScheduleLaws.{merge_events, AreDrawn}
 use Rattle.sketch_req.specs.Walk.{AreOwn}
 use Rattle.sketch_req.specs.declared.RankAccuracy.{RankAccuracy}
 use Rattle.sketch_req.proofs.ByUpdates.{none_drawn}
@@ -153,8 +153,8 @@ module _ {A : Type 0} (slot : ℕ) where
   stands-merge_redrawn k accuracy source into layouts ready fair rest n = record {
     fairs = λ drawn a. fair-merge_redrawn slot k accuracy into rest (layouts into) (layouts source) drawn
         (λ more up d. n.fairs more (ready-after into layouts _ ready true drawn more a (λ j _. up j) (λ _. d)));
-    apart = merged-apart source into fair (fair into && fair source) (redraw_actions joined ++ room_actions k accuracy joined) rest
-        (own-append (redraw_actions joined) (room_actions k accuracy joined) (own-redraws A 0 joined) (own-room A k accuracy joined)) (length (layouts source))
+    apart = merged-apart source into fair (fair into && fair source) (redraw_actions joined ++ actions_if_full k accuracy joined) rest
+        (own-append (redraw_actions joined) (actions_if_full k accuracy joined) (own-redraws A 0 joined) (own-room A k accuracy joined)) (length (layouts source))
         (λ e. and_left (fair into) (fair source) e) (λ e. and_right (fair into) (fair source) e) n.apart;
   }
     where
@@ -168,7 +168,7 @@ module _ {A : Type 0} (slot : ℕ) where
       Stands layouts ready fair (merge_events k accuracy source into (layouts into) (layouts source) ++ rest)
   stands-merge k accuracy source into layouts ready fair rest n = record {
     fairs = fairs;
-    apart = merged-apart source into fair kept (room_actions k accuracy joined) rest (own-room A k accuracy joined) (length (layouts source))
+    apart = merged-apart source into fair kept (actions_if_full k accuracy joined) rest (own-room A k accuracy joined) (length (layouts source))
         (λ e. and_right walks (fair into && fair source) (and_left (fair into) (fair source) e)) (λ e. and_right walks (fair into && fair source) (and_right (fair into) (fair source) e)) n.apart;
   }
     where
@@ -182,7 +182,7 @@ module _ {A : Type 0} (slot : ℕ) where
       kept = walks && (fair into && fair source)
 
       room : List (Action A)
-      room = room_actions k accuracy joined
+      room = actions_if_full k accuracy joined
 
       goes : (drawn more : ℕ → ℕ → Bool) → AreReady layouts ready drawn → Rises drawn more → IsFair slot rest more
       goes drawn more a up = n.fairs more (ready-after into layouts _ ready false drawn more a (λ j _. up j) (λ r. absurd (false≢true r)))

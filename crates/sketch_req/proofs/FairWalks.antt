@@ -4,10 +4,10 @@ use Rattle.std.specs.Prelude.{⊤}
 use Rattle.std.proofs.lemmas.Bool.{cases_Bool, false≢true, or_right}
 use Rattle.std.proofs.lemmas.List.{append-nil}
 use Rattle.sketch_base.specs.Fair.{reaches, is_fair}
-use Rattle.sketch_base.specs.Trace.{Action, Put, Compact, Redraw, Fresh, Turned, Event, joins_actions}
+use Rattle.sketch_base.specs.Trace.{Action, Put, Compact, Redraw, Fresh, Turned, Event, joins_actions, events_at}
 use Rattle.sketch_req.specs.Level.{turns_coin}
-use Rattle.sketch_req.specs.Schedule.{Layout, taken, layout_at, joined_layouts, redraws_from, redraw_actions, room_actions, put_layouts, update_actions, update_layouts, merge_redrawn_actions, merge_layouts}
-use Rattle.sketch_req.specs.ScheduleLaws.{events_at, AreDrawn}
+use Rattle.sketch_req.specs.Schedule.{Layout, taken, layout_at, joined_layouts, redraws_from, redraw_actions, actions_if_full, put_layouts, update_actions, update_layouts, merge_redrawn_actions, merge_layouts}
+use Rattle.sketch_req.specs.ScheduleLaws.{AreDrawn}
 use Rattle.sketch_req.specs.Walk.{AreOwn}
 use Rattle.sketch_req.specs.declared.RankAccuracy.{RankAccuracy}
 use Rattle.sketch_req.proofs.Drawn.{Rises, takes_req, with_drawn, rises-with, drawn-there, HoldsByDrawn, by-room, by-update}
@@ -16,7 +16,7 @@ use Rattle.sketch_req.proofs.WalkRules.{holds-walk}
 
 module _ (A : Type 0) where
   -- a walk leaves the scratch alone
-  pub own-room : (k : ℕ) (accuracy : RankAccuracy) (ls : List Layout) → AreOwn {A = A} (room_actions k accuracy ls)
+  pub own-room : (k : ℕ) (accuracy : RankAccuracy) (ls : List Layout) → AreOwn {A = A} (actions_if_full k accuracy ls)
   own-room k accuracy ls =
       holds-walk k accuracy (λ _. ⊤) (λ _ _ _. tt) (λ _ actions _ _. AreOwn actions) (λ h ls _ _ _ _ _ rest. (takes_req accuracy (taken k (layout_at ls h)), rest)) (λ _ _. tt) ls tt
 
@@ -85,7 +85,7 @@ module _ {A : Type 0} (slot : ℕ) where
       GoesFair s rest (merge_layouts k ls others) drawn → IsFair (events_at s (merge_redrawn_actions k accuracy ls others) ++ rest) drawn
   fair-merge_redrawn k accuracy s rest ls others drawn go =
       let joined = joined_layouts k ls others in
-      let room : List (Action A) = room_actions k accuracy joined in
+      let room : List (Action A) = actions_if_full k accuracy joined in
       fair-joins s (length others) 0 (redraw_actions joined ++ room) rest drawn
       ∙ fair-redrawn s joined room rest drawn
       (λ more up a. by-room IsFair k accuracy s (are_fair s) rest joined more a (λ m up' a'. go m (λ t j d. up' t j (up t j d)) a'))

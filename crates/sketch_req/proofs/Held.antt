@@ -22,6 +22,7 @@ pub record IsOwn {A : Type 0} (cmp : A → A → Ordering) (k : ℕ) (accuracy :
   pub accuracy_is : accuracy_of ls ≡ accuracy
   pub held : AreHeld cmp ls
 
+-- levels from level 0 up have their own k and accuracy
 pub own-levels : {A : Type 0} (cmp : A → A → Ordering) (k : ℕ) (accuracy : RankAccuracy) (ls : List (Level A)) → 0 < length ls → AreLevels cmp k accuracy 0 ls → IsOwn cmp k accuracy ls
 own-levels cmp k accuracy [] some a = absurd (omega arith)
 own-levels cmp k accuracy (l ∷ ls) some a = record {
@@ -50,7 +51,7 @@ held-appended {A} cmp k n capacity accuracy ls x held few = record {
   capacity_is = held.capacity_is ∙ sym (nominal-appended k ls x);
 }
 
--- so it is after coins were drawn anew
+-- the same holds after coins were drawn anew
 pub held-redrawn : {A : Type 0} (cmp : A → A → Ordering) (k n capacity : ℕ) (accuracy : RankAccuracy) (word : List Bool) (ls : List (Level A)) → IsHeld cmp n capacity (held_of k accuracy ls) →
     IsHeld cmp n capacity (held_of k accuracy (redrawn word ls))
 held-redrawn cmp k n capacity accuracy word ls held =

@@ -14,7 +14,7 @@ use Rattle.sketch_base.proofs.Entries.{SameAnswer-itself}
 use Rattle.sketch_base.proofs.AllParts.{AllIn, all-alike, all-compaction, all-alike-levels, all-flat, all-by-level, all-map}
 use Rattle.sketch_req.specs.Actions.{bag_of, coin_kind}
 use Rattle.sketch_req.specs.Level.{Level, taken_side}
-use Rattle.sketch_req.specs.Schedule.{Layout, new_layout, layouts_of, layout_at, nominal, nominal_sum, retained_of, is_full, are_full, taken, compacted, compact_level, compacted_at, step_layouts, steps_actions, steps_layouts, walk_layouts, room_layouts, filled}
+use Rattle.sketch_req.specs.Schedule.{Layout, new_layout, layouts_of, layout_at, nominal, nominal_sum, retained_of, is_full, are_full, taken, compacted, compact_level, compacted_at, step_layouts, steps_actions, steps_layouts, walk_layouts, layouts_if_full, filled}
 use Rattle.sketch_req.specs.Sketch.{Req, IsSound, HasEnds, IsSmall, items_in, sketch_of}
 use Rattle.sketch_req.specs.Walk.{AreActed, room_of}
 use Rattle.sketch_req.specs.declared.RankAccuracy.{RankAccuracy}
@@ -45,7 +45,8 @@ longer-steps k (suc more) h ls =
     let b = longer-steps k more (suc h) (step_layouts k h ls) in
     omega (arith, a, b)
 
-pub longer-room : (k : ℕ) (ls : List Layout) → length ls ≤ length (room_layouts k ls)
+-- a walk takes no level away
+pub longer-room : (k : ℕ) (ls : List Layout) → length ls ≤ length (layouts_if_full k ls)
 longer-room k ls =
     elim (are_full k ls) as (λ b. length ls ≤ length (if b then walk_layouts k ls else ls)) [
       | true ↦ longer-steps k (length ls) 0 ls
@@ -66,7 +67,7 @@ walk-adds k (l ∷ []) some e =
 walk-adds k (l ∷ m ∷ ls) some e = let a = longer-steps k (length (l ∷ m ∷ ls)) 0 (l ∷ m ∷ ls) in omega (arith, a)
 
 -- so one level left means no walk
-one-left : (k : ℕ) (ls : List Layout) → 0 < length ls → length (room_layouts k ls) ≡ 1 → are_full k ls ≡ false
+one-left : (k : ℕ) (ls : List Layout) → 0 < length ls → length (layouts_if_full k ls) ≡ 1 → are_full k ls ≡ false
 one-left k ls some one =
     elim (cases_Bool (are_full k ls)) [
       | inl e ↦ let left = rw e at one in absurd (omega (arith, walk-adds k ls some e, left))
@@ -221,7 +222,7 @@ module _ {A : Type 0} {cmp : A → A → Ordering} (order : IsTotalOrder cmp) wh
   pub alike-moves : (xs ys : List A) → SameItems cmp (sort cmp xs) (sort cmp ys) → Moves xs ys
   alike-moves xs ys s P keeps a = all-alike P cmp keeps xs ys s a
 
-  -- so it is where bags are alike
+  -- the same holds where bags are alike
   levels-move : (ms ns : List (Level A)) → AlikeReq cmp (bag_of ms) (bag_of ns) → Moves (items_in ms) (items_in ns)
   levels-move ms ns alike P keeps a =
       let item : Level A → List A = λ level. level.items in
@@ -248,7 +249,7 @@ module _ {A : Type 0} {cmp : A → A → Ordering} (order : IsTotalOrder cmp) wh
       ((ap (λ (x : Layout). x.state) head ∙ n.0.0, ap (λ (x : Layout). x.doublings) head ∙ n.0.1), news ls ms (ap (λ (xs : List Layout). drop 1 xs) e) n.1)
   news ls ms e n = absurd cc
 
-  module _ {S : Type 0} {bit : S → Bool} {next : S → S} {source after : S} (k : ℕ) (accuracy : RankAccuracy) (ms ns : List (Level A)) (room : AreActed cmp bit next source after k accuracy (room_of k accuracy ms) (room_layouts k (layouts_of ms)) 0 ms ns) where
+  module _ {S : Type 0} {bit : S → Bool} {next : S → S} {source after : S} (k : ℕ) (accuracy : RankAccuracy) (ms ns : List (Level A)) (room : AreActed cmp bit next source after k accuracy (room_of k accuracy ms) (layouts_if_full k (layouts_of ms)) 0 ms ns) where
     -- what items keep that compare equal holds after actions too
     pub acted-all : (P : A → Type 0) → Keeps P → AllByRecursion P (items_in ms) → AllByRecursion P (items_in ns)
     acted-all P keeps a =

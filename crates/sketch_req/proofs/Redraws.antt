@@ -202,7 +202,7 @@ module _ {A : Type 0} {cmp : A → A → Ordering} (order : IsTotalOrder cmp) wh
 
 -- ---- drawn anew or not
 
--- so it is of levels whose coins were drawn or not
+-- the same holds of levels whose coins were drawn or not
 pub layouts-ready : {A : Type 0} (redraws : Bool) (word : List Bool) (ls : List (Level A)) → layouts_of (redrawn_if redraws word ls) ≡ layouts_of ls
 layouts-ready true word ls = layouts-redrawn word ls
 layouts-ready false word ls = refl

@@ -27,7 +27,7 @@ use Rattle.sketch_req.specs.Walk.{AreLevels}
 use Rattle.sketch_req.specs.declared.RankAccuracy.{RankAccuracy}
 use Rattle.sketch_req.proofs.Copies.{there-alike}
 use Rattle.sketch_req.proofs.Pairs.{weigh-pairs}
-use Rattle.sketch_req.proofs.Ranks.{weight_is}
+use Rattle.sketch_req.proofs.Rank.{weight_is}
 
 -- clones of weighted items, one more
 pub pairs-more : {A : Type 0} (cmp : A → A → Ordering) (all : List (A × ℕ)) (i : ℕ) (p : A × ℕ) (y : A) (old new : List (A × ℕ)) → i < length all → p ≡ get_or all i p → cmp p.0 y ≡ Equal → new ≡ old ++ (y, p.1) ∷ [] →

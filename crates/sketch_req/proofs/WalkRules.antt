@@ -4,7 +4,7 @@ use Rattle.std.proofs.lemmas.Bool.{cases_Bool}
 use Rattle.std.proofs.lemmas.List.{append-nil}
 use Rattle.sketch_base.specs.Trace.{Action, Put}
 use Rattle.sketch_req.specs.Level.{turns_coin}
-use Rattle.sketch_req.specs.Schedule.{Layout, layout_at, is_full, taken, compact_level, compacted_at, step_layouts, steps_actions, steps_layouts, are_full, room_actions, room_layouts, put_layouts, update_layouts}
+use Rattle.sketch_req.specs.Schedule.{Layout, layout_at, is_full, taken, compact_level, compacted_at, step_layouts, steps_actions, steps_layouts, are_full, actions_if_full, layouts_if_full, put_layouts, update_layouts}
 use Rattle.sketch_req.specs.ScheduleLaws.{updates_actions, updates_layouts}
 use Rattle.sketch_req.specs.declared.RankAccuracy.{RankAccuracy}
 use Rattle.sketch_req.proofs.Moves.{Move, Gives, Compacts}
@@ -45,7 +45,7 @@ module _ {A : Type 0} (k : ℕ) (accuracy : RankAccuracy) (Fits : List Layout �
 
   -- along a walk where levels are full
   pub holds-room : (ls after : List Layout) (actions : List (Action A)) (moves : List Move) → Fits ls →
-      (Fits (room_layouts k ls) → Holds (room_layouts k ls) actions moves after) → Holds ls (room_actions k accuracy ls ++ actions) (room_moves k ls ++ moves) after
+      (Fits (layouts_if_full k ls) → Holds (layouts_if_full k ls) actions moves after) → Holds ls (actions_if_full k accuracy ls ++ actions) (room_moves k ls ++ moves) after
   holds-room ls after actions moves fits go =
       elim (cases_Bool (are_full k ls)) [
         | inl full ↦ rw full (holds-steps (length ls) 0 ls after actions moves fits (rw full at go))
@@ -53,8 +53,8 @@ module _ {A : Type 0} (k : ℕ) (accuracy : RankAccuracy) (Fits : List Layout �
       ]
 
   -- where it ends
-  pub holds-walk : ((ls : List Layout) → Fits ls → Holds ls [] [] ls) → (ls : List Layout) → Fits ls → Holds ls (room_actions k accuracy ls) (room_moves k ls) (room_layouts k ls)
-  holds-walk done ls fits = simp append-nil at (holds-room ls (room_layouts k ls) [] [] fits (done (room_layouts k ls)))
+  pub holds-walk : ((ls : List Layout) → Fits ls → Holds ls [] [] ls) → (ls : List Layout) → Fits ls → Holds ls (actions_if_full k accuracy ls) (room_moves k ls) (layouts_if_full k ls)
+  holds-walk done ls fits = simp append-nil at (holds-room ls (layouts_if_full k ls) [] [] fits (done (layouts_if_full k ls)))
 
   -- along updates, if it holds before an item comes where it does after it
   pub holds-updates : (test : A → Bool) → ((ls : List Layout) → Fits ls → Fits (put_layouts ls)) →

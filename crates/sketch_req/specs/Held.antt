@@ -1,4 +1,4 @@
--- the levels of a sketch as their model, and what is stored beside them
+-- The levels of a sketch as their model, and what is stored beside them.
 use Rattle.std.specs.Prelude.{◌≡◌, ℕ, ◌<◌, List, length}
 use Rattle.std.specs.declared.cmp.Ordering.{Ordering}
 use Rattle.sketch_req.specs.Level.{Level}

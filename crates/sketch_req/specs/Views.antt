@@ -1,4 +1,4 @@
--- the view that a sketch itself is, and clones of its weighted items
+-- The view that a sketch itself is, and clones of its weighted items.
 use Rattle.std.specs.Prelude.{◌≡◌, ℕ, List}
 use Rattle.std.specs.List.{AllZip}
 use Rattle.std.specs.declared.cmp.Ordering.{Ordering}

@@ -13,7 +13,7 @@ use Rattle.quantile_sketches.specs.Served.{ServesFamily, ServesRun, ServesAsProm
 use Rattle.quantile_sketches.proofs.KllRuns.{sound-small}
 use Rattle.quantile_sketches.proofs.ReqRuns.{alike-exact}
 use Rattle.quantile_sketches.proofs.Standing.{standing-is, standing-shape, standing-weight, standing-extremes, given}
-use Rattle.quantile_sketches.proofs.Answered.{answers-rest, answers-keep}
+use Rattle.quantile_sketches.proofs.RunsBehindAnswers.{answers-rest, answers-keep}
 use Rattle.quantile_sketches.proofs.KllKind.{kll_kind_lawful}
 use Rattle.quantile_sketches.proofs.KllObeys.{kll-obeys}
 use Rattle.quantile_sketches.proofs.ReqObeys.{req-obeys}

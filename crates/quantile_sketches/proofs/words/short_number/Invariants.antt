@@ -1,6 +1,6 @@
 use Rattle.std.proofs.Common.{◌≡◌, ◌<◌, ◌≤◌, ◌^◌, ◌-◌, true, take, length}
 use Rattle.std.specs.Str.Parse.{digits_value}
-use Rattle.quantile_sketches.specs.Words.{all_digits}
+use Rattle.quantile_sketches.specs.LineWords.{all_digits}
 use Rattle.quantile_sketches.proofs.words.short_number.Given as goal
 
 abbrev pub invariant-loop-len : goal.invariant-loop-len

@@ -5,7 +5,7 @@ use Rattle.sketch_kll.specs.Flat.{levels_in}
 use Rattle.sketch_kll.specs.Levels.{weight}
 use Rattle.sketch_kll.specs.Rank.{counted_weight}
 use Rattle.sketch_kll.proofs.Flats.{length-bounds}
-use Rattle.sketch_kll.proofs.Ranks.{more_weight}
+use Rattle.sketch_kll.proofs.Rank.{more_weight}
 use Rattle.sketch_kll.proofs.levels.weight_counted.Goals as goal
 use Rattle.sketch_kll.proofs.levels.weight_counted.Goals.{After-count_all-counted}
 

@@ -1,5 +1,5 @@
 use Rattle.std.proofs.Common.{◌≡◌, length}
-use Rattle.quantile_sketches.specs.Words.{items_of, rise, rise_from}
+use Rattle.quantile_sketches.specs.LineWords.{items_of, rise, rise_from}
 use Rattle.quantile_sketches.proofs.words.Words.items_rise.Given as goal
 
 abbrev pub invariant-loop-item : goal.invariant-loop-item

@@ -2,7 +2,7 @@ use Rattle.std.proofs.Common.{◌≡◌, ℕ, ◌+◌, ◌^◌, ◌<◌, List, l
 use Rattle.std.proofs.lemmas.List.{length-reverse}
 use Rattle.sketch_kll.specs.Capacity.{total_of}
 use Rattle.sketch_kll.specs.Levels.{retained, weight, SameLevels}
-use Rattle.sketch_kll.specs.Steps.{is_full, with_room}
+use Rattle.sketch_kll.specs.Steps.{is_full, compacted_if_full}
 use Rattle.sketch_kll.specs.Take.{left_over}
 use Rattle.sketch_kll.proofs.PutItems.{retained-put}
 use Rattle.sketch_kll.proofs.Takes.{RoomBelow, room_below, taking_from, taking_from_run}
@@ -25,7 +25,7 @@ light g c =
     let t = c.loop-self.invariant.taking in
     omega (arith, t.taking.taken.weighs, c.requires.light, ap length t.split, length-append t.done (reverse c.loop-self.items.items), length-reverse c.loop-self.items.items)
 
-alike : (g : _) (c : After-compact_if_full g) → SameLevels g.T.Ord.cmp (with_room g.T.Ord.cmp c.args.self.now.k c.loop-self.self.is_sorted (g.B.RandomBits.bit c.loop-self.coins) c.loop-self.self.levels) c.compact_if_full.new.self.levels
+alike : (g : _) (c : After-compact_if_full g) → SameLevels g.T.Ord.cmp (compacted_if_full g.T.Ord.cmp c.args.self.now.k c.loop-self.self.is_sorted (g.B.RandomBits.bit c.loop-self.coins) c.loop-self.self.levels) c.compact_if_full.new.self.levels
 alike g c = rw (← c.loop-self.invariant.k) c.compact_if_full.ensures.levels
 
 room : (g : _) (c : After-compact_if_full g) → RoomBelow c.args.self.now.k c.compact_if_full.new.self.levels

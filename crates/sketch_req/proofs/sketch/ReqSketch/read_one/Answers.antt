@@ -6,7 +6,7 @@ use Rattle.sketch_req.specs.LevelImage.{Place, place_at, BeginsLevel, BeginsLeve
 use Rattle.sketch_req.specs.Image.{first_place}
 use Rattle.sketch_req.specs.declared.RankAccuracy.{RankAccuracy}
 use Rattle.sketch_req.proofs.Sounds.{one_of, alone, imaged_at}
-use Rattle.sketch_req.proofs.OneSketch.{same_levels, same_numbers}
+use Rattle.sketch_req.proofs.OneText.{same_levels, same_numbers}
 use Rattle.sketch_req.proofs.sketch.ReqSketch.read_one.Given.{Over}
 use Rattle.sketch_req.proofs.sketch.ReqSketch.read_one.Goals.{In_ok-level}
 use Rattle.sketch_req.proofs.sketch.ReqSketch.read_one.Goals as goal

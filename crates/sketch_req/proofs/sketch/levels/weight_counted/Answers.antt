@@ -1,6 +1,6 @@
 use Rattle.std.proofs.Common.{arith}
 use Rattle.sketch_base.specs.Query.{counted}
-use Rattle.sketch_req.proofs.Ranks.{more_weight}
+use Rattle.sketch_req.proofs.Rank.{more_weight}
 use Rattle.sketch_req.proofs.sketch.levels.weight_counted.Goals as goal
 
 pub overflow_mul-weight : goal.overflow_mul-weight

@@ -27,7 +27,7 @@ loop-level-init g c =
       promoted_spaces = refl;
     }
 
--- the level stands, or was added
+-- the level was there, or was added
 added : (g : Over) (c : After-add_level g) → let ls = c.args.levels.now.items in
     IsAdded c.loop-level.level (fresh [] true c.loop-level.level (k_of ls) (accuracy_of ls)) c.loop-level.levels.items c.add_level.new.levels.items
 added g c =

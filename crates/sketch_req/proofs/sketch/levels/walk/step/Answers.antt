@@ -37,7 +37,7 @@ module _ (g : Over) (c : After-index_mut g) where
   needs =
       step-needs g.met.T.Ord.total _ _ _ _ _ _ _ legal c.requires.levels.placed c.requires.within c.index_mut.ensures.value full c.requires.fits c.requires.fit
 
--- the level above stands
+-- there is a level above
 above : (g : Over) (c : After-add_level g) → let ls = c.args.levels.now.items in
     c.add_level.new.levels.items ≡ raised (k_of ls) (accuracy_of ls) c.args.level (set ls c.args.level c.compact_reserved.new.self)
 above g c =

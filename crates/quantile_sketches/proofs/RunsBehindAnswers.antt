@@ -17,9 +17,9 @@ use Rattle.quantile_sketches.specs.RuleLaws.{IsLawful}
 use Rattle.quantile_sketches.specs.Lines.{Serves}
 use Rattle.quantile_sketches.specs.Reader.{Grammar}
 use Rattle.quantile_sketches.specs.Rules.{Kind}
-use Rattle.quantile_sketches.specs.LineSteps.{Slots, in_slot, Verdict, Reply, reply_of, Makes, Loads, Answers, CarriesOutItem}
+use Rattle.quantile_sketches.specs.LineSteps.{Slots, in_slot, Verdict, Reply, reply_of, Makes, ReadsImage, Answers, CarriesOutItem}
 use Rattle.quantile_sketches.specs.RunSteps.{Held}
-use Rattle.quantile_sketches.specs.Words.{words, image_in}
+use Rattle.quantile_sketches.specs.LineWords.{words, image_in}
 use Rattle.quantile_sketches.proofs.Carried.{AreSoundIn, Comes, comes-item, left}
 use Rattle.quantile_sketches.proofs.Refusals.{executed-more}
 use Rattle.quantile_sketches.proofs.Slots.{in_slot-none}
@@ -67,7 +67,7 @@ module _ {C Shape S : Type 0} (grammar : Grammar C) {kind : Kind ℤ C Shape S} 
   answered run None line slots coins r slots' coins' h of = stays run slots coins slots' coins' h.1 h.2 of
   answered run (Some (Run command)) line slots coins r slots' coins' (v, is, h) of = rw is (carried run command slots coins v slots' coins' h of)
   answered run (Some (Load slot)) line slots coins r slots' coins' (v, is, h, same) of =
-      rw is (loaded run slot (Loads behaviour (image_in line)) slots coins v slots' coins' h same of)
+      rw is (loaded run slot (ReadsImage behaviour (image_in line)) slots coins v slots' coins' h same of)
   answered run (Some query) line slots coins r slots' coins' h of = stays run slots coins slots' coins' h.1 h.2 of
 
   -- what holds of a run holds behind the answers
@@ -92,7 +92,7 @@ module _ {C Shape S : Type 0} (grammar : Grammar C) {kind : Kind ℤ C Shape S} 
       of-run None slots coins of = tt
       of-run (Some commands) slots coins of = of.0
 
-  -- and what is promised of sketches that stand is kept by them
+  -- and they keep what is promised of sketches in slots
   pub answers-keep : (promise : List (Command ℤ C) → ℕ → S → Type 0) →
       ((commands : List (Command ℤ C)) (slots : Held S) (coins : ℕ) → Standing kind coin_of next_state seed commands slots coins → (slot : ℕ) (s : S) → slots slot ≡ Some s → promise commands slot s) →
       (ls : List (List ℕ)) (out : List ℕ) → Serves grammar behaviour (replicate SLOTS None) seed ls out → AnswersWhere grammar behaviour (EachKeeps promise) (Some []) (replicate SLOTS None) seed ls out

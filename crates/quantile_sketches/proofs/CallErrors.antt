@@ -65,6 +65,7 @@ so-same a b =
       | inr f ↦ inr (eqb-false a b f)
     ]
 
+-- a number is at most another or not
 pub so-most : (a b : ℕ) → (a ≤ b) ⊎ (a ≤ b → ⊥)
 so-most a b =
     elim (cases_Bool (nat_lt b a)) [
@@ -72,6 +73,7 @@ so-most a b =
       | inr f ↦ inl (omega (arith, ltb-false b a f))
     ]
 
+-- of two facts that hold or not, one holds or none
 pub so-either : {P Q : Type 0} → P ⊎ (P → ⊥) → Q ⊎ (Q → ⊥) → (P ⊎ Q) ⊎ (P ⊎ Q → ⊥)
 so-either (inl p) q = inl (inl p)
 so-either (inr p) (inl q) = inl (inr q)
