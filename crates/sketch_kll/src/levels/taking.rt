@@ -11,14 +11,11 @@ ghost use Rattle.sketch_kll.specs.Stored.{KeepsLevels};
 ghost use Rattle.sketch_kll.specs.Take.{AreKept, HaveTaken, left_over};
 
 use super::{Levels, MAX_BOUNDS};
-use crate::capacity::{MINIMUM_CAPACITY, total_capacity};
+use crate::capacity::{MAX_LEVELS, MINIMUM_CAPACITY, total_capacity};
 use sketch_base::common::extremes::{clone_if_greatest, clone_if_least, greatest_of, least_of};
 use sketch_base::common::merging::move_back;
 use sketch_base::common::random::RandomBits;
 use std::alloc::AllocError;
-
-/// The most levels that a sketch may have.
-const MAX_LEVELS: usize = 61;
 
 impl<T: Ord + Drop> Levels<T> {
     /// Takes items in one after another, as updates do, and gives back the memory that only this
