@@ -124,7 +124,8 @@ module _ {A C Shape S Source : Type 0} (kind : Kind A C Shape S) (bit : Source �
 
 -- ---- each command
 
-module _ {A C Shape S Source : Type 0} {kind : Kind A C Shape S} (lawful : IsLawful kind) (behaviour : Behaviour S A C) (bit : Source → Bool) (next : Source → Source) (obeys : ObeysRules behaviour kind bit next) where
+module _ {A C Shape S Source : Type 0} {kind : Kind A C Shape S} (lawful : IsLawful kind) (behaviour : Behaviour S A C) (bit : Source → Bool) (next : Source → Source)
+    (obeys : ObeysRules behaviour kind bit next) where
   -- a sketch took an item that compares equal
   abbrev Took : A → S → Source → S → Source → Type 0
   Took x s source t source' = (y : A) × (kind.cmp x y ≡ Equal) × IsUpdated kind bit next s y source t source'
@@ -132,12 +133,14 @@ module _ {A C Shape S Source : Type 0} {kind : Kind A C Shape S} (lawful : IsLaw
   abbrev TookWeighted : A → ℕ → S → Source → S → Source → Type 0
   TookWeighted x weight s source t source' = (y : A) × (kind.cmp x y ≡ Equal) × IsWeighted kind bit next s y weight source t source'
 
-  item-obeys : (x : A) (shape : Option Shape) (does : A → S → Source → Type 0) → (s : S) (source : Source) (r : Result Unit ErrorKind) (t : S) (source' : Source) → Obeys shape (does x) s source r t source' →
+  item-obeys : (x : A) (shape : Option Shape) (does : A → S → Source → Type 0) → (s : S) (source : Source) (r : Result Unit ErrorKind) (t : S) (source' : Source) →
+      Obeys shape (does x) s source r t source' →
       Obeys shape (λ t source'. (y : A) × (kind.cmp x y ≡ Equal) × does y t source') s source r t source'
   item-obeys x shape does s source r t source' h = (on_ok_weaker r (λ d. (x, tied_itself lawful.total x, d)) h.0, h.1, h.2)
 
   clone-obeys : (IsClone : A → Type 0) (x : A) → ((y : A) → IsClone y → kind.cmp x y ≡ Equal) → (behave : A → Change Source S) (shape : Option Shape) (does : A → S → Source → Type 0) →
-      (s : S) (source : Source) (r : Result Unit ErrorKind) (t : S) (source' : Source) → ((y : A) → behave y s source r t source' → Obeys shape (does y) s source r t source') → Cloned IsClone behave s source r t source' →
+      (s : S) (source : Source) (r : Result Unit ErrorKind) (t : S) (source' : Source) → ((y : A) → behave y s source r t source' → Obeys shape (does y) s source r t source') →
+      Cloned IsClone behave s source r t source' →
       Obeys shape (λ t source'. (y : A) × (kind.cmp x y ≡ Equal) × does y t source') s source r t source'
   clone-obeys IsClone x ties behave shape does s source r t source' f (inl (y, is, h)) = let o = f y h in (on_ok_weaker r (λ d. (y, ties y is, d)) o.0, o.1, o.2)
   clone-obeys IsClone x ties behave shape does s source r t source' f (inr all) = item-obeys x shape does s source r t source' (f x (all x))
@@ -160,7 +163,8 @@ module _ {A C Shape S Source : Type 0} {kind : Kind A C Shape S} (lawful : IsLaw
     abbrev Goes : Verdict → Command A C → Type 0
     Goes r command = Comes kind bit next r command (in_slot slots) source (in_slot slots') source'
 
-    comes-new : (slot : ℕ) (config : C) (r : Verdict) → CarriesOut behaviour bit next (λ x s coins r t coins'. ⊥) (λ x weight s coins r t coins'. ⊥) (New slot config) slots source r slots' source' → Goes r (New slot config)
+    comes-new : (slot : ℕ) (config : C) (r : Verdict) → CarriesOut behaviour bit next (λ x s coins r t coins'. ⊥) (λ x weight s coins r t coins'. ⊥) (New slot config) slots source
+        r slots' source' → Goes r (New slot config)
     comes-new slot config (Ok tt) ((s, o, held, made, is), stays) =
         let fresh = (obeys.made config (Ok s) made).0 in
         yes kind bit next (New slot config) (in_slot slots) source (in_slot slots') source' (given _ (kind.shape s) fresh.shape_is)
@@ -170,7 +174,8 @@ module _ {A C Shape S Source : Type 0} {kind : Kind A C Shape S} (lawful : IsLaw
     comes-new slot config r h = absurd h.0
 
     -- one slot turns
-    changes : (command : Command A C) (slot : ℕ) (turn : Change Source S) → Turned kind bit next command slots slots' source source' slot turn → (r : Verdict) → Changes (Turns turn) slot slots source r slots' source' → Goes r command
+    changes : (command : Command A C) (slot : ℕ) (turn : Change Source S) → Turned kind bit next command slots slots' source source' slot turn → (r : Verdict) →
+        Changes (Turns turn) slot slots source r slots' source' → Goes r command
     changes command slot turn by r (o, new, held, turns, is) = turned kind bit next command slots slots' source source' slot turn by o new r held turns is
 
     -- one that the rules decide by its sketch's shape
@@ -211,18 +216,21 @@ module _ {A C Shape S Source : Type 0} {kind : Kind A C Shape S} (lawful : IsLaw
         )
         done s t held (inr (e, written, is, same), stays) puts = absurd (no-err tt e is)
 
-        unwritten : (s : S) (e : ErrorKind) → in_slot slots slot ≡ Some s → ((e ≡ InvalidArgument) × (¬ kind.HasImage s)) ⊎ (e ≡ OutOfMemory) → Unless e (IsDecided kind (RoundTrip slot) (in_slot slots) false)
+        unwritten : (s : S) (e : ErrorKind) → in_slot slots slot ≡ Some s → ((e ≡ InvalidArgument) × (¬ kind.HasImage s)) ⊎ (e ≡ OutOfMemory) →
+            Unless e (IsDecided kind (RoundTrip slot) (in_slot slots) false)
         unwritten s e held (inr m) = unless-memory _ e m
         unwritten s e held (inl n) = rw n.0 (trip-decided slot false s held (λ f. absurd (false≢true f), λ has. absurd (n.1 has)))
 
-        refused : (s t : S) (e : ErrorKind) → in_slot slots slot ≡ Some s → RoundTrips behaviour s source (Err e) t source' → Unless e (IsDecided kind (RoundTrip slot) (in_slot slots) false) × (t ≡ s) × (source' ≡ source)
+        refused : (s t : S) (e : ErrorKind) → in_slot slots slot ≡ Some s → RoundTrips behaviour s source (Err e) t source' →
+            Unless e (IsDecided kind (RoundTrip slot) (in_slot slots) false) × (t ≡ s) × (source' ≡ source)
         refused s t e held (inl (bytes, written, (read, same)), stays) = (unless-memory _ e (obeys.read_back s bytes (Err e) written read).1, same, stays)
         refused s t e held (inr (f, written, is, same), stays) =
             (unwritten s e held (rw (same-err e f _ refl is) (obeys.imaged s (Err f) (sound slot s held) written).1), same, stays)
 
     -- a merge with coins drawn anew or not, by the command that asks for it
     module _ (redraws : Bool) (into from : ℕ) (command : Command A C)
-        (decide : (accepted : Bool) → accepted ≡ not (not (is_some (shape_merged kind.rules redraws (shapes_in kind.shape (in_slot slots)) into from))) → IsDecided kind command (in_slot slots) accepted)
+        (decide : (accepted : Bool) → accepted ≡ not (not (is_some (shape_merged kind.rules redraws (shapes_in kind.shape (in_slot slots)) into from))) →
+        IsDecided kind command (in_slot slots) accepted)
         (does : IsMergedIn kind bit next redraws into from (in_slot slots) source (in_slot slots') source' → IsDone kind bit next command (in_slot slots) source (in_slot slots') source') where
       abbrev merged-by : Option S → Option S → Option Shape
       merged-by x y = option_and_then (λ shape. option_and_then (kind.rules.merged redraws shape) (option_map kind.shape y)) (option_map kind.shape x)
@@ -238,7 +246,8 @@ module _ {A C Shape S Source : Type 0} {kind : Kind A C Shape S} (lawful : IsLaw
       merge-absent h = decide false (not-given _ (ap (λ x. merged-by x (in_slot slots from)) h))
 
       -- a sketch takes in another that is in a slot, or a copy of it
-      takes-in : (s p copy t : S) → in_slot slots into ≡ Some s → in_slot slots from ≡ Some p → IsCopied kind p copy → IsMerged kind bit next redraws s copy source t source' → kind.IsSound t → Puts (in_slot slots) into t (in_slot slots') →
+      takes-in : (s p copy t : S) → in_slot slots into ≡ Some s → in_slot slots from ≡ Some p → IsCopied kind p copy → IsMerged kind bit next redraws s copy source t source' →
+          kind.IsSound t → Puts (in_slot slots) into t (in_slot slots') →
           IsDecided kind command (in_slot slots) true × IsDone kind bit next command (in_slot slots) source (in_slot slots') source'
       takes-in s p copy t held its copied merged sound puts = (
         decide true (given _ (kind.shape t) (merged-at s p held its ∙ (ap (kind.rules.merged redraws (kind.shape s)) (sym copied.shape_is) ∙ merged.shape_is))),
@@ -263,9 +272,14 @@ module _ {A C Shape S Source : Type 0} {kind : Kind A C Shape S} (lawful : IsLaw
               takes-in s s p t held (also held) copy merged.0 merged.1 puts
           done s t held (inr (fits, inr (e, copied, is, kept, stays))) puts = absurd (no-err tt e is)
 
-          refused : (s t : S) (e : ErrorKind) → in_slot slots into ≡ Some s → JoinsCopy behaviour bit next redraws s source (Err e) t source' → Unless e (IsDecided kind command (in_slot slots) false) × (t ≡ s) × (source' ≡ source)
-          refused s t e held (inl (refuses, is, kept, stays)) =
-              (subst (λ e. Unless e (IsDecided kind command (in_slot slots) false)) (sym (same-err e InvalidArgument _ refl is)) (refuses-it s s held (also held) ((obeys.refuses redraws s s true (sound into s held) (sound into s held) refuses).0 refl)), kept, stays)
+          refused : (s t : S) (e : ErrorKind) → in_slot slots into ≡ Some s → JoinsCopy behaviour bit next redraws s source (Err e) t source' →
+              Unless e (IsDecided kind command (in_slot slots) false) × (t ≡ s) × (source' ≡ source)
+          refused s t e held (inl (refuses, is, kept, stays)) = (
+            subst (λ e. Unless e (IsDecided kind command (in_slot slots) false)) (sym (same-err e InvalidArgument _ refl is))
+                (refuses-it s s held (also held) ((obeys.refuses redraws s s true (sound into s held) (sound into s held) refuses).0 refl)),
+            kept,
+            stays,
+          )
           refused s t e held (inr (fits, inl (p, copied, joined))) =
               let copy = (obeys.copied s (Ok p) copied).0 in
               let r = obeys.joined redraws p copy.sound s source (Err e) t source' (sound into s held) joined in
@@ -295,7 +309,8 @@ module _ {A C Shape S Source : Type 0} {kind : Kind A C Shape S} (lawful : IsLaw
     -- any command, by how its item is taken
     comes : (taken : A → Change Source S) (weighted : A → ℕ → Change Source S) →
         ((x : A) (s t : S) (r : Result Unit ErrorKind) → kind.IsSound s → taken x s source r t source' → Obeys (kind.rules.updated (kind.shape s)) (Took x s source) s source r t source') →
-        ((x : A) (weight : ℕ) (s t : S) (r : Result Unit ErrorKind) → kind.IsSound s → weighted x weight s source r t source' → Obeys (kind.rules.updated_weighted (kind.shape s) weight) (TookWeighted x weight s source) s source r t source') →
+        ((x : A) (weight : ℕ) (s t : S) (r : Result Unit ErrorKind) → kind.IsSound s → weighted x weight s source r t source' →
+        Obeys (kind.rules.updated_weighted (kind.shape s) weight) (TookWeighted x weight s source) s source r t source') →
         (command : Command A C) (r : Verdict) → CarriesOut behaviour bit next taken weighted command slots source r slots' source' → Goes r command
     comes taken weighted f g (New slot config) r h = comes-new slot config r h
     comes taken weighted f g (Update slot x) r h =
@@ -326,8 +341,10 @@ module _ {A C Shape S Source : Type 0} {kind : Kind A C Shape S} (lawful : IsLaw
         CarriesOutClone behaviour bit next IsClone command slots source r slots' source' → Goes r command
     comes-clone IsClone ties =
         comes (λ x. Cloned (IsClone x) (λ y. behaviour.taken y Source bit next)) (λ x weight. Cloned (IsClone x) (λ y. behaviour.taken_weighted y weight Source bit next))
-        (λ x s t r was. clone-obeys (IsClone x) x (ties x) (λ y. behaviour.taken y Source bit next) (kind.rules.updated (kind.shape s)) (λ y. IsUpdated kind bit next s y source) s source r t source' (λ y. obeys.taken y s source r t source' was))
-        (λ x weight s t r was. clone-obeys (IsClone x) x (ties x) (λ y. behaviour.taken_weighted y weight Source bit next) (kind.rules.updated_weighted (kind.shape s) weight) (λ y. IsWeighted kind bit next s y weight source) s source r t source' (λ y. obeys.taken_weighted y weight s source r t source' was))
+        (λ x s t r was. clone-obeys (IsClone x) x (ties x) (λ y. behaviour.taken y Source bit next) (kind.rules.updated (kind.shape s)) (λ y. IsUpdated kind bit next s y source) s
+        source r t source' (λ y. obeys.taken y s source r t source' was))
+        (λ x weight s t r was. clone-obeys (IsClone x) x (ties x) (λ y. behaviour.taken_weighted y weight Source bit next) (kind.rules.updated_weighted (kind.shape s) weight)
+        (λ y. IsWeighted kind bit next s y weight source) s source r t source' (λ y. obeys.taken_weighted y weight s source r t source' was))
 
     -- a command whose items are cloned is a step
     pub clone-executed : (IsClone : A → A → Type 0) → ((x y : A) → IsClone x y → kind.cmp x y ≡ Equal) → (command : Command A C) (r : Verdict) →
@@ -341,4 +358,5 @@ module _ {A C Shape S Source : Type 0} {kind : Kind A C Shape S} (lawful : IsLaw
     comes-item =
         comes (λ x. behaviour.taken x Source bit next) (λ x weight. behaviour.taken_weighted x weight Source bit next)
         (λ x s t r was h. item-obeys x (kind.rules.updated (kind.shape s)) (λ y. IsUpdated kind bit next s y source) s source r t source' (obeys.taken x s source r t source' was h))
-        (λ x weight s t r was h. item-obeys x (kind.rules.updated_weighted (kind.shape s) weight) (λ y. IsWeighted kind bit next s y weight source) s source r t source' (obeys.taken_weighted x weight s source r t source' was h))
+        (λ x weight s t r was h. item-obeys x (kind.rules.updated_weighted (kind.shape s) weight) (λ y. IsWeighted kind bit next s y weight source) s source r t source'
+        (obeys.taken_weighted x weight s source r t source' was h))

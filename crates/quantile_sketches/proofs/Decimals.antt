@@ -32,5 +32,8 @@ natural (negsuc k) n l e = absurd (grind (arith, ints))
 pub tenth : (n k : ℕ) → 10 ≤ n → n < 10 ^ (k + 1) → (k - 1 + 1 ≡ k) × (n / 10 < 10 ^ (k - 1 + 1))
 tenth n zero h l = absurd (omega (arith, h, l))
 tenth n (suc k) h l =
-    let more : suc k + 1 ≡ (suc k - 1 + 1) + 1 = omega arith in
-    (omega arith, div_below n 10 (10 ^ (suc k - 1 + 1)) (omega arith) (let e : 10 ^ (suc k + 1) ≡ 10 ^ (suc k - 1 + 1) * 10 = ap (λ (m : ℕ). 10 ^ m) more ∙ pow-add 10 (suc k - 1 + 1) 1 in omega (arith, l, e)))
+    let more : suc k + 1 ≡ (suc k - 1 + 1) + 1 = omega arith in (
+      omega arith,
+      div_below n 10 (10 ^ (suc k - 1 + 1)) (omega arith)
+          (let e : 10 ^ (suc k + 1) ≡ 10 ^ (suc k - 1 + 1) * 10 = ap (λ (m : ℕ). 10 ^ m) more ∙ pow-add 10 (suc k - 1 + 1) 1 in omega (arith, l, e)),
+    )

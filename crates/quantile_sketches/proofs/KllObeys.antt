@@ -69,7 +69,8 @@ module _ {A : Type 0} {cmp : A → A → Ordering} (o : IsTotalOrder cmp) (spell
   made k (Err e) h =
       (tt, refuses-by (nat_lt k 8) (empty_shape k) e (λ t. err-of {T = Kll A} e (h.0.1 (ltb-true k 8 t))) (λ f. h.1 (omega (arith, ltb-false k 8 f))))
 
-  read-back : IsPrefixFree spelling → SpellingsTie cmp spelling → (s : Kll A) (bytes : Vec ℕ Global) (r : Result (Kll A) ErrorKind) → IsImaged cmp spelling s (Ok bytes) → IsLoaded cmp spelling bytes.items r →
+  read-back : IsPrefixFree spelling → SpellingsTie cmp spelling → (s : Kll A) (bytes : Vec ℕ Global) (r : Result (Kll A) ErrorKind) → IsImaged cmp spelling s (Ok bytes) →
+      IsLoaded cmp spelling bytes.items r →
       IfOk r (IsReadBack (kll_kind cmp spelling) s) × IfErr r (λ e. e ≡ OutOfMemory)
   read-back free ties s bytes (Ok t) w h =
       (copy_is o spelling s t (one_sketch_lem o (λ x y. is_eq (cmp x y)) (λ x y. refl) spelling free ties bytes.items s t w.0.1 h.0.0).copied h.0.1, tt)
@@ -94,7 +95,8 @@ module _ {A : Type 0} {cmp : A → A → Ordering} (o : IsTotalOrder cmp) (spell
       h.4,
     )
 
-    weighted : (x : A) (weight : ℕ) (s : Kll A) (coins : Source) (r : Result (Unit {0}) ErrorKind) (t : Kll A) (coins' : Source) → IsSound cmp s → TakesWeighted cmp spelling bit next s x weight coins r t coins' →
+    weighted : (x : A) (weight : ℕ) (s : Kll A) (coins : Source) (r : Result (Unit {0}) ErrorKind) (t : Kll A) (coins' : Source) → IsSound cmp s →
+        TakesWeighted cmp spelling bit next s x weight coins r t coins' →
         Obeys ((kll_rules {A = A}).updated_weighted (kll_shape s) weight) (IsWeighted (kll_kind cmp spelling) bit next s x weight coins) s coins r t coins'
     weighted x weight s coins (Ok u) t coins' was h =
         let is = h.2 in
@@ -109,7 +111,8 @@ module _ {A : Type 0} {cmp : A → A → Ordering} (o : IsTotalOrder cmp) (spell
         good : is_bad_weight weight s.n ≡ false → e ≡ OutOfMemory
         good is = let fits = taken-weight weight s.n is in h.1 fits.0 fits.1 fits.2
 
-    joined : (redraws : Bool) (p s : Kll A) (coins : Source) (r : Result (Unit {0}) ErrorKind) (t : Kll A) (coins' : Source) → IsSound cmp s → MergesIn cmp spelling bit next redraws p s coins r t coins' →
+    joined : (redraws : Bool) (p s : Kll A) (coins : Source) (r : Result (Unit {0}) ErrorKind) (t : Kll A) (coins' : Source) → IsSound cmp s →
+        MergesIn cmp spelling bit next redraws p s coins r t coins' →
         Obeys ((kll_rules {A = A}).merged redraws (kll_shape s) (kll_shape p)) (λ t coins'. IsMerged (kll_kind cmp spelling) bit next redraws s p coins t coins' × IsSound cmp t) s coins r t coins'
     joined true p s coins r t coins' was h = never KllShape (λ t coins'. IsMerged (kll_kind cmp spelling) bit next true s p coins t coins' × IsSound cmp t) s coins r t coins' h
     joined false p s coins (Ok u) t coins' was h = ((record { shape_is = ap₂ none_if accepted shape; empty = λ none. let kept = h.2 none in (kept.1, kept.2); after = after }, h.5), tt, tt)

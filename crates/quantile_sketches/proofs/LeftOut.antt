@@ -130,7 +130,8 @@ module _ {A C Shape S : Type 0} {kind : Kind A C Shape S} (lawful : IsLawful kin
       }
 
   -- so does a refused command
-  leaves : (word : List Bool) (refused : List ℕ) (before : List (Command A C)) (command : Command A C) (P : Type 0) → IsRefusedExactly kind word refused before command P → P → Leaves kind.rules (plan_of kind.rules before) command
+  leaves : (word : List Bool) (refused : List ℕ) (before : List (Command A C)) (command : Command A C) (P : Type 0) → IsRefusedExactly kind word refused before command P → P →
+      Leaves kind.rules (plan_of kind.rules before) command
   leaves word refused before (RoundTrip slot) P h p = leaves-trip (plan_of kind.rules before) slot
   leaves word refused before command P h p = leaves-refused kind.rules (plan_of kind.rules before) command (h.0 p)
 

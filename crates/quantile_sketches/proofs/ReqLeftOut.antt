@@ -70,7 +70,8 @@ module _ {A : Type 0} {cmp : A → A → Ordering} (o : IsTotalOrder cmp) (spell
           }
 
 -- the same holds where commands lead to sketches
-pub led-sheds : {A : Type 0} {cmp : A → A → Ordering} (o : IsTotalOrder cmp) (spelling : A → Option (List ℕ)) (commands : List (ReqCommand A)) (word : List Bool) (refused : List ℕ) (slots : Held (Req A)) →
+pub led-sheds : {A : Type 0} {cmp : A → A → Ordering} (o : IsTotalOrder cmp) (spelling : A → Option (List ℕ)) (commands : List (ReqCommand A)) (word : List Bool) (refused : List ℕ)
+    (slots : Held (Req A)) →
     LeadTo (req_kind cmp spelling) word commands refused slots → coins (trace_of req_rules commands) ≤ length word → length word < 2 ^ 64 - 1 →
     Sheds (trace_of req_rules commands) (trace_of req_rules (accepted_of refused commands))
 led-sheds {A} o spelling commands word refused slots lead enough few =

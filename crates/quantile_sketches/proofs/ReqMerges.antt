@@ -46,7 +46,8 @@ module _ (A : Type 0) where
 
   pub leaves-by : (redraws : Bool) (k t : ℕ) (accuracy : RankAccuracy) (source target : ℕ) (ls others : List Layout) (world : World (List ℕ)) (leaves : ℕ → Bool) → IsLegalK k → AreLayouts k ls →
       world.slots target ≡ counts_of ls → world.slots source ≡ counts_of others → t ≤ k →
-      leaves_at_least {A = A} (tail_side accuracy) (3 * t) (Snap source target ∷ events_at target (merge_actions_by redraws k accuracy ls others)) world leaves ≡ changed leaves target (leaves target && leaves source)
+      leaves_at_least {A = A} (tail_side accuracy) (3 * t) (Snap source target ∷ events_at target (merge_actions_by redraws k accuracy ls others)) world leaves
+      ≡ changed leaves target (leaves target && leaves source)
   leaves-by redraws k t accuracy source target ls others world leaves l a e c le =
       rw (merge_is ls others redraws k accuracy) (joined_leaves A k t accuracy source target ls others _ _ world leaves (behind-leads redraws k accuracy ls others l a) e c le)
 
@@ -58,7 +59,8 @@ module _ (A : Type 0) where
   redraw-req : (ls : List Layout) → AllByRecursion (λ action. IsTrue (is_req_action {A = A} action)) (redraw_actions ls)
   redraw-req ls = own-req (redraw_actions ls) (own-redraws A 0 ls)
 
-  pub merge-req : (redraws : Bool) (k : ℕ) (accuracy : RankAccuracy) (ls others : List Layout) → AllByRecursion (λ action. IsTrue (is_req_action {A = A} action)) (merge_actions_by redraws k accuracy ls others)
+  pub merge-req : (redraws : Bool) (k : ℕ) (accuracy : RankAccuracy)
+      (ls others : List Layout) → AllByRecursion (λ action. IsTrue (is_req_action {A = A} action)) (merge_actions_by redraws k accuracy ls others)
   merge-req true k accuracy ls others =
       let joined = joined_layouts k ls others in
       joins_req (length others) 0 (redraw_actions joined ++ actions_if_full k accuracy joined)
@@ -74,11 +76,13 @@ module _ {A : Type 0} (test : A → Bool) (s : ℕ) where
   ranks-joins zero h actions ranks = refl
   ranks-joins (suc more) h actions ranks = ranks-joins more (suc h) actions ranks
 
-  ranks-redraws : (h : ℕ) (drawn : List Layout) (actions : List (Action A)) (ranks : ℕ → ℕ) → true_ranks test (events_at s (redraws_from h drawn ++ actions)) ranks ≡ true_ranks test (events_at s actions) ranks
+  ranks-redraws : (h : ℕ) (drawn : List Layout) (actions : List (Action A)) (ranks : ℕ → ℕ) →
+      true_ranks test (events_at s (redraws_from h drawn ++ actions)) ranks ≡ true_ranks test (events_at s actions) ranks
   ranks-redraws h [] actions ranks = refl
   ranks-redraws h (layout ∷ above) actions ranks =
       let more = ranks-redraws (suc h) above actions ranks in
-      elim (turns_coin layout.state) as (λ b. true_ranks test (events_at s (((if b then Redraw h ∷ [] else []) ++ redraws_from (suc h) above) ++ actions)) ranks ≡ true_ranks test (events_at s actions) ranks) [
+      elim (turns_coin layout.state) as (λ b. true_ranks test (events_at s (((if b then Redraw h ∷ [] else []) ++ redraws_from (suc h) above) ++ actions)) ranks
+      ≡ true_ranks test (events_at s actions) ranks) [
         | true ↦ more
         | false ↦ more
       ]
@@ -86,7 +90,8 @@ module _ {A : Type 0} (test : A → Bool) (s : ℕ) where
   pub ranks-redraw : (ls : List Layout) (ranks : ℕ → ℕ) → true_ranks test (events_at s (redraw_actions ls)) ranks ≡ ranks
   ranks-redraw ls ranks = rw append-nil at (ranks-redraws 0 ls [] ranks)
 
-  pub ranks-merge : (redraws : Bool) (k : ℕ) (accuracy : RankAccuracy) (ls others : List Layout) (ranks : ℕ → ℕ) → true_ranks test (events_at s (merge_actions_by redraws k accuracy ls others)) ranks ≡ ranks
+  pub ranks-merge : (redraws : Bool) (k : ℕ) (accuracy : RankAccuracy) (ls others : List Layout) (ranks : ℕ → ℕ) →
+      true_ranks test (events_at s (merge_actions_by redraws k accuracy ls others)) ranks ≡ ranks
   ranks-merge true k accuracy ls others ranks =
       let joined = joined_layouts k ls others in
       ranks-joins (length others) 0 _ ranks ∙ (ranks-redraws 0 joined (actions_if_full k accuracy joined) ranks ∙ ranks-room k accuracy joined ranks)

@@ -79,7 +79,8 @@ module _ {A : Type 0} {cmp : A → A → Ordering} (o : IsTotalOrder cmp) (spell
   empty-levels : (k : ℕ) (accuracy : RankAccuracy) → bag_of {A = A} (fresh [] true 0 k accuracy ∷ []) ≡ empty_bag
   empty-levels k accuracy = λ i. let b : Bag A = record { levels = [] ∷ []; is_sorted = false; kept = fun_ext (no-coins (fresh [] true 0 k accuracy) refl) i } in b
 
-  empty-of : (k : ℕ) (accuracy : RankAccuracy) (shape : Option ReqShape) (s : Req A) → IsEmptyOf cmp spelling k accuracy s → shape ≡ Some (new_shape k accuracy) → IsFresh (req_kind cmp spelling) shape s
+  empty-of : (k : ℕ) (accuracy : RankAccuracy) (shape : Option ReqShape) (s : Req A) → IsEmptyOf cmp spelling k accuracy s → shape ≡ Some (new_shape k accuracy) →
+      IsFresh (req_kind cmp spelling) shape s
   empty-of k accuracy shape s is e = record {
     shape_is = e ∙ ap Some (same-shape _ _ _ _ _ _ _ _ (sym is.0) (sym is.1) (sym is.2) (sym (ap layouts_of is.3)));
     bag_is = ap bag_of is.3 ∙ empty-levels k accuracy;
@@ -88,7 +89,8 @@ module _ {A : Type 0} {cmp : A → A → Ordering} (o : IsTotalOrder cmp) (spell
     sound = is.6;
   }
 
-  made : (config : ℕ × RankAccuracy) (r : Result (Req A) ErrorKind) → IsMade cmp spelling config r → IfOk r (IsFresh (req_kind cmp spelling) ((req_rules {A = A}).made config)) × IfErr r (Refuses ((req_rules {A = A}).made config))
+  made : (config : ℕ × RankAccuracy) (r : Result (Req A) ErrorKind) → IsMade cmp spelling config r →
+      IfOk r (IsFresh (req_kind cmp spelling) ((req_rules {A = A}).made config)) × IfErr r (Refuses ((req_rules {A = A}).made config))
   made config (Ok s) h = (empty-of config.0 config.1 _ s h.2 (ap (λ (b : Bool). none_if (not b) (new_shape config.0 config.1)) legal), tt)
     where
       legal : may_be_k config.0 ≡ true
@@ -100,7 +102,8 @@ module _ {A : Type 0} {cmp : A → A → Ordering} (o : IsTotalOrder cmp) (spell
         (λ f. h.1 (legal_k config.0 (not-false (may_be_k config.0) f))),
   )
 
-  read-back : IsPrefixFree spelling → SpellingsTie cmp spelling → (s : Req A) (bytes : Vec ℕ Global) (r : Result (Req A) ErrorKind) → IsImaged cmp spelling s (Ok bytes) → IsLoaded cmp spelling bytes.items r →
+  read-back : IsPrefixFree spelling → SpellingsTie cmp spelling → (s : Req A) (bytes : Vec ℕ Global) (r : Result (Req A) ErrorKind) → IsImaged cmp spelling s (Ok bytes) →
+      IsLoaded cmp spelling bytes.items r →
       IfOk r (IsReadBack (req_kind cmp spelling) s) × IfErr r (λ e. e ≡ OutOfMemory)
   read-back free ties s bytes (Ok t) w h =
       (read_is o spelling s t (one_sketch o spelling free ties bytes.items (without_coins s) t [] h.0.0.0 w.0.1 h.0.0.1).0 h.0.1, tt)

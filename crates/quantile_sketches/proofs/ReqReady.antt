@@ -55,7 +55,8 @@ module _ {A : Type 0} (slot : ℕ) where
       other : ReqShape
       other = shape_in (shapes source)
 
-      taken : (redraws : Bool) → Stand (changed shapes into (Some (merged_as s other (merge_layouts s.k s.layouts other.layouts)))) (changed fairs into (merged_fairness redraws s other (fairs into) (fairs source))) rest →
+      taken : (redraws : Bool) → Stand (changed shapes into (Some (merged_as s other (merge_layouts s.k s.layouts other.layouts))))
+          (changed fairs into (merged_fairness redraws s other (fairs into) (fairs source))) rest →
           Stand shapes fairs (events_merged redraws s other into source ++ rest)
       taken true n =
           stands-merge_redrawn slot s.k s.accuracy source into (layouts_in shapes) (λ j. (fairs j).is_ready) (λ j. (fairs j).is_fair) rest

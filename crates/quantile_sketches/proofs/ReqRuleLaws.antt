@@ -117,10 +117,12 @@ module _ {A : Type 0} where
   legal k trace world f = record { scratch = f.scratch; meets = along-less k trace world f.sizes }
 
   -- the lengths of the slot that is acted on
-  lengths-there : (actions : List (Action A)) (world : World (List ℕ)) (s : ℕ) (lengths : List ℕ) → (acts_on_lengths actions (record { bag = world.slots s; scratch = world.scratch })).bag ≡ lengths → (lengths_by world (events_at s actions)).slots s ≡ lengths
+  lengths-there : (actions : List (Action A)) (world : World (List ℕ)) (s : ℕ) (lengths : List ℕ) →
+      (acts_on_lengths actions (record { bag = world.slots s; scratch = world.scratch })).bag ≡ lengths → (lengths_by world (events_at s actions)).slots s ≡ lengths
   lengths-there actions world s lengths e = ap (λ (w : World (List ℕ)). w.slots s) (lengths_at actions world s) ∙ (changed-there world.slots s _ ∙ e)
 
-  ranks-one : (test : A → Bool) (s k : ℕ) (accuracy : RankAccuracy) (ls : List Layout) (x : A) (ranks : ℕ → ℕ) → true_ranks test (events_at s (update_actions k accuracy ls x)) ranks s ≡ ranks s + (if test x then 1 else 0)
+  ranks-one : (test : A → Bool) (s k : ℕ) (accuracy : RankAccuracy) (ls : List Layout) (x : A) (ranks : ℕ → ℕ) →
+      true_ranks test (events_at s (update_actions k accuracy ls x)) ranks s ≡ ranks s + (if test x then 1 else 0)
   ranks-one test s k accuracy ls x ranks = ap (λ (f : ℕ → ℕ). f s) (rw append-nil at (ranks-update test k accuracy s ls x [] ranks)) ∙ changed-there ranks s _
 
   -- ---- the calls
@@ -152,17 +154,20 @@ module _ {A : Type 0} where
       })
 
 module _ (A : Type 0) where
-  merge-well : (redraws : Bool) (s other t : ReqShape) → (req_rules {A = A}).merged redraws s other ≡ Some t → (into source : ℕ) (world : World (List ℕ)) → FitsReq s (world.slots into) → FitsReq other (world.slots source) → sum world.scratch ≡ 0 → 0 < other.n →
+  merge-well : (redraws : Bool) (s other t : ReqShape) → (req_rules {A = A}).merged redraws s other ≡ Some t → (into source : ℕ) (world : World (List ℕ)) →
+      FitsReq s (world.slots into) → FitsReq other (world.slots source) → sum world.scratch ≡ 0 → 0 < other.n →
       DoWell {A = A} MeetsReq FitsReq into (merge_actions_by redraws s.k s.accuracy s.layouts other.layouts) (lengths_after {A = A} (Snap source into) world) t (λ test. 0)
   merge-well redraws s other t e into source world h o z some =
       let u = unless-there _ _ t e in
       let some_n : (other.n == 0) ≡ false = ne_eqb other.n 0 (λ e. omega arith) in
       let actions : List (Action A) = merge_actions_by redraws s.k s.accuracy s.layouts other.layouts in
       let snapped : World (List ℕ) = lengths_after {A = A} (Snap source into) world in
-      let l = legal (λ i. s.k) (Snap source into ∷ events_at into actions) world (legal-by A redraws (λ i. s.k) s.accuracy source into s.layouts other.layouts world h.legal h.are h.lengths_are o.lengths_are z) in
+      let l = legal (λ i. s.k) (Snap source into ∷ events_at into actions) world
+      (legal-by A redraws (λ i. s.k) s.accuracy source into s.layouts other.layouts world h.legal h.are h.lengths_are o.lengths_are z) in
       let lengths : (acts_on_lengths actions (record { bag = world.slots into; scratch = world.slots source })).bag ≡ counts_of (merge_layouts s.k s.layouts other.layouts) =
       rw (h.lengths_are, o.lengths_are) (lengths-by A redraws s.k s.accuracy s.layouts other.layouts h.legal h.are) in
-      let is : merged_as s other (merge_layouts s.k s.layouts other.layouts) ≡ t = ap (λ (b : Bool). merged_as s other (if b then s.layouts else merge_layouts s.k s.layouts other.layouts)) (sym some_n) ∙ u.1 in
+      let is : merged_as s other (merge_layouts s.k s.layouts other.layouts) ≡ t =
+      ap (λ (b : Bool). merged_as s other (if b then s.layouts else merge_layouts s.k s.layouts other.layouts)) (sym some_n) ∙ u.1 in
       rw (← is) (record {
         legal = record { scratch = l.scratch.1; meets = l.meets.1 };
         fits = rw (lengths-there actions snapped into _ lengths) (merged_fits s other (world.slots into) (world.slots source) h o (not-much s other u.0 some_n));

@@ -81,7 +81,8 @@ weigh-any h [] = refl
 weigh-any h (level ∷ above) = ap₂ (λ (m n : ℕ). 2 ^ h * m + n) (all-counted level) (weigh-any (suc h) above)
 
 -- a slot weighs as much as its stream
-pub req-weight : {A : Type 0} {cmp : A → A → Ordering} → IsTotalOrder cmp → (commands : List (ReqCommand A)) (word : List Bool) (slot : ℕ) → weight ((play cmp (trace_of req_rules commands) word start).slots slot) ≡ length (stream_of req_rules commands slot)
+pub req-weight : {A : Type 0} {cmp : A → A → Ordering} → IsTotalOrder cmp → (commands : List (ReqCommand A)) (word : List Bool) (slot : ℕ) →
+    weight ((play cmp (trace_of req_rules commands) word start).slots slot) ≡ length (stream_of req_rules commands slot)
 req-weight {A} {cmp} order commands word slot =
     let any : A → Bool = λ x. true in
     let bag = (play cmp (trace_of req_rules commands) word start).slots slot in
@@ -92,18 +93,21 @@ req-weight {A} {cmp} order commands word slot =
     ∙ (run-ranks (req_lawful {A = A}) any commands slot ∙ all-counted (stream_of req_rules commands slot))))
 
 -- the items of a slot that was only updated hang on no round trip
-updated-shed : {A : Type 0} (cmp : A → A → Ordering) (own : List (ReqCommand A)) (slot : ℕ) → was_only_updated own slot ≡ true → (fewer : List (Event A)) → Sheds (trace_of req_rules own) fewer → (word : List Bool) →
+updated-shed : {A : Type 0} (cmp : A → A → Ordering) (own : List (ReqCommand A)) (slot : ℕ) → was_only_updated own slot ≡ true → (fewer : List (Event A)) →
+    Sheds (trace_of req_rules own) fewer → (word : List Bool) →
     ((play cmp (trace_of req_rules own) word start).slots slot).levels ≡ ((play cmp fewer word start).slots slot).levels
 updated-shed cmp own slot only fewer sheds word = ap (λ bag. bag.levels) (sym (bag-shed cmp own slot only fewer sheds word))
 
 -- ---- of a run
 
-in-order : {A : Type 0} (cmp : A → A → Ordering) (k : ℕ) (accuracy : RankAccuracy) (h : ℕ) (ls : List (Level A)) → AreLevels cmp k accuracy h ls → AllByRecursion (λ level. IsTrue level.is_sorted → IsSorted cmp level.items) ls
+in-order : {A : Type 0} (cmp : A → A → Ordering) (k : ℕ) (accuracy : RankAccuracy) (h : ℕ) (ls : List (Level A)) → AreLevels cmp k accuracy h ls →
+    AllByRecursion (λ level. IsTrue level.is_sorted → IsSorted cmp level.items) ls
 in-order cmp k accuracy h [] a = tt
 in-order cmp k accuracy h (l ∷ ls) a = (a.0.sound.in_order, in-order cmp k accuracy (suc h) ls a.1)
 
 -- a sketch of the planned shape that is alike to the play of the commands is exact on its tail
-pub alike-exact : {A : Type 0} {cmp : A → A → Ordering} → IsTotalOrder cmp → (commands : List (ReqCommand A)) (word : List Bool) (slot : ℕ) (s : Req A) → (plan_of req_rules commands).shapes slot ≡ Some (req_shape s) →
+pub alike-exact : {A : Type 0} {cmp : A → A → Ordering} → IsTotalOrder cmp → (commands : List (ReqCommand A)) (word : List Bool) (slot : ℕ) (s : Req A) →
+    (plan_of req_rules commands).shapes slot ≡ Some (req_shape s) →
     AlikeReq cmp ((play cmp (trace_of req_rules commands) word start).slots slot) (bag_of s.levels) → IsExact cmp commands slot s
 alike-exact {A} {cmp} o commands word slot s shape alike y criteria few =
     let same_side : (shape_in ((plan_of req_rules commands).shapes slot)).accuracy ≡ s.accuracy = ap (λ (p : Option ReqShape). (shape_in p).accuracy) shape in
@@ -187,7 +191,8 @@ module _ {A : Type 0} {cmp : A → A → Ordering} (o : IsTotalOrder cmp) (spell
       other-sheds : Sheds (trace_of req_rules commands) (trace_of req_rules (accepted runs other))
       other-sheds = led-sheds o spelling commands other (runs.refused other) (runs.held other) (runs.lead other long) own-enough own-few
 
-      other-rank : (y : A) (criteria : SearchCriteria) (slot : ℕ) → rank_of (req_kind cmp spelling) y criteria (runs.held other slot) ≡ rank_under req_rules cmp y criteria (accepted runs other) slot other
+      other-rank : (y : A) (criteria : SearchCriteria) (slot : ℕ) →
+          rank_of (req_kind cmp spelling) y criteria (runs.held other slot) ≡ rank_under req_rules cmp y criteria (accepted runs other) slot other
       other-rank = led-rank (req_kind_lawful o spelling) commands other (runs.refused other) (runs.held other) (runs.lead other long) own-enough own-few
 
     -- where a slot's items hang on no round trip, under no word, its ranks are those of the plays of one list of commands
@@ -231,7 +236,8 @@ module _ {A : Type 0} {cmp : A → A → Ordering} (o : IsTotalOrder cmp) (spell
       same-squares : (y : A) (criteria : SearchCriteria) →
           squared_errors cmp y criteria (accepted runs word) (length word) slot ≡ squares_in (req_kind cmp spelling) commands word slots runs slot y criteria
       same-squares y criteria =
-          ap (λ (l : List A). sum_over_words (length word) (λ other. square (distance (rank_under req_rules cmp y criteria (accepted runs word) slot other) (true_rank cmp y criteria l)))) accepted-stream
+          ap (λ (l : List A). sum_over_words (length word) (λ other. square
+          (distance (rank_under req_rules cmp y criteria (accepted runs word) slot other) (true_rank cmp y criteria l)))) accepted-stream
           ∙ sym (as-played (λ rank. square (distance rank (true_rank cmp y criteria (stream_of req_rules commands slot)))) y criteria)
 
     -- slots that were only updated are unbiased
@@ -276,7 +282,8 @@ module _ {A : Type 0} {cmp : A → A → Ordering} (o : IsTotalOrder cmp) (spell
           Reaches s.k count levels → IsRelative s.k levels (length word) squares count
       own-relative_to_counts great levels =
           as-run (λ shape stream n. let count = off_protected_end cmp shape.accuracy y criteria stream in 24 ≤ shape.k → Reaches shape.k count levels → IsRelative shape.k levels (length word) n count)
-          (run-relative_to_counts cmp (accepted runs word) slot (show word refl) (length word) (accepted-enough was_only_updated (updated-shed cmp) runs slot show) y criteria (updates_relative_to_counts o) levels)
+          (run-relative_to_counts cmp (accepted runs word) slot (show word refl) (length word) (accepted-enough was_only_updated (updated-shed cmp) runs slot show) y criteria
+          (updates_relative_to_counts o) levels)
           great
 
     -- for a k of at least 24, to counts alone

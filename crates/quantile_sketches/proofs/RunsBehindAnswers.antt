@@ -25,7 +25,8 @@ use Rattle.quantile_sketches.proofs.Refusals.{executed-more}
 use Rattle.quantile_sketches.proofs.Slots.{in_slot-none}
 use Rattle.quantile_sketches.proofs.Standing.{Standing, standing-none, standing-same, standing-more, standing-is}
 
-module _ {C Shape S : Type 0} (grammar : Grammar C) {kind : Kind ℤ C Shape S} (lawful : IsLawful kind) (behaviour : Behaviour S ℤ C) (obeys : ObeysRules behaviour kind coin_of next_state) (seed : ℕ) where
+module _ {C Shape S : Type 0} (grammar : Grammar C) {kind : Kind ℤ C Shape S} (lawful : IsLawful kind) (behaviour : Behaviour S ℤ C)
+    (obeys : ObeysRules behaviour kind coin_of next_state) (seed : ℕ) where
   -- the sketches and the coins are those of a run, and stand where its commands put them
   abbrev OfRun : Known C → Slots S → ℕ → Type 0
   OfRun None slots coins = ⊤
@@ -72,7 +73,8 @@ module _ {C Shape S : Type 0} (grammar : Grammar C) {kind : Kind ℤ C Shape S} 
 
   -- what holds of a run holds behind the answers
   module _ (Holds : Known C → Slots S → ℕ → Type 0) (by : (run : Known C) (slots : Slots S) (coins : ℕ) → OfRun run slots coins → Holds run slots coins) where
-    answers-where : (run : Known C) (slots : Slots S) (coins : ℕ) (ls : List (List ℕ)) (out : List ℕ) → OfRun run slots coins → Serves grammar behaviour slots coins ls out → AnswersWhere grammar behaviour Holds run slots coins ls out
+    answers-where : (run : Known C) (slots : Slots S) (coins : ℕ) (ls : List (List ℕ)) (out : List ℕ) → OfRun run slots coins → Serves grammar behaviour slots coins ls out →
+        AnswersWhere grammar behaviour Holds run slots coins ls out
     answers-where run slots coins [] out of e = (by run slots coins of, e)
     answers-where run slots coins (l ∷ ls) out of (r, slots', coins', rest, a, more, e) =
         let after = answered run (request_of grammar (words l)) (words l) slots coins r slots' coins' a of in
@@ -85,7 +87,8 @@ module _ {C Shape S : Type 0} (grammar : Grammar C) {kind : Kind ℤ C Shape S} 
         ((fun_ext (λ q. in_slot-none SLOTS q), refl), standing-none lawful coin_of next_state seed (in_slot (replicate SLOTS None)) (λ q. in_slot-none SLOTS q))
 
   -- the sketches behind the answers are those of a run
-  pub answers-rest : (ls : List (List ℕ)) (out : List ℕ) → Serves grammar behaviour (replicate SLOTS None) seed ls out → AnswersWhere grammar behaviour (AreOfRun kind seed) (Some []) (replicate SLOTS None) seed ls out
+  pub answers-rest : (ls : List (List ℕ)) (out : List ℕ) → Serves grammar behaviour (replicate SLOTS None) seed ls out →
+      AnswersWhere grammar behaviour (AreOfRun kind seed) (Some []) (replicate SLOTS None) seed ls out
   answers-rest = answers-hold (AreOfRun kind seed) of-run
     where
       of-run : (run : Known C) (slots : Slots S) (coins : ℕ) → OfRun run slots coins → AreOfRun kind seed run slots coins
@@ -95,7 +98,8 @@ module _ {C Shape S : Type 0} (grammar : Grammar C) {kind : Kind ℤ C Shape S} 
   -- and they keep what is promised of sketches in slots
   pub answers-keep : (promise : List (Command ℤ C) → ℕ → S → Type 0) →
       ((commands : List (Command ℤ C)) (slots : Held S) (coins : ℕ) → Standing kind coin_of next_state seed commands slots coins → (slot : ℕ) (s : S) → slots slot ≡ Some s → promise commands slot s) →
-      (ls : List (List ℕ)) (out : List ℕ) → Serves grammar behaviour (replicate SLOTS None) seed ls out → AnswersWhere grammar behaviour (EachKeeps promise) (Some []) (replicate SLOTS None) seed ls out
+      (ls : List (List ℕ)) (out : List ℕ) → Serves grammar behaviour (replicate SLOTS None) seed ls out →
+      AnswersWhere grammar behaviour (EachKeeps promise) (Some []) (replicate SLOTS None) seed ls out
   answers-keep promise keeps = answers-hold (EachKeeps promise) each
     where
       each : (run : Known C) (slots : Slots S) (coins : ℕ) → OfRun run slots coins → EachKeeps promise run slots coins

@@ -64,7 +64,9 @@ module _ {cmp : ℤ → ℤ → Ordering} (order : IsTotalOrder cmp) (tied : Tie
   pub quantile-one : (bag : Bag ℤ) (least greatest : Option ℤ) (fraction : Rank) (criteria : SearchCriteria) → SameReplies (Replies Item (IsQuantile cmp n bag least greatest fraction criteria))
   quantile-one bag least greatest fraction criteria =
       replies-one Item (IsQuantile cmp n bag least greatest fraction criteria) (IsFraction fraction)
-      (λ x y h k. ap (λ (o : Option ℤ). answer_text (Ok (Item o))) (sym (same-answers order tied (quantile cmp bag least greatest fraction.weight fraction.total criteria) x h.3) ∙ same-answers order tied (quantile cmp bag least greatest fraction.weight fraction.total criteria) y k.3))
+      (λ x y h k. ap (λ (o : Option ℤ). answer_text (Ok (Item o)))
+      (sym (same-answers order tied (quantile cmp bag least greatest fraction.weight fraction.total criteria) x h.3)
+      ∙ same-answers order tied (quantile cmp bag least greatest fraction.weight fraction.total criteria) y k.3))
       (λ x h. h.0.1) (λ e h. h.0.1) (λ e h good. (h.1 good).0)
 
   -- one list of ranks is given
@@ -162,7 +164,8 @@ module _ {C S : Type 0} (behaviour : Behaviour S ℤ C) where
         reads-one _ (λ s. spreads-one (points_of line) (behaviour.pmf s (points_of line) criteria) (one.pmfs s (points_of line) criteria)) slot slots ts us coins left left' r w n m h k
     one-executed (ImageOf slot) line slots ts us coins left left' r w n m h k = reads-one _ shows-one slot slots ts us coins left left' r w n m h k
     one-executed (Load slot) line slots ts us coins left left' r w n m (v, is, h, stays) (v', is', k, stays') =
-        let a = one-load (image_in line) slot slots ts us v v' (loaded-so (image_in line) slot slots ts v (verdict-ample r v n is) h) (loaded-so (image_in line) slot slots us v' (verdict-ample w v' m is') k) in
+        let a = one-load (image_in line) slot slots ts us v v' (loaded-so (image_in line) slot slots ts v (verdict-ample r v n is) h)
+        (loaded-so (image_in line) slot slots us v' (verdict-ample w v' m is') k) in
         (ap answer_text (is ∙ (ap reply_of a.0 ∙ sym is')), a.1, stays ∙ sym stays')
 
     one-answered : (command : Option (Request C)) (line : List (List ℕ)) (slots ts us : Slots S) (coins left left' : ℕ) (r w : Reply) → r ≢ Err (Sketch OutOfMemory) → w ≢ Err (Sketch OutOfMemory) →
@@ -175,5 +178,6 @@ module _ {C S : Type 0} (behaviour : Behaviour S ℤ C) where
     one-text grammar slots coins [] out out' h k = h ∙ sym k
     one-text grammar slots coins (l ∷ ls) out out' (r, n, ts, left, rest, h, on, is) (w, m, us, left', rest', k, on', is') =
         let a = one-answered (request_of grammar (words l)) (words l) slots ts us coins left left' r w n m h k in
-        let b = one-text grammar ts left ls rest rest' on (subst (λ (x : ℕ). ServesAmply grammar behaviour ts x ls rest') (sym a.2) (subst (λ (x : Slots S). ServesAmply grammar behaviour x left' ls rest') (sym a.1) on')) in
+        let b = one-text grammar ts left ls rest rest' on (subst (λ (x : ℕ). ServesAmply grammar behaviour ts x ls rest') (sym a.2)
+        (subst (λ (x : Slots S). ServesAmply grammar behaviour x left' ls rest') (sym a.1) on')) in
         is ∙ (ap (λ (text : List ℕ). text ++ (10 ∷ rest)) a.0 ∙ (ap (λ (more : List ℕ). answer_text w ++ (10 ∷ more)) b ∙ sym is'))

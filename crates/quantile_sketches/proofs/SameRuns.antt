@@ -140,7 +140,8 @@ module _ {A C S Source : Type 0} (behaviour : Behaviour S A C) (bit : Source →
     copy-one redraws s t u coins left left' (inr (f, inl h)) (inr (f', inr (e, c, err, same, stays))) = absurd (no-err tt e err)
     copy-one redraws s t u coins left left' (inr (f, inr (e, c, err, same, stays))) h' = absurd (no-err tt e err)
 
-    copy-clash : (redraws : Bool) (s t u : S) (coins left left' : Source) (e : ErrorKind) → JoinsCopy behaviour bit next redraws s coins (Ok tt) t left → JoinsCopy behaviour bit next redraws s coins (Err e) u left' → e ≡ OutOfMemory
+    copy-clash : (redraws : Bool) (s t u : S) (coins left left' : Source) (e : ErrorKind) → JoinsCopy behaviour bit next redraws s coins (Ok tt) t left →
+        JoinsCopy behaviour bit next redraws s coins (Err e) u left' → e ≡ OutOfMemory
     copy-clash redraws s t u coins left left' e (inl (too, err, same, stays)) h' = absurd (no-err tt InvalidArgument err)
     copy-clash redraws s t u coins left left' e (inr (f, h)) (inl (too, err, same, stays)) = absurd (one.refuses redraws s s too f)
     copy-clash redraws s t u coins left left' e (inr (f, inr (g, c, err, same, stays))) h' = absurd (no-err tt g err)
@@ -158,7 +159,8 @@ module _ {A C S Source : Type 0} (behaviour : Behaviour S A C) (bit : Source →
     settled-copy redraws = record { one = copy-one redraws; clash = copy-clash redraws; refuses = copy-refuses redraws }
 
     -- a new sketch
-    one-made : (config : C) (slot : ℕ) (slots ts us : Slots S) (v w : Verdict) → Ample v → Ample w → Makes (behaviour.made config) slot slots v ts → Makes (behaviour.made config) slot slots w us → (v ≡ w) × (ts ≡ us)
+    one-made : (config : C) (slot : ℕ) (slots ts us : Slots S) (v w : Verdict) → Ample v → Ample w → Makes (behaviour.made config) slot slots v ts →
+        Makes (behaviour.made config) slot slots w us → (v ≡ w) × (ts ≡ us)
     one-made config slot slots ts us (Ok a) (Ok b) n m (s, o, held, h, is) (t, o', held', h', is') =
         (refl, is ∙ (ap (λ (x : S). slice_set slots slot (Some x)) (one.made config s t h h') ∙ sym is'))
     one-made config slot slots ts us (Ok a) (Err (Sketch e)) n m (s, o, held, h, is) (h', is') = absurd (ample e m (one.made_clash config s e h h'))
@@ -177,7 +179,8 @@ module _ {A C S Source : Type 0} (behaviour : Behaviour S A C) (bit : Source →
         one-change (Turns (JoinsCopy behaviour bit next redraws)) (one-turn (JoinsCopy behaviour bit next redraws) (settled-copy redraws)) into slots ts us coins left left' v w n m h h'
     one-merge redraws false into source slots ts us coins left left' v w n m (o, held, h) (o', held', h') =
         let same : o' ≡ o = same_Some o' o (sym held' ∙ held) in
-        one-change (Joins (λ p. behaviour.joined redraws p Source bit next) o) (one-join (λ p. behaviour.joined redraws p Source bit next) (one.joined redraws) o) into slots ts us coins left left' v w n m h
+        one-change (Joins (λ p. behaviour.joined redraws p Source bit next) o) (one-join (λ p. behaviour.joined redraws p Source bit next) (one.joined redraws) o) into slots ts us
+        coins left left' v w n m h
         (subst (λ (x : Option S). Changes (Joins (λ p. behaviour.joined redraws p Source bit next) x) into slots coins w us left') same h')
 
     -- a command makes one list of sketches
@@ -191,7 +194,8 @@ module _ {A C S Source : Type 0} (behaviour : Behaviour S A C) (bit : Source →
         one-change _ (one-turn (behaviour.taken_weighted x weight Source bit next) (one.weighted x weight)) slot slots ts us coins left left' v w n m h h'
     one-command (Merge into source) slots ts us coins left left' v w n m h h' = one-merge false (into == source) into source slots ts us coins left left' v w n m h h'
     one-command (Reset slot) slots ts us coins left left' v w n m h h' = one-change _ (one-turn {Source = Source} (Empties behaviour) settled-reset) slot slots ts us coins left left' v w n m h h'
-    one-command (RoundTrip slot) slots ts us coins left left' v w n m h h' = one-change _ (one-turn {Source = Source} (RoundTrips behaviour) settled-trip) slot slots ts us coins left left' v w n m h h'
+    one-command (RoundTrip slot) slots ts us coins left left' v w n m h h' =
+        one-change _ (one-turn {Source = Source} (RoundTrips behaviour) settled-trip) slot slots ts us coins left left' v w n m h h'
     one-command (Redraw slot) slots ts us coins left left' v w n m h h' =
         one-change _ (one-turn (behaviour.redrawn Source bit next) one.redrawn) slot slots ts us coins left left' v w n m h h'
     one-command (MergeRedrawn into source) slots ts us coins left left' v w n m h h' = one-merge true (into == source) into source slots ts us coins left left' v w n m h h'

@@ -25,7 +25,8 @@ take-front (suc m) (suc n) [] h = refl
 take-front (suc m) (suc n) (x ∷ xs) h = ap (λ l. x ∷ l) (take-front m n xs (omega arith))
 
 -- the coins are those after the commands, and the sketches stand under each word that begins with the bits that the source gave
-pub record Standing {A C Shape S Source : Type 0} (kind : Kind A C Shape S) (bit : Source → Bool) (next : Source → Source) (seed : Source) (commands : List (Command A C)) (slots : Held S) (source : Source) : Type 0 where
+pub record Standing {A C Shape S Source : Type 0} (kind : Kind A C Shape S) (bit : Source → Bool) (next : Source → Source) (seed : Source) (commands : List (Command A C))
+    (slots : Held S) (source : Source) : Type 0 where
   pub drawn : source ≡ after_draws next seed (coins (trace_of kind.rules commands))
   pub stand : (word : List Bool) → take (coins (trace_of kind.rules commands)) word ≡ bits_from bit next seed (coins (trace_of kind.rules commands)) →
       Stand kind (plan_of kind.rules commands) (stream_of kind.rules commands) (play kind.cmp (trace_of kind.rules commands) word start) slots
@@ -46,14 +47,16 @@ module _ {A C Shape S Source : Type 0} {kind : Kind A C Shape S} (lawful : IsLaw
   }
 
   -- where nothing changes
-  pub standing-same : (commands : List (Command A C)) (slots slots' : Held S) (source source' : Source) → Stands commands slots source → AreSame slots slots' → source' ≡ source → Stands commands slots' source'
+  pub standing-same : (commands : List (Command A C)) (slots slots' : Held S) (source source' : Source) → Stands commands slots source → AreSame slots slots' → source' ≡ source →
+      Stands commands slots' source'
   standing-same commands slots slots' source source' st same stays = record {
     drawn = stays ∙ st.drawn;
     stand = λ word agree. stand-same _ _ _ slots slots' (st.stand word agree) same;
   }
 
   -- one more command
-  module _ (commands : List (Command A C)) (slots : Held S) (source : Source) (st : Stands commands slots source) (c : Command A C) (slots' : Held S) (source' : Source) (x : IsExecuted kind bit next c slots source true slots' source') where
+  module _ (commands : List (Command A C)) (slots : Held S) (source : Source) (st : Stands commands slots source) (c : Command A C) (slots' : Held S) (source' : Source)
+      (x : IsExecuted kind bit next c slots source true slots' source') where
     abbrev k : ℕ
     k = coins (trace_of kind.rules commands)
 

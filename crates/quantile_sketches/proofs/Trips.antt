@@ -12,6 +12,8 @@ use Rattle.sketch_base.proofs.Picks.{Sheds, none, kept, shed}
 use Rattle.quantile_sketches.proofs.LegalPlans.{at_slot, changed-away}
 
 module _ {A : Type 0} where
+  -- ---- round trips left out
+
   -- a trace without its Forgets
   abbrev pub shorn : List (Event A) → List (Event A)
   shorn [] = []
@@ -69,6 +71,8 @@ drawn-others : (drawn : ℕ → Bool) (h j : ℕ) → (j == h) ≡ false → cha
 drawn-others drawn h j e d = sym (ap (λ (b : Bool). if b then true else drawn j) e) ∙ d
 
 module _ {A : Type 0} (cmp : A → A → Ordering) (slot : ℕ) where
+  -- ---- two worlds
+
   -- two worlds of the same level lengths that agree so in what gets into the asked slot
   pub record Agree (es : List (Event A)) (drawn : ℕ → ℕ → Bool) (lengths : World (List ℕ)) (world world' : World (Bag A)) : Type 0 where
     pub lengths_are : world_lengths world ≡ lengths

@@ -88,7 +88,8 @@ module _ {A : Type 0} (P : A → Type 0) where
   all-with_level (suc h) change [] c a = (tt, all-with_level h change [] c tt)
   all-with_level (suc h) change (l ∷ ls) c a = (a.0, all-with_level h change ls c a.1)
 
-  all-cut : (cmp : A → A → Ordering) (taken : Taken) (in_list_order : Bool) (l : List A) → AllByRecursion P l → AllByRecursion P (cut cmp taken in_list_order l).0 × AllByRecursion P (cut cmp taken in_list_order l).1
+  all-cut : (cmp : A → A → Ordering) (taken : Taken) (in_list_order : Bool) (l : List A) → AllByRecursion P l →
+      AllByRecursion P (cut cmp taken in_list_order l).0 × AllByRecursion P (cut cmp taken in_list_order l).1
   all-cut cmp AllButLeftover true l a = let n = length l - length l % 2 in (all-drop n l a, all-sort cmp (take n l) (all-take n l a))
   all-cut cmp AllButLeftover false l a = let n = length l % 2 in let s = all-sort cmp l a in (all-take n (sort cmp l) s, all-drop n (sort cmp l) s)
   all-cut cmp (Lowest n) b l a = let s = all-sort cmp l a in (all-drop n (sort cmp l) s, all-take n (sort cmp l) s)
@@ -106,7 +107,8 @@ module _ {A : Type 0} (P : A → Type 0) where
       (all-with_level h (λ l. parts.0) bag.levels (λ l k. c.0) a)
 
   -- the levels of two bags that are alike
-  pub all-alike-levels : (cmp : A → A → Ordering) → ((x y : A) → cmp x y ≡ Equal → P x → P y) → (ls ms : List (List A)) → AllZip (λ xs ys. SameItems cmp (sort cmp xs) (sort cmp ys)) ls ms → AllIn ls → AllIn ms
+  pub all-alike-levels : (cmp : A → A → Ordering) → ((x y : A) → cmp x y ≡ Equal → P x → P y) → (ls ms : List (List A)) →
+      AllZip (λ xs ys. SameItems cmp (sort cmp xs) (sort cmp ys)) ls ms → AllIn ls → AllIn ms
   all-alike-levels cmp keeps [] [] s a = tt
   all-alike-levels cmp keeps (l ∷ ls) (m ∷ ms) s a = (all-alike cmp keeps l m s.0 a.0, all-alike-levels cmp keeps ls ms s.1 a.1)
   all-alike-levels cmp keeps _ _ s a = absurd s

@@ -29,6 +29,8 @@ all-by_recursion : {A : Type 0} (P : A → Type 0) (xs : List A) → All P xs �
 all-by_recursion P [] h = tt
 all-by_recursion P (x ∷ xs) h = (h 0 x (omega arith), all-by_recursion P xs (λ k d l. h (suc k) d (omega arith)))
 
+-- ---- pairs in order
+
 -- weighted items in order of the items
 pub sorted-items : {A : Type 0} (cmp : A → A → Ordering) (pairs : List (A × ℕ)) → IsSortedBy (λ (a b : A × ℕ). is_lt (cmp a.0 b.0)) pairs → IsSorted cmp (map (λ (pair : A × ℕ). pair.0) pairs)
 sorted-items cmp [] up k d l u = absurd (omega arith)
@@ -70,6 +72,8 @@ module _ {A : Type 0} where
   long-enough : (pairs : List (A × ℕ)) → HaveWeight pairs → length pairs ≤ weigh_pairs (λ x. 1) pairs
   long-enough [] h = omega arith
   long-enough (p ∷ ps) h = let one = h.0 in omega (arith, sum_by-cons (λ (pair : A × ℕ). pair.1 * 1) p ps, long-enough ps h.1, one)
+
+  -- ---- joining equal items
 
   -- what a weight counts that is carried on to the next item
   abbrev carried : ℕ → (A → ℕ) → List (A × ℕ) → ℕ
@@ -126,7 +130,8 @@ module _ {A : Type 0} {cmp : A → A → Ordering} (order : IsTotalOrder cmp) wh
       ]
 
   -- a weight that is carried on counts the same, since the next item compares equal
-  carried-on : (f : A → ℕ) → ((x y : A) → cmp x y ≡ Equal → f x ≡ f y) → (n : ℕ) (x : A) (pairs : List (A × ℕ)) → is_below_next cmp x pairs ≡ false → AllByRecursion (λ y. is_gt (cmp x y) ≡ false) (items_in pairs) → carried n f pairs ≡ n * f x
+  carried-on : (f : A → ℕ) → ((x y : A) → cmp x y ≡ Equal → f x ≡ f y) → (n : ℕ) (x : A) (pairs : List (A × ℕ)) → is_below_next cmp x pairs ≡ false →
+      AllByRecursion (λ y. is_gt (cmp x y) ≡ false) (items_in pairs) → carried n f pairs ≡ n * f x
   carried-on f respects n x [] e up = absurd (false≢true (sym e))
   carried-on f respects n x (p ∷ ps) e up = ap (λ m. n * m) (sym (respects x p.0 (equal-from_neither (cmp x p.0) e up.0)))
 
@@ -179,7 +184,8 @@ module _ {A : Type 0} {cmp : A → A → Ordering} (order : IsTotalOrder cmp) wh
   distinct-spread before (x ∷ xs) [] e up h = absurd (omega (arith, e))
   distinct-spread before (x ∷ xs) (c ∷ cs) e up h =
       let l = up.0 in
-      distinct-copies (c - before) x (spread_over c xs cs) (omega (arith, l)) (begins-above cmp x c xs cs h.0 up.1) ∙ (ap (λ m. 1 + m) (distinct-spread c xs cs (omega (arith, e)) up.1 h.1) ∙ omega arith)
+      distinct-copies (c - before) x (spread_over c xs cs) (omega (arith, l)) (begins-above cmp x c xs cs h.0 up.1)
+      ∙ (ap (λ m. 1 + m) (distinct-spread c xs cs (omega (arith, e)) up.1 h.1) ∙ omega arith)
 
   -- weighted items, and the same put in order
   module _ (weighted pairs : List (A × ℕ)) (same : IsPermutation weighted pairs) (sorted : IsSorted cmp (items_in pairs)) (weights : All (λ (pair : A × ℕ). 0 < pair.1) weighted) where
@@ -221,12 +227,18 @@ module _ {A : Type 0} {cmp : A → A → Ordering} (order : IsTotalOrder cmp) wh
         let as_long = length_permutation weighted pairs same in
         let whole : 0 < length (spread_out (joined cmp pairs) (joined_weights cmp 0 pairs)) = omega (arith, long, enough, as_long, some) in
         record {
-          cumulates = record { one_each = same-length cmp 0 pairs; none_falls = non_decreasing_from_rises 0 (joined_weights cmp 0 pairs) (rises-from_climbs 0 (joined_weights cmp 0 pairs) (climbs-joined cmp 0 0 pairs (omega arith) weigh)) };
+          cumulates = record {
+            one_each = same-length cmp 0 pairs;
+            none_falls =
+                non_decreasing_from_rises 0 (joined_weights cmp 0 pairs) (rises-from_climbs 0 (joined_weights cmp 0 pairs) (climbs-joined cmp 0 0 pairs (omega arith) weigh));
+          };
           sorted = IsSorted-from_ordered cmp order (joined cmp pairs) (ordered-joined pairs up);
           each_counts = omega (arith, long, enough, few);
           least_there = there least l (length (spread_out (joined cmp pairs) (joined_weights cmp 0 pairs))) whole;
           greatest_there = there greatest g (length (spread_out (joined cmp pairs) (joined_weights cmp 0 pairs))) whole;
         }
+
+-- ---- the loop
 
 -- one more item: the last of those in reverse order
 pub record IsNext {A : Type 0} (cmp : A → A → Ordering) (xs xs' : List A) (ws ws' : List ℕ) (before after : ℕ) (old new : List (A × ℕ)) : Type 0 where
@@ -236,7 +248,8 @@ pub record IsNext {A : Type 0} (cmp : A → A → Ordering) (xs xs' : List A) (w
 
 -- one step of the joining
 pub is-next : {A : Type 0} (cmp : A → A → Ordering) (xs xs' : List A) (ws ws' : List ℕ) (before after : ℕ) (old new : List (A × ℕ)) (x : A) (w : ℕ) (b : Bool) →
-    old ≡ new ++ (x, w) ∷ [] → after ≡ before + w → b ≡ is_below_next cmp x (reverse new) → xs' ≡ (if b then xs ++ x ∷ [] else xs) → ws' ≡ (if b then ws ++ after ∷ [] else ws) → IsNext cmp xs xs' ws ws' before after old new
+    old ≡ new ++ (x, w) ∷ [] → after ≡ before + w → b ≡ is_below_next cmp x (reverse new) → xs' ≡ (if b then xs ++ x ∷ [] else xs) → ws' ≡ (if b then ws ++ after ∷ [] else ws) →
+    IsNext cmp xs xs' ws ws' before after old new
 is-next {A} cmp xs xs' ws ws' before after old new x w b is_old is_after is_b is_xs is_ws =
     let turned = reverse-append new ((x, w) ∷ []) in
     let summed : List (A × ℕ) → ℕ = sum_by (λ (pair : A × ℕ). pair.1) in

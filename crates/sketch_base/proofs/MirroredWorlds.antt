@@ -90,7 +90,8 @@ module _ {A : Type 0} (cmp : A → A → Ordering) (f : A → ℕ) (g : ℕ) (dr
   mirrored-redraw h bit bit' low here =
       let row = changed (drawn s) h true in
       record {
-        slots = one-drawn cmp f g s drawn row world.slots world'.slots (record (world.slots s) { kept = changed (world.slots s).kept h bit }) (record (world'.slots s) { kept = changed (world'.slots s).kept h bit' }) m.slots
+        slots = one-drawn cmp f g s drawn row world.slots world'.slots (record (world.slots s) { kept = changed (world.slots s).kept h bit })
+            (record (world'.slots s) { kept = changed (world'.slots s).kept h bit' }) m.slots
             (mirror-kept cmp f g h (drawn s g) (row g) bit bit' (world.slots s) (world'.slots s) low (λ e d. here e) (still_drawn (drawn s) g h) (m.slots s));
         scratch = m.scratch;
       }

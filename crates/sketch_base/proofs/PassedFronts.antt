@@ -63,8 +63,10 @@ module _ {A : Type 0} (test : A → Bool) where
       let p = parts-count xs up in
       let long : length (take (e - s) (drop s xs)) ≡ e - s = length-take-le (e - s) (drop s xs) (omega (arith, length-drop s xs)) in
       let at : (k : ℕ) (d : A) → k < e - s → get_or (take (e - s) (drop s xs)) k d ≡ get_or xs (s + k) d = λ k d m. get_or-take (e - s) (drop s xs) k d m ∙ get_or-drop s xs k d in
-      let here = counted-parts test (take (e - s) (drop s xs)) (count_by test xs - s) (omega (arith, long))
-      ((λ k d a b. rw (at k d (omega (arith, long))) (p.0 (s + k) d (omega arith) (omega (arith, long)))), (λ k d a b. rw (at k d (omega (arith, long))) (p.1 (s + k) d (omega arith) (omega (arith, long))))) in
+      let here = counted-parts test (take (e - s) (drop s xs)) (count_by test xs - s) (omega (arith, long)) (
+        (λ k d a b. rw (at k d (omega (arith, long))) (p.0 (s + k) d (omega arith) (omega (arith, long)))),
+        (λ k d a b. rw (at k d (omega (arith, long))) (p.1 (s + k) d (omega arith) (omega (arith, long)))),
+      ) in
       omega (arith, here)
 
 -- the steps of a search by steps, of which the first ones are left out: each is half of the one before

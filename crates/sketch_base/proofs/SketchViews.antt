@@ -38,7 +38,8 @@ if-none : {A : Type 0} (b : Bool) (x y : Option A) → x ≡ None → y ≡ None
 if-none b x y h k = grind arith
 
 -- a bag of no items has no quantiles
-pub quantile-empty : {A : Type 0} (cmp : A → A → Ordering) (bag : Bag A) (n : ℕ) (least greatest : Option A) (fraction : Rank) (criteria : SearchCriteria) → weight bag ≡ n → IsThere least n → IsThere greatest n → n ≡ 0 →
+pub quantile-empty : {A : Type 0} (cmp : A → A → Ordering) (bag : Bag A) (n : ℕ) (least greatest : Option A) (fraction : Rank) (criteria : SearchCriteria) → weight bag ≡ n →
+    IsThere least n → IsThere greatest n → n ≡ 0 →
     SameAnswer cmp (quantile_of (expanded_view cmp bag least greatest) fraction criteria) None
 quantile-empty cmp bag n least greatest fraction criteria weighs l g z =
     let a = fraction.weight in
@@ -52,7 +53,8 @@ quantile-empty cmp bag n least greatest fraction criteria weighs l g z =
 
 module _ {A : Type 0} {cmp : A → A → Ordering} (order : IsTotalOrder cmp) where
   -- entries that compare equal to a bag's expanded list are a view of it
-  is-view_of : (bag : Bag A) (n : ℕ) (least greatest : Option A) (v : View A) → SameItems cmp (expanded cmp bag) v.entries → weight bag ≡ n → SameAnswer cmp least v.least → SameAnswer cmp greatest v.greatest → IsViewOf cmp bag n least greatest v
+  is-view_of : (bag : Bag A) (n : ℕ) (least greatest : Option A) (v : View A) → SameItems cmp (expanded cmp bag) v.entries → weight bag ≡ n → SameAnswer cmp least v.least →
+      SameAnswer cmp greatest v.greatest → IsViewOf cmp bag n least greatest v
   is-view_of bag n least greatest v same weighs l g = record {
     entries = same;
     weighs_n = sym (length_all_zip (λ x y. cmp x y ≡ Equal) (expanded cmp bag) v.entries same) ∙ (length-expanded cmp bag ∙ weighs);
@@ -62,7 +64,8 @@ module _ {A : Type 0} {cmp : A → A → Ordering} (order : IsTotalOrder cmp) wh
   }
 
   -- what was built of such entries is one
-  pub built-view : {E : Type 0} (bag : Bag A) (n : ℕ) (least least' greatest greatest' : Option A) (r : Result (View A) E) → weight bag ≡ n → SameAnswer cmp least least' → SameAnswer cmp greatest greatest' →
+  pub built-view : {E : Type 0} (bag : Bag A) (n : ℕ) (least least' greatest greatest' : Option A) (r : Result (View A) E) → weight bag ≡ n → SameAnswer cmp least least' →
+      SameAnswer cmp greatest greatest' →
       IfOk r (λ v. SameItems cmp (expanded cmp bag) v.entries) → IfOk r (λ v. v.least ≡ least') → IfOk r (λ v. v.greatest ≡ greatest') → IfOk r (IsViewOf cmp bag n least greatest)
   built-view bag n least least' greatest greatest' (Err e) weighs l g same le ge = tt
   built-view bag n least least' greatest greatest' (Ok v) weighs l g same le ge =
@@ -83,24 +86,30 @@ module _ {A : Type 0} {cmp : A → A → Ordering} (order : IsTotalOrder cmp) wh
     many-quantiles _ _ k = absurd k
 
     -- what the view answers is what the bag does
-    pub quantile-result : {E : Type 0} (fraction : Rank) (r : Result (Option A) E) → IfOk r (SameAnswer cmp (quantile_of v fraction criteria)) → IfOk r (SameAnswer cmp (quantile_of whole fraction criteria))
+    pub quantile-result : {E : Type 0} (fraction : Rank) (r : Result (Option A) E) → IfOk r (SameAnswer cmp (quantile_of v fraction criteria)) →
+        IfOk r (SameAnswer cmp (quantile_of whole fraction criteria))
     quantile-result fraction r = ok-weaker r (SameAnswer cmp (quantile_of v fraction criteria)) (SameAnswer cmp (quantile_of whole fraction criteria)) (one-quantile fraction)
 
-    pub quantiles-result : {E Z : Type 0} (fractions : List Rank) (r : Result (Option (Vec A Z)) E) → IfOk r (FindsQuantiles cmp v criteria fractions) → IfOk r (FindsQuantiles cmp whole criteria fractions)
+    pub quantiles-result : {E Z : Type 0} (fractions : List Rank) (r : Result (Option (Vec A Z)) E) → IfOk r (FindsQuantiles cmp v criteria fractions) →
+        IfOk r (FindsQuantiles cmp whole criteria fractions)
     quantiles-result fractions r =
         ok-weaker r (FindsQuantiles cmp v criteria fractions) (FindsQuantiles cmp whole criteria fractions)
         (λ found. some-weaker found (λ xs. AreQuantiles cmp v criteria fractions xs.items) (λ xs. AreQuantiles cmp whole criteria fractions xs.items) (λ xs. many-quantiles fractions xs.items))
 
     -- ranks by a function of the distribution's weights
-    ranks-result : {E Z : Type 0} (f : List ℕ → List ℕ) (points : List A) (r : Result (Option (Vec Rank Z)) E) → IfOk r (FindsRanks (length v.entries) (f (cdf_of cmp criteria v.entries points))) → IfOk r (FindsRanks n (f (cdf_of cmp criteria (expanded cmp bag) points)))
+    ranks-result : {E Z : Type 0} (f : List ℕ → List ℕ) (points : List A) (r : Result (Option (Vec Rank Z)) E) →
+        IfOk r (FindsRanks (length v.entries) (f (cdf_of cmp criteria v.entries points))) → IfOk r (FindsRanks n (f (cdf_of cmp criteria (expanded cmp bag) points)))
     ranks-result f points r =
         let theirs = f (cdf_of cmp criteria v.entries points) in
         let ours = f (cdf_of cmp criteria (expanded cmp bag) points) in
         let same : ranks_of (length v.entries) theirs ≡ ranks_of n ours = ap₂ (λ m ws. ranks_of m (f ws)) h.weighs_n (sym (cdf-same order criteria (expanded cmp bag) v.entries points h.entries)) in
-        ok-weaker r (FindsRanks (length v.entries) theirs) (FindsRanks n ours) (λ found. some-weaker found (λ ranks. ranks.items ≡ ranks_of (length v.entries) theirs) (λ ranks. ranks.items ≡ ranks_of n ours) (λ ranks e. e ∙ same))
+        ok-weaker r (FindsRanks (length v.entries) theirs) (FindsRanks n ours)
+        (λ found. some-weaker found (λ ranks. ranks.items ≡ ranks_of (length v.entries) theirs) (λ ranks. ranks.items ≡ ranks_of n ours) (λ ranks e. e ∙ same))
 
-    pub cdf-result : {E Z : Type 0} (points : List A) (r : Result (Option (Vec Rank Z)) E) → IfOk r (FindsRanks (length v.entries) (cdf_of cmp criteria v.entries points)) → IfOk r (FindsRanks n (cdf_of cmp criteria (expanded cmp bag) points))
+    pub cdf-result : {E Z : Type 0} (points : List A) (r : Result (Option (Vec Rank Z)) E) → IfOk r (FindsRanks (length v.entries) (cdf_of cmp criteria v.entries points)) →
+        IfOk r (FindsRanks n (cdf_of cmp criteria (expanded cmp bag) points))
     cdf-result points r = ranks-result (λ ws. ws) points r
 
-    pub pmf-result : {E Z : Type 0} (points : List A) (r : Result (Option (Vec Rank Z)) E) → IfOk r (FindsRanks (length v.entries) (pmf_of cmp criteria v.entries points)) → IfOk r (FindsRanks n (pmf_of cmp criteria (expanded cmp bag) points))
+    pub pmf-result : {E Z : Type 0} (points : List A) (r : Result (Option (Vec Rank Z)) E) → IfOk r (FindsRanks (length v.entries) (pmf_of cmp criteria v.entries points)) →
+        IfOk r (FindsRanks n (pmf_of cmp criteria (expanded cmp bag) points))
     pmf-result points r = ranks-result (differences 0) points r

@@ -64,7 +64,8 @@ module _ {A : Type 0} {cmp : A → A → Ordering} (o : IsTotalOrder cmp) where
       })
 
   -- the extreme of items' extreme and more items is that of all of them
-  extreme_on : (Bounds : A → A → Type 0) → ((x y z : A) → Bounds x y → Bounds y z → Bounds x z) → (xs ys : List A) (l n : Option A) → IsExtremeOf cmp Bounds xs l → IsExtremeOf cmp Bounds (option_to_list l ++ ys) n → IsExtremeOf cmp Bounds (xs ++ ys) n
+  extreme_on : (Bounds : A → A → Type 0) → ((x y z : A) → Bounds x y → Bounds y z → Bounds x z) → (xs ys : List A) (l n : Option A) → IsExtremeOf cmp Bounds xs l →
+      IsExtremeOf cmp Bounds (option_to_list l ++ ys) n → IsExtremeOf cmp Bounds (xs ++ ys) n
   extreme_on Bounds trans xs ys None n f e = subst (λ (zs : List A). IsExtremeOf cmp Bounds (zs ++ ys) n) (sym f) e
   extreme_on Bounds trans xs ys (Some y) None f e = cc
   extreme_on Bounds trans xs ys (Some y) (Some x) f e = record {
@@ -104,8 +105,10 @@ module _ {A : Type 0} {cmp : A → A → Ordering} (o : IsTotalOrder cmp) where
         is_sorted = b.is_sorted ∙ (ap (λ (f : Bool). f && eqb (length more) 0) a.is_sorted ∙ flags s.is_sorted items);
         bag = rw (updates-append s.k lengths items more)
             (subst (λ (w : Work (Bag A)). AlikeKll cmp w.bag (bag_of u)) (sym (in_turn-append draws (act cmp) first (updates_actions s.k later more) word (alone (bag_of s)))) both);
-        least = rw (← append_assoc (option_to_list s.least) items more) (extreme_on (λ x y. IsAtMost cmp x y) (λ x y z. upto o x y z) (option_to_list s.least ++ items) more t.least u.least a.least b.least);
-        greatest = rw (← append_assoc (option_to_list s.greatest) items more) (extreme_on (λ x y. IsAtMost cmp y x) (λ x y z b c. upto o z y x c b) (option_to_list s.greatest ++ items) more t.greatest u.greatest a.greatest b.greatest);
+        least = rw (← append_assoc (option_to_list s.least) items more)
+            (extreme_on (λ x y. IsAtMost cmp x y) (λ x y z. upto o x y z) (option_to_list s.least ++ items) more t.least u.least a.least b.least);
+        greatest = rw (← append_assoc (option_to_list s.greatest) items more)
+            (extreme_on (λ x y. IsAtMost cmp y x) (λ x y z b c. upto o z y x c b) (option_to_list s.greatest ++ items) more t.greatest u.greatest a.greatest b.greatest);
       }
     where
       flags : (f : Bool) (items : List A) → ((f && eqb (length items) 0) && eqb (length more) 0) ≡ (f && eqb (length (items ++ more)) 0)

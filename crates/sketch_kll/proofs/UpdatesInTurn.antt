@@ -57,7 +57,8 @@ module _ {A : Type 0} {cmp : A → A → Ordering} (o : IsTotalOrder cmp) where
   all-both P Q (x ∷ xs) h g = ((h.0, g.0), all-both P Q xs h.1 g.1)
 
   -- a single item ties with the extremes
-  one_ties : (a b least greatest : Option A) (items : List A) → length items ≡ 1 → a ≡ None → b ≡ None → IsLeastOf cmp (option_to_list a ++ items) least → IsGreatestOf cmp (option_to_list b ++ items) greatest →
+  one_ties : (a b least greatest : Option A) (items : List A) → length items ≡ 1 → a ≡ None → b ≡ None → IsLeastOf cmp (option_to_list a ++ items) least →
+      IsGreatestOf cmp (option_to_list b ++ items) greatest →
       AllByRecursion (λ y. Ties cmp y least × Ties cmp y greatest) items
   one_ties a b least greatest [] n na nb l g = tt
   one_ties a b least greatest (x ∷ []) n na nb l g = (ties_both o a (Some x) b (Some x) least greatest x na nb l g (tied_itself o x, tied_itself o x), tt)

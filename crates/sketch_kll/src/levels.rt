@@ -117,7 +117,8 @@ impl<T: Ord + Drop> Levels<T> {
         requires spare { length self.old.levels + 1 < self.old.bounds_room }
         ensures kept { KeepsRoom self.old self.new }
         ensures levels { SameLevels T.cmp
-            (compacted_if_full T.cmp self.old.k self.old.is_sorted (B.bit coins.old) self.old.levels)
+            (compacted_if_full T.cmp self.old.k self.old.is_sorted (B.bit coins.old)
+            self.old.levels)
             self.new.levels }
         ensures sorted { UpperSorted T.cmp self.new.levels }
         ensures shorter { retained self.new.levels ≤ retained self.old.levels }

@@ -26,12 +26,14 @@ module _ {A : Type 0} where
   SpaceAt k h layouts buffers = HasSpace k h layouts (get_or (merged_spaces buffers) h 0) (get_or (promoted_spaces buffers) h 0)
 
   -- buffers with as much space at a place
-  space-same : (k h : ℕ) (layouts : List Layout) (buffers news : List (Space A)) → get_or (merged_spaces news) h 0 ≡ get_or (merged_spaces buffers) h 0 → get_or (promoted_spaces news) h 0 ≡ get_or (promoted_spaces buffers) h 0 →
+  space-same : (k h : ℕ) (layouts : List Layout) (buffers news : List (Space A)) → get_or (merged_spaces news) h 0 ≡ get_or (merged_spaces buffers) h 0 →
+      get_or (promoted_spaces news) h 0 ≡ get_or (promoted_spaces buffers) h 0 →
       SpaceAt k h layouts buffers → SpaceAt k h layouts news
   space-same k h layouts buffers news merged promoted has = rw (merged, promoted) has
 
   -- there is space for the turns up to one, where the buffers of this one are set
-  pub space-more : (k h : ℕ) (layouts : ℕ → List Layout) (buffers : List (Space A)) (own : Space A) → h < length buffers → ((j : ℕ) → j < h → SpaceAt k j (layouts j) buffers) → HasSpace k h (layouts h) own.merged_space own.promoted_space →
+  pub space-more : (k h : ℕ) (layouts : ℕ → List Layout) (buffers : List (Space A)) (own : Space A) → h < length buffers → ((j : ℕ) → j < h → SpaceAt k j (layouts j) buffers) →
+      HasSpace k h (layouts h) own.merged_space own.promoted_space →
       (j : ℕ) → j < h + 1 → SpaceAt k j (layouts j) (set buffers h own)
   space-more k h layouts buffers own inside below here j within =
       elim (cases_lt j h) [
@@ -46,7 +48,8 @@ module _ {A : Type 0} where
 
   -- there is space for a step of a walk whose later buffers are as at its start
   pub space-there : (k h : ℕ) (layouts now : List Layout) (start buffers : List (Space A)) (own : Space A) → HaveSpace k layouts start → h < length layouts → length buffers ≡ length start →
-      get_or (merged_spaces buffers) h 0 ≡ get_or (merged_spaces start) h 0 → get_or (promoted_spaces buffers) h 0 ≡ get_or (promoted_spaces start) h 0 → own ≡ get_or buffers h own → now ≡ steps_layouts k h 0 layouts →
+      get_or (merged_spaces buffers) h 0 ≡ get_or (merged_spaces start) h 0 → get_or (promoted_spaces buffers) h 0 ≡ get_or (promoted_spaces start) h 0 →
+      own ≡ get_or buffers h own → now ≡ steps_layouts k h 0 layouts →
       HasSpace k h now own.merged_space own.promoted_space
   space-there k h layouts now start buffers own fit within len merged promoted there now_is =
       let inside : h < length buffers = omega (arith, fit.enough, len, within) in
@@ -54,8 +57,10 @@ module _ {A : Type 0} where
       (space-same k h (steps_layouts k h 0 layouts) start buffers merged promoted (fit.fits h within))
 
   -- the same holds of other buffers that have as much
-  pub space-kept : (k : ℕ) (layouts : List Layout) (buffers news : List (Space A)) → merged_spaces news ≡ merged_spaces buffers → promoted_spaces news ≡ promoted_spaces buffers → HaveSpace k layouts buffers → HaveSpace k layouts news
+  pub space-kept : (k : ℕ) (layouts : List Layout) (buffers news : List (Space A)) → merged_spaces news ≡ merged_spaces buffers → promoted_spaces news ≡ promoted_spaces buffers →
+      HaveSpace k layouts buffers → HaveSpace k layouts news
   space-kept k layouts buffers news merged promoted fit = record {
     enough = omega (arith, fit.enough, ap length merged, length-map news (λ (b : Space A). b.merged_space), length-map buffers (λ (b : Space A). b.merged_space));
-    fits = λ h within. space-same k h (steps_layouts k h 0 layouts) buffers news (ap (λ (spaces : List ℕ). get_or spaces h 0) merged) (ap (λ (spaces : List ℕ). get_or spaces h 0) promoted) (fit.fits h within);
+    fits = λ h within. space-same k h (steps_layouts k h 0 layouts) buffers news (ap (λ (spaces : List ℕ). get_or spaces h 0) merged)
+        (ap (λ (spaces : List ℕ). get_or spaces h 0) promoted) (fit.fits h within);
   }

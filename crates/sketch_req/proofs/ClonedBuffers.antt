@@ -28,7 +28,8 @@ module _ {A : Type 0} (cmp : A → A → Ordering) (ls others : List (Level A)) 
       rw (read-other (λ b. b.clones) [] buffers h own j other, read-other (λ b. b.clones_space) 0 buffers h own j other, read-other (λ b. b.promoted_space) 0 buffers h own j other) has
 
   -- the buffers of one more level took clones
-  pub cloned-more : (buffers : List (Space A)) (h : ℕ) (own : Space A) → h < length buffers → ((j : ℕ) → j < h → j < length others → HasClones buffers j) → (h < length others → IsCloned cmp h ls others own.clones own.clones_space own.promoted_space) →
+  pub cloned-more : (buffers : List (Space A)) (h : ℕ) (own : Space A) → h < length buffers → ((j : ℕ) → j < h → j < length others → HasClones buffers j) →
+      (h < length others → IsCloned cmp h ls others own.clones own.clones_space own.promoted_space) →
       (j : ℕ) → j < h + 1 → j < length others → HasClones (set buffers h own) j
   cloned-more buffers h own inside below here j l m =
       elim (cases_lt j h) [
@@ -41,7 +42,8 @@ module _ {A : Type 0} (cmp : A → A → Ordering) (ls others : List (Level A)) 
       ]
 
   -- clones and space are ready for it
-  pub is-ready : (k : ℕ) (accuracy : RankAccuracy) (h : ℕ) (buffers : List (Space A)) (own : Space A) (old o : Level A) → IsCopied cmp k accuracy h ls old → h < length others → o ≡ get_or others h o → h < length buffers → own ≡ get_or buffers h own →
+  pub is-ready : (k : ℕ) (accuracy : RankAccuracy) (h : ℕ) (buffers : List (Space A)) (own : Space A) (old o : Level A) → IsCopied cmp k accuracy h ls old → h < length others →
+      o ≡ get_or others h o → h < length buffers → own ≡ get_or buffers h own →
       HasClones buffers h → IsReady cmp ls others old o own
   is-ready k accuracy h buffers own old o c i e j f a =
       let same : SameItems cmp o.items own.clones =

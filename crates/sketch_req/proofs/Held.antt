@@ -82,7 +82,8 @@ pub first-levels : {A : Type 0} (cmp : A → A → Ordering) (k : ℕ) (accuracy
 first-levels cmp k accuracy legal = (fresh_placed cmp k accuracy 0 legal (omega arith), tt)
 
 -- there is a level after levels took others in
-pub some-taken : {A S : Type 0} {cmp : A → A → Ordering} (bit : S → Bool) (next : S → S) (source after : S) (k : ℕ) (accuracy : RankAccuracy) (redraws : Bool) (ls others ns : List (Level A)) → 0 < length ls →
+pub some-taken : {A S : Type 0} {cmp : A → A → Ordering} (bit : S → Bool) (next : S → S) (source after : S) (k : ℕ) (accuracy : RankAccuracy) (redraws : Bool)
+    (ls others ns : List (Level A)) → 0 < length ls →
     AreTakenIn cmp bit next source after k accuracy redraws ls others ns → 0 < length ns
 some-taken bit next source after k accuracy redraws ls others ns some t =
     let same = ap length (ap layouts_of t.ready_are ∙ layouts-ready redraws _ t.joined) in

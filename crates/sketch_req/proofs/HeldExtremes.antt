@@ -80,7 +80,8 @@ module _ {A : Type 0} {cmp : A → A → Ordering} (order : IsTotalOrder cmp) wh
 
   -- ---- what holds of each item holds after a walk
 
-  steps-all : (P : A → Type 0) (k : ℕ) (accuracy : RankAccuracy) (more h : ℕ) (layouts : List Layout) (word : List Bool) (work : Work (Bag A)) → AllIn P work.bag.levels → AllIn P (acts cmp (steps_actions k accuracy more h layouts) word work).bag.levels
+  steps-all : (P : A → Type 0) (k : ℕ) (accuracy : RankAccuracy) (more h : ℕ) (layouts : List Layout) (word : List Bool) (work : Work (Bag A)) → AllIn P work.bag.levels →
+      AllIn P (acts cmp (steps_actions k accuracy more h layouts) word work).bag.levels
   steps-all P k accuracy zero h layouts word work a = a
   steps-all P k accuracy (suc more) h layouts word work a =
       let c : Action A = compact_level k accuracy h layouts in
@@ -89,11 +90,13 @@ module _ {A : Type 0} {cmp : A → A → Ordering} (order : IsTotalOrder cmp) wh
       elim (is_full k l) as (λ b. AllIn P (acts cmp ((if b then c ∷ [] else []) ++ rest) word work).bag.levels) [
         | true ↦
             let bit = bit_of (coin_kind l.state) h (next_bit word) work.bag in
-            steps-all P k accuracy more (suc h) (step_layouts k h layouts) (if draws c then drop 1 word else word) (act cmp c (next_bit word) work) (all-compaction P cmp h (taken_side accuracy (taken k l)) bit work.bag a)
+            steps-all P k accuracy more (suc h) (step_layouts k h layouts) (if draws c then drop 1 word else word) (act cmp c (next_bit word) work)
+            (all-compaction P cmp h (taken_side accuracy (taken k l)) bit work.bag a)
         | false ↦ steps-all P k accuracy more (suc h) (step_layouts k h layouts) word work a
       ]
 
-  room-all : (P : A → Type 0) (k : ℕ) (accuracy : RankAccuracy) (layouts : List Layout) (word : List Bool) (work : Work (Bag A)) → AllIn P work.bag.levels → AllIn P (acts cmp (if are_full k layouts then steps_actions k accuracy (length layouts) 0 layouts else []) word work).bag.levels
+  room-all : (P : A → Type 0) (k : ℕ) (accuracy : RankAccuracy) (layouts : List Layout) (word : List Bool) (work : Work (Bag A)) → AllIn P work.bag.levels →
+      AllIn P (acts cmp (if are_full k layouts then steps_actions k accuracy (length layouts) 0 layouts else []) word work).bag.levels
   room-all P k accuracy layouts word work a =
       elim (are_full k layouts) as (λ b. AllIn P (acts cmp (if b then steps_actions k accuracy (length layouts) 0 layouts else []) word work).bag.levels) [
         | true ↦ steps-all P k accuracy (length layouts) 0 layouts word work a
@@ -249,7 +252,8 @@ module _ {A : Type 0} {cmp : A → A → Ordering} (order : IsTotalOrder cmp) wh
       ((ap (λ (x : Layout). x.state) head ∙ n.0.0, ap (λ (x : Layout). x.doublings) head ∙ n.0.1), news ls ms (ap (λ (xs : List Layout). drop 1 xs) e) n.1)
   news ls ms e n = absurd cc
 
-  module _ {S : Type 0} {bit : S → Bool} {next : S → S} {source after : S} (k : ℕ) (accuracy : RankAccuracy) (ms ns : List (Level A)) (room : AreActed cmp bit next source after k accuracy (room_of k accuracy ms) (layouts_if_full k (layouts_of ms)) 0 ms ns) where
+  module _ {S : Type 0} {bit : S → Bool} {next : S → S} {source after : S} (k : ℕ) (accuracy : RankAccuracy) (ms ns : List (Level A))
+      (room : AreActed cmp bit next source after k accuracy (room_of k accuracy ms) (layouts_if_full k (layouts_of ms)) 0 ms ns) where
     -- what items keep that compare equal holds after actions too
     pub acted-all : (P : A → Type 0) → Keeps P → AllByRecursion P (items_in ms) → AllByRecursion P (items_in ns)
     acted-all P keeps a =
@@ -264,7 +268,8 @@ module _ {A : Type 0} {cmp : A → A → Ordering} (order : IsTotalOrder cmp) wh
         omega (arith, some, one, a, b, length-layouts ms, length-layouts ns)
 
     -- and it tells the extremes as before
-    pub small-acted : (n : ℕ) (least greatest : Option A) → 0 < length ms → length ns ≡ 1 → IsLeastOf cmp (items_in ms) least → IsGreatestOf cmp (items_in ms) greatest → (n ≤ 4 → AllByRecursion IsNew ms) → IsSmall cmp (sketch_of k accuracy n ns least greatest)
+    pub small-acted : (n : ℕ) (least greatest : Option A) → 0 < length ms → length ns ≡ 1 → IsLeastOf cmp (items_in ms) least → IsGreatestOf cmp (items_in ms) greatest →
+        (n ≤ 4 → AllByRecursion IsNew ms) → IsSmall cmp (sketch_of k accuracy n ns least greatest)
     small-acted n least greatest some one l g new =
         let full = one-left k (layouts_of ms) (omega (arith, some, length-layouts ms)) (sym (ap length room.layouts_are) ∙ (length-layouts ns ∙ one)) in
         let alike = rw full at room.bag in

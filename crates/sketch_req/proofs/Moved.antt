@@ -60,7 +60,8 @@ moved-around {A} coin part below rest rest' old new upper one two above = record
     either h n false true p q e = inr (eqb-true h (suc n) q)
     either h n false false p q e = absurd (false≢true e)
 
-    stays : (below : List (Level A)) (h : ℕ) (none : Level A) → (h ≡ length below → ⊥) → (h ≡ suc (length below) → ⊥) → get_or (below ++ new ∷ upper ∷ rest') h none ≡ get_or (below ++ old ∷ rest) h none
+    stays : (below : List (Level A)) (h : ℕ) (none : Level A) → (h ≡ length below → ⊥) → (h ≡ suc (length below) → ⊥) →
+        get_or (below ++ new ∷ upper ∷ rest') h none ≡ get_or (below ++ old ∷ rest) h none
     stays [] zero none a b = absurd (a refl)
     stays [] (suc zero) none a b = absurd (b refl)
     stays [] (suc (suc i)) none a b = above i none

@@ -119,13 +119,15 @@ module _ {A : Type 0} {cmp : A → A → Ordering} (order : IsTotalOrder cmp) (t
       (same-answers order tied t.greatest u.greatest (one_greatest order tops tops t.greatest u.greatest (SameItems-refl cmp order tops) p.greatest q.greatest))
 
   -- one sketch comes of a merge
-  pub one-merge : (redraws : Bool) (s other : Req A) (word : List Bool) (t u : Req A) → IsSound cmp t → IsSound cmp u → IsMergedBy cmp redraws s other word t → IsMergedBy cmp redraws s other word u → t ≡ u
+  pub one-merge : (redraws : Bool) (s other : Req A) (word : List Bool) (t u : Req A) → IsSound cmp t → IsSound cmp u → IsMergedBy cmp redraws s other word t →
+      IsMergedBy cmp redraws s other word u → t ≡ u
   one-merge redraws s other word t u a b p q =
       let ends = option_to_list s.least ++ option_to_list other.least in
       let tops = option_to_list s.greatest ++ option_to_list other.greatest in
       let joined : q.joined ≡ p.joined = one-merged-in s.k s.accuracy s.levels other.levels q.joined p.joined q.joined_are p.joined_are in
       same-sketch t u (p.k ∙ sym q.k) (p.accuracy ∙ sym q.accuracy) (p.n ∙ sym q.n)
-      (one-walk s.k s.accuracy (merge_by redraws s other) (redrawn_if redraws word p.joined) t.levels u.levels p.moved (subst (λ (ls : List (Level A)). AreMoved (merge_by redraws s other) (redrawn_if redraws word ls) u.levels) joined q.moved)
+      (one-walk s.k s.accuracy (merge_by redraws s other) (redrawn_if redraws word p.joined) t.levels u.levels p.moved
+      (subst (λ (ls : List (Level A)). AreMoved (merge_by redraws s other) (redrawn_if redraws word ls) u.levels) joined q.moved)
       (p.layouts ∙ sym q.layouts) (alike-trans order _ _ _ (alike-sym order _ _ p.bag) q.bag)
       (placed-as s.k s.accuracy t a p.k p.accuracy) (placed-as s.k s.accuracy u b q.k q.accuracy))
       (same-answers order tied t.least u.least (one_least order ends ends t.least u.least (SameItems-refl cmp order ends) p.least q.least))

@@ -61,7 +61,8 @@ module _ {A S : Type 0} (bit : S → Bool) (next : S → S) where
   redrawn-enough source n (x ∷ rest) i =
       let m : ℕ = n - cond (turns_coin x.state) 1 0 in
       let t = turning-first x rest in
-      redrawn-next source n m x rest (omega (arith, i, t)) ∙ (ap (λ ls. redrawn_level x (bit source) ∷ ls) (redrawn-enough (source_past source x) m rest (omega (arith, i, t))) ∙ sym (redrawn-first source x rest))
+      redrawn-next source n m x rest (omega (arith, i, t)) ∙ (ap (λ ls. redrawn_level x (bit source) ∷ ls) (redrawn-enough (source_past source x) m rest (omega (arith, i, t)))
+      ∙ sym (redrawn-first source x rest))
 
   -- what a loop has done, and what is left
   abbrev pub drawn_so_far : S → ℕ → List (Level A) → List (Level A)
@@ -96,7 +97,8 @@ pub flat-items : {A : Type 0} (ls : List (Level A)) → items_in ls ≡ flat_map
 flat-items {A} ls = sym (flat_map-map (λ (xs : List A). xs) (λ (level : Level A). level.items) ls)
 
 -- and the places
-pub placed-redrawn : {A : Type 0} (cmp : A → A → Ordering) (k : ℕ) (accuracy : RankAccuracy) (h : ℕ) (word : List Bool) (ls : List (Level A)) → AreLevels cmp k accuracy h ls → AreLevels cmp k accuracy h (redrawn word ls)
+pub placed-redrawn : {A : Type 0} (cmp : A → A → Ordering) (k : ℕ) (accuracy : RankAccuracy) (h : ℕ) (word : List Bool) (ls : List (Level A)) → AreLevels cmp k accuracy h ls →
+    AreLevels cmp k accuracy h (redrawn word ls)
 placed-redrawn cmp k accuracy h word [] a = tt
 placed-redrawn cmp k accuracy h word (x ∷ rest) a =
     (let first = a.0 in assumption, placed-redrawn cmp k accuracy (suc h) (if turns_coin x.state then drop 1 word else word) rest a.1)
@@ -213,7 +215,8 @@ items-ready true word ls = items-redrawn word ls
 items-ready false word ls = refl
 
 -- their places
-pub placed-ready : {A : Type 0} (cmp : A → A → Ordering) (k : ℕ) (accuracy : RankAccuracy) (redraws : Bool) (word : List Bool) (ls : List (Level A)) → AreLevels cmp k accuracy 0 ls → AreLevels cmp k accuracy 0 (redrawn_if redraws word ls)
+pub placed-ready : {A : Type 0} (cmp : A → A → Ordering) (k : ℕ) (accuracy : RankAccuracy) (redraws : Bool) (word : List Bool) (ls : List (Level A)) →
+    AreLevels cmp k accuracy 0 ls → AreLevels cmp k accuracy 0 (redrawn_if redraws word ls)
 placed-ready cmp k accuracy true word ls a = placed-redrawn cmp k accuracy 0 word ls a
 placed-ready cmp k accuracy false word ls a = a
 
@@ -222,7 +225,9 @@ abbrev pub redraws_if : {A : Type 0} → Bool → List Layout → List (Action A
 redraws_if redraws layouts = if redraws then redraw_actions layouts else []
 
 -- what was done to them
-pub acted-ready : {A S : Type 0} {cmp : A → A → Ordering} (order : IsTotalOrder cmp) (bit : S → Bool) (next : S → S) (source : S) (k : ℕ) (accuracy : RankAccuracy) (redraws : Bool) (ls : List (Level A)) → AreLevels cmp k accuracy 0 ls →
-    AreActed cmp bit next source (after_draws next source (redraws_of redraws ls)) k accuracy (redraws_if redraws (layouts_of ls)) (layouts_of ls) 0 ls (redrawn_if redraws (bits_from bit next source (redraws_of redraws ls)) ls)
+pub acted-ready : {A S : Type 0} {cmp : A → A → Ordering} (order : IsTotalOrder cmp) (bit : S → Bool) (next : S → S) (source : S) (k : ℕ) (accuracy : RankAccuracy) (redraws : Bool)
+    (ls : List (Level A)) → AreLevels cmp k accuracy 0 ls →
+    AreActed cmp bit next source (after_draws next source (redraws_of redraws ls)) k accuracy (redraws_if redraws (layouts_of ls)) (layouts_of ls) 0 ls
+    (redrawn_if redraws (bits_from bit next source (redraws_of redraws ls)) ls)
 acted-ready order bit next source k accuracy true ls a = acted-redrawn order bit next source k accuracy ls a
 acted-ready order bit next source k accuracy false ls a = (acted-start order bit next source k accuracy ls a).acted

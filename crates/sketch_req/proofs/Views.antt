@@ -30,7 +30,8 @@ use Rattle.sketch_req.proofs.Pairs.{weigh-pairs}
 use Rattle.sketch_req.proofs.Rank.{weight_is}
 
 -- clones of weighted items, one more
-pub pairs-more : {A : Type 0} (cmp : A → A → Ordering) (all : List (A × ℕ)) (i : ℕ) (p : A × ℕ) (y : A) (old new : List (A × ℕ)) → i < length all → p ≡ get_or all i p → cmp p.0 y ≡ Equal → new ≡ old ++ (y, p.1) ∷ [] →
+pub pairs-more : {A : Type 0} (cmp : A → A → Ordering) (all : List (A × ℕ)) (i : ℕ) (p : A × ℕ) (y : A) (old new : List (A × ℕ)) → i < length all → p ≡ get_or all i p →
+    cmp p.0 y ≡ Equal → new ≡ old ++ (y, p.1) ∷ [] →
     SamePairs cmp (take i all) old → SamePairs cmp (take (i + 1) all) new
 pairs-more {A} cmp all i p y old new l at same pushed h =
     let longer : take (i + 1) all ≡ take i all ++ p ∷ [] = take_more all i p l ∙ ap (λ (q : A × ℕ). take i all ++ q ∷ []) (sym at) in
@@ -39,7 +40,8 @@ pairs-more {A} cmp all i p y old new l at same pushed h =
     (AllZip-push (λ p q. (cmp p.0 q.0 ≡ Equal) × (q.1 ≡ p.1)) (take i all) old p (y, p.1) h (same, refl)))
 
 -- what the weighted items of the levels stand for is what the levels do
-copies-pairs : {A : Type 0} (cmp : A → A → Ordering) (k : ℕ) (accuracy : RankAccuracy) (h : ℕ) (ls : List (Level A)) → AreLevels cmp k accuracy h ls → copies (pairs_of ls) ≡ repeated h (map (λ level. level.items) ls)
+copies-pairs : {A : Type 0} (cmp : A → A → Ordering) (k : ℕ) (accuracy : RankAccuracy)
+    (h : ℕ) (ls : List (Level A)) → AreLevels cmp k accuracy h ls → copies (pairs_of ls) ≡ repeated h (map (λ level. level.items) ls)
 copies-pairs cmp k accuracy h [] are = refl
 copies-pairs {A} cmp k accuracy h (l ∷ ls) are =
     flat_map-append (λ (pair : A × ℕ). replicate pair.1 pair.0) (weighed (2 ^ l.lg_weight) l.items) (pairs_of ls) ∙
@@ -100,7 +102,8 @@ module _ {A : Type 0} {cmp : A → A → Ordering} (order : IsTotalOrder cmp) wh
     clones-there extreme found there e l =
         some-there found s.n (there-alike order extreme found s.n e there) (omega (arith, l, weigh-enough pairs (clones-weigh (pairs_of s.levels) pairs same (pairs-weigh s.levels)), clones-weigh_n))
 
-    among : (ps : List (A × ℕ)) (extreme found : Option A) → sum_by (λ (pair : A × ℕ). pair.1) ps ≡ s.n → IsThere extreme s.n → SameAnswer cmp extreme found → SameAnswer cmp extreme (extreme_among ps found)
+    among : (ps : List (A × ℕ)) (extreme found : Option A) → sum_by (λ (pair : A × ℕ). pair.1) ps ≡ s.n → IsThere extreme s.n → SameAnswer cmp extreme found →
+        SameAnswer cmp extreme (extreme_among ps found)
     among [] None found e there a = tt
     among [] (Some x) found e there a = absurd (omega (arith, e, there))
     among (p ∷ ps) extreme found e there a = a

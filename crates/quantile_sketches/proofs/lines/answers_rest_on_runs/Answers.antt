@@ -23,9 +23,11 @@ use Rattle.quantile_sketches.proofs.lines.answers_rest_on_runs.Goals as goal
 -- by the family
 rest : (is_req : Bool) (seed : ℕ) (text out : List ℕ) → ServesFamily is_req seed text out → ServesRun is_req seed text out
 rest true seed text out =
-    answers-rest req_grammar (req_kind_lawful int_cmp_total i64_spelling) (req int_cmp i64_spelling) (req-obeys int_cmp_total i64_spelling coin_of next_state i64_prefix_free i64_ties) seed (lines text) out
+    answers-rest req_grammar (req_kind_lawful int_cmp_total i64_spelling) (req int_cmp i64_spelling)
+    (req-obeys int_cmp_total i64_spelling coin_of next_state i64_prefix_free i64_ties) seed (lines text) out
 rest false seed text out =
-    answers-rest kll_grammar (kll_kind_lawful int_cmp_total i64_spelling) (kll int_cmp i64_spelling) (kll-obeys int_cmp_total i64_spelling coin_of next_state i64_prefix_free i64_ties) seed (lines text) out
+    answers-rest kll_grammar (kll_kind_lawful int_cmp_total i64_spelling) (kll int_cmp i64_spelling)
+    (kll-obeys int_cmp_total i64_spelling coin_of next_state i64_prefix_free i64_ties) seed (lines text) out
 
 -- what is promised of the sketches
 kept : (is_req : Bool) (seed : ℕ) (text out : List ℕ) → ServesFamily is_req seed text out → ServesAsPromised is_req seed text out

@@ -19,4 +19,5 @@ loop-rest-preserved c =
     }
 
 pub returns-clause-digits : goal.returns-clause-digits
-returns-clause-digits c = sym (put_last (decimal c.args.number ++ drop c.args.end c.args.room.now) c.loop-rest.rest c.loop-rest.start c.loop-rest.room (omega arith) (omega arith) c.loop-rest.invariant.digits)
+returns-clause-digits c = sym (put_last (decimal c.args.number ++ drop c.args.end c.args.room.now) c.loop-rest.rest c.loop-rest.start c.loop-rest.room (omega arith) (omega arith)
+    c.loop-rest.invariant.digits)

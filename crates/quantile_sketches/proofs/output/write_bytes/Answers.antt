@@ -7,7 +7,8 @@ returns g c = writes-stop _ _ _ [] (Err c.from.result) c.loop.written c.args.byt
 
 pub loop-preserved : goal.loop-preserved
 loop-preserved g c =
-    let more = writes-some _ _ _ c.args.bytes.now c.loop.written c.in_ok-written.field-0 c.loop.invariant.within c.loop.invariant.out c.in_ok-written.ensures.within c.in_ok-written.ensures.out in record {
+    let more = writes-some _ _ _ c.args.bytes.now c.loop.written c.in_ok-written.field-0 c.loop.invariant.within c.loop.invariant.out c.in_ok-written.ensures.within
+    c.in_ok-written.ensures.out in record {
       within = more.0;
       out = more.1;
     }

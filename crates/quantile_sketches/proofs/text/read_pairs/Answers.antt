@@ -14,7 +14,8 @@ digit_value-requires-in-bytes c = digit_at c.args.digits.now (2 * c.bytes.i + 1)
 pub bytes-preserved : goal.bytes-preserved
 bytes-preserved c =
     let pair = two_digits c.args.digits.now (2 * c.bytes.i) c.digit_value.result c.digit_value-in-bytes.result c.digit_value.ensures.value c.digit_value-in-bytes.ensures.value in
-    decode_step c.args.digits.now c.bytes.bytes c.bytes.i (c.digit_value.result * 16 + c.digit_value-in-bytes.result) (omega (arith, c.bytes-test.true, c.requires.room)) (omega (arith, c.bytes-test.true, c.bytes.auto.bytes)) pair c.bytes.invariant
+    decode_step c.args.digits.now c.bytes.bytes c.bytes.i (c.digit_value.result * 16 + c.digit_value-in-bytes.result) (omega (arith, c.bytes-test.true, c.requires.room))
+    (omega (arith, c.bytes-test.true, c.bytes.auto.bytes)) pair c.bytes.invariant
 
 pub returns : goal.returns
 returns c =

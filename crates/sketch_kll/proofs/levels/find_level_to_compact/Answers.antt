@@ -38,7 +38,8 @@ loop-level-preserved g c =
     let n = length-bounds c.args.items.now c.args.bounds.now c.requires.flat in
     let f = bound_falls_to c.args.items.now c.args.bounds.now c.requires.flat c.loop-level.level (c.loop-level.level + 1) (omega arith) in
     let d : length c.args.bounds.now - 1 - 1 - c.loop-level.level ≡ length (levels_in c.args.items.now c.args.bounds.now) - 1 - c.loop-level.level = omega (arith, n) in
-    let cap : length (first_level (drop c.loop-level.level (levels_in c.args.items.now c.args.bounds.now))) < capacity_at c.args.k 8 (length (levels_in c.args.items.now c.args.bounds.now) - 1 - c.loop-level.level) =
+    let cap : length (first_level (drop c.loop-level.level (levels_in c.args.items.now c.args.bounds.now))) < capacity_at c.args.k 8
+    (length (levels_in c.args.items.now c.args.bounds.now) - 1 - c.loop-level.level) =
     omega (arith, f, leb-false _ _ (sym c.is_at_capacity.ensures ∙ c.if-is_at_capacity.false), ap (capacity_at c.args.k 8) d) in
     rw add-one (seeks_more c.args.k (levels_in c.args.items.now c.args.bounds.now) c.loop-level.level (omega (arith, n)) c.loop-level.invariant cap)
 

@@ -6,10 +6,12 @@ use Rattle.quantile_sketches.proofs.table.Table.carry_out.Goals as goal
 
 pub returns-in_err-execute : goal.returns-in_err-execute
 returns-in_err-execute g c =
-    let done = item_of_clone g.S.Family.behaviour coin_of next_state _ (λ x y e. e) c.args.command.now c.args.self.now c.args.coins.now c.execute.result c.execute.new.self c.execute.new.coins c.execute.ensures in
+    let done = item_of_clone g.S.Family.behaviour coin_of next_state _ (λ x y e. e) c.args.command.now c.args.self.now c.args.coins.now c.execute.result c.execute.new.self
+    c.execute.new.coins c.execute.ensures in
     λ line. (c.execute.result, search rules, done)
 
 pub returns : goal.returns
 returns g c =
-    let done = item_of_clone g.S.Family.behaviour coin_of next_state _ (λ x y e. e) c.args.command.now c.args.self.now c.args.coins.now c.execute.result c.execute.new.self c.execute.new.coins c.execute.ensures in
+    let done = item_of_clone g.S.Family.behaviour coin_of next_state _ (λ x y e. e) c.args.command.now c.args.self.now c.args.coins.now c.execute.result c.execute.new.self
+    c.execute.new.coins c.execute.ensures in
     λ line. (c.execute.result, search rules, done)

@@ -10,5 +10,6 @@ returns g c =
     let cmp = g.T.Ord.cmp in
     let item = c.args.item.now in
     let old = c.args.greatest.now in
-    ok-weaker c.clone_if.result (λ (new : Option g.row.T.Denot). SameAnswer cmp (if c.is_new_greatest.result then Some item else None) new) (λ (new : Option g.row.T.Denot). Ties cmp (greatest_with cmp item old) (newer_or new old))
+    ok-weaker c.clone_if.result (λ (new : Option g.row.T.Denot). SameAnswer cmp (if c.is_new_greatest.result then Some item else None) new)
+    (λ (new : Option g.row.T.Denot). Ties cmp (greatest_with cmp item old) (newer_or new old))
     (λ new h. greatest-cloned g.met.T.Ord.total item old new (subst (λ (b : Bool). SameAnswer cmp (if b then Some item else None) new) c.is_new_greatest.ensures h)) c.clone_if.ensures

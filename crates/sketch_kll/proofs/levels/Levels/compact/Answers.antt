@@ -14,7 +14,14 @@ use Rattle.sketch_kll.proofs.levels.Levels.compact.Goals.{After-truncate}
 pub add_level_above-requires-clause-spare : goal.add_level_above-requires-clause-spare
 add_level_above-requires-clause-spare g c =
     let bounds_len = length-bounds c.self.inside.items.items c.self.inside.bounds.items c.self.invariant.flat in
-    omega (arith, bounds_len, ap (λ (y : Stored g.row.T.Denot). length y.levels) c.self.view_is, ap (λ (y : Stored g.row.T.Denot). y.bounds_room) c.self.view_is, c.requires.spare, c.self.inside.bounds.ok)
+    omega (
+      arith,
+      bounds_len,
+      ap (λ (y : Stored g.row.T.Denot). length y.levels) c.self.view_is,
+      ap (λ (y : Stored g.row.T.Denot). y.bounds_room) c.self.view_is,
+      c.requires.spare,
+      c.self.inside.bounds.ok,
+    )
 
 pub compact_level-count-requires : goal.compact_level-count-requires
 compact_level-count-requires g c =

@@ -30,7 +30,8 @@ compress_level-requires-clause-few g c =
     let full = leb-true _ _ (c.loop-self-test.ensures.full refl) in
     let above : 8 ≤ c.args.self.now.k = omega (arith, ap (λ (y : Stored g.row.T.Denot). y.k) c.self.view_is, c.self.invariant.k_above) in
     elim (cases_eq c.loop-self.level 60) [
-      | inl e ↦ absurd (no_62nd_level c.args.self.now.k c.loop-self.level x.levels above e (omega (arith, within, e, few)) (omega (arith, full, ap (λ (k : ℕ). total_of k 8 (length x.levels)) i.kept.k_is)) i.weighs i.behind)
+      | inl e ↦ absurd (no_62nd_level c.args.self.now.k c.loop-self.level x.levels above e (omega (arith, within, e, few))
+          (omega (arith, full, ap (λ (k : ℕ). total_of k 8 (length x.levels)) i.kept.k_is)) i.weighs i.behind)
       | inr e ↦ omega (arith, within, e, few)
     ]
 
@@ -89,7 +90,8 @@ returns g c =
     let l0 : List (List g.row.T.Denot) = c.args.self.now.levels in
     let sorted : UpperSorted g.T.Ord.cmp l0 = rw (← c.self.view_is) c.self.invariant.sorted in
     let over : (length ls ≤ c.loop-self.level) ⊎ (retained ls < total_of k 8 (length ls)) = rw (← i.kept.k_is) (c.loop-self-test.ensures.over refl) in
-    let r = walk_ended g.T.Ord.cmp g.met.T.Ord.total g.B.RandomBits.bit g.B.RandomBits.next k flag c.loop-self.level c.args.coins.now c.loop-self.coins l0 ls sorted c.requires.flag over i.levels i.source in
+    let r = walk_ended g.T.Ord.cmp g.met.T.Ord.total g.B.RandomBits.bit g.B.RandomBits.next k flag c.loop-self.level c.args.coins.now c.loop-self.coins l0 ls sorted c.requires.flag
+    over i.levels i.source in
     record {
       kept = i.kept;
       below = elim over [

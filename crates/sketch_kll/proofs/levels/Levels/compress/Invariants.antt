@@ -14,8 +14,10 @@ invariant-loop-self g l = record {
   weighs : weight l.self.levels < 2 ^ 64;
   behind : Behind l.initial.self.k l.level l.self.levels;
   below : length l.self.levels ≤ l.level → retained l.self.levels < total_of l.initial.self.k 8 (length l.self.levels);
-  levels : SameLevels g.T.Ord.cmp (walked g.T.Ord.cmp g.B.RandomBits.bit g.B.RandomBits.next l.initial.self.k l.initial.self.is_sorted 61 0 l.initial.coins l.initial.self.levels) (walked g.T.Ord.cmp g.B.RandomBits.bit g.B.RandomBits.next l.initial.self.k l.initial.self.is_sorted (61 - l.level) l.level l.coins l.self.levels);
-  source : walked_source g.T.Ord.cmp g.B.RandomBits.bit g.B.RandomBits.next l.initial.self.k l.initial.self.is_sorted 61 0 l.initial.coins l.initial.self.levels ≡ walked_source g.T.Ord.cmp g.B.RandomBits.bit g.B.RandomBits.next l.initial.self.k l.initial.self.is_sorted (61 - l.level) l.level l.coins l.self.levels;
+  levels : SameLevels g.T.Ord.cmp (walked g.T.Ord.cmp g.B.RandomBits.bit g.B.RandomBits.next l.initial.self.k l.initial.self.is_sorted 61 0 l.initial.coins l.initial.self.levels)
+      (walked g.T.Ord.cmp g.B.RandomBits.bit g.B.RandomBits.next l.initial.self.k l.initial.self.is_sorted (61 - l.level) l.level l.coins l.self.levels);
+  source : walked_source g.T.Ord.cmp g.B.RandomBits.bit g.B.RandomBits.next l.initial.self.k l.initial.self.is_sorted 61 0 l.initial.coins l.initial.self.levels
+      ≡ walked_source g.T.Ord.cmp g.B.RandomBits.bit g.B.RandomBits.next l.initial.self.k l.initial.self.is_sorted (61 - l.level) l.level l.coins l.self.levels;
 }
 
 abbrev pub decreases-loop-self : goal.decreases-loop-self

@@ -8,7 +8,14 @@ use Rattle.sketch_kll.proofs.levels.Levels.push.Goals as goal
 pub unwrap-requires : goal.unwrap-requires
 unwrap-requires g c =
     let n = length-items c.self.inside.items.items c.self.inside.bounds.items c.self.invariant.flat in
-    c.push.ensures.succeeds (omega (arith, n, ap (λ (y : Stored g.row.T.Denot). retained y.levels) c.self.view_is, ap (λ (y : Stored g.row.T.Denot). y.items_room) c.self.view_is, c.requires.spare, c.self.inside.items.ok))
+    c.push.ensures.succeeds (omega (
+      arith,
+      n,
+      ap (λ (y : Stored g.row.T.Denot). retained y.levels) c.self.view_is,
+      ap (λ (y : Stored g.row.T.Denot). y.items_room) c.self.view_is,
+      c.requires.spare,
+      c.self.inside.items.ok,
+    ))
 
 pub invariant_of-self : goal.invariant_of-self
 invariant_of-self g c =

@@ -25,7 +25,8 @@ light g c =
     let t = c.loop-self.invariant.taking in
     omega (arith, t.taking.taken.weighs, c.requires.light, ap length t.split, length-append t.done (reverse c.loop-self.items.items), length-reverse c.loop-self.items.items)
 
-alike : (g : _) (c : After-compact_if_full g) → SameLevels g.T.Ord.cmp (compacted_if_full g.T.Ord.cmp c.args.self.now.k c.loop-self.self.is_sorted (g.B.RandomBits.bit c.loop-self.coins) c.loop-self.self.levels) c.compact_if_full.new.self.levels
+alike : (g : _) (c : After-compact_if_full g) → SameLevels g.T.Ord.cmp
+    (compacted_if_full g.T.Ord.cmp c.args.self.now.k c.loop-self.self.is_sorted (g.B.RandomBits.bit c.loop-self.coins) c.loop-self.self.levels) c.compact_if_full.new.self.levels
 alike g c = rw (← c.loop-self.invariant.k) c.compact_if_full.ensures.levels
 
 room : (g : _) (c : After-compact_if_full g) → RoomBelow c.args.self.now.k c.compact_if_full.new.self.levels
@@ -87,7 +88,8 @@ loop-self-preserved g c =
     let k = ap (λ k. total_of k 8 (length c.compact_if_full.new.self.levels)) (k_is g after) in
     let coins : c.compact_if_full.new.coins ≡ cond (is_full s.k c.loop-self.self.levels) (g.B.RandomBits.next c.loop-self.coins) c.loop-self.coins =
     c.compact_if_full.ensures.coins ∙ ap (λ k. cond (is_full k c.loop-self.self.levels) (g.B.RandomBits.next c.loop-self.coins) c.loop-self.coins) i.k in
-    let more = taking_from_run g.T.Ord.cmp g.met.T.Ord.total g.B.RandomBits.bit g.B.RandomBits.next c.args.coins.now c.loop-self.coins c.compact_if_full.new.coins s.k s.is_sorted c.loop-self.self.is_sorted
+    let more = taking_from_run g.T.Ord.cmp g.met.T.Ord.total g.B.RandomBits.bit g.B.RandomBits.next c.args.coins.now c.loop-self.coins c.compact_if_full.new.coins s.k s.is_sorted
+    c.loop-self.self.is_sorted
     s.levels c.args.items.items c.loop-self.items.items c.loop-self.self.levels c.compact_if_full.new.self.levels c.fill.new.self.levels n i.taking c.requires.light (alike g after)
     c.compact_if_full.ensures.sorted c.fill.ensures.levels coins l.fewer (omega (arith, r.below, k)) in
     record {

@@ -19,7 +19,17 @@ loop-level-init g c =
     let e = c.move_back.ensures in
     record {
       within = omega arith;
-      count = omega (arith, ap length e.from, length-take-le b c.args.items.now.items r.within, ap length e.to, length-append c.args.merged.now.items (reverse first), length-reverse first, length-drop b c.args.items.now.items, ap length c.requires.empty, r.within);
+      count = omega (
+        arith,
+        ap length e.from,
+        length-take-le b c.args.items.now.items r.within,
+        ap length e.to,
+        length-append c.args.merged.now.items (reverse first),
+        length-reverse first,
+        length-drop b c.args.items.now.items,
+        ap length c.requires.empty,
+        r.within,
+      );
       capacity = e.to_capacity;
       joining = joining_start g.met.T.Ord.total (omega (arith, n, c.requires.fewer, c.requires.some)) (e.from ∙ r.rest) (sym c.requires.upper.items_are)
           (ap reverse e.to ∙ (reverse_back c.args.merged.now.items first ∙ ap₂ (λ (x y : List g.row.T.Denot). x ++ y) r.run (ap reverse c.requires.empty)));
@@ -34,7 +44,19 @@ merge_from_back-requires g c =
       right = r.right_at.within;
       left_sorted = r.left_sorted;
       right_sorted = r.right_sorted;
-      room = omega (arith, i.count, i.capacity, c.requires.room, c.loop-level.items.ok, c.loop-level.upper.ok, c.loop-level.merged.ok, c.args.items.now.ok, c.args.upper.now.ok, r.left_at.within, r.right_at.within);
+      room = omega (
+        arith,
+        i.count,
+        i.capacity,
+        c.requires.room,
+        c.loop-level.items.ok,
+        c.loop-level.upper.ok,
+        c.loop-level.merged.ok,
+        c.args.items.now.ok,
+        c.args.upper.now.ok,
+        r.left_at.within,
+        r.right_at.within,
+      );
     }
 
 pub loop-level-preserved : goal.loop-level-preserved

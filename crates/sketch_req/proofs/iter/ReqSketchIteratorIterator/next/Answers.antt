@@ -9,7 +9,8 @@ loop-self-preserved g c =
     let i = c.loop-self.self-inside in
     let none : length i.items.now ≡ 0 = search rules in
     let there : i.levels.now ≡ c.in_ok-level.level.now ∷ c.in_ok-level.above.now = search rules in
-    let same = next-level i.levels.now c.in_ok-level.above.now c.in_ok-level.level.now i.items.now c.items_slice-self-inside.result.now i.weight c.weight-self-inside.result none there c.items_slice-self-inside.ensures.value c.weight-self-inside.ensures in
+    let same = next-level i.levels.now c.in_ok-level.above.now c.in_ok-level.level.now i.items.now c.items_slice-self-inside.result.now i.weight c.weight-self-inside.result none
+    there c.items_slice-self-inside.ensures.value c.weight-self-inside.ensures in
     record { same = same ∙ c.loop-self.invariant.same; left = c.loop-self.invariant.left ∙ ap length (sym same) }
 
 pub returns-in_err-level-clause-steps : goal.returns-in_err-level-clause-steps

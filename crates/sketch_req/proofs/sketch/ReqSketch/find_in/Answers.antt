@@ -9,4 +9,5 @@ pub returns-then-place-rank_weight : goal.returns-then-place-rank_weight
 returns-then-place-rank_weight g c =
     let bag = bag_of c.args.self.now.levels in
     item-enclosed g.met.T.Ord.total (expanded g.T.Ord.cmp bag) c.in_ok-item.item.now c.args.place (IsSorted-sort g.T.Ord.cmp g.met.T.Ord.total (repeated 0 bag.levels))
-    (subst (λ (w : ℕ). w ≤ c.args.place) c.rank_weight.ensures c.if-rank_weight-place.true) (subst (λ (w : ℕ). c.args.place < w) c.rank_weight-then-rank_weight-place.ensures c.if-place-rank_weight.true)
+    (subst (λ (w : ℕ). w ≤ c.args.place) c.rank_weight.ensures c.if-rank_weight-place.true)
+    (subst (λ (w : ℕ). c.args.place < w) c.rank_weight-then-rank_weight-place.ensures c.if-place-rank_weight.true)

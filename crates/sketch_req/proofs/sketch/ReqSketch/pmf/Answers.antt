@@ -20,7 +20,8 @@ returns-clause-found g c =
     let s = c.args.self.now in
     let cdf = cdf_of g.T.Ord.cmp c.args.criteria (expanded g.T.Ord.cmp (bag_of s.levels)) c.args.points.now in
     let there = rw c.in-Some.is at c.in_ok-ranks.ensures in
-    differences-left s.n c.in-Some.ranks.len cdf c.in-Some.ranks.items c.as_mut_slice.result.now c.take_differences.new.ranks there.found c.as_mut_slice.ensures.value c.take_differences.ensures c.in-Some.ranks.ok.0
+    differences-left s.n c.in-Some.ranks.len cdf c.in-Some.ranks.items c.as_mut_slice.result.now c.take_differences.new.ranks there.found c.as_mut_slice.ensures.value
+    c.take_differences.ensures c.in-Some.ranks.ok.0
 
 pub returns-clause-sums : goal.returns-clause-sums
 returns-clause-sums g c =
@@ -28,4 +29,5 @@ returns-clause-sums g c =
     let entries = expanded g.T.Ord.cmp (bag_of s.levels) in
     let whole : length entries ≡ s.n = length-expanded g.T.Ord.cmp (bag_of s.levels) ∙ (sym c.n-n.ensures.weight ∙ c.n-n.ensures.value) in
     let there = rw c.in-Some.is at c.in_ok-ranks.ensures in
-    ranks-sum g.met.T.Ord.total c.args.criteria entries c.args.points.now s.n _ (increasing-told g.T.Ord.cmp c.args.points.now (λ no. let e = there.refused.0.1 no in absurd cc)) (returns-clause-found g c) ∙ whole
+    ranks-sum g.met.T.Ord.total c.args.criteria entries c.args.points.now s.n _ (increasing-told g.T.Ord.cmp c.args.points.now (λ no. let e = there.refused.0.1 no in absurd cc))
+    (returns-clause-found g c) ∙ whole

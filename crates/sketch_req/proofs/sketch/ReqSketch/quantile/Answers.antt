@@ -7,7 +7,8 @@ use Rattle.sketch_req.proofs.sketch.ReqSketch.quantile.Goals as goal
 pub returns-clause-found : goal.returns-clause-found
 returns-clause-found g c =
     let s = c.args.self.now in
-    quantile-result g.met.T.Ord.total (bag_of s.levels) s.n s.least s.greatest c.in_ok-sorted_view.field-0 c.in_ok-sorted_view.ensures.view c.args.criteria c.args.fraction c.quantile-2.result c.quantile-2.ensures.found
+    quantile-result g.met.T.Ord.total (bag_of s.levels) s.n s.least s.greatest c.in_ok-sorted_view.field-0 c.in_ok-sorted_view.ensures.view c.args.criteria c.args.fraction
+    c.quantile-2.result c.quantile-2.ensures.found
 
 pub returns-in-Some-clause-found : goal.returns-in-Some-clause-found
 returns-in-Some-clause-found g c = grind (arith, common_steps)

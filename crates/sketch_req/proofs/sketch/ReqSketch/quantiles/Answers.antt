@@ -5,4 +5,5 @@ use Rattle.sketch_req.proofs.sketch.ReqSketch.quantiles.Goals as goal
 pub returns-clause-found : goal.returns-clause-found
 returns-clause-found g c =
     let s = c.args.self.now in
-    quantiles-result g.met.T.Ord.total (bag_of s.levels) s.n s.least s.greatest c.in_ok-sorted_view.field-0 c.in_ok-sorted_view.ensures.view c.args.criteria c.args.fractions.now c.quantiles-2.result c.quantiles-2.ensures.found
+    quantiles-result g.met.T.Ord.total (bag_of s.levels) s.n s.least s.greatest c.in_ok-sorted_view.field-0 c.in_ok-sorted_view.ensures.view c.args.criteria c.args.fractions.now
+    c.quantiles-2.result c.quantiles-2.ensures.found

@@ -17,7 +17,8 @@ pub returns-then-n-eq0-clause-no : goal.returns-then-n-eq0-clause-no
 returns-then-n-eq0-clause-no g c = λ h.
     elim c.then-n-eq0.branch as (λ _. IsTrue false) [
       | then-n-eq0-via-then-n-eq0 w ↦ absurd (omega (arith, h.some_weight, w.if-n-eq0.true))
-      | then-n-eq0-via-else-n-eq0+then-levels-gt-MAX_ITEMS w ↦ absurd (omega (arith, h.few_items, held_retained c.levels.inside.compactors.items c.levels.view_is, c.levels.invariant.retained_is, w.if-levels-gt-MAX_ITEMS.true))
+      | then-n-eq0-via-else-n-eq0+then-levels-gt-MAX_ITEMS w ↦ absurd
+          (omega (arith, h.few_items, held_retained c.levels.inside.compactors.items c.levels.view_is, c.levels.invariant.retained_is, w.if-levels-gt-MAX_ITEMS.true))
       | then-n-eq0-via-else-n-eq0+else-levels-gt-MAX_ITEMS+then-is_gt w ↦
           let z : true ≡ false = sym (ap is_gt (sym w.cmp.ensures) ∙ sym w.is_gt.ensures ∙ w.if-is_gt.true) ∙ h.ends.in_order in absurd cc
     ]
@@ -28,5 +29,9 @@ returns-then-eq-clause-yes g c = λ t. record {
   n_fits = omega (arith, c.ranges.n.fits);
   weighs_n = search rules;
   few_items = omega (arith, held_retained c.levels.inside.compactors.items c.levels.view_is, c.levels.invariant.retained_is, c.if-levels-gt-MAX_ITEMS.false);
-  ends = record { in_order = ap is_gt (sym c.cmp.ensures) ∙ sym c.is_gt.ensures ∙ c.if-is_gt.false; between = let e = c.deref-then-eq.ensures.value ∙ ap (λ (x : Held g.row.T.Denot). x.levels) c.levels.view_is in let h = c.are_all_between.ensures.yes t in rw e at h };
+  ends = record {
+    in_order = ap is_gt (sym c.cmp.ensures) ∙ sym c.is_gt.ensures ∙ c.if-is_gt.false;
+    between = let e =
+        c.deref-then-eq.ensures.value ∙ ap (λ (x : Held g.row.T.Denot). x.levels) c.levels.view_is in let h = c.are_all_between.ensures.yes t in rw e at h;
+  };
 }

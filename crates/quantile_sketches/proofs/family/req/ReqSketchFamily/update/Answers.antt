@@ -10,7 +10,8 @@ use Rattle.quantile_sketches.specs.ReqBehaviour.{TakesIn}
 use Rattle.quantile_sketches.proofs.family.req.ReqSketchFamily.update.Goals as goal
 
 -- an update that gives an error
-refused : {A Source : Type 0} (cmp : A → A → Ordering) (spelling : A → Option (List ℕ)) (bit : Source → Bool) (next : Source → Source) (s : Req A) (x : A) (coins : Source) (e : ErrorKind) (t : Req A) (coins' : Source) → IsSound cmp s →
+refused : {A Source : Type 0} (cmp : A → A → Ordering) (spelling : A → Option (List ℕ)) (bit : Source → Bool) (next : Source → Source) (s : Req A) (x : A) (coins : Source)
+    (e : ErrorKind) (t : Req A) (coins' : Source) → IsSound cmp s →
     IsErrOf {T = Unit {0}} (Err e) InvalidArgument ↔ ((s.n ≡ 2 ^ 64 - 1) ⊎ (retained (bag_of s.levels) ≡ 4294967295)) →
     (s.n < 2 ^ 64 - 1 → retained (bag_of s.levels) < 4294967295 → e ≡ OutOfMemory) → (t ≡ s) × (coins' ≡ coins) → TakesIn cmp spelling bit next s x coins (Err e) t coins'
 refused cmp spelling bit next s x coins e t coins' sound full memory same =
@@ -19,6 +20,8 @@ refused cmp spelling bit next s x coins e t coins' sound full memory same =
 pub returns-in_err-update : goal.returns-in_err-update
 returns-in_err-update g c =
     let is = c.in_err-update.ensures in
-    let h = refused g.T.Ord.cmp g.T.ReqValue.spelling g.B.RandomBits.bit g.B.RandomBits.next c.args.self.now c.args.item c.args.coins.now c.in_err-update.field-0.0 c.update.new.self c.update.new.coins c.n-n.ensures.sound is.full is.memory is.err in
+    let h = refused g.T.Ord.cmp g.T.ReqValue.spelling g.B.RandomBits.bit g.B.RandomBits.next c.args.self.now c.args.item c.args.coins.now c.in_err-update.field-0.0
+    c.update.new.self c.update.new.coins c.n-n.ensures.sound is.full is.memory is.err in
     let e : c.from_residual.result ≡ Err c.in_err-update.field-0.0 = search rules in
-    subst (λ (r : Result (Unit {0}) ErrorKind). TakesIn g.T.Ord.cmp g.T.ReqValue.spelling g.B.RandomBits.bit g.B.RandomBits.next c.args.self.now c.args.item c.args.coins.now r c.update.new.self c.update.new.coins) (sym e) h
+    subst (λ (r : Result (Unit {0}) ErrorKind). TakesIn g.T.Ord.cmp g.T.ReqValue.spelling g.B.RandomBits.bit g.B.RandomBits.next c.args.self.now c.args.item c.args.coins.now r
+    c.update.new.self c.update.new.coins) (sym e) h

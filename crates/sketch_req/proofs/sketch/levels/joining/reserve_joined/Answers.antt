@@ -25,7 +25,21 @@ reserve-requires g c =
     let at = c.loop-level.level in
     let ls : List Layout = layouts_of c.args.levels.now in
     let os : List Layout = layouts_of c.args.others.now in
-    record { few = omega (arith, c.requires.few, c.loop-level.invariant.few, c.count_at.ensures, c.count_at-in-loop-level.ensures, c.count_at-in-loop-level-2.ensures, c.count_at-in-loop-level-3.ensures, count-within at ls, count-within at os, count-within (at + 1) ls, count-within (at + 1) os) }
+    record {
+      few = omega (
+        arith,
+        c.requires.few,
+        c.loop-level.invariant.few,
+        c.count_at.ensures,
+        c.count_at-in-loop-level.ensures,
+        c.count_at-in-loop-level-2.ensures,
+        c.count_at-in-loop-level-3.ensures,
+        count-within at ls,
+        count-within at os,
+        count-within (at + 1) ls,
+        count-within (at + 1) os,
+      );
+    }
 
 pub loop-level-preserved : goal.loop-level-preserved
 loop-level-preserved g c =
@@ -48,7 +62,13 @@ loop-level-preserved g c =
       few = omega (arith, i.few, c.requires.few, c.count_at.ensures, c.count_at-in-loop-level.ensures, count-within c.loop-level.level ls, count-within c.loop-level.level os);
       bounded = λ k. bounded-more _ at c.loop-level.carried here (joined_layouts k ls os) (e k) (i.bounded k);
       cloned = cloned-more g.T.Ord.cmp _ _ c.loop-level.buffers.items at own inside i.cloned
-          (λ there. record { same = c.in_ok-clone_level.ensures.same there; space = omega (arith, c.in_ok-clone_level.ensures.space there, c.count_at.ensures, c.count_at-in-loop-level.ensures); promoted = omega (arith, promoted, c.count_at.ensures, c.count_at-in-loop-level.ensures) });
+          (λ there. record {
+            same = c.in_ok-clone_level.ensures.same there;
+            space =
+                omega (arith, c.in_ok-clone_level.ensures.space there, c.count_at.ensures, c.count_at-in-loop-level.ensures);
+            promoted =
+                omega (arith, promoted, c.count_at.ensures, c.count_at-in-loop-level.ensures);
+          });
       fits = λ k. space-more _ at (λ h. steps_layouts k h 0 (joined_layouts k ls os)) c.loop-level.buffers.items own inside (i.fits k)
           (bounded-space _ at c.loop-level.carried here over _ _ (joined_layouts k ls os) (e k) (f k) (i.bounded k) promoted merged);
     }
