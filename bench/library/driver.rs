@@ -1,6 +1,7 @@
 //! Times the calls of the libraries in one process: ours through the static library of calls.rt.txt, and the original.
 //! Each line is a row of docs/SPEED.md: nanoseconds of the processor a call, the best of nine rounds in turn. With the
-//! word `growth` so many updates of ours alone, by a generator, and their peak of memory.
+//! word `growth` so many updates of ours alone, by a generator, and their peak of memory. With `peers NAME FILE` the updates
+//! by a file of i64, and the merges of its 168 parts, as records of bench/peers/tables under this name.
 use std::hint::black_box;
 
 use datasketches::kll::KllSketch;
@@ -26,6 +27,7 @@ const VIEW: u8 = 2;
 const WRITE: u8 = 3;
 const READ: u8 = 4;
 const GENERATE: u8 = 5;
+const UPDATE_ALL: u8 = 6;
 
 /// The nanoseconds of the processor so far.
 fn now() -> f64 {
@@ -97,47 +99,102 @@ fn filled<S: Original>(items: &[i64], k: u16) -> S {
     sketch
 }
 
-/// Both in turn, the best of each, and a row of the table.
-fn row(what: &str, k: u16, calls: usize, mut original: impl FnMut() -> f64, mut ours: impl FnMut() -> f64) {
+/// Nanoseconds of a call of each, the best of so many rounds in turn.
+fn in_turn(rounds: usize, calls: usize, mut original: impl FnMut() -> f64, mut ours: impl FnMut() -> f64) -> [f64; 2] {
     let (mut a, mut b) = (f64::INFINITY, f64::INFINITY);
-    for _ in 0..ROUNDS {
+    for _ in 0..rounds {
         a = a.min(original());
         b = b.min(ours());
     }
-    let (a, b) = (a / calls as f64, b / calls as f64);
-    println!("| {what} | {k} | {a:.0} ns | {b:.0} ns | {:.2} |", b / a);
+    [a / calls as f64, b / calls as f64]
 }
 
-/// The rows of a family at a k: updates, and calls on a sketch of so many items, each so many times.
-fn rows<S: Original>(name: &str, work: Work, k: u16, count: usize, times: u64) {
+/// Both in turn, the best of each, a row of the table, and the ratio.
+fn row(what: &str, k: u16, calls: usize, original: impl FnMut() -> f64, ours: impl FnMut() -> f64) -> f64 {
+    let [a, b] = in_turn(ROUNDS, calls, original, ours);
+    println!("| {what} | {k} | {a:.0} ns | {b:.0} ns | {:.2} |", b / a);
+    b / a
+}
+
+/// The nanoseconds of a batch of our work on items, less those of filling a sketch, which it does first.
+fn less_filling(work: Work, items: &[i64], which: u8, k: u16, times: u64) -> f64 {
+    let call = |times| nanoseconds(|| unsafe { work(items.as_ptr(), items.len(), which, k, times) });
+    let fill = (0..3).map(|_| call(0)).fold(f64::INFINITY, f64::min);
+    call(times) - fill
+}
+
+/// The nanoseconds of updates by items, one by one or all at once.
+fn updates(work: Work, items: &[i64], which: u8, k: u16) -> f64 {
+    nanoseconds(|| unsafe { work(items.as_ptr(), items.len(), which, k, 0) })
+}
+
+/// The nanoseconds of merges of a sketch into another one by the original.
+fn merges<S: Original>(made: &S, k: u16, times: u64) -> f64 {
+    let mut sketch = S::create(k);
+    nanoseconds(|| (0..times).for_each(|_| sketch.join(made)))
+}
+
+/// The rows of a family at a k: updates, and calls on a sketch of so many items, each so many times. Returns the ratios.
+fn rows<S: Original>(name: &str, work: Work, k: u16, count: usize, times: u64) -> Vec<f64> {
     let random = random_items(1_000_000);
     let rising: Vec<i64> = (0..1_000_000).collect();
+    let mut ratios = vec![];
     for (what, items) in [("random order", &random), ("rising order", &rising)] {
-        row(&format!("{name} `update`, {what}"), k, items.len(), || nanoseconds(|| filled::<S>(black_box(items), k)), || {
-            nanoseconds(|| unsafe { work(items.as_ptr(), items.len(), UPDATE, k, 0) })
-        });
+        let one_by_one = || nanoseconds(|| filled::<S>(black_box(items), k));
+        let label = format!("{name} `update`, {what}");
+        ratios.push(row(&label, k, items.len(), one_by_one, || updates(work, items, UPDATE, k)));
+        let label = format!("{name} `update_all`, {what}, beside `update`");
+        row(&label, k, items.len(), one_by_one, || updates(work, items, UPDATE_ALL, k));
     }
     let some = &random[..count];
     let made: S = filled(some, k);
     let image = made.write();
-    // ours fills a sketch first, so what that takes is taken off
-    let ours = |which: u8| {
-        let call = |times| nanoseconds(|| unsafe { work(some.as_ptr(), some.len(), which, k, times) });
-        let fill = (0..3).map(|_| call(0)).fold(f64::INFINITY, f64::min);
-        call(times) - fill
-    };
-    let merges = || {
-        let mut sketch = S::create(k);
-        nanoseconds(|| (0..times).for_each(|_| sketch.join(&made)))
-    };
+    let ours = |which: u8| less_filling(work, some, which, k, times);
     let calls = times as usize;
-    row(&format!("{name} `merge`"), k, calls, merges, || ours(MERGE));
+    ratios.push(row(&format!("{name} `merge`"), k, calls, || merges(&made, k, times), || ours(MERGE)));
     let views = || nanoseconds(|| (0..times).map(|_| made.view_weight()).sum::<u64>());
-    row(&format!("{name} `sorted_view`"), k, calls, views, || ours(VIEW));
+    ratios.push(row(&format!("{name} `sorted_view`"), k, calls, views, || ours(VIEW)));
     let writes = || nanoseconds(|| (0..times).map(|_| made.write().len()).sum::<usize>());
-    row(&format!("{name} `serialize`"), k, calls, writes, || ours(WRITE));
+    ratios.push(row(&format!("{name} `serialize`"), k, calls, writes, || ours(WRITE)));
     let reads = || nanoseconds(|| (0..times).for_each(|_| drop(black_box(S::read(&image)))));
-    row(&format!("{name} `deserialize`"), k, calls, reads, || ours(READ));
+    ratios.push(row(&format!("{name} `deserialize`"), k, calls, reads, || ours(READ)));
+    ratios
+}
+
+/// Merges of the sketch of a part are timed so many times over, in so many rounds.
+const PARTS: usize = 168;
+const TURNS: u64 = 20;
+const FEW_ROUNDS: usize = 5;
+
+/// The records of a family at a k by a stream: updates, and merges of the sketch of a part into one.
+fn records<S: Original>(name: &str, work: Work, k: u16, stream: &str, items: &[i64]) {
+    let some = &items[..items.len().min(2_000_000)];
+    let one_by_one = || nanoseconds(|| filled::<S>(black_box(some), k));
+    let updated = in_turn(FEW_ROUNDS, some.len(), one_by_one, || updates(work, some, UPDATE, k));
+    let all = in_turn(FEW_ROUNDS, some.len(), || 0.0, || updates(work, some, UPDATE_ALL, k));
+    let part = &items[..items.len() / PARTS];
+    let made: S = filled(part, k);
+    let calls = TURNS * PARTS as u64;
+    // (20 times 168 merges in a row, each 168 into a new sketch)
+    let original = || (0..TURNS).map(|_| merges(&made, k, PARTS as u64)).sum();
+    let ours = || (0..TURNS).map(|_| less_filling(work, part, MERGE, k, PARTS as u64)).sum();
+    let merged = in_turn(FEW_ROUNDS, calls as usize, original, ours);
+    for (who, at) in [("original", 0), ("ours", 1)] {
+        println!("update_ns {who}_{name} {k} {stream} {:.1}", updated[at]);
+        println!("merge_ns {who}_{name} {k} {stream} {:.1}", merged[at]);
+    }
+    println!("update_all_ns ours_{name} {k} {stream} {:.1}", all[1]);
+}
+
+fn peers(stream: &str, file: &str) {
+    let bytes = std::fs::read(file).unwrap();
+    let items: Vec<i64> = bytes.chunks_exact(8).map(|it| i64::from_ne_bytes(it.try_into().unwrap())).collect();
+    for k in [200, 2048] {
+        records::<KllSketch<i64>>("kll", kll_work, k, stream, &items);
+    }
+    for k in [12, 50, 100] {
+        records::<ReqSketch<i64>>("req", req_work, k, stream, &items);
+    }
 }
 
 /// The peak of resident memory in KiB since it was last taken.
@@ -165,14 +222,22 @@ fn growth(work: Work, ks: [u16; 2]) {
 }
 
 fn main() {
-    if std::env::args().nth(1).as_deref() == Some("growth") {
-        growth(kll_work, [200, 4096]);
-        println!();
-        growth(req_work, [12, 100]);
-        return;
+    let words: Vec<String> = std::env::args().skip(1).collect();
+    let words: Vec<&str> = words.iter().map(|it| it.as_str()).collect();
+    match words[..] {
+        [] => {}
+        ["peers", stream, file] => return peers(stream, file),
+        ["growth"] => {
+            growth(kll_work, [200, 4096]);
+            println!();
+            return growth(req_work, [12, 100]);
+        }
+        _ => panic!("the words are growth, or peers NAME FILE"),
     }
     println!("| call | k | original | ours | ours / original |\n|---|---|---|---|---|");
-    rows::<KllSketch<i64>>("KLL", kll_work, 200, 100_000, 2_000);
-    rows::<KllSketch<i64>>("KLL", kll_work, 4096, 100_000, 200);
-    rows::<ReqSketch<i64>>("REQ", req_work, 12, 1_000_000, 2_000);
+    let mut ratios = rows::<KllSketch<i64>>("KLL", kll_work, 200, 100_000, 2_000);
+    ratios.extend(rows::<KllSketch<i64>>("KLL", kll_work, 4096, 100_000, 200));
+    ratios.extend(rows::<ReqSketch<i64>>("REQ", req_work, 12, 1_000_000, 2_000));
+    let mean = (ratios.iter().map(|it| it.ln()).sum::<f64>() / ratios.len() as f64).exp();
+    println!("| geometric mean, `update_all` aside | | | | {mean:.2} |");
 }
