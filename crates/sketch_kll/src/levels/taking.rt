@@ -1,9 +1,10 @@
 //! Levels that take items in one after another.
-ghost use Rattle.std.specs.Prelude.{◌≡◌, ◌+◌, ◌<◌, ◌≤◌, ◌++◌, ◌^◌, drop, length, max, min, reverse, take, vec_len, vec_capacity, false, IfOk, OnOk};
+ghost use Rattle.std.specs.Prelude.{◌≡◌, ◌+◌, ◌<◌, ◌≤◌, ◌++◌, ◌^◌, drop, length, max, min, reverse, take, vec_len, vec_capacity, false, IfOk, IsTrue, OnOk};
 ghost use Rattle.std.specs.declared.cmp.Ordering.TheVariants.{Equal};
+ghost use Rattle.std.specs.List.{AllByRecursion};
 ghost use Rattle.std.specs.Option.{option_to_list};
 ghost use Rattle.sketch_base.specs.Bag.{SameItems};
-ghost use Rattle.sketch_base.specs.Extremes.{IsGreatestOf, IsLeastOf, newer_or};
+ghost use Rattle.sketch_base.specs.Extremes.{IsFrom, IsGreatestOf, IsLeastOf, IsUpTo, newer_or};
 ghost use Rattle.sketch_kll.specs.Capacity.{total_of};
 ghost use Rattle.sketch_kll.specs.Levels.{retained, weight};
 ghost use Rattle.sketch_kll.specs.Steps.{put_all};
@@ -12,7 +13,9 @@ ghost use Rattle.sketch_kll.specs.Take.{AreKept, HaveTaken, left_over};
 
 use super::{Levels, MAX_BOUNDS};
 use crate::capacity::{MAX_LEVELS, MINIMUM_CAPACITY, total_capacity};
-use sketch_base::common::extremes::{clone_if_greatest, clone_if_least, greatest_of, least_of};
+use sketch_base::common::extremes::{
+    are_between, clone_if_greatest, clone_if_least, greatest_of, least_of,
+};
 use sketch_base::common::merging::move_back;
 use sketch_base::common::random::RandomBits;
 use std::alloc::AllocError;
@@ -139,6 +142,17 @@ fn reserve_taken<T: Drop>(
     bounds.reserve_exact(MAX_BOUNDS - bounds.len())
 }
 
+/// Whether no item passes an extreme so far.
+fn are_within<T: Ord>(items: &[T], least: &Option<T>, greatest: &Option<T>) -> bool
+    ensures least { IsTrue result → AllByRecursion (IsFrom T.cmp least.now) items.now }
+    ensures greatest { IsTrue result → AllByRecursion (IsUpTo T.cmp greatest.now) items.now }
+{
+    match (least, greatest) {
+        (Some(least), Some(greatest)) => are_between(items, least, greatest),
+        _ => false,
+    }
+}
+
 /// Clones of the least and the greatest of some items, of each that passes the extreme so far.
 fn clone_passing_extremes<T: Clone + Ord>(
     items: &[T],
@@ -152,6 +166,9 @@ fn clone_passing_extremes<T: Clone + Ord>(
     ensures greatest { IfOk result (λ new. IsGreatestOf T.cmp
         (option_to_list greatest.now ++ items.now) (newer_or new.1 greatest.now)) }
 {
+    if are_within(items, least, greatest) {
+        return Ok((None, None));
+    }
     let new_least = clone_if_least(least_of(items), least)?;
     let new_greatest = clone_if_greatest(greatest_of(items), greatest)?;
     Ok((new_least, new_greatest))
