@@ -1,5 +1,5 @@
 //! How other levels are joined into a sketch's. What can fail comes first, in `reserve_joined`.
-ghost use Rattle.std.specs.Prelude.{◌≡◌, ℕ, ◌+◌, ◌^◌, ◌<◌, ◌≤◌, max, length, vec_len, vec_capacity, OnOk, OnErr};
+ghost use Rattle.std.specs.Prelude.{◌≡◌, ℕ, ◌+◌, ◌^◌, ◌<◌, ◌≤◌, max, length, vec_len, vec_capacity, IfOk, OnOk, OnErr};
 ghost use Rattle.std.specs.declared.cmp.Ordering.TheVariants.{Equal};
 ghost use Rattle.sketch_base.specs.Bag.{SameItems, level_at};
 ghost use Rattle.sketch_req.specs.Buffers.{merged_spaces, promoted_spaces};
@@ -8,11 +8,11 @@ ghost use Rattle.sketch_req.specs.Schedule.{layouts_of, joined_layouts, retained
 ghost use Rattle.sketch_req.specs.Walk.{AreHeld, AreLevels, HaveSpace, accuracy_of, k_of};
 
 use super::redraw_if;
-use super::walk::{add_buffers, add_level, count_at, walk_if_full};
+use super::walk::{add_level, count_at, give_back, new_buffers, walk_if_full};
 use crate::compactor::Compactor;
 use crate::merging::Buffers;
 use sketch_base::common::random::RandomBits;
-use std::alloc::AllocError;
+use std::alloc::{AllocError, Global};
 
 /// Takes clones of the items of a level, if there is one, with space for `count` items.
 fn clone_level<T: Clone + Ord>(
@@ -39,20 +39,20 @@ fn clone_level<T: Clone + Ord>(
 /// Makes room for all that a walk moves, if other levels are joined into these before, by clones of
 /// their items, which it makes.
 fn reserve_joined<T: Clone + Ord>(
+    alloc: Global,
     levels: &[Compactor<T>],
     others: &[Compactor<T>],
-    buffers: &mut Vec<Buffers<T>>,
-) -> Result<(), AllocError>
+) -> Result<Vec<Buffers<T>>, AllocError>
     requires clones { (x y : T) → T.is_clone x y → T.cmp x y ≡ Equal }
     requires few { retained_of (layouts_of levels.now) + retained_of (layouts_of others.now)
         < 2 ^ 32 }
-    ensures cloned { OnOk result (AreCloned T.cmp levels.now others.now buffers.new.items) }
-    ensures fit { OnOk result
-        ((k : ℕ) → HaveSpace k
-        (joined_layouts k (layouts_of levels.now) (layouts_of others.now)) buffers.new.items) }
+    ensures cloned { IfOk result (λ buffers.
+        AreCloned T.cmp levels.now others.now buffers.items) }
+    ensures fit { IfOk result (λ buffers. (k : ℕ) → HaveSpace k
+        (joined_layouts k (layouts_of levels.now) (layouts_of others.now)) buffers.items) }
 {
     let count = levels.len().max(others.len());
-    add_buffers(buffers, count)?;
+    let mut buffers = new_buffers(alloc, count)?;
     let mut carried = 0;
     for level in 0..count {
         let here = count_at(levels, level) + count_at(others, level) + carried;
@@ -62,7 +62,7 @@ fn reserve_joined<T: Clone + Ord>(
         clone_level(others, level, here, own)?;
         carried = here / 2;
     }
-    Ok(())
+    Ok(buffers)
 }
 
 /// Joins the others' levels, by clones of their items, into the levels of the same places. Those
@@ -99,8 +99,7 @@ fn join_levels<T: Clone + Ord>(
 fn join<T: Clone + Ord>(
     levels: &mut Vec<Compactor<T>>,
     others: &[Compactor<T>],
-    buffers: &mut Vec<Buffers<T>>,
-) -> Result<(), AllocError>
+) -> Result<Vec<Buffers<T>>, AllocError>
     requires clones { (x y : T) → T.is_clone x y → T.cmp x y ≡ Equal }
     requires levels { AreHeld T.cmp levels.old.items }
     requires others { AreLevels T.cmp (k_of others.now) (accuracy_of levels.old.items) 0
@@ -112,14 +111,14 @@ fn join<T: Clone + Ord>(
     ensures count { OnOk result (length levels.new.items
         ≡ max (length levels.old.items) (length others.now)) }
     ensures spare { OnOk result (vec_len levels.new < vec_capacity levels.new) }
-    ensures fit { OnOk result
-        (HaveSpace (k_of levels.old.items) (layouts_of levels.new.items) buffers.new.items) }
+    ensures fit { IfOk result (λ buffers.
+        HaveSpace (k_of levels.old.items) (layouts_of levels.new.items) buffers.items) }
     ensures err { OnErr result (levels.new.items ≡ levels.old.items) }
 {
-    reserve_joined(levels.as_slice(), others, buffers)?;
-    levels.reserve(others.len() + 1)?;
-    join_levels(levels, others, buffers);
-    Ok(())
+    let mut buffers = reserve_joined(*levels.allocator(), levels.as_slice(), others)?;
+    levels.reserve_exact(others.len().saturating_sub(levels.len()) + 1)?;
+    join_levels(levels, others, &mut buffers);
+    Ok(buffers)
 }
 
 /// Joins other levels in, draws coins anew or doesn't, and walks where all are then at or over their
@@ -128,7 +127,6 @@ pub(super) fn join_and_walk<T: Clone + Ord, B: RandomBits>(
     levels: &mut Vec<Compactor<T>>,
     others: &[Compactor<T>],
     redraws: bool,
-    buffers: &mut Vec<Buffers<T>>,
     coins: &mut B,
 ) -> Result<(), AllocError>
     requires clones { (x y : T) → T.is_clone x y → T.cmp x y ≡ Equal }
@@ -145,8 +143,9 @@ pub(super) fn join_and_walk<T: Clone + Ord, B: RandomBits>(
     ensures err { OnErr result ((levels.new.items ≡ levels.old.items)
         × (coins.new ≡ coins.old)) }
 {
-    join(levels, others, buffers)?;
+    let mut buffers = join(levels, others)?;
     redraw_if(redraws, levels, coins);
-    walk_if_full(levels, buffers, coins);
+    walk_if_full(levels, &mut buffers, coins);
+    give_back(levels);
     Ok(())
 }

@@ -13,7 +13,7 @@ use Rattle.sketch_req.proofs.sketch.levels.joining.reserve_joined.Goals as goal
 
 pub loop-level-init : goal.loop-level-init
 loop-level-init g c = record {
-  enough = let e = c.in_ok-add_buffers.ensures.enough in omega (arith, e, c.add_buffers.new.buffers.ok);
+  enough = omega (arith, c.in_ok-buffers.ensures, c.in_ok-buffers.buffers.ok);
   few = omega arith;
   bounded = λ k. bounded-start _ _;
   cloned = λ h l. absurd (omega (arith, l));

@@ -10,7 +10,7 @@ use Rattle.sketch_req.proofs.sketch.levels.walk.reserve_next.Goals as goal
 
 pub loop-level-init : goal.loop-level-init
 loop-level-init g c = record {
-  enough = simp length-set (let e = c.in_ok-add_buffers.ensures.enough in omega (arith, e, c.add_buffers.new.buffers.ok));
+  enough = simp length-set (omega (arith, c.in_ok-buffers.ensures, c.in_ok-buffers.buffers.ok));
   planned = planned-start (k_of c.args.levels.now) 1 (layouts_of c.args.levels.now);
   fits = λ h l. absurd (omega (arith, l));
 }
