@@ -1,6 +1,6 @@
 -- The loop keeps a bound of what comes into the next level, and that there is room for the turns so far.
 use Rattle.std.proofs.lemmas.Grind.{common_steps}
-use Rattle.std.proofs.Common.{◌≡◌, ◌+◌, ◌<◌, ◌≤◌, ap, ℕ, List, length, length-set, arith}
+use Rattle.std.proofs.Common.{◌≡◌, ◌+◌, ◌/◌, ◌<◌, ◌≤◌, ap, ℕ, List, length, length-set, arith}
 use Rattle.sketch_req.specs.Schedule.{Layout, layouts_of, layout_at, joined_layouts, steps_layouts}
 use Rattle.sketch_req.specs.Buffers.{Space}
 use Rattle.sketch_req.proofs.ReservedWalks.{count-within, bounded-start, bounded-more, bounded-space}
@@ -55,7 +55,7 @@ loop-level-preserved g c =
     λ k. omega (arith, joined-count k ls os (at + 1), c.count_at-in-loop-level-2.ensures, c.count_at-in-loop-level-3.ensures) in
     let own = c.clone_level.new.buffers in
     let promoted : here ≤ own.promoted_space = omega (arith, c.in_ok-reserve.ensures.here, ap (λ (b : Space g.row.T.Denot). b.promoted_space) c.clone_level.ensures.rest) in
-    let merged : 0 < here → over + here ≤ own.merged_space = λ some. omega (arith, c.in_ok-reserve.ensures.above some, ap (λ (b : Space g.row.T.Denot). b.merged_space) c.clone_level.ensures.rest) in
+    let merged : 0 < here → over + here / 2 ≤ own.merged_space = λ some. omega (arith, c.in_ok-reserve.ensures.above some, ap (λ (b : Space g.row.T.Denot). b.merged_space) c.clone_level.ensures.rest) in
     let inside : c.loop-level.level < length c.loop-level.buffers.items = omega (arith, i.enough, c.loop-level-test.true) in
     record {
       enough = simp length-set i.enough;
