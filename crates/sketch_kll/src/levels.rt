@@ -22,6 +22,7 @@ use sketch_base::common::SearchCriteria;
 use sketch_base::common::counting::count_all;
 use sketch_base::common::extremes::{clone_if_greatest, clone_if_least};
 use sketch_base::common::random::RandomBits;
+use sketch_base::common::room::{give_back, reserve_next};
 use std::alloc::{AllocError, Global};
 use std::marker::Model;
 
@@ -324,30 +325,12 @@ fn reserve_both<T: Drop>(
     bounds.reserve(1)
 }
 
-/// Makes room for one more item. A full vector grows by a quarter, or up to `most` items if that is
-/// less: a sketch lives long, and soon grows no more.
-fn reserve_next<T: Drop>(items: &mut Vec<T>, most: usize) -> Result<(), AllocError>
-    ensures items { items.new.items ≡ items.old.items }
-    ensures len { vec_len items.new ≡ vec_len items.old }
-    ensures ok { OnOk result (vec_len items.new < vec_capacity items.new) }
-    ensures capacity { vec_capacity items.old ≤ vec_capacity items.new }
-    ensures lean { OnOk result (vec_capacity items.new
-        ≤ max (vec_capacity items.old) (vec_len items.old + (vec_len items.old / 4 + 4))) }
-{
-    let len = items.len();
-    if len < items.capacity() {
-        return Ok(());
-    }
-    let left = most.saturating_sub(len).max(1);
-    items.reserve_exact((len / 4 + 4).min(left))
-}
-
 /// Gives back room for more than an eighth more items, and for more than one more bound.
 fn shrink_both<T>(items: &mut Vec<T>, bounds: &mut Vec<usize>)
     ensures items { items.new.items ≡ items.old.items }
     ensures bounds { bounds.new.items ≡ bounds.old.items }
 {
-    items.shrink_to(items.len() + items.len() / 8);
+    give_back(items);
     bounds.shrink_to(bounds.len() + 1);
 }
 

@@ -1,8 +1,8 @@
 -- The buffers of a walk's turns: what stays of them where those of one turn are set.
-use Rattle.std.proofs.Common.{◌≢◌, ◌≡◌, ℕ, ◌+◌, ◌<◌, List, length, map, get_or, set, sym, ap, ◌∙◌, subst, arith, inl, inr}
+use Rattle.std.proofs.Common.{◌≢◌, ◌≡◌, ℕ, ◌+◌, ◌<◌, ◌≤◌, List, length, map, get_or, set, sym, ap, ◌∙◌, subst, arith, inl, inr}
 use Rattle.std.proofs.lemmas.Bool.{cases_lt}
 use Rattle.std.proofs.lemmas.List.{map-set, length-map, get_or-map, get_or-set_other, get_or-set_same}
-use Rattle.sketch_req.specs.Buffers.{Space, merged_spaces, promoted_spaces}
+use Rattle.sketch_req.specs.Buffers.{Space, merged_spaces}
 use Rattle.sketch_req.specs.Schedule.{Layout, steps_layouts}
 use Rattle.sketch_req.specs.Walk.{HasSpace, HaveSpace}
 
@@ -21,46 +21,51 @@ module _ {R B : Type 0} (read : R → B) (d : B) (rooms : List R) (h : ℕ) (roo
   read-here inside = ap (λ (xs : List B). get_or xs h d) (map-set read rooms h room) ∙ get_or-set_same (map read rooms) h (read room) d (omega (arith, inside, length-map rooms read))
 
 module _ {A : Type 0} where
-  -- space for the turn of level h, in the buffers of its place
-  abbrev pub SpaceAt : ℕ → ℕ → List Layout → List (Space A) → Type 0
-  SpaceAt k h layouts buffers = HasSpace k h layouts (get_or (merged_spaces buffers) h 0) (get_or (promoted_spaces buffers) h 0)
+  -- space for the turn of level h: in the buffers of its place, and in a vector for what it gives up
+  abbrev pub SpaceAt : ℕ → ℕ → List Layout → List (Space A) → ℕ → Type 0
+  SpaceAt k h layouts buffers promoted = HasSpace k h layouts (get_or (merged_spaces buffers) h 0) promoted
 
-  -- buffers with as much space at a place
-  space-same : (k h : ℕ) (layouts : List Layout) (buffers news : List (Space A)) → get_or (merged_spaces news) h 0 ≡ get_or (merged_spaces buffers) h 0 →
-      get_or (promoted_spaces news) h 0 ≡ get_or (promoted_spaces buffers) h 0 →
-      SpaceAt k h layouts buffers → SpaceAt k h layouts news
-  space-same k h layouts buffers news merged promoted has = rw (merged, promoted) has
+  -- a vector of more space serves too
+  pub space-grown : (k h : ℕ) (layouts : List Layout) (buffers : List (Space A)) (promoted more : ℕ) → promoted ≤ more → SpaceAt k h layouts buffers promoted → SpaceAt k h layouts buffers more
+  space-grown k h layouts buffers promoted more grows has = record { promoted = omega (arith, has.promoted, grows); above = has.above }
+
+  -- buffers with as much space at a place, and a vector with as much or more
+  space-same : (k h : ℕ) (layouts : List Layout) (buffers news : List (Space A)) (promoted more : ℕ) → get_or (merged_spaces news) h 0 ≡ get_or (merged_spaces buffers) h 0 →
+      promoted ≤ more → SpaceAt k h layouts buffers promoted → SpaceAt k h layouts news more
+  space-same k h layouts buffers news promoted more merged grows has =
+      rw merged (space-grown k h layouts buffers promoted more grows has)
 
   -- there is space for the turns up to one, where the buffers of this one are set
-  pub space-more : (k h : ℕ) (layouts : ℕ → List Layout) (buffers : List (Space A)) (own : Space A) → h < length buffers → ((j : ℕ) → j < h → SpaceAt k j (layouts j) buffers) →
-      HasSpace k h (layouts h) own.merged_space own.promoted_space →
-      (j : ℕ) → j < h + 1 → SpaceAt k j (layouts j) (set buffers h own)
-  space-more k h layouts buffers own inside below here j within =
+  pub space-more : (k h : ℕ) (layouts : ℕ → List Layout) (buffers : List (Space A)) (own : Space A) (promoted more : ℕ) → h < length buffers → promoted ≤ more →
+      ((j : ℕ) → j < h → SpaceAt k j (layouts j) buffers promoted) →
+      HasSpace k h (layouts h) own.merged_space more →
+      (j : ℕ) → j < h + 1 → SpaceAt k j (layouts j) (set buffers h own) more
+  space-more k h layouts buffers own promoted more inside grows below here j within =
       elim (cases_lt j h) [
         | inl low ↦
             let other : j ≢ h = omega (arith, low) in
-            space-same k j (layouts j) buffers (set buffers h own) (read-other (λ b. b.merged_space) 0 buffers h own j other) (read-other (λ b. b.promoted_space) 0 buffers h own j other) (below j low)
+            space-same k j (layouts j) buffers (set buffers h own) promoted more (read-other (λ b. b.merged_space) 0 buffers h own j other) grows (below j low)
         | inr high ↦
             let place : h ≡ j = omega (arith, within, high) in
-            subst (λ (n : ℕ). SpaceAt k n (layouts n) (set buffers h own)) place
-            (rw (read-here (λ b. b.merged_space) 0 buffers h own inside, read-here (λ b. b.promoted_space) 0 buffers h own inside) here)
+            subst (λ (n : ℕ). SpaceAt k n (layouts n) (set buffers h own) more) place
+            (rw (read-here (λ b. b.merged_space) 0 buffers h own inside) here)
       ]
 
   -- there is space for a step of a walk whose later buffers are as at its start
-  pub space-there : (k h : ℕ) (layouts now : List Layout) (start buffers : List (Space A)) (own : Space A) → HaveSpace k layouts start → h < length layouts → length buffers ≡ length start →
-      get_or (merged_spaces buffers) h 0 ≡ get_or (merged_spaces start) h 0 → get_or (promoted_spaces buffers) h 0 ≡ get_or (promoted_spaces start) h 0 →
+  pub space-there : (k h : ℕ) (layouts now : List Layout) (start buffers : List (Space A)) (own : Space A) (promoted : ℕ) → HaveSpace k layouts start promoted → h < length layouts →
+      length buffers ≡ length start →
+      get_or (merged_spaces buffers) h 0 ≡ get_or (merged_spaces start) h 0 →
       own ≡ get_or buffers h own → now ≡ steps_layouts k h 0 layouts →
-      HasSpace k h now own.merged_space own.promoted_space
-  space-there k h layouts now start buffers own fit within len merged promoted there now_is =
+      HasSpace k h now own.merged_space promoted
+  space-there k h layouts now start buffers own promoted fit within len merged there now_is =
       let inside : h < length buffers = omega (arith, fit.enough, len, within) in
-      rw (now_is, ← read-there (λ b. b.merged_space) 0 buffers h own inside there, ← read-there (λ b. b.promoted_space) 0 buffers h own inside there)
-      (space-same k h (steps_layouts k h 0 layouts) start buffers merged promoted (fit.fits h within))
+      rw (now_is, ← read-there (λ b. b.merged_space) 0 buffers h own inside there)
+      (space-same k h (steps_layouts k h 0 layouts) start buffers promoted promoted merged (omega arith) (fit.fits h within))
 
   -- the same holds of other buffers that have as much
-  pub space-kept : (k : ℕ) (layouts : List Layout) (buffers news : List (Space A)) → merged_spaces news ≡ merged_spaces buffers → promoted_spaces news ≡ promoted_spaces buffers →
-      HaveSpace k layouts buffers → HaveSpace k layouts news
-  space-kept k layouts buffers news merged promoted fit = record {
+  pub space-kept : (k : ℕ) (layouts : List Layout) (buffers news : List (Space A)) (promoted more : ℕ) → merged_spaces news ≡ merged_spaces buffers → promoted ≤ more →
+      HaveSpace k layouts buffers promoted → HaveSpace k layouts news more
+  space-kept k layouts buffers news promoted more merged grows fit = record {
     enough = omega (arith, fit.enough, ap length merged, length-map news (λ (b : Space A). b.merged_space), length-map buffers (λ (b : Space A). b.merged_space));
-    fits = λ h within. space-same k h (steps_layouts k h 0 layouts) buffers news (ap (λ (spaces : List ℕ). get_or spaces h 0) merged)
-        (ap (λ (spaces : List ℕ). get_or spaces h 0) promoted) (fit.fits h within);
+    fits = λ h within. space-same k h (steps_layouts k h 0 layouts) buffers news promoted more (ap (λ (spaces : List ℕ). get_or spaces h 0) merged) grows (fit.fits h within);
   }

@@ -15,8 +15,5 @@ clones_of buffers = map (λ b. b.clones) buffers
 abbrev pub clones_spaces : {A : Type 0} → List (Space A) → List ℕ
 clones_spaces buffers = map (λ b. b.clones_space) buffers
 
-abbrev pub promoted_spaces : {A : Type 0} → List (Space A) → List ℕ
-promoted_spaces buffers = map (λ b. b.promoted_space) buffers
-
 abbrev pub merged_spaces : {A : Type 0} → List (Space A) → List ℕ
 merged_spaces buffers = map (λ b. b.merged_space) buffers

@@ -19,7 +19,6 @@ mod walk;
 
 use crate::RankAccuracy;
 use crate::compactor::Compactor;
-use crate::merging::Buffers;
 use joining::join_and_walk;
 use sketch_base::common::SearchCriteria;
 use sketch_base::common::random::RandomBits;
@@ -81,12 +80,7 @@ impl<T: Clone + Ord> Levels<T> {
 
     /// Puts an item last into level 0, and then walks over the levels where these are full together.
     /// What can fail comes first.
-    pub(crate) fn take_item<B: RandomBits>(
-        &mut self,
-        item: T,
-        buffers: &mut Vec<Buffers<T>>,
-        coins: &mut B,
-    ) -> Result<(), Error>
+    pub(crate) fn take_item<B: RandomBits>(&mut self, item: T, coins: &mut B) -> Result<(), Error>
         requires fits { weight_of (layouts_of self.old.levels) < 2 ^ 64 - 1 }
         requires few { retained_of (layouts_of self.old.levels) < 4294967295 }
         ensures kept { self.new ≡ record self.old { levels = self.new.levels } }
@@ -100,7 +94,7 @@ impl<T: Clone + Ord> Levels<T> {
             self.num_retained += 1;
             return Ok(());
         }
-        append_and_walk(&mut self.compactors, item, buffers, coins)?;
+        append_and_walk(&mut self.compactors, item, coins)?;
         (self.num_retained, self.capacity) = sums(self.compactors.as_slice());
         Ok(())
     }
@@ -111,7 +105,6 @@ impl<T: Clone + Ord> Levels<T> {
         &mut self,
         others: &Self,
         redraws: bool,
-        buffers: &mut Vec<Buffers<T>>,
         coins: &mut B,
     ) -> Result<(), AllocError>
         requires clones { (x y : T) → T.is_clone x y → T.cmp x y ≡ Equal }
@@ -127,7 +120,7 @@ impl<T: Clone + Ord> Levels<T> {
         ensures err { OnErr result ((self.new ≡ self.old) × (coins.new ≡ coins.old)) }
     {
         let more = others.compactors.as_slice();
-        join_and_walk(&mut self.compactors, more, redraws, buffers, coins)?;
+        join_and_walk(&mut self.compactors, more, redraws, coins)?;
         (self.num_retained, self.capacity) = sums(self.compactors.as_slice());
         Ok(())
     }

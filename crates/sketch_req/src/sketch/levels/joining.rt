@@ -1,18 +1,18 @@
 //! How other levels are joined into a sketch's. What can fail comes first, in `reserve_joined`.
-ghost use Rattle.std.specs.Prelude.{◌≡◌, ℕ, ◌+◌, ◌^◌, ◌<◌, ◌≤◌, max, length, vec_len, vec_capacity, OnOk, OnErr};
+ghost use Rattle.std.specs.Prelude.{◌≡◌, ℕ, ◌+◌, ◌^◌, ◌<◌, ◌≤◌, [], max, length, vec_len, vec_capacity, IfOk, OnOk, OnErr};
 ghost use Rattle.std.specs.declared.cmp.Ordering.TheVariants.{Equal};
 ghost use Rattle.sketch_base.specs.Bag.{SameItems, level_at};
-ghost use Rattle.sketch_req.specs.Buffers.{merged_spaces, promoted_spaces};
+ghost use Rattle.sketch_req.specs.Buffers.{merged_spaces};
 ghost use Rattle.sketch_req.specs.Merged.{AreJoined, AreCloned, AreTakenIn, item_lists};
 ghost use Rattle.sketch_req.specs.Schedule.{layouts_of, joined_layouts, retained_of, weight_of};
 ghost use Rattle.sketch_req.specs.Walk.{AreHeld, AreLevels, HaveSpace, accuracy_of, k_of};
 
 use super::redraw_if;
-use super::walk::{add_buffers, add_level, count_at, walk_if_full};
+use super::walk::{add_level, count_at, give_back, new_buffers, walk_if_full};
 use crate::compactor::Compactor;
 use crate::merging::Buffers;
 use sketch_base::common::random::RandomBits;
-use std::alloc::AllocError;
+use std::alloc::{AllocError, Global};
 
 /// Takes clones of the items of a level, if there is one, with space for `count` items.
 fn clone_level<T: Clone + Ord>(
@@ -36,33 +36,36 @@ fn clone_level<T: Clone + Ord>(
     Ok(())
 }
 
-/// Makes room for all that a walk moves, if other levels are joined into these before, by clones of
-/// their items, which it makes.
+/// Room for all that a walk moves, if other levels are joined into these before: an empty vector for
+/// what a level gives up, and buffers with clones of the others' items.
 fn reserve_joined<T: Clone + Ord>(
+    alloc: Global,
     levels: &[Compactor<T>],
     others: &[Compactor<T>],
-    buffers: &mut Vec<Buffers<T>>,
-) -> Result<(), AllocError>
+) -> Result<(Vec<T>, Vec<Buffers<T>>), AllocError>
     requires clones { (x y : T) → T.is_clone x y → T.cmp x y ≡ Equal }
     requires few { retained_of (layouts_of levels.now) + retained_of (layouts_of others.now)
         < 2 ^ 32 }
-    ensures cloned { OnOk result (AreCloned T.cmp levels.now others.now buffers.new.items) }
-    ensures fit { OnOk result
-        ((k : ℕ) → HaveSpace k
-        (joined_layouts k (layouts_of levels.now) (layouts_of others.now)) buffers.new.items) }
+    ensures empty { IfOk result (λ room. room.0.items ≡ []) }
+    ensures cloned { IfOk result (λ room.
+        AreCloned T.cmp levels.now others.now room.1.items (vec_capacity room.0)) }
+    ensures fit { IfOk result (λ room. (k : ℕ) → HaveSpace k
+        (joined_layouts k (layouts_of levels.now) (layouts_of others.now)) room.1.items
+        (vec_capacity room.0)) }
 {
     let count = levels.len().max(others.len());
-    add_buffers(buffers, count)?;
-    let mut carried = 0;
+    let mut buffers = new_buffers(alloc, count)?;
+    let (mut carried, mut most) = (0, 0);
     for level in 0..count {
         let here = count_at(levels, level) + count_at(others, level) + carried;
         let above = count_at(levels, level + 1) + count_at(others, level + 1);
         let own = &mut buffers[level];
         own.reserve(here, above)?;
         clone_level(others, level, here, own)?;
+        most = most.max(here);
         carried = here / 2;
     }
-    Ok(())
+    Ok((Vec::with_capacity(alloc, most)?, buffers))
 }
 
 /// Joins the others' levels, by clones of their items, into the levels of the same places. Those
@@ -70,6 +73,7 @@ fn reserve_joined<T: Clone + Ord>(
 fn join_levels<T: Clone + Ord>(
     levels: &mut Vec<Compactor<T>>,
     others: &[Compactor<T>],
+    promoted: &mut Vec<T>,
     buffers: &mut Vec<Buffers<T>>,
 )
     requires levels { AreHeld T.cmp levels.old.items }
@@ -79,19 +83,24 @@ fn join_levels<T: Clone + Ord>(
         + retained_of (layouts_of others.now) < 2 ^ 32 }
     requires spare { max (length levels.old.items) (length others.now)
         < vec_capacity levels.old }
-    requires cloned { AreCloned T.cmp levels.old.items others.now buffers.old.items }
+    requires empty { promoted.old.items ≡ [] }
+    requires cloned { AreCloned T.cmp levels.old.items others.now buffers.old.items
+        (vec_capacity promoted.old) }
     ensures joined { AreJoined T.cmp (k_of levels.old.items) (accuracy_of levels.old.items)
         levels.old.items others.now levels.new.items }
     ensures count { length levels.new.items ≡ max (length levels.old.items) (length others.now) }
     ensures spare { vec_len levels.new < vec_capacity levels.new }
     ensures merged_spaces { merged_spaces buffers.new.items ≡ merged_spaces buffers.old.items }
-    ensures promoted_spaces { promoted_spaces buffers.new.items
-        ≡ promoted_spaces buffers.old.items }
+    ensures empty { promoted.new.items ≡ [] }
+    ensures promoted { vec_capacity promoted.new ≡ vec_capacity promoted.old }
 {
     let (k, rank_accuracy) = levels[0].parameters();
     for level in 0..others.len() {
         add_level(levels, level, k, rank_accuracy);
-        levels[level].join(&others[level], &mut buffers[level]);
+        let own = &mut buffers[level];
+        own.trade(promoted);
+        levels[level].join(&others[level], own);
+        own.trade(promoted);
     }
 }
 
@@ -99,8 +108,7 @@ fn join_levels<T: Clone + Ord>(
 fn join<T: Clone + Ord>(
     levels: &mut Vec<Compactor<T>>,
     others: &[Compactor<T>],
-    buffers: &mut Vec<Buffers<T>>,
-) -> Result<(), AllocError>
+) -> Result<(Vec<T>, Vec<Buffers<T>>), AllocError>
     requires clones { (x y : T) → T.is_clone x y → T.cmp x y ≡ Equal }
     requires levels { AreHeld T.cmp levels.old.items }
     requires others { AreLevels T.cmp (k_of others.now) (accuracy_of levels.old.items) 0
@@ -112,14 +120,16 @@ fn join<T: Clone + Ord>(
     ensures count { OnOk result (length levels.new.items
         ≡ max (length levels.old.items) (length others.now)) }
     ensures spare { OnOk result (vec_len levels.new < vec_capacity levels.new) }
-    ensures fit { OnOk result
-        (HaveSpace (k_of levels.old.items) (layouts_of levels.new.items) buffers.new.items) }
+    ensures empty { IfOk result (λ room. room.0.items ≡ []) }
+    ensures fit { IfOk result (λ room. HaveSpace (k_of levels.old.items)
+        (layouts_of levels.new.items) room.1.items (vec_capacity room.0)) }
     ensures err { OnErr result (levels.new.items ≡ levels.old.items) }
 {
-    reserve_joined(levels.as_slice(), others, buffers)?;
-    levels.reserve(others.len() + 1)?;
-    join_levels(levels, others, buffers);
-    Ok(())
+    let alloc = *levels.allocator();
+    let (mut promoted, mut buffers) = reserve_joined(alloc, levels.as_slice(), others)?;
+    levels.reserve_exact(others.len().saturating_sub(levels.len()) + 1)?;
+    join_levels(levels, others, &mut promoted, &mut buffers);
+    Ok((promoted, buffers))
 }
 
 /// Joins other levels in, draws coins anew or doesn't, and walks where all are then at or over their
@@ -128,7 +138,6 @@ pub(super) fn join_and_walk<T: Clone + Ord, B: RandomBits>(
     levels: &mut Vec<Compactor<T>>,
     others: &[Compactor<T>],
     redraws: bool,
-    buffers: &mut Vec<Buffers<T>>,
     coins: &mut B,
 ) -> Result<(), AllocError>
     requires clones { (x y : T) → T.is_clone x y → T.cmp x y ≡ Equal }
@@ -145,8 +154,9 @@ pub(super) fn join_and_walk<T: Clone + Ord, B: RandomBits>(
     ensures err { OnErr result ((levels.new.items ≡ levels.old.items)
         × (coins.new ≡ coins.old)) }
 {
-    join(levels, others, buffers)?;
+    let (mut promoted, mut buffers) = join(levels, others)?;
     redraw_if(redraws, levels, coins);
-    walk_if_full(levels, buffers, coins);
+    walk_if_full(levels, &mut promoted, &mut buffers, coins);
+    give_back(levels);
     Ok(())
 }

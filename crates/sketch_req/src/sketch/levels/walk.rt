@@ -1,6 +1,6 @@
 //! The walk over levels: each level that is full is compacted into the one above. What can fail
 //! comes first, in `reserve_next`.
-ghost use Rattle.std.specs.Prelude.{◌≡◌, ◌+◌, ◌-◌, ◌^◌, ◌<◌, ◌≤◌, [], ◌∷◌, ◌++◌, length, vec_len, vec_capacity, IfErr, OnOk, OnErr, true, if◌then◌else◌, ◌==◌};
+ghost use Rattle.std.specs.Prelude.{◌≡◌, ◌+◌, ◌-◌, ◌^◌, ◌<◌, ◌≤◌, [], ◌∷◌, ◌++◌, length, vec_len, vec_capacity, IfOk, IfErr, OnOk, OnErr, true, if◌then◌else◌, ◌==◌};
 ghost use Rattle.sketch_base.specs.declared.error.ErrorKind.TheVariants.{OutOfMemory};
 ghost use Rattle.sketch_req.specs.Level.{fresh};
 ghost use Rattle.sketch_req.specs.Schedule.{layouts_of, layout_at, retained_of, weight_of};
@@ -13,20 +13,20 @@ use crate::compactor::Compactor;
 use crate::merging::Buffers;
 use sketch_base::common::random::RandomBits;
 use sketch_base::error::Error;
-use std::alloc::AllocError;
+use std::alloc::{AllocError, Global};
 
-/// Adds buffers until there is one for each of `count` levels.
-pub(super) fn add_buffers<T: Clone + Ord>(
-    buffers: &mut Vec<Buffers<T>>,
+/// Buffers for each of `count` levels.
+pub(super) fn new_buffers<T: Clone + Ord>(
+    alloc: Global,
     count: usize,
-) -> Result<(), AllocError>
-    ensures enough { OnOk result (count ≤ vec_len buffers.new) }
+) -> Result<Vec<Buffers<T>>, AllocError>
+    ensures { IfOk result (λ buffers. count ≤ vec_len buffers) }
 {
-    let alloc = *buffers.allocator();
+    let mut buffers = Vec::with_capacity(alloc, count)?;
     while buffers.len() < count {
         buffers.push(Buffers::new(alloc))?;
     }
-    Ok(())
+    Ok(buffers)
 }
 
 /// How many items a level holds; none if there is no such level.
@@ -37,26 +37,29 @@ pub(super) fn count_at<T: Clone + Ord>(levels: &[Compactor<T>], level: usize) ->
     found.map_or(0, |level| level.num_items() as usize)
 }
 
-/// Makes room to sort level 0 with an item more, and for all that a walk then moves.
+/// Room to sort level 0 with an item more, and for all that a walk then moves: an empty vector for
+/// what a level gives up at its turn, and the buffers of each level.
 fn reserve_next<T: Clone + Ord>(
+    alloc: Global,
     levels: &[Compactor<T>],
-    buffers: &mut Vec<Buffers<T>>,
-) -> Result<(), AllocError>
+) -> Result<(Vec<T>, Vec<Buffers<T>>), AllocError>
     requires levels { AreHeld T.cmp levels.now }
     requires few { retained_of (with_more 1 (layouts_of levels.now)) < 2 ^ 32 }
-    ensures fit { OnOk result
-        (HaveSpace (k_of levels.now) (with_more 1 (layouts_of levels.now)) buffers.new.items) }
+    ensures empty { IfOk result (λ room. room.0.items ≡ []) }
+    ensures fit { IfOk result (λ room. HaveSpace (k_of levels.now)
+        (with_more 1 (layouts_of levels.now)) room.1.items (vec_capacity room.0)) }
 {
-    add_buffers(buffers, levels.len())?;
-    levels[0].reserve_to_sort(&mut buffers[0])?;
+    let mut buffers = new_buffers(alloc, levels.len())?;
+    let mut most = levels[0].reserve_to_sort(&mut buffers[0])?;
     let mut carried = 1;
     for level in 0..levels.len() {
         let above = count_at(levels, level + 1);
         let count = levels[level].count_to_take_with(carried);
         buffers[level].reserve(count, above)?;
+        most = most.max(count);
         carried = count / 2;
     }
-    Ok(())
+    Ok((Vec::with_capacity(alloc, most)?, buffers))
 }
 
 /// Adds a level at a place where there is none; the place is at most the next one.
@@ -96,6 +99,7 @@ fn step<T: Clone + Ord, B: RandomBits>(
         → vec_len levels.old < vec_capacity levels.old }
     requires fit { HasSpace (k_of levels.old.items) level (layouts_of levels.old.items)
         buffers.old.merged_space buffers.old.promoted_space }
+    ensures promoted { buffers.new.promoted_space ≡ buffers.old.promoted_space }
     ensures acted { AreStepped T.cmp B.bit B.next coins.old coins.new (k_of levels.old.items)
         (accuracy_of levels.old.items) level levels.old.items levels.new.items }
     ensures same_len { level + 1 < length levels.old.items
@@ -116,6 +120,7 @@ fn step<T: Clone + Ord, B: RandomBits>(
 /// level that is added isn't compacted.
 fn walk<T: Clone + Ord, B: RandomBits>(
     levels: &mut Vec<Compactor<T>>,
+    promoted: &mut Vec<T>,
     buffers: &mut Vec<Buffers<T>>,
     coins: &mut B,
 )
@@ -123,20 +128,34 @@ fn walk<T: Clone + Ord, B: RandomBits>(
     requires fits { weight_of (layouts_of levels.old.items) < 2 ^ 64 }
     requires few_items { retained_of (layouts_of levels.old.items) < 2 ^ 32 }
     requires spare { vec_len levels.old < vec_capacity levels.old }
+    requires empty { promoted.old.items ≡ [] }
     requires fit { HaveSpace (k_of levels.old.items) (layouts_of levels.old.items)
-        buffers.old.items }
+        buffers.old.items (vec_capacity promoted.old) }
     ensures acted { AreWalkedOver T.cmp B.bit B.next coins.old coins.new (k_of levels.old.items)
         (accuracy_of levels.old.items) levels.old.items levels.new.items }
 {
     let count = levels.len();
     for level in 0..count {
-        step(levels, level, &mut buffers[level], coins);
+        let own = &mut buffers[level];
+        own.trade(promoted);
+        step(levels, level, own, coins);
+        own.trade(promoted);
+    }
+}
+
+/// Gives back each level's room for more than an eighth more items.
+pub(super) fn give_back<T: Clone + Ord>(levels: &mut Vec<Compactor<T>>)
+    ensures { levels.new.items ≡ levels.old.items }
+{
+    for level in 0..levels.len() {
+        levels[level].give_back();
     }
 }
 
 /// Walks if the levels hold as many items as their nominal capacities together, or more.
 pub(super) fn walk_if_full<T: Clone + Ord, B: RandomBits>(
     levels: &mut Vec<Compactor<T>>,
+    promoted: &mut Vec<T>,
     buffers: &mut Vec<Buffers<T>>,
     coins: &mut B,
 )
@@ -144,14 +163,15 @@ pub(super) fn walk_if_full<T: Clone + Ord, B: RandomBits>(
     requires fits { weight_of (layouts_of levels.old.items) < 2 ^ 64 }
     requires few_items { retained_of (layouts_of levels.old.items) < 2 ^ 32 }
     requires spare { vec_len levels.old < vec_capacity levels.old }
+    requires empty { promoted.old.items ≡ [] }
     requires fit { HaveSpace (k_of levels.old.items) (layouts_of levels.old.items)
-        buffers.old.items }
+        buffers.old.items (vec_capacity promoted.old) }
     ensures acted { AreWalkedIfFull T.cmp B.bit B.next coins.old coins.new
         (k_of levels.old.items) (accuracy_of levels.old.items) levels.old.items levels.new.items }
 {
     let (num_retained, capacity) = sums(levels.as_slice());
     if num_retained >= capacity {
-        walk(levels, buffers, coins);
+        walk(levels, promoted, buffers, coins);
     }
 }
 
@@ -171,7 +191,6 @@ pub(super) fn append<T: Clone + Ord>(levels: &mut Vec<Compactor<T>>, item: T) ->
 pub(super) fn append_and_walk<T: Clone + Ord, B: RandomBits>(
     levels: &mut Vec<Compactor<T>>,
     item: T,
-    buffers: &mut Vec<Buffers<T>>,
     coins: &mut B,
 ) -> Result<(), Error>
     requires levels { AreHeld T.cmp levels.old.items }
@@ -184,9 +203,10 @@ pub(super) fn append_and_walk<T: Clone + Ord, B: RandomBits>(
         × (coins.new ≡ coins.old)) }
     ensures memory { IfErr result (λ e. e ≡ OutOfMemory) }
 {
-    levels.reserve(1)?;
-    reserve_next(levels.as_slice(), buffers)?;
+    levels.reserve_exact(1)?;
+    let (mut promoted, mut buffers) = reserve_next(*levels.allocator(), levels.as_slice())?;
     append(levels, item)?;
-    walk(levels, buffers, coins);
+    walk(levels, &mut promoted, &mut buffers, coins);
+    give_back(levels);
     Ok(())
 }

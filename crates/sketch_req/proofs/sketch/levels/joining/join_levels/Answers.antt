@@ -1,6 +1,6 @@
 use Rattle.sketch_req.proofs.Held.{own-levels}
 -- The loop keeps that the levels below are joined, and that there are clones and room for the others.
-use Rattle.std.proofs.Common.{ℕ, true, [], length-set, ap, sym, ◌∙◌, refl, subst, arith}
+use Rattle.std.proofs.Common.{◌≡◌, ℕ, true, get_or, [], vec_capacity, length-set, ap, sym, ◌∙◌, refl, subst, arith}
 use Rattle.std.proofs.Math.Seq.{map-set_same}
 use Rattle.sketch_req.specs.Buffers.{Space}
 use Rattle.sketch_req.specs.Level.{Level, fresh}
@@ -13,7 +13,7 @@ use Rattle.sketch_req.proofs.MergedLevels.{IsAdded, all-joined-to, is-added, joi
 use Rattle.sketch_req.proofs.WalkSteps.{own-there}
 use Rattle.sketch_req.proofs.Sounds.{few-placed}
 use Rattle.sketch_req.proofs.sketch.levels.joining.join_levels.Given.{Over}
-use Rattle.sketch_req.proofs.sketch.levels.joining.join_levels.Goals.{After-add_level, After-index_mut-in-loop-level}
+use Rattle.sketch_req.proofs.sketch.levels.joining.join_levels.Goals.{After-add_level, After-index_mut}
 use Rattle.sketch_req.proofs.sketch.levels.joining.join_levels.Goals as goal
 
 pub loop-level-init : goal.loop-level-init
@@ -24,7 +24,8 @@ loop-level-init g c =
       enough = c.requires.cloned.enough;
       cloned = λ h l m. c.requires.cloned.cloned h m;
       merged_spaces = refl;
-      promoted_spaces = refl;
+      empty = c.requires.empty;
+      promoted = refl;
     }
 
 -- the level was there, or was added
@@ -37,13 +38,11 @@ added g c =
     (is-added _ _ _ _ (omega (arith, c.loop-level.invariant.joined.len)) c.add_level.ensures.items)
 
 -- one turn, before the join
-module _ (g : Over) (c : After-index_mut-in-loop-level g) (added : let ls = c.args.levels.now.items in
-    IsAdded c.loop-level.level (fresh [] true c.loop-level.level (k_of ls) (accuracy_of ls)) c.loop-level.levels.items c.add_level.new.levels.items) where
-  abbrev other : Level g.row.T.Denot
-  other = c.index-others-level.result
-
+module _ (g : Over) (c : After-index_mut g) (added : let ls = c.args.levels.now.items in
+    IsAdded c.loop-level.level (fresh [] true c.loop-level.level (k_of ls) (accuracy_of ls)) c.loop-level.levels.items c.add_level.new.levels.items)
+    (other : Level g.row.T.Denot) (is : other ≡ get_or c.args.others.now c.loop-level.level other) where
   placed : IsPlaced g.T.Ord.cmp (k_of c.args.others.now) (accuracy_of c.args.levels.now.items) c.loop-level.level other
-  placed = placed-at-place _ _ _ _ c.args.others.now other c.requires.others c.loop-level-test.true c.index-others-level.is
+  placed = placed-at-place _ _ _ _ c.args.others.now other c.requires.others c.loop-level-test.true is
 
   copied : IsCopied g.T.Ord.cmp (k_of c.args.levels.now.items) (accuracy_of c.args.levels.now.items) c.loop-level.level c.args.levels.now.items c.index_mut.result.now
   copied =
@@ -52,11 +51,11 @@ module _ (g : Over) (c : After-index_mut-in-loop-level g) (added : let ls = c.ar
       next-copied g.met.T.Ord.total _ _ _ _ c.requires.levels.placed _ _ _ _ legal (omega (arith, low, placed.place_is))
       c.loop-level.invariant.joined added c.index_mut.ensures.value
 
-  ready : IsReady g.T.Ord.cmp c.args.levels.now.items c.args.others.now c.index_mut.result.now other c.index_mut-in-loop-level.result.now
+  ready : IsReady g.T.Ord.cmp c.args.levels.now.items c.args.others.now c.index_mut.result.now other c.index_mut-own.result.now (vec_capacity c.args.promoted.now)
   ready =
       let i = c.loop-level.invariant in
-      is-ready _ _ _ _ _ _ c.loop-level.buffers.items _ _ _ copied c.loop-level-test.true c.index-others-level.is (omega (arith, i.enough, c.loop-level-test.true))
-      c.index_mut-in-loop-level.ensures.value (i.cloned c.loop-level.level (omega arith) c.loop-level-test.true)
+      is-ready _ _ _ _ _ _ c.loop-level.buffers.items _ _ _ _ copied c.loop-level-test.true is (omega (arith, i.enough, c.loop-level-test.true))
+      c.index_mut-own.ensures.value (i.cloned c.loop-level.level (omega arith) c.loop-level-test.true)
 
 pub add_level-requires-clause-legal : goal.add_level-requires-clause-legal
 add_level-requires-clause-legal g c =
@@ -78,39 +77,41 @@ index_mut-requires g c = omega (arith, (added g (goal.at.index_mut-requires g c)
 pub join-requires : goal.join-requires
 join-requires g c =
     let at = goal.at.join-requires g c in
-    let before = at.After-index_mut-in-loop-level in
+    let before = at.After-index_mut in
     let new = added g at.After-add_level in
-    let ready = ready g before new in
+    let other = c.index-others-level.result in
+    let is = c.index-others-level.is in
+    let ready = ready g before new other is in
     record {
-      weight = (copied g before new).placed.place_is ∙ sym (placed g before new).place_is;
-      clones = ready.same;
+      weight = (copied g before new other is).placed.place_is ∙ sym (placed g before new other is).place_is;
+      clones = rw c.trade.ensures.own ready.same;
       few = omega (arith, ready.few, c.requires.few);
-      space = ready.space;
-      promoted = ready.promoted;
+      space = rw c.trade.ensures.own ready.space;
+      promoted = rw (c.trade.ensures.own, c.loop-level.invariant.promoted) ready.promoted;
     }
 
 pub loop-level-preserved : goal.loop-level-preserved
 loop-level-preserved g c =
     let at = goal.at.loop-level-preserved g c in
-    let before = at.After-index_mut-in-loop-level in
+    let before = at.After-index_mut in
     let new = added g at.After-add_level in
     let i = c.loop-level.invariant in
     let buffers = c.loop-level.buffers.items in
-    let old = c.index_mut-in-loop-level.result.now in
-    let own = c.join.new.buffers in
-    let rest = c.join.ensures.rest in
-    let value = c.index_mut-in-loop-level.ensures.value in
+    let old = c.index_mut-own.result.now in
+    let own = c.trade-in-loop-level.new.self in
+    let merged = λ (b : Space g.row.T.Denot). b.merged_space in
+    let same = ap merged c.trade-in-loop-level.ensures.own ∙ (ap merged c.join.ensures.rest ∙ (ap merged c.trade.ensures.own ∙ ap merged c.index_mut-own.ensures.value)) in
+    let traded = λ (b : Space g.row.T.Denot). b.promoted_space in
     let joined = joined-there g.met.T.Ord.total _ (k_of c.args.others.now) _ _ _ _ c.index_mut.result.now _ _
-    (copied g before new) c.loop-level-test.true c.index-others-level.is c.join.ensures.ok c.join.ensures.sound in
+    (copied g before new c.index-others-level.result c.index-others-level.is) c.loop-level-test.true c.index-others-level.is c.join.ensures.ok c.join.ensures.sound in
     record {
       joined = next-joined g.met.T.Ord.total _ _ _ _ c.requires.levels.placed _ _ _ _ c.join.new.self i.joined new joined;
       spare = omega (arith, i.spare, c.add_level.ensures.capacity);
       enough = simp length-set i.enough;
-      cloned = λ h l m. cloned-other g.T.Ord.cmp _ _ buffers c.loop-level.level own h (omega (arith, l)) (i.cloned h (omega (arith, l)) m);
-      merged_spaces = map-set_same (λ b. b.merged_space) buffers c.loop-level.level own old
-          (ap (λ (b : Space g.row.T.Denot). b.merged_space) rest ∙ ap (λ (b : Space g.row.T.Denot). b.merged_space) value) ∙ i.merged_spaces;
-      promoted_spaces = map-set_same (λ b. b.promoted_space) buffers c.loop-level.level own old
-          (ap (λ (b : Space g.row.T.Denot). b.promoted_space) rest ∙ ap (λ (b : Space g.row.T.Denot). b.promoted_space) value) ∙ i.promoted_spaces;
+      cloned = λ h l m. cloned-other g.T.Ord.cmp _ _ buffers c.loop-level.level own _ h (omega (arith, l)) (i.cloned h (omega (arith, l)) m);
+      merged_spaces = map-set_same (λ b. b.merged_space) buffers c.loop-level.level own old same ∙ i.merged_spaces;
+      empty = c.trade-in-loop-level.ensures.empty;
+      promoted = c.trade-in-loop-level.ensures.capacity ∙ (ap traded c.join.ensures.rest ∙ (ap traded c.trade.ensures.own ∙ i.promoted));
     }
 
 pub returns-clause-joined : goal.returns-clause-joined

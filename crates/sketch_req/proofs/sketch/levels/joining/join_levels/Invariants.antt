@@ -1,5 +1,5 @@
-use Rattle.std.proofs.Common.{◌≡◌, ℕ, ◌<◌, ◌≤◌, length, max, vec_capacity}
-use Rattle.sketch_req.specs.Buffers.{merged_spaces, promoted_spaces}
+use Rattle.std.proofs.Common.{◌≡◌, ℕ, ◌<◌, ◌≤◌, [], length, max, vec_capacity}
+use Rattle.sketch_req.specs.Buffers.{merged_spaces}
 use Rattle.sketch_req.specs.Walk.{accuracy_of, k_of}
 use Rattle.sketch_req.proofs.ClonedBuffers.{HasClones}
 use Rattle.sketch_req.proofs.MergedLevels.{AreJoinedTo}
@@ -12,7 +12,8 @@ invariant-loop-level g l =
       joined : AreJoinedTo g.T.Ord.cmp (k_of ls) (accuracy_of ls) l.level ls l.others l.levels.items;
       spare : max (length ls) (length l.others) < vec_capacity l.levels;
       enough : length l.others ≤ length l.buffers.items;
-      cloned : (h : ℕ) → l.level ≤ h → h < length l.others → HasClones g.T.Ord.cmp ls l.others l.buffers.items h;
+      cloned : (h : ℕ) → l.level ≤ h → h < length l.others → HasClones g.T.Ord.cmp ls l.others l.buffers.items (vec_capacity l.initial.promoted) h;
       merged_spaces : merged_spaces l.buffers.items ≡ merged_spaces l.initial.buffers.items;
-      promoted_spaces : promoted_spaces l.buffers.items ≡ promoted_spaces l.initial.buffers.items;
+      empty : l.promoted.items ≡ [];
+      promoted : vec_capacity l.promoted ≡ vec_capacity l.initial.promoted;
     }

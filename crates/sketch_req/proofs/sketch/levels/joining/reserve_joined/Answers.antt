@@ -1,11 +1,12 @@
 -- The loop keeps a bound of what comes into the next level, and that there is room for the turns so far.
 use Rattle.std.proofs.lemmas.Grind.{common_steps}
-use Rattle.std.proofs.Common.{◌≡◌, ◌+◌, ◌<◌, ◌≤◌, ap, ℕ, List, length, length-set, arith}
+use Rattle.std.proofs.Common.{◌≡◌, ◌+◌, ◌/◌, ◌<◌, ◌≤◌, ap, nat_cmp, ℕ, List, length, length-set, arith}
+use Rattle.std.specs.Ordering.{ord_max}
 use Rattle.sketch_req.specs.Schedule.{Layout, layouts_of, layout_at, joined_layouts, steps_layouts}
 use Rattle.sketch_req.specs.Buffers.{Space}
 use Rattle.sketch_req.proofs.ReservedWalks.{count-within, bounded-start, bounded-more, bounded-space}
-use Rattle.sketch_req.proofs.Buffers.{space-more}
-use Rattle.sketch_req.proofs.ClonedBuffers.{cloned-more}
+use Rattle.sketch_req.proofs.Buffers.{space-grown, space-more}
+use Rattle.sketch_req.proofs.ClonedBuffers.{cloned-grown, cloned-more}
 use Rattle.sketch_req.proofs.MergedLevels.{joined-count}
 use Rattle.sketch_req.proofs.Layouts.{length-layouts}
 use Rattle.sketch_req.proofs.WalkCapacities.{length-joined}
@@ -13,7 +14,7 @@ use Rattle.sketch_req.proofs.sketch.levels.joining.reserve_joined.Goals as goal
 
 pub loop-level-init : goal.loop-level-init
 loop-level-init g c = record {
-  enough = let e = c.in_ok-add_buffers.ensures.enough in omega (arith, e, c.add_buffers.new.buffers.ok);
+  enough = omega (arith, c.in_ok-buffers.ensures, c.in_ok-buffers.buffers.ok);
   few = omega arith;
   bounded = λ k. bounded-start _ _;
   cloned = λ h l. absurd (omega (arith, l));
@@ -41,6 +42,10 @@ reserve-requires g c =
       );
     }
 
+-- the greater of two numbers
+at-most-greater : (greater m n : ℕ) → greater ≡ ord_max nat_cmp m n → (m ≤ greater) × (n ≤ greater)
+at-most-greater greater m n e = (grind (arith, common_steps), grind (arith, common_steps))
+
 pub loop-level-preserved : goal.loop-level-preserved
 loop-level-preserved g c =
     let i = c.loop-level.invariant in
@@ -54,14 +59,16 @@ loop-level-preserved g c =
     let f : (k : ℕ) → over ≡ (layout_at (joined_layouts k ls os) (at + 1)).count =
     λ k. omega (arith, joined-count k ls os (at + 1), c.count_at-in-loop-level-2.ensures, c.count_at-in-loop-level-3.ensures) in
     let own = c.clone_level.new.buffers in
-    let promoted : here ≤ own.promoted_space = omega (arith, c.in_ok-reserve.ensures.here, ap (λ (b : Space g.row.T.Denot). b.promoted_space) c.clone_level.ensures.rest) in
-    let merged : 0 < here → over + here ≤ own.merged_space = λ some. omega (arith, c.in_ok-reserve.ensures.above some, ap (λ (b : Space g.row.T.Denot). b.merged_space) c.clone_level.ensures.rest) in
+    let most = at-most-greater c.max-most.result c.loop-level.most here c.max-most.ensures in
+    let promoted : here ≤ c.max-most.result = most.1 in
+    let grows : c.loop-level.most ≤ c.max-most.result = most.0 in
+    let merged : 0 < here → over + here / 2 ≤ own.merged_space = λ some. omega (arith, c.in_ok-reserve.ensures.above some, ap (λ (b : Space g.row.T.Denot). b.merged_space) c.clone_level.ensures.rest) in
     let inside : c.loop-level.level < length c.loop-level.buffers.items = omega (arith, i.enough, c.loop-level-test.true) in
     record {
       enough = simp length-set i.enough;
       few = omega (arith, i.few, c.requires.few, c.count_at.ensures, c.count_at-in-loop-level.ensures, count-within c.loop-level.level ls, count-within c.loop-level.level os);
       bounded = λ k. bounded-more _ at c.loop-level.carried here (joined_layouts k ls os) (e k) (i.bounded k);
-      cloned = cloned-more g.T.Ord.cmp _ _ c.loop-level.buffers.items at own inside i.cloned
+      cloned = cloned-more g.T.Ord.cmp _ _ c.loop-level.buffers.items at own _ _ inside grows i.cloned
           (λ there. record {
             same = c.in_ok-clone_level.ensures.same there;
             space =
@@ -69,7 +76,7 @@ loop-level-preserved g c =
             promoted =
                 omega (arith, promoted, c.count_at.ensures, c.count_at-in-loop-level.ensures);
           });
-      fits = λ k. space-more _ at (λ h. steps_layouts k h 0 (joined_layouts k ls os)) c.loop-level.buffers.items own inside (i.fits k)
+      fits = λ k. space-more _ at (λ h. steps_layouts k h 0 (joined_layouts k ls os)) c.loop-level.buffers.items own _ _ inside grows (i.fits k)
           (bounded-space _ at c.loop-level.carried here over _ _ (joined_layouts k ls os) (e k) (f k) (i.bounded k) promoted merged);
     }
 
@@ -78,7 +85,7 @@ returns-clause-cloned g c =
     let i = c.loop-level.invariant in
     record {
       enough = omega (arith, c.max-count.ensures, i.enough);
-      cloned = λ h l. i.cloned h (omega (arith, l, c.max-count.ensures)) l;
+      cloned = λ h l. cloned-grown g.T.Ord.cmp _ _ c.loop-level.buffers.items _ _ h c.in_ok-with_capacity.ensures.capacity (i.cloned h (omega (arith, l, c.max-count.ensures)) l);
     }
 
 pub returns-clause-fit : goal.returns-clause-fit
@@ -88,7 +95,7 @@ returns-clause-fit g c = λ k.
     let b = length-joined k (layouts_of c.args.levels.now) (layouts_of c.args.others.now) in
     record {
       enough = omega (arith, n, m, b, c.max-count.ensures, c.loop-level.invariant.enough);
-      fits = λ h l. c.loop-level.invariant.fits k h (omega (arith, l, n, m, b, c.max-count.ensures));
+      fits = λ h l. space-grown k h _ c.loop-level.buffers.items _ _ c.in_ok-with_capacity.ensures.capacity (c.loop-level.invariant.fits k h (omega (arith, l, n, m, b, c.max-count.ensures)));
     }
 
 pub overflow_add-here : goal.overflow_add-here

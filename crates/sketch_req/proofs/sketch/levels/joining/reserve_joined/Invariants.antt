@@ -12,6 +12,6 @@ invariant-loop-level g l =
       enough : l.count ≤ length l.buffers.items;
       few : l.carried < 2 ^ 32;
       bounded : (k : ℕ) → IsBounded k l.level l.carried (both k);
-      cloned : (h : ℕ) → h < l.level → h < length l.others → HasClones g.T.Ord.cmp l.levels l.others l.buffers.items h;
-      fits : (k h : ℕ) → h < l.level → SpaceAt k h (steps_layouts k h 0 (both k)) l.buffers.items;
+      cloned : (h : ℕ) → h < l.level → h < length l.others → HasClones g.T.Ord.cmp l.levels l.others l.buffers.items l.most h;
+      fits : (k h : ℕ) → h < l.level → SpaceAt k h (steps_layouts k h 0 (both k)) l.buffers.items l.most;
     }

@@ -3,14 +3,14 @@ use Rattle.std.proofs.Common.{◌+◌, ◌<◌, List, length, length-set, arith}
 use Rattle.sketch_req.specs.Schedule.{Layout, layouts_of, steps_layouts}
 use Rattle.sketch_req.specs.Walk.{k_of, with_more}
 use Rattle.sketch_req.proofs.ReservedWalks.{planned-start, planned-more, planned-few, planned-carried, planned-space, length-more}
-use Rattle.sketch_req.proofs.Buffers.{space-more}
+use Rattle.sketch_req.proofs.Buffers.{space-grown, space-more}
 use Rattle.sketch_req.proofs.Layouts.{length-layouts}
 use Rattle.sketch_req.proofs.WalkSteps.{taken-there}
 use Rattle.sketch_req.proofs.sketch.levels.walk.reserve_next.Goals as goal
 
 pub loop-level-init : goal.loop-level-init
 loop-level-init g c = record {
-  enough = simp length-set (let e = c.in_ok-add_buffers.ensures.enough in omega (arith, e, c.add_buffers.new.buffers.ok));
+  enough = simp length-set (omega (arith, c.in_ok-buffers.ensures, c.in_ok-buffers.buffers.ok));
   planned = planned-start (k_of c.args.levels.now) 1 (layouts_of c.args.levels.now);
   fits = λ h l. absurd (omega (arith, l));
 }
@@ -35,8 +35,8 @@ loop-level-preserved g c =
     record {
       enough = simp length-set i.enough;
       planned = planned-more _ _ _ _ _ _ e i.planned;
-      fits = space-more _ _ (λ h. steps_layouts (k_of c.args.levels.now) h 0 start) c.loop-level.buffers.items c.reserve.new.self inside i.fits
-          (planned-space _ _ _ _ _ _ _ _ e i.planned c.in_ok-reserve.ensures.here
+      fits = space-more _ _ (λ h. steps_layouts (k_of c.args.levels.now) h 0 start) c.loop-level.buffers.items c.reserve.new.self _ _ inside (omega (arith, c.max-most.ensures)) i.fits
+          (planned-space _ _ _ _ _ _ _ _ e i.planned (omega (arith, c.max-most.ensures))
           (λ some. omega (arith, c.in_ok-reserve.ensures.above some, c.count_at-above.ensures)));
     }
 
@@ -45,8 +45,9 @@ returns g c =
     let n = length-layouts c.args.levels.now in
     let m = length-more 1 (layouts_of c.args.levels.now) (omega (arith, n, c.requires.levels.some)) in
     record {
+      empty = c.in_ok-with_capacity.ensures.items;
       fit = record {
         enough = omega (arith, n, m, c.loop-level.invariant.enough);
-        fits = λ h l. c.loop-level.invariant.fits h (omega (arith, l, n, m));
+        fits = λ h l. space-grown _ h _ c.loop-level.buffers.items _ _ c.in_ok-with_capacity.ensures.capacity (c.loop-level.invariant.fits h (omega (arith, l, n, m)));
       };
     }

@@ -1,5 +1,5 @@
-use Rattle.std.proofs.Common.{◌≡◌, ℕ, ◌<◌, ◌≤◌, length, get_or, vec_len, vec_capacity}
-use Rattle.sketch_req.specs.Buffers.{merged_spaces, promoted_spaces}
+use Rattle.std.proofs.Common.{◌≡◌, ℕ, ◌<◌, ◌≤◌, [], length, get_or, vec_len, vec_capacity}
+use Rattle.sketch_req.specs.Buffers.{merged_spaces}
 use Rattle.sketch_req.specs.Schedule.{layouts_of, steps_actions, steps_layouts}
 use Rattle.sketch_req.specs.Walk.{AreWalked, accuracy_of, k_of}
 use Rattle.sketch_req.proofs.sketch.levels.walk.walk.Given as goal
@@ -15,5 +15,6 @@ invariant-loop-level g l =
       spare : l.count < vec_capacity l.levels;
       as_many : length l.buffers.items ≡ length l.initial.buffers.items;
       merged : (j : ℕ) → l.level ≤ j → get_or (merged_spaces l.buffers.items) j 0 ≡ get_or (merged_spaces l.initial.buffers.items) j 0;
-      promoted : (j : ℕ) → l.level ≤ j → get_or (promoted_spaces l.buffers.items) j 0 ≡ get_or (promoted_spaces l.initial.buffers.items) j 0;
+      empty : l.promoted.items ≡ [];
+      promoted : vec_capacity l.promoted ≡ vec_capacity l.initial.promoted;
     }

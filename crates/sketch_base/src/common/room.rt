@@ -1,0 +1,44 @@
+//! How much room a vector keeps that lives long.
+ghost use Rattle.std.specs.Prelude.{◌≡◌, ◌+◌, ◌/◌, ◌<◌, ◌≤◌, max, vec_len, vec_capacity, OnOk};
+
+use std::alloc::AllocError;
+
+/// Makes room for one more item. A full vector grows by a quarter, or up to `most` items if that is
+/// less: a sketch lives long, and soon grows no more.
+#[inline(always)]
+pub fn reserve_next<T: Drop>(items: &mut Vec<T>, most: usize) -> Result<(), AllocError>
+    ensures items { items.new.items ≡ items.old.items }
+    ensures len { vec_len items.new ≡ vec_len items.old }
+    ensures ok { OnOk result (vec_len items.new < vec_capacity items.new) }
+    ensures capacity { vec_capacity items.old ≤ vec_capacity items.new }
+    ensures lean { OnOk result (vec_capacity items.new
+        ≤ max (vec_capacity items.old) (vec_len items.old + (vec_len items.old / 4 + 4))) }
+{
+    if items.len() < items.capacity() {
+        return Ok(());
+    }
+    grow(items, most)
+}
+
+/// Makes room for a quarter more items, or up to `most` items if that is less, and for one at least.
+/// It is out of line, so that an update which finds room stays short.
+#[inline(never)]
+fn grow<T: Drop>(items: &mut Vec<T>, most: usize) -> Result<(), AllocError>
+    ensures items { items.new.items ≡ items.old.items }
+    ensures len { vec_len items.new ≡ vec_len items.old }
+    ensures ok { OnOk result (vec_len items.new < vec_capacity items.new) }
+    ensures capacity { vec_capacity items.old ≤ vec_capacity items.new }
+    ensures lean { OnOk result (vec_capacity items.new
+        ≤ max (vec_capacity items.old) (vec_len items.old + (vec_len items.old / 4 + 4))) }
+{
+    let len = items.len();
+    let left = most.saturating_sub(len).max(1);
+    items.reserve_exact((len / 4 + 4).min(left))
+}
+
+/// Gives back room for more than an eighth more items.
+pub fn give_back<T>(items: &mut Vec<T>)
+    ensures { items.new.items ≡ items.old.items }
+{
+    items.shrink_to(items.len() + items.len() / 8);
+}
