@@ -117,6 +117,24 @@ pub fn clone_if_greatest<T: Clone + Ord>(
     clone_if(is_new_greatest(item, greatest), item)
 }
 
+/// Clones of the least and the greatest of some items, of each that passes the extreme so far.
+pub fn clone_passing_extremes<T: Clone + Ord>(
+    items: &[T],
+    least: &Option<T>,
+    greatest: &Option<T>,
+) -> Result<(Option<T>, Option<T>), AllocError>
+    requires clones { (x y : T) → T.is_clone x y → T.cmp x y ≡ Equal }
+    requires some { 0 < length items.now }
+    ensures least { IfOk result (λ new. IsLeastOf T.cmp
+        (option_to_list least.now ++ items.now) (newer_or new.0 least.now)) }
+    ensures greatest { IfOk result (λ new. IsGreatestOf T.cmp
+        (option_to_list greatest.now ++ items.now) (newer_or new.1 greatest.now)) }
+{
+    let new_least = clone_if_least(least_of(items), least)?;
+    let new_greatest = clone_if_greatest(greatest_of(items), greatest)?;
+    Ok((new_least, new_greatest))
+}
+
 /// The clone of another stream's least item, where it is below the least item so far.
 pub fn clone_if_lesser<T: Clone + Ord>(
     other: &Option<T>,

@@ -1,5 +1,5 @@
-use Rattle.sketch_kll.proofs.ItemsBetween.{least_with_all, greatest_with_all}
-use Rattle.sketch_kll.proofs.levels.taking.clone_passing_extremes.Goals as goal
+use Rattle.sketch_base.proofs.Extremes.{least_with_all, greatest_with_all}
+use Rattle.sketch_base.proofs.common.extremes.clone_passing_extremes.Goals as goal
 
 pub returns-clause-least : goal.returns-clause-least
 returns-clause-least g c = least_with_all g.met.T.Ord.total _ c.args.least.now _ c.args.items.now c.least_of.ensures c.in_ok-new_least.ensures
