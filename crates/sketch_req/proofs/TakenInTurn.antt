@@ -1,7 +1,6 @@
 -- Levels that take clones of items in, one after another.
-use Rattle.std.proofs.Common.{◌≡◌, ℕ, zero, suc, ◌+◌, ◌*◌, ◌^◌, ◌<◌, ◌≤◌, Bool, true, false, cond, nat_lt, ◌&&◌, ◌==◌, List, [], ◌∷◌, ◌++◌, length, get_or, set, take, refl, sym, ap, ◌∙◌, subst, arith, append-nil, append_assoc, length-append, inl, inr, Ordering, Equal}
+use Rattle.std.proofs.Common.{◌≡◌, ℕ, suc, ◌+◌, ◌<◌, ◌≤◌, Bool, false, nat_lt, ◌&&◌, ◌==◌, List, [], ◌∷◌, ◌++◌, length, get_or, set, take, refl, sym, ap, ◌∙◌, subst, arith, append-nil, append_assoc, length-append, inl, inr, Ordering, Equal}
 use Rattle.std.specs.Cmp.{IsTotalOrder}
-use Rattle.std.specs.List.{AllZip}
 use Rattle.std.proofs.lemmas.Bool.{le-ltb, lt-leb, ne_eqb, and_right}
 use Rattle.std.proofs.lemmas.List.Elements.{length_all_zip}
 use Rattle.std.proofs.lemmas.List.Sums.{sum_by-cons}
@@ -13,12 +12,10 @@ use Rattle.sketch_req.specs.Held.{IsHeld, held_of}
 use Rattle.sketch_req.specs.Level.{Level, appended}
 use Rattle.sketch_req.specs.Schedule.{Layout, layout_of, layouts_of, are_full, nominal_sum, retained_of, weight_of, update_actions, update_layouts, actions_if_full, layouts_if_full}
 use Rattle.sketch_req.specs.ScheduleLaws.{AreLayouts, updates_actions, updates_layouts}
-use Rattle.sketch_req.specs.Sections.{IsLegalK}
-use Rattle.sketch_req.specs.Updates.{AreLeft, AreTakenInTurn, HasClones, IsTakenFirst, appended_all, all_appended_first}
+use Rattle.sketch_req.specs.Updates.{AreLeft, AreTakenInTurn, HasClones, appended_all, all_appended_first}
 use Rattle.sketch_req.specs.Walk.{AreActed, AreLevels, AreWalkedIfFull, appended_first}
 use Rattle.sketch_req.specs.declared.RankAccuracy.{RankAccuracy}
 use Rattle.sketch_req.proofs.Held.{held-appended, own-levels}
-use Rattle.sketch_req.proofs.Layouts.{length-layouts}
 use Rattle.sketch_req.proofs.Sounds.{few-placed}
 use Rattle.sketch_req.proofs.Totals.{nominal-few}
 use Rattle.sketch_req.proofs.UpdatedLevels.{acted-put, acted-spare, layouts-appended, length-appended, nominal-appended, placed-appended, retained-appended}

@@ -1,14 +1,13 @@
 -- A sketch after updates by some items in turn: what copies of what they make of copies come to.
-use Rattle.std.proofs.Common.{◌≡◌, ℕ, zero, suc, ◌+◌, ◌-◌, ◌^◌, ◌<◌, ◌≤◌, Bool, true, false, List, [], ◌∷◌, ◌++◌, length, map, take, drop, drop-drop, Option, None, Some, refl, sym, ap, ap₂, ◌∙◌, subst, arith, append-nil, append_assoc, length-append, Ordering, Equal}
+use Rattle.std.proofs.Common.{◌≡◌, ℕ, zero, suc, ◌+◌, ◌^◌, ◌<◌, ◌≤◌, Bool, List, [], ◌∷◌, ◌++◌, length, take, drop, drop-drop, Option, None, Some, refl, sym, ap, ap₂, ◌∙◌, subst, arith, append-nil, append_assoc, Ordering, Equal}
 use Rattle.std.specs.Cmp.{IsTotalOrder}
 use Rattle.std.specs.List.{AllZip}
 use Rattle.std.specs.Option.{option_to_list}
 use Rattle.std.proofs.lemmas.Cmp.{tied_itself}
-use Rattle.sketch_base.specs.Bag.{Bag, AlikeReq, SameItems, empty_bag, sort}
+use Rattle.sketch_base.specs.Bag.{Bag, AlikeReq, SameItems, empty_bag}
 use Rattle.sketch_base.specs.Extremes.{IsLeastOf, IsGreatestOf}
 use Rattle.sketch_base.specs.Queries.{SameAnswer}
 use Rattle.sketch_base.specs.Random.{bits_from, after_draws}
-use Rattle.sketch_base.specs.Tied.{TiesAreEqual}
 use Rattle.sketch_base.specs.Trace.{Action, Put, Work, act, acts, alone, bag_after, draws, draws_of, next_bit}
 use Rattle.sketch_base.proofs.Alikes.{acts-req}
 use Rattle.sketch_base.proofs.AllParts.{all-same}
@@ -20,7 +19,7 @@ use Rattle.sketch_base.proofs.PlaysInParts.{in_turn-append}
 use Rattle.sketch_base.proofs.Sorting.{SameItems-sort}
 use Rattle.sketch_req.specs.Actions.{bag_of, coins_of}
 use Rattle.sketch_req.specs.Copy.{IsCopy, IsLevelCopy}
-use Rattle.sketch_req.specs.Level.{Level, IsLevel}
+use Rattle.sketch_req.specs.Level.{Level}
 use Rattle.sketch_req.specs.Schedule.{Layout, layouts_of, retained_of, put_layouts, actions_if_full, update_actions, update_layouts}
 use Rattle.sketch_req.specs.ScheduleLaws.{updates_actions, updates_layouts}
 use Rattle.sketch_req.specs.Sketch.{Req, IsSound, IsUpdated, coins_of_update, greatest_with, least_with, sketch_of, update_of}
