@@ -12,6 +12,7 @@ use Rattle.sketch_base.specs.Trace.{Action, Put, Work, act, acts, alone, bag_aft
 use Rattle.sketch_base.proofs.Alikes.{acts-req}
 use Rattle.sketch_base.proofs.AllParts.{all-same}
 use Rattle.sketch_base.proofs.CallsInTurn.{acts-enough, bits-take, bits-drop, draws-append}
+use Rattle.sketch_base.proofs.Entries.{SameAnswer-itself, SameAnswer-trans}
 use Rattle.sketch_base.proofs.Extremes.{least-on, greatest-on, least_itself, greatest_itself}
 use Rattle.sketch_base.proofs.Items.{SameItems-refl, SameItems-trans, SameItems-back, SameItems-append}
 use Rattle.sketch_base.proofs.OneExtreme.{one_least, one_greatest}
@@ -55,16 +56,6 @@ module _ {A : Type 0} {cmp : A → A → Ordering} (order : IsTotalOrder cmp) wh
   levels-copied (l ∷ ls) (m ∷ ms) [] c d = absurd d
   levels-copied ls ms ns c d = absurd c
 
-  answer-itself : (x : Option A) → SameAnswer cmp x x
-  answer-itself None = tt
-  answer-itself (Some x) = tied_itself order x
-
-  answers-copied : (x y z : Option A) → SameAnswer cmp x y → SameAnswer cmp y z → SameAnswer cmp x z
-  answers-copied None None z c d = d
-  answers-copied (Some x) (Some y) (Some z) c d = order.congr x y z c ∙ d
-  answers-copied (Some x) (Some y) None c d = absurd d
-  answers-copied x y z c d = absurd c
-
   -- a sketch is a copy of itself
   pub copy-itself : (s : Req A) → IsSound cmp s → IsCopy cmp s s
   copy-itself s sound = record {
@@ -72,8 +63,8 @@ module _ {A : Type 0} {cmp : A → A → Ordering} (order : IsTotalOrder cmp) wh
     accuracy = refl;
     n = refl;
     levels = levels-itself s.k s.accuracy 0 s.levels sound.placed;
-    least = answer-itself s.least;
-    greatest = answer-itself s.greatest;
+    least = SameAnswer-itself order s.least;
+    greatest = SameAnswer-itself order s.greatest;
   }
 
   -- a copy of a copy is a copy
@@ -83,8 +74,8 @@ module _ {A : Type 0} {cmp : A → A → Ordering} (order : IsTotalOrder cmp) wh
     accuracy = d.accuracy ∙ c.accuracy;
     n = d.n ∙ c.n;
     levels = levels-copied s.levels t.levels u.levels c.levels d.levels;
-    least = answers-copied s.least t.least u.least c.least d.least;
-    greatest = answers-copied s.greatest t.greatest u.greatest c.greatest d.greatest;
+    least = SameAnswer-trans order s.least t.least u.least c.least d.least;
+    greatest = SameAnswer-trans order s.greatest t.greatest u.greatest c.greatest d.greatest;
   }
 
   -- ---- updates of copies
@@ -258,8 +249,8 @@ module _ {A : Type 0} {cmp : A → A → Ordering} (order : IsTotalOrder cmp) wh
   whole s t (x ∷ xs) word d =
       let rest = whole d.after t xs (drop (coins_of_update s x) word) d.rest in
       let k = d.updated.k ∙ d.is_copy.k in
-      let low = least-same _ _ d.after.least d.after.least (with-clone s.least d.copy.least x d.clone d.is_copy.least d.is_clone) (answer-itself d.after.least) d.updated.least in
-      let high = greatest-same _ _ d.after.greatest d.after.greatest (with-clone s.greatest d.copy.greatest x d.clone d.is_copy.greatest d.is_clone) (answer-itself d.after.greatest) d.updated.greatest in
+      let low = least-same _ _ d.after.least d.after.least (with-clone s.least d.copy.least x d.clone d.is_copy.least d.is_clone) (SameAnswer-itself order d.after.least) d.updated.least in
+      let high = greatest-same _ _ d.after.greatest d.after.greatest (with-clone s.greatest d.copy.greatest x d.clone d.is_copy.greatest d.is_clone) (SameAnswer-itself order d.after.greatest) d.updated.greatest in
       record {
         k = rest.k ∙ k;
         accuracy = rest.accuracy ∙ (d.updated.accuracy ∙ d.is_copy.accuracy);
@@ -367,8 +358,8 @@ module _ {A : Type 0} {cmp : A → A → Ordering} (order : IsTotalOrder cmp) wh
     updates_sketch source after s copies ns xs least greatest sound fits few are_copies taken low high =
         let same = layouts-copied order s.levels copies are_copies in
         let copy : Req A = sketch_of s.k s.accuracy s.n copies s.least s.greatest in
-        let copy_sound = copied_sketch order s.k s.accuracy s.n s.levels copies s.least s.least s.greatest s.greatest sound are_copies (answer-itself s.least) (answer-itself s.greatest) in
-        let is_copy : IsCopy cmp s copy = record { k = refl; accuracy = refl; n = refl; levels = are_copies; least = answer-itself s.least; greatest = answer-itself s.greatest } in
+        let copy_sound = copied_sketch order s.k s.accuracy s.n s.levels copies s.least s.least s.greatest s.greatest sound are_copies (SameAnswer-itself order s.least) (SameAnswer-itself order s.greatest) in
+        let is_copy : IsCopy cmp s copy = record { k = refl; accuracy = refl; n = refl; levels = are_copies; least = SameAnswer-itself order s.least; greatest = SameAnswer-itself order s.greatest } in
         let few_copies : retained_of (layouts_of copies) < 4294967295 = omega (arith, few, ap retained_of same) in
         let m = is-made copy xs source after ns copy_sound fits few_copies taken in
         let made = whole copy m.made xs _ m.in_turn in

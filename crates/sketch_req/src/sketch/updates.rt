@@ -47,7 +47,7 @@ impl<T: Clone + Ord> ReqSketch<T> {
             return Err(Error::new(ErrorKind::InvalidArgument));
         }
         let (least, greatest) = clone_passing_extremes(items, &self.min_item, &self.max_item)?;
-        self.levels.take_all(items, &mut self.buffers, coins)?;
+        self.levels.take_all(items, coins)?;
         set_if_some(&mut self.min_item, least);
         set_if_some(&mut self.max_item, greatest);
         self.n += count;

@@ -8,7 +8,6 @@ ghost use Rattle.sketch_req.specs.ScheduleLaws.{updates_actions};
 ghost use Rattle.sketch_req.specs.Updates.{AreAllTaken, AreLeft, AreTakenInTurn, HaveClones, IsDrawnFrom};
 
 use super::Levels;
-use crate::merging::Buffers;
 use crate::sketch::copies::copy_levels;
 use sketch_base::common::random::RandomBits;
 use sketch_base::error::Error;
@@ -21,7 +20,6 @@ impl<T: Clone + Ord> Levels<T> {
     pub(crate) fn take_all<B: RandomBits>(
         &mut self,
         items: &[T],
-        buffers: &mut Vec<Buffers<T>>,
         coins: &mut B,
     ) -> Result<(), Error>
         requires clones { (x y : T) → T.is_clone x y → T.cmp x y ≡ Equal }
@@ -43,18 +41,13 @@ impl<T: Clone + Ord> Levels<T> {
         }
         let copies = copy_levels(&self.compactors)?;
         let mut copy = Levels::new(self.k, self.rank_accuracy, copies);
-        copy.take_in_turn(items, buffers, coins)?;
+        copy.take_in_turn(items, coins)?;
         mem::swap(self, &mut copy);
         Ok(())
     }
 
     /// Takes clones of items in, a part of them after another.
-    fn take_in_turn<B: RandomBits>(
-        &mut self,
-        items: &[T],
-        buffers: &mut Vec<Buffers<T>>,
-        coins: &mut B,
-    ) -> Result<(), Error>
+    fn take_in_turn<B: RandomBits>(&mut self, items: &[T], coins: &mut B) -> Result<(), Error>
         requires clones { (x y : T) → T.is_clone x y → T.cmp x y ≡ Equal }
         requires fits { weight_of (layouts_of self.old.levels) + length items.now < 2 ^ 64 }
         requires few { retained_of (layouts_of self.old.levels) < 4294967295 }
@@ -68,19 +61,14 @@ impl<T: Clone + Ord> Levels<T> {
     {
         let mut taken = 0;
         while taken < items.len() {
-            taken += self.take_some(&items[taken..], buffers, coins)?;
+            taken += self.take_some(&items[taken..], coins)?;
         }
         Ok(())
     }
 
     /// Takes clones of the first items in, and answers of how many: of as many as there is room for
     /// below the next walk, or of one with its walk.
-    fn take_some<B: RandomBits>(
-        &mut self,
-        items: &[T],
-        buffers: &mut Vec<Buffers<T>>,
-        coins: &mut B,
-    ) -> Result<usize, Error>
+    fn take_some<B: RandomBits>(&mut self, items: &[T], coins: &mut B) -> Result<usize, Error>
         requires clones { (x y : T) → T.is_clone x y → T.cmp x y ≡ Equal }
         requires some { 0 < length items.now }
         requires fits { weight_of (layouts_of self.old.levels) + length items.now < 2 ^ 64 }
@@ -99,7 +87,8 @@ impl<T: Clone + Ord> Levels<T> {
         let room = self.capacity.saturating_sub(self.num_retained + 1);
         if room == 0 {
             let item = items[0].clone()?;
-            self.take_item(item, buffers, coins)?;
+            let mut buffers = Vec::new(*self.compactors.allocator());
+            self.take_item(item, &mut buffers, coins)?;
             return Ok(1);
         }
         let count = room.min(items.len());

@@ -1,11 +1,9 @@
 -- The goals at the return are what updates by all items make of the fields.
-use Rattle.std.proofs.Common.{◌≡◌, ◌+◌, ◌^◌, ◌<◌, ◌++◌, Option, ap, arith, length, refl, rules, subst, sym}
+use Rattle.std.proofs.Common.{◌≡◌, ◌+◌, ◌++◌, ap, arith, length, rules, subst, sym}
 use Rattle.std.specs.Option.{option_to_list}
-use Rattle.std.proofs.lemmas.Bool.{not-true}
 use Rattle.sketch_base.specs.Extremes.{IsGreatestOf, IsLeastOf}
 use Rattle.sketch_base.specs.Random.{bits_from, after_draws}
 use Rattle.sketch_req.specs.Held.{Held}
-use Rattle.sketch_req.specs.Schedule.{layouts_of, retained_of}
 use Rattle.sketch_req.specs.Sketch.{Req, IsSound, sketch_of}
 use Rattle.sketch_req.specs.Updates.{AreUpdated, coins_of_updates}
 use Rattle.sketch_req.proofs.UpdatedLevels.{not-full}

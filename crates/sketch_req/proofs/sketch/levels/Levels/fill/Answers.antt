@@ -1,8 +1,6 @@
 -- Level 0 takes all clones at once.
-use Rattle.std.proofs.Common.{◌≡◌, ◌<◌, ◌+◌, ◌∙◌, Equal, ap, arith, length, set, subst, sym}
+use Rattle.std.proofs.Common.{◌≡◌, ◌<◌, ◌+◌, Equal, arith, length, set}
 use Rattle.std.proofs.lemmas.List.Elements.{length_all_zip}
-use Rattle.sketch_req.specs.Held.{Held, IsHeld, held_of}
-use Rattle.sketch_req.specs.Level.{Level}
 use Rattle.sketch_req.specs.Schedule.{layouts_of, nominal_sum, retained_of}
 use Rattle.sketch_req.specs.Updates.{all_appended_first}
 use Rattle.sketch_req.proofs.TakenInTurn.{first-few, first-filled, held-filled, nominal-small}

@@ -1,10 +1,10 @@
 -- The levels themselves take the items at once, or a copy takes them in turn.
-use Rattle.std.proofs.Common.{◌≡◌, ◌<◌, ◌+◌, ◌∙◌, ℕ, arith, length, ap, rules, sym}
+use Rattle.std.proofs.Common.{◌≡◌, ◌∙◌, arith, ap, rules}
 use Rattle.std.proofs.lemmas.List.Elements.{length_all_zip}
 use Rattle.sketch_base.specs.Trace.{draws_of}
 use Rattle.sketch_req.specs.Copy.{IsLevelCopy}
 use Rattle.sketch_req.specs.Held.{Held}
-use Rattle.sketch_req.specs.Schedule.{Layout, layouts_of, retained_of, weight_of}
+use Rattle.sketch_req.specs.Schedule.{layouts_of, retained_of, weight_of}
 use Rattle.sketch_req.specs.ScheduleLaws.{updates_actions}
 use Rattle.sketch_req.specs.Updates.{IsDrawnFrom}
 use Rattle.sketch_req.proofs.Copies.{layouts-copied, placed-copied}

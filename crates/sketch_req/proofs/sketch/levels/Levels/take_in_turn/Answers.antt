@@ -1,11 +1,11 @@
 -- The loop takes one part of the items after another.
-use Rattle.std.proofs.Common.{◌≡◌, ◌≤◌, ◌<◌, ◌+◌, ◌++◌, ◌∙◌, List, ℕ, arith, length, take, drop, ap, subst, rules, take-add, take_all, length-drop, ◌-◌}
+use Rattle.std.proofs.Common.{◌≡◌, ◌≤◌, ◌∙◌, List, ℕ, arith, length, take, drop, ap, subst, rules, take-add, take_all, length-drop, ◌-◌}
 use Rattle.std.proofs.lemmas.List.{take-append-drop}
 use Rattle.sketch_base.specs.Trace.{draws_of}
 use Rattle.sketch_req.specs.Held.{Held}
 use Rattle.sketch_req.specs.Schedule.{layouts_of}
 use Rattle.sketch_req.specs.ScheduleLaws.{updates_actions}
-use Rattle.sketch_req.specs.Updates.{AreLeft, AreTakenInTurn, IsDrawnFrom}
+use Rattle.sketch_req.specs.Updates.{IsDrawnFrom}
 use Rattle.sketch_req.proofs.TakenInTurn.{draws-few, left-append, taken-append}
 use Rattle.sketch_req.proofs.sketch.levels.Levels.take_in_turn.Goals as goal
 

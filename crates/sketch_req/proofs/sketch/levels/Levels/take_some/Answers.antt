@@ -1,7 +1,6 @@
 -- A part of the items, or one of them with its walk.
-use Rattle.std.proofs.Common.{◌≡◌, ◌<◌, ◌+◌, Equal, arith, length, take, ap, rules}
+use Rattle.std.proofs.Common.{◌≡◌, Equal, arith, take}
 use Rattle.std.proofs.lemmas.List.{length-take}
-use Rattle.sketch_req.specs.Schedule.{layouts_of, nominal_sum, retained_of}
 use Rattle.sketch_req.specs.Updates.{AreTakenInTurn}
 use Rattle.sketch_req.proofs.TakenInTurn.{are-kept, first-item, taken-filled, taken-one}
 use Rattle.sketch_req.proofs.sketch.levels.Levels.take_some.Goals.{In_ok-fill, In_ok-take_item}
