@@ -3,12 +3,10 @@ use Rattle.std.proofs.Common.{◌≡◌, ℕ, ◌+◌, ◌^◌, ◌<◌, Bool, t
 use Rattle.std.specs.Option.{option_to_list}
 use Rattle.std.specs.Cmp.{IsTotalOrder}
 use Rattle.std.proofs.lemmas.Bool.{and_right, ne_eqb}
-use Rattle.std.proofs.lemmas.Cmp.{upto}
 use Rattle.sketch_base.specs.Bag.{Bag, AlikeKll}
-use Rattle.sketch_base.specs.Extremes.{IsExtremeOf, IsAtMost, TiesWithOne}
 use Rattle.sketch_base.specs.Random.{bits_from, after_draws}
 use Rattle.sketch_base.specs.Trace.{Action, Work, act, alone, bag_after, draws, draws_of}
-use Rattle.sketch_base.proofs.AllParts.{all-append, all-map}
+use Rattle.sketch_base.proofs.Extremes.{least-on, greatest-on}
 use Rattle.sketch_base.proofs.Fixed.{lengths-acts}
 use Rattle.sketch_base.proofs.Items.{SameItems-refl}
 use Rattle.sketch_base.proofs.PlaysInParts.{in_turn-append}
@@ -63,26 +61,6 @@ module _ {A : Type 0} {cmp : A → A → Ordering} (o : IsTotalOrder cmp) where
         source_is = made.source_is ∙ ap (after_draws next source) coins;
       })
 
-  -- the extreme of items' extreme and more items is that of all of them
-  extreme_on : (Bounds : A → A → Type 0) → ((x y z : A) → Bounds x y → Bounds y z → Bounds x z) → (xs ys : List A) (l n : Option A) → IsExtremeOf cmp Bounds xs l →
-      IsExtremeOf cmp Bounds (option_to_list l ++ ys) n → IsExtremeOf cmp Bounds (xs ++ ys) n
-  extreme_on Bounds trans xs ys None n f e = subst (λ (zs : List A). IsExtremeOf cmp Bounds (zs ++ ys) n) (sym f) e
-  extreme_on Bounds trans xs ys (Some y) None f e = cc
-  extreme_on Bounds trans xs ys (Some y) (Some x) f e = record {
-    ties = tie xs f.ties e.ties;
-    bounds = all-append (Bounds x) xs ys (all-map (Bounds y) (Bounds x) (λ z b. trans x y z e.bounds.0 b) xs f.bounds) e.bounds.1;
-  }
-    where
-      right : (zs : List A) → TiesWithOne cmp ys x → TiesWithOne cmp (zs ++ ys) x
-      right [] t = t
-      right (z ∷ zs) t = inr (right zs t)
-
-      tie : (zs : List A) → TiesWithOne cmp zs y → (cmp x y ≡ Equal) ⊎ TiesWithOne cmp ys x → TiesWithOne cmp (zs ++ ys) x
-      tie [] t e = absurd t
-      tie (z ∷ zs) (inl t) (inl e) = inl (o.congr x y z e ∙ t)
-      tie (z ∷ zs) (inr t) (inl e) = inr (tie zs t (inl e))
-      tie zs t (inr e) = right zs e
-
   -- updates by some items and then by more are updates by all
   pub updates_go_on : UpdatesGoOn cmp
   updates_go_on s t u items more word some a b =
@@ -106,9 +84,9 @@ module _ {A : Type 0} {cmp : A → A → Ordering} (o : IsTotalOrder cmp) where
         bag = rw (updates-append s.k lengths items more)
             (subst (λ (w : Work (Bag A)). AlikeKll cmp w.bag (bag_of u)) (sym (in_turn-append draws (act cmp) first (updates_actions s.k later more) word (alone (bag_of s)))) both);
         least = rw (← append_assoc (option_to_list s.least) items more)
-            (extreme_on (λ x y. IsAtMost cmp x y) (λ x y z. upto o x y z) (option_to_list s.least ++ items) more t.least u.least a.least b.least);
+            (least-on o (option_to_list s.least ++ items) more t.least u.least a.least b.least);
         greatest = rw (← append_assoc (option_to_list s.greatest) items more)
-            (extreme_on (λ x y. IsAtMost cmp y x) (λ x y z b c. upto o z y x c b) (option_to_list s.greatest ++ items) more t.greatest u.greatest a.greatest b.greatest);
+            (greatest-on o (option_to_list s.greatest ++ items) more t.greatest u.greatest a.greatest b.greatest);
       }
     where
       flags : (f : Bool) (items : List A) → ((f && eqb (length items) 0) && eqb (length more) 0) ≡ (f && eqb (length (items ++ more)) 0)

@@ -1,5 +1,5 @@
 -- What a call makes of a sketch under one word is one sketch, where items that compare equal are equal.
-use Rattle.std.proofs.Common.{◌≡◌, ℕ, zero, suc, ◌<◌, Bool, true, false, List, [], ◌∷◌, ◌++◌, length, get_or, refl, sym, ap, ◌∙◌, subst, arith, inl, inr, Ordering}
+use Rattle.std.proofs.Common.{◌≡◌, ℕ, zero, suc, ◌<◌, Bool, true, false, List, [], ◌∷◌, ◌++◌, length, drop, get_or, refl, sym, ap, ap₂, ◌∙◌, subst, arith, inl, inr, Ordering}
 use Rattle.std.specs.Cmp.{IsTotalOrder}
 use Rattle.std.specs.List.{AllZip}
 use Rattle.std.specs.Option.{option_to_list}
@@ -12,12 +12,14 @@ use Rattle.sketch_base.proofs.Items.{SameItems-refl}
 use Rattle.sketch_base.proofs.OneExtreme.{one_least, one_greatest}
 use Rattle.sketch_base.proofs.Tied.{same-items, same-sorted, same-answers}
 use Rattle.sketch_req.specs.Actions.{bag_of}
+use Rattle.sketch_req.specs.Copy.{IsCopy, IsLevelCopy}
 use Rattle.sketch_req.specs.Level.{Level, IsMerged as IsLevelMerged}
 use Rattle.sketch_req.specs.Merged.{IsMergedBy, item_lists, merge_by, redrawn_if}
 use Rattle.sketch_req.specs.Moved.{AreMoved, AreMergedIn, is_moved}
 use Rattle.sketch_req.specs.Schedule.{Layout, layout_of, layouts_of, layout_at}
 use Rattle.sketch_req.specs.Stored.{level_of}
-use Rattle.sketch_req.specs.Sketch.{Req, IsSound, IsUpdated, update_of, sketch_of}
+use Rattle.sketch_req.specs.Sketch.{Req, IsSound, IsUpdated, coins_of_update, update_of, sketch_of}
+use Rattle.sketch_req.specs.Updates.{AreUpdated, AreUpdatedInTurn}
 use Rattle.sketch_req.specs.Walk.{IsPlaced, AreLevels, appended_first}
 use Rattle.sketch_req.specs.declared.RankAccuracy.{RankAccuracy}
 use Rattle.sketch_req.proofs.Bags.{alike-sym, alike-trans}
@@ -117,6 +119,31 @@ module _ {A : Type 0} {cmp : A → A → Ordering} (order : IsTotalOrder cmp) (t
       (placed-as s.k s.accuracy t a p.k p.accuracy) (placed-as s.k s.accuracy u b q.k q.accuracy))
       (same-answers order tied t.least u.least (one_least order ends ends t.least u.least (SameItems-refl cmp order ends) p.least q.least))
       (same-answers order tied t.greatest u.greatest (one_greatest order tops tops t.greatest u.greatest (SameItems-refl cmp order tops) p.greatest q.greatest))
+
+  -- a copy is the sketch itself
+  levels-same : (ls ms : List (Level A)) → AllZip (IsLevelCopy cmp) ls ms → ms ≡ ls
+  levels-same [] [] c = refl
+  levels-same (l ∷ ls) (m ∷ ms) c =
+      let items : m.items ≡ l.items = sym (same-items order tied l.items m.items c.0.items) in
+      ap₂ (λ (x : Level A) (xs : List (Level A)). x ∷ xs) (c.0.rest ∙ ap (λ (is : List A). record l { items = is }) items) (levels-same ls ms c.1)
+  levels-same ls ms c = absurd c
+
+  copy-same : (s t : Req A) → IsCopy cmp s t → t ≡ s
+  copy-same s t c =
+      same-sketch t s c.k c.accuracy c.n (levels-same s.levels t.levels c.levels) (sym (same-answers order tied s.least t.least c.least)) (sym (same-answers order tied s.greatest t.greatest c.greatest))
+
+  -- one sketch comes of one update after another
+  one-in-turn : (s : Req A) (xs : List A) (word : List Bool) (t u : Req A) → AreUpdatedInTurn cmp s xs word t → AreUpdatedInTurn cmp s xs word u → t ≡ u
+  one-in-turn s [] word t u p q = copy-same s t p ∙ sym (copy-same s u q)
+  one-in-turn s (x ∷ xs) word t u p q =
+      let first = rw (copy-same s p.copy p.is_copy, sym (tied x p.clone p.is_clone)) at p.updated in
+      let other = rw (copy-same s q.copy q.is_copy, sym (tied x q.clone q.is_clone)) at q.updated in
+      let same : q.after ≡ p.after = one-update s x word q.after p.after q.sound p.sound other first in
+      one-in-turn p.after xs (drop (coins_of_update s x) word) t u p.rest (subst (λ (m : Req A). AreUpdatedInTurn cmp m xs (drop (coins_of_update s x) word) u) same q.rest)
+
+  -- one sketch comes of updates by a list
+  pub one-list : (s : Req A) (items : List A) (word : List Bool) (t u : Req A) → AreUpdated cmp s items word t → AreUpdated cmp s items word u → t ≡ u
+  one-list s items word t u p q = one-in-turn s items word t u p.in_turn q.in_turn
 
   -- one sketch comes of a merge
   pub one-merge : (redraws : Bool) (s other : Req A) (word : List Bool) (t u : Req A) → IsSound cmp t → IsSound cmp u → IsMergedBy cmp redraws s other word t →

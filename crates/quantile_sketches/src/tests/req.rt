@@ -125,12 +125,14 @@ fn each_type_of_item_is_spelled(rt: HostRuntime) -> Result<(), Fail> {
     Ok(())
 }
 
-/// A sketch of k 4 that took 1 to 24 under a false coin.
+const NUMBERS: [i32; 24] = [
+    1, 2, 3, 4, 5, 6, 7, 8, 9, 10, 11, 12, 13, 14, 15, 16, 17, 18, 19, 20, 21, 22, 23, 24,
+];
+
+/// A sketch of k 4 that took 1 to 24 at once, under a false coin.
 fn filled(alloc: Global) -> Result<ReqSketch<i32>, Error> {
     let mut sketch = ReqSketch::new(alloc, 4, RankAccuracy::HighRank)?;
-    for number in 1..25i32 {
-        sketch.update(number, &mut WordBits::new(&[]))?;
-    }
+    sketch.update_all(&NUMBERS, &mut WordBits::new(&[]))?;
     Ok(sketch)
 }
 

@@ -5,7 +5,7 @@ ghost use Rattle.std.specs.List.{AllByRecursion};
 ghost use Rattle.std.specs.Option.{option_to_list};
 ghost use Rattle.std.specs.Ordering.{is_gt, is_lt};
 ghost use Rattle.std.specs.declared.cmp.Ordering.TheVariants.{Equal};
-ghost use Rattle.sketch_base.specs.Extremes.{IsAtMost, IsBetween, IsExtreme, IsGreatestOf, IsLeastOf, Ties, greatest_with, is_new, least_with, newer_or};
+ghost use Rattle.sketch_base.specs.Extremes.{IsAtMost, IsBetween, IsExtreme, IsFrom, IsGreatestOf, IsLeastOf, IsUpTo, Ties, greatest_with, is_new, least_with, newer_or};
 ghost use Rattle.sketch_base.specs.Queries.{SameAnswer};
 
 use std::alloc::AllocError;
@@ -115,6 +115,38 @@ pub fn clone_if_greatest<T: Clone + Ord>(
         Ties T.cmp (greatest_with T.cmp item.now greatest.now) (newer_or new greatest.now)) }
 {
     clone_if(is_new_greatest(item, greatest), item)
+}
+
+/// Whether no item passes an extreme so far.
+fn are_within<T: Ord>(items: &[T], least: &Option<T>, greatest: &Option<T>) -> bool
+    ensures least { IsTrue result → AllByRecursion (IsFrom T.cmp least.now) items.now }
+    ensures greatest { IsTrue result → AllByRecursion (IsUpTo T.cmp greatest.now) items.now }
+{
+    match (least, greatest) {
+        (Some(least), Some(greatest)) => are_between(items, least, greatest),
+        _ => false,
+    }
+}
+
+/// Clones of the least and the greatest of some items, of each that passes the extreme so far.
+pub fn clone_passing_extremes<T: Clone + Ord>(
+    items: &[T],
+    least: &Option<T>,
+    greatest: &Option<T>,
+) -> Result<(Option<T>, Option<T>), AllocError>
+    requires clones { (x y : T) → T.is_clone x y → T.cmp x y ≡ Equal }
+    requires some { 0 < length items.now }
+    ensures least { IfOk result (λ new. IsLeastOf T.cmp
+        (option_to_list least.now ++ items.now) (newer_or new.0 least.now)) }
+    ensures greatest { IfOk result (λ new. IsGreatestOf T.cmp
+        (option_to_list greatest.now ++ items.now) (newer_or new.1 greatest.now)) }
+{
+    if are_within(items, least, greatest) {
+        return Ok((None, None));
+    }
+    let new_least = clone_if_least(least_of(items), least)?;
+    let new_greatest = clone_if_greatest(greatest_of(items), greatest)?;
+    Ok((new_least, new_greatest))
 }
 
 /// The clone of another stream's least item, where it is below the least item so far.

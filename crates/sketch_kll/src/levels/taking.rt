@@ -13,9 +13,7 @@ ghost use Rattle.sketch_kll.specs.Take.{AreKept, HaveTaken, left_over};
 
 use super::{Levels, MAX_BOUNDS};
 use crate::capacity::{MAX_LEVELS, MINIMUM_CAPACITY, total_capacity};
-use sketch_base::common::extremes::{
-    are_between, clone_if_greatest, clone_if_least, greatest_of, least_of,
-};
+use sketch_base::common::extremes::clone_passing_extremes;
 use sketch_base::common::merging::move_back;
 use sketch_base::common::random::RandomBits;
 use std::alloc::AllocError;
@@ -140,36 +138,4 @@ fn reserve_taken<T: Drop>(
 {
     items.reserve_exact(count.min(most.saturating_sub(items.len())))?;
     bounds.reserve_exact(MAX_BOUNDS - bounds.len())
-}
-
-/// Whether no item passes an extreme so far.
-fn are_within<T: Ord>(items: &[T], least: &Option<T>, greatest: &Option<T>) -> bool
-    ensures least { IsTrue result → AllByRecursion (IsFrom T.cmp least.now) items.now }
-    ensures greatest { IsTrue result → AllByRecursion (IsUpTo T.cmp greatest.now) items.now }
-{
-    match (least, greatest) {
-        (Some(least), Some(greatest)) => are_between(items, least, greatest),
-        _ => false,
-    }
-}
-
-/// Clones of the least and the greatest of some items, of each that passes the extreme so far.
-fn clone_passing_extremes<T: Clone + Ord>(
-    items: &[T],
-    least: &Option<T>,
-    greatest: &Option<T>,
-) -> Result<(Option<T>, Option<T>), AllocError>
-    requires clones { (x y : T) → T.is_clone x y → T.cmp x y ≡ Equal }
-    requires some { 0 < length items.now }
-    ensures least { IfOk result (λ new. IsLeastOf T.cmp
-        (option_to_list least.now ++ items.now) (newer_or new.0 least.now)) }
-    ensures greatest { IfOk result (λ new. IsGreatestOf T.cmp
-        (option_to_list greatest.now ++ items.now) (newer_or new.1 greatest.now)) }
-{
-    if are_within(items, least, greatest) {
-        return Ok((None, None));
-    }
-    let new_least = clone_if_least(least_of(items), least)?;
-    let new_greatest = clone_if_greatest(greatest_of(items), greatest)?;
-    Ok((new_least, new_greatest))
 }

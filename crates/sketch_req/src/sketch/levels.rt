@@ -15,6 +15,7 @@ ghost use Rattle.sketch_req.specs.Walk.{AreLevels, AreWalkedIfFull, appended_fir
 ghost use Rattle.sketch_req.specs.declared.RankAccuracy.{RankAccuracy};
 
 mod joining;
+mod taking;
 mod walk;
 
 use crate::RankAccuracy;

@@ -1,6 +1,6 @@
 use Rattle.std.proofs.Common.{refl}
-use Rattle.sketch_kll.proofs.ItemsBetween.{least_kept, least_with_all, greatest_kept, greatest_with_all}
-use Rattle.sketch_kll.proofs.levels.taking.clone_passing_extremes.Goals as goal
+use Rattle.sketch_base.proofs.Extremes.{least_kept, least_with_all, greatest_kept, greatest_with_all}
+use Rattle.sketch_base.proofs.common.extremes.clone_passing_extremes.Goals as goal
 
 pub returns-then-are_within-clause-least : goal.returns-then-are_within-clause-least
 returns-then-are_within-clause-least g c = least_kept g.met.T.Ord.total c.args.least.now c.args.items.now (c.if-are_within.ensures.least refl)

@@ -1,0 +1,51 @@
+-- The goals at the return are what updates by all items make of the fields.
+use Rattle.std.proofs.Common.{◌≡◌, ◌+◌, ◌++◌, ap, arith, length, rules, subst, sym}
+use Rattle.std.specs.Option.{option_to_list}
+use Rattle.sketch_base.specs.Extremes.{IsGreatestOf, IsLeastOf}
+use Rattle.sketch_base.specs.Random.{bits_from, after_draws}
+use Rattle.sketch_req.specs.Held.{Held}
+use Rattle.sketch_req.specs.Sketch.{Req, IsSound, sketch_of}
+use Rattle.sketch_req.specs.Updates.{AreUpdated, coins_of_updates}
+use Rattle.sketch_req.proofs.UpdatedLevels.{not-full}
+use Rattle.sketch_req.proofs.UpdatesInTurn.{updates_none, updates_sketch}
+use Rattle.sketch_req.proofs.sketch.ReqSketch.update_all.Given.{Over}
+use Rattle.sketch_req.proofs.sketch.ReqSketch.update_all.Goals.{After-set_if_some-2}
+use Rattle.sketch_req.proofs.sketch.ReqSketch.update_all.Goals as goal
+
+pub returns-then-count-eq0-clause-ok : goal.returns-then-count-eq0-clause-ok
+returns-then-count-eq0-clause-ok g c =
+    let none : length c.args.items.now ≡ 0 = search rules in
+    rw (← c.self.view_is) (updates_none g.met.T.Ord.total _ c.args.items.now _ c.self.invariant none)
+
+-- the sketch before and after
+module _ (g : Over) (c : After-set_if_some-2 g) where
+  abbrev old : Req g.row.T.Denot
+  old = let s = c.self.inside in sketch_of s.levels.k s.levels.accuracy s.n s.levels.levels s.min_item s.max_item
+
+  abbrev new : Req g.row.T.Denot
+  new = sketch_of c.take_all.new.self.k c.take_all.new.self.accuracy (old.n + length c.args.items.now) c.take_all.new.self.levels c.set_if_some.new.place c.set_if_some-2.new.place
+
+  updated : IsSound g.T.Ord.cmp new
+      × AreUpdated g.T.Ord.cmp old c.args.items.now (bits_from g.B.RandomBits.bit g.B.RandomBits.next c.args.coins.now (coins_of_updates old c.args.items.now)) new
+      × (c.take_all.new.coins ≡ after_draws g.B.RandomBits.next c.args.coins.now (coins_of_updates old c.args.items.now))
+  updated =
+      let known = not-full _ _ _ c.self.view_is c.self.invariant c.is_full.ensures c.if-is_full.false in
+      let least = subst (IsLeastOf g.T.Ord.cmp (option_to_list old.least ++ c.args.items.now)) (sym c.set_if_some.ensures) c.in_ok-least.ensures.least in
+      let greatest = subst (IsGreatestOf g.T.Ord.cmp (option_to_list old.greatest ++ c.args.items.now)) (sym c.set_if_some-2.ensures) c.in_ok-least.ensures.greatest in
+      let kept = c.take_all.ensures.kept in
+      let t = c.in_ok-take_all.ensures.taken in
+      rw (ap (λ (h : Held g.row.T.Denot). h.k) kept, ap (λ (h : Held g.row.T.Denot). h.accuracy) kept)
+      (updates_sketch g.met.T.Ord.total g.B.RandomBits.bit g.B.RandomBits.next c.args.coins.now c.take_all.new.coins old t.copies c.take_all.new.self.levels c.args.items.now _ _
+      c.self.invariant (omega (arith, c.if-count-left.false, c.self.invariant.n_fits)) known.1 t.are_copies t.taken least greatest)
+
+pub invariant_of-self-2 : goal.invariant_of-self-2
+invariant_of-self-2 g c = (updated g (goal.at.invariant_of-self-2 g c).After-set_if_some-2).0
+
+pub returns-clause-sound : goal.returns-clause-sound
+returns-clause-sound g c = (updated g (goal.at.returns-clause-sound g c).After-set_if_some-2).0
+
+pub returns-clause-ok : goal.returns-clause-ok
+returns-clause-ok g c = rw (← c.self.view_is) (updated g (goal.at.returns-clause-ok g c).After-set_if_some-2).1
+
+pub returns-clause-coins : goal.returns-clause-coins
+returns-clause-coins g c = rw (← c.self.view_is) (updated g (goal.at.returns-clause-coins g c).After-set_if_some-2).2
