@@ -1,10 +1,9 @@
 //! Levels that take items in one after another.
-ghost use Rattle.std.specs.Prelude.{◌≡◌, ◌+◌, ◌<◌, ◌≤◌, ◌++◌, ◌^◌, drop, length, max, min, reverse, take, vec_len, vec_capacity, false, IfOk, IsTrue, OnOk};
+ghost use Rattle.std.specs.Prelude.{◌≡◌, ◌+◌, ◌<◌, ◌≤◌, ◌++◌, ◌^◌, drop, length, max, min, reverse, take, vec_len, vec_capacity, false, IfOk, OnOk};
 ghost use Rattle.std.specs.declared.cmp.Ordering.TheVariants.{Equal};
-ghost use Rattle.std.specs.List.{AllByRecursion};
 ghost use Rattle.std.specs.Option.{option_to_list};
 ghost use Rattle.sketch_base.specs.Bag.{SameItems};
-ghost use Rattle.sketch_base.specs.Extremes.{IsFrom, IsGreatestOf, IsLeastOf, IsUpTo, newer_or};
+ghost use Rattle.sketch_base.specs.Extremes.{IsGreatestOf, IsLeastOf, newer_or};
 ghost use Rattle.sketch_kll.specs.Capacity.{total_of};
 ghost use Rattle.sketch_kll.specs.Levels.{retained, weight};
 ghost use Rattle.sketch_kll.specs.Steps.{put_all};
