@@ -87,8 +87,7 @@ impl<T: Clone + Ord> Levels<T> {
         let room = self.capacity.saturating_sub(self.num_retained + 1);
         if room == 0 {
             let item = items[0].clone()?;
-            let mut buffers = Vec::new(*self.compactors.allocator());
-            self.take_item(item, &mut buffers, coins)?;
+            self.take_item(item, coins)?;
             return Ok(1);
         }
         let count = room.min(items.len());
