@@ -130,7 +130,8 @@ module _ {A : Type 0} {cmp : A → A → Ordering} (order : IsTotalOrder cmp) (t
 
   copy-same : (s t : Req A) → IsCopy cmp s t → t ≡ s
   copy-same s t c =
-      same-sketch t s c.k c.accuracy c.n (levels-same s.levels t.levels c.levels) (sym (same-answers order tied s.least t.least c.least)) (sym (same-answers order tied s.greatest t.greatest c.greatest))
+      same-sketch t s c.k c.accuracy c.n (levels-same s.levels t.levels c.levels)
+      (sym (same-answers order tied s.least t.least c.least)) (sym (same-answers order tied s.greatest t.greatest c.greatest))
 
   -- one sketch comes of one update after another
   one-in-turn : (s : Req A) (xs : List A) (word : List Bool) (t u : Req A) → AreUpdatedInTurn cmp s xs word t → AreUpdatedInTurn cmp s xs word u → t ≡ u

@@ -119,7 +119,9 @@ module _ {A S : Type 0} {cmp : A → A → Ordering} (order : IsTotalOrder cmp) 
   -- some items, and then more
   pub taken-append : (source middle after : S) (ls ms ns : List (Level A)) (xs ys : List A) → AreTakenInTurn cmp bit next source middle k accuracy ls xs ms →
       AreTakenInTurn cmp bit next middle after k accuracy ms ys ns → AreTakenInTurn cmp bit next source after k accuracy ls (xs ++ ys) ns
-  taken-append source middle after ls ms ns [] ys t u = subst (λ (s : S). AreTakenInTurn cmp bit next s after k accuracy ls ys ns) t.1 (subst (λ (l : List (Level A)). AreTakenInTurn cmp bit next middle after k accuracy l ys ns) t.0 u)
+  taken-append source middle after ls ms ns [] ys t u =
+      subst (λ (s : S). AreTakenInTurn cmp bit next s after k accuracy ls ys ns) t.1
+      (subst (λ (l : List (Level A)). AreTakenInTurn cmp bit next middle after k accuracy l ys ns) t.0 u)
   taken-append source middle after ls ms ns (x ∷ xs) ys t u = record {
     clone = t.clone;
     is_clone = t.is_clone;
@@ -207,7 +209,8 @@ first-few [] x some e = absurd (omega (arith, some))
 first-few {A} (l ∷ ls) x some e = let n = sum_by-cons (λ (y : Layout). y.count) (layout_of l) (layouts_of ls) in omega (arith, n, ap (λ (y : Level A). length y.items) e)
 
 -- the levels of which level 0 took the items are all levels that took them
-pub first-filled : {A : Type 0} (ls : List (Level A)) (x new : Level A) (clones : List A) → 0 < length ls → x ≡ get_or ls 0 x → new ≡ appended_all x clones → set ls 0 new ≡ all_appended_first ls clones
+pub first-filled : {A : Type 0} (ls : List (Level A)) (x new : Level A) (clones : List A) → 0 < length ls → x ≡ get_or ls 0 x → new ≡ appended_all x clones →
+    set ls 0 new ≡ all_appended_first ls clones
 first-filled [] x new clones some e same = absurd (omega (arith, some))
 first-filled {A} (l ∷ ls) x new clones some e same =
     let l_is : x ≡ l = e in

@@ -183,9 +183,11 @@ module _ {A : Type 0} {cmp : A → A → Ordering} (order : IsTotalOrder cmp) wh
       let laid = layouts-copied order s.levels d.copy.levels d.is_copy.levels in
       let room : List (Action A) = actions_if_full s.k s.accuracy (put_layouts (layouts_of s.levels)) in
       let updated = d.updated.bag in
-      let theirs : AlikeReq cmp (acts cmp room word (alone (with_item d.clone (next_bit word) (bag_of d.copy.levels)))).bag (bag_of d.after.levels) = rw (d.is_copy.k, d.is_copy.accuracy, laid) at updated in
+      let theirs : AlikeReq cmp (acts cmp room word (alone (with_item d.clone (next_bit word) (bag_of d.copy.levels)))).bag (bag_of d.after.levels) =
+      rw (d.is_copy.k, d.is_copy.accuracy, laid) at updated in
       let own = acts-req order room word (alone (with_item x (next_bit word) (bag_of s.levels))) (alone (with_item d.clone (next_bit word) (bag_of d.copy.levels)))
-      (own-req room (own-room A s.k s.accuracy (put_layouts (layouts_of s.levels)))) (put-alike s.levels d.copy.levels x d.clone (next_bit word) d.is_clone d.is_copy.levels) (alike-refl order empty_bag) in
+      (own-req room (own-room A s.k s.accuracy (put_layouts (layouts_of s.levels))))
+      (put-alike s.levels d.copy.levels x d.clone (next_bit word) d.is_clone d.is_copy.levels) (alike-refl order empty_bag) in
       alike-trans order _ _ _ own theirs
 
   -- updates' actions leave the scratch alone
@@ -244,13 +246,16 @@ module _ {A : Type 0} {cmp : A → A → Ordering} (order : IsTotalOrder cmp) wh
     layouts = layouts-copied order s.levels t.levels c.levels;
     in_turn = c;
     least = rw append-nil (least-same (option_to_list s.least) (option_to_list s.least) s.least t.least (SameItems-refl cmp order (option_to_list s.least)) c.least (least_itself order s.least));
-    greatest = rw append-nil (greatest-same (option_to_list s.greatest) (option_to_list s.greatest) s.greatest t.greatest (SameItems-refl cmp order (option_to_list s.greatest)) c.greatest (greatest_itself order s.greatest));
+    greatest = rw append-nil
+        (greatest-same (option_to_list s.greatest) (option_to_list s.greatest) s.greatest t.greatest (SameItems-refl cmp order (option_to_list s.greatest)) c.greatest
+        (greatest_itself order s.greatest));
   }
   whole s t (x ∷ xs) word d =
       let rest = whole d.after t xs (drop (coins_of_update s x) word) d.rest in
       let k = d.updated.k ∙ d.is_copy.k in
       let low = least-same _ _ d.after.least d.after.least (with-clone s.least d.copy.least x d.clone d.is_copy.least d.is_clone) (SameAnswer-itself order d.after.least) d.updated.least in
-      let high = greatest-same _ _ d.after.greatest d.after.greatest (with-clone s.greatest d.copy.greatest x d.clone d.is_copy.greatest d.is_clone) (SameAnswer-itself order d.after.greatest) d.updated.greatest in
+      let high = greatest-same _ _ d.after.greatest d.after.greatest (with-clone s.greatest d.copy.greatest x d.clone d.is_copy.greatest d.is_clone)
+      (SameAnswer-itself order d.after.greatest) d.updated.greatest in
       record {
         k = rest.k ∙ k;
         accuracy = rest.accuracy ∙ (d.updated.accuracy ∙ d.is_copy.accuracy);
@@ -258,7 +263,8 @@ module _ {A : Type 0} {cmp : A → A → Ordering} (order : IsTotalOrder cmp) wh
         bag = bag-rest s t x xs word d rest.bag;
         layouts = rest.layouts ∙ ap₂ (λ (k : ℕ) (ls : List Layout). updates_layouts k ls xs) k (laid-first d);
         in_turn = d;
-        least = subst (λ (ys : List A). IsLeastOf cmp ys t.least) (append_assoc (option_to_list s.least) (x ∷ []) xs) (least-on order (option_to_list s.least ++ x ∷ []) xs d.after.least t.least low rest.least);
+        least = subst (λ (ys : List A). IsLeastOf cmp ys t.least) (append_assoc (option_to_list s.least) (x ∷ []) xs)
+            (least-on order (option_to_list s.least ++ x ∷ []) xs d.after.least t.least low rest.least);
         greatest = subst (λ (ys : List A). IsGreatestOf cmp ys t.greatest) (append_assoc (option_to_list s.greatest) (x ∷ []) xs)
             (greatest-on order (option_to_list s.greatest ++ x ∷ []) xs d.after.greatest t.greatest high rest.greatest);
       }
@@ -358,7 +364,8 @@ module _ {A : Type 0} {cmp : A → A → Ordering} (order : IsTotalOrder cmp) wh
     updates_sketch source after s copies ns xs least greatest sound fits few are_copies taken low high =
         let same = layouts-copied order s.levels copies are_copies in
         let copy : Req A = sketch_of s.k s.accuracy s.n copies s.least s.greatest in
-        let copy_sound = copied_sketch order s.k s.accuracy s.n s.levels copies s.least s.least s.greatest s.greatest sound are_copies (SameAnswer-itself order s.least) (SameAnswer-itself order s.greatest) in
+        let copy_sound = copied_sketch order s.k s.accuracy s.n s.levels copies s.least s.least s.greatest s.greatest sound are_copies
+        (SameAnswer-itself order s.least) (SameAnswer-itself order s.greatest) in
         let is_copy : IsCopy cmp s copy = record { k = refl; accuracy = refl; n = refl; levels = are_copies; least = SameAnswer-itself order s.least; greatest = SameAnswer-itself order s.greatest } in
         let few_copies : retained_of (layouts_of copies) < 4294967295 = omega (arith, few, ap retained_of same) in
         let m = is-made copy xs source after ns copy_sound fits few_copies taken in
@@ -366,10 +373,12 @@ module _ {A : Type 0} {cmp : A → A → Ordering} (order : IsTotalOrder cmp) wh
         let t : Req A = sketch_of s.k s.accuracy (s.n + length xs) ns least greatest in
         let least_same = one_least order _ _ m.made.least least (SameItems-refl cmp order (option_to_list s.least ++ xs)) made.least low in
         let greatest_same = one_greatest order _ _ m.made.greatest greatest (SameItems-refl cmp order (option_to_list s.greatest ++ xs)) made.greatest high in
-        let levels : AllZip (IsLevelCopy cmp) m.made.levels ns = subst (λ (ls : List (Level A)). AllZip (IsLevelCopy cmp) m.made.levels ls) m.levels_are (levels-itself _ _ 0 m.made.levels m.sound.placed) in
+        let levels : AllZip (IsLevelCopy cmp) m.made.levels ns =
+        subst (λ (ls : List (Level A)). AllZip (IsLevelCopy cmp) m.made.levels ls) m.levels_are (levels-itself _ _ 0 m.made.levels m.sound.placed) in
         let ends : IsCopy cmp m.made t = record { k = sym made.k; accuracy = sym made.accuracy; n = sym made.n; levels = levels; least = least_same; greatest = greatest_same } in
         let t_sound : IsSound cmp t =
-        rw (made.k, made.accuracy, made.n) at (copied_sketch order m.made.k m.made.accuracy m.made.n m.made.levels ns m.made.least least m.made.greatest greatest m.sound levels least_same greatest_same) in
+        rw (made.k, made.accuracy, made.n) at (copied_sketch order m.made.k m.made.accuracy m.made.n m.made.levels ns m.made.least least m.made.greatest greatest m.sound levels
+        least_same greatest_same) in
         let coins = ap (draws_of {A = A}) (updates-copied s copy xs is_copy) in
         let in_turn = in-turn-from s copy t xs _ is_copy (in-turn-to copy m.made t xs _ m.in_turn ends) in
         let left = are-kept order bit next s.k s.accuracy source after copies ns xs copy_sound.has_level copy_sound.placed few_copies taken in (

@@ -18,9 +18,10 @@ impl<T: Clone + Ord> ReqSketch<T> {
     /// sketch, under the same coins. An empty slice changes nothing.
     ///
     /// Item clones have to compare equal to the item. `InvalidArgument` exactly where `n` and the
-    /// number of items together are over `u64::MAX`, or there is an item and the sketch holds
-    /// 4294967295 items (no update comes to hold so many); any other error is `OutOfMemory`. After an
-    /// error the sketch is what it was. If memory ran out, some of the coins may have been drawn.
+    /// number of items together are over `u64::MAX`, or the sketch holds 4294967295 items and there
+    /// is one to take in: by updates it never comes to hold so many. Any other error is
+    /// `OutOfMemory`. After an error the sketch is what it was; if memory ran out, some of the coins
+    /// may have been drawn.
     pub fn update_all<B: RandomBits>(&mut self, items: &[T], coins: &mut B) -> Result<(), Error>
         requires clones { (x y : T) → T.is_clone x y → T.cmp x y ≡ Equal }
         ensures empty { items.now ≡ []

@@ -18,7 +18,8 @@ append_clones-requires-clause-few g c =
     omega (arith, own, small, first)
 
 -- the levels after it
-filled : (g : Over) (c : In_ok-append_clones g) → set c.self.inside.compactors.items 0 c.append_clones.new.self ≡ all_appended_first c.self.inside.compactors.items c.in_ok-append_clones.ensures.ok.clones
+filled : (g : Over) (c : In_ok-append_clones g) →
+    set c.self.inside.compactors.items 0 c.append_clones.new.self ≡ all_appended_first c.self.inside.compactors.items c.in_ok-append_clones.ensures.ok.clones
 filled g c =
     let h = c.in_ok-append_clones.ensures.ok in
     first-filled c.self.inside.compactors.items _ _ h.clones c.self.invariant.some c.index_mut.ensures.value h.new_is

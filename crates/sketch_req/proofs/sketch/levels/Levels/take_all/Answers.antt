@@ -26,10 +26,12 @@ returns-then-self-items-clause-taken g c =
     let h = c.in_ok-fill.ensures.filled in
     let levels = h.levels_are in
     let own = rw (← c.self.view_is) at levels in
+    let placed = c.self.invariant.placed in
     rw (← c.self.view_is) (record {
       copies = s.compactors.items;
       are_copies = levels-itself g.met.T.Ord.total s.k s.rank_accuracy 0 s.compactors.items c.self.invariant.placed;
-      taken = rw own (taken-filled g.met.T.Ord.total g.B.RandomBits.bit g.B.RandomBits.next s.k s.rank_accuracy c.args.coins.now s.compactors.items _ h.clones c.self.invariant.some c.self.invariant.placed h.same
+      taken = rw own (taken-filled g.met.T.Ord.total g.B.RandomBits.bit g.B.RandomBits.next s.k s.rank_accuracy c.args.coins.now s.compactors.items _ h.clones c.self.invariant.some placed
+          h.same
           (omega (arith, c.if-self-items.true, c.self.invariant.retained_is, c.self.invariant.capacity_is)));
     })
 
@@ -63,5 +65,6 @@ returns-in_err-take_in_turn-clause-drawn g c =
     let k : c.new-copy.result.k ≡ s.k = ap (λ (h : Held g.row.T.Denot). h.k) c.new-copy.ensures ∙ ap (λ (h : Held g.row.T.Denot). h.k) c.self.view_is in
     let accuracy = ap (λ (h : Held g.row.T.Denot). h.accuracy) c.new-copy.ensures ∙ ap (λ (h : Held g.row.T.Denot). h.accuracy) c.self.view_is in
     let theirs = c.in_err-take_in_turn.ensures.drawn in
-    let drawn : IsDrawnFrom g.B.RandomBits.next (draws_of (updates_actions s.k s.accuracy (layouts_of s.levels) c.args.items.now)) c.args.coins.now c.take_in_turn.new.coins = rw (k, accuracy, same) at theirs in
+    let drawn : IsDrawnFrom g.B.RandomBits.next (draws_of (updates_actions s.k s.accuracy (layouts_of s.levels) c.args.items.now)) c.args.coins.now c.take_in_turn.new.coins =
+    rw (k, accuracy, same) at theirs in
     search rules

@@ -17,7 +17,8 @@ part g c =
     let few = length-take c.min-count.result c.args.items.now in
     let levels = h.levels_are in
     let own = rw (← c.self.view_is) at levels in
-    rw own (taken-filled g.met.T.Ord.total g.B.RandomBits.bit g.B.RandomBits.next s.k s.rank_accuracy c.args.coins.now s.compactors.items _ h.clones c.self.invariant.some c.self.invariant.placed h.same
+    rw own (taken-filled g.met.T.Ord.total g.B.RandomBits.bit g.B.RandomBits.next s.k s.rank_accuracy c.args.coins.now s.compactors.items _ h.clones c.self.invariant.some c.self.invariant.placed
+    h.same
     (omega (arith, few, c.saturating_sub-room.ensures, c.min-count.ensures, c.if-room-eq0.false, c.self.invariant.retained_is, c.self.invariant.capacity_is)))
 
 pub returns-clause-taken : goal.returns-clause-taken
