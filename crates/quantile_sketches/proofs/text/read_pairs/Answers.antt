@@ -2,20 +2,19 @@ use Rattle.std.proofs.Common.{◌≡◌, ◌%◌, ◌+◌, ◌*◌, length, ap, 
 use Rattle.std.specs.Result.{result_ok}
 use Rattle.hex.proofs.HexLemmas.{decode_of-even}
 use Rattle.hex.proofs.Pairs.{decode_step, decode_done}
-use Rattle.quantile_sketches.proofs.HexDigits.{digit_at, two_digits}
+use Rattle.quantile_sketches.proofs.HexDigits.{digit_at}
 use Rattle.quantile_sketches.proofs.text.read_pairs.Goals as goal
 
-pub digit_value-requires : goal.digit_value-requires
-digit_value-requires c = digit_at c.args.digits.now (2 * c.bytes.i) c.requires.digits (omega (arith, c.bytes-test.true, c.requires.room))
+pub byte_of-requires-clause-high : goal.byte_of-requires-clause-high
+byte_of-requires-clause-high c = digit_at c.args.digits.now (2 * c.bytes.i) c.requires.digits (omega (arith, c.bytes-test.true, c.requires.room))
 
-pub digit_value-requires-in-bytes : goal.digit_value-requires-in-bytes
-digit_value-requires-in-bytes c = digit_at c.args.digits.now (2 * c.bytes.i + 1) c.requires.digits (omega (arith, c.bytes-test.true, c.requires.room))
+pub byte_of-requires-clause-low : goal.byte_of-requires-clause-low
+byte_of-requires-clause-low c = digit_at c.args.digits.now (2 * c.bytes.i + 1) c.requires.digits (omega (arith, c.bytes-test.true, c.requires.room))
 
 pub bytes-preserved : goal.bytes-preserved
 bytes-preserved c =
-    let pair = two_digits c.args.digits.now (2 * c.bytes.i) c.digit_value.result c.digit_value-in-bytes.result c.digit_value.ensures.value c.digit_value-in-bytes.ensures.value in
-    decode_step c.args.digits.now c.bytes.bytes c.bytes.i (c.digit_value.result * 16 + c.digit_value-in-bytes.result) (omega (arith, c.bytes-test.true, c.requires.room))
-    (omega (arith, c.bytes-test.true, c.bytes.auto.bytes)) pair c.bytes.invariant
+    decode_step c.args.digits.now c.bytes.bytes c.bytes.i c.byte_of.result (omega (arith, c.bytes-test.true, c.requires.room))
+    (omega (arith, c.bytes-test.true, c.bytes.auto.bytes)) (c.byte_of.ensures (2 * c.bytes.i)) c.bytes.invariant
 
 pub returns : goal.returns
 returns c =
