@@ -1,5 +1,5 @@
-use Rattle.quantile_sketches.proofs.HexDigits.{tested_more, tested_whole}
-use Rattle.quantile_sketches.proofs.text.is_hex.Goals as goal
+use Rattle.sketch_base.proofs.HexDigits.{tested_more, tested_whole}
+use Rattle.sketch_base.proofs.text.is_hex.Goals as goal
 
 pub loop-i-preserved : goal.loop-i-preserved
 loop-i-preserved c = tested_more c.args.text.now c.loop-i.i c.loop-i.all c.is_ascii_hexdigit-all.result c.loop-i-test.true c.loop-i.invariant c.is_ascii_hexdigit-all.ensures.value

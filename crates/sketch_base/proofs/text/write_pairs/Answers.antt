@@ -1,7 +1,7 @@
 use Rattle.std.proofs.Common.{arith}
 use Rattle.hex.specs.Hex.{lower_digits}
 use Rattle.hex.proofs.Pairs.{encode_step, encode_done}
-use Rattle.quantile_sketches.proofs.text.write_pairs.Goals as goal
+use Rattle.sketch_base.proofs.text.write_pairs.Goals as goal
 
 pub bytes-preserved : goal.bytes-preserved
 bytes-preserved c =

@@ -2,8 +2,8 @@ use Rattle.std.proofs.Common.{◌≡◌, ◌%◌, ◌+◌, ◌*◌, length, ap, 
 use Rattle.std.specs.Result.{result_ok}
 use Rattle.hex.proofs.HexLemmas.{decode_of-even}
 use Rattle.hex.proofs.Pairs.{decode_step, decode_done}
-use Rattle.quantile_sketches.proofs.HexDigits.{digit_at}
-use Rattle.quantile_sketches.proofs.text.read_pairs.Goals as goal
+use Rattle.sketch_base.proofs.HexDigits.{digit_at}
+use Rattle.sketch_base.proofs.text.read_pairs.Goals as goal
 
 pub byte_of-requires-clause-high : goal.byte_of-requires-clause-high
 byte_of-requires-clause-high c = digit_at c.args.digits.now (2 * c.bytes.i) c.requires.digits (omega (arith, c.bytes-test.true, c.requires.room))

@@ -3,8 +3,8 @@ use Rattle.std.proofs.lemmas.List.{take_at}
 use Rattle.std.proofs.lemmas.Str.{IsUtf8-from_ascii}
 use Rattle.hex.specs.Hex.{lower_digits}
 use Rattle.hex.proofs.HexLemmas.{IsAscii-encode_with}
-use Rattle.quantile_sketches.proofs.HexText.{lower-ascii}
-use Rattle.quantile_sketches.proofs.text.image_text.Goals as goal
+use Rattle.sketch_base.proofs.HexAscii.{lower-ascii}
+use Rattle.sketch_base.proofs.text.image_text.Goals as goal
 
 pub unwrap-requires : goal.unwrap-requires
 unwrap-requires c =
