@@ -19,7 +19,7 @@ mod taking;
 use crate::capacity::{MINIMUM_CAPACITY, level_capacity, total_capacity};
 use crate::compaction::compact_level;
 use sketch_base::common::SearchCriteria;
-use sketch_base::common::counting::count_all;
+use sketch_base::common::counting::{count_all, count_in_order};
 use sketch_base::common::extremes::{clone_if_greatest, clone_if_least};
 use sketch_base::common::random::RandomBits;
 use sketch_base::common::room::{give_back, reserve_next};
@@ -227,17 +227,19 @@ pub(crate) fn weight_counted<T: Ord>(
 ) -> u64
     requires flat { IsFlat items.now bounds.now }
     requires fits { weight_in (levels_in items.now bounds.now) < 2 ^ 64 }
+    requires some_level { 1 < length bounds.now }
+    requires upper { UpperSorted T.cmp (levels_in items.now bounds.now) }
     ensures { result ≡ counted_weight (counted T.cmp query.now criteria)
         (levels_in items.now bounds.now) }
 {
     let mut weight = 0;
     let mut level = bounds.len() - 1;
-    while level > 0 {
+    while level > 1 {
         level -= 1;
-        let counted = count_all(level_slice(items, bounds, level), query, criteria);
+        let counted = count_in_order(level_slice(items, bounds, level), query, criteria);
         weight = 2 * weight + counted as u64;
     }
-    weight
+    2 * weight + count_all(level_slice(items, bounds, 0), query, criteria) as u64
 }
 
 /// The lowest level at or over its capacity, where the levels are at or over their total capacity.

@@ -5,9 +5,10 @@ use Rattle.sketch_kll.specs.Flat.{levels_in}
 use Rattle.sketch_kll.specs.Levels.{weight}
 use Rattle.sketch_kll.specs.Rank.{counted_weight}
 use Rattle.sketch_kll.proofs.Flats.{length-bounds}
+use Rattle.sketch_kll.proofs.Legals.{upper_at}
 use Rattle.sketch_kll.proofs.Rank.{more_weight}
 use Rattle.sketch_kll.proofs.levels.weight_counted.Goals as goal
-use Rattle.sketch_kll.proofs.levels.weight_counted.Goals.{After-count_all-counted}
+use Rattle.sketch_kll.proofs.levels.weight_counted.Goals.{After-count_in_order-counted, After-count_all}
 
 pub overflow_sub-level : goal.overflow_sub-level
 overflow_sub-level g c = let n = length-bounds c.args.items.now c.args.bounds.now c.requires.flat in omega (arith, n)
@@ -17,17 +18,22 @@ loop-level-init g c =
     let n = length-bounds c.args.items.now c.args.bounds.now c.requires.flat in
     let ls : List (List g.row.T.Denot) = levels_in c.args.items.now c.args.bounds.now in
     let e : drop (length c.args.bounds.now - 1) ls ≡ [] = drop_all (length c.args.bounds.now - 1) ls (omega (arith, n)) in
-    record { within = omega (arith, n); so_far = rw e refl }
+    record { within = omega (arith, n); some = omega (arith, c.requires.some_level); so_far = rw e refl }
 
 -- one level more: what is counted so far, and that it fits
-counted_next : (g : _) (c : After-count_all-counted g) →
-    (2 * c.loop-level.weight + c.count_all-counted.result
+counted_next : (g : _) (c : After-count_in_order-counted g) →
+    (2 * c.loop-level.weight + c.count_in_order-counted.result
     ≡ counted_weight (counted g.T.Ord.cmp c.args.query.now c.args.criteria) (drop (c.loop-level.level - 1) (levels_in c.args.items.now c.args.bounds.now)))
-    × (2 * c.loop-level.weight + c.count_all-counted.result ≤ weight (levels_in c.args.items.now c.args.bounds.now))
+    × (2 * c.loop-level.weight + c.count_in_order-counted.result ≤ weight (levels_in c.args.items.now c.args.bounds.now))
 counted_next g c =
     let n = length-bounds c.args.items.now c.args.bounds.now c.requires.flat in
     more_weight _ (levels_in c.args.items.now c.args.bounds.now) c.loop-level.level c.loop-level.weight c.level_slice.result.now _
-    c.loop-level-test.true (omega (arith, n, c.loop-level.invariant.within)) c.loop-level.invariant.so_far c.level_slice.ensures c.count_all-counted.ensures
+    (omega arith) (omega (arith, n, c.loop-level.invariant.within)) c.loop-level.invariant.so_far c.level_slice.ensures c.count_in_order-counted.ensures.count
+
+pub count_in_order-counted-requires : goal.count_in_order-counted-requires
+count_in_order-counted-requires g c =
+    let n = length-bounds c.args.items.now c.args.bounds.now c.requires.flat in
+    record { sorted = rw c.level_slice.ensures (upper_at g.T.Ord.cmp (levels_in c.args.items.now c.args.bounds.now) c.requires.upper (c.loop-level.level - 1) (omega arith) (omega (arith, n, c.loop-level.invariant.within))) }
 
 pub overflow_mul-weight : goal.overflow_mul-weight
 overflow_mul-weight g c = omega (arith, (counted_next g c).1, c.requires.fits)
@@ -36,4 +42,29 @@ pub overflow_add-weight : goal.overflow_add-weight
 overflow_add-weight g c = omega (arith, (counted_next g c).1, c.requires.fits)
 
 pub loop-level-preserved : goal.loop-level-preserved
-loop-level-preserved g c = record { within = omega arith; so_far = (counted_next g c).0 }
+loop-level-preserved g c = record { within = omega arith; some = omega arith; so_far = (counted_next g c).0 }
+
+pub overflow_mul-result : goal.overflow_mul-result
+overflow_mul-result g c =
+    let n = length-bounds c.args.items.now c.args.bounds.now c.requires.flat in
+    let ls : List (List g.row.T.Denot) = levels_in c.args.items.now c.args.bounds.now in
+    let last = more_weight (counted g.T.Ord.cmp c.args.query.now c.args.criteria) ls c.loop-level.level c.loop-level.weight _ _
+    c.loop-level.invariant.some (omega (arith, n, c.loop-level.invariant.within)) c.loop-level.invariant.so_far refl refl in
+    omega (arith, last.1, c.requires.fits)
+
+-- level 0 comes last
+counted_last : (g : _) (c : After-count_all g) →
+    (2 * c.loop-level.weight + c.count_all.result ≡ counted_weight (counted g.T.Ord.cmp c.args.query.now c.args.criteria) (levels_in c.args.items.now c.args.bounds.now))
+    × (2 * c.loop-level.weight + c.count_all.result ≤ weight (levels_in c.args.items.now c.args.bounds.now))
+counted_last g c =
+    let n = length-bounds c.args.items.now c.args.bounds.now c.requires.flat in
+    let ls : List (List g.row.T.Denot) = levels_in c.args.items.now c.args.bounds.now in
+    let zero_is : c.loop-level.level - 1 ≡ 0 = omega (arith, c.loop-level.invariant.some, c.loop-level-test.false) in
+    rw zero_is at (more_weight _ ls c.loop-level.level c.loop-level.weight c.level_slice-2.result.now _
+    c.loop-level.invariant.some (omega (arith, n, c.loop-level.invariant.within)) c.loop-level.invariant.so_far (rw zero_is c.level_slice-2.ensures) c.count_all.ensures)
+
+pub overflow_add-result : goal.overflow_add-result
+overflow_add-result g c = omega (arith, (counted_last g c).1, c.requires.fits)
+
+pub returns : goal.returns
+returns g c = (counted_last g c).0
