@@ -1,29 +1,32 @@
 -- Weighted items in order, of which equal ones are joined: the view that they make.
-use Rattle.std.proofs.Common.{◌≡◌, ℕ, zero, suc, ◌+◌, ◌-◌, ◌*◌, ◌<◌, ◌≤◌, Bool, true, false, cond, List, [], ◌∷◌, ◌++◌, length, map, replicate, reverse, sum_by, refl, sym, ap, ap₂, ◌∙◌, append_assoc, length-append, arith, if◌then◌else◌, IsSorted, IsPermutation, Ordering, Less, Equal, is_gt, is_lt}
+use Rattle.std.proofs.Common.{◌≡◌, ℕ, zero, suc, ◌+◌, ◌-◌, ◌*◌, ◌<◌, ◌≤◌, Bool, true, false, cond, List, [], ◌∷◌, ◌++◌, length, map, replicate, reverse, sum_by, refl, sym, ap, ap₂, ◌∙◌, subst, append_assoc, append-nil, length-append, arith, if◌then◌else◌, IsSorted, IsPermutation, Ordering, Less, Equal, is_gt, is_lt}
 use Rattle.std.specs.Prelude.{⊤, Option, None, Some, IsSome}
 use Rattle.std.specs.Cmp.{IsTotalOrder}
 use Rattle.std.specs.List.{All, AllByRecursion}
-use Rattle.std.specs.Ordering.{is_eq}
+use Rattle.std.specs.Ordering.{is_eq, ordering_reverse}
 use Rattle.std.proofs.lemmas.Bool.{false≢true}
 use Rattle.std.specs.List.Sorted.{IsSortedBy}
 use Rattle.std.proofs.lemmas.List.{get_or-map, length-map, reverse-append}
 use Rattle.std.proofs.lemmas.Cmp.{tied_itself}
+use Rattle.std.proofs.lemmas.List.Elements.{length_all_zip}
 use Rattle.std.proofs.lemmas.List.Sums.{sum_by-cons, sum_by-append}
 use Rattle.std.proofs.lemmas.List.Folds.{sum_by-replicate}
-use Rattle.std.proofs.lemmas.List.Sorted.{All-permutation, length_permutation, sum_by-IsPermutation}
+use Rattle.std.proofs.lemmas.List.Sorted.{All-permutation, IsPermutation-refl, length_permutation, sum_by-IsPermutation}
 use Rattle.sketch_base.specs.Bag.{SameItems, sort}
 use Rattle.sketch_base.specs.Pairs.{begins_equal, copies, distinct, is_below_next, joined, joined_weights}
 use Rattle.sketch_base.specs.Query.{counted}
-use Rattle.sketch_base.specs.Queries.{spread_out, spread_over}
+use Rattle.sketch_base.specs.Queries.{SameAnswer, spread_out, spread_over}
 use Rattle.sketch_base.specs.Views.{IsThere, IsView}
 use Rattle.sketch_base.proofs.AllParts.{all-map}
 use Rattle.sketch_base.proofs.Counts.{Ordered, Ordered-sort, below, counted-equal, items-from_counts}
-use Rattle.sketch_base.proofs.Entries.{Ordered-spread_over}
+use Rattle.sketch_base.proofs.Entries.{Ordered-spread_over, same-spread}
+use Rattle.sketch_base.proofs.Items.{SameItems-append, SameItems-refl, SameItems-trans}
 use Rattle.sketch_base.proofs.Orders.{equal-from_neither, less-from_is_lt}
 use Rattle.sketch_base.proofs.Rises.{Rises, non_decreasing_from_rises}
 use Rattle.sketch_base.proofs.SketchViews.{sum-ones}
 use Rattle.sketch_base.proofs.Sorting.{IsSorted-from_ordered, Ordered-from_sorted}
 use Rattle.sketch_base.proofs.Sums.{sum_by-sort}
+use Rattle.sketch_base.proofs.ViewClones.{view-of_clones}
 
 all-by_recursion : {A : Type 0} (P : A → Type 0) (xs : List A) → All P xs → AllByRecursion P xs
 all-by_recursion P [] h = tt
@@ -187,6 +190,15 @@ module _ {A : Type 0} {cmp : A → A → Ordering} (order : IsTotalOrder cmp) wh
       distinct-copies (c - before) x (spread_over c xs cs) (omega (arith, l)) (begins-above cmp x c xs cs h.0 up.1)
       ∙ (ap (λ m. 1 + m) (distinct-spread c xs cs (omega (arith, e)) up.1 h.1) ∙ omega arith)
 
+  -- in another order they stand for the same items
+  pub copies-moved : (ps qs : List (A × ℕ)) → IsPermutation ps qs → SameItems cmp (sort cmp (copies ps)) (sort cmp (copies qs))
+  copies-moved ps qs same =
+      items-from_counts order (sort cmp (copies ps)) (sort cmp (copies qs)) (Ordered-sort order (copies ps)) (Ordered-sort order (copies qs))
+      (λ z c.
+      let one : A → ℕ = λ x. cond (counted cmp z c x) 1 0 in
+      sum_by-sort one cmp (copies ps) ∙ (sum-copies one ps ∙ (sym (sum_by-IsPermutation (λ (pair : A × ℕ). pair.1 * one pair.0) ps qs same) ∙
+      sym (sum_by-sort one cmp (copies qs) ∙ sum-copies one qs))))
+
   -- weighted items, and the same put in order
   module _ (weighted pairs : List (A × ℕ)) (same : IsPermutation weighted pairs) (sorted : IsSorted cmp (items_in pairs)) (weights : All (λ (pair : A × ℕ). 0 < pair.1) weighted) where
     up : Ordered order (items_in pairs)
@@ -238,7 +250,99 @@ module _ {A : Type 0} {cmp : A → A → Ordering} (order : IsTotalOrder cmp) wh
           greatest_there = there greatest g (length (spread_out (joined cmp pairs) (joined_weights cmp 0 pairs))) whole;
         }
 
--- ---- the loop
+  -- ---- clones of what is joined
+
+  begins-same : (x y : A) (xs ys : List A) → cmp x y ≡ Equal → SameItems cmp xs ys → begins_equal cmp x xs ≡ begins_equal cmp y ys
+  begins-same x y [] [] e s = refl
+  begins-same x y (u ∷ us) (v ∷ vs) e s =
+      ap is_eq (order.congr x y u e ∙ (order.antisymm y u ∙ (ap ordering_reverse (order.congr u v y s.0) ∙ sym (order.antisymm y v))))
+  begins-same x y _ _ e s = absurd s
+
+  distinct-same : (xs ys : List A) → SameItems cmp xs ys → distinct cmp xs ≡ distinct cmp ys
+  distinct-same [] [] s = refl
+  distinct-same (x ∷ xs) (y ∷ ys) s = ap₂ (λ (b : Bool) (n : ℕ). (if b then 0 else 1) + n) (begins-same x y xs ys s.0 s.1) (distinct-same xs ys s.1)
+  distinct-same _ _ s = absurd s
+
+  same-answer : (found : Option A) → SameAnswer cmp found found
+  same-answer None = tt
+  same-answer (Some x) = tied_itself order x
+
+  module _ (pairs : List (A × ℕ)) (sorted : IsSorted cmp (items_in pairs)) (weights : All (λ (pair : A × ℕ). 0 < pair.1) pairs)
+      (items : List A) (cumulated : List ℕ) (same : SameItems cmp (joined cmp pairs) items) (sums : cumulated ≡ joined_weights cmp 0 pairs) where
+    clones-spread : SameItems cmp (spread_out (joined cmp pairs) (joined_weights cmp 0 pairs)) (spread_out items cumulated)
+    clones-spread = subst (λ cs. SameItems cmp (spread_out (joined cmp pairs) (joined_weights cmp 0 pairs)) (spread_out items cs)) (sym sums) (same-spread order 0 (joined cmp pairs) items (joined_weights cmp 0 pairs) same)
+
+    -- their entries
+    pub clones-entries : SameItems cmp (sort cmp (copies pairs)) (spread_out items cumulated)
+    clones-entries =
+        SameItems-trans cmp order (sort cmp (copies pairs)) (spread_out (joined cmp pairs) (joined_weights cmp 0 pairs)) (spread_out items cumulated)
+        (joined-entries pairs pairs (IsPermutation-refl pairs) sorted weights) clones-spread
+
+    -- as many as there are distinct ones
+    pub clones-distinct : length items ≡ distinct cmp (spread_out items cumulated)
+    clones-distinct =
+        sym (length_all_zip (λ x y. cmp x y ≡ Equal) (joined cmp pairs) items same)
+        ∙ (joined-distinct pairs pairs (IsPermutation-refl pairs) sorted weights
+        ∙ distinct-same (spread_out (joined cmp pairs) (joined_weights cmp 0 pairs)) (spread_out items cumulated) clones-spread)
+
+    -- and they make a view
+    pub clones-view : (least greatest : Option A) → 0 < length pairs → IsSome least → IsSome greatest → IsView cmp items cumulated least greatest
+    clones-view least greatest some l g =
+        view-of_clones order (joined cmp pairs) items (joined_weights cmp 0 pairs) cumulated least least greatest greatest
+        (joined-view pairs pairs (IsPermutation-refl pairs) sorted weights least greatest some l g) same sums (same-answer least) (same-answer greatest)
+
+-- ---- the loops
+
+-- the first of weighted items in order are joined, as clones, and the rest are not
+pub record IsJoined {A : Type 0} (cmp : A → A → Ordering) (all rest : List (A × ℕ)) (xs : List A) (ws : List ℕ) (so_far : ℕ) : Type 0 where
+  pub items : SameItems cmp (joined cmp all) (xs ++ joined cmp rest)
+  pub weights : ws ++ joined_weights cmp so_far rest ≡ joined_weights cmp 0 all
+  pub total : so_far + sum_by (λ (pair : A × ℕ). pair.1) rest ≡ sum_by (λ (pair : A × ℕ). pair.1) all
+
+module _ {A : Type 0} {cmp : A → A → Ordering} (order : IsTotalOrder cmp) where
+  -- none is
+  pub joined-none : (all : List (A × ℕ)) → IsJoined cmp all all [] [] 0
+  joined-none all = record { items = SameItems-refl cmp order (joined cmp all); weights = refl; total = omega arith }
+
+  -- all are
+  pub joined-whole : (all rest : List (A × ℕ)) (xs : List A) (ws : List ℕ) (total : ℕ) → rest ≡ [] → IsJoined cmp all rest xs ws total →
+      SameItems cmp (joined cmp all) xs × (ws ≡ joined_weights cmp 0 all)
+  joined-whole all rest xs ws total e j =
+      let items : SameItems cmp (joined cmp all) (xs ++ []) = subst (λ (r : List (A × ℕ)). SameItems cmp (joined cmp all) (xs ++ joined cmp r)) e j.items in
+      let weights : ws ++ [] ≡ joined_weights cmp 0 all = subst (λ (r : List (A × ℕ)). ws ++ joined_weights cmp total r ≡ joined_weights cmp 0 all) e j.weights in
+      (rw append-nil at items, sym (append-nil ws) ∙ weights)
+
+  -- the whole weight is not passed
+  pub joined-fits : (all after : List (A × ℕ)) (x : A) (w total : ℕ) (xs : List A) (ws : List ℕ) → IsJoined cmp all ((x, w) ∷ after) xs ws total →
+      total + w ≤ sum_by (λ (pair : A × ℕ). pair.1) all
+  joined-fits all after x w total xs ws j = omega (arith, j.total, sum_by-cons (λ (pair : A × ℕ). pair.1) (x, w) after)
+
+  module _ (all after : List (A × ℕ)) (x : A) (w total : ℕ) (xs : List A) (ws : List ℕ) (j : IsJoined cmp all ((x, w) ∷ after) xs ws total) where
+    sums : total + w + sum_by (λ (pair : A × ℕ). pair.1) after ≡ sum_by (λ (pair : A × ℕ). pair.1) all
+    sums = omega (arith, j.total, sum_by-cons (λ (pair : A × ℕ). pair.1) (x, w) after)
+
+    -- an item that equals the next one is passed over
+    pub joined-over : is_below_next cmp x after ≡ false → IsJoined cmp all after xs ws (total + w)
+    joined-over e = record {
+      items = subst (λ (b : Bool). SameItems cmp (joined cmp all) (xs ++ (if b then x ∷ joined cmp after else joined cmp after))) e j.items;
+      weights = ap (λ (b : Bool). ws ++ (if b then (total + w) ∷ joined_weights cmp (total + w) after else joined_weights cmp (total + w) after)) (sym e) ∙ j.weights;
+      total = sums;
+    }
+
+    -- of another one a clone is pushed
+    pub joined-push : (y : A) (xs' : List A) (ws' : List ℕ) → is_below_next cmp x after ≡ true → cmp x y ≡ Equal → xs' ≡ xs ++ y ∷ [] → ws' ≡ ws ++ (total + w) ∷ [] →
+        IsJoined cmp all after xs' ws' (total + w)
+    joined-push y xs' ws' e same is_xs is_ws =
+        let rest : List A = joined cmp after in
+        let on : SameItems cmp (joined cmp all) (xs ++ x ∷ rest) = subst (λ (b : Bool). SameItems cmp (joined cmp all) (xs ++ (if b then x ∷ rest else rest))) e j.items in
+        let put = SameItems-append cmp xs xs (x ∷ rest) (y ∷ rest) (SameItems-refl cmp order xs) (same, SameItems-refl cmp order rest) in
+        record {
+          items = rw (is_xs, append_assoc xs (y ∷ []) rest) (SameItems-trans cmp order (joined cmp all) (xs ++ x ∷ rest) (xs ++ y ∷ rest) on put);
+          weights =
+              rw (is_ws, append_assoc ws ((total + w) ∷ []) (joined_weights cmp (total + w) after))
+              (ap (λ (b : Bool). ws ++ (if b then (total + w) ∷ joined_weights cmp (total + w) after else joined_weights cmp (total + w) after)) (sym e) ∙ j.weights);
+          total = sums;
+        }
 
 -- one more item: the last of those in reverse order
 pub record IsNext {A : Type 0} (cmp : A → A → Ordering) (xs xs' : List A) (ws ws' : List ℕ) (before after : ℕ) (old new : List (A × ℕ)) : Type 0 where

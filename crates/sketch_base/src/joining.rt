@@ -1,9 +1,13 @@
 //! How weighted items are put in order, and equal ones joined.
-ghost use Rattle.std.specs.Prelude.{◌≡◌, ℕ, ◌+◌, ◌^◌, ◌<◌, ◌≤◌, [], ◌∷◌, ◌++◌, map, reverse, sum_by, IsSorted, vec_len, vec_capacity, if◌then◌else◌, OnOk};
+ghost use Rattle.std.specs.Prelude.{◌≡◌, ℕ, ◌+◌, ◌^◌, ◌<◌, ◌≤◌, [], ◌∷◌, ◌++◌, length, map, reverse, sum_by, IsSorted, vec_len, vec_capacity, if◌then◌else◌, OnOk, IfOk, IfErr};
+ghost use Rattle.std.specs.declared.cmp.Ordering.TheVariants.{Equal};
 ghost use Rattle.std.specs.List.Sorted.{IsPermutation};
+ghost use Rattle.sketch_base.specs.Bag.{SameItems};
 ghost use Rattle.sketch_base.specs.Pairs.{is_below_next, joined, joined_weights};
+ghost use Rattle.sketch_base.specs.Weighted.{pairs_in};
 
-use std::alloc::AllocError;
+use crate::weighted::Weighted;
+use std::alloc::{AllocError, Global};
 
 /// Puts weighted items in order of the items, the least last. Runs that are in order already, as levels are, are merged.
 pub(crate) fn sort_from_greatest<T: Ord>(weighted: &mut Vec<(T, u64)>) -> Result<(), AllocError>
@@ -73,4 +77,41 @@ pub(crate) fn join_equal<T: Ord + Drop>(
         let is_last = is_below_last(&item, weighted.as_slice());
         push_if(is_last, item, total, items, weights);
     }
+}
+
+/// Whether an item is below the first of weighted items, if there is one.
+fn is_below_first<T: Ord>(item: &T, entries: &[Weighted<'_, T>]) -> bool
+    ensures { result ≡ is_below_next T.cmp item.now (pairs_in entries.now) }
+{
+    match entries.first() {
+        Some(next) => item.cmp(next.item).is_lt(),
+        None => true,
+    }
+}
+
+/// Clones of weighted items in order, and the weights up to them. Of items that compare equal the last one is cloned.
+pub(crate) fn join_clones<T: Clone + Ord>(
+    alloc: Global,
+    entries: &[Weighted<'_, T>],
+) -> Result<(Vec<T>, Vec<u64>), AllocError>
+    requires clones { (x y : T) → T.is_clone x y → T.cmp x y ≡ Equal }
+    requires fits { sum_by (λ pair. pair.1) (pairs_in entries.now) < 2 ^ 64 }
+    ensures items { IfOk result (λ found.
+        SameItems T.cmp (joined T.cmp (pairs_in entries.now)) found.0.items) }
+    ensures weights { IfOk result (λ found.
+        found.1.items ≡ joined_weights T.cmp 0 (pairs_in entries.now)) }
+    ensures some { IfErr result (λ e. 0 < length entries.now) }
+{
+    let mut items = Vec::with_capacity(alloc, entries.len())?;
+    let mut weights = Vec::with_capacity(alloc, entries.len())?;
+    let mut total = 0;
+    for place in 0..entries.len() {
+        let entry = &entries[place];
+        total += entry.weight;
+        if is_below_first(entry.item, &entries[place + 1..]) {
+            items.push_reserved(entry.item.clone()?);
+            weights.push_reserved(total);
+        }
+    }
+    Ok((items, weights))
 }

@@ -1,5 +1,5 @@
 //! A snapshot of a sketch's items in order, for many queries. Each family builds it from what its sketches hold.
-ghost use Rattle.std.specs.Prelude.{◌≡◌, ◌↔◌, ◌<◌, ◌^◌, length, map, sum_by, IsTrue, IsSome, IfOk, IfErr, IfSome, Some, option_copied};
+ghost use Rattle.std.specs.Prelude.{◌≡◌, ◌↔◌, ◌<◌, ◌^◌, length, map, sum_by, IsTrue, IsSome, IsSorted, IfOk, IfErr, IfSome, Some, option_copied};
 ghost use Rattle.std.specs.declared.cmp.Ordering.TheVariants.{Equal};
 ghost use Rattle.std.specs.List.{All};
 ghost use Rattle.std.specs.List.Sorted.{IsNonDecreasing};
@@ -10,6 +10,7 @@ ghost use Rattle.sketch_base.specs.Pairs.{copies, distinct, extreme_among};
 ghost use Rattle.sketch_base.specs.Query.{true_rank};
 ghost use Rattle.sketch_base.specs.Queries.{IsFraction, IsIncreasing, SameAnswer, cdf_of, pmf_of};
 ghost use Rattle.sketch_base.specs.Views.{AreQuantiles, IsView, SameView, quantile_of, view_of};
+ghost use Rattle.sketch_base.specs.Weighted.{items_of, pairs_in};
 
 use crate::common::extremes::clone_found;
 use crate::common::queries::{
@@ -18,8 +19,9 @@ use crate::common::queries::{
 };
 use crate::common::{Rank, SearchCriteria};
 use crate::error::Error;
-use crate::joining::{join_equal, sort_from_greatest};
-use std::alloc::AllocError;
+use crate::joining::{join_clones, join_equal, sort_from_greatest};
+use crate::weighted::Weighted;
+use std::alloc::{AllocError, Global};
 use std::marker::Model;
 
 /// The items of a sketch in order, with their weights. It stands for each item as often as it weighs.
@@ -72,6 +74,35 @@ impl<T: Clone + Ord> SortedView<T> {
         }
         sort_from_greatest(&mut weighted)?;
         join_equal(&mut weighted, &mut items, &mut cumulated);
+        Ok(SortedView::from_cumulated(items, cumulated, min_item, max_item))
+    }
+
+    /// The view of clones of weighted items in order. Of items that compare equal one is cloned, with the weight of them
+    /// all. The extremes are as for `new`.
+    pub fn from_weighted(
+        alloc: Global,
+        entries: &[Weighted<'_, T>],
+        min_item: Option<T>,
+        max_item: Option<T>,
+    ) -> Result<Self, Error>
+        requires clones { (x y : T) → T.is_clone x y → T.cmp x y ≡ Equal }
+        requires sorted { IsSorted T.cmp (items_of entries.now) }
+        requires weights { All (λ pair. 0 < pair.1) (pairs_in entries.now) }
+        requires fits { sum_by (λ pair. pair.1) (pairs_in entries.now) < 2 ^ 64 }
+        requires least { 0 < length entries.now → IsSome min_item }
+        requires greatest { 0 < length entries.now → IsSome max_item }
+        ensures entries { IfOk result (λ v.
+            SameItems T.cmp (sort T.cmp (copies (pairs_in entries.now))) v.entries) }
+        ensures joined { IfOk result (λ v. v.held ≡ distinct T.cmp v.entries) }
+        ensures least { IfOk result (λ v. v.least ≡ extreme_among entries.now min_item) }
+        ensures greatest { IfOk result (λ v. v.greatest ≡ extreme_among entries.now max_item) }
+        ensures memory { IfErr result (λ e. e ≡ OutOfMemory) }
+        ensures none { IfErr result (λ e. 0 < length entries.now) }
+    {
+        let (items, cumulated) = join_clones(alloc, entries)?;
+        if entries.is_empty() {
+            return Ok(SortedView::from_cumulated(items, cumulated, None, None));
+        }
         Ok(SortedView::from_cumulated(items, cumulated, min_item, max_item))
     }
 

@@ -1,43 +1,35 @@
--- The weighted items of a sketch's levels, clones of them, and the view that they make.
-use Rattle.std.proofs.Common.{◌≡◌, ℕ, suc, ◌+◌, ◌^◌, ◌<◌, ◌≤◌, List, [], ◌∷◌, ◌++◌, length, map, take, replicate, flat_map, get_or, sum_by, refl, sym, ap, ap₂, ◌∙◌, subst, arith, Result, Ordering, Equal}
+-- The weighted items of a sketch's levels, and the view that they make.
+use Rattle.std.proofs.Common.{◌≡◌, ℕ, suc, ◌+◌, ◌^◌, ◌<◌, ◌≤◌, List, [], ◌∷◌, ◌++◌, length, map, take, drop, replicate, flat_map, sum_by, refl, sym, ap, ap₂, ◌∙◌, subst, append_assoc, length-append, arith, IsPermutation, Result, Ordering}
 use Rattle.std.specs.Prelude.{Option, None, Some, IfOk, IsSome}
 use Rattle.std.specs.Cmp.{IsTotalOrder}
 use Rattle.std.specs.List.{All, AllByRecursion}
-use Rattle.std.proofs.lemmas.List.{take_more}
+use Rattle.std.proofs.lemmas.List.{length-map, map-append, take-append-drop}
 use Rattle.std.proofs.lemmas.List.Concat.{flat_map-append}
 use Rattle.std.proofs.lemmas.List.Folds.{flat_map-map}
-use Rattle.std.proofs.lemmas.List.Elements.{All-from_recursion, AllZip-push}
+use Rattle.std.proofs.lemmas.List.Elements.{All-from_recursion}
+use Rattle.std.proofs.lemmas.List.Sorted.{All-permutation, IsPermutation-append, IsPermutation-map, IsPermutation-trans, length_permutation, sum_by-IsPermutation}
 use Rattle.std.proofs.lemmas.List.Sums.{sum_by-cons}
 use Rattle.std.proofs.lemmas.Nat.{pow_pos}
 use Rattle.sketch_base.specs.Bag.{SameItems, expanded, repeated, sort}
 use Rattle.sketch_base.specs.Pairs.{copies, extreme_among}
 use Rattle.sketch_base.specs.Queries.{SameAnswer}
 use Rattle.sketch_base.specs.Views.{IsThere, IsViewOf, View}
-use Rattle.sketch_base.proofs.Entries.{same-copies}
+use Rattle.sketch_base.specs.Weighted.{items_of, pairs_in}
+use Rattle.sketch_base.specs.declared.weighted.Weighted.{Weighted}
 use Rattle.sketch_base.proofs.Items.{SameItems-trans}
+use Rattle.sketch_base.proofs.JoinedViews.{copies-moved}
 use Rattle.sketch_base.proofs.Results.{ok-weaker}
 use Rattle.sketch_base.proofs.SketchViews.{built-view}
-use Rattle.sketch_base.proofs.Sorting.{SameItems-sort}
+use Rattle.sketch_base.proofs.WeightedItems.{items-in_pairs}
 use Rattle.sketch_req.specs.Actions.{bag_of}
 use Rattle.sketch_req.specs.Level.{Level}
 use Rattle.sketch_req.specs.Pairs.{pairs_of, weighed}
-use Rattle.sketch_req.specs.Views.{SamePairs}
 use Rattle.sketch_req.specs.Sketch.{Req, IsSound}
 use Rattle.sketch_req.specs.Walk.{AreLevels}
 use Rattle.sketch_req.specs.declared.RankAccuracy.{RankAccuracy}
 use Rattle.sketch_req.proofs.Copies.{there-alike}
 use Rattle.sketch_req.proofs.Pairs.{weigh-pairs}
 use Rattle.sketch_req.proofs.Rank.{weight_is}
-
--- clones of weighted items, one more
-pub pairs-more : {A : Type 0} (cmp : A → A → Ordering) (all : List (A × ℕ)) (i : ℕ) (p : A × ℕ) (y : A) (old new : List (A × ℕ)) → i < length all → p ≡ get_or all i p →
-    cmp p.0 y ≡ Equal → new ≡ old ++ (y, p.1) ∷ [] →
-    SamePairs cmp (take i all) old → SamePairs cmp (take (i + 1) all) new
-pairs-more {A} cmp all i p y old new l at same pushed h =
-    let longer : take (i + 1) all ≡ take i all ++ p ∷ [] = take_more all i p l ∙ ap (λ (q : A × ℕ). take i all ++ q ∷ []) (sym at) in
-    subst (λ (l : List (A × ℕ)). SamePairs cmp l new) (sym longer)
-    (subst (λ (l : List (A × ℕ)). SamePairs cmp (take i all ++ p ∷ []) l) (sym pushed)
-    (AllZip-push (λ p q. (cmp p.0 q.0 ≡ Equal) × (q.1 ≡ p.1)) (take i all) old p (y, p.1) h (same, refl)))
 
 -- what the weighted items of the levels stand for is what the levels do
 copies-pairs : {A : Type 0} (cmp : A → A → Ordering) (k : ℕ) (accuracy : RankAccuracy)
@@ -70,53 +62,97 @@ module _ {A : Type 0} where
   some-there None n h l = absurd (omega (arith, h, l))
   some-there (Some x) n h l = refl
 
-module _ {A : Type 0} {cmp : A → A → Ordering} (order : IsTotalOrder cmp) where
-  -- clones weigh and count the same
-  clones-weigh : (ps qs : List (A × ℕ)) → SamePairs cmp ps qs → HaveWeight ps → HaveWeight qs
-  clones-weigh [] [] s h = tt
-  clones-weigh (p ∷ ps) (q ∷ qs) s h = (subst (λ n. 0 < n) (sym s.0.1) h.0, clones-weigh ps qs s.1 h.1)
-  clones-weigh ps qs s h = absurd s
+-- the weighted items of some levels and of others behind them
+pub pairs-append : {A : Type 0} (ls ms : List (Level A)) → pairs_of (ls ++ ms) ≡ pairs_of ls ++ pairs_of ms
+pairs-append [] ms = refl
+pairs-append {A} (l ∷ ls) ms =
+    ap (λ (ps : List (A × ℕ)). weighed (2 ^ l.lg_weight) l.items ++ ps) (pairs-append ls ms) ∙ sym (append_assoc (weighed (2 ^ l.lg_weight) l.items) (pairs_of ls) (pairs_of ms))
 
-  sum-clones : (ps qs : List (A × ℕ)) → SamePairs cmp ps qs → sum_by (λ (pair : A × ℕ). pair.1) qs ≡ sum_by (λ (pair : A × ℕ). pair.1) ps
-  sum-clones [] [] s = refl
-  sum-clones (p ∷ ps) (q ∷ qs) s = let e = s.0.1 in omega (arith, sum_by-cons (λ (pair : A × ℕ). pair.1) p ps, sum_by-cons (λ (pair : A × ℕ). pair.1) q qs, e, sum-clones ps qs s.1)
-  sum-clones ps qs s = absurd s
+module _ {A : Type 0} where
+  -- as many entries as weighted items
+  pub entries-long : (ps : List (A × ℕ)) (xs : List (Weighted A)) → IsPermutation ps (pairs_in xs) → length xs ≡ length ps
+  entries-long ps xs same = sym (length-map xs (λ (e : Weighted A). (e.item.now, e.weight))) ∙ length_permutation ps (pairs_in xs) same
 
-  copies-clones : (ps qs : List (A × ℕ)) → SamePairs cmp ps qs → SameItems cmp (copies ps) (copies qs)
-  copies-clones [] [] s = tt
-  copies-clones (p ∷ ps) (q ∷ qs) s =
-      subst (λ n. SameItems cmp (replicate p.1 p.0 ++ copies ps) (replicate n q.0 ++ copies qs)) (sym s.0.1) (same-copies order p.1 p.0 q.0 (copies ps) (copies qs) s.0.0 (copies-clones ps qs s.1))
-  copies-clones ps qs s = absurd s
+  -- the entries of a level, in list order or another
+  pub entries-moved : (w : ℕ) (xs : List A) (es fs : List (Weighted A)) → pairs_in es ≡ weighed w xs → IsPermutation es fs → IsPermutation (weighed w xs) (pairs_in fs)
+  entries-moved w xs es fs e same =
+      subst (λ (ps : List (A × ℕ)). IsPermutation ps (pairs_in fs)) e (IsPermutation-map (λ (e : Weighted A). (e.item.now, e.weight)) es fs same)
 
-  module _ (s : Req A) (pairs : List (A × ℕ)) (sound : IsSound cmp s) (same : SamePairs cmp (pairs_of s.levels) pairs) where
-    -- each clone weighs something
-    pub clones-all_weigh : All (λ (pair : A × ℕ). 0 < pair.1) pairs
-    clones-all_weigh = All-from_recursion (λ (pair : A × ℕ). 0 < pair.1) pairs (clones-weigh (pairs_of s.levels) pairs same (pairs-weigh s.levels))
+  first-weighed : (w : ℕ) (xs : List A) → map (λ (pair : A × ℕ). pair.0) (weighed w xs) ≡ xs
+  first-weighed w [] = refl
+  first-weighed w (x ∷ xs) = ap (λ (ys : List A). x ∷ ys) (first-weighed w xs)
 
-    -- they weigh n together
-    pub clones-weigh_n : sum_by (λ (pair : A × ℕ). pair.1) pairs ≡ s.n
-    clones-weigh_n = sum-clones (pairs_of s.levels) pairs same ∙ (weigh-pairs cmp s.k s.accuracy s.levels sound.placed ∙ sound.weighs_n)
+  -- in list order their items are those of the level
+  pub items-weighed : (w : ℕ) (xs : List A) (es : List (Weighted A)) → pairs_in es ≡ weighed w xs → items_of es ≡ xs
+  items-weighed w xs es e = sym (items-in_pairs es) ∙ (ap (λ (ps : List (A × ℕ)). map (λ (pair : A × ℕ). pair.0) ps) e ∙ first-weighed w xs)
 
-    -- an extreme is there where a clone is
-    pub clones-there : (extreme found : Option A) → IsThere extreme s.n → SameAnswer cmp extreme found → 0 < length pairs → IsSome found
-    clones-there extreme found there e l =
-        some-there found s.n (there-alike order extreme found s.n e there) (omega (arith, l, weigh-enough pairs (clones-weigh (pairs_of s.levels) pairs same (pairs-weigh s.levels)), clones-weigh_n))
+  -- levels in two parts
+  module _ (n : ℕ) (ls lower upper : List (Level A)) (front : lower ≡ take n ls) (back : upper ≡ drop n ls) where
+    whole : pairs_of ls ≡ pairs_of lower ++ pairs_of upper
+    whole = ap pairs_of (sym (take-append-drop n ls)) ∙ (pairs-append (take n ls) (drop n ls) ∙ ap₂ (λ (ks ms : List (Level A)). pairs_of ks ++ pairs_of ms) (sym front) (sym back))
 
-    among : (ps : List (A × ℕ)) (extreme found : Option A) → sum_by (λ (pair : A × ℕ). pair.1) ps ≡ s.n → IsThere extreme s.n → SameAnswer cmp extreme found →
-        SameAnswer cmp extreme (extreme_among ps found)
+    -- have the weighted items of both
+    pub parts-long : length (pairs_of ls) ≡ length (pairs_of lower) + length (pairs_of upper)
+    parts-long = ap length whole ∙ length-append (pairs_of lower) (pairs_of upper)
+
+    -- the entries of both
+    module _ (xs ys : List (Weighted A)) (low : IsPermutation (pairs_of lower) (pairs_in xs)) (high : IsPermutation (pairs_of upper) (pairs_in ys)) where
+      pub both-long : length xs + length ys ≡ length (pairs_of ls)
+      both-long = omega (arith, entries-long (pairs_of lower) xs low, entries-long (pairs_of upper) ys high, parts-long)
+
+      -- in another order
+      pub both-moved : (zs : List (Weighted A)) → IsPermutation (xs ++ ys) zs → IsPermutation (pairs_of ls) (pairs_in zs)
+      both-moved zs same =
+          let pair : Weighted A → A × ℕ = λ e. (e.item.now, e.weight) in
+          let on : IsPermutation (pairs_in xs ++ pairs_in ys) (pairs_in zs) =
+          subst (λ (ps : List (A × ℕ)). IsPermutation ps (pairs_in zs)) (map-append pair xs ys) (IsPermutation-map pair (xs ++ ys) zs same) in
+          subst (λ (ps : List (A × ℕ)). IsPermutation ps (pairs_in zs)) (sym whole)
+          (IsPermutation-trans (pairs_of lower ++ pairs_of upper) (pairs_in xs ++ pairs_in ys) (pairs_in zs)
+          (IsPermutation-append (pairs_of lower) (pairs_in xs) (pairs_of upper) (pairs_in ys) low high) on)
+
+-- the weighted items of a sketch in another order
+module _ {A : Type 0} {cmp : A → A → Ordering} (order : IsTotalOrder cmp) (s : Req A) (pairs : List (A × ℕ)) (sound : IsSound cmp s) (same : IsPermutation (pairs_of s.levels) pairs) where
+  -- each weighs something
+  pub all-weigh : All (λ (pair : A × ℕ). 0 < pair.1) pairs
+  all-weigh = All-permutation (λ (pair : A × ℕ). 0 < pair.1) (pairs_of s.levels) pairs same (All-from_recursion (λ (pair : A × ℕ). 0 < pair.1) (pairs_of s.levels) (pairs-weigh s.levels))
+
+  -- they weigh n together
+  pub weigh-n : sum_by (λ (pair : A × ℕ). pair.1) pairs ≡ s.n
+  weigh-n = sum_by-IsPermutation (λ (pair : A × ℕ). pair.1) (pairs_of s.levels) pairs same ∙ (weigh-pairs cmp s.k s.accuracy s.levels sound.placed ∙ sound.weighs_n)
+
+  -- there are no more of them
+  pub at-most-n : length pairs ≤ s.n
+  at-most-n = omega (
+    arith,
+    length_permutation (pairs_of s.levels) pairs same,
+    weigh-enough (pairs_of s.levels) (pairs-weigh s.levels),
+    weigh-pairs cmp s.k s.accuracy s.levels sound.placed,
+    sound.weighs_n,
+  )
+
+  module _ {B : Type 0} (entries : List B) (long : length entries ≡ length pairs) where
+    -- an extreme is there where one of them is
+    pub extreme-there : (extreme found : Option A) → IsThere extreme s.n → SameAnswer cmp extreme found → 0 < length entries → IsSome found
+    extreme-there extreme found there e l = some-there found s.n (there-alike order extreme found s.n e there) (omega (arith, l, long, at-most-n))
+
+    among : (es : List B) (extreme found : Option A) → length es ≡ length pairs → IsThere extreme s.n → SameAnswer cmp extreme found → SameAnswer cmp extreme (extreme_among es found)
     among [] None found e there a = tt
-    among [] (Some x) found e there a = absurd (omega (arith, e, there))
+    among [] (Some x) found e there a = absurd (omega (arith, none pairs (sym e), there, weigh-n))
+      where
+        none : (ps : List (A × ℕ)) → length ps ≡ 0 → sum_by (λ (pair : A × ℕ). pair.1) ps ≡ 0
+        none [] z = refl
+        none (p ∷ ps) z = absurd (omega (arith, z))
     among (p ∷ ps) extreme found e there a = a
 
-    -- the view of the clones is one of the sketch
-    pub clones-view : {E : Type 0} (least greatest : Option A) (r : Result (View A) E) → SameAnswer cmp s.least least → SameAnswer cmp s.greatest greatest →
-        IfOk r (λ v. SameItems cmp (sort cmp (copies pairs)) v.entries) → IfOk r (λ v. v.least ≡ extreme_among pairs least) → IfOk r (λ v. v.greatest ≡ extreme_among pairs greatest) →
+    -- the view of them is one of the sketch
+    pub entries-view : {E : Type 0} (least greatest : Option A) (r : Result (View A) E) → SameAnswer cmp s.least least → SameAnswer cmp s.greatest greatest →
+        IfOk r (λ v. SameItems cmp (sort cmp (copies pairs)) v.entries) → IfOk r (λ v. v.least ≡ extreme_among entries least) → IfOk r (λ v. v.greatest ≡ extreme_among entries greatest) →
         IfOk r (IsViewOf cmp (bag_of s.levels) s.n s.least s.greatest)
-    clones-view least greatest r l g entries le ge =
+    entries-view least greatest r l g found le ge =
         let whole : SameItems cmp (expanded cmp (bag_of s.levels)) (sort cmp (copies pairs)) =
         subst (λ (xs : List A). SameItems cmp (sort cmp xs) (sort cmp (copies pairs))) (copies-pairs cmp s.k s.accuracy 0 s.levels sound.placed)
-        (SameItems-sort cmp order (copies (pairs_of s.levels)) (copies pairs) (copies-clones (pairs_of s.levels) pairs same)) in
-        built-view order (bag_of s.levels) s.n s.least (extreme_among pairs least) s.greatest (extreme_among pairs greatest) r (weight_is s.levels ∙ sound.weighs_n)
-        (among pairs s.least least clones-weigh_n sound.least_there l) (among pairs s.greatest greatest clones-weigh_n sound.greatest_there g)
+        (copies-moved order (pairs_of s.levels) pairs same) in
+        built-view order (bag_of s.levels) s.n s.least (extreme_among entries least) s.greatest (extreme_among entries greatest) r (weight_is s.levels ∙ sound.weighs_n)
+        (among entries s.least least long sound.least_there l) (among entries s.greatest greatest long sound.greatest_there g)
         (ok-weaker r (λ v. SameItems cmp (sort cmp (copies pairs)) v.entries) (λ v. SameItems cmp (expanded cmp (bag_of s.levels)) v.entries)
-        (λ v h. SameItems-trans cmp order (expanded cmp (bag_of s.levels)) (sort cmp (copies pairs)) v.entries whole h) entries) le ge
+        (λ v h. SameItems-trans cmp order (expanded cmp (bag_of s.levels)) (sort cmp (copies pairs)) v.entries whole h) found) le ge

@@ -1,17 +1,18 @@
 //! Queries of a sketch that use a view.
-ghost use Rattle.std.specs.Prelude.{◌≡◌, ◌≢◌, Some, IsSome, IfOk, IfErr, IfSome, map, slice_get, sum_by};
+ghost use Rattle.std.specs.Prelude.{◌≡◌, ◌≢◌, ◌^◌, ◌<◌, Some, IsSome, IsSorted, IfOk, IfErr, IfSome, length, map, slice_get, sum_by};
 ghost use Rattle.std.specs.declared.cmp.Ordering.TheVariants.{Equal};
 ghost use Rattle.std.specs.List.{All};
-ghost use Rattle.std.specs.List.Sorted.{IsNonDecreasing};
+ghost use Rattle.std.specs.List.Sorted.{IsNonDecreasing, IsPermutation};
 ghost use Rattle.sketch_base.specs.declared.error.ErrorKind.TheVariants.{OutOfMemory};
 ghost use Rattle.sketch_base.specs.Answered.{FindsQuantiles, FindsRanks, IsFoundAmong, IsRefusedUnless};
 ghost use Rattle.sketch_base.specs.Bag.{expanded};
 ghost use Rattle.sketch_base.specs.Pairs.{distinct};
 ghost use Rattle.sketch_base.specs.Queries.{IsFraction, IsIncreasing, SameAnswer, cdf_of, pmf_of};
 ghost use Rattle.sketch_base.specs.Views.{IsViewOf, quantile_of};
+ghost use Rattle.sketch_base.specs.Weighted.{items_of, pairs_in};
 ghost use Rattle.sketch_req.specs.Actions.{bag_of};
-ghost use Rattle.sketch_req.specs.Pairs.{pairs_of};
-ghost use Rattle.sketch_req.specs.Views.{SamePairs, view_of};
+ghost use Rattle.sketch_req.specs.Pairs.{pairs_of, weighed};
+ghost use Rattle.sketch_req.specs.Views.{view_of};
 
 use super::ReqSketch;
 use crate::compactor::Compactor;
@@ -23,7 +24,8 @@ use sketch_base::common::queries::{
     check_fraction, check_fractions, check_points, place_of, take_differences,
 };
 use sketch_base::error::Error;
-use std::alloc::AllocError;
+use sketch_base::weighted::{Weighted, merge_weighted, sort_by_item, weigh_items};
+use std::alloc::{AllocError, Global};
 
 impl<T: Clone + Ord> ReqSketch<T> {
     /// A snapshot of the items in order, for many queries. Equal items are joined in it.
@@ -39,24 +41,19 @@ impl<T: Clone + Ord> ReqSketch<T> {
     {
         let least = clone_found(self.min_item.as_ref())?;
         let greatest = clone_found(self.max_item.as_ref())?;
-        let weighted = self.clone_pairs()?;
-        SortedView::new(weighted, least, greatest)
+        let entries = self.entries()?;
+        SortedView::from_weighted(*entries.allocator(), entries.as_slice(), least, greatest)
     }
 
-    /// Clones of the retained items, each with its weight.
-    fn clone_pairs(&self) -> Result<Vec<(T, u64)>, AllocError>
-        requires clones { (x y : T) → T.is_clone x y → T.cmp x y ≡ Equal }
-        ensures pairs { IfOk result (λ pairs.
-            SamePairs T.cmp (pairs_of self.now.levels) pairs.items) }
+    /// The retained items with their weights, in order.
+    fn entries(&self) -> Result<Vec<Weighted<'_, T>>, AllocError>
+        ensures moved { IfOk result (λ v.
+            IsPermutation (pairs_of self.now.levels) (pairs_in v.items)) }
+        ensures sorted { IfOk result (λ v. IsSorted T.cmp (items_of v.items)) }
         ensures some { IfErr result (λ e. self.now.n ≢ 0) }
     {
         let levels = &self.levels;
-        let mut pairs = Vec::with_capacity(*levels.compactors.allocator(), levels.num_retained)?;
-        for (item, weight) in self.iter() {
-            let copy = item.clone()?;
-            pairs.push_reserved((copy, weight));
-        }
-        Ok(pairs)
+        merge_levels(*levels.compactors.allocator(), levels.compactors.as_slice())
     }
 
     /// The item that a fraction names; None for an empty sketch.
@@ -183,4 +180,42 @@ impl<T: Clone + Ord> ReqSketch<T> {
         take_differences(ranks.as_mut_slice());
         Ok(Some(ranks))
     }
+}
+
+/// The items of levels with their weights, in order: those of either half are merged. Neighbouring
+/// levels have few items in one another's midst, so that a merge mostly goes on with the same one.
+fn merge_levels<'a, T: Clone + Ord>(
+    alloc: Global,
+    levels: &'a [Compactor<T>],
+) -> Result<Vec<Weighted<'a, T>>, AllocError>
+    requires some { 0 < length levels.now }
+    requires few { length (pairs_of levels.now) < 2 ^ 64 }
+    ensures moved { IfOk result (λ v. IsPermutation (pairs_of levels.now) (pairs_in v.items)) }
+    ensures sorted { IfOk result (λ v. IsSorted T.cmp (items_of v.items)) }
+    ensures some { IfErr result (λ e. 0 < length (pairs_of levels.now)) }
+{
+    if levels.len() == 1 {
+        return weigh_level(alloc, &levels[0]);
+    }
+    let (lower, upper) = levels.split_at(levels.len() / 2);
+    let lower = merge_levels(alloc, lower)?;
+    let upper = merge_levels(alloc, upper)?;
+    merge_weighted(alloc, lower.as_slice(), upper.as_slice())
+}
+
+/// The items of a level with its weight, in order.
+fn weigh_level<T: Clone + Ord>(
+    alloc: Global,
+    level: &Compactor<T>,
+) -> Result<Vec<Weighted<'_, T>>, AllocError>
+    ensures moved { IfOk result (λ v.
+        IsPermutation (weighed (2 ^ level.now.lg_weight) level.now.items) (pairs_in v.items)) }
+    ensures sorted { IfOk result (λ v. IsSorted T.cmp (items_of v.items)) }
+    ensures some { IfErr result (λ e. 0 < length level.now.items) }
+{
+    let mut entries = weigh_items(alloc, level.items_slice(), level.weight())?;
+    if !level.is_sorted() {
+        sort_by_item(&mut entries);
+    }
+    Ok(entries)
 }

@@ -1,23 +1,25 @@
-use Rattle.std.proofs.Common.{◌<◌, ◌^◌, subst, sym, arith}
+use Rattle.std.proofs.Common.{◌≢◌, ◌<◌, ◌^◌, length, subst, sym, ap, arith, IsPermutation}
 use Rattle.std.specs.Prelude.{Option}
+use Rattle.sketch_base.proofs.Results.{err-weaker}
+use Rattle.sketch_base.proofs.WeightedItems.{length-pairs_in}
 use Rattle.sketch_base.specs.Queries.{SameAnswer}
+use Rattle.sketch_base.specs.Weighted.{pairs_in}
 use Rattle.sketch_req.specs.Pairs.{pairs_of}
-use Rattle.sketch_req.specs.Views.{SamePairs}
 use Rattle.sketch_req.specs.Sketch.{Req, sketch_of}
-use Rattle.sketch_req.proofs.Views.{clones-all_weigh, clones-there, clones-view, clones-weigh_n}
+use Rattle.sketch_req.proofs.Views.{all-weigh, at-most-n, entries-view, extreme-there, weigh-n}
 use Rattle.sketch_req.proofs.sketch.ReqSketch.sorted_view.Given.{Over}
-use Rattle.sketch_req.proofs.sketch.ReqSketch.sorted_view.Goals.{In_ok-weighted}
+use Rattle.sketch_req.proofs.sketch.ReqSketch.sorted_view.Goals.{In_ok-entries}
 use Rattle.sketch_req.proofs.sketch.ReqSketch.sorted_view.Goals as goal
 
--- the clones, and what they are clones of
-module _ (g : Over) (c : In_ok-weighted g) where
+-- the entries, and what they are entries of
+module _ (g : Over) (c : In_ok-entries g) where
   abbrev sketch : Req g.row.T.Denot
   sketch = let s = c.self.inside in sketch_of s.levels.k s.levels.accuracy s.n s.levels.levels s.min_item s.max_item
 
-  pairs : SamePairs g.T.Ord.cmp (pairs_of sketch.levels) c.in_ok-weighted.weighted.items
-  pairs =
-      let found = c.in_ok-weighted.weighted.items in
-      subst (λ (t : Req g.row.T.Denot). SamePairs g.T.Ord.cmp (pairs_of t.levels) found) (sym c.self.view_is) c.in_ok-weighted.ensures.pairs
+  moved : IsPermutation (pairs_of sketch.levels) (pairs_in c.in_ok-entries.entries.items)
+  moved =
+      let found = c.in_ok-entries.entries.items in
+      subst (λ (t : Req g.row.T.Denot). IsPermutation (pairs_of t.levels) (pairs_in found)) (sym c.self.view_is) c.in_ok-entries.ensures.moved
 
   least : SameAnswer g.T.Ord.cmp sketch.least c.in_ok-least.least
   least = subst (λ (x : Option g.row.T.Denot). SameAnswer g.T.Ord.cmp x c.in_ok-least.least) c.as_ref.ensures.value c.in_ok-least.ensures.same
@@ -25,26 +27,43 @@ module _ (g : Over) (c : In_ok-weighted g) where
   greatest : SameAnswer g.T.Ord.cmp sketch.greatest c.in_ok-greatest.greatest
   greatest = subst (λ (x : Option g.row.T.Denot). SameAnswer g.T.Ord.cmp x c.in_ok-greatest.greatest) c.as_ref-2.ensures.value c.in_ok-greatest.ensures.same
 
-pub new-requires-clause-weights : goal.new-requires-clause-weights
-new-requires-clause-weights g c = clones-all_weigh g.met.T.Ord.total (sketch g c) c.in_ok-weighted.weighted.items c.self.invariant (pairs g c)
+pub from_weighted-requires-clause-weights : goal.from_weighted-requires-clause-weights
+from_weighted-requires-clause-weights g c =
+    let before = (goal.at.from_weighted-requires-clause-weights g c).In_ok-entries in
+    let all = all-weigh g.met.T.Ord.total (sketch g before) (pairs_in c.in_ok-entries.entries.items) c.self.invariant (moved g before) in
+    rw c.as_slice.ensures.value all
 
-pub new-requires-clause-fits : goal.new-requires-clause-fits
-new-requires-clause-fits g c =
+pub from_weighted-requires-clause-fits : goal.from_weighted-requires-clause-fits
+from_weighted-requires-clause-fits g c =
+    let before = (goal.at.from_weighted-requires-clause-fits g c).In_ok-entries in
     let small : c.self.inside.n < 2 ^ 64 = c.self.invariant.n_fits in
-    omega (arith, small, clones-weigh_n g.met.T.Ord.total (sketch g c) c.in_ok-weighted.weighted.items c.self.invariant (pairs g c))
+    rw c.as_slice.ensures.value (omega (arith, small, weigh-n g.met.T.Ord.total (sketch g before) (pairs_in c.in_ok-entries.entries.items) c.self.invariant (moved g before)))
 
-pub new-requires-clause-least : goal.new-requires-clause-least
-new-requires-clause-least g c =
-    clones-there g.met.T.Ord.total (sketch g c) c.in_ok-weighted.weighted.items c.self.invariant (pairs g c)
-    c.self.inside.min_item c.in_ok-least.least c.self.invariant.least_there (least g c)
+pub from_weighted-requires-clause-least : goal.from_weighted-requires-clause-least
+from_weighted-requires-clause-least g c =
+    let before = (goal.at.from_weighted-requires-clause-least g c).In_ok-entries in
+    rw c.as_slice.ensures.value (extreme-there g.met.T.Ord.total (sketch g before) (pairs_in c.in_ok-entries.entries.items) c.self.invariant (moved g before)
+    c.in_ok-entries.entries.items (sym (length-pairs_in c.in_ok-entries.entries.items)) c.self.inside.min_item c.in_ok-least.least c.self.invariant.least_there (least g before))
 
-pub new-requires-clause-greatest : goal.new-requires-clause-greatest
-new-requires-clause-greatest g c =
-    clones-there g.met.T.Ord.total (sketch g c) c.in_ok-weighted.weighted.items c.self.invariant (pairs g c)
-    c.self.inside.max_item c.in_ok-greatest.greatest c.self.invariant.greatest_there (greatest g c)
+pub from_weighted-requires-clause-greatest : goal.from_weighted-requires-clause-greatest
+from_weighted-requires-clause-greatest g c =
+    let before = (goal.at.from_weighted-requires-clause-greatest g c).In_ok-entries in
+    rw c.as_slice.ensures.value (extreme-there g.met.T.Ord.total (sketch g before) (pairs_in c.in_ok-entries.entries.items) c.self.invariant (moved g before)
+    c.in_ok-entries.entries.items (sym (length-pairs_in c.in_ok-entries.entries.items)) c.self.inside.max_item c.in_ok-greatest.greatest c.self.invariant.greatest_there (greatest g before))
 
 pub returns-clause-view : goal.returns-clause-view
 returns-clause-view g c =
-    let before = (goal.at.returns-clause-view g c).In_ok-weighted in
-    rw (← c.self.view_is) (clones-view g.met.T.Ord.total (sketch g before) c.in_ok-weighted.weighted.items c.self.invariant (pairs g before)
-    c.in_ok-least.least c.in_ok-greatest.greatest _ (least g before) (greatest g before) c.new.ensures.entries c.new.ensures.least c.new.ensures.greatest)
+    let before = (goal.at.returns-clause-view g c).In_ok-entries in
+    let entries = c.in_ok-entries.entries.items in
+    rw (← c.self.view_is) (entries-view g.met.T.Ord.total (sketch g before) (pairs_in entries) c.self.invariant (moved g before) entries (sym (length-pairs_in entries))
+    c.in_ok-least.least c.in_ok-greatest.greatest _ (least g before) (greatest g before) (rw c.as_slice.ensures.value at c.from_weighted.ensures.entries)
+    (rw c.as_slice.ensures.value at c.from_weighted.ensures.least) (rw c.as_slice.ensures.value at c.from_weighted.ensures.greatest))
+
+pub returns-clause-some : goal.returns-clause-some
+returns-clause-some g c =
+    let before = (goal.at.returns-clause-some g c).In_ok-entries in
+    let entries = c.in_ok-entries.entries.items in
+    let most = at-most-n g.met.T.Ord.total (sketch g before) (pairs_in entries) c.self.invariant (moved g before) in
+    err-weaker c.from_weighted.result (λ e. 0 < length c.as_slice.result.now) (λ e. c.args.self.now.n ≢ 0)
+    (λ e some none.
+    absurd (omega (arith, some, none, most, length-pairs_in entries, ap length c.as_slice.ensures.value, ap (λ (t : Req g.row.T.Denot). t.n) c.self.view_is))) c.from_weighted.ensures.none

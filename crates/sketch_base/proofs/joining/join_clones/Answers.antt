@@ -1,0 +1,73 @@
+use Rattle.std.proofs.Common.{◌≡◌, ℕ, ◌+◌, [], ◌∷◌, List, length, drop, ap, sym, ◌∙◌, refl, arith, rules}
+use Rattle.std.proofs.lemmas.List.{drop_all}
+use Rattle.std.specs.Prelude.{vec_capacity, vec_len}
+use Rattle.sketch_base.specs.Pairs.{is_below_next}
+use Rattle.sketch_base.specs.declared.weighted.Weighted.{Weighted}
+use Rattle.sketch_base.specs.Weighted.{pairs_in}
+use Rattle.sketch_base.proofs.JoinedViews.{IsJoined, joined-fits, joined-none, joined-over, joined-push, joined-whole}
+use Rattle.sketch_base.proofs.WeightedItems.{pairs-at, tail-whole}
+use Rattle.sketch_base.proofs.joining.join_clones.Given.{Over}
+use Rattle.sketch_base.proofs.joining.join_clones.Goals.{After-index-entries-place, then-is_below_first+in_ok-clone, else-is_below_first}
+use Rattle.sketch_base.proofs.joining.join_clones.Goals as goal
+
+pub loop-place-init : goal.loop-place-init
+loop-place-init g c =
+    let none = joined-none g.met.T.Ord.total (pairs_in c.args.entries.now) in
+    let no_items = c.in_ok-items.ensures.items in
+    let no_weights = c.in_ok-weights.ensures.items in
+    record {
+      joined = rw (no_items, no_weights) none;
+      room = rw no_items (omega arith);
+      weights_room = rw no_weights (omega arith);
+      capacity = c.in_ok-items.ensures.capacity;
+      weights_capacity = c.in_ok-weights.ensures.capacity;
+    }
+
+-- the item at the place, and those behind it
+module _ (g : Over) (c : After-index-entries-place g) where
+  at :
+      IsJoined g.T.Ord.cmp (pairs_in c.args.entries.now)
+      ((c.index-entries-place.result.item.now, c.index-entries-place.result.weight) ∷ pairs_in (drop (c.loop-place.place + 1) c.args.entries.now)) c.loop-place.items.items c.loop-place.weights.items c.loop-place.total
+  at = rw (pairs-at c.args.entries.now c.loop-place.place c.index-entries-place.result c.loop-place-test.true c.index-entries-place.is) at c.loop-place.invariant.joined
+
+pub overflow_add-total : goal.overflow_add-total
+overflow_add-total g c =
+    let fits = joined-fits g.met.T.Ord.total _ _ _ _ _ _ _ (at g c) in
+    omega (arith, fits, c.requires.fits)
+
+pub loop-place-preserved : goal.loop-place-preserved
+loop-place-preserved g c =
+    let i = c.loop-place.invariant in
+    let e = c.index-entries-place.result in
+    let after : List (g.row.T.Denot × ℕ) = pairs_in (drop (c.loop-place.place + 1) c.args.entries.now) in
+    let j = at g (goal.at.loop-place-preserved g c).After-index-entries-place in
+    let below : c.is_below_first.result ≡ is_below_next g.T.Ord.cmp e.item.now after =
+    c.is_below_first.ensures ∙ ap (λ (es : List (Weighted g.row.T.Denot)). is_below_next g.T.Ord.cmp e.item.now (pairs_in es)) (tail-whole (c.loop-place.place + 1) _ c.args.entries.now refl) in
+    elim c.if-is_below_first.branch [
+      | then-is_below_first+in_ok-clone w ↦
+          let same = c.requires.clones e.item.now w.in_ok-clone.field-0 (search rules) in
+          let pushed = joined-push g.met.T.Ord.total _ after e.item.now e.weight c.loop-place.total _ _ j w.in_ok-clone.field-0 _ _ (sym below ∙ w.if-is_below_first.true) same
+          w.push_reserved.ensures.items w.push_reserved-then-is_below_first.ensures.items in
+          record {
+            joined = rw (w.items-is, w.weights-is) pushed;
+            room = omega (arith, i.room, ap (λ v. vec_len v) w.items-is, w.push_reserved.ensures.len);
+            weights_room = omega (arith, i.weights_room, ap (λ v. vec_len v) w.weights-is, w.push_reserved-then-is_below_first.ensures.len);
+            capacity = omega (arith, i.capacity, ap vec_capacity w.items-is, w.push_reserved.ensures.capacity);
+            weights_capacity = omega (arith, i.weights_capacity, ap vec_capacity w.weights-is, w.push_reserved-then-is_below_first.ensures.capacity);
+          }
+      | else-is_below_first w ↦
+          let over = joined-over g.met.T.Ord.total _ after e.item.now e.weight c.loop-place.total _ _ j (sym below ∙ w.if-is_below_first.false) in
+          record {
+            joined = rw (w.items-is, w.weights-is) over;
+            room = omega (arith, i.room, ap (λ v. length v.items) w.items-is);
+            weights_room = omega (arith, i.weights_room, ap (λ v. length v.items) w.weights-is);
+            capacity = omega (arith, i.capacity, ap vec_capacity w.items-is);
+            weights_capacity = omega (arith, i.weights_capacity, ap vec_capacity w.weights-is);
+          }
+    ]
+
+pub returns : goal.returns
+returns g c =
+    let none : pairs_in (drop c.loop-place.place c.args.entries.now) ≡ [] = ap (λ (es : List (Weighted g.row.T.Denot)). pairs_in es) (drop_all c.loop-place.place c.args.entries.now c.loop-place-test.false) in
+    let whole = joined-whole g.met.T.Ord.total _ _ _ _ _ none c.loop-place.invariant.joined in
+    record { items = whole.0; weights = whole.1; some = tt }

@@ -1,0 +1,48 @@
+use Rattle.std.proofs.Common.{◌+◌, ◌<◌, ◌^◌, ◌++◌, length, ap, arith, rules, IsPermutation}
+use Rattle.sketch_base.specs.Weighted.{pairs_in}
+use Rattle.sketch_base.proofs.Results.{err-weaker, ok-weaker}
+use Rattle.sketch_req.specs.Pairs.{pairs_of}
+use Rattle.sketch_req.proofs.Views.{both-long, both-moved, parts-long}
+use Rattle.sketch_req.proofs.sketch.queries.+merge_levels.Goals as goal
+
+pub merge_levels-requires : goal.merge_levels-requires
+merge_levels-requires g t c =
+    let long = parts-long _ c.args.levels.now c.split_at.result.0.now c.split_at.result.1.now c.split_at.ensures.front c.split_at.ensures.back in
+    let few : length (pairs_of c.split_at.result.0.now) < 2 ^ 64 = omega (arith, long, c.requires.few) in
+    let some : 0 < length c.split_at.result.0.now = omega (arith, c.split_at.ensures.front_len, c.if-levels-eq1.false, c.requires.some) in
+    let smaller : length c.split_at.result.0.now < length c.args.levels.now = omega (arith, c.split_at.ensures.front_len, c.requires.some) in
+    search rules
+
+pub merge_levels-requires-2 : goal.merge_levels-requires-2
+merge_levels-requires-2 g t c =
+    let long = parts-long _ c.args.levels.now c.split_at.result.0.now c.split_at.result.1.now c.split_at.ensures.front c.split_at.ensures.back in
+    let few : length (pairs_of c.split_at.result.1.now) < 2 ^ 64 = omega (arith, long, c.requires.few) in
+    let some : 0 < length c.split_at.result.1.now = omega (arith, c.split_at.ensures.back_len, c.requires.some) in
+    let smaller : length c.split_at.result.1.now < length c.args.levels.now = omega (arith, c.split_at.ensures.back_len, c.if-levels-eq1.false, c.requires.some) in
+    search rules
+
+pub returns-in_err-lower-clause-some : goal.returns-in_err-lower-clause-some
+returns-in_err-lower-clause-some g t c =
+    let long = parts-long _ c.args.levels.now c.split_at.result.0.now c.split_at.result.1.now c.split_at.ensures.front c.split_at.ensures.back in
+    let some : 0 < length (pairs_of c.args.levels.now) = omega (arith, long, c.in_err-lower.ensures.some) in
+    search rules
+
+pub returns-in_err-upper-clause-some : goal.returns-in_err-upper-clause-some
+returns-in_err-upper-clause-some g t c =
+    let long = parts-long _ c.args.levels.now c.split_at.result.0.now c.split_at.result.1.now c.split_at.ensures.front c.split_at.ensures.back in
+    let some : 0 < length (pairs_of c.args.levels.now) = omega (arith, long, c.in_err-upper.ensures.some) in
+    search rules
+
+pub returns-clause-moved : goal.returns-clause-moved
+returns-clause-moved g t c =
+    ok-weaker c.merge_weighted.result (λ v. IsPermutation (c.as_slice.result.now ++ c.as_slice-2.result.now) v.items) (λ v. IsPermutation (pairs_of c.args.levels.now) (pairs_in v.items))
+    (λ v same.
+    both-moved _ c.args.levels.now c.split_at.result.0.now c.split_at.result.1.now c.split_at.ensures.front c.split_at.ensures.back c.in_ok-lower.lower.items c.in_ok-upper.upper.items
+    c.in_ok-lower.ensures.moved c.in_ok-upper.ensures.moved v.items (rw (c.as_slice.ensures.value, c.as_slice-2.ensures.value) at same)) c.merge_weighted.ensures.moved
+
+pub returns-clause-some : goal.returns-clause-some
+returns-clause-some g t c =
+    let long = both-long _ c.args.levels.now c.split_at.result.0.now c.split_at.result.1.now c.split_at.ensures.front c.split_at.ensures.back c.in_ok-lower.lower.items c.in_ok-upper.upper.items
+    c.in_ok-lower.ensures.moved c.in_ok-upper.ensures.moved in
+    err-weaker c.merge_weighted.result (λ e. 0 < length c.as_slice.result.now + length c.as_slice-2.result.now) (λ e. 0 < length (pairs_of c.args.levels.now))
+    (λ e some. omega (arith, some, long, ap length c.as_slice.ensures.value, ap length c.as_slice-2.ensures.value)) c.merge_weighted.ensures.some
