@@ -15,14 +15,15 @@ ghost use Rattle.sketch_req.specs.Pairs.{pairs_of, weighed};
 ghost use Rattle.sketch_req.specs.Views.{view_of};
 
 use super::ReqSketch;
+use super::levels::weight_counted;
 use crate::compactor::Compactor;
 use crate::sorted_view::SortedView;
-use sketch_base::common::Rank;
-use sketch_base::common::SearchCriteria::{self, Exclusive, Inclusive};
 use sketch_base::common::extremes::clone_found;
+use sketch_base::common::finding::{Ranked, find_in};
 use sketch_base::common::queries::{
     check_fraction, check_fractions, check_points, place_of, take_differences,
 };
+use sketch_base::common::{Rank, SearchCriteria};
 use sketch_base::error::Error;
 use sketch_base::weighted::{Weighted, merge_weighted, sort_by_item, weigh_items};
 use std::alloc::{AllocError, Global};
@@ -97,24 +98,7 @@ impl<T: Clone + Ord> ReqSketch<T> {
             (slice_get (expanded T.cmp (bag_of self.now.levels)) place) (Some x.now)) }
     {
         let mut levels = self.levels.compactors.iter().rev();
-        levels.find_map(|level| self.find_in(level, place))
-    }
-
-    /// The item at a place of all entries in order, where a level is in order and holds it.
-    fn find_in<'a>(&self, level: &'a Compactor<T>, place: u64) -> Option<&'a T>
-        ensures { IfSome result (λ x. SameAnswer T.cmp
-            (slice_get (expanded T.cmp (bag_of self.now.levels)) place) (Some x.now)) }
-    {
-        if !level.is_sorted() {
-            return None;
-        }
-        let items = level.items_slice();
-        let first = items.partition_point(|item| self.rank_weight(item, Inclusive) <= place);
-        let item = items.get(first)?;
-        if self.rank_weight(item, Exclusive) <= place && place < self.rank_weight(item, Inclusive) {
-            return Some(item);
-        }
-        None
+        levels.find_map(|level| find_in(self, level.items_slice(), place))
     }
 
     /// The items that fractions name, one for each; None for an empty sketch. Errors as for one
@@ -179,6 +163,15 @@ impl<T: Clone + Ord> ReqSketch<T> {
         };
         take_differences(ranks.as_mut_slice());
         Ok(Some(ranks))
+    }
+}
+
+impl<T: Clone + Ord> Ranked<T> for ReqSketch<T> {
+    ghost bag = { λ s. bag_of s.levels };
+
+    fn rank_weight(&self, item: &T, criteria: SearchCriteria) -> u64 {
+        let levels = &self.levels;
+        weight_counted(levels.compactors.as_slice(), item, criteria)
     }
 }
 

@@ -3,7 +3,7 @@ use Rattle.sketch_base.specs.Query.{counted}
 use Rattle.sketch_req.specs.Held.{Held}
 use Rattle.sketch_req.specs.Rank.{counted_weight}
 use Rattle.sketch_req.proofs.Rank.{rank_is}
-use Rattle.sketch_req.proofs.sketch.ReqSketch.rank_weight.Goals as goal
+use Rattle.sketch_req.proofs.sketch.queries.ReqSketchRanked.rank_weight.Goals as goal
 
 pub returns : goal.returns
 returns g c =
