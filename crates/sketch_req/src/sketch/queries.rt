@@ -215,7 +215,7 @@ fn weigh_level<T: Clone + Ord>(
 {
     let mut entries = weigh_items(alloc, level.items_slice(), level.weight())?;
     if !level.is_sorted() {
-        sort_by_item(&mut entries);
+        sort_by_item(&mut entries)?;
     }
     Ok(entries)
 }

@@ -4,7 +4,7 @@ use Rattle.sketch_base.specs.Weighted.{items_of, pairs_in}
 use Rattle.sketch_req.specs.Pairs.{weighed}
 use Rattle.sketch_req.proofs.Views.{entries-moved, items-weighed}
 use Rattle.sketch_req.proofs.sketch.queries.weigh_level.Given.{Over}
-use Rattle.sketch_req.proofs.sketch.queries.weigh_level.Goals.{In_ok-entries, then-not-is_sorted, else-not-is_sorted}
+use Rattle.sketch_req.proofs.sketch.queries.weigh_level.Goals.{In_ok-entries, then-not-is_sorted+in_ok-sort_by_item, else-not-is_sorted}
 use Rattle.sketch_req.proofs.sketch.queries.weigh_level.Goals as goal
 
 -- in list order
@@ -18,7 +18,7 @@ returns-clause-moved g c =
     let items = c.args.level.now.items in
     let at = pairs g (goal.at.returns-clause-moved g c).In_ok-entries in
     elim c.if-not-is_sorted.branch [
-      | then-not-is_sorted w ↦ rw w.entries-is (entries-moved weight items entries w.sort_by_item.new.entries.items at w.sort_by_item.ensures.permutation)
+      | then-not-is_sorted+in_ok-sort_by_item w ↦ rw w.entries-is (entries-moved weight items entries w.sort_by_item.new.entries.items at w.sort_by_item.ensures.permutation)
       | else-not-is_sorted w ↦ rw w.entries-is (entries-moved weight items entries entries at (IsPermutation-refl entries))
     ]
 
@@ -27,7 +27,7 @@ returns-clause-sorted g c =
     let items = c.args.level.now.items in
     let at = pairs g (goal.at.returns-clause-sorted g c).In_ok-entries in
     let up : IsSorted g.T.Ord.cmp (items_of c.if-not-is_sorted.entries.items) = elim c.if-not-is_sorted.branch [
-      | then-not-is_sorted w ↦ rw w.entries-is w.sort_by_item.ensures.sorted
+      | then-not-is_sorted+in_ok-sort_by_item w ↦ rw w.entries-is w.in_ok-sort_by_item.ensures.sorted
       | else-not-is_sorted w ↦ rw (w.entries-is, items-weighed _ items c.in_ok-entries.entries.items at) (c.is_sorted.ensures.in_order (search rules))
     ] in
     up
