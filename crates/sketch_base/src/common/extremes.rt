@@ -65,8 +65,22 @@ pub fn are_between<T: Ord>(items: &[T], least: &T, greatest: &T) -> bool
     true
 }
 
+/// The same of items that may be said to be in order.
+pub fn are_between_if<T: Ord>(items: &[T], is_sorted: bool, least: &T, greatest: &T) -> bool
+    requires { IsTrue is_sorted → IsSorted T.cmp items.now }
+    ensures yes { IsTrue result
+        → AllByRecursion (IsBetween T.cmp least.now greatest.now) items.now }
+    ensures no { AllByRecursion (IsBetween T.cmp least.now greatest.now) items.now
+        → IsTrue result }
+{
+    if is_sorted {
+        return are_ends_between(items, least, greatest);
+    }
+    are_between(items, least, greatest)
+}
+
 /// The same of items in order, of which the first and the last tell.
-pub fn are_ends_between<T: Ord>(items: &[T], least: &T, greatest: &T) -> bool
+fn are_ends_between<T: Ord>(items: &[T], least: &T, greatest: &T) -> bool
     requires { IsSorted T.cmp items.now }
     ensures yes { IsTrue result
         → AllByRecursion (IsBetween T.cmp least.now greatest.now) items.now }
