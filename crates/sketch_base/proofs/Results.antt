@@ -1,16 +1,11 @@
 -- What is weaker of what may be answered.
 use Rattle.std.proofs.Common.{Result, Ok, Err}
-use Rattle.std.specs.Prelude.{Option, None, Some, IfErr, IfOk, IfSome}
+use Rattle.std.specs.Prelude.{Option, None, Some, IfOk, IfSome}
 
 -- of a value, or of an answer that may be none
 pub ok-weaker : {T E : Type 0} (r : Result T E) (P Q : T → Type 0) → ((x : T) → P x → Q x) → IfOk r P → IfOk r Q
 ok-weaker (Ok x) P Q f h = f x h
 ok-weaker (Err e) P Q f h = h
-
--- of an error
-pub err-weaker : {T E : Type 0} (r : Result T E) (P Q : E → Type 0) → ((e : E) → P e → Q e) → IfErr r P → IfErr r Q
-err-weaker (Ok x) P Q f h = h
-err-weaker (Err e) P Q f h = f e h
 
 -- what holds of a value, weakened
 pub some-weaker : {T : Type 0} (o : Option T) (P Q : T → Type 0) → ((x : T) → P x → Q x) → IfSome o P → IfSome o Q

@@ -73,19 +73,6 @@ module _ {A : Type 0} where
   pub entries-long : (ps : List (A × ℕ)) (xs : List (Weighted A)) → IsPermutation ps (pairs_in xs) → length xs ≡ length ps
   entries-long ps xs same = sym (length-map xs (λ (e : Weighted A). (e.item.now, e.weight))) ∙ length_permutation ps (pairs_in xs) same
 
-  -- the entries of a level, in list order or another
-  pub entries-moved : (w : ℕ) (xs : List A) (es fs : List (Weighted A)) → pairs_in es ≡ weighed w xs → IsPermutation es fs → IsPermutation (weighed w xs) (pairs_in fs)
-  entries-moved w xs es fs e same =
-      subst (λ (ps : List (A × ℕ)). IsPermutation ps (pairs_in fs)) e (IsPermutation-map (λ (e : Weighted A). (e.item.now, e.weight)) es fs same)
-
-  first-weighed : (w : ℕ) (xs : List A) → map (λ (pair : A × ℕ). pair.0) (weighed w xs) ≡ xs
-  first-weighed w [] = refl
-  first-weighed w (x ∷ xs) = ap (λ (ys : List A). x ∷ ys) (first-weighed w xs)
-
-  -- in list order their items are those of the level
-  pub items-weighed : (w : ℕ) (xs : List A) (es : List (Weighted A)) → pairs_in es ≡ weighed w xs → items_of es ≡ xs
-  items-weighed w xs es e = sym (items-in_pairs es) ∙ (ap (λ (ps : List (A × ℕ)). map (λ (pair : A × ℕ). pair.0) ps) e ∙ first-weighed w xs)
-
   -- levels in two parts
   module _ (n : ℕ) (ls lower upper : List (Level A)) (front : lower ≡ take n ls) (back : upper ≡ drop n ls) where
     whole : pairs_of ls ≡ pairs_of lower ++ pairs_of upper

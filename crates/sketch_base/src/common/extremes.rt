@@ -1,6 +1,6 @@
 //! The least and the greatest of some items, items between two, clones of what was found, and the extremes of a stream with
 //! one more item, or with those of another stream.
-ghost use Rattle.std.specs.Prelude.{◌≡◌, ◌<◌, ◌++◌, length, IfOk, IsOk, IsTrue, None, Some, option_copied, if◌then◌else◌};
+ghost use Rattle.std.specs.Prelude.{◌≡◌, ◌<◌, ◌++◌, length, IfOk, IsOk, IsTrue, IsSorted, None, Some, option_copied, if◌then◌else◌};
 ghost use Rattle.std.specs.List.{AllByRecursion};
 ghost use Rattle.std.specs.Option.{option_to_list};
 ghost use Rattle.std.specs.Ordering.{is_gt, is_lt};
@@ -63,6 +63,35 @@ pub fn are_between<T: Ord>(items: &[T], least: &T, greatest: &T) -> bool
         }
     }
     true
+}
+
+/// The same of items that may be said to be in order.
+pub fn are_between_if<T: Ord>(items: &[T], is_sorted: bool, least: &T, greatest: &T) -> bool
+    requires { IsTrue is_sorted → IsSorted T.cmp items.now }
+    ensures yes { IsTrue result
+        → AllByRecursion (IsBetween T.cmp least.now greatest.now) items.now }
+    ensures no { AllByRecursion (IsBetween T.cmp least.now greatest.now) items.now
+        → IsTrue result }
+{
+    if is_sorted {
+        return are_ends_between(items, least, greatest);
+    }
+    are_between(items, least, greatest)
+}
+
+/// The same of items in order, of which the first and the last tell.
+fn are_ends_between<T: Ord>(items: &[T], least: &T, greatest: &T) -> bool
+    requires { IsSorted T.cmp items.now }
+    ensures yes { IsTrue result
+        → AllByRecursion (IsBetween T.cmp least.now greatest.now) items.now }
+    ensures no { AllByRecursion (IsBetween T.cmp least.now greatest.now) items.now
+        → IsTrue result }
+{
+    let count = items.len();
+    if count == 0 {
+        return true;
+    }
+    !least.cmp(&items[0]).is_gt() && !items[count - 1].cmp(greatest).is_gt()
 }
 
 /// Whether an item is below the least item so far.

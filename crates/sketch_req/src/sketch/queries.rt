@@ -11,7 +11,7 @@ ghost use Rattle.sketch_base.specs.Queries.{IsFraction, IsIncreasing, SameAnswer
 ghost use Rattle.sketch_base.specs.Views.{IsViewOf, quantile_of};
 ghost use Rattle.sketch_base.specs.Weighted.{items_of, pairs_in};
 ghost use Rattle.sketch_req.specs.Actions.{bag_of};
-ghost use Rattle.sketch_req.specs.Pairs.{pairs_of, weighed};
+ghost use Rattle.sketch_req.specs.Pairs.{pairs_of};
 ghost use Rattle.sketch_req.specs.Views.{view_of};
 
 use super::ReqSketch;
@@ -25,7 +25,7 @@ use sketch_base::common::queries::{
 };
 use sketch_base::common::{Rank, SearchCriteria};
 use sketch_base::error::Error;
-use sketch_base::weighted::{Weighted, merge_weighted, sort_by_item, weigh_items};
+use sketch_base::weighted::{Weighted, merge_weighted, weigh_in_order};
 use std::alloc::{AllocError, Global};
 
 impl<T: Clone + Ord> ReqSketch<T> {
@@ -188,27 +188,16 @@ fn merge_levels<'a, T: Clone + Ord>(
     ensures some { IfErr result (λ e. 0 < length (pairs_of levels.now)) }
 {
     if levels.len() == 1 {
-        return weigh_level(alloc, &levels[0]);
+        let level = &levels[0];
+        return weigh_in_order(
+            alloc,
+            level.items_slice(),
+            level.weight(),
+            level.is_sorted(),
+        );
     }
     let (lower, upper) = levels.split_at(levels.len() / 2);
     let lower = merge_levels(alloc, lower)?;
     let upper = merge_levels(alloc, upper)?;
     merge_weighted(alloc, lower.as_slice(), upper.as_slice())
-}
-
-/// The items of a level with its weight, in order.
-fn weigh_level<T: Clone + Ord>(
-    alloc: Global,
-    level: &Compactor<T>,
-) -> Result<Vec<Weighted<'_, T>>, AllocError>
-    ensures moved { IfOk result (λ v.
-        IsPermutation (weighed (2 ^ level.now.lg_weight) level.now.items) (pairs_in v.items)) }
-    ensures sorted { IfOk result (λ v. IsSorted T.cmp (items_of v.items)) }
-    ensures some { IfErr result (λ e. 0 < length level.now.items) }
-{
-    let mut entries = weigh_items(alloc, level.items_slice(), level.weight())?;
-    if !level.is_sorted() {
-        sort_by_item(&mut entries);
-    }
-    Ok(entries)
 }

@@ -1,6 +1,6 @@
 use Rattle.std.proofs.Common.{◌≢◌, ◌<◌, ◌^◌, length, subst, sym, ap, arith, IsPermutation}
 use Rattle.std.specs.Prelude.{Option}
-use Rattle.sketch_base.proofs.Results.{err-weaker}
+use Rattle.std.proofs.lemmas.Result.{IfErr-weaker}
 use Rattle.sketch_base.proofs.WeightedItems.{length-pairs_in}
 use Rattle.sketch_base.specs.Queries.{SameAnswer}
 use Rattle.sketch_base.specs.Weighted.{pairs_in}
@@ -64,6 +64,6 @@ returns-clause-some g c =
     let before = (goal.at.returns-clause-some g c).In_ok-entries in
     let entries = c.in_ok-entries.entries.items in
     let most = at-most-n g.met.T.Ord.total (sketch g before) (pairs_in entries) c.self.invariant (moved g before) in
-    err-weaker c.from_weighted.result (λ e. 0 < length c.as_slice.result.now) (λ e. c.args.self.now.n ≢ 0)
+    IfErr-weaker c.from_weighted.result (λ e. 0 < length c.as_slice.result.now) (λ e. c.args.self.now.n ≢ 0)
     (λ e some none.
     absurd (omega (arith, some, none, most, length-pairs_in entries, ap length c.as_slice.ensures.value, ap (λ (t : Req g.row.T.Denot). t.n) c.self.view_is))) c.from_weighted.ensures.none

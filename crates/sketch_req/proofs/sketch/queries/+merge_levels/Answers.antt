@@ -1,6 +1,7 @@
 use Rattle.std.proofs.Common.{◌+◌, ◌<◌, ◌^◌, ◌++◌, length, ap, arith, rules, IsPermutation}
 use Rattle.sketch_base.specs.Weighted.{pairs_in}
-use Rattle.sketch_base.proofs.Results.{err-weaker, ok-weaker}
+use Rattle.std.proofs.lemmas.Result.{IfErr-weaker}
+use Rattle.sketch_base.proofs.Results.{ok-weaker}
 use Rattle.sketch_req.specs.Pairs.{pairs_of}
 use Rattle.sketch_req.proofs.Views.{both-long, both-moved, parts-long}
 use Rattle.sketch_req.proofs.sketch.queries.+merge_levels.Goals as goal
@@ -44,5 +45,5 @@ pub returns-clause-some : goal.returns-clause-some
 returns-clause-some g t c =
     let long = both-long _ c.args.levels.now c.split_at.result.0.now c.split_at.result.1.now c.split_at.ensures.front c.split_at.ensures.back c.in_ok-lower.lower.items c.in_ok-upper.upper.items
     c.in_ok-lower.ensures.moved c.in_ok-upper.ensures.moved in
-    err-weaker c.merge_weighted.result (λ e. 0 < length c.as_slice.result.now + length c.as_slice-2.result.now) (λ e. 0 < length (pairs_of c.args.levels.now))
+    IfErr-weaker c.merge_weighted.result (λ e. 0 < length c.as_slice.result.now + length c.as_slice-2.result.now) (λ e. 0 < length (pairs_of c.args.levels.now))
     (λ e some. omega (arith, some, long, ap length c.as_slice.ensures.value, ap length c.as_slice-2.ensures.value)) c.merge_weighted.ensures.some
