@@ -17,7 +17,7 @@ pub(crate) mod merging;
 mod taking;
 
 use crate::capacity::{MINIMUM_CAPACITY, level_capacity, total_capacity};
-use crate::compaction::compact_level;
+use crate::compaction::{compact_level, order_level};
 use sketch_base::common::SearchCriteria;
 use sketch_base::common::counting::count_all;
 use sketch_base::common::extremes::{clone_if_greatest, clone_if_least};
@@ -151,6 +151,7 @@ impl<T: Ord + Drop> Levels<T> {
         let known = self.bounds.len() - 1;
         add_level_above(&mut self.bounds, level);
         let needs_sorting = needs_sorting(self.is_level_zero_sorted, level);
+        order_level(&mut self.items, &self.bounds, level, needs_sorting);
         let coin = coins.random_bit();
         let count = compact_level(
             &mut self.items,
