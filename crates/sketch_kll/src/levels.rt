@@ -1,6 +1,6 @@
 //! The levels of a sketch in one vector, the highest first, and how updates change them.
 //! What a compaction does to a slice is in `compaction`, merges are in `levels::merging`.
-ghost use Rattle.std.specs.Prelude.{◌≡◌, ℕ, ◌+◌, ◌-◌, ◌*◌, ◌/◌, ◌^◌, ◌<◌, ◌≤◌, [], ◌∷◌, ◌++◌, length, max, IfSome, IfOk, OnOk, vec_len, vec_capacity, if◌then◌else◌, ◌==◌, drop, is_some, false, IsSorted, IsTrue, nat_le};
+ghost use Rattle.std.specs.Prelude.{◌≡◌, ℕ, ◌+◌, ◌-◌, ◌*◌, ◌/◌, ◌^◌, ◌<◌, ◌≤◌, [], ◌∷◌, ◌++◌, length, max, IfSome, IfOk, OnOk, vec_len, vec_capacity, if◌then◌else◌, ◌==◌, drop, is_some, true, false, IsSorted, IsTrue, nat_le};
 ghost use Rattle.std.specs.declared.cmp.Ordering.TheVariants.{Equal};
 ghost use Rattle.std.specs.List.{between};
 ghost use Rattle.sketch_base.specs.Query.{counted};
@@ -20,7 +20,7 @@ use crate::capacity::{MINIMUM_CAPACITY, level_capacity, total_capacity};
 use crate::compaction::{compact_level, order_level};
 use sketch_base::common::SearchCriteria;
 use sketch_base::common::counting::count_all;
-use sketch_base::common::extremes::{clone_if_greatest, clone_if_least};
+use sketch_base::common::extremes::clone_new_extremes;
 use sketch_base::common::random::RandomBits;
 use sketch_base::common::room::{give_back, reserve_next};
 use std::alloc::{AllocError, Global};
@@ -96,11 +96,18 @@ impl<T: Ord + Drop> Levels<T> {
         ensures room { OnOk result (retained self.new.levels < self.new.items_room) }
         ensures spare { OnOk result (length self.new.levels + 1 < self.new.bounds_room) }
     {
-        reserve_both(
-            &mut self.items,
-            &mut self.bounds,
-            self.total_capacity as usize,
-        )
+        let most = self.total_capacity as usize;
+        reserve_both(&mut self.items, &mut self.bounds, most)
+    }
+
+    /// Whether an item can be put in with neither a compaction nor memory.
+    #[inline(always)]
+    pub(crate) fn has_place(&self) -> bool
+        ensures room { result ≡ true → retained self.now.levels < self.now.items_room }
+        ensures below { result ≡ true → is_full self.now.k self.now.levels ≡ false }
+    {
+        let len = self.items.len();
+        len < self.items.capacity() && len < self.total_capacity as usize
     }
 
     /// Gives back memory for more than an eighth more items, and for more than one more level.
@@ -153,13 +160,8 @@ impl<T: Ord + Drop> Levels<T> {
         let needs_sorting = needs_sorting(self.is_level_zero_sorted, level);
         order_level(&mut self.items, &self.bounds, level, needs_sorting);
         let coin = coins.random_bit();
-        let count = compact_level(
-            &mut self.items,
-            &mut self.bounds,
-            level,
-            needs_sorting,
-            coin,
-        );
+        let (items, bounds) = (&mut self.items, &mut self.bounds);
+        let count = compact_level(items, bounds, level, needs_sorting, coin);
         self.items.truncate(self.items.len() - count);
         let num_levels = self.bounds.len() - 1;
         self.total_capacity = total_at(self.k, self.total_capacity, known, num_levels);
@@ -174,7 +176,7 @@ impl<T: Ord + Drop> Levels<T> {
         ensures room { self.old.items_room ≤ self.new.items_room }
         ensures bounds_room { self.new.bounds_room ≡ self.old.bounds_room }
     {
-        self.items.push(item).unwrap();
+        self.items.push_reserved(item);
         self.bounds[0] = self.items.len();
         self.is_level_zero_sorted = false;
     }
@@ -333,21 +335,4 @@ fn shrink_both<T>(items: &mut Vec<T>, bounds: &mut Vec<usize>)
 {
     give_back(items);
     bounds.shrink_to(bounds.len() + 1);
-}
-
-/// The item's clones, one for each extreme that it is.
-fn clone_new_extremes<T: Clone + Ord>(
-    item: &T,
-    least: &Option<T>,
-    greatest: &Option<T>,
-) -> Result<(Option<T>, Option<T>), AllocError>
-    requires clones { (x y : T) → T.is_clone x y → T.cmp x y ≡ Equal }
-    ensures least { IfOk result (λ new.
-        Ties T.cmp (least_with T.cmp item.now least.now) (newer_or new.0 least.now)) }
-    ensures greatest { IfOk result (λ new.
-        Ties T.cmp (greatest_with T.cmp item.now greatest.now) (newer_or new.1 greatest.now)) }
-{
-    let new_least = clone_if_least(item, least)?;
-    let new_greatest = clone_if_greatest(item, greatest)?;
-    Ok((new_least, new_greatest))
 }
