@@ -16,11 +16,10 @@ mod compress;
 pub(crate) mod merging;
 mod taking;
 
-use crate::capacity::{MINIMUM_CAPACITY, level_capacity, total_capacity};
+use crate::capacity::{MINIMUM_CAPACITY, is_surely_least, level_capacity, total_capacity};
 use crate::compaction::{compact_level, order_level};
 use sketch_base::common::SearchCriteria;
 use sketch_base::common::counting::count_all;
-use sketch_base::common::extremes::clone_new_extremes;
 use sketch_base::common::random::RandomBits;
 use sketch_base::common::room::{give_back, reserve_next};
 use std::alloc::{AllocError, Global};
@@ -91,7 +90,7 @@ impl<T: Ord + Drop> Levels<T> {
     }
 
     /// Makes room for one item and one level more.
-    fn reserve_next(&mut self) -> Result<(), AllocError>
+    pub(crate) fn reserve_next(&mut self) -> Result<(), AllocError>
         ensures kept { KeepsLevels self.old self.new }
         ensures room { OnOk result (retained self.new.levels < self.new.items_room) }
         ensures spare { OnOk result (length self.new.levels + 1 < self.new.bounds_room) }
@@ -158,7 +157,7 @@ impl<T: Ord + Drop> Levels<T> {
         let known = self.bounds.len() - 1;
         add_level_above(&mut self.bounds, level);
         let needs_sorting = needs_sorting(self.is_level_zero_sorted, level);
-        order_level(&mut self.items, &self.bounds, level, needs_sorting);
+        order_level(&mut self.items, &self.bounds, needs_sorting);
         let coin = coins.random_bit();
         let (items, bounds) = (&mut self.items, &mut self.bounds);
         let count = compact_level(items, bounds, level, needs_sorting, coin);
@@ -179,28 +178,6 @@ impl<T: Ord + Drop> Levels<T> {
         self.items.push_reserved(item);
         self.bounds[0] = self.items.len();
         self.is_level_zero_sorted = false;
-    }
-}
-
-impl<T: Clone + Ord> Levels<T> {
-    /// Makes room for one item and one level more, and clones the item for each extreme that it is.
-    pub(crate) fn make_room(
-        &mut self,
-        item: &T,
-        least: &Option<T>,
-        greatest: &Option<T>,
-    ) -> Result<(Option<T>, Option<T>), AllocError>
-        requires clones { (x y : T) → T.is_clone x y → T.cmp x y ≡ Equal }
-        ensures kept { KeepsLevels self.old self.new }
-        ensures room { OnOk result (retained self.new.levels < self.new.items_room) }
-        ensures spare { OnOk result (length self.new.levels + 1 < self.new.bounds_room) }
-        ensures least { IfOk result (λ new.
-            Ties T.cmp (least_with T.cmp item.now least.now) (newer_or new.0 least.now)) }
-        ensures greatest { IfOk result (λ new.
-            Ties T.cmp (greatest_with T.cmp item.now greatest.now) (newer_or new.1 greatest.now)) }
-    {
-        self.reserve_next()?;
-        clone_new_extremes(item, least, greatest)
     }
 }
 
@@ -267,8 +244,8 @@ fn find_level_to_compact<T>(k: u16, total: u32, items: &[T], bounds: &[usize]) -
     unreachable!()
 }
 
-/// Whether a level with `count` items is at or over its capacity. One of few items needs no look at
-/// what that is.
+/// Whether a level with `count` items is at or over its capacity. One of few items, and one far below
+/// the top, need no look at what that is.
 fn is_at_capacity(k: u16, num_levels: usize, level: usize, count: usize) -> bool
     requires k { 8 ≤ k }
     requires few_levels { num_levels ≤ 61 }
@@ -276,7 +253,8 @@ fn is_at_capacity(k: u16, num_levels: usize, level: usize, count: usize) -> bool
     ensures { result ≡ nat_le (capacity_at k 8 (num_levels - 1 - level)) count }
 {
     count >= MINIMUM_CAPACITY as usize
-        && count >= level_capacity(k, num_levels, level, MINIMUM_CAPACITY) as usize
+        && (is_surely_least(k, num_levels - 1 - level)
+            || count >= level_capacity(k, num_levels, level, MINIMUM_CAPACITY) as usize)
 }
 
 /// The total capacity of `num_levels` levels, given that of `known` levels.

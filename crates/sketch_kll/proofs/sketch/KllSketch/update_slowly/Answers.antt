@@ -7,15 +7,15 @@ use Rattle.sketch_kll.proofs.sketch.KllSketch.update_slowly.Goals as goal
 pub compact_if_full-requires-clause-light : goal.compact_if_full-requires-clause-light
 compact_if_full-requires-clause-light g c =
     let small : c.self.inside.n < 2 ^ 64 = omega arith in
-    omega (arith, ap weight c.make_room.ensures.kept.levels_are, c.self.invariant.weighs_n, small)
+    omega (arith, ap weight c.reserve_next.ensures.kept.levels_are, c.self.invariant.weighs_n, small)
 
 pub compact_if_full-requires-clause-flag : goal.compact_if_full-requires-clause-flag
-compact_if_full-requires-clause-flag g c = rw (c.make_room.ensures.kept.flag_is, c.make_room.ensures.kept.levels_are) c.self.invariant.flag_holds
+compact_if_full-requires-clause-flag g c = rw (c.reserve_next.ensures.kept.flag_is, c.reserve_next.ensures.kept.levels_are) c.self.invariant.flag_holds
 
 pub returns : goal.returns
 returns g c =
     let small : c.self.inside.n < 2 ^ 64 = omega arith in
-    let kept = c.make_room.ensures.kept in
+    let kept = c.reserve_next.ensures.kept in
     let room = c.compact_if_full.ensures in
     let fields = updated_fields g.met.T.Ord.total g.B.RandomBits.bit g.B.RandomBits.next c.args.item _ c.self.invariant small kept.k_is kept.flag_is kept.levels_are room.levels room.sorted
     (c.push.ensures.k ∙ room.kept.k_is) c.push.ensures.flag room.coins c.push.ensures.levels c.in_ok-least.ensures.least c.set_if_some.ensures c.in_ok-least.ensures.greatest c.set_if_some-2.ensures in
