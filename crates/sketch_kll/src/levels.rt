@@ -1,6 +1,6 @@
 //! The levels of a sketch in one vector, the highest first, and how updates change them.
 //! What a compaction does to a slice is in `compaction`, merges are in `levels::merging`.
-ghost use Rattle.std.specs.Prelude.{◌≡◌, ℕ, ◌+◌, ◌-◌, ◌*◌, ◌/◌, ◌^◌, ◌<◌, ◌≤◌, [], ◌∷◌, ◌++◌, length, max, IfSome, IfOk, OnOk, vec_len, vec_capacity, if◌then◌else◌, ◌==◌, drop, is_some, false, IsSorted, IsTrue, nat_le};
+ghost use Rattle.std.specs.Prelude.{◌≡◌, ℕ, ◌+◌, ◌-◌, ◌*◌, ◌/◌, ◌^◌, ◌<◌, ◌≤◌, [], ◌∷◌, ◌++◌, length, max, IfSome, IfOk, OnOk, vec_len, vec_capacity, if◌then◌else◌, ◌==◌, drop, is_some, true, false, IsSorted, IsTrue, nat_le};
 ghost use Rattle.std.specs.declared.cmp.Ordering.TheVariants.{Equal};
 ghost use Rattle.std.specs.List.{between};
 ghost use Rattle.sketch_base.specs.Query.{counted};
@@ -16,11 +16,10 @@ mod compress;
 pub(crate) mod merging;
 mod taking;
 
-use crate::capacity::{MINIMUM_CAPACITY, level_capacity, total_capacity};
-use crate::compaction::compact_level;
+use crate::capacity::{MINIMUM_CAPACITY, is_surely_least, level_capacity, total_capacity};
+use crate::compaction::{compact_level, order_level};
 use sketch_base::common::SearchCriteria;
 use sketch_base::common::counting::{count_all, count_in_order};
-use sketch_base::common::extremes::{clone_if_greatest, clone_if_least};
 use sketch_base::common::random::RandomBits;
 use sketch_base::common::room::{give_back, reserve_next};
 use std::alloc::{AllocError, Global};
@@ -91,16 +90,23 @@ impl<T: Ord + Drop> Levels<T> {
     }
 
     /// Makes room for one item and one level more.
-    fn reserve_next(&mut self) -> Result<(), AllocError>
+    pub(crate) fn reserve_next(&mut self) -> Result<(), AllocError>
         ensures kept { KeepsLevels self.old self.new }
         ensures room { OnOk result (retained self.new.levels < self.new.items_room) }
         ensures spare { OnOk result (length self.new.levels + 1 < self.new.bounds_room) }
     {
-        reserve_both(
-            &mut self.items,
-            &mut self.bounds,
-            self.total_capacity as usize,
-        )
+        let most = self.total_capacity as usize;
+        reserve_both(&mut self.items, &mut self.bounds, most)
+    }
+
+    /// Whether an item can be put in with neither a compaction nor memory.
+    #[inline(always)]
+    pub(crate) fn has_place(&self) -> bool
+        ensures room { result ≡ true → retained self.now.levels < self.now.items_room }
+        ensures below { result ≡ true → is_full self.now.k self.now.levels ≡ false }
+    {
+        let len = self.items.len();
+        len < self.items.capacity() && len < self.total_capacity as usize
     }
 
     /// Gives back memory for more than an eighth more items, and for more than one more level.
@@ -151,14 +157,10 @@ impl<T: Ord + Drop> Levels<T> {
         let known = self.bounds.len() - 1;
         add_level_above(&mut self.bounds, level);
         let needs_sorting = needs_sorting(self.is_level_zero_sorted, level);
+        order_level(&mut self.items, &self.bounds, needs_sorting);
         let coin = coins.random_bit();
-        let count = compact_level(
-            &mut self.items,
-            &mut self.bounds,
-            level,
-            needs_sorting,
-            coin,
-        );
+        let (items, bounds) = (&mut self.items, &mut self.bounds);
+        let count = compact_level(items, bounds, level, needs_sorting, coin);
         self.items.truncate(self.items.len() - count);
         let num_levels = self.bounds.len() - 1;
         self.total_capacity = total_at(self.k, self.total_capacity, known, num_levels);
@@ -173,31 +175,9 @@ impl<T: Ord + Drop> Levels<T> {
         ensures room { self.old.items_room ≤ self.new.items_room }
         ensures bounds_room { self.new.bounds_room ≡ self.old.bounds_room }
     {
-        self.items.push(item).unwrap();
+        self.items.push_reserved(item);
         self.bounds[0] = self.items.len();
         self.is_level_zero_sorted = false;
-    }
-}
-
-impl<T: Clone + Ord> Levels<T> {
-    /// Makes room for one item and one level more, and clones the item for each extreme that it is.
-    pub(crate) fn make_room(
-        &mut self,
-        item: &T,
-        least: &Option<T>,
-        greatest: &Option<T>,
-    ) -> Result<(Option<T>, Option<T>), AllocError>
-        requires clones { (x y : T) → T.is_clone x y → T.cmp x y ≡ Equal }
-        ensures kept { KeepsLevels self.old self.new }
-        ensures room { OnOk result (retained self.new.levels < self.new.items_room) }
-        ensures spare { OnOk result (length self.new.levels + 1 < self.new.bounds_room) }
-        ensures least { IfOk result (λ new.
-            Ties T.cmp (least_with T.cmp item.now least.now) (newer_or new.0 least.now)) }
-        ensures greatest { IfOk result (λ new.
-            Ties T.cmp (greatest_with T.cmp item.now greatest.now) (newer_or new.1 greatest.now)) }
-    {
-        self.reserve_next()?;
-        clone_new_extremes(item, least, greatest)
     }
 }
 
@@ -266,8 +246,8 @@ fn find_level_to_compact<T>(k: u16, total: u32, items: &[T], bounds: &[usize]) -
     unreachable!()
 }
 
-/// Whether a level with `count` items is at or over its capacity. One of few items needs no look at
-/// what that is.
+/// Whether a level with `count` items is at or over its capacity. One of few items, and one far below
+/// the top, need no look at what that is.
 fn is_at_capacity(k: u16, num_levels: usize, level: usize, count: usize) -> bool
     requires k { 8 ≤ k }
     requires few_levels { num_levels ≤ 61 }
@@ -275,7 +255,8 @@ fn is_at_capacity(k: u16, num_levels: usize, level: usize, count: usize) -> bool
     ensures { result ≡ nat_le (capacity_at k 8 (num_levels - 1 - level)) count }
 {
     count >= MINIMUM_CAPACITY as usize
-        && count >= level_capacity(k, num_levels, level, MINIMUM_CAPACITY) as usize
+        && (is_surely_least(k, num_levels - 1 - level)
+            || count >= level_capacity(k, num_levels, level, MINIMUM_CAPACITY) as usize)
 }
 
 /// The total capacity of `num_levels` levels, given that of `known` levels.
@@ -334,21 +315,4 @@ fn shrink_both<T>(items: &mut Vec<T>, bounds: &mut Vec<usize>)
 {
     give_back(items);
     bounds.shrink_to(bounds.len() + 1);
-}
-
-/// The item's clones, one for each extreme that it is.
-fn clone_new_extremes<T: Clone + Ord>(
-    item: &T,
-    least: &Option<T>,
-    greatest: &Option<T>,
-) -> Result<(Option<T>, Option<T>), AllocError>
-    requires clones { (x y : T) → T.is_clone x y → T.cmp x y ≡ Equal }
-    ensures least { IfOk result (λ new.
-        Ties T.cmp (least_with T.cmp item.now least.now) (newer_or new.0 least.now)) }
-    ensures greatest { IfOk result (λ new.
-        Ties T.cmp (greatest_with T.cmp item.now greatest.now) (newer_or new.1 greatest.now)) }
-{
-    let new_least = clone_if_least(item, least)?;
-    let new_greatest = clone_if_greatest(item, greatest)?;
-    Ok((new_least, new_greatest))
 }

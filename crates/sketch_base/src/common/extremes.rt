@@ -146,6 +146,23 @@ pub fn clone_if_greatest<T: Clone + Ord>(
     clone_if(is_new_greatest(item, greatest), item)
 }
 
+/// The item's clones, one for each extreme that it is.
+pub fn clone_new_extremes<T: Clone + Ord>(
+    item: &T,
+    least: &Option<T>,
+    greatest: &Option<T>,
+) -> Result<(Option<T>, Option<T>), AllocError>
+    requires clones { (x y : T) → T.is_clone x y → T.cmp x y ≡ Equal }
+    ensures least { IfOk result (λ new.
+        Ties T.cmp (least_with T.cmp item.now least.now) (newer_or new.0 least.now)) }
+    ensures greatest { IfOk result (λ new.
+        Ties T.cmp (greatest_with T.cmp item.now greatest.now) (newer_or new.1 greatest.now)) }
+{
+    let new_least = clone_if_least(item, least)?;
+    let new_greatest = clone_if_greatest(item, greatest)?;
+    Ok((new_least, new_greatest))
+}
+
 /// Whether no item passes an extreme so far.
 fn are_within<T: Ord>(items: &[T], least: &Option<T>, greatest: &Option<T>) -> bool
     ensures least { IsTrue result → AllByRecursion (IsFrom T.cmp least.now) items.now }

@@ -1,15 +1,17 @@
-use Rattle.std.proofs.Common.{◌≡◌, ◌-◌, ap₂, ℕ, List, ◌++◌, take, drop, IsSorted, length, rules, arith, sym, ap, subst, ◌∙◌}
+use Rattle.std.proofs.Common.{◌≡◌, ◌-◌, ap₂, ℕ, List, ◌++◌, take, drop, IsSorted, length, rules, arith, sym, ap, subst, ◌∙◌, true}
 use Rattle.sketch_kll.specs.Levels.{retained, first_level}
 use Rattle.sketch_kll.specs.Flat.{levels_in}
+use Rattle.sketch_kll.specs.Ordered.{IsOrdered}
 use Rattle.sketch_kll.specs.Steps.{needs_sorting}
 use Rattle.sketch_kll.specs.Stored.{Stored}
 use Rattle.sketch_kll.proofs.Flats.{length-bounds, length-items}
-use Rattle.sketch_kll.proofs.CompactedRuns.{known_sorted}
+use Rattle.sketch_kll.proofs.CompactedRuns.{known_sorted, lowest_alone}
+use Rattle.sketch_kll.proofs.CompressWalks.{SameLevels-trans}
 use Rattle.sketch_kll.proofs.RaisedLevels.{raised_is}
 use Rattle.sketch_kll.proofs.StoredLevels.{CompactedStored, known_total, compacted_stored}
 use Rattle.sketch_kll.proofs.JoinedLevels.{whole_slice}
 use Rattle.sketch_kll.proofs.levels.Levels.compact.Goals as goal
-use Rattle.sketch_kll.proofs.levels.Levels.compact.Goals.{After-truncate}
+use Rattle.sketch_kll.proofs.levels.Levels.compact.Goals.{After-order_level, After-truncate}
 
 pub add_level_above-requires-clause-spare : goal.add_level_above-requires-clause-spare
 add_level_above-requires-clause-spare g c =
@@ -23,20 +25,31 @@ add_level_above-requires-clause-spare g c =
       c.self.inside.bounds.ok,
     )
 
+pub order_level-requires : goal.order_level-requires
+order_level-requires g c =
+    let up = raised_is c.needs_sorting-needs_sorting.result true c.self.invariant
+    (ap (λ (y : Stored g.row.T.Denot). y.levels) c.self.view_is) c.requires.within c.add_level_above.ensures.items in
+    rw c.deref.ensures.value (record { flat = up.flat; some = omega (arith, up.within); sorted = up.sorted c.self.invariant.sorted })
+
+-- the levels once level 0 is in order where that is needed
+ordered : (g : _) (c : After-order_level g) →
+    IsOrdered g.T.Ord.cmp c.needs_sorting-needs_sorting.result c.args.level c.self.inside.items.items c.order_level.new.items.items c.add_level_above.new.bounds.items
+ordered g c =
+    let up = raised_is c.needs_sorting-needs_sorting.result true c.self.invariant
+    (ap (λ (y : Stored g.row.T.Denot). y.levels) c.self.view_is) c.requires.within c.add_level_above.ensures.items in
+    let needs = c.needs_sorting-needs_sorting.ensures ∙ ap (λ (y : Stored g.row.T.Denot). needs_sorting y.is_sorted c.args.level) c.self.view_is in
+    let first = up.first ∙ ap (λ (y : Stored g.row.T.Denot). first_level y.levels) c.self.view_is in
+    let order = rw c.deref.ensures.value at c.order_level.ensures.ordered in
+    order c.args.level (λ e. lowest_alone c.args.self.now.is_sorted c.args.level (sym needs ∙ e))
+    (λ e. known_sorted g.T.Ord.cmp c.args.self.now.is_sorted c.args.level (levels_in c.self.inside.items.items c.add_level_above.new.bounds.items)
+    (up.sorted c.self.invariant.sorted) (λ t z. subst (λ (y : List g.row.T.Denot). IsSorted g.T.Ord.cmp y) (sym first) (c.requires.flag t z)) (sym needs ∙ e))
+
 pub compact_level-count-requires : goal.compact_level-count-requires
 compact_level-count-requires g c =
     let up = raised_is c.needs_sorting-needs_sorting.result c.random_bit-coin.result c.self.invariant
     (ap (λ (y : Stored g.row.T.Denot). y.levels) c.self.view_is) c.requires.within c.add_level_above.ensures.items in
-    let needs = c.needs_sorting-needs_sorting.ensures ∙ ap (λ (y : Stored g.row.T.Denot). needs_sorting y.is_sorted c.args.level) c.self.view_is in
-    let first = up.first ∙ ap (λ (y : Stored g.row.T.Denot). first_level y.levels) c.self.view_is in
-    rw (c.deref_mut.ensures.value, c.deref_mut-2.ensures.value) (record {
-      flat = up.flat;
-      within = up.within;
-      sorted = up.sorted c.self.invariant.sorted;
-      known = λ e. known_sorted g.T.Ord.cmp c.args.self.now.is_sorted c.args.level (levels_in c.self.inside.items.items c.add_level_above.new.bounds.items)
-          (up.sorted c.self.invariant.sorted)
-          (λ t z. subst (λ (y : List g.row.T.Denot). IsSorted g.T.Ord.cmp y) (sym first) (c.requires.flag t z)) (sym needs ∙ e);
-    })
+    let order = ordered g (goal.at.compact_level-count-requires g c).After-order_level in
+    rw (c.deref_mut.ensures.value, c.deref_mut-2.ensures.value) (record { flat = order.flat; within = up.within; sorted = order.sorted; body = order.body })
 
 pub total_at-self-inside-requires-clause-total : goal.total_at-self-inside-requires-clause-total
 total_at-self-inside-requires-clause-total g c = known_total c.self.invariant c.len-known.result (search rules)
@@ -57,32 +70,34 @@ bounds_len g c = ap length (bounds_are g c) ∙ (c.compact_level-count.auto.boun
 
 -- what the compaction leaves in the vectors
 left : (g : _) (c : After-truncate g) →
+    IsOrdered g.T.Ord.cmp c.needs_sorting-needs_sorting.result c.args.level c.self.inside.items.items c.order_level.new.items.items c.add_level_above.new.bounds.items →
     CompactedStored g.T.Ord.cmp c.needs_sorting-needs_sorting.result c.random_bit-coin.result c.self.inside.k c.args.level c.args.self.now.levels
     c.truncate.new.self.items (shifted_bounds g c)
-left g c =
+left g c order =
     let made = c.compact_level-count.ensures in
     let items : List g.row.T.Denot = c.compact_level-count.new.items in
-    let items_are = whole_slice items c.self.inside.items.items c.self.inside.items.len (omega (arith, c.compact_level-count.auto.items, c.deref_mut.ensures.len)) in
+    let items_are = whole_slice items c.order_level.new.items.items c.order_level.new.items.len (omega (arith, c.compact_level-count.auto.items, c.deref_mut.ensures.len)) in
     let cut = c.truncate.ensures.items ∙ ap₂ (λ n xs. take (n - c.compact_level-count.result) xs) (c.len.ensures ∙ sym c.deref_mut.ensures.len) items_are in
     let all = bounds_are g c in
     let before = ap₂ levels_in c.deref_mut.ensures.value c.deref_mut-2.ensures.value in
     compacted_stored c.needs_sorting-needs_sorting.result c.random_bit-coin.result c.self.invariant
     (ap (λ (y : Stored g.row.T.Denot). y.levels) c.self.view_is) c.requires.within c.requires.few c.add_level_above.ensures.items
-    (rw (cut, all) made.flat) (rw (cut, all, ← before) made.alike) (λ _. rw (cut, all) made.sorted)
+    (rw (cut, all) made.flat)
+    (SameLevels-trans g.T.Ord.cmp g.met.T.Ord.total _ _ _ (order.same c.random_bit-coin.result) (rw (cut, all, ← before) made.alike)) (λ _. rw (cut, all) made.sorted)
 
 pub total_at-self-inside-requires-clause-few_levels : goal.total_at-self-inside-requires-clause-few_levels
 total_at-self-inside-requires-clause-few_levels g c =
     let after = (goal.at.total_at-self-inside-requires-clause-few_levels g c).After-truncate in
-    omega (arith, (left g after).few, bounds_len g after)
+    omega (arith, (left g after (ordered g (goal.at.total_at-self-inside-requires-clause-few_levels g c).After-order_level)).few, bounds_len g after)
 
 pub invariant_of-self : goal.invariant_of-self
 invariant_of-self g c =
     let after = (goal.at.invariant_of-self g c).After-truncate in
-    (left g after).stored _ c.len-num_levels.result (c.len-num_levels.ensures ∙ sym (bounds_len g after)) c.total_at-self-inside.ensures
+    (left g after (ordered g (goal.at.invariant_of-self g c).After-order_level)).stored _ c.len-num_levels.result (c.len-num_levels.ensures ∙ sym (bounds_len g after)) c.total_at-self-inside.ensures
 
 pub returns : goal.returns
 returns g c =
-    let left = left g (goal.at.returns g c).After-truncate in
+    let left = left g (goal.at.returns g c).After-truncate (ordered g (goal.at.returns g c).After-order_level) in
     let needs = c.needs_sorting-needs_sorting.ensures ∙ ap (λ (y : Stored g.row.T.Denot). needs_sorting y.is_sorted c.args.level) c.self.view_is in
     let before = length-items c.self.inside.items.items c.self.inside.bounds.items c.self.invariant.flat in
     let after = length-items c.truncate.new.self.items (shifted_bounds g (goal.at.returns g c).After-truncate) left.flat in

@@ -1,0 +1,31 @@
+-- The goals at the return are what an update makes of the fields.
+use Rattle.std.proofs.Common.{◌<◌, ◌^◌, arith, rules, ap, ◌∙◌}
+use Rattle.sketch_kll.specs.Levels.{weight}
+use Rattle.sketch_kll.proofs.UpdatesGoOn.{updated_fields}
+use Rattle.sketch_kll.proofs.sketch.KllSketch.update_slowly.Goals as goal
+
+pub compact_if_full-requires-clause-light : goal.compact_if_full-requires-clause-light
+compact_if_full-requires-clause-light g c =
+    let small : c.self.inside.n < 2 ^ 64 = omega arith in
+    omega (arith, ap weight c.reserve_next.ensures.kept.levels_are, c.self.invariant.weighs_n, small)
+
+pub compact_if_full-requires-clause-flag : goal.compact_if_full-requires-clause-flag
+compact_if_full-requires-clause-flag g c = rw (c.reserve_next.ensures.kept.flag_is, c.reserve_next.ensures.kept.levels_are) c.self.invariant.flag_holds
+
+pub returns : goal.returns
+returns g c =
+    let small : c.self.inside.n < 2 ^ 64 = omega arith in
+    let kept = c.reserve_next.ensures.kept in
+    let room = c.compact_if_full.ensures in
+    let fields = updated_fields g.met.T.Ord.total g.B.RandomBits.bit g.B.RandomBits.next c.args.item _ c.self.invariant small kept.k_is kept.flag_is kept.levels_are room.levels room.sorted
+    (c.push.ensures.k ∙ room.kept.k_is) c.push.ensures.flag room.coins c.push.ensures.levels c.in_ok-least.ensures.least c.set_if_some.ensures c.in_ok-least.ensures.greatest c.set_if_some-2.ensures in
+    record {
+      ok = rw (← c.self.view_is) fields.updated_is;
+      coins = rw (← c.self.view_is) fields.source_is;
+      err = search rules;
+      memory = search rules;
+      sound = fields.sound;
+    }
+
+pub invariant_of-self-2 : goal.invariant_of-self-2
+invariant_of-self-2 g c = (returns g c).sound
