@@ -90,11 +90,28 @@ impl<T: Clone + Ord> Levels<T> {
         ensures err { OnErr result ((self.new ≡ self.old) × (coins.new ≡ coins.old)) }
         ensures memory { IfErr result (λ e. e ≡ OutOfMemory) }
     {
-        if self.num_retained + 1 < self.capacity {
-            append(&mut self.compactors, item)?;
-            self.num_retained += 1;
-            return Ok(());
+        if self.num_retained + 1 >= self.capacity {
+            return self.take_last(item, coins);
         }
+        append(&mut self.compactors, item)?;
+        self.num_retained += 1;
+        Ok(())
+    }
+
+    /// Puts an item last into level 0 where the levels are then full together, and walks over them.
+    /// It is out of line, so that an update without a walk stays short.
+    #[inline(never)]
+    fn take_last<B: RandomBits>(&mut self, item: T, coins: &mut B) -> Result<(), Error>
+        requires fits { weight_of (layouts_of self.old.levels) < 2 ^ 64 - 1 }
+        requires few { retained_of (layouts_of self.old.levels) < 4294967295 }
+        requires full { nominal_sum self.old.k (layouts_of self.old.levels)
+            ≤ retained_of (layouts_of self.old.levels) + 1 }
+        ensures kept { self.new ≡ record self.old { levels = self.new.levels } }
+        ensures acted { OnOk result (AreWalkedIfFull T.cmp B.bit B.next coins.old coins.new
+            self.old.k self.old.accuracy (appended_first self.old.levels item) self.new.levels) }
+        ensures err { OnErr result ((self.new ≡ self.old) × (coins.new ≡ coins.old)) }
+        ensures memory { IfErr result (λ e. e ≡ OutOfMemory) }
+    {
         append_and_walk(&mut self.compactors, item, coins)?;
         (self.num_retained, self.capacity) = sums(self.compactors.as_slice());
         // Level 0 keeps room for the items up to the next walk, or for a tenth of all.
