@@ -98,9 +98,7 @@ fn join_levels<T: Clone + Ord>(
     for level in 0..others.len() {
         add_level(levels, level, k, rank_accuracy);
         let own = &mut buffers[level];
-        own.trade(promoted);
-        levels[level].join(&others[level], own);
-        own.trade(promoted);
+        levels[level].join(&others[level], promoted, own);
     }
 }
 
