@@ -21,7 +21,8 @@ pub fn reserve_next<T: Drop>(items: &mut Vec<T>, most: usize) -> Result<(), Allo
 }
 
 /// Makes room for a quarter more items, or up to `most` items if that is less, and for one at least.
-/// It is out of line, so that an update which finds room stays short.
+/// It is out of line and rare, so that an update which finds room stays short.
+#[cold]
 #[inline(never)]
 fn grow<T: Drop>(items: &mut Vec<T>, most: usize) -> Result<(), AllocError>
     ensures items { items.new.items ≡ items.old.items }

@@ -99,7 +99,8 @@ impl<T: Clone + Ord> Levels<T> {
     }
 
     /// Puts an item last into level 0 where the levels are then full together, and walks over them.
-    /// It is out of line, so that an update without a walk stays short.
+    /// It is out of line and rare, so that an update without a walk stays short.
+    #[cold]
     #[inline(never)]
     fn take_last<B: RandomBits>(&mut self, item: T, coins: &mut B) -> Result<(), Error>
         requires fits { weight_of (layouts_of self.old.levels) < 2 ^ 64 - 1 }
