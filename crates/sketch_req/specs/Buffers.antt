@@ -5,7 +5,6 @@ use Rattle.std.specs.Prelude.{ℕ, List, map}
 pub record Space (A : Type 0) : Type 0 where
   pub clones : List A
   pub clones_space : ℕ
-  pub promoted_space : ℕ
   pub merged_space : ℕ
 
 -- of the buffers of each level

@@ -21,7 +21,8 @@ pub fn reserve_next<T: Drop>(items: &mut Vec<T>, most: usize) -> Result<(), Allo
 }
 
 /// Makes room for a quarter more items, or up to `most` items if that is less, and for one at least.
-/// It is out of line, so that an update which finds room stays short.
+/// It is out of line and rare, so that an update which finds room stays short.
+#[cold]
 #[inline(never)]
 fn grow<T: Drop>(items: &mut Vec<T>, most: usize) -> Result<(), AllocError>
     ensures items { items.new.items ≡ items.old.items }
@@ -34,6 +35,20 @@ fn grow<T: Drop>(items: &mut Vec<T>, most: usize) -> Result<(), AllocError>
     let len = items.len();
     let left = most.saturating_sub(len).max(1);
     items.reserve_exact((len / 4 + 4).min(left))
+}
+
+/// Makes room for so many more items. A vector that lacks it grows by a quarter at least.
+pub fn reserve_more<T>(items: &mut Vec<T>, more: usize) -> Result<(), AllocError>
+    ensures items { items.new.items ≡ items.old.items }
+    ensures ok { OnOk result (vec_len items.new + more ≤ vec_capacity items.new) }
+    ensures lean { OnOk result (vec_capacity items.new
+        ≤ max (vec_capacity items.old) (vec_len items.old + max more (vec_len items.old / 4))) }
+{
+    let len = items.len();
+    if items.capacity() - len < more {
+        items.reserve_exact(more.max(len / 4))?;
+    }
+    Ok(())
 }
 
 /// Gives back room for more than an eighth more items.

@@ -98,9 +98,7 @@ fn join_levels<T: Clone + Ord>(
     for level in 0..others.len() {
         add_level(levels, level, k, rank_accuracy);
         let own = &mut buffers[level];
-        own.trade(promoted);
-        levels[level].join(&others[level], own);
-        own.trade(promoted);
+        levels[level].join(&others[level], promoted, own);
     }
 }
 
@@ -157,6 +155,6 @@ pub(super) fn join_and_walk<T: Clone + Ord, B: RandomBits>(
     let (mut promoted, mut buffers) = join(levels, others)?;
     redraw_if(redraws, levels, coins);
     walk_if_full(levels, &mut promoted, &mut buffers, coins);
-    give_back(levels);
+    give_back(levels, 0);
     Ok(())
 }

@@ -88,6 +88,7 @@ pub(super) fn add_level<T: Clone + Ord>(
 fn step<T: Clone + Ord, B: RandomBits>(
     levels: &mut Vec<Compactor<T>>,
     level: usize,
+    promoted: &mut Vec<T>,
     buffers: &mut Buffers<T>,
     coins: &mut B,
 )
@@ -98,8 +99,10 @@ fn step<T: Clone + Ord, B: RandomBits>(
     requires spare { level + 1 ≡ length levels.old.items
         → vec_len levels.old < vec_capacity levels.old }
     requires fit { HasSpace (k_of levels.old.items) level (layouts_of levels.old.items)
-        buffers.old.merged_space buffers.old.promoted_space }
-    ensures promoted { buffers.new.promoted_space ≡ buffers.old.promoted_space }
+        buffers.old.merged_space (vec_capacity promoted.old) }
+    requires empty { promoted.old.items ≡ [] }
+    ensures empty { promoted.new.items ≡ [] }
+    ensures promoted { vec_capacity promoted.new ≡ vec_capacity promoted.old }
     ensures acted { AreStepped T.cmp B.bit B.next coins.old coins.new (k_of levels.old.items)
         (accuracy_of levels.old.items) level levels.old.items levels.new.items }
     ensures same_len { level + 1 < length levels.old.items
@@ -111,9 +114,9 @@ fn step<T: Clone + Ord, B: RandomBits>(
         return;
     }
     let (k, rank_accuracy) = here.parameters();
-    levels[level].compact_reserved(&mut buffers.promoted, &mut buffers.merged, coins);
+    levels[level].compact_reserved(promoted, &mut buffers.merged, coins);
     add_level(levels, level + 1, k, rank_accuracy);
-    levels[level + 1].absorb(&mut buffers.promoted, &mut buffers.merged);
+    levels[level + 1].absorb(promoted, &mut buffers.merged);
 }
 
 /// Compacts, from level 0 up, each level that is at or over its nominal capacity at its turn. A
@@ -136,20 +139,25 @@ fn walk<T: Clone + Ord, B: RandomBits>(
 {
     let count = levels.len();
     for level in 0..count {
-        let own = &mut buffers[level];
-        own.trade(promoted);
-        step(levels, level, own, coins);
-        own.trade(promoted);
+        step(levels, level, promoted, &mut buffers[level], coins);
     }
 }
 
-/// Gives back each level's room for more than an eighth more items.
-pub(super) fn give_back<T: Clone + Ord>(levels: &mut Vec<Compactor<T>>)
+/// Gives back what levels have too much room, from a level on.
+pub(super) fn give_back<T: Clone + Ord>(levels: &mut Vec<Compactor<T>>, first: usize)
     ensures { levels.new.items ≡ levels.old.items }
 {
-    for level in 0..levels.len() {
-        levels[level].give_back();
+    for level in first..levels.len() {
+        levels[level].give_back(0);
     }
+}
+
+/// Gives back what level 0 has too much room, but keeps room for so many items that are to come.
+pub(super) fn settle<T: Clone + Ord>(levels: &mut Vec<Compactor<T>>, more: usize)
+    requires some { 0 < length levels.old.items }
+    ensures { levels.new.items ≡ levels.old.items }
+{
+    levels[0].give_back(more);
 }
 
 /// Walks if the levels hold as many items as their nominal capacities together, or more.
@@ -207,6 +215,6 @@ pub(super) fn append_and_walk<T: Clone + Ord, B: RandomBits>(
     let (mut promoted, mut buffers) = reserve_next(*levels.allocator(), levels.as_slice())?;
     append(levels, item)?;
     walk(levels, &mut promoted, &mut buffers, coins);
-    give_back(levels);
+    give_back(levels, 1);
     Ok(())
 }

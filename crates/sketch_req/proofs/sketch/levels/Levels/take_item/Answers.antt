@@ -1,42 +1,18 @@
-use Rattle.std.proofs.Common.{◌≡◌, false, true, ap, arith, le-leb}
+use Rattle.std.proofs.Common.{◌≡◌, false, ap, arith}
 use Rattle.std.proofs.lemmas.Bool.{lt-leb}
 use Rattle.sketch_req.specs.Held.{Held}
 use Rattle.sketch_req.specs.Schedule.{layouts_of, are_full, retained_of}
-use Rattle.sketch_req.specs.Walk.{AreWalkedOver, appended_first}
-use Rattle.sketch_req.proofs.Held.{few-levels, held-appended, own-levels}
-use Rattle.sketch_req.proofs.UpdatedLevels.{acted-spare, acted-walk, nominal-appended, retained-appended}
-use Rattle.sketch_req.proofs.sketch.levels.Levels.take_item.Given.{Over}
-use Rattle.sketch_req.proofs.sketch.levels.Levels.take_item.Goals.{In_ok-append, In_ok-append_and_walk}
+use Rattle.sketch_req.specs.Walk.{appended_first}
+use Rattle.sketch_req.proofs.Held.{held-appended}
+use Rattle.sketch_req.proofs.UpdatedLevels.{acted-spare}
 use Rattle.sketch_req.proofs.sketch.levels.Levels.take_item.Goals as goal
-
-pub returns-then-self-clause-acted : goal.returns-then-self-clause-acted
-returns-then-self-clause-acted g c =
-    let s = c.self.inside in
-    let few = ap (λ (h : Held g.row.T.Denot). retained_of (layouts_of h.levels)) c.self.view_is in
-    let held = held-appended g.T.Ord.cmp _ _ _ _ _ c.args.item c.self.invariant (omega (arith, few, c.requires.few)) in
-    let spare : are_full s.k (layouts_of (appended_first s.compactors.items c.args.item)) ≡ false =
-    lt-leb _ _ (omega (arith, held.retained_is, held.capacity_is, c.if-self.true)) in
-    rw (← c.self.view_is, c.in_ok-append.ensures.ok) (acted-spare g.met.T.Ord.total _ _ _ _ _ _ held.placed spare)
-
--- the levels after the walk
-walked : (g : Over) (c : In_ok-append_and_walk g) → let s = c.self.inside in
-    AreWalkedOver g.T.Ord.cmp g.B.RandomBits.bit g.B.RandomBits.next c.args.coins.now c.append_and_walk.new.coins s.k s.rank_accuracy
-    (appended_first s.compactors.items c.args.item) c.append_and_walk.new.levels.items
-walked g c =
-    let own = own-levels g.T.Ord.cmp _ _ _ c.self.invariant.some c.self.invariant.placed in
-    let acted = c.in_ok-append_and_walk.ensures.acted in
-    rw (own.k_is, own.accuracy_is) at acted
-
-pub sums-requires : goal.sums-requires
-sums-requires g c =
-    let walked = walked g (goal.at.sums-requires g c).In_ok-append_and_walk in
-    record { few = few-levels g.T.Ord.cmp _ _ _ _ walked.acted.placed c.as_slice.ensures.value }
 
 pub returns-clause-acted : goal.returns-clause-acted
 returns-clause-acted g c =
     let s = c.self.inside in
-    let more = retained-appended s.compactors.items c.args.item c.self.invariant.some in
-    let same = nominal-appended s.k s.compactors.items c.args.item in
-    let full : are_full s.k (layouts_of (appended_first s.compactors.items c.args.item)) ≡ true =
-    le-leb _ _ (omega (arith, more, same, c.self.invariant.retained_is, c.self.invariant.capacity_is, c.if-self.false)) in
-    rw (← c.self.view_is) (acted-walk _ _ _ _ _ _ _ _ full (walked g (goal.at.returns-clause-acted g c).In_ok-append_and_walk))
+    let few = ap (λ (h : Held g.row.T.Denot). retained_of (layouts_of h.levels)) c.self.view_is in
+    let held = held-appended g.T.Ord.cmp _ _ _ _ _ c.args.item c.self.invariant (omega (arith, few, c.requires.few)) in
+    let spare : are_full s.k (layouts_of (appended_first s.compactors.items c.args.item)) ≡ false =
+    lt-leb _ _ (omega (arith, held.retained_is, held.capacity_is, c.if-self.false)) in
+    rw (← c.self.view_is, c.in_ok-append.ensures.ok) (acted-spare g.met.T.Ord.total _ _ _ _ _ _ held.placed spare)
+

@@ -84,10 +84,11 @@ join-requires g c =
     let ready = ready g before new other is in
     record {
       weight = (copied g before new other is).placed.place_is ∙ sym (placed g before new other is).place_is;
-      clones = rw c.trade.ensures.own ready.same;
+      clones = ready.same;
       few = omega (arith, ready.few, c.requires.few);
-      space = rw c.trade.ensures.own ready.space;
-      promoted = rw (c.trade.ensures.own, c.loop-level.invariant.promoted) ready.promoted;
+      space = ready.space;
+      empty = c.loop-level.invariant.empty;
+      promoted = rw c.loop-level.invariant.promoted ready.promoted;
     }
 
 pub loop-level-preserved : goal.loop-level-preserved
@@ -98,10 +99,9 @@ loop-level-preserved g c =
     let i = c.loop-level.invariant in
     let buffers = c.loop-level.buffers.items in
     let old = c.index_mut-own.result.now in
-    let own = c.trade-in-loop-level.new.self in
+    let own = c.join.new.buffers in
     let merged = λ (b : Space g.row.T.Denot). b.merged_space in
-    let same = ap merged c.trade-in-loop-level.ensures.own ∙ (ap merged c.join.ensures.rest ∙ (ap merged c.trade.ensures.own ∙ ap merged c.index_mut-own.ensures.value)) in
-    let traded = λ (b : Space g.row.T.Denot). b.promoted_space in
+    let same = ap merged c.join.ensures.rest ∙ ap merged c.index_mut-own.ensures.value in
     let joined = joined-there g.met.T.Ord.total _ (k_of c.args.others.now) _ _ _ _ c.index_mut.result.now _ _
     (copied g before new c.index-others-level.result c.index-others-level.is) c.loop-level-test.true c.index-others-level.is c.join.ensures.ok c.join.ensures.sound in
     record {
@@ -110,8 +110,8 @@ loop-level-preserved g c =
       enough = simp length-set i.enough;
       cloned = λ h l m. cloned-other g.T.Ord.cmp _ _ buffers c.loop-level.level own _ h (omega (arith, l)) (i.cloned h (omega (arith, l)) m);
       merged_spaces = map-set_same (λ b. b.merged_space) buffers c.loop-level.level own old same ∙ i.merged_spaces;
-      empty = c.trade-in-loop-level.ensures.empty;
-      promoted = c.trade-in-loop-level.ensures.capacity ∙ (ap traded c.join.ensures.rest ∙ (ap traded c.trade.ensures.own ∙ i.promoted));
+      empty = c.join.ensures.empty;
+      promoted = c.join.ensures.promoted ∙ i.promoted;
     }
 
 pub returns-clause-joined : goal.returns-clause-joined

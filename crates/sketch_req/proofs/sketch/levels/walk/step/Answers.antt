@@ -1,6 +1,6 @@
 use Rattle.sketch_req.proofs.Held.{own-levels}
 -- The goals are what a step of a walk says of the levels.
-use Rattle.std.proofs.Common.{◌≡◌, ◌∙◌, ℕ, List, set, true, sym, subst, ap, le-leb, arith}
+use Rattle.std.proofs.Common.{◌≡◌, ◌∙◌, ℕ, List, set, true, sym, subst, ap, le-leb, arith, vec_capacity}
 use Rattle.std.proofs.lemmas.Bool.{lt-leb}
 use Rattle.sketch_req.specs.Buffers.{Space}
 use Rattle.sketch_req.specs.Level.{Level}
@@ -33,7 +33,7 @@ module _ (g : Over) (c : After-index_mut g) where
   legal : IsLegalK (k_of ls)
   legal = (own-levels g.T.Ord.cmp _ _ _ c.requires.levels.some c.requires.levels.placed).legal
 
-  needs : StepNeeds (k_of ls) c.args.level c.args.buffers.now.merged_space c.args.buffers.now.promoted_space ls
+  needs : StepNeeds (k_of ls) c.args.level c.args.buffers.now.merged_space (vec_capacity c.args.promoted.now) ls
   needs =
       step-needs g.met.T.Ord.total _ _ _ _ _ _ _ legal c.requires.levels.placed c.requires.within c.index_mut.ensures.value full c.requires.fits c.requires.fit
 
@@ -49,7 +49,7 @@ pub compact_reserved-requires-clause-room : goal.compact_reserved-requires-claus
 compact_reserved-requires-clause-room g c =
     let at = (goal.at.compact_reserved-requires-clause-room g c).After-index_mut in
     let given = given-there g.met.T.Ord.total _ _ _ _ _ c.requires.levels.placed c.requires.within (full g at) c.index_mut.ensures.value in
-    omega (arith, given, (needs g at).promoted, ap (λ (b : Space g.row.T.Denot). b.promoted_space) c.buffers.view_is)
+    omega (arith, given, (needs g at).promoted)
 
 pub add_level-requires-clause-legal : goal.add_level-requires-clause-legal
 add_level-requires-clause-legal g c =

@@ -9,7 +9,7 @@ use Rattle.sketch_req.proofs.Held.{IsOwn, own-levels}
 use Rattle.sketch_req.proofs.Layouts.{length-layouts}
 use Rattle.sketch_req.proofs.Walks.{acted-start, walked-more}
 use Rattle.sketch_req.proofs.sketch.levels.walk.walk.Given.{Over}
-use Rattle.sketch_req.proofs.sketch.levels.walk.walk.Goals.{After-index_mut-own}
+use Rattle.sketch_req.proofs.sketch.levels.walk.walk.Goals.{After-index_mut}
 use Rattle.sketch_req.proofs.sketch.levels.walk.walk.Goals as goal
 
 pub loop-level-init : goal.loop-level-init
@@ -23,14 +23,14 @@ loop-level-init g c = record {
   promoted = refl;
 }
 
-pub index_mut-own-requires : goal.index_mut-own-requires
-index_mut-own-requires g c =
+pub index_mut-requires : goal.index_mut-requires
+index_mut-requires g c =
     let levels = c.args.levels.now in
     let many = c.loop-level.invariant.as_many in
     omega (arith, c.loop-level.buffers.ok, many, c.requires.fit.enough, length-layouts levels.items, c.loop-level-test.true, c.len-count.ensures, levels.ok)
 
 -- the levels at a turn
-module _ (g : Over) (c : After-index_mut-own g) where
+module _ (g : Over) (c : After-index_mut g) where
   inside : c.loop-level.level < length c.loop-level.levels.items
   inside = omega (arith, c.loop-level.invariant.len c.loop-level-test.true, c.loop-level-test.true, c.loop-level.levels.ok)
 
@@ -38,10 +38,10 @@ module _ (g : Over) (c : After-index_mut-own g) where
   own = let n = inside in own-levels _ _ _ _ (omega (arith, n)) c.loop-level.invariant.acted.acted.placed
 
 pub step-requires-clause-levels : goal.step-requires-clause-levels
-step-requires-clause-levels g c = (own g (goal.at.step-requires-clause-levels g c).After-index_mut-own).held
+step-requires-clause-levels g c = (own g (goal.at.step-requires-clause-levels g c).After-index_mut).held
 
 pub step-requires-clause-within : goal.step-requires-clause-within
-step-requires-clause-within g c = inside g (goal.at.step-requires-clause-within g c).After-index_mut-own
+step-requires-clause-within g c = inside g (goal.at.step-requires-clause-within g c).After-index_mut
 
 pub step-requires-clause-fits : goal.step-requires-clause-fits
 step-requires-clause-fits g c = omega (arith, c.loop-level.invariant.acted.acted.weigh, c.requires.fits)
@@ -53,14 +53,14 @@ pub step-requires-clause-fit : goal.step-requires-clause-fit
 step-requires-clause-fit g c =
     let i = c.loop-level.invariant in
     let levels = c.args.levels.now in
-    rw ((own g (goal.at.step-requires-clause-fit g c).After-index_mut-own).k_is, c.trade.ensures.own, i.promoted)
+    rw ((own g (goal.at.step-requires-clause-fit g c).After-index_mut).k_is, i.promoted)
     (space-there _ c.loop-level.level _ _ _ c.loop-level.buffers.items _ _ c.requires.fit
     (omega (arith, length-layouts levels.items, c.loop-level-test.true, c.len-count.ensures, levels.ok)) i.as_many
-    (i.merged c.loop-level.level (omega arith)) c.index_mut-own.ensures.value i.acted.acted.layouts_are)
+    (i.merged c.loop-level.level (omega arith)) c.index_mut.ensures.value i.acted.acted.layouts_are)
 
 pub loop-level-preserved : goal.loop-level-preserved
 loop-level-preserved g c =
-    let before = (goal.at.loop-level-preserved g c).After-index_mut-own in
+    let before = (goal.at.loop-level-preserved g c).After-index_mut in
     let i = c.loop-level.invariant in
     let acted = c.step.ensures.acted in
     record {
@@ -68,9 +68,9 @@ loop-level-preserved g c =
       len = λ h. c.step.ensures.same_len (let n = inside g before in omega (arith, h, n, i.len c.loop-level-test.true, c.loop-level.levels.ok)) ∙ i.len c.loop-level-test.true;
       spare = omega (arith, i.spare, c.step.ensures.capacity);
       as_many = simp length-set i.as_many;
-      merged = λ j h. read-other (λ b. b.merged_space) 0 _ c.loop-level.level c.trade-in-loop-level.new.self j (omega (arith, h)) ∙ i.merged j (omega (arith, h));
-      empty = c.trade-in-loop-level.ensures.empty;
-      promoted = c.trade-in-loop-level.ensures.capacity ∙ (c.step.ensures.promoted ∙ (ap (λ (b : Space g.row.T.Denot). b.promoted_space) c.trade.ensures.own ∙ i.promoted));
+      merged = λ j h. read-other (λ b. b.merged_space) 0 _ c.loop-level.level c.step.new.buffers j (omega (arith, h)) ∙ i.merged j (omega (arith, h));
+      empty = c.step.ensures.empty;
+      promoted = c.step.ensures.promoted ∙ i.promoted;
     }
 
 pub returns : goal.returns
