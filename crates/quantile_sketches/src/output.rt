@@ -27,7 +27,7 @@ pub fn add<W: Write>(output: &mut W, waiting: &mut Vec<u8>, bytes: &[u8]) -> io:
 }
 
 /// Adds bytes to those that wait where there is room for them, and says whether there is.
-pub fn add_within(waiting: &mut Vec<u8>, bytes: &[u8]) -> bool
+fn add_within(waiting: &mut Vec<u8>, bytes: &[u8]) -> bool
     ensures added { IsTrue result → waiting.new.items ≡ waiting.old.items ++ bytes.now }
     ensures full { result ≡ false → waiting.new.items ≡ waiting.old.items }
 {
