@@ -1,5 +1,5 @@
 -- Eight digits that are read at once.
-use Rattle.std.proofs.Common.{◌≡◌, Bool, ℕ, ◌+◌, ◌-◌, ◌*◌, ◌%◌, ◌^◌, ◌<◌, ◌≤◌, true, false, cond, List, [], ◌∷◌, length, take, map, get_or, Fits, w8, ltb, sym, ap, ◌∙◌, arith, refl, inl, inr}
+use Rattle.std.proofs.Common.{◌≡◌, Bool, ℕ, ◌+◌, ◌-◌, ◌*◌, ◌%◌, ◌^◌, ◌<◌, ◌≤◌, true, cond, List, [], ◌∷◌, length, take, map, get_or, Fits, w8, ltb, sym, ap, ◌∙◌, arith, refl, inl, inr}
 use Rattle.std.specs.Char.{digit_value, is_digit}
 use Rattle.std.specs.Simd.Lanes.{mask_l, zip2, top, fold_l}
 use Rattle.std.specs.Str.Parse.{digits_value}

@@ -1,14 +1,25 @@
 -- Lines that ask for an update and are written as most are: their words, and where they end.
-use Rattle.std.proofs.Common.{◌≡◌, ℕ, ℤ, pos, neg_ℤ, suc, ◌+◌, ◌-◌, ◌<◌, ◌≤◌, ◌^◌, ◌==◌, Bool, true, false, cond, List, [], ◌∷◌, ◌++◌, length, take, drop, get_or, refl, sym, ap, ◌∙◌, arith, Some, take_all, not, length-append, length-take-le, length-drop, Result, Ok, Err}
+use Rattle.std.proofs.Common.{◌≡◌, ℕ, ℤ, pos, neg_ℤ, suc, ◌+◌, ◌-◌, ◌<◌, ◌≤◌, ◌^◌, ◌==◌, Bool, true, false, cond, List, [], ◌∷◌, ◌++◌, length, take, drop, get_or, refl, sym, ap, ◌∙◌, arith, Some, take_all, not, length-append, length-take-le, length-drop, Option, Result, Ok, Err}
 use Rattle.std.specs.Prelude.{codes}
 use Rattle.std.specs.Result.{OkIff, result_ok}
-use Rattle.std.specs.List.{position_or_len, prefix_len}
+use Rattle.std.specs.List.{position_or_len}
 use Rattle.std.specs.Str.Parse.{digits_value}
 use Rattle.std.proofs.Math.Seq.{split_at, drop-append_seam}
-use Rattle.std.proofs.lemmas.Bool.{cond-true, eq-eqb, ne_eqb, and_parts}
+use Rattle.std.proofs.lemmas.Bool.{cond-true, eq-eqb, ne_eqb}
 use Rattle.std.proofs.lemmas.List.{append_assoc, drop_all, drop-drop}
 use Rattle.std.proofs.lemmas.List.Folds.{prefix_len-append}
-use Rattle.quantile_sketches.specs.LineWords.{all_digits, item_of, unsigned_of, words, BeginsWithDigits, BeginsWithItem, BeginsWithUpdate}
+use Rattle.quantile_sketches.specs.Behaviour.{Behaviour, coin_of}
+use Rattle.quantile_sketches.specs.Command.{request_of}
+use Rattle.quantile_sketches.specs.LineSteps.{Answers, CarriesOutItem, Verdict, reply_of}
+use Rattle.quantile_sketches.specs.Reader.{Grammar}
+use Rattle.quantile_sketches.specs.declared.audit.commands.Command.TheVariants.{Update}
+use Rattle.sketch_base.specs.Random.{next_state}
+use Rattle.std.specs.Int.{w64}
+use Rattle.std.proofs.lemmas.Int.{to_z-of_z}
+use Rattle.quantile_sketches.specs.LineWords.{all_digits, item_of, words, BeginsWithDigits, BeginsWithItem, BeginsWithUpdate}
+use Rattle.quantile_sketches.proofs.DigitNumbers.{item_fits}
+use Rattle.quantile_sketches.proofs.Verbs.{asks_for_update}
+use mir.Val.{to_z, of_z}
 use Rattle.quantile_sketches.proofs.LineParts.{position-yes, position-no, to_end, words-first, words-behind_space}
 use Rattle.quantile_sketches.proofs.ShortNumbers.{item_short, item_negative, unsigned_short, digits_end}
 
@@ -162,3 +173,11 @@ begins-behind numbers n some =
 pub slot-is : {E : Type 0} (number slot : ℕ) (tried : Result ℕ E) → OkIff tried (number < 256) number → Some slot ≡ result_ok tried → (slot ≡ number) × (number < 256)
 slot-is number slot (Ok n) (below, is) e = (cc, below)
 slot-is number slot (Err e) h none = absurd cc
+
+-- what comes of such a line is what comes of its update
+pub answers-update : {S C : Type 0} (grammar : Grammar C) (behaviour : Behaviour S ℤ C) (text : List ℕ) (slot : ℕ) (item : ℤ) (len : ℕ) → BeginsWithUpdate text slot item len →
+    (slots slots' : List (Option S)) (coins coins' : ℕ) (v : Verdict) → CarriesOutItem behaviour coin_of next_state (Update slot (to_z w64 (of_z w64 item))) slots coins v slots' coins' →
+    Answers behaviour (request_of grammar (words (take len text))) (words (take len text)) slots coins (reply_of v) slots' coins'
+answers-update grammar behaviour text slot item len h slots slots' coins coins' v done =
+    let back : to_z w64 (of_z w64 item) ≡ item = to_z-of_z w64 item (item_fits h.item_word item h.item_is) in
+    rw (h.line, asks_for_update grammar h.slot_word h.item_word slot item h.slot_is h.item_is) (v, refl, rw back at done)

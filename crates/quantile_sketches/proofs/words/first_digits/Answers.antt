@@ -1,4 +1,4 @@
-use Rattle.std.proofs.Common.{◌≡◌, ◌≤◌, ℕ, List, length, take, arith, length-take-le}
+use Rattle.std.proofs.Common.{◌≤◌, ℕ, List, length, take, arith, length-take-le}
 use Rattle.quantile_sketches.proofs.EightDigits.{eight_is, front_fits}
 use Rattle.quantile_sketches.proofs.words.first_digits.Goals as goal
 

@@ -35,7 +35,7 @@ returns c =
     ] in
     let few : 10 ^ c.loop-len.len ≤ 10 ^ 18 = pow-le-pow_right (omega arith) c.loop-len.invariant.few in record {
       within = c.loop-len.invariant.within;
-      some = omega (arith, c.if-len-eq0.false);
+      some = omega arith;
       digits = c.loop-len.invariant.digits;
       value = c.loop-len.invariant.value;
       bound = omega (arith, c.loop-len.invariant.below, few);

@@ -1,5 +1,5 @@
-use Rattle.std.proofs.Common.{◌≡◌, ◌<◌, ◌∙◌, List, ℕ, ℤ, Some, length, drop, suc, sym, ap, arith, refl}
-use Rattle.quantile_sketches.specs.LineWords.{BeginsWithDigits, BeginsWithItem, BeginsWithUpdate}
+use Rattle.std.proofs.Common.{List, ℕ, arith}
+use Rattle.quantile_sketches.specs.LineWords.{BeginsWithItem}
 use Rattle.quantile_sketches.proofs.ShortNumbers.{item_back}
 use Rattle.quantile_sketches.proofs.UpdateLines.{begins-with_update, begins-verb, begins-behind, behind, item-within, slot-is}
 use Rattle.quantile_sketches.proofs.words.update_ahead.Goals as goal
