@@ -15,24 +15,16 @@ pub const ROOM: usize = 42;
 pub const MOST_WAITING: usize = 16384;
 
 /// Adds bytes to those that wait. Where there is no room for them all go out, and nothing grows.
-#[inline]
+#[inline(always)]
 pub fn add<W: Write>(output: &mut W, waiting: &mut Vec<u8>, bytes: &[u8]) -> io::Result<()>
     ensures { Writes result (W.contents output.old) (W.contents output.new)
         (waiting.old.items ++ bytes.now) waiting.new.items }
 {
-    if add_within(waiting, bytes) {
+    let is_room = bytes.len() <= waiting.capacity() - waiting.len();
+    if is_room && waiting.extend_from_slice(bytes).is_ok() {
         return Ok(());
     }
     write_through(output, waiting, bytes)
-}
-
-/// Adds bytes to those that wait where there is room for them, and says whether there is.
-pub fn add_within(waiting: &mut Vec<u8>, bytes: &[u8]) -> bool
-    ensures added { IsTrue result → waiting.new.items ≡ waiting.old.items ++ bytes.now }
-    ensures full { result ≡ false → waiting.new.items ≡ waiting.old.items }
-{
-    let is_room = bytes.len() <= waiting.capacity() - waiting.len();
-    is_room && waiting.extend_from_slice(bytes).is_ok()
 }
 
 // This is kept out of the loop over the lines.

@@ -7,17 +7,15 @@ ghost use Rattle.std.specs.Option.{option_map};
 ghost use Rattle.sketch_base.specs.HexText.{hex_of};
 ghost use Rattle.sketch_base.specs.declared.error.ErrorKind.TheVariants.{OutOfMemory};
 
-use crate::error::{Error, ErrorKind};
-use std::alloc::Global;
+use crate::error::Error;
+use std::alloc::{AllocError, Global};
 
 /// Two lower case hex digits for each byte, the high four bits first.
 pub fn image_text(alloc: Global, bytes: &[u8]) -> Result<String, Error>
     ensures text { IfOk result (λ text. string_bytes text ≡ encode_lower bytes.now) }
     ensures memory { IfErr result (λ e. e ≡ OutOfMemory) }
 {
-    let Some(count) = bytes.len().checked_mul(2) else {
-        return Err(Error::new(ErrorKind::OutOfMemory));
-    };
+    let count = bytes.len().checked_mul(2).ok_or(AllocError)?;
     let mut digits = vec![in alloc; 0u8; count]?;
     write_pairs(bytes, digits.as_mut_slice());
     Ok(String::from_utf8(digits).unwrap())

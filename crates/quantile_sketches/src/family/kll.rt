@@ -5,7 +5,7 @@ ghost use Rattle.sketch_base.specs.Spelling.{SpellingsTie};
 ghost use Rattle.quantile_sketches.specs.KllBehaviour.{kll};
 ghost use Rattle.quantile_sketches.specs.KllRules.{KllShape, kll_kind};
 
-use super::Family;
+use super::{Family, Outcome};
 use sketch_base::common::random::RandomBits;
 use sketch_base::common::{Rank, SearchCriteria};
 use sketch_base::error::{Error, ErrorKind};
@@ -55,31 +55,21 @@ impl<T: KllValue + Ord> Family for KllSketch<T> {
         redraws || self.refuses(other)
     }
 
-    fn update<B: RandomBits>(&mut self, item: T, coins: &mut B) -> Result<(), Error> {
+    fn update<B: RandomBits>(&mut self, item: T, coins: &mut B) -> Outcome {
         // Read so that the proof knows the invariant.
         let _n = self.n();
         Ok(self.update(item, coins)?)
     }
 
-    fn update_weighted<B: RandomBits>(
-        &mut self,
-        item: T,
-        weight: u64,
-        coins: &mut B,
-    ) -> Result<(), Error> {
+    fn update_weighted<B: RandomBits>(&mut self, item: T, weight: u64, coins: &mut B) -> Outcome {
         Ok(self.update_weighted(item, weight, coins)?)
     }
 
-    fn redraw<B: RandomBits>(&mut self, _coins: &mut B) -> Result<(), Error> {
+    fn redraw<B: RandomBits>(&mut self, _coins: &mut B) -> Outcome {
         Err(Error::new(ErrorKind::InvalidArgument))
     }
 
-    fn merge<B: RandomBits>(
-        &mut self,
-        other: &Self,
-        redraws: bool,
-        coins: &mut B,
-    ) -> Result<(), Error> {
+    fn merge<B: RandomBits>(&mut self, other: &Self, redraws: bool, coins: &mut B) -> Outcome {
         if redraws {
             return Err(Error::new(ErrorKind::InvalidArgument));
         }

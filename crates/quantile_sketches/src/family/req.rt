@@ -6,7 +6,7 @@ ghost use Rattle.quantile_sketches.specs.ReqBehaviour.{req};
 ghost use Rattle.quantile_sketches.specs.ReqKind.{req_kind};
 ghost use Rattle.quantile_sketches.specs.ReqRules.{ReqShape};
 
-use super::Family;
+use super::{Family, Outcome};
 use sketch_base::common::random::RandomBits;
 use sketch_base::common::{Rank, SearchCriteria};
 use sketch_base::error::{Error, ErrorKind};
@@ -57,7 +57,7 @@ impl<T: ReqValue + Clone + Ord> Family for ReqSketch<T> {
         self.refuses(other)
     }
 
-    fn update<B: RandomBits>(&mut self, item: T, coins: &mut B) -> Result<(), Error> {
+    fn update<B: RandomBits>(&mut self, item: T, coins: &mut B) -> Outcome {
         // Read so that the proof knows the invariant.
         let _n = self.n();
         Ok(self.update(item, coins)?)
@@ -68,21 +68,16 @@ impl<T: ReqValue + Clone + Ord> Family for ReqSketch<T> {
         _item: T,
         _weight: u64,
         _coins: &mut B,
-    ) -> Result<(), Error> {
+    ) -> Outcome {
         Err(Error::new(ErrorKind::InvalidArgument))
     }
 
-    fn redraw<B: RandomBits>(&mut self, coins: &mut B) -> Result<(), Error> {
+    fn redraw<B: RandomBits>(&mut self, coins: &mut B) -> Outcome {
         self.redraw_coins(coins);
         Ok(())
     }
 
-    fn merge<B: RandomBits>(
-        &mut self,
-        other: &Self,
-        redraws: bool,
-        coins: &mut B,
-    ) -> Result<(), Error> {
+    fn merge<B: RandomBits>(&mut self, other: &Self, redraws: bool, coins: &mut B) -> Outcome {
         if redraws {
             self.merge_redrawn(other, coins)
         } else {

@@ -2,7 +2,7 @@ use Rattle.std.proofs.Common.{◌≡◌, ◌<◌, ◌≤◌, ◌^◌, length, ge
 use Rattle.std.proofs.Math.Nat.{pow-le-pow_right}
 use Rattle.std.proofs.lemmas.Int.Digits.{digits_value_more}
 use Rattle.std.proofs.lemmas.Str.{digit_value_digit}
-use Rattle.quantile_sketches.proofs.ShortNumbers.{one_digit_more, all_digits_more, space_there}
+use Rattle.quantile_sketches.proofs.ShortNumbers.{one_digit_more, all_digits_more, same_there}
 use Rattle.quantile_sketches.proofs.words.short_number.Goals as goal
 use Rattle.quantile_sketches.proofs.words.short_number.Goals.{then-len-text, else-len-text}
 
@@ -29,13 +29,13 @@ loop-len-preserved c =
 
 pub returns : goal.returns
 returns c =
-    let ends : c.loop-len.len < length c.args.text.now → get_or c.args.text.now c.loop-len.len 0 ≡ 32 = elim c.if-len-text.branch [
-      | then-len-text w ↦ λ h. space_there _ c.if-len-text.value w.value-is c.if-text-len-ne32.false
+    let ends : c.loop-len.len < length c.args.text.now → get_or c.args.text.now c.loop-len.len 0 ≡ c.args.end = elim c.if-len-text.branch [
+      | then-len-text w ↦ λ h. same_there _ c.args.end c.if-len-text.value w.value-is c.if-text-len.false
       | else-len-text w ↦ λ h. absurd (omega (arith, h, w.if-len-text))
     ] in
     let few : 10 ^ c.loop-len.len ≤ 10 ^ 18 = pow-le-pow_right (omega arith) c.loop-len.invariant.few in record {
       within = c.loop-len.invariant.within;
-      some = omega (arith, c.if-len-eq0.false);
+      some = omega arith;
       digits = c.loop-len.invariant.digits;
       value = c.loop-len.invariant.value;
       bound = omega (arith, c.loop-len.invariant.below, few);

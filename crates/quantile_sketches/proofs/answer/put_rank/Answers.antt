@@ -1,6 +1,6 @@
 use Rattle.std.proofs.Common.{arith}
 use Rattle.std.proofs.lemmas.Grind.{common_steps}
-use Rattle.quantile_sketches.proofs.answer.write_rank.Goals as goal
+use Rattle.quantile_sketches.proofs.answer.put_rank.Goals as goal
 
 pub returns : goal.returns
 returns g c = grind (arith, common_steps)

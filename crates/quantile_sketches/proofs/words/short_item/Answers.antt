@@ -1,0 +1,21 @@
+use Rattle.std.proofs.Common.{◌∙◌, cond, pos, neg_ℤ, ap, refl, sym}
+use Rattle.quantile_sketches.proofs.ShortNumbers.{size_is, size_below_zero}
+use Rattle.quantile_sketches.proofs.words.short_item.Goals as goal
+use Rattle.quantile_sketches.proofs.words.short_item.Goals.{then-negative, else-negative}
+
+pub returns : goal.returns
+returns c =
+    let n = c.in_ok-number.number in
+    record {
+      negative = c.without_minus-negative.result.0;
+      digits = c.without_minus-negative.result.1.now;
+      number = n;
+      digits_len = c.in_ok-number.len;
+      sign = c.without_minus-negative.ensures;
+      begins = c.in_ok-number.ensures;
+      value = elim c.if-negative.branch [
+        | then-negative w ↦ w.item-is ∙ size_below_zero n c.in_ok-number.ensures.bound ∙ ap (λ b. cond b (neg_ℤ (pos n)) (pos n)) (sym w.if-negative.true)
+        | else-negative w ↦ w.item-is ∙ size_is n c.in_ok-number.ensures.bound ∙ ap (λ b. cond b (neg_ℤ (pos n)) (pos n)) (sym w.if-negative.false)
+      ];
+      len_is = refl;
+    }

@@ -1,0 +1,17 @@
+use Rattle.std.proofs.Common.{List, ℕ, arith}
+use Rattle.quantile_sketches.specs.LineWords.{BeginsWithItem}
+use Rattle.quantile_sketches.proofs.ShortNumbers.{item_back}
+use Rattle.quantile_sketches.proofs.UpdateLines.{begins-with_update, begins-verb, begins-behind, behind, item-within, slot-is}
+use Rattle.quantile_sketches.proofs.words.update_ahead.Goals as goal
+
+pub returns : goal.returns
+returns c =
+    let text : List ℕ = c.args.text.now in
+    let numbers : List ℕ = behind 7 text in
+    let word : List ℕ = behind 1 (behind c.in_ok-slot.slot_len numbers) in
+    let verb = begins-verb text (omega (arith, c.in-117.len_at_least)) (omega arith) (omega arith) (omega arith) (omega arith) (omega arith) (omega arith) (omega arith) in
+    let space = begins-behind numbers c.in_ok-slot.slot_len (omega (arith, c.in-32.len_at_least)) in
+    let slot = slot-is c.in_ok-slot.slot c.in_ok-ok.field-0 c.try_from.result c.try_from.ensures c.in_ok-ok.ensures.value in
+    let item : BeginsWithItem word c.in_ok-item.item c.in_ok-item.len 10 = c.in_ok-item.ensures in
+    let back = item_back _ _ _ _ item in
+    rw (back, slot.0) (begins-with_update text numbers word c.in_ok-slot.slot c.in_ok-slot.slot_len c.in_ok-item.len c.in_ok-item.item verb space.0 c.in_ok-slot.ensures slot.1 space.1 (omega (arith, item-within _ _ _ _ item, c.if-len-word.false)) item)
