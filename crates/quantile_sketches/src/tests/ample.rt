@@ -1,5 +1,6 @@
 //! Large sketches: no call gives up from some size on where memory is ample. `audit` has the long runs.
 use super::calls::{CRITERIA, View, are_equal, double, fill_with, fraction, ranks_alike};
+use super::is_true;
 use super::sketches::Tried;
 use crate::text::{image_bytes, image_text};
 use sketch_base::common::random::SplitMix64;
@@ -9,7 +10,6 @@ use sketch_kll::sketch::KllSketch;
 use sketch_req::RankAccuracy;
 use sketch_req::sketch::ReqSketch;
 use std::alloc::{AllocError, Global};
-use std::test::Fail;
 
 const MANY: u32 = 100_000;
 
@@ -32,62 +32,56 @@ fn fractions(alloc: Global) -> Result<Vec<Rank>, AllocError> {
 }
 
 /// Whether a fraction of a sketch, 0 or 1, names a number's item.
-fn names<S: Tried>(alloc: Global, sketch: &S, weight: u64, number: u32) -> Result<bool, Error>
+fn names<S: Tried>(alloc: Global, sketch: &S, weight: u64, number: u32) -> bool
     requires { S.Asks }
 {
-    let item = S::item_of(alloc, number)?;
-    let found = sketch.quantile_of(fraction(weight, 1), CRITERIA)?;
-    Ok(found == Some(item))
+    match (
+        S::item_of(alloc, number),
+        sketch.quantile_of(fraction(weight, 1), CRITERIA),
+    ) {
+        (Ok(item), Ok(found)) => found == Some(item),
+        _ => false,
+    }
 }
 
 /// Whether a sketch ranks a number's item as the whole of its weight.
-fn ranks_last<S: Tried>(
-    alloc: Global,
-    sketch: &S,
-    number: u32,
-    count: u64,
-) -> Result<bool, AllocError> {
-    let item = S::item_of(alloc, number)?;
-    Ok(sketch.rank_of(&item, CRITERIA) == Some(fraction(count, count)))
+fn ranks_last<S: Tried>(alloc: Global, sketch: &S, number: u32, count: u64) -> bool {
+    match S::item_of(alloc, number) {
+        Ok(item) => sketch.rank_of(&item, CRITERIA) == Some(fraction(count, count)),
+        Err(_) => false,
+    }
 }
 
 /// Whether a sketch took `count` items, of which the first is the least and the last the greatest.
-fn is_whole<S: Tried>(alloc: Global, sketch: &S, count: u64) -> Result<bool, Error>
+fn is_whole<S: Tried>(alloc: Global, sketch: &S, count: u64) -> bool
     requires { S.Asks }
 {
-    Ok(
-        ranks_last(alloc, sketch, MANY, count)?
-            && names(alloc, sketch, 0, 1)?
-            && names(alloc, sketch, 1, MANY)?,
-    )
+    ranks_last(alloc, sketch, MANY, count)
+        && names(alloc, sketch, 0, 1)
+        && names(alloc, sketch, 1, MANY)
 }
 
 /// Whether a view has the distributions of its sketch.
-fn distributes_alike<S: Tried>(alloc: Global, sketch: &S, view: &View<S>) -> Result<bool, Error>
+fn distributes_alike<S: Tried>(sketch: &S, view: &View<S>, points: &[S::Item]) -> bool
     requires { S.Asks }
 {
-    let points = points::<S>(alloc)?;
-    let points = points.as_slice();
-    Ok(
-        are_equal(sketch.cdf_of(points, CRITERIA), view.cdf(points, CRITERIA))?
-            && are_equal(sketch.pmf_of(points, CRITERIA), view.pmf(points, CRITERIA))?,
-    )
+    are_equal(sketch.cdf_of(points, CRITERIA), view.cdf(points, CRITERIA))
+        && are_equal(sketch.pmf_of(points, CRITERIA), view.pmf(points, CRITERIA))
 }
 
 /// Whether all quantiles were found, and the one in the middle is the one that is found alone.
 fn has_middle<S: Tried>(
     sketch: &S,
-    found: &Option<Vec<S::Item>>,
+    found: &[S::Item],
     count: usize,
     criteria: SearchCriteria,
-) -> Result<bool, Error>
+) -> bool
     requires { S.Asks }
 {
-    let middle = sketch.quantile_of(fraction(MANY as u64 / 2, MANY as u64), criteria)?;
-    Ok(match found {
-        Some(found) => found.len() == count && found.get(MANY as usize / 2) == middle.as_ref(),
-        None => false,
-    })
+    match sketch.quantile_of(fraction(MANY as u64 / 2, MANY as u64), criteria) {
+        Ok(middle) => found.len() == count && found.get(MANY as usize / 2) == middle.as_ref(),
+        Err(_) => false,
+    }
 }
 
 /// Whether a sketch has one quantile for each fraction, which are those of its view.
@@ -96,43 +90,61 @@ fn finds_alike<S: Tried>(
     view: &View<S>,
     fractions: &[Rank],
     criteria: SearchCriteria,
-) -> Result<bool, Error>
+) -> bool
     requires { S.Asks }
 {
-    let found = sketch.quantiles_of(fractions, criteria)?;
-    let others = S::quantiles_in(view, fractions, criteria)?;
-    let is_same = found == others;
-    Ok(has_middle(sketch, &found, fractions.len(), criteria)? && is_same)
+    let found = sketch.quantiles_of(fractions, criteria);
+    match (found, S::quantiles_in(view, fractions, criteria)) {
+        (Ok(Some(found)), Ok(Some(others))) => {
+            found == others && has_middle(sketch, found.as_slice(), fractions.len(), criteria)
+        }
+        _ => false,
+    }
 }
 
 /// Whether the text of an image reads as the image.
 fn is_read_as_text(alloc: Global, image: &[u8]) -> Result<bool, Error> {
     let text = image_text(alloc, image)?;
-    Ok(image_bytes(alloc, text.as_str())?.is_some_and(|bytes| bytes.as_slice() == image))
+    Ok(match image_bytes(alloc, text.as_str())? {
+        Some(bytes) => bytes.as_slice() == image,
+        None => false,
+    })
 }
 
-/// Whether what is read from a sketch's image, as a text too, took `count` items, and is written as it was read.
-fn reads_back<S: Tried>(alloc: Global, sketch: &S, count: u64) -> Result<bool, Error>
+/// Whether what is read from a sketch's image took `count` items, and is written as it was read.
+fn is_read_as<S: Tried>(alloc: Global, image: &[u8], count: u64) -> Result<bool, Error>
     requires { S.Asks }
 {
-    let image = sketch.image()?;
-    let image = image.as_slice();
     let read = S::load(alloc, image)?;
-    let is_same = read.image()?.as_slice() == image;
-    Ok(is_same && is_read_as_text(alloc, image)? && is_whole(alloc, &read, count)?)
+    let written = read.image()?;
+    Ok(written.as_slice() == image && is_whole(alloc, &read, count))
+}
+
+/// Whether a sketch's image, as a text too, is read as a sketch that took `count` items.
+fn reads_back<S: Tried>(alloc: Global, sketch: &S, count: u64) -> bool
+    requires { S.Asks }
+{
+    match sketch.image() {
+        Ok(image) => {
+            is_true(is_read_as::<S>(alloc, image.as_slice(), count))
+                && is_true(is_read_as_text(alloc, image.as_slice()))
+        }
+        Err(_) => false,
+    }
 }
 
 /// Whether a large sketch answers many queries at once as a view of it does.
 fn answers_as<S: Tried>(alloc: Global, sketch: &S, view: &View<S>) -> Result<bool, Error>
     requires { S.Asks }
 {
+    let points = points::<S>(alloc)?;
     let fractions = fractions(alloc)?;
     let asked = fractions.as_slice();
     Ok(
-        finds_alike(sketch, view, asked, SearchCriteria::Inclusive)?
-            && finds_alike(sketch, view, asked, SearchCriteria::Exclusive)?
-            && ranks_alike(alloc, sketch, view, 61)?
-            && distributes_alike(alloc, sketch, view)?,
+        ranks_alike(alloc, sketch, view, 61)?
+            && finds_alike(sketch, view, asked, SearchCriteria::Inclusive)
+            && finds_alike(sketch, view, asked, SearchCriteria::Exclusive)
+            && distributes_alike(sketch, view, points.as_slice()),
     )
 }
 
@@ -145,47 +157,42 @@ fn answers_many<S: Tried>(alloc: Global, sketch: &S) -> Result<bool, Error>
     answers_as(alloc, sketch, &copy)
 }
 
-/// Whether a large sketch answers all that it is asked, also where a copy was merged into it.
-fn answers_all<S: Tried>(alloc: Global, sketch: &mut S) -> Result<bool, Error>
+/// Whether a large sketch that a copy of it was merged into answers all that it is asked.
+fn answers_all<S: Tried>(alloc: Global, sketch: &S) -> bool
     requires { S.Asks }
 {
-    let is_filled = is_whole(alloc, sketch, 100_000)?;
-    double(sketch, &mut SplitMix64::new(2))?;
-    Ok(
-        is_filled
-            && answers_many(alloc, sketch)?
-            && is_whole(alloc, sketch, 200_000)?
-            && reads_back(alloc, sketch, 200_000)?,
-    )
+    is_true(answers_many(alloc, sketch))
+        && is_whole(alloc, sketch, 200_000)
+        && reads_back(alloc, sketch, 200_000)
 }
 
 fn holds_many<S: Tried>(alloc: Global, config: S::Config) -> Result<bool, Error>
     requires { S.Asks }
 {
     let mut sketch: S = fill_with(alloc, config, MANY, &mut SplitMix64::new(1))?;
-    Ok(S::default_of(alloc).is_ok() && answers_all(alloc, &mut sketch)?)
+    let is_filled = is_whole(alloc, &sketch, 100_000);
+    double(&mut sketch, &mut SplitMix64::new(2))?;
+    Ok(is_filled && answers_all(alloc, &sketch) && S::default_of(alloc).is_ok())
 }
 
 #[test]
-fn large_kll_of_i64_answers(rt: HostRuntime) -> Result<(), Fail> {
-    assert!(rt; holds_many::<KllSketch<i64>>(rt.alloc(), 4096)?);
-    Ok(())
+fn large_kll_of_i64_answers(rt: HostRuntime) {
+    assert!(rt; is_true(holds_many::<KllSketch<i64>>(rt.alloc(), 4096)));
 }
 
 #[test]
-fn large_kll_of_text_answers(rt: HostRuntime) -> Result<(), Fail> {
-    assert!(rt; holds_many::<KllSketch<String>>(rt.alloc(), 4096)?);
-    Ok(())
+fn large_kll_of_text_answers(rt: HostRuntime) {
+    assert!(rt; is_true(holds_many::<KllSketch<String>>(rt.alloc(), 4096)));
 }
 
 #[test]
-fn large_req_answers(rt: HostRuntime) -> Result<(), Fail> {
-    assert!(rt; holds_many::<ReqSketch<i32>>(rt.alloc(), (1024, RankAccuracy::HighRank))?);
-    Ok(())
+fn large_req_answers(rt: HostRuntime) {
+    let config = (1024, RankAccuracy::HighRank);
+    assert!(rt; is_true(holds_many::<ReqSketch<i32>>(rt.alloc(), config)));
 }
 
 #[test]
-fn large_req_of_low_ranks_answers(rt: HostRuntime) -> Result<(), Fail> {
-    assert!(rt; holds_many::<ReqSketch<i32>>(rt.alloc(), (1024, RankAccuracy::LowRank))?);
-    Ok(())
+fn large_req_of_low_ranks_answers(rt: HostRuntime) {
+    let config = (1024, RankAccuracy::LowRank);
+    assert!(rt; is_true(holds_many::<ReqSketch<i32>>(rt.alloc(), config)));
 }

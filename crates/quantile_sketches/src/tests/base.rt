@@ -1,9 +1,9 @@
 //! The crate below all others: families, coins and errors. `req` has numbers of each width, as their bytes.
+use super::is_true;
 use sketch_base::codec::Family;
 use sketch_base::common::random::{RandomBits, SplitMix64, WordBits};
 use sketch_base::error::{Error, ErrorKind};
-use std::alloc::{AllocError, Global};
-use std::test::Fail;
+use std::alloc::Global;
 
 #[test]
 fn knows_its_family(rt: HostRuntime) {
@@ -51,19 +51,18 @@ fn word_then_false(rt: HostRuntime) {
 }
 
 // Whether the error of a kind prints so, and tells its kind.
-fn prints(alloc: Global, kind: ErrorKind, text: &str) -> Result<bool, AllocError> {
+fn prints(alloc: Global, kind: ErrorKind, text: &str) -> Result<bool, Error> {
     let error = Error::new(kind);
     Ok(error.kind() == kind && error.to_string(alloc)?.as_str() == text)
 }
 
 #[test]
-fn prints_its_kind(rt: HostRuntime) -> Result<(), Fail> {
+fn prints_its_kind(rt: HostRuntime) {
     for (kind, text) in [
         (ErrorKind::InvalidArgument, "invalid argument"),
         (ErrorKind::InvalidData, "invalid data"),
         (ErrorKind::OutOfMemory, "out of memory"),
     ] {
-        assert!(rt; prints(rt.alloc(), kind, text)?, "as {text}");
+        assert!(rt; is_true(prints(rt.alloc(), kind, text)), "as {text}");
     }
-    Ok(())
 }

@@ -13,7 +13,7 @@ pub(super) const WORD: [bool; 8] = [false, true, false, false, true, true, false
 
 pub(super) const CRITERIA: SearchCriteria = SearchCriteria::Inclusive;
 
-#[derive(Clone, Copy, Debug, Drop)]
+#[derive(Clone, Copy, Drop)]
 pub(super) enum Call {
     Default,
     New,
@@ -30,6 +30,26 @@ pub(super) enum Call {
     Deserialize,
     Run,
     Audit,
+}
+
+pub(super) fn name_of(call: Call) -> &'static str {
+    match call {
+        Call::Default => "Default",
+        Call::New => "New",
+        Call::Clone => "Clone",
+        Call::Update => "Update",
+        Call::UpdateWeighted => "UpdateWeighted",
+        Call::Merge => "Merge",
+        Call::Quantile => "Quantile",
+        Call::Quantiles => "Quantiles",
+        Call::Cdf => "Cdf",
+        Call::Pmf => "Pmf",
+        Call::SortedView => "SortedView",
+        Call::Serialize => "Serialize",
+        Call::Deserialize => "Deserialize",
+        Call::Run => "Run",
+        Call::Audit => "Audit",
+    }
 }
 
 /// A call on a sketch of this k and number of items. The last number is how many items the merged sketch has, or the weight of
@@ -72,6 +92,21 @@ pub(super) enum Answer<S: Tried> {
     Audit(Audit),
 }
 
+/// Puts the items from 1 on into a sketch.
+fn feed<S: Tried, B: RandomBits>(
+    alloc: Global,
+    sketch: &mut S,
+    count: u32,
+    coins: &mut B,
+) -> Result<(), Error>
+    requires { S.Asks }
+{
+    for number in 0..count {
+        sketch.update(S::item_of(alloc, number.wrapping_add(1))?, coins)?;
+    }
+    Ok(())
+}
+
 /// A sketch of these settings and of the items from 1 on.
 pub(super) fn fill_with<S: Tried, B: RandomBits>(
     alloc: Global,
@@ -82,27 +117,14 @@ pub(super) fn fill_with<S: Tried, B: RandomBits>(
     requires { S.Asks }
 {
     let mut sketch = S::create(alloc, config)?;
-    for number in 0..count {
-        sketch.update(S::item_of(alloc, number.wrapping_add(1))?, coins)?;
-    }
+    feed(alloc, &mut sketch, count, coins)?;
     Ok(sketch)
-}
-
-pub(super) fn fill<S: Tried, B: RandomBits>(
-    alloc: Global,
-    k: u16,
-    count: u32,
-    coins: &mut B,
-) -> Result<S, Error>
-    requires { S.Asks }
-{
-    fill_with(alloc, S::config_of(k), count, coins)
 }
 
 pub(super) fn filled<S: Tried>(alloc: Global, k: u16, count: u32) -> Result<S, Error>
     requires { S.Asks }
 {
-    fill(alloc, k, count, &mut WordBits::new(&WORD))
+    fill_with(alloc, S::config_of(k), count, &mut WordBits::new(&WORD))
 }
 
 /// Merges a copy of a sketch into it.
@@ -113,6 +135,12 @@ pub(super) fn double<S: Tried, B: RandomBits>(sketch: &mut S, coins: &mut B) -> 
     sketch.merge(&copy, false, coins)
 }
 
+fn is_ranked_alike<S: Tried>(sketch: &S, view: &View<S>, item: &S::Item) -> bool {
+    view.rank(item, SearchCriteria::Inclusive) == sketch.rank_of(item, SearchCriteria::Inclusive)
+        && view.rank(item, SearchCriteria::Exclusive)
+            == sketch.rank_of(item, SearchCriteria::Exclusive)
+}
+
 /// Whether a view ranks the items from 0 on as its sketch does.
 pub(super) fn ranks_alike<S: Tried>(
     alloc: Global,
@@ -121,34 +149,29 @@ pub(super) fn ranks_alike<S: Tried>(
     count: u32,
 ) -> Result<bool, AllocError> {
     for number in 0..count {
-        let item = S::item_of(alloc, number)?;
-        for criteria in [SearchCriteria::Inclusive, SearchCriteria::Exclusive] {
-            if view.rank(&item, criteria) != sketch.rank_of(&item, criteria) {
-                return Ok(false);
-            }
+        if !is_ranked_alike(sketch, view, &S::item_of(alloc, number)?) {
+            return Ok(false);
         }
     }
     Ok(true)
 }
 
 /// A sketch of a number of items in slot 0, and in slot 1 what is read from the image of a sketch that it was merged into.
-fn push_commands<S: Tried>(
-    alloc: Global,
-    commands: &mut Commands<S>,
-    k: u16,
-    count: u32,
-) -> Result<(), AllocError> {
-    push_step::<S>(alloc, commands, Step::New(0, S::config_of(k)))?;
-    push_step::<S>(alloc, commands, Step::New(1, S::config_of(k)))?;
-    push_step::<S>(alloc, commands, Step::Updates(0, 1, count))?;
-    push_step::<S>(alloc, commands, Step::Weighted(1, 3, 6))?;
-    push_step::<S>(alloc, commands, Step::Merge(1, 0))?;
-    push_step::<S>(alloc, commands, Step::RoundTrip(1))
+fn step_of<S: Tried>(place: u8, k: u16, count: u32) -> Step<S::Config> {
+    match place {
+        0 | 1 => Step::New(place, S::config_of(k)),
+        2 => Step::Updates(0, 1, count),
+        3 => Step::Weighted(1, 3, 6),
+        4 => Step::Merge(1, 0),
+        _ => Step::RoundTrip(1),
+    }
 }
 
 fn commands<S: Tried>(alloc: Global, k: u16, count: u32) -> Result<Commands<S>, AllocError> {
     let mut commands = Vec::new(alloc);
-    push_commands::<S>(alloc, &mut commands, k, count)?;
+    for place in 0..6u8 {
+        push_step::<S>(alloc, &mut commands, step_of::<S>(place, k, count))?;
+    }
     Ok(commands)
 }
 
@@ -307,11 +330,11 @@ pub(super) fn answer_of<S: Tried>(
 }
 
 /// Whether two calls gave the same.
-pub(super) fn are_equal<X: PartialEq + Drop>(
-    a: Result<X, Error>,
-    b: Result<X, Error>,
-) -> Result<bool, Error> {
-    Ok(a? == b?)
+pub(super) fn are_equal<X: PartialEq + Drop>(a: Result<X, Error>, b: Result<X, Error>) -> bool {
+    match (a, b) {
+        (Ok(a), Ok(b)) => a == b,
+        _ => false,
+    }
 }
 
 /// The image of a sketch that took `more` items: it shows states and coins that no image holds.
@@ -319,51 +342,52 @@ fn image_past<S: Tried>(alloc: Global, sketch: &S, more: u32) -> Result<Vec<u8>,
     requires { S.Asks }
 {
     let mut copy = sketch.copy()?;
-    let mut coins = WordBits::new(&WORD);
-    for number in 0..more {
-        copy.update(S::item_of(alloc, number.wrapping_mul(7) % 90)?, &mut coins)?;
-    }
+    feed(alloc, &mut copy, more, &mut WordBits::new(&WORD))?;
     copy.image()
 }
 
-pub(super) fn are_alike<S: Tried>(alloc: Global, a: &S, b: &S) -> Result<bool, Error>
+pub(super) fn are_alike<S: Tried>(alloc: Global, a: &S, b: &S) -> bool
     requires { S.Asks }
 {
     for more in [0, 1, 150] {
-        if image_past(alloc, a, more)?.as_slice() != image_past(alloc, b, more)?.as_slice() {
-            return Ok(false);
+        if !are_equal(image_past(alloc, a, more), image_past(alloc, b, more)) {
+            return false;
         }
     }
-    Ok(true)
+    true
 }
 
-fn are_runs_alike<S: Tried>(alloc: Global, a: &Run<S>, b: &Run<S>) -> Result<bool, Error>
+fn are_slots_alike<S: Tried>(alloc: Global, a: Option<&S>, b: Option<&S>) -> bool
+    requires { S.Asks }
+{
+    match (a, b) {
+        (Some(a), Some(b)) => are_alike(alloc, a, b),
+        (None, None) => true,
+        _ => false,
+    }
+}
+
+fn are_runs_alike<S: Tried>(alloc: Global, a: &Run<S>, b: &Run<S>) -> bool
     requires { S.Asks }
 {
     for slot in 0..3u8 {
-        let is_same = match (a.slots.get(&slot), b.slots.get(&slot)) {
-            (Some(one), Some(other)) => are_alike(alloc, one, other)?,
-            (one, other) => one.is_none() && other.is_none(),
-        };
-        if !is_same {
-            return Ok(false);
+        if !are_slots_alike(alloc, a.slots.get(&slot), b.slots.get(&slot)) {
+            return false;
         }
     }
-    Ok(a.coins == b.coins && a.refused.as_slice() == b.refused.as_slice())
+    a.coins == b.coins && a.refused.as_slice() == b.refused.as_slice()
 }
 
-fn are_views_alike<S: Tried>(a: &View<S>, b: &View<S>, points: &[S::Item]) -> Result<bool, Error>
+fn are_views_alike<S: Tried>(a: &View<S>, b: &View<S>, points: &[S::Item]) -> bool
     requires { S.Asks }
 {
     let asked = fractions();
-    Ok(
-        a.len() == b.len()
-            && are_equal(a.cdf(points, CRITERIA), b.cdf(points, CRITERIA))?
-            && are_equal(
-                S::quantiles_in(a, &asked, CRITERIA),
-                S::quantiles_in(b, &asked, CRITERIA),
-            )?,
-    )
+    a.len() == b.len()
+        && are_equal(a.cdf(points, CRITERIA), b.cdf(points, CRITERIA))
+        && are_equal(
+            S::quantiles_in(a, &asked, CRITERIA),
+            S::quantiles_in(b, &asked, CRITERIA),
+        )
 }
 
 fn are_audits_alike(a: &Audit, b: &Audit) -> bool {
@@ -388,13 +412,13 @@ pub(super) fn is_same<S: Tried>(
     a: &Answer<S>,
     b: &Answer<S>,
     points: &[S::Item],
-) -> Result<bool, Error>
+) -> bool
     requires { S.Asks }
 {
     match (a, b) {
         (Answer::Sketch(a), Answer::Sketch(b)) => are_alike(alloc, a, b),
         (Answer::View(a), Answer::View(b)) => are_views_alike::<S>(a, b, points),
         (Answer::Run(a), Answer::Run(b)) => are_runs_alike(alloc, a, b),
-        (a, b) => Ok(are_same_values(a, b)),
+        (a, b) => are_same_values(a, b),
     }
 }

@@ -2,13 +2,13 @@
 ghost use Rattle.std.specs.Prelude.{◌≡◌, IfOk};
 ghost use Rattle.sketch_req.specs.Sections.{IsLegalK};
 
+use super::is_true;
 use sketch_base::codec::{SketchBytes, SketchSlice};
 use sketch_base::common::random::WordBits;
 use sketch_base::error::Error;
 use sketch_req::RankAccuracy;
 use sketch_req::compactor::Compactor;
 use std::alloc::Global;
-use std::test::Fail;
 
 type Level = Compactor<i32>;
 
@@ -83,7 +83,7 @@ fn is_raw(alloc: Global, items: [i32; 2], said: bool, is_sorted: bool) -> Result
 }
 
 #[test]
-fn new_levels(rt: HostRuntime) -> Result<(), Fail> {
+fn new_levels(rt: HostRuntime) {
     assert!(rt; is_new(rt.alloc()));
     for (items, said, is_sorted) in [
         ([1, 2], true, true),
@@ -92,9 +92,8 @@ fn new_levels(rt: HostRuntime) -> Result<(), Fail> {
         ([2, 1], true, false),
         ([2, 1], false, false),
     ] {
-        assert!(rt; is_raw(rt.alloc(), items, said, is_sorted)?);
+        assert!(rt; is_true(is_raw(rt.alloc(), items, said, is_sorted)));
     }
-    Ok(())
 }
 
 /// Whether a level counts these numbers of items at most another, and below it.
@@ -120,9 +119,8 @@ fn counts_in_any_order(alloc: Global) -> Result<bool, Error> {
 }
 
 #[test]
-fn sorts_and_counts_items_below(rt: HostRuntime) -> Result<(), Fail> {
-    assert!(rt; counts_in_any_order(rt.alloc())?);
-    Ok(())
+fn sorts_and_counts_items_below(rt: HostRuntime) {
+    assert!(rt; is_true(counts_in_any_order(rt.alloc())));
 }
 
 /// A level of the numbers from 1 to 6, of which every second was merged in.
@@ -176,20 +174,13 @@ fn merges_in_order(alloc: Global) -> Result<bool, Error> {
     is_copied(&level)
 }
 
-fn merges_each(alloc: Global) -> Result<bool, Error> {
-    Ok(
-        merges_many(alloc)?
-            && appends_above(alloc)?
-            && merges_in_order(alloc)?
-            && merges_nothing(alloc)?
-            && merges_two(alloc)?,
-    )
-}
-
 #[test]
-fn merges_levels(rt: HostRuntime) -> Result<(), Fail> {
-    assert!(rt; merges_each(rt.alloc())?);
-    Ok(())
+fn merges_levels(rt: HostRuntime) {
+    assert!(rt; is_true(merges_many(rt.alloc())));
+    assert!(rt; is_true(appends_above(rt.alloc())));
+    assert!(rt; is_true(merges_in_order(rt.alloc())));
+    assert!(rt; is_true(merges_nothing(rt.alloc())));
+    assert!(rt; is_true(merges_two(rt.alloc())));
 }
 
 /// A side, the greatest of the numbers from 1 on that a level of k 4 has, a coin, the items that are sent up, and the first and
@@ -221,22 +212,26 @@ fn compacts_to(alloc: Global, compaction: Compaction<'_>) -> Result<bool, Error>
     Ok(is_compacted(&level, out.as_slice(), compaction) && is_drawn)
 }
 
+const COMPACTIONS: [Compaction<'static>; 8] = [
+    (HIGH, 24, false, &[1, 3], 5, 24),
+    (HIGH, 24, true, &[2, 4], 5, 24),
+    (HIGH, 84, false, &ODD, 65, 84),
+    (LOW, 24, false, &[21, 23], 1, 20),
+    (LOW, 24, true, &[22, 24], 1, 20),
+    (HIGH, 23, false, &[1], 3, 23),
+    (HIGH, 21, true, &[], 1, 21),
+    (HIGH, 20, true, &[], 1, 20),
+];
+
 #[test]
-fn compacts(rt: HostRuntime) -> Result<(), Fail> {
-    for (side, count, coin, up, first, last) in [
-        (HIGH, 24, false, [1, 3].as_slice(), 5, 24),
-        (HIGH, 24, true, [2, 4].as_slice(), 5, 24),
-        (HIGH, 84, false, ODD.as_slice(), 65, 84),
-        (LOW, 24, false, [21, 23].as_slice(), 1, 20),
-        (LOW, 24, true, [22, 24].as_slice(), 1, 20),
-        (HIGH, 23, false, [1].as_slice(), 3, 23),
-        (HIGH, 21, true, [].as_slice(), 1, 21),
-        (HIGH, 20, true, [].as_slice(), 1, 20),
-    ] {
-        let held = compacts_to(rt.alloc(), (side, count, coin, up, first, last))?;
-        assert!(rt; held, "{first} to {last} are not kept");
+fn compacts(rt: HostRuntime) {
+    for compaction in COMPACTIONS {
+        let (.., first, last) = compaction;
+        assert!(rt;
+            is_true(compacts_to(rt.alloc(), compaction)),
+            "{first} to {last}"
+        );
     }
-    Ok(())
 }
 
 /// The first level of a sketch of k 12, read from its bytes.
@@ -261,12 +256,11 @@ fn doubles_sections(alloc: Global) -> Result<bool, Error> {
     level.merge(&read(alloc, &image_of(3, 12))?)?;
     Ok(
         has_numbers(&level, (0, 65535, 24, 4, 192))
-            && is_written_as(alloc, &level, &image_of(24, 4))?,
+            && is_true(is_written_as(alloc, &level, &image_of(24, 4))),
     )
 }
 
 #[test]
-fn a_merge_doubles_the_sections_more_than_once(rt: HostRuntime) -> Result<(), Fail> {
-    assert!(rt; doubles_sections(rt.alloc())?);
-    Ok(())
+fn a_merge_doubles_the_sections_more_than_once(rt: HostRuntime) {
+    assert!(rt; is_true(doubles_sections(rt.alloc())));
 }

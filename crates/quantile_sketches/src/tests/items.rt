@@ -6,6 +6,7 @@ ghost use Rattle.std.specs.Cmp.Rules.{comparing};
 ghost use Rattle.std.specs.Ordering.{nat_cmp, on, as_partial_cmp};
 
 use super::calls::{CRITERIA, fraction};
+use super::is_true;
 use sketch_base::common::Rank;
 use sketch_base::common::random::SplitMix64;
 use sketch_base::error::Error;
@@ -14,9 +15,8 @@ use sketch_req::RankAccuracy;
 use sketch_req::sketch::ReqSketch;
 use std::alloc::{AllocError, Global};
 use std::cmp::Ordering;
-use std::test::Fail;
 
-#[derive(Debug, Drop)]
+#[derive(Drop)]
 struct Third {
     class: u8,
     clones: u32,
@@ -82,15 +82,22 @@ fn item_of(class: u32) -> Third {
 /// Whether a sketch of `count` items 0, 1, 2, 0, 1 and so on shows that count, and the least and the greatest.
 fn is_seen(count: u32, n: u64, least: Option<&Third>, greatest: Option<&Third>) -> bool {
     let last = count.wrapping_sub(1).min(2) as u8;
-    n == count as u64
-        && least.is_some_and(|item| item.class == 0)
-        && greatest.is_some_and(|item| item.class == last)
+    match (least, greatest) {
+        (Some(least), Some(greatest)) => {
+            n == count as u64 && least.class == 0 && greatest.class == last
+        }
+        _ => false,
+    }
 }
 
 /// Whether a median is the clone of a class's item, and the whole is ranked.
-fn is_answered(median: Option<Third>, rank: Option<Rank>) -> bool {
-    rank == Some(fraction(2000, 2000))
-        && median.is_some_and(|item| item.class < 3 && item.clones > 0)
+fn is_answered(median: Result<Option<Third>, Error>, rank: Option<Rank>) -> bool {
+    match median {
+        Ok(Some(item)) => {
+            item.class < 3 && item.clones > 0 && rank == Some(fraction(2000, 2000))
+        }
+        _ => false,
+    }
 }
 
 /// Whether a sketch takes 1000 items, and each leaves it as it should.
@@ -106,19 +113,24 @@ fn fill_kll(sketch: &mut KllSketch<Third>, coins: &mut SplitMix64) -> Result<boo
     Ok(true)
 }
 
+/// Whether a KLL sketch of 2000 items has a median and ranks the whole.
+fn answers_kll(sketch: &KllSketch<Third>) -> bool {
+    let rank = sketch.rank(&item_of(2), CRITERIA);
+    is_answered(sketch.quantile(fraction(1, 2), CRITERIA), rank)
+}
+
 /// Merges a copy of a sketch into it, and asks for its median and the whole: whether both are as wanted.
 fn double_kll(sketch: &mut KllSketch<Third>, coins: &mut SplitMix64) -> Result<bool, Error> {
     let copy = sketch.clone()?;
     sketch.merge(&copy, coins)?;
-    let rank = sketch.rank(&item_of(2), CRITERIA);
-    Ok(is_answered(sketch.quantile(fraction(1, 2), CRITERIA)?, rank))
+    Ok(answers_kll(sketch))
 }
 
 /// Whether a KLL sketch of k 8 takes 1000 items and a copy of itself.
 fn takes_kll(alloc: Global) -> Result<bool, Error> {
     let mut sketch = KllSketch::new(alloc, 8)?;
     let mut coins = SplitMix64::new(0);
-    Ok(fill_kll(&mut sketch, &mut coins)? && double_kll(&mut sketch, &mut coins)?)
+    Ok(is_true(fill_kll(&mut sketch, &mut coins)) && is_true(double_kll(&mut sketch, &mut coins)))
 }
 
 fn fill_req(sketch: &mut ReqSketch<Third>, coins: &mut SplitMix64) -> Result<bool, Error> {
@@ -133,29 +145,32 @@ fn fill_req(sketch: &mut ReqSketch<Third>, coins: &mut SplitMix64) -> Result<boo
     Ok(true)
 }
 
+/// Whether a REQ sketch of 2000 items has a median and ranks the whole.
+fn answers_req(sketch: &ReqSketch<Third>) -> bool {
+    let rank = sketch.rank(&item_of(2), CRITERIA);
+    is_answered(sketch.quantile(fraction(1, 2), CRITERIA), rank)
+}
+
 /// Merges a copy of a sketch into it, and asks for its median and the whole: whether both are as wanted.
 fn double_req(sketch: &mut ReqSketch<Third>, coins: &mut SplitMix64) -> Result<bool, Error> {
     let copy = sketch.clone()?;
     sketch.merge(&copy, coins)?;
-    let rank = sketch.rank(&item_of(2), CRITERIA);
-    Ok(is_answered(sketch.quantile(fraction(1, 2), CRITERIA)?, rank))
+    Ok(answers_req(sketch))
 }
 
 /// Whether a REQ sketch of k 4 takes such items.
 fn takes_req(alloc: Global) -> Result<bool, Error> {
     let mut sketch = ReqSketch::new(alloc, 4, RankAccuracy::HighRank)?;
     let mut coins = SplitMix64::new(0);
-    Ok(fill_req(&mut sketch, &mut coins)? && double_req(&mut sketch, &mut coins)?)
+    Ok(is_true(fill_req(&mut sketch, &mut coins)) && is_true(double_req(&mut sketch, &mut coins)))
 }
 
 #[test]
-fn kll_takes_items_of_three_classes(rt: HostRuntime) -> Result<(), Fail> {
-    assert!(rt; takes_kll(rt.alloc())?);
-    Ok(())
+fn kll_takes_items_of_three_classes(rt: HostRuntime) {
+    assert!(rt; is_true(takes_kll(rt.alloc())));
 }
 
 #[test]
-fn req_takes_items_of_three_classes(rt: HostRuntime) -> Result<(), Fail> {
-    assert!(rt; takes_req(rt.alloc())?);
-    Ok(())
+fn req_takes_items_of_three_classes(rt: HostRuntime) {
+    assert!(rt; is_true(takes_req(rt.alloc())));
 }

@@ -14,7 +14,6 @@ use sketch_base::error::{Error, ErrorKind};
 use sketch_kll::sketch::KllSketch;
 use sketch_kll::value::KllValue;
 use std::alloc::{AllocError, Global};
-use std::test::Fail;
 
 const NINE: &[i64] = &[1, 2, 3, 4, 5, 6, 7, 8, 9];
 
@@ -25,28 +24,34 @@ fn filled(alloc: Global, items: &[i64]) -> Result<KllSketch<i64>, Error> {
     Ok(sketch)
 }
 
-// Whether a sketch of some items gives estimates, how many items its view has, and their weight.
-fn seen(alloc: Global, items: &[i64]) -> Result<(bool, usize, u64), Error> {
-    let sketch = filled(alloc, items)?;
-    let view = sketch.sorted_view()?;
-    Ok((sketch.is_estimation_mode(), view.len(), view.total_weight()))
+// Whether a sketch gives estimates, how many items its view has, and their weight.
+type Seen = (bool, usize, u64);
+
+fn is_seen(sketch: &KllSketch<i64>, wanted: Seen) -> bool {
+    match sketch.sorted_view() {
+        Ok(view) => (sketch.is_estimation_mode(), view.len(), view.total_weight()) == wanted,
+        Err(_) => false,
+    }
+}
+
+// Whether a sketch of some items is seen so.
+fn shows(alloc: Global, items: &[i64], wanted: Seen) -> bool {
+    match filled(alloc, items) {
+        Ok(sketch) => is_seen(&sketch, wanted),
+        Err(_) => false,
+    }
 }
 
 #[test]
-fn a_view_has_each_item_that_is_kept(rt: HostRuntime) -> Result<(), Fail> {
-    for (items, wanted) in [
-        (&NINE[..0], (false, 0, 0)),
-        ([5, 5, 7].as_slice(), (false, 3, 3)),
-        (&NINE[..8], (false, 8, 8)),
-        (NINE, (true, 5, 9)),
-    ] {
-        assert!(rt; seen(rt.alloc(), items)? == wanted);
-    }
-    Ok(())
+fn a_view_has_each_item_that_is_kept(rt: HostRuntime) {
+    assert!(rt; shows(rt.alloc(), &[], (false, 0, 0)));
+    assert!(rt; shows(rt.alloc(), &[5, 5, 7], (false, 3, 3)));
+    assert!(rt; shows(rt.alloc(), &NINE[..8], (false, 8, 8)));
+    assert!(rt; shows(rt.alloc(), NINE, (true, 5, 9)));
 }
 
 /// A value that has no spelling.
-#[derive(Clone, Copy, Debug, PartialEq, Eq, PartialOrd, Ord)]
+#[derive(Clone, Copy, PartialEq, Eq, PartialOrd, Ord)]
 pub(crate) struct Unspelled;
 
 impl KllValue for Unspelled {
@@ -108,19 +113,21 @@ const DIFFERENT: [(&str, &str); 3] = [
 ];
 
 // Whether the sketches of two images are the same.
-fn are_same(alloc: Global, image: &str, other: &str) -> Result<bool, Error> {
+fn are_same(alloc: Global, image: &str, other: &str) -> bool {
     are_equal(read(alloc, image), read(alloc, other))
 }
 
-// Whether two images are read as different sketches, and one of them as the same.
-fn are_told_apart(alloc: Global, image: &str, other: &str) -> Result<bool, Error> {
-    Ok(!are_same(alloc, image, other)? && are_same(alloc, other, other)?)
+// Whether two images are read as different sketches, and each of them as the same.
+fn are_told_apart(alloc: Global, image: &str, other: &str) -> bool {
+    !are_same(alloc, image, other) && are_same(alloc, image, image) && are_same(alloc, other, other)
 }
 
 #[test]
-fn different_sketches_are_not_equal(rt: HostRuntime) -> Result<(), Fail> {
+fn different_sketches_are_not_equal(rt: HostRuntime) {
     for (image, other) in DIFFERENT {
-        assert!(rt; are_told_apart(rt.alloc(), image, other)?);
+        assert!(rt;
+            are_told_apart(rt.alloc(), image, other),
+            "{image} and {other}"
+        );
     }
-    Ok(())
 }

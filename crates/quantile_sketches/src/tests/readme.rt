@@ -1,7 +1,5 @@
 //! The library examples of README.md, which `examples/check` compares with it, and tests that call them.
 
-use std::test::Fail;
-
 // --- README.md
 use sketch_base::common::random::SplitMix64;
 use sketch_base::common::{Rank, SearchCriteria};
@@ -51,24 +49,19 @@ fn within(alloc: Global, latencies: &[f64], limit: f64) -> Result<Option<Rank>, 
 }
 // --- end
 
-#[test]
-fn slowest_of_two_hosts(rt: HostRuntime) -> Result<(), Fail> {
-    let first = image_of(rt.alloc(), 1, &[12, 15, 11, 90])?;
-    let second = image_of(rt.alloc(), 2, &[14, 13])?;
-    let slowest = slowest(rt.alloc(), &first, &second)?;
-    assert_eq!(rt; slowest, Some(90));
-    Ok(())
+fn slowest_of_two(alloc: Global) -> Result<Option<i64>, Error> {
+    let first = image_of(alloc, 1, &[12, 15, 11, 90])?;
+    let second = image_of(alloc, 2, &[14, 13])?;
+    slowest(alloc, first.as_slice(), second.as_slice())
 }
 
 #[test]
-fn floats_are_counted(rt: HostRuntime) -> Result<(), Fail> {
-    let counted = within(rt.alloc(), &[0.5, 2.25, 1e3, -0.0], 2.25)?;
-    assert_eq!(rt;
-        counted,
-        Some(Rank {
-            weight: 3,
-            total: 4
-        })
-    );
-    Ok(())
+fn slowest_of_two_hosts(rt: HostRuntime) {
+    assert!(rt; matches!(slowest_of_two(rt.alloc()), Ok(Some(90))));
+}
+
+#[test]
+fn floats_are_counted(rt: HostRuntime) {
+    let counted = within(rt.alloc(), &[0.5, 2.25, 1e3, -0.0], 2.25);
+    assert!(rt; matches!(counted, Ok(Some(rank)) if rank.weight == 3 && rank.total == 4));
 }

@@ -4,8 +4,9 @@
 //! so on, until none is refused. Without that library nothing is refused: each call is made once.
 use super::calls::{
     Answer, CRITERIA, Call, Row, Subject, View, WORD, answer_of, are_alike, filled, fraction,
-    fractions, is_same, items, subject_of,
+    fractions, is_same, items, name_of, subject_of,
 };
+use super::is_true;
 use super::runs::is_invalid;
 use super::sketches::Tried;
 use crate::lines::serve;
@@ -15,7 +16,6 @@ use sketch_kll::sketch::KllSketch;
 use sketch_req::sketch::ReqSketch;
 use std::alloc::Global;
 use std::io::{self, Cursor};
-use std::test::Fail;
 
 /// Requests of at least this many bytes are signs to the library alone: N more have the Nth request from then on refused, and exactly this many are
 /// refused where a request was.
@@ -43,13 +43,11 @@ fn are_the_same<S: Tried>(
     subject: &Subject<S>,
     wanted: &Answer<S>,
     other: &Subject<S>,
-) -> Result<bool, Error>
+) -> bool
     requires { S.Asks }
 {
-    Ok(
-        is_same(alloc, given, wanted, other.points.as_slice())?
-            && are_alike(alloc, &subject.sketch, &other.sketch)?,
-    )
+    is_same(alloc, given, wanted, other.points.as_slice())
+        && are_alike(alloc, &subject.sketch, &other.sketch)
 }
 
 /// Whether the call gives what it gives on a sketch that was never refused memory, and leaves the same.
@@ -63,7 +61,7 @@ fn gives_the_same<S: Tried>(
 {
     let mut other: Subject<S> = subject_of(alloc, row)?;
     let wanted = answer_of(alloc, row, &mut other)?;
-    are_the_same(alloc, given, subject, &wanted, &other)
+    Ok(are_the_same(alloc, given, subject, &wanted, &other))
 }
 
 /// Whether the call, made again, gives what it gives on a sketch that was never refused memory.
@@ -85,7 +83,8 @@ fn is_left<S: Tried>(
     requires { S.Asks }
 {
     let is_told = kind == ErrorKind::OutOfMemory;
-    Ok(is_told && are_alike(alloc, &subject.sketch, before)? && answers_again(alloc, row, subject)?)
+    let is_as_before = is_told && are_alike(alloc, &subject.sketch, before);
+    Ok(answers_again(alloc, row, subject)? && is_as_before)
 }
 
 /// Whether all is as wanted behind the first try.
@@ -145,16 +144,19 @@ fn try_each<S: Tried>(alloc: Global, row: Row) -> Result<Option<usize>, Error>
     Ok(None)
 }
 
-/// Tries a row, and prints it under the library.
-fn try_row<S: Tried>(rt: &(impl Print + AllocGlobal), row: Row) -> Result<bool, Fail>
+fn print_row(rt: &impl Print, row: Row, refused: Option<usize>) -> io::Result<()> {
+    let (call, k, count, number) = row;
+    let name = name_of(call);
+    println!(rt; "{name} {k} {count} {number} {refused:?}")
+}
+
+/// Tries a row, and prints it under the library, or where it isn't as wanted.
+fn try_row<S: Tried>(rt: &(impl Print + AllocGlobal), row: Row) -> Result<bool, Error>
     requires { S.Asks }
 {
     let refused = try_each::<S>(rt.alloc(), row)?;
-    if is_tried(rt.alloc()) || refused.is_none() {
-        let (call, k, count, number) = row;
-        println!(rt; "{call:?} {k} {count} {number} {refused:?}")?;
-    }
-    Ok(refused.is_some())
+    let is_silent = refused.is_some() && !is_tried(rt.alloc());
+    Ok((is_silent || print_row(rt, row, refused).is_ok()) && refused.is_some())
 }
 
 /// Whether bad arguments are refused.
@@ -276,10 +278,12 @@ fn empties<S: Tried>(alloc: Global, sketch: &mut S, empty: &S) -> Result<bool, E
     Ok(empties_quietly(alloc, sketch, empty, &view, points.as_slice()))
 }
 
-fn are_quiet<S: Tried>(alloc: Global, sketch: &mut S, empty: &S) -> Result<bool, Error>
+fn are_quiet<S: Tried>(alloc: Global, sketch: &mut S, empty: &S) -> bool
     requires { S.Asks }
 {
-    Ok(reads(alloc, sketch)? && refuses(alloc, sketch, empty)? && empties(alloc, sketch, empty)?)
+    is_true(reads(alloc, sketch))
+        && is_true(refuses(alloc, sketch, empty))
+        && is_true(empties(alloc, sketch, empty))
 }
 
 /// Makes the calls that take no memory, of the two families alike.
@@ -288,7 +292,7 @@ fn asks_for_none<S: Tried>(alloc: Global) -> Result<bool, Error>
 {
     let mut sketch: S = filled(alloc, 8, 27)?;
     let empty: S = filled(alloc, 8, 0)?;
-    are_quiet(alloc, &mut sketch, &empty)
+    Ok(are_quiet(alloc, &mut sketch, &empty))
 }
 
 /// What is tried of each family.
@@ -331,47 +335,37 @@ const REQ_ROWS: [Row; 6] = [
 ];
 
 /// Whether each row is as wanted.
-fn try_rows<S: Tried>(rt: &(impl Print + AllocGlobal), rows: &[Row]) -> Result<bool, Fail>
+fn try_rows<S: Tried>(rt: &(impl Print + AllocGlobal), rows: &[Row]) -> bool
     requires { S.Asks }
 {
     for row in rows {
-        if !try_row::<S>(rt, *row)? {
-            return Ok(false);
+        if !is_true(try_row::<S>(rt, *row)) {
+            return false;
         }
     }
-    Ok(true)
+    true
 }
 
 /// Tries the rows of each family and some more, and the calls that take no memory.
-fn try_all<S: Tried>(rt: &(impl Print + AllocGlobal), more: &[Row]) -> Result<(), Fail>
+fn try_all<S: Tried>(rt: &(impl Print + AllocGlobal), more: &[Row]) -> bool
     requires { S.Asks }
 {
-    if !try_rows::<S>(rt, &ROWS)? || !try_rows::<S>(rt, more)? {
-        fail("a call whose memory was refused answered otherwise than wanted")?;
-    }
-    if !asks_for_none::<S>(rt.alloc())? {
-        fail("a call that takes no memory asked for some, or answered otherwise than wanted")?;
-    }
-    Ok(())
-}
-
-fn fail(why: &'static str) -> Result<(), Fail> {
-    None.ok_or(why)?
+    try_rows::<S>(rt, &ROWS) && try_rows::<S>(rt, more) && is_true(asks_for_none::<S>(rt.alloc()))
 }
 
 #[test]
-fn kll_of_i64(rt: HostRuntime) -> Result<(), Fail> {
-    try_all::<KllSketch<i64>>(&rt, &KLL_ROWS)
+fn kll_of_i64(rt: HostRuntime) {
+    assert!(rt; try_all::<KllSketch<i64>>(&rt, &KLL_ROWS));
 }
 
 #[test]
-fn kll_of_text(rt: HostRuntime) -> Result<(), Fail> {
-    try_all::<KllSketch<String>>(&rt, &KLL_ROWS)
+fn kll_of_text(rt: HostRuntime) {
+    assert!(rt; try_all::<KllSketch<String>>(&rt, &KLL_ROWS));
 }
 
 #[test]
-fn req_of_i64(rt: HostRuntime) -> Result<(), Fail> {
-    try_all::<ReqSketch<i64>>(&rt, &REQ_ROWS)
+fn req_of_i64(rt: HostRuntime) {
+    assert!(rt; try_all::<ReqSketch<i64>>(&rt, &REQ_ROWS));
 }
 
 /// Whether lines are served, or memory runs out and that is said.
@@ -409,11 +403,9 @@ fn serve_each(alloc: Global) -> Option<usize> {
 }
 
 #[test]
-fn lines(rt: HostRuntime) -> Result<(), Fail> {
+fn lines(rt: HostRuntime) {
     let refused = serve_each(rt.alloc());
-    if is_tried(rt.alloc()) || refused.is_none() {
-        println!(rt; "Serve 0 2 0 {refused:?}")?;
-    }
-    assert!(rt; refused.is_some());
-    Ok(())
+    let is_silent = refused.is_some() && !is_tried(rt.alloc());
+    let is_told = is_silent || println!(rt; "Serve 0 2 0 {refused:?}").is_ok();
+    assert!(rt; is_told && refused.is_some());
 }

@@ -170,40 +170,31 @@ fn run_of<S: Tried>(alloc: Global, steps: Steps<'_, S>, word: &[bool]) -> Result
 
 /// The weight of an item and the whole, 0 both of an empty sketch. None of an absent one.
 fn rank_in<S: Tried>(run: &Run<S>, slot: u8, item: &S::Item) -> Option<(u64, u64)> {
-    let sketch = run.slots.get(&slot)?;
-    match sketch.rank_of(item, CRITERIA) {
-        Some(rank) => Some((rank.weight, rank.total)),
-        None => Some((0, 0)),
+    match run.slots.get(&slot) {
+        Some(sketch) => match sketch.rank_of(item, CRITERIA) {
+            Some(rank) => Some((rank.weight, rank.total)),
+            None => Some((0, 0)),
+        },
+        None => None,
     }
 }
 
-fn ranks<S: Tried>(
-    alloc: Global,
-    run: &Run<S>,
-    rows: &[(u8, u32, u64, u64)],
-) -> Result<bool, AllocError> {
-    for (slot, number, weight, total) in rows {
-        let item = S::item_of(alloc, *number)?;
-        if rank_in(run, *slot, &item) != Some((*weight, *total)) {
-            return Ok(false);
+/// Whether a number in a slot has a weight and a whole.
+fn is_ranked<S: Tried>(alloc: Global, run: &Run<S>, row: (u8, u32, u64, u64)) -> bool {
+    let (slot, number, weight, total) = row;
+    match S::item_of(alloc, number) {
+        Ok(item) => rank_in(run, slot, &item) == Some((weight, total)),
+        Err(_) => false,
+    }
+}
+
+fn are_ranked<S: Tried>(alloc: Global, run: &Run<S>, rows: &[(u8, u32, u64, u64)]) -> bool {
+    for row in rows {
+        if !is_ranked(alloc, run, *row) {
+            return false;
         }
     }
-    Ok(true)
-}
-
-fn gives<S: Tried>(alloc: Global, run: &Run<S>, given: &RunRow<'_>) -> Result<bool, AllocError> {
-    let is_run = run.refused.as_slice() == given.refused && run.coins == given.coins;
-    Ok(is_run && ranks(alloc, run, given.ranks)?)
-}
-
-fn takes<S: Tried>(
-    alloc: Global,
-    run: &Run<S>,
-    total: u64,
-    number: u32,
-) -> Result<bool, AllocError> {
-    let is_whole = ranks(alloc, run, &[(0, number, total, total)])?;
-    Ok(is_whole && run.refused.is_empty())
+    true
 }
 
 fn are_left_alike<S: Tried>(run: &Run<S>, other: &Run<S>) -> bool {
@@ -219,12 +210,16 @@ pub(crate) fn leaves_alike<S: Tried>(
     steps: Steps<'_, S>,
     others: Steps<'_, S>,
     word: &[bool],
-) -> Result<bool, Error>
+) -> bool
     requires { S.Asks }
 {
-    let run = run_of::<S>(alloc, steps, word)?;
-    let other = run_of::<S>(alloc, others, word)?;
-    Ok(are_left_alike(&run, &other))
+    match (
+        run_of::<S>(alloc, steps, word),
+        run_of::<S>(alloc, others, word),
+    ) {
+        (Ok(run), Ok(other)) => are_left_alike(&run, &other),
+        _ => false,
+    }
 }
 
 fn audit_of<S: Tried>(
@@ -241,15 +236,15 @@ fn audit_of<S: Tried>(
     S::audit_of(alloc, commands.as_slice(), slot, &item, criteria)
 }
 
-fn audits<S: Tried>(alloc: Global, steps: Steps<'_, S>, row: &AuditRow<'_>) -> Result<bool, Error>
-    requires { S.Asks }
-{
-    let audit = audit_of::<S>(alloc, steps, row.slot, row.number, CRITERIA)?;
-    Ok(
-        audit.coins == row.coins
-            && audit.weights.as_slice() == row.weights
-            && audit.true_rank == row.true_rank,
-    )
+fn is_audit(answer: Result<Audit, Error>, row: &AuditRow<'_>) -> bool {
+    match answer {
+        Ok(audit) => {
+            audit.coins == row.coins
+                && audit.weights.as_slice() == row.weights
+                && audit.true_rank == row.true_rank
+        }
+        Err(_) => false,
+    }
 }
 
 /// Whether the weights under all words of `coins` coins sum to the number of words times the true rank.
@@ -263,70 +258,82 @@ fn is_even(audit: &Audit, coins: usize, words: u64) -> bool {
         && sum == audit.true_rank.wrapping_mul(words)
 }
 
-fn is_unbiased<S: Tried>(alloc: Global, steps: Steps<'_, S>, count: u32) -> Result<bool, Error>
+fn is_even_audit(answer: Result<Audit, Error>, coins: usize, words: u64) -> bool {
+    match answer {
+        Ok(audit) => is_even(&audit, coins, words),
+        Err(_) => false,
+    }
+}
+
+fn is_unbiased<S: Tried>(
+    alloc: Global,
+    steps: Steps<'_, S>,
+    count: u32,
+    criteria: SearchCriteria,
+) -> bool
     requires { S.Asks }
 {
-    for criteria in [SearchCriteria::Inclusive, SearchCriteria::Exclusive] {
-        for number in 0..count {
-            if !is_even(&audit_of::<S>(alloc, steps, 0, number, criteria)?, 3, 8) {
-                return Ok(false);
-            }
+    for number in 0..count {
+        if !is_even_audit(audit_of::<S>(alloc, steps, 0, number, criteria), 3, 8) {
+            return false;
         }
     }
-    Ok(true)
+    true
 }
 
 pub(crate) fn is_invalid<X: Drop>(answer: Result<X, Error>) -> bool {
-    answer.is_err_and(|error| error.kind() == ErrorKind::InvalidArgument)
-}
-
-fn ends<S: Tried>(alloc: Global, run: &Run<S>, trial: &Trial<'_>) -> Result<bool, AllocError> {
-    match trial {
-        Trial::Gives(given) => gives(alloc, run, given),
-        Trial::Takes(_, total, number) => takes(alloc, run, *total, *number),
-        _ => Ok(false),
+    match answer {
+        Ok(_) => false,
+        Err(error) => error.kind() == ErrorKind::InvalidArgument,
     }
 }
 
-fn runs<S: Tried>(
-    alloc: Global,
-    steps: Steps<'_, S>,
-    word: &[bool],
-    trial: &Trial<'_>,
-) -> Result<bool, Error>
-    requires { S.Asks }
-{
-    let run = run_of::<S>(alloc, steps, word)?;
-    Ok(ends(alloc, &run, trial)?)
+fn ends<S: Tried>(alloc: Global, run: &Run<S>, trial: &Trial<'_>) -> bool {
+    match trial {
+        Trial::Gives(given) => {
+            run.refused.as_slice() == given.refused
+                && run.coins == given.coins
+                && are_ranked(alloc, run, given.ranks)
+        }
+        Trial::Takes(_, total, number) => {
+            run.refused.is_empty() && is_ranked(alloc, run, (0, *number, *total, *total))
+        }
+        _ => false,
+    }
 }
 
-fn has_sixteen<S: Tried>(
-    alloc: Global,
-    steps: Steps<'_, S>,
-    slot: u8,
-    number: u32,
-) -> Result<bool, Error>
+fn runs<S: Tried>(alloc: Global, steps: Steps<'_, S>, word: &[bool], trial: &Trial<'_>) -> bool
     requires { S.Asks }
 {
-    let audit = audit_of::<S>(alloc, steps, slot, number, CRITERIA)?;
-    Ok(is_even(&audit, 16, 65536))
+    match run_of::<S>(alloc, steps, word) {
+        Ok(run) => ends(alloc, &run, trial),
+        Err(_) => false,
+    }
 }
 
 /// Whether it is so of these steps.
-pub(crate) fn holds<S: Tried>(
-    alloc: Global,
-    steps: Steps<'_, S>,
-    trial: &Trial<'_>,
-) -> Result<bool, Error>
+pub(crate) fn holds<S: Tried>(alloc: Global, steps: Steps<'_, S>, trial: &Trial<'_>) -> bool
     requires { S.Asks }
 {
     match trial {
         Trial::Gives(given) => runs::<S>(alloc, steps, given.word, trial),
         Trial::Takes(word, ..) => runs::<S>(alloc, steps, word, trial),
-        Trial::WantsMore(word) => Ok(is_invalid(run_of::<S>(alloc, steps, word))),
-        Trial::Audits(row) => audits::<S>(alloc, steps, row),
-        Trial::IsUnbiased(count) => is_unbiased::<S>(alloc, steps, *count),
-        Trial::HasSixteen(slot, number) => has_sixteen::<S>(alloc, steps, *slot, *number),
-        Trial::HasTooMany => Ok(is_invalid(audit_of::<S>(alloc, steps, 0, 5, CRITERIA))),
+        Trial::WantsMore(word) => is_invalid(run_of::<S>(alloc, steps, word)),
+        Trial::Audits(row) => {
+            let audit = audit_of::<S>(alloc, steps, row.slot, row.number, CRITERIA);
+            is_audit(audit, row)
+        }
+        Trial::IsUnbiased(count) => {
+            is_unbiased::<S>(alloc, steps, *count, SearchCriteria::Inclusive)
+                && is_unbiased::<S>(alloc, steps, *count, SearchCriteria::Exclusive)
+        }
+        Trial::HasSixteen(slot, number) => {
+            is_even_audit(
+                audit_of::<S>(alloc, steps, *slot, *number, CRITERIA),
+                16,
+                65536,
+            )
+        }
+        Trial::HasTooMany => is_invalid(audit_of::<S>(alloc, steps, 0, 5, CRITERIA)),
     }
 }
