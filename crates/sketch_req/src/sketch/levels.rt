@@ -1,8 +1,10 @@
 //! The levels of a sketch with the sums over them, and how items come in.
 //! What happens to a vector of levels half-way is in `walk` and `joining`.
 ghost use Rattle.std.specs.Prelude.{◌≡◌, ℕ, ◌+◌, ◌-◌, ◌^◌, ◌<◌, ◌≤◌, true, [], ◌∷◌, length, take, vec_capacity, IfErr, IfOk, OnOk, OnErr};
+ghost use Rattle.std.specs.List.{AllZip};
 ghost use Rattle.std.specs.declared.cmp.Ordering.TheVariants.{Equal};
 ghost use Rattle.sketch_base.specs.Query.{counted};
+ghost use Rattle.sketch_req.specs.Copy.{IsLevelCopy};
 ghost use Rattle.sketch_base.specs.Random.{bits_from, after_draws};
 ghost use Rattle.sketch_base.specs.Trace.{draws_of};
 ghost use Rattle.sketch_base.specs.declared.error.ErrorKind.TheVariants.{OutOfMemory};
@@ -22,7 +24,6 @@ mod walk;
 
 use crate::RankAccuracy;
 use crate::compactor::Compactor;
-use crate::sketch::copies::copy_levels;
 use joining::join_and_walk;
 use sketch_base::common::SearchCriteria;
 use sketch_base::common::random::RandomBits;
@@ -312,4 +313,18 @@ pub(crate) fn weight_counted<T: Clone + Ord>(
         weight = 2 * weight + counted as u64;
     }
     weight
+}
+
+/// Copies of the levels.
+pub(super) fn copy_levels<T: Clone + Ord>(
+    levels: &Vec<Compactor<T>>,
+) -> Result<Vec<Compactor<T>>, AllocError>
+    requires clones { (x y : T) → T.is_clone x y → T.cmp x y ≡ Equal }
+    ensures { IfOk result (λ new. AllZip (IsLevelCopy T.cmp) levels.now.items new.items) }
+{
+    let mut copies = Vec::with_capacity(*levels.allocator(), levels.len())?;
+    for level in levels.as_slice() {
+        copies.push(level.clone()?)?;
+    }
+    Ok(copies)
 }
