@@ -1,5 +1,5 @@
 -- Items in order, of which the first and the last lie between two others.
-use Rattle.std.proofs.Common.{◌≡◌, ℕ, suc, ◌-◌, ◌<◌, false, List, [], ◌∷◌, length, get_or, Ordering, is_gt, arith, IsSorted}
+use Rattle.std.proofs.Common.{◌≡◌, suc, ◌-◌, ◌<◌, List, [], ◌∷◌, length, get_or, Ordering, arith, IsSorted}
 use Rattle.std.specs.Cmp.{IsTotalOrder}
 use Rattle.std.specs.List.{AllByRecursion}
 use Rattle.sketch_base.specs.Extremes.{IsAtMost, IsBetween}
