@@ -15,11 +15,11 @@ use Rattle.std.proofs.lemmas.List.Sorted.{All-permutation, IsPermutation-refl, l
 use Rattle.sketch_base.specs.Bag.{SameItems, sort}
 use Rattle.sketch_base.specs.Pairs.{begins_equal, copies, distinct, is_below_next, joined, joined_weights}
 use Rattle.sketch_base.specs.Query.{counted}
-use Rattle.sketch_base.specs.Queries.{SameAnswer, spread_out, spread_over}
+use Rattle.sketch_base.specs.Queries.{spread_out, spread_over}
 use Rattle.sketch_base.specs.Views.{IsThere, IsView}
 use Rattle.sketch_base.proofs.AllParts.{all-map}
 use Rattle.sketch_base.proofs.Counts.{Ordered, Ordered-sort, below, counted-equal, items-from_counts}
-use Rattle.sketch_base.proofs.Entries.{Ordered-spread_over, same-spread}
+use Rattle.sketch_base.proofs.Entries.{Ordered-spread_over, SameAnswer-itself, same-spread}
 use Rattle.sketch_base.proofs.Items.{SameItems-append, SameItems-refl, SameItems-trans}
 use Rattle.sketch_base.proofs.Orders.{equal-from_neither, less-from_is_lt}
 use Rattle.sketch_base.proofs.Rises.{Rises, non_decreasing_from_rises}
@@ -263,10 +263,6 @@ module _ {A : Type 0} {cmp : A → A → Ordering} (order : IsTotalOrder cmp) wh
   distinct-same (x ∷ xs) (y ∷ ys) s = ap₂ (λ (b : Bool) (n : ℕ). (if b then 0 else 1) + n) (begins-same x y xs ys s.0 s.1) (distinct-same xs ys s.1)
   distinct-same _ _ s = absurd s
 
-  same-answer : (found : Option A) → SameAnswer cmp found found
-  same-answer None = tt
-  same-answer (Some x) = tied_itself order x
-
   module _ (pairs : List (A × ℕ)) (sorted : IsSorted cmp (items_in pairs)) (weights : All (λ (pair : A × ℕ). 0 < pair.1) pairs)
       (items : List A) (cumulated : List ℕ) (same : SameItems cmp (joined cmp pairs) items) (sums : cumulated ≡ joined_weights cmp 0 pairs) where
     clones-spread : SameItems cmp (spread_out (joined cmp pairs) (joined_weights cmp 0 pairs)) (spread_out items cumulated)
@@ -289,7 +285,7 @@ module _ {A : Type 0} {cmp : A → A → Ordering} (order : IsTotalOrder cmp) wh
     pub clones-view : (least greatest : Option A) → 0 < length pairs → IsSome least → IsSome greatest → IsView cmp items cumulated least greatest
     clones-view least greatest some l g =
         view-of_clones order (joined cmp pairs) items (joined_weights cmp 0 pairs) cumulated least least greatest greatest
-        (joined-view pairs pairs (IsPermutation-refl pairs) sorted weights least greatest some l g) same sums (same-answer least) (same-answer greatest)
+        (joined-view pairs pairs (IsPermutation-refl pairs) sorted weights least greatest some l g) same sums (SameAnswer-itself order least) (SameAnswer-itself order greatest)
 
 -- ---- the loops
 

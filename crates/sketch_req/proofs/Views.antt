@@ -14,13 +14,12 @@ use Rattle.sketch_base.specs.Bag.{SameItems, expanded, repeated, sort}
 use Rattle.sketch_base.specs.Pairs.{copies, extreme_among}
 use Rattle.sketch_base.specs.Queries.{SameAnswer}
 use Rattle.sketch_base.specs.Views.{IsThere, IsViewOf, View}
-use Rattle.sketch_base.specs.Weighted.{items_of, pairs_in}
+use Rattle.sketch_base.specs.Weighted.{pairs_in}
 use Rattle.sketch_base.specs.declared.weighted.Weighted.{Weighted}
 use Rattle.sketch_base.proofs.Items.{SameItems-trans}
 use Rattle.sketch_base.proofs.JoinedViews.{copies-moved}
 use Rattle.sketch_base.proofs.Results.{ok-weaker}
 use Rattle.sketch_base.proofs.SketchViews.{built-view}
-use Rattle.sketch_base.proofs.WeightedItems.{items-in_pairs}
 use Rattle.sketch_req.specs.Actions.{bag_of}
 use Rattle.sketch_req.specs.Level.{Level}
 use Rattle.sketch_req.specs.Pairs.{pairs_of, weighed}

@@ -54,7 +54,32 @@ impl<T: Clone + Ord> ReqSketch<T> {
         ensures some { IfErr result (λ e. self.now.n ≢ 0) }
     {
         let levels = &self.levels;
-        merge_levels(*levels.compactors.allocator(), levels.compactors.as_slice())
+        Self::merged(*levels.compactors.allocator(), levels.compactors.as_slice())
+    }
+
+    /// The items of levels with their weights, in order: those of either half are merged. Neighbouring
+    /// levels have few items in one another's midst, so that a merge mostly goes on with the same one.
+    fn merged(alloc: Global, levels: &[Compactor<T>]) -> Result<Vec<Weighted<'_, T>>, AllocError>
+        requires some { 0 < length levels.now }
+        requires few { length (pairs_of levels.now) < 2 ^ 64 }
+        ensures moved { IfOk result (λ v.
+            IsPermutation (pairs_of levels.now) (pairs_in v.items)) }
+        ensures sorted { IfOk result (λ v. IsSorted T.cmp (items_of v.items)) }
+        ensures some { IfErr result (λ e. 0 < length (pairs_of levels.now)) }
+    {
+        if levels.len() == 1 {
+            let level = &levels[0];
+            return weigh_in_order(
+                alloc,
+                level.items_slice(),
+                level.weight(),
+                level.is_sorted(),
+            );
+        }
+        let (lower, upper) = levels.split_at(levels.len() / 2);
+        let lower = Self::merged(alloc, lower)?;
+        let upper = Self::merged(alloc, upper)?;
+        merge_weighted(alloc, lower.as_slice(), upper.as_slice())
     }
 
     /// The item that a fraction names; None for an empty sketch.
@@ -173,31 +198,4 @@ impl<T: Clone + Ord> Ranked<T> for ReqSketch<T> {
         let levels = &self.levels;
         weight_counted(levels.compactors.as_slice(), item, criteria)
     }
-}
-
-/// The items of levels with their weights, in order: those of either half are merged. Neighbouring
-/// levels have few items in one another's midst, so that a merge mostly goes on with the same one.
-fn merge_levels<'a, T: Clone + Ord>(
-    alloc: Global,
-    levels: &'a [Compactor<T>],
-) -> Result<Vec<Weighted<'a, T>>, AllocError>
-    requires some { 0 < length levels.now }
-    requires few { length (pairs_of levels.now) < 2 ^ 64 }
-    ensures moved { IfOk result (λ v. IsPermutation (pairs_of levels.now) (pairs_in v.items)) }
-    ensures sorted { IfOk result (λ v. IsSorted T.cmp (items_of v.items)) }
-    ensures some { IfErr result (λ e. 0 < length (pairs_of levels.now)) }
-{
-    if levels.len() == 1 {
-        let level = &levels[0];
-        return weigh_in_order(
-            alloc,
-            level.items_slice(),
-            level.weight(),
-            level.is_sorted(),
-        );
-    }
-    let (lower, upper) = levels.split_at(levels.len() / 2);
-    let lower = merge_levels(alloc, lower)?;
-    let upper = merge_levels(alloc, upper)?;
-    merge_weighted(alloc, lower.as_slice(), upper.as_slice())
 }

@@ -4,18 +4,18 @@ use Rattle.std.proofs.lemmas.Result.{IfErr-weaker}
 use Rattle.sketch_base.proofs.Results.{ok-weaker}
 use Rattle.sketch_req.specs.Pairs.{pairs_of}
 use Rattle.sketch_req.proofs.Views.{both-long, both-moved, parts-long}
-use Rattle.sketch_req.proofs.sketch.queries.+merge_levels.Goals as goal
+use Rattle.sketch_req.proofs.sketch.ReqSketch.+merged.Goals as goal
 
-pub merge_levels-requires : goal.merge_levels-requires
-merge_levels-requires g t c =
+pub merged-requires : goal.merged-requires
+merged-requires g t c =
     let long = parts-long _ c.args.levels.now c.split_at.result.0.now c.split_at.result.1.now c.split_at.ensures.front c.split_at.ensures.back in
     let few : length (pairs_of c.split_at.result.0.now) < 2 ^ 64 = omega (arith, long, c.requires.few) in
     let some : 0 < length c.split_at.result.0.now = omega (arith, c.split_at.ensures.front_len, c.if-levels-eq1.false, c.requires.some) in
     let smaller : length c.split_at.result.0.now < length c.args.levels.now = omega (arith, c.split_at.ensures.front_len, c.requires.some) in
     search rules
 
-pub merge_levels-requires-2 : goal.merge_levels-requires-2
-merge_levels-requires-2 g t c =
+pub merged-requires-2 : goal.merged-requires-2
+merged-requires-2 g t c =
     let long = parts-long _ c.args.levels.now c.split_at.result.0.now c.split_at.result.1.now c.split_at.ensures.front c.split_at.ensures.back in
     let few : length (pairs_of c.split_at.result.1.now) < 2 ^ 64 = omega (arith, long, c.requires.few) in
     let some : 0 < length c.split_at.result.1.now = omega (arith, c.split_at.ensures.back_len, c.requires.some) in
