@@ -15,4 +15,3 @@ returns-clause-acted g c =
     let spare : are_full s.k (layouts_of (appended_first s.compactors.items c.args.item)) ≡ false =
     lt-leb _ _ (omega (arith, held.retained_is, held.capacity_is, c.if-self.false)) in
     rw (← c.self.view_is, c.in_ok-append.ensures.ok) (acted-spare g.met.T.Ord.total _ _ _ _ _ _ held.placed spare)
-
