@@ -31,7 +31,7 @@ use sketch_base::error::Error;
 use std::alloc::AllocError;
 use std::marker::Model;
 use std::mem;
-use walk::{add_level, append, append_and_walk, settle};
+use walk::{add_level, append, append_and_walk};
 
 /// The levels of a sketch, from level 0 up, and the sums over them. A contract sees them as the
 /// record `Held` of specs/Held.
@@ -120,9 +120,6 @@ impl<T: Clone + Ord> Levels<T> {
     {
         append_and_walk(&mut self.compactors, item, coins)?;
         (self.num_retained, self.capacity) = sums(self.compactors.as_slice());
-        // Level 0 keeps room for the items up to the next walk, or for a tenth of all.
-        let more = self.capacity.saturating_sub(self.num_retained);
-        settle(&mut self.compactors, more.min(self.num_retained / 10));
         Ok(())
     }
 

@@ -155,6 +155,6 @@ pub(super) fn join_and_walk<T: Clone + Ord, B: RandomBits>(
     let (mut promoted, mut buffers) = join(levels, others)?;
     redraw_if(redraws, levels, coins);
     walk_if_full(levels, &mut promoted, &mut buffers, coins);
-    give_back(levels, 0);
+    give_back(levels);
     Ok(())
 }

@@ -143,21 +143,13 @@ fn walk<T: Clone + Ord, B: RandomBits>(
     }
 }
 
-/// Gives back what levels have too much room, from a level on.
-pub(super) fn give_back<T: Clone + Ord>(levels: &mut Vec<Compactor<T>>, first: usize)
+/// Gives back what levels have too much room.
+pub(super) fn give_back<T: Clone + Ord>(levels: &mut Vec<Compactor<T>>)
     ensures { levels.new.items ≡ levels.old.items }
 {
-    for level in first..levels.len() {
-        levels[level].give_back(0);
+    for level in 0..levels.len() {
+        levels[level].give_back();
     }
-}
-
-/// Gives back what level 0 has too much room, but keeps room for so many items that are to come.
-pub(super) fn settle<T: Clone + Ord>(levels: &mut Vec<Compactor<T>>, more: usize)
-    requires some { 0 < length levels.old.items }
-    ensures { levels.new.items ≡ levels.old.items }
-{
-    levels[0].give_back(more);
 }
 
 /// Walks if the levels hold as many items as their nominal capacities together, or more.
@@ -215,6 +207,6 @@ pub(super) fn append_and_walk<T: Clone + Ord, B: RandomBits>(
     let (mut promoted, mut buffers) = reserve_next(*levels.allocator(), levels.as_slice())?;
     append(levels, item)?;
     walk(levels, &mut promoted, &mut buffers, coins);
-    give_back(levels, 1);
+    give_back(levels);
     Ok(())
 }

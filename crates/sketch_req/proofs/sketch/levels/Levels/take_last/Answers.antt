@@ -29,4 +29,4 @@ returns-clause-acted g c =
     let same = nominal-appended s.k s.compactors.items c.args.item in
     let full : are_full s.k (layouts_of (appended_first s.compactors.items c.args.item)) ≡ true =
     le-leb _ _ (omega (arith, more, same, c.self.invariant.retained_is, c.self.invariant.capacity_is, ap (λ (h : Held g.row.T.Denot). retained_of (layouts_of h.levels)) c.self.view_is, ap (λ (h : Held g.row.T.Denot). nominal_sum h.k (layouts_of h.levels)) c.self.view_is, c.requires.full)) in
-    rw (c.settle.ensures, ← c.self.view_is) (acted-walk _ _ _ _ _ _ _ _ full (walked g (goal.at.returns-clause-acted g c).In_ok-append_and_walk))
+    rw (← c.self.view_is) (acted-walk _ _ _ _ _ _ _ _ full (walked g (goal.at.returns-clause-acted g c).In_ok-append_and_walk))
