@@ -69,12 +69,8 @@ impl<T: Clone + Ord> ReqSketch<T> {
     {
         if levels.len() == 1 {
             let level = &levels[0];
-            return weigh_in_order(
-                alloc,
-                level.items_slice(),
-                level.weight(),
-                level.is_sorted(),
-            );
+            let (items, is_sorted) = (level.items_slice(), level.is_sorted());
+            return weigh_in_order(alloc, items, level.weight(), is_sorted);
         }
         let (lower, upper) = levels.split_at(levels.len() / 2);
         let lower = Self::merged(alloc, lower)?;
