@@ -116,6 +116,16 @@ impl<T: Ord + Drop> Levels<T> {
         shrink_both(&mut self.items, &mut self.bounds);
     }
 
+    /// Does so where there is memory for over a quarter more items than a vector that grows takes.
+    pub(crate) fn give_back_much(&mut self)
+        ensures kept { KeepsLevels self.old self.new }
+    {
+        let len = self.items.len();
+        if self.items.capacity() - len > len / 4 + 4 {
+            self.give_back();
+        }
+    }
+
     /// Compacts one level, where the levels are at or over their total capacity.
     #[inline(always)]
     pub(crate) fn compact_if_full<B: RandomBits>(&mut self, coins: &mut B)
