@@ -13,10 +13,3 @@ mod refused;
 mod req;
 pub(crate) mod runs;
 pub(crate) mod sketches;
-
-use sketch_base::error::Error;
-
-/// Whether a check came to its end, and all was as wanted.
-pub(crate) fn is_true(answer: Result<bool, Error>) -> bool {
-    matches!(answer, Ok(true))
-}

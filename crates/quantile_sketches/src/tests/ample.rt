@@ -1,11 +1,10 @@
 //! Large sketches: no call gives up from some size on where memory is ample. `audit` has the long runs.
 use super::calls::{CRITERIA, View, are_equal, double, fill_with, fraction, ranks_alike};
-use super::is_true;
 use super::sketches::Tried;
-use crate::text::{image_bytes, image_text};
+use crate::text::image_text;
+use crate::text::tests::are_bytes_of;
 use sketch_base::common::random::SplitMix64;
 use sketch_base::common::{Rank, SearchCriteria};
-use sketch_base::error::Error;
 use sketch_kll::sketch::KllSketch;
 use sketch_req::RankAccuracy;
 use sketch_req::sketch::ReqSketch;
@@ -103,21 +102,28 @@ fn finds_alike<S: Tried>(
 }
 
 /// Whether the text of an image reads as the image.
-fn is_read_as_text(alloc: Global, image: &[u8]) -> Result<bool, Error> {
-    let text = image_text(alloc, image)?;
-    Ok(match image_bytes(alloc, text.as_str())? {
-        Some(bytes) => bytes.as_slice() == image,
-        None => false,
-    })
+fn is_read_as_text(alloc: Global, image: &[u8]) -> bool {
+    match image_text(alloc, image) {
+        Ok(text) => are_bytes_of(alloc, image, text.as_str()),
+        Err(_) => false,
+    }
+}
+
+fn is_image_of<S: Tried>(sketch: &S, image: &[u8]) -> bool {
+    match sketch.image() {
+        Ok(written) => written.as_slice() == image,
+        Err(_) => false,
+    }
 }
 
 /// Whether what is read from a sketch's image took `count` items, and is written as it was read.
-fn is_read_as<S: Tried>(alloc: Global, image: &[u8], count: u64) -> Result<bool, Error>
+fn is_read_as<S: Tried>(alloc: Global, image: &[u8], count: u64) -> bool
     requires { S.Asks }
 {
-    let read = S::load(alloc, image)?;
-    let written = read.image()?;
-    Ok(written.as_slice() == image && is_whole(alloc, &read, count))
+    match S::load(alloc, image) {
+        Ok(read) => is_image_of(&read, image) && is_whole(alloc, &read, count),
+        Err(_) => false,
+    }
 }
 
 /// Whether a sketch's image, as a text too, is read as a sketch that took `count` items.
@@ -126,73 +132,102 @@ fn reads_back<S: Tried>(alloc: Global, sketch: &S, count: u64) -> bool
 {
     match sketch.image() {
         Ok(image) => {
-            is_true(is_read_as::<S>(alloc, image.as_slice(), count))
-                && is_true(is_read_as_text(alloc, image.as_slice()))
+            is_read_as::<S>(alloc, image.as_slice(), count)
+                && is_read_as_text(alloc, image.as_slice())
         }
         Err(_) => false,
     }
 }
 
-/// Whether a large sketch answers many queries at once as a view of it does.
-fn answers_as<S: Tried>(alloc: Global, sketch: &S, view: &View<S>) -> Result<bool, Error>
+/// Whether a large sketch answers these queries as a view of it does.
+fn asks_alike<S: Tried>(
+    alloc: Global,
+    sketch: &S,
+    view: &View<S>,
+    points: &[S::Item],
+    fractions: &[Rank],
+) -> bool
     requires { S.Asks }
 {
-    let points = points::<S>(alloc)?;
-    let fractions = fractions(alloc)?;
-    let asked = fractions.as_slice();
-    Ok(
-        ranks_alike(alloc, sketch, view, 61)?
-            && finds_alike(sketch, view, asked, SearchCriteria::Inclusive)
-            && finds_alike(sketch, view, asked, SearchCriteria::Exclusive)
-            && distributes_alike(sketch, view, points.as_slice()),
-    )
+    ranks_alike(alloc, sketch, view, 61)
+        && finds_alike(sketch, view, fractions, SearchCriteria::Inclusive)
+        && finds_alike(sketch, view, fractions, SearchCriteria::Exclusive)
+        && distributes_alike(sketch, view, points)
+}
+
+/// Whether a large sketch answers many queries at once as a view of it does.
+fn answers_as<S: Tried>(alloc: Global, sketch: &S, view: &View<S>) -> bool
+    requires { S.Asks }
+{
+    match (points::<S>(alloc), fractions(alloc)) {
+        (Ok(points), Ok(fractions)) => {
+            asks_alike(alloc, sketch, view, points.as_slice(), fractions.as_slice())
+        }
+        _ => false,
+    }
+}
+
+fn answers_as_a_copy<S: Tried>(alloc: Global, sketch: &S, view: &View<S>) -> bool
+    requires { S.Asks }
+{
+    match S::copy_of(view) {
+        Ok(copy) => answers_as(alloc, sketch, &copy),
+        Err(_) => false,
+    }
 }
 
 /// Whether a large sketch answers many queries at once as a copy of its view does.
-fn answers_many<S: Tried>(alloc: Global, sketch: &S) -> Result<bool, Error>
+fn answers_many<S: Tried>(alloc: Global, sketch: &S) -> bool
     requires { S.Asks }
 {
-    let view = sketch.view_of()?;
-    let copy = S::copy_of(&view)?;
-    answers_as(alloc, sketch, &copy)
+    match sketch.view_of() {
+        Ok(view) => answers_as_a_copy(alloc, sketch, &view),
+        Err(_) => false,
+    }
 }
 
 /// Whether a large sketch that a copy of it was merged into answers all that it is asked.
 fn answers_all<S: Tried>(alloc: Global, sketch: &S) -> bool
     requires { S.Asks }
 {
-    is_true(answers_many(alloc, sketch))
+    answers_many(alloc, sketch)
         && is_whole(alloc, sketch, 200_000)
         && reads_back(alloc, sketch, 200_000)
 }
 
-fn holds_many<S: Tried>(alloc: Global, config: S::Config) -> Result<bool, Error>
+/// Whether a sketch of these settings takes many items and a copy of itself, and answers.
+fn holds_many<S: Tried>(alloc: Global, config: S::Config) -> bool
     requires { S.Asks }
 {
-    let mut sketch: S = fill_with(alloc, config, MANY, &mut SplitMix64::new(1))?;
-    let is_filled = is_whole(alloc, &sketch, 100_000);
-    double(&mut sketch, &mut SplitMix64::new(2))?;
-    Ok(is_filled && answers_all(alloc, &sketch) && S::default_of(alloc).is_ok())
+    match fill_with::<S, SplitMix64>(alloc, config, MANY, &mut SplitMix64::new(1)) {
+        Ok(mut sketch) => {
+            is_whole(alloc, &sketch, 100_000)
+                && double(&mut sketch, &mut SplitMix64::new(2)).is_ok()
+                && answers_all(alloc, &sketch)
+                && S::default_of(alloc).is_ok()
+        }
+        Err(_) => false,
+    }
 }
 
 #[test]
 fn large_kll_of_i64_answers(rt: HostRuntime) {
-    assert!(rt; is_true(holds_many::<KllSketch<i64>>(rt.alloc(), 4096)));
+    assert!(rt; holds_many::<KllSketch<i64>>(rt.alloc(), 4096));
 }
 
 #[test]
 fn large_kll_of_text_answers(rt: HostRuntime) {
-    assert!(rt; is_true(holds_many::<KllSketch<String>>(rt.alloc(), 4096)));
+    assert!(rt; holds_many::<KllSketch<String>>(rt.alloc(), 4096));
 }
 
 #[test]
 fn large_req_answers(rt: HostRuntime) {
     let config = (1024, RankAccuracy::HighRank);
-    assert!(rt; is_true(holds_many::<ReqSketch<i32>>(rt.alloc(), config)));
+    assert!(rt; holds_many::<ReqSketch<i32>>(rt.alloc(), config));
 }
 
 #[test]
 fn large_req_of_low_ranks_answers(rt: HostRuntime) {
     let config = (1024, RankAccuracy::LowRank);
-    assert!(rt; is_true(holds_many::<ReqSketch<i32>>(rt.alloc(), config)));
+    assert!(rt; holds_many::<ReqSketch<i32>>(rt.alloc(), config));
 }

@@ -1,5 +1,4 @@
 //! The crate below all others: families, coins and errors. `req` has numbers of each width, as their bytes.
-use super::is_true;
 use sketch_base::codec::Family;
 use sketch_base::common::random::{RandomBits, SplitMix64, WordBits};
 use sketch_base::error::{Error, ErrorKind};
@@ -7,9 +6,11 @@ use std::alloc::Global;
 
 #[test]
 fn knows_its_family(rt: HostRuntime) {
-    assert!(rt; Family::KLL.validate_id(15).is_ok());
-    assert!(rt; Family::KLL.validate_id(17).is_err());
-    assert!(rt; Family::REQ.validate_id(17).is_ok());
+    assert!(rt;
+        Family::KLL.validate_id(15).is_ok()
+            && Family::KLL.validate_id(17).is_err()
+            && Family::REQ.validate_id(17).is_ok()
+    );
 }
 
 // Whether the next numbers of a source are these.
@@ -50,19 +51,26 @@ fn word_then_false(rt: HostRuntime) {
     assert!(rt; draws(&mut source, &[true, false, true, false, false]));
 }
 
+// Whether an error prints so.
+fn prints(alloc: Global, error: &Error, text: &str) -> bool {
+    match error.to_string(alloc) {
+        Ok(printed) => printed.as_str() == text,
+        Err(_) => false,
+    }
+}
+
 // Whether the error of a kind prints so, and tells its kind.
-fn prints(alloc: Global, kind: ErrorKind, text: &str) -> Result<bool, Error> {
+fn tells(alloc: Global, kind: ErrorKind, text: &str) -> bool {
     let error = Error::new(kind);
-    Ok(error.kind() == kind && error.to_string(alloc)?.as_str() == text)
+    error.kind() == kind && prints(alloc, &error, text)
 }
 
 #[test]
 fn prints_its_kind(rt: HostRuntime) {
-    for (kind, text) in [
-        (ErrorKind::InvalidArgument, "invalid argument"),
-        (ErrorKind::InvalidData, "invalid data"),
-        (ErrorKind::OutOfMemory, "out of memory"),
-    ] {
-        assert!(rt; is_true(prints(rt.alloc(), kind, text)), "as {text}");
-    }
+    let alloc = rt.alloc();
+    assert!(rt;
+        tells(alloc, ErrorKind::InvalidArgument, "invalid argument")
+            && tells(alloc, ErrorKind::InvalidData, "invalid data")
+            && tells(alloc, ErrorKind::OutOfMemory, "out of memory")
+    );
 }

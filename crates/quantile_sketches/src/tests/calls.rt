@@ -56,9 +56,10 @@ pub(super) fn name_of(call: Call) -> &'static str {
 /// the item that is put in.
 pub(super) type Row = (Call, u16, u32, u32);
 
-/// What a call is made on and with.
+/// What a row's call is made on and with.
 #[derive(Drop)]
 pub(super) struct Subject<S: Tried> {
+    pub(super) row: Row,
     pub(super) sketch: S,
     pub(super) points: Vec<S::Item>,
     pub(super) given: Given<S>,
@@ -141,19 +142,22 @@ fn is_ranked_alike<S: Tried>(sketch: &S, view: &View<S>, item: &S::Item) -> bool
             == sketch.rank_of(item, SearchCriteria::Exclusive)
 }
 
+/// Whether a view ranks a number's item as its sketch does.
+fn ranks_item_alike<S: Tried>(alloc: Global, sketch: &S, view: &View<S>, number: u32) -> bool {
+    match S::item_of(alloc, number) {
+        Ok(item) => is_ranked_alike(sketch, view, &item),
+        Err(_) => false,
+    }
+}
+
 /// Whether a view ranks the items from 0 on as its sketch does.
-pub(super) fn ranks_alike<S: Tried>(
-    alloc: Global,
-    sketch: &S,
-    view: &View<S>,
-    count: u32,
-) -> Result<bool, AllocError> {
+pub(super) fn ranks_alike<S: Tried>(alloc: Global, sketch: &S, view: &View<S>, count: u32) -> bool {
     for number in 0..count {
-        if !is_ranked_alike(sketch, view, &S::item_of(alloc, number)?) {
-            return Ok(false);
+        if !ranks_item_alike(alloc, sketch, view, number) {
+            return false;
         }
     }
-    Ok(true)
+    true
 }
 
 /// A sketch of a number of items in slot 0, and in slot 1 what is read from the image of a sketch that it was merged into.
@@ -198,7 +202,7 @@ fn given_of<S: Tried>(alloc: Global, row: Row, sketch: &S) -> Result<Given<S>, E
 }
 
 /// The row's sketch, with no room to spare.
-fn copied<S: Tried>(alloc: Global, row: Row) -> Result<S, Error>
+pub(super) fn copied<S: Tried>(alloc: Global, row: Row) -> Result<S, Error>
     requires { S.Asks }
 {
     filled::<S>(alloc, row.1, row.2)?.copy()
@@ -211,6 +215,7 @@ pub(super) fn subject_of<S: Tried>(alloc: Global, row: Row) -> Result<Subject<S>
     let points = items::<S>(alloc, &[3, 9, 14])?;
     let given = given_of(alloc, row, &sketch)?;
     Ok(Subject {
+        row,
         sketch,
         points,
         given,
@@ -234,11 +239,11 @@ fn take<S: Tried>(row: Row, sketch: &mut S, item: Option<S::Item>) -> Result<(),
 }
 
 /// Makes a call that changes the sketch.
-fn change<S: Tried>(row: Row, subject: &mut Subject<S>) -> Result<(), Error>
+fn change<S: Tried>(subject: &mut Subject<S>) -> Result<(), Error>
     requires { S.Asks }
 {
     match &mut subject.given {
-        Given::Items(items) => take(row, &mut subject.sketch, items.pop()),
+        Given::Items(items) => take(subject.row, &mut subject.sketch, items.pop()),
         Given::Other(other) => subject
             .sketch
             .merge(other, false, &mut WordBits::new(&WORD)),
@@ -267,13 +272,21 @@ fn ask_for_items<S: Tried>(call: Call, sketch: &S, points: &[S::Item]) -> Result
     })
 }
 
+/// What a call that makes a sketch gave.
+fn made<S: Tried>(sketch: Result<S, Error>) -> Result<Answer<S>, Error> {
+    match sketch {
+        Ok(sketch) => Ok(Answer::Sketch(sketch)),
+        Err(error) => Err(error),
+    }
+}
+
 /// Makes a call that asks the sketch.
 fn ask<S: Tried>(call: Call, subject: &Subject<S>) -> Result<Answer<S>, Error>
     requires { S.Asks }
 {
     let Subject { sketch, points, .. } = subject;
     match call {
-        Call::Clone => Ok(Answer::Sketch(sketch.copy()?)),
+        Call::Clone => made(sketch.copy()),
         Call::SortedView => Ok(Answer::View(sketch.view_of()?)),
         Call::Serialize => Ok(Answer::Bytes(sketch.image()?)),
         _ => ask_for_items(call, sketch, points.as_slice()),
@@ -298,34 +311,34 @@ fn run<S: Tried>(
 }
 
 /// Makes a call that takes no sketch.
-fn make<S: Tried>(alloc: Global, row: Row, subject: &Subject<S>) -> Result<Answer<S>, Error>
+fn make<S: Tried>(alloc: Global, subject: &Subject<S>) -> Result<Answer<S>, Error>
     requires { S.Asks }
 {
+    let (call, k, ..) = subject.row;
     match &subject.given {
-        Given::Image(image) => Ok(Answer::Sketch(S::load(alloc, image.as_slice())?)),
-        Given::Commands(commands) => run(alloc, row.0, commands, subject.points.as_slice()),
-        _ if matches!(row.0, Call::Default) => Ok(Answer::Sketch(S::default_of(alloc)?)),
-        _ => Ok(Answer::Sketch(S::create(alloc, S::config_of(row.1))?)),
+        Given::Image(image) => made(S::load(alloc, image.as_slice())),
+        Given::Commands(commands) => run(alloc, call, commands, subject.points.as_slice()),
+        _ if matches!(call, Call::Default) => made(S::default_of(alloc)),
+        _ => made(S::create(alloc, S::config_of(k))),
     }
 }
 
 /// Makes the row's call.
 pub(super) fn answer_of<S: Tried>(
     alloc: Global,
-    row: Row,
     subject: &mut Subject<S>,
 ) -> Result<Answer<S>, Error>
     requires { S.Asks }
 {
-    match row.0 {
+    match subject.row.0 {
         Call::Update | Call::UpdateWeighted | Call::Merge => {
-            change(row, subject)?;
+            change(subject)?;
             Ok(Answer::Done)
         }
         Call::Default | Call::New | Call::Deserialize | Call::Run | Call::Audit => make(
-            alloc, row, subject,
+            alloc, subject,
         ),
-        _ => ask(row.0, subject),
+        call => ask(call, subject),
     }
 }
 

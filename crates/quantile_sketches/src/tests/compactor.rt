@@ -2,7 +2,6 @@
 ghost use Rattle.std.specs.Prelude.{◌≡◌, IfOk};
 ghost use Rattle.sketch_req.specs.Sections.{IsLegalK};
 
-use super::is_true;
 use sketch_base::codec::{SketchBytes, SketchSlice};
 use sketch_base::common::random::WordBits;
 use sketch_base::error::Error;
@@ -77,23 +76,27 @@ fn is_new(alloc: Global) -> bool {
 }
 
 /// Whether a level of two items, which are said to be sorted or not, counts as sorted or not, and is new else.
-fn is_raw(alloc: Global, items: [i32; 2], said: bool, is_sorted: bool) -> Result<bool, Error> {
-    let level = Compactor::raw_items_compactor(12, HIGH, Vec::from_array(alloc, items)?, said);
-    Ok(holds(&level, &items, is_sorted) && has_numbers(&level, (2, 0, 3, 12, 72)))
+fn is_raw(alloc: Global, items: [i32; 2], said: bool, is_sorted: bool) -> bool {
+    match Vec::from_array(alloc, items) {
+        Ok(given) => {
+            let level = Compactor::raw_items_compactor(12, HIGH, given, said);
+            holds(&level, &items, is_sorted) && has_numbers(&level, (2, 0, 3, 12, 72))
+        }
+        Err(_) => false,
+    }
 }
 
 #[test]
 fn new_levels(rt: HostRuntime) {
-    assert!(rt; is_new(rt.alloc()));
-    for (items, said, is_sorted) in [
-        ([1, 2], true, true),
-        ([1, 2], false, false),
-        ([2, 2], true, true),
-        ([2, 1], true, false),
-        ([2, 1], false, false),
-    ] {
-        assert!(rt; is_true(is_raw(rt.alloc(), items, said, is_sorted)));
-    }
+    let alloc = rt.alloc();
+    assert!(rt;
+        is_new(alloc)
+            && is_raw(alloc, [1, 2], true, true)
+            && is_raw(alloc, [1, 2], false, false)
+            && is_raw(alloc, [2, 2], true, true)
+            && is_raw(alloc, [2, 1], true, false)
+            && is_raw(alloc, [2, 1], false, false)
+    );
 }
 
 /// Whether a level counts these numbers of items at most another, and below it.
@@ -109,32 +112,45 @@ fn counts_all(level: &Level) -> bool {
         && counts(level, 6, 4, 4)
 }
 
-/// Whether 5 counts as sorted, and 5, 3, 5, 1 don't until a sort; whether they are counted alike before and after it.
-fn counts_in_any_order(alloc: Global) -> Result<bool, Error> {
-    let is_one_sorted = level_of(alloc, &[5])?.is_sorted();
-    let mut level = level_of(alloc, &[5, 3, 5, 1])?;
-    let is_counted = holds(&level, &[5, 3, 5, 1], false) && counts_all(&level);
+/// Whether 5, 3, 5, 1 are counted alike before and after a sort, which orders them.
+fn sorts(level: &mut Level) -> bool {
+    let is_counted = holds(level, &[5, 3, 5, 1], false) && counts_all(level);
     level.sort();
-    Ok(is_one_sorted && is_counted && holds(&level, &[1, 3, 5, 5], true) && counts_all(&level))
+    is_counted && holds(level, &[1, 3, 5, 5], true) && counts_all(level)
+}
+
+/// Whether 5 counts as sorted, and 5, 3, 5, 1 are counted in any order.
+fn counts_in_any_order(alloc: Global) -> bool {
+    match (level_of(alloc, &[5]), level_of(alloc, &[5, 3, 5, 1])) {
+        (Ok(one), Ok(mut level)) => one.is_sorted() && sorts(&mut level),
+        _ => false,
+    }
 }
 
 #[test]
 fn sorts_and_counts_items_below(rt: HostRuntime) {
-    assert!(rt; is_true(counts_in_any_order(rt.alloc())));
+    assert!(rt; counts_in_any_order(rt.alloc()));
 }
 
-/// A level of the numbers from 1 to 6, of which every second was merged in.
-fn merged_in_order(alloc: Global) -> Result<Level, Error> {
-    let mut level = level_of(alloc, &[5, 1, 3])?;
+/// Whether a level of 5, 1, 3 that is sorted takes 2, 4, 6 in order.
+fn merges_sorted(level: &mut Level) -> bool {
     level.sort();
-    level.merge_sorted([2, 4, 6].as_slice())?;
-    Ok(level)
+    level.merge_sorted([2, 4, 6].as_slice()).is_ok()
 }
 
 /// Whether a copy has the numbers from 1 to 6, and counts as sorted.
-fn is_copied(level: &Level) -> Result<bool, Error> {
-    let copy = level.clone()?;
-    Ok(holds(&copy, &[1, 2, 3, 4, 5, 6], true) && copy.iter().count() == 6)
+fn is_copied(level: &Level) -> bool {
+    match level.clone() {
+        Ok(copy) => holds(&copy, &[1, 2, 3, 4, 5, 6], true) && copy.iter().count() == 6,
+        Err(_) => false,
+    }
+}
+
+fn merges_in_order(alloc: Global) -> bool {
+    match level_of(alloc, &[5, 1, 3]) {
+        Ok(mut level) => merges_sorted(&mut level) && is_copied(&level),
+        Err(_) => false,
+    }
 }
 
 /// A level of k 12 of the numbers from 1 to one that merged those to another in, of a level of another k and accuracy.
@@ -144,43 +160,35 @@ fn merged(alloc: Global, last: i32, other: i32) -> Result<Level, Error> {
     Ok(level)
 }
 
-/// Whether a level of 3, 2, 1 that merges nothing in is as it was.
-fn merges_nothing(alloc: Global) -> Result<bool, Error> {
-    let level = merged(alloc, 3, 0)?;
-    Ok(holds(&level, &[3, 2, 1], false))
-}
-
-/// Whether a level of 3, 2, 1 merges 2, 1 in.
-fn merges_two(alloc: Global) -> Result<bool, Error> {
-    let level = merged(alloc, 3, 2)?;
-    Ok(holds(&level, &[1, 1, 2, 2, 3], true) && has_numbers(&level, (5, 0, 3, 12, 72)))
-}
-
-/// Whether a level of the numbers from 1 to 20 merges those from 1 to 52 in.
-fn merges_many(alloc: Global) -> Result<bool, Error> {
-    let level = merged(alloc, 20, 52)?;
-    Ok(level.is_sorted() && counts(&level, 20, 40, 38) && counts(&level, 52, 72, 71))
+/// Whether a level of 3, 2, 1 merges nothing in, and is as it was, or 2, 1; and one of the numbers from 1 to 20 those to 52.
+fn merges(alloc: Global) -> bool {
+    match (
+        merged(alloc, 3, 0),
+        merged(alloc, 3, 2),
+        merged(alloc, 20, 52),
+    ) {
+        (Ok(same), Ok(five), Ok(many)) => {
+            holds(&same, &[3, 2, 1], false)
+                && holds(&five, &[1, 1, 2, 2, 3], true)
+                && has_numbers(&five, (5, 0, 3, 12, 72))
+                && many.is_sorted()
+                && counts(&many, 20, 40, 38)
+                && counts(&many, 52, 72, 71)
+        }
+        _ => false,
+    }
 }
 
 /// Whether a level of weight 8 takes an item.
-fn appends_above(alloc: Global) -> Result<bool, Error> {
+fn appends_above(alloc: Global) -> bool {
     let mut level: Level = Compactor::new(alloc, 3, 12, LOW);
-    level.append(5)?;
-    Ok(holds(&level, &[5], true) && level.weight() == 8)
-}
-
-fn merges_in_order(alloc: Global) -> Result<bool, Error> {
-    let level = merged_in_order(alloc)?;
-    is_copied(&level)
+    level.append(5).is_ok() && holds(&level, &[5], true) && level.weight() == 8
 }
 
 #[test]
 fn merges_levels(rt: HostRuntime) {
-    assert!(rt; is_true(merges_many(rt.alloc())));
-    assert!(rt; is_true(appends_above(rt.alloc())));
-    assert!(rt; is_true(merges_in_order(rt.alloc())));
-    assert!(rt; is_true(merges_nothing(rt.alloc())));
-    assert!(rt; is_true(merges_two(rt.alloc())));
+    let alloc = rt.alloc();
+    assert!(rt; merges(alloc) && appends_above(alloc) && merges_in_order(alloc));
 }
 
 /// A side, the greatest of the numbers from 1 on that a level of k 4 has, a coin, the items that are sent up, and the first and
@@ -201,15 +209,21 @@ fn is_compacted(level: &Level, out: &[i32], compaction: Compaction<'_>) -> bool 
 }
 
 /// Whether a compaction does so, and draws a coin where anything goes up.
-fn compacts_to(alloc: Global, compaction: Compaction<'_>) -> Result<bool, Error> {
-    let (rank_accuracy, count, coin, up, ..) = compaction;
-    let mut level = filled(alloc, 4, rank_accuracy, count)?;
-    let mut out = vec![in alloc; 99]?;
+fn compacts_into(level: &mut Level, out: &mut Vec<i32>, compaction: Compaction<'_>) -> bool {
+    let (_, _, coin, up, ..) = compaction;
     let word = [coin];
     let mut coins = WordBits::new(&word);
-    level.compact_into(&mut out, &mut coins)?;
-    let is_drawn = (coins.drawn() == 0) == up.is_empty();
-    Ok(is_compacted(&level, out.as_slice(), compaction) && is_drawn)
+    level.compact_into(out, &mut coins).is_ok()
+        && is_compacted(level, out.as_slice(), compaction)
+        && (coins.drawn() == 0) == up.is_empty()
+}
+
+fn compacts_to(alloc: Global, compaction: Compaction<'_>) -> bool {
+    let (rank_accuracy, count, ..) = compaction;
+    match (filled(alloc, 4, rank_accuracy, count), vec![in alloc; 99]) {
+        (Ok(mut level), Ok(mut out)) => compacts_into(&mut level, &mut out, compaction),
+        _ => false,
+    }
 }
 
 const COMPACTIONS: [Compaction<'static>; 8] = [
@@ -225,12 +239,8 @@ const COMPACTIONS: [Compaction<'static>; 8] = [
 
 #[test]
 fn compacts(rt: HostRuntime) {
-    for compaction in COMPACTIONS {
-        let (.., first, last) = compaction;
-        assert!(rt;
-            is_true(compacts_to(rt.alloc(), compaction)),
-            "{first} to {last}"
-        );
+    for compaction in &COMPACTIONS {
+        assert!(rt; compacts_to(rt.alloc(), *compaction), "to {}", compaction.5);
     }
 }
 
@@ -243,24 +253,34 @@ fn read(alloc: Global, bytes: &[u8]) -> Result<Level, Error>
     Ok(level)
 }
 
-fn is_written_as(alloc: Global, level: &Level, image: &[u8]) -> Result<bool, Error> {
-    let mut bytes = SketchBytes::with_capacity(alloc, 0)?;
-    level.serialize_into(&mut bytes)?;
-    let written = bytes.into_bytes();
-    Ok(written.as_slice() == image)
+fn writes(level: &Level, bytes: &mut SketchBytes) -> bool {
+    level.serialize_into(bytes).is_ok()
+}
+
+fn is_written_as(alloc: Global, level: &Level, image: &[u8]) -> bool {
+    match SketchBytes::with_capacity(alloc, 0) {
+        Ok(mut bytes) => writes(level, &mut bytes) && bytes.into_bytes().as_slice() == image,
+        Err(_) => false,
+    }
 }
 
 /// Whether a new level gets 24 sections by a merge of one that is read.
-fn doubles_sections(alloc: Global) -> Result<bool, Error> {
-    let mut level = filled(alloc, 12, HIGH, 0)?;
-    level.merge(&read(alloc, &image_of(3, 12))?)?;
-    Ok(
-        has_numbers(&level, (0, 65535, 24, 4, 192))
-            && is_true(is_written_as(alloc, &level, &image_of(24, 4))),
-    )
+fn doubles_sections(alloc: Global, level: &mut Level, read: &Level) -> bool
+    requires { level.old.lg_weight ≡ read.now.lg_weight }
+{
+    level.merge(read).is_ok()
+        && has_numbers(level, (0, 65535, 24, 4, 192))
+        && is_written_as(alloc, level, &image_of(24, 4))
+}
+
+fn doubles_sections_of_new(alloc: Global) -> bool {
+    match (filled(alloc, 12, HIGH, 0), read(alloc, &image_of(3, 12))) {
+        (Ok(mut level), Ok(read)) => doubles_sections(alloc, &mut level, &read),
+        _ => false,
+    }
 }
 
 #[test]
 fn a_merge_doubles_the_sections_more_than_once(rt: HostRuntime) {
-    assert!(rt; is_true(doubles_sections(rt.alloc())));
+    assert!(rt; doubles_sections_of_new(rt.alloc()));
 }

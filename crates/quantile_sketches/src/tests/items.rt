@@ -6,7 +6,6 @@ ghost use Rattle.std.specs.Cmp.Rules.{comparing};
 ghost use Rattle.std.specs.Ordering.{nat_cmp, on, as_partial_cmp};
 
 use super::calls::{CRITERIA, fraction};
-use super::is_true;
 use sketch_base::common::Rank;
 use sketch_base::common::random::SplitMix64;
 use sketch_base::error::Error;
@@ -100,17 +99,20 @@ fn is_answered(median: Result<Option<Third>, Error>, rank: Option<Rank>) -> bool
     }
 }
 
+/// Whether a KLL sketch is as it should be behind an item.
+fn is_kll_seen(sketch: &KllSketch<Third>, number: u32) -> bool {
+    let (least, greatest) = (sketch.min_item(), sketch.max_item());
+    is_seen(number.wrapping_add(1), sketch.n(), least, greatest) && sketch.num_retained() <= 80
+}
+
 /// Whether a sketch takes 1000 items, and each leaves it as it should.
-fn fill_kll(sketch: &mut KllSketch<Third>, coins: &mut SplitMix64) -> Result<bool, Error> {
+fn fill_kll(sketch: &mut KllSketch<Third>, coins: &mut SplitMix64) -> bool {
     for number in 0..1000u32 {
-        sketch.update(item_of(number), coins)?;
-        let (least, greatest) = (sketch.min_item(), sketch.max_item());
-        let is_seen = is_seen(number.wrapping_add(1), sketch.n(), least, greatest);
-        if !is_seen || sketch.num_retained() > 80 {
-            return Ok(false);
+        if sketch.update(item_of(number), coins).is_err() || !is_kll_seen(sketch, number) {
+            return false;
         }
     }
-    Ok(true)
+    true
 }
 
 /// Whether a KLL sketch of 2000 items has a median and ranks the whole.
@@ -120,29 +122,35 @@ fn answers_kll(sketch: &KllSketch<Third>) -> bool {
 }
 
 /// Merges a copy of a sketch into it, and asks for its median and the whole: whether both are as wanted.
-fn double_kll(sketch: &mut KllSketch<Third>, coins: &mut SplitMix64) -> Result<bool, Error> {
-    let copy = sketch.clone()?;
-    sketch.merge(&copy, coins)?;
-    Ok(answers_kll(sketch))
+fn double_kll(sketch: &mut KllSketch<Third>, coins: &mut SplitMix64) -> bool {
+    match sketch.clone() {
+        Ok(copy) => sketch.merge(&copy, coins).is_ok() && answers_kll(sketch),
+        Err(_) => false,
+    }
 }
 
 /// Whether a KLL sketch of k 8 takes 1000 items and a copy of itself.
-fn takes_kll(alloc: Global) -> Result<bool, Error> {
-    let mut sketch = KllSketch::new(alloc, 8)?;
+fn takes_kll(alloc: Global) -> bool {
     let mut coins = SplitMix64::new(0);
-    Ok(is_true(fill_kll(&mut sketch, &mut coins)) && is_true(double_kll(&mut sketch, &mut coins)))
+    match KllSketch::new(alloc, 8) {
+        Ok(mut sketch) => fill_kll(&mut sketch, &mut coins) && double_kll(&mut sketch, &mut coins),
+        Err(_) => false,
+    }
 }
 
-fn fill_req(sketch: &mut ReqSketch<Third>, coins: &mut SplitMix64) -> Result<bool, Error> {
+/// Whether a REQ sketch is as it should be behind an item.
+fn is_req_seen(sketch: &ReqSketch<Third>, number: u32) -> bool {
+    let (least, greatest) = (sketch.min_item(), sketch.max_item());
+    is_seen(number.wrapping_add(1), sketch.n(), least, greatest) && sketch.num_retained() <= 216
+}
+
+fn fill_req(sketch: &mut ReqSketch<Third>, coins: &mut SplitMix64) -> bool {
     for number in 0..1000u32 {
-        sketch.update(item_of(number), coins)?;
-        let (least, greatest) = (sketch.min_item(), sketch.max_item());
-        let is_seen = is_seen(number.wrapping_add(1), sketch.n(), least, greatest);
-        if !is_seen || sketch.num_retained() > 216 {
-            return Ok(false);
+        if sketch.update(item_of(number), coins).is_err() || !is_req_seen(sketch, number) {
+            return false;
         }
     }
-    Ok(true)
+    true
 }
 
 /// Whether a REQ sketch of 2000 items has a median and ranks the whole.
@@ -152,25 +160,28 @@ fn answers_req(sketch: &ReqSketch<Third>) -> bool {
 }
 
 /// Merges a copy of a sketch into it, and asks for its median and the whole: whether both are as wanted.
-fn double_req(sketch: &mut ReqSketch<Third>, coins: &mut SplitMix64) -> Result<bool, Error> {
-    let copy = sketch.clone()?;
-    sketch.merge(&copy, coins)?;
-    Ok(answers_req(sketch))
+fn double_req(sketch: &mut ReqSketch<Third>, coins: &mut SplitMix64) -> bool {
+    match sketch.clone() {
+        Ok(copy) => sketch.merge(&copy, coins).is_ok() && answers_req(sketch),
+        Err(_) => false,
+    }
 }
 
 /// Whether a REQ sketch of k 4 takes such items.
-fn takes_req(alloc: Global) -> Result<bool, Error> {
-    let mut sketch = ReqSketch::new(alloc, 4, RankAccuracy::HighRank)?;
+fn takes_req(alloc: Global) -> bool {
     let mut coins = SplitMix64::new(0);
-    Ok(is_true(fill_req(&mut sketch, &mut coins)) && is_true(double_req(&mut sketch, &mut coins)))
+    match ReqSketch::new(alloc, 4, RankAccuracy::HighRank) {
+        Ok(mut sketch) => fill_req(&mut sketch, &mut coins) && double_req(&mut sketch, &mut coins),
+        Err(_) => false,
+    }
 }
 
 #[test]
 fn kll_takes_items_of_three_classes(rt: HostRuntime) {
-    assert!(rt; is_true(takes_kll(rt.alloc())));
+    assert!(rt; takes_kll(rt.alloc()));
 }
 
 #[test]
 fn req_takes_items_of_three_classes(rt: HostRuntime) {
-    assert!(rt; is_true(takes_req(rt.alloc())));
+    assert!(rt; takes_req(rt.alloc()));
 }

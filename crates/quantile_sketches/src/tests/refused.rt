@@ -3,10 +3,9 @@
 //! `tests/memory` runs these tests under tests/refuse.c, and each call is then made anew for the first request, the second and
 //! so on, until none is refused. Without that library nothing is refused: each call is made once.
 use super::calls::{
-    Answer, CRITERIA, Call, Row, Subject, View, WORD, answer_of, are_alike, filled, fraction,
-    fractions, is_same, items, name_of, subject_of,
+    Answer, CRITERIA, Call, Row, Subject, View, WORD, answer_of, are_alike, copied, filled,
+    fraction, fractions, is_same, items, name_of, subject_of,
 };
-use super::is_true;
 use super::runs::is_invalid;
 use super::sketches::Tried;
 use crate::lines::serve;
@@ -36,112 +35,108 @@ fn is_tried(alloc: Global) -> bool {
     was_refused(alloc)
 }
 
-/// Whether two calls gave the same, and left the same.
-fn are_the_same<S: Tried>(
+/// Whether a call gives what the same call gives on another sketch, and leaves the same.
+fn gives_as<S: Tried>(
     alloc: Global,
     given: &Answer<S>,
     subject: &Subject<S>,
-    wanted: &Answer<S>,
-    other: &Subject<S>,
+    other: &mut Subject<S>,
 ) -> bool
     requires { S.Asks }
 {
-    is_same(alloc, given, wanted, other.points.as_slice())
-        && are_alike(alloc, &subject.sketch, &other.sketch)
+    match answer_of(alloc, other) {
+        Ok(wanted) => {
+            is_same(alloc, given, &wanted, other.points.as_slice())
+                && are_alike(alloc, &subject.sketch, &other.sketch)
+        }
+        Err(_) => false,
+    }
 }
 
-/// Whether the call gives what it gives on a sketch that was never refused memory, and leaves the same.
-fn gives_the_same<S: Tried>(
-    alloc: Global,
-    row: Row,
-    given: &Answer<S>,
-    subject: &Subject<S>,
-) -> Result<bool, Error>
+/// Whether a call gave what it gives on a sketch that was never refused memory, and leaves the same.
+fn gives_the_same<S: Tried>(alloc: Global, given: &Answer<S>, subject: &Subject<S>) -> bool
     requires { S.Asks }
 {
-    let mut other: Subject<S> = subject_of(alloc, row)?;
-    let wanted = answer_of(alloc, row, &mut other)?;
-    Ok(are_the_same(alloc, given, subject, &wanted, &other))
+    match subject_of(alloc, subject.row) {
+        Ok(mut other) => gives_as(alloc, given, subject, &mut other),
+        Err(_) => false,
+    }
 }
 
 /// Whether the call, made again, gives what it gives on a sketch that was never refused memory.
-fn answers_again<S: Tried>(alloc: Global, row: Row, subject: &mut Subject<S>) -> Result<bool, Error>
+fn answers_again<S: Tried>(alloc: Global, subject: &mut Subject<S>) -> bool
     requires { S.Asks }
 {
-    let given = answer_of(alloc, row, subject)?;
-    gives_the_same(alloc, row, &given, subject)
+    match answer_of(alloc, subject) {
+        Ok(given) => gives_the_same(alloc, &given, subject),
+        Err(_) => false,
+    }
 }
 
-/// Whether a call whose request was refused said so, left the sketch as it was, and answers when it is made again.
-fn is_left<S: Tried>(
-    alloc: Global,
-    row: Row,
-    kind: ErrorKind,
-    before: &S,
-    subject: &mut Subject<S>,
-) -> Result<bool, Error>
+/// Whether the sketch is as it was before the call.
+fn is_left<S: Tried>(alloc: Global, subject: &Subject<S>) -> bool
     requires { S.Asks }
 {
-    let is_told = kind == ErrorKind::OutOfMemory;
-    let is_as_before = is_told && are_alike(alloc, &subject.sketch, before);
-    Ok(answers_again(alloc, row, subject)? && is_as_before)
+    match copied::<S>(alloc, subject.row) {
+        Ok(before) => are_alike(alloc, &subject.sketch, &before),
+        Err(_) => false,
+    }
 }
 
-/// Whether all is as wanted behind the first try.
+/// Whether all is as wanted behind the first try: it answers, or a call whose request was refused says so, leaves the sketch as it
+/// was, and answers when it is made again.
 fn is_well<S: Tried>(
     alloc: Global,
-    row: Row,
-    first: &Result<Answer<S>, Error>,
-    before: &S,
+    first: Result<Answer<S>, Error>,
+    is_refused: bool,
     subject: &mut Subject<S>,
-) -> Result<bool, Error>
+) -> bool
     requires { S.Asks }
 {
     match first {
-        Ok(given) => gives_the_same(alloc, row, given, subject),
-        Err(error) => is_left(alloc, row, error.kind(), before, subject),
+        Ok(given) => gives_the_same(alloc, &given, subject),
+        Err(error) => {
+            is_refused
+                && error.kind() == ErrorKind::OutOfMemory
+                && is_left(alloc, subject)
+                && answers_again(alloc, subject)
+        }
     }
 }
 
-/// Makes the row's call on a sketch with the Nth request refused: whether one was, and whether all is as wanted.
-fn try_on<S: Tried>(
-    alloc: Global,
-    row: Row,
-    nth: usize,
-    before: &S,
-    subject: &mut Subject<S>,
-) -> Result<(bool, bool), Error>
+/// Makes the row's call on a sketch with the Nth request refused: whether one was, and whether all is as wanted. (A refused request
+/// to give memory back leaves a call as it is.)
+fn try_on<S: Tried>(alloc: Global, nth: usize, subject: &mut Subject<S>) -> (bool, bool)
     requires { S.Asks }
 {
     let is_told = refuse(alloc, nth);
-    let first = answer_of(alloc, row, subject);
+    let first = answer_of(alloc, subject);
     let is_refused = was_refused(alloc);
-    // A refused request to give memory back leaves a call as it is.
-    let is_as_told = is_refused || (is_told && first.is_ok());
-    let is_well = is_well(alloc, row, &first, before, subject)?;
-    Ok((is_refused, is_as_told && is_well))
+    let is_well = is_well(alloc, first, is_refused, subject);
+    (is_refused, (is_told || is_refused) && is_well)
 }
 
 /// Makes the row's call with the Nth request refused: whether one was, and whether all is as wanted.
-fn try_nth<S: Tried>(alloc: Global, row: Row, nth: usize) -> Result<(bool, bool), Error>
+fn try_nth<S: Tried>(alloc: Global, row: Row, nth: usize) -> (bool, bool)
     requires { S.Asks }
 {
-    let mut subject: Subject<S> = subject_of(alloc, row)?;
-    let before = subject.sketch.copy()?;
-    try_on(alloc, row, nth, &before, &mut subject)
+    match subject_of::<S>(alloc, row) {
+        Ok(mut subject) => try_on(alloc, nth, &mut subject),
+        Err(_) => (false, false),
+    }
 }
 
 /// How many requests of the row's call were refused, if all is as wanted for each.
-fn try_each<S: Tried>(alloc: Global, row: Row) -> Result<Option<usize>, Error>
+fn try_each<S: Tried>(alloc: Global, row: Row) -> Option<usize>
     requires { S.Asks }
 {
     for nth in 1..1000usize {
-        let (is_refused, is_well) = try_nth::<S>(alloc, row, nth)?;
+        let (is_refused, is_well) = try_nth::<S>(alloc, row, nth);
         if !is_refused || !is_well {
-            return Ok(is_well.then_some(nth.wrapping_sub(1)));
+            return is_well.then_some(nth.wrapping_sub(1));
         }
     }
-    Ok(None)
+    None
 }
 
 fn print_row(rt: &impl Print, row: Row, refused: Option<usize>) -> io::Result<()> {
@@ -151,12 +146,12 @@ fn print_row(rt: &impl Print, row: Row, refused: Option<usize>) -> io::Result<()
 }
 
 /// Tries a row, and prints it under the library, or where it isn't as wanted.
-fn try_row<S: Tried>(rt: &(impl Print + AllocGlobal), row: Row) -> Result<bool, Error>
+fn try_row<S: Tried>(rt: &(impl Print + AllocGlobal), row: Row) -> bool
     requires { S.Asks }
 {
-    let refused = try_each::<S>(rt.alloc(), row)?;
+    let refused = try_each::<S>(rt.alloc(), row);
     let is_silent = refused.is_some() && !is_tried(rt.alloc());
-    Ok((is_silent || print_row(rt, row, refused).is_ok()) && refused.is_some())
+    (is_silent || print_row(rt, row, refused).is_ok()) && refused.is_some()
 }
 
 /// Whether bad arguments are refused.
@@ -251,48 +246,61 @@ fn empties_quietly<S: Tried>(
 }
 
 /// Reads a sketch of 27 items and its view.
-fn reads<S: Tried>(alloc: Global, sketch: &S) -> Result<bool, Error>
+fn reads<S: Tried>(alloc: Global, sketch: &S, copy: &S) -> bool
     requires { S.Asks }
 {
-    let item = S::item_of(alloc, 27)?;
-    let copy = sketch.copy()?;
-    let view = sketch.view_of()?;
-    Ok(reads_quietly(alloc, sketch, &copy, &view, &item))
+    match (S::item_of(alloc, 27), sketch.view_of()) {
+        (Ok(item), Ok(view)) => reads_quietly(alloc, sketch, copy, &view, &item),
+        _ => false,
+    }
 }
 
 /// Asks a sketch and the view of an empty one with bad arguments.
-fn refuses<S: Tried>(alloc: Global, sketch: &S, empty: &S) -> Result<bool, Error>
+fn refuses<S: Tried>(alloc: Global, sketch: &S, view: &View<S>) -> bool
     requires { S.Asks }
 {
-    let equal = items::<S>(alloc, &[3, 3])?;
-    let view = empty.view_of()?;
-    Ok(refuses_quietly(alloc, sketch, &view, equal.as_slice()))
+    match items::<S>(alloc, &[3, 3]) {
+        Ok(equal) => refuses_quietly(alloc, sketch, view, equal.as_slice()),
+        Err(_) => false,
+    }
 }
 
 /// Merges an empty sketch in, takes all items out, and asks the sketch and the view of an empty one.
-fn empties<S: Tried>(alloc: Global, sketch: &mut S, empty: &S) -> Result<bool, Error>
+fn empties<S: Tried>(alloc: Global, sketch: &mut S, empty: &S, view: &View<S>) -> bool
     requires { S.Asks }
 {
-    let points = items::<S>(alloc, &[3, 9, 14])?;
-    let view = empty.view_of()?;
-    Ok(empties_quietly(alloc, sketch, empty, &view, points.as_slice()))
+    match items::<S>(alloc, &[3, 9, 14]) {
+        Ok(points) => empties_quietly(alloc, sketch, empty, view, points.as_slice()),
+        Err(_) => false,
+    }
+}
+
+fn asks_for_nothing<S: Tried>(alloc: Global, sketch: &mut S, empty: &S) -> bool
+    requires { S.Asks }
+{
+    match empty.view_of() {
+        Ok(view) => refuses(alloc, sketch, &view) && empties(alloc, sketch, empty, &view),
+        Err(_) => false,
+    }
 }
 
 fn are_quiet<S: Tried>(alloc: Global, sketch: &mut S, empty: &S) -> bool
     requires { S.Asks }
 {
-    is_true(reads(alloc, sketch))
-        && is_true(refuses(alloc, sketch, empty))
-        && is_true(empties(alloc, sketch, empty))
+    match sketch.copy() {
+        Ok(copy) => reads(alloc, sketch, &copy) && asks_for_nothing(alloc, sketch, empty),
+        Err(_) => false,
+    }
 }
 
 /// Makes the calls that take no memory, of the two families alike.
-fn asks_for_none<S: Tried>(alloc: Global) -> Result<bool, Error>
+fn asks_for_none<S: Tried>(alloc: Global) -> bool
     requires { S.Asks }
 {
-    let mut sketch: S = filled(alloc, 8, 27)?;
-    let empty: S = filled(alloc, 8, 0)?;
-    Ok(are_quiet(alloc, &mut sketch, &empty))
+    match (filled::<S>(alloc, 8, 27), filled::<S>(alloc, 8, 0)) {
+        (Ok(mut sketch), Ok(empty)) => are_quiet(alloc, &mut sketch, &empty),
+        _ => false,
+    }
 }
 
 /// What is tried of each family.
@@ -339,7 +347,7 @@ fn try_rows<S: Tried>(rt: &(impl Print + AllocGlobal), rows: &[Row]) -> bool
     requires { S.Asks }
 {
     for row in rows {
-        if !is_true(try_row::<S>(rt, *row)) {
+        if !try_row::<S>(rt, *row) {
             return false;
         }
     }
@@ -350,7 +358,7 @@ fn try_rows<S: Tried>(rt: &(impl Print + AllocGlobal), rows: &[Row]) -> bool
 fn try_all<S: Tried>(rt: &(impl Print + AllocGlobal), more: &[Row]) -> bool
     requires { S.Asks }
 {
-    try_rows::<S>(rt, &ROWS) && try_rows::<S>(rt, more) && is_true(asks_for_none::<S>(rt.alloc()))
+    try_rows::<S>(rt, &ROWS) && try_rows::<S>(rt, more) && asks_for_none::<S>(rt.alloc())
 }
 
 #[test]

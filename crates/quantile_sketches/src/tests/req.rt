@@ -1,6 +1,5 @@
 //! REQ sketches: what no line of the program shows of their calls.
-use super::calls::CRITERIA;
-use super::is_true;
+use super::calls::{CRITERIA, fraction};
 use sketch_base::codec::{SketchBytes, SketchSlice};
 use sketch_base::common::SearchCriteria;
 use sketch_base::common::random::WordBits;
@@ -45,34 +44,57 @@ fn sections_are_even(rt: HostRuntime) {
 
 #[test]
 fn constants(rt: HostRuntime) {
-    assert!(rt; layout::SERIAL_VERSION == 1 && layout::RAW_ITEMS_THRESHOLD == 4);
-    assert!(rt; layout::PREAMBLE_INTS_EXACT == 2 && layout::PREAMBLE_INTS_ESTIMATION == 4);
-    assert!(rt; layout::FLAG_IS_EMPTY == 4 && layout::FLAG_IS_HIGH_RANK == 8);
-    assert!(rt; layout::FLAG_RAW_ITEMS == 16 && layout::FLAG_IS_LEVEL_ZERO_SORTED == 32);
-    assert!(rt; RankAccuracy::default() == RankAccuracy::HighRank);
+    assert!(rt;
+        [
+            layout::SERIAL_VERSION,
+            layout::PREAMBLE_INTS_EXACT,
+            layout::PREAMBLE_INTS_ESTIMATION
+        ] == [1, 2, 4]
+            && [layout::FLAG_IS_EMPTY, layout::FLAG_IS_HIGH_RANK] == [4, 8]
+            && [layout::FLAG_RAW_ITEMS, layout::FLAG_IS_LEVEL_ZERO_SORTED] == [16, 32]
+            && layout::RAW_ITEMS_THRESHOLD == 4
+            && RankAccuracy::default() == RankAccuracy::HighRank
+    );
 }
 
 /// Whether a value is shown under this name.
-fn is_shown<X: Debug + Drop>(alloc: Global, value: X, name: &str) -> bool {
+fn is_shown<X: Debug>(alloc: Global, value: &X, name: &str) -> bool {
     match format!(in alloc; "{value:?}") {
         Ok(text) => text.as_str().starts_with(name),
         Err(_) => false,
     }
 }
 
-fn are_views_shown(alloc: Global) -> Result<bool, Error> {
-    let sketch = filled(alloc)?;
-    let view = sketch.sorted_view()?;
-    Ok(is_shown(alloc, sketch, "ReqSketch") && is_shown(alloc, view, "SortedView"))
+fn is_view_shown(alloc: Global, sketch: &ReqSketch<i32>) -> bool {
+    match sketch.sorted_view() {
+        Ok(view) => is_shown(alloc, &view, "SortedView"),
+        Err(_) => false,
+    }
+}
+
+fn is_req_shown(alloc: Global) -> bool {
+    match filled(alloc) {
+        Ok(sketch) => is_shown(alloc, &sketch, "ReqSketch") && is_view_shown(alloc, &sketch),
+        Err(_) => false,
+    }
+}
+
+fn is_kll_shown(alloc: Global) -> bool {
+    match KllSketch::<i64>::new(alloc, 8) {
+        Ok(sketch) => is_shown(alloc, &sketch, "KllSketch"),
+        Err(_) => false,
+    }
+}
+
+fn is_level_shown(alloc: Global) -> bool {
+    let level: Compactor<i32> = Compactor::new(alloc, 0, 4, RankAccuracy::LowRank);
+    is_shown(alloc, &level, "Compactor")
 }
 
 #[test]
 fn all_are_shown(rt: HostRuntime) {
     let alloc = rt.alloc();
-    let level: Compactor<i32> = Compactor::new(alloc, 0, 4, RankAccuracy::LowRank);
-    assert!(rt; is_shown(alloc, KllSketch::<i64>::new(alloc, 8), "Ok(KllSketch"));
-    assert!(rt; is_shown(alloc, level, "Compactor"));
-    assert!(rt; is_true(are_views_shown(alloc)));
+    assert!(rt; is_kll_shown(alloc) && is_level_shown(alloc) && is_req_shown(alloc));
 }
 
 /// Whether an image of this version, preamble and number of levels may be read.
@@ -87,39 +109,62 @@ fn is_layout(state: u64) -> bool {
 
 #[test]
 fn images_are_checked(rt: HostRuntime) {
-    assert!(rt; is_head(1, 2, 0) && is_head(1, 2, 1) && is_head(1, 4, 2));
-    assert!(rt; !is_head(0, 2, 1) && !is_head(2, 2, 1));
-    assert!(rt; !is_head(1, 4, 1) && !is_head(1, 2, 2) && !is_head(1, 3, 2));
-    assert!(rt; is_layout(2048) && !is_layout(2047));
+    assert!(rt; is_head(1, 2, 0) && is_head(1, 2, 1) && is_head(1, 4, 2) && is_layout(2048));
+    assert!(rt;
+        [
+            is_head(0, 2, 1),
+            is_head(2, 2, 1),
+            is_head(1, 4, 1),
+            is_head(1, 2, 2)
+        ] == [false; 4]
+            && [is_head(1, 3, 2), is_layout(2047)] == [false; 2]
+    );
 }
 
-/// Whether a value is written as these bytes, and says how many they are.
-fn is_written_as<T: ReqValue>(alloc: Global, value: &T, spelling: &[u8]) -> Result<bool, Error> {
-    let mut bytes = SketchBytes::with_capacity(alloc, 0)?;
-    value.serialize_value(&mut bytes)?;
-    let written = bytes.into_bytes();
-    Ok(written.as_slice() == spelling && T::serialize_size(value) == spelling.len())
+/// Whether a value is written into no bytes as these, and says how many they are.
+fn writes<T: ReqValue>(mut bytes: SketchBytes, value: &T, spelling: &[u8]) -> bool {
+    value.serialize_value(&mut bytes).is_ok()
+        && bytes.into_bytes().as_slice() == spelling
+        && T::serialize_size(value) == spelling.len()
+}
+
+fn is_written_as<T: ReqValue>(alloc: Global, value: &T, spelling: &[u8]) -> bool {
+    match SketchBytes::with_capacity(alloc, 0) {
+        Ok(bytes) => writes(bytes, value, spelling),
+        Err(_) => false,
+    }
+}
+
+/// Whether what is read is this value.
+fn is_read_as<T: ReqValue + PartialEq + Drop>(
+    alloc: Global,
+    input: &mut SketchSlice<'_>,
+    value: &T,
+) -> bool {
+    match T::deserialize_value(alloc, input) {
+        Ok(read) => read == *value,
+        Err(_) => false,
+    }
 }
 
 /// Whether these bytes are read as a value, and then no bytes as none.
-fn is_spelled<T: ReqValue + PartialEq + Drop>(
-    alloc: Global,
-    value: &T,
-    spelling: &[u8],
-) -> Result<bool, Error> {
+fn is_spelled<T: ReqValue + PartialEq + Drop>(alloc: Global, value: &T, spelling: &[u8]) -> bool {
     let mut input = SketchSlice::new(spelling);
-    let read = T::deserialize_value(alloc, &mut input)?;
-    let is_read = read == *value && input.remaining().is_empty();
-    let is_at_end = T::deserialize_value(alloc, &mut input).is_err();
-    Ok(is_read && is_at_end && is_true(is_written_as(alloc, value, spelling)))
+    is_read_as(alloc, &mut input, value)
+        && input.remaining().is_empty()
+        && T::deserialize_value(alloc, &mut input).is_err()
+        && is_written_as(alloc, value, spelling)
 }
 
 #[test]
 fn each_type_of_item_is_spelled(rt: HostRuntime) {
-    assert!(rt; is_true(is_spelled(rt.alloc(), &-2i32, &[254, 255, 255, 255])));
-    assert!(rt; is_true(is_spelled(rt.alloc(), &0x0102_0304u32, &[4, 3, 2, 1])));
-    assert!(rt; is_true(is_spelled(rt.alloc(), &-1i64, &[255; 8])));
-    assert!(rt; is_true(is_spelled(rt.alloc(), &500u64, &[244, 1, 0, 0, 0, 0, 0, 0])));
+    let alloc = rt.alloc();
+    assert!(rt;
+        is_spelled(alloc, &-2i32, &[254, 255, 255, 255])
+            && is_spelled(alloc, &0x0102_0304u32, &[4, 3, 2, 1])
+            && is_spelled(alloc, &-1i64, &[255; 8])
+            && is_spelled(alloc, &500u64, &[244, 1, 0, 0, 0, 0, 0, 0])
+    );
 }
 
 const NUMBERS: [i32; 24] = [
@@ -159,22 +204,24 @@ fn iterates(rt: HostRuntime) {
     assert!(rt; matches!(&sketch, Ok(sketch) if iterates_over(sketch)));
 }
 
-fn weight_of(view: &SortedView<i32>, item: i32, criteria: SearchCriteria) -> Option<u64> {
-    view.rank(&item, criteria).map(|rank| rank.weight)
+/// Whether a view of 5, 1, 9, 3 and twice 3 more joins what is equal, and ranks by weights.
+fn ranks_weights(view: &SortedView<i32>) -> bool {
+    (view.len(), view.total_weight(), view.is_empty()) == (4, 6, false)
+        && view.rank(&3, CRITERIA) == Some(fraction(4, 6))
+        && view.rank(&3, SearchCriteria::Exclusive) == Some(fraction(1, 6))
 }
 
-/// Whether a view of 5, 1, 9, 3 and twice 3 more joins what is equal, and ranks by weights.
-fn is_view_of_weights(alloc: Global) -> Result<bool, Error> {
-    let weighted = vec![in alloc; (5, 1), (1, 1), (9, 1), (3, 1), (3, 2)]?;
-    let view = SortedView::new(weighted, Some(1), Some(9))?;
-    Ok(
-        (view.len(), view.total_weight(), view.is_empty()) == (4, 6, false)
-            && weight_of(&view, 3, CRITERIA) == Some(4)
-            && weight_of(&view, 3, SearchCriteria::Exclusive) == Some(1),
-    )
+fn joins_equal_items(alloc: Global) -> bool {
+    match vec![in alloc; (5, 1), (1, 1), (9, 1), (3, 1), (3, 2)] {
+        Ok(weighted) => match SortedView::new(weighted, Some(1), Some(9)) {
+            Ok(view) => ranks_weights(&view),
+            Err(_) => false,
+        },
+        Err(_) => false,
+    }
 }
 
 #[test]
 fn a_view_joins_equal_items(rt: HostRuntime) {
-    assert!(rt; is_true(is_view_of_weights(rt.alloc())));
+    assert!(rt; joins_equal_items(rt.alloc()));
 }

@@ -30,15 +30,18 @@ impl<C: Copy> Clone for Step<C> {
 impl<C: Copy> Copy for Step<C> {}
 
 /// What must come of some steps.
-#[derive(Drop)]
 pub(crate) enum Trial<'a> {
-    /// A run under a word gives this.
-    Gives(RunRow<'a>),
+    /// A run under a word takes so many coins, refuses these commands, and gives inclusive ranks: slot, number, its weight and the
+    /// whole.
+    Gives(&'a [bool], usize, &'a [usize], &'a [(u8, u32, u64, u64)]),
+    /// A run under each word of three coins takes so many, refuses nothing, and gives these ranks.
+    Always(usize, &'a [(u8, u32, u64, u64)]),
     /// A run wants more coins than this word has.
     WantsMore(&'a [bool]),
     /// A run under a word refuses nothing, and leaves this many in slot 0, of which this number is the greatest.
     Takes(&'a [bool], u64, u32),
-    Audits(AuditRow<'a>),
+    /// An audit of a number in a slot takes so many coins, and gives these inclusive weights under each word, and this true rank.
+    Audits(u8, u32, usize, &'a [u64], u64),
     /// An audit of the ranks of the numbers below this one is unbiased, over three coins.
     IsUnbiased(u32),
     /// An audit of a number in a slot takes sixteen coins, and is unbiased over them.
@@ -47,54 +50,19 @@ pub(crate) enum Trial<'a> {
     HasTooMany,
 }
 
-/// The refused commands, the coins, and inclusive ranks: slot, number, its weight and the whole.
-#[derive(Drop)]
-pub(crate) struct RunRow<'a> {
-    pub(crate) word: &'a [bool],
-    pub(crate) refused: &'a [usize],
-    pub(crate) coins: usize,
-    pub(crate) ranks: &'a [(u8, u32, u64, u64)],
-}
+/// A name, some steps, and what must come of them.
+pub(crate) type Row<C> = (&'static str, &'static [Step<C>], Trial<'static>);
 
-/// The inclusive weights of a number in a slot under each word, and its true rank.
-#[derive(Drop)]
-pub(crate) struct AuditRow<'a> {
-    pub(crate) slot: u8,
-    pub(crate) number: u32,
-    pub(crate) coins: usize,
-    pub(crate) weights: &'a [u64],
-    pub(crate) true_rank: u64,
-}
-
-pub(crate) fn given<'a>(
-    word: &'a [bool],
-    coins: usize,
-    refused: &'a [usize],
-    ranks: &'a [(u8, u32, u64, u64)],
-) -> Trial<'a> {
-    Trial::Gives(RunRow {
-        word,
-        refused,
-        coins,
-        ranks,
-    })
-}
-
-pub(crate) fn audited<'a>(
-    slot: u8,
-    number: u32,
-    coins: usize,
-    weights: &'a [u64],
-    true_rank: u64,
-) -> Trial<'a> {
-    Trial::Audits(AuditRow {
-        slot,
-        number,
-        coins,
-        weights,
-        true_rank,
-    })
-}
+const WORDS: [[bool; 3]; 8] = [
+    [false, false, false],
+    [true, false, false],
+    [false, true, false],
+    [true, true, false],
+    [false, false, true],
+    [true, false, true],
+    [false, true, true],
+    [true, true, true],
+];
 
 pub(crate) type Commands<S> = Vec<Command<<S as Family>::Item, <S as Family>::Config>>;
 
@@ -236,12 +204,12 @@ fn audit_of<S: Tried>(
     S::audit_of(alloc, commands.as_slice(), slot, &item, criteria)
 }
 
-fn is_audit(answer: Result<Audit, Error>, row: &AuditRow<'_>) -> bool {
+fn is_audit(answer: Result<Audit, Error>, coins: usize, weights: &[u64], true_rank: u64) -> bool {
     match answer {
         Ok(audit) => {
-            audit.coins == row.coins
-                && audit.weights.as_slice() == row.weights
-                && audit.true_rank == row.true_rank
+            audit.coins == coins
+                && audit.weights.as_slice() == weights
+                && audit.true_rank == true_rank
         }
         Err(_) => false,
     }
@@ -290,10 +258,13 @@ pub(crate) fn is_invalid<X: Drop>(answer: Result<X, Error>) -> bool {
 
 fn ends<S: Tried>(alloc: Global, run: &Run<S>, trial: &Trial<'_>) -> bool {
     match trial {
-        Trial::Gives(given) => {
-            run.refused.as_slice() == given.refused
-                && run.coins == given.coins
-                && are_ranked(alloc, run, given.ranks)
+        Trial::Gives(_, coins, refused, ranks) => {
+            run.refused.as_slice() == *refused
+                && run.coins == *coins
+                && are_ranked(alloc, run, ranks)
+        }
+        Trial::Always(coins, ranks) => {
+            run.refused.is_empty() && run.coins == *coins && are_ranked(alloc, run, ranks)
         }
         Trial::Takes(_, total, number) => {
             run.refused.is_empty() && is_ranked(alloc, run, (0, *number, *total, *total))
@@ -311,17 +282,32 @@ fn runs<S: Tried>(alloc: Global, steps: Steps<'_, S>, word: &[bool], trial: &Tri
     }
 }
 
+fn runs_always<S: Tried>(alloc: Global, steps: Steps<'_, S>, trial: &Trial<'_>) -> bool
+    requires { S.Asks }
+{
+    for word in &WORDS {
+        if !runs::<S>(alloc, steps, word, trial) {
+            return false;
+        }
+    }
+    true
+}
+
 /// Whether it is so of these steps.
 pub(crate) fn holds<S: Tried>(alloc: Global, steps: Steps<'_, S>, trial: &Trial<'_>) -> bool
     requires { S.Asks }
 {
     match trial {
-        Trial::Gives(given) => runs::<S>(alloc, steps, given.word, trial),
-        Trial::Takes(word, ..) => runs::<S>(alloc, steps, word, trial),
+        Trial::Gives(word, ..) | Trial::Takes(word, ..) => runs::<S>(alloc, steps, word, trial),
+        Trial::Always(..) => runs_always::<S>(alloc, steps, trial),
         Trial::WantsMore(word) => is_invalid(run_of::<S>(alloc, steps, word)),
-        Trial::Audits(row) => {
-            let audit = audit_of::<S>(alloc, steps, row.slot, row.number, CRITERIA);
-            is_audit(audit, row)
+        Trial::Audits(slot, number, coins, weights, true_rank) => {
+            is_audit(
+                audit_of::<S>(alloc, steps, *slot, *number, CRITERIA),
+                *coins,
+                weights,
+                *true_rank,
+            )
         }
         Trial::IsUnbiased(count) => {
             is_unbiased::<S>(alloc, steps, *count, SearchCriteria::Inclusive)
@@ -336,4 +322,16 @@ pub(crate) fn holds<S: Tried>(alloc: Global, steps: Steps<'_, S>, trial: &Trial<
         }
         Trial::HasTooMany => is_invalid(audit_of::<S>(alloc, steps, 0, 5, CRITERIA)),
     }
+}
+
+/// The name of the first row that isn't as wanted.
+pub(crate) fn first_wrong<S: Tried>(alloc: Global, rows: &[Row<S::Config>]) -> Option<&'static str>
+    requires { S.Asks }
+{
+    for (name, steps, trial) in rows {
+        if !holds::<S>(alloc, steps, trial) {
+            return Some(*name);
+        }
+    }
+    None
 }

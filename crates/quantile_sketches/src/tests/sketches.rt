@@ -107,6 +107,13 @@ pub(crate) trait Tried: Family {
 /// Each `k`, how many items it stands for and retains, whether it is empty, and whether it gives estimates.
 type Numbers = ([u16; 2], [u64; 2], [bool; 2]);
 
+/// The size of a REQ sketch's image, and its last item with its weight.
+fn image_of_req<T: ReqValue + Clone + Ord>(
+    sketch: &ReqSketch<T>,
+) -> (Option<usize>, Option<(&T, u64)>) {
+    (sketch.serialized_size_bytes().ok(), sketch.iter().last())
+}
+
 fn numbers_of_kll<T: KllValue + Ord>(sketch: &KllSketch<T>) -> Numbers {
     (
         [sketch.k(), sketch.min_k()],
@@ -208,13 +215,12 @@ impl<T: ReqValue + Clone + Ord + Numbered> Tried for ReqSketch<T> {
     }
 
     fn reads_as(&self, copy: &Self) -> bool {
-        let sizes = [self.serialized_size_bytes(), copy.serialized_size_bytes()];
-        sizes[0].is_ok()
-            && sizes[0] == sizes[1]
+        let (size, last) = image_of_req(self);
+        size.is_some()
+            && (size, last) == image_of_req(copy)
             && self.rank_accuracy() == copy.rank_accuracy()
             && numbers_of_req(self) == numbers_of_req(copy)
             && [self.min_item(), self.max_item()] == [copy.min_item(), copy.max_item()]
-            && self.iter().last() == copy.iter().last()
     }
 
     fn view_of(&self) -> Result<SortedView<T>, Error> {
