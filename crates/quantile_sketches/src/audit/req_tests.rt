@@ -21,23 +21,34 @@ const WITH_ROUND_TRIP: [Steps; 4] = [
     Step::Updates(0, 25, 50),
 ];
 
+const WORDS: [&[bool]; 8] = [
+    &[false, false, false],
+    &[true, false, false],
+    &[false, true, false],
+    &[true, true, false],
+    &[false, false, true],
+    &[true, false, true],
+    &[false, true, true],
+    &[true, true, true],
+];
+
 const ONE_COIN: [Steps; 2] = [HIGH_12, Step::Updates(0, 1, 72)];
 
 const ABSENT: Steps = Step::Merge(255, 101);
 
 // Where a merge compacts at once, one sketch drew a coin and the other none: 5 goes up or stays behind as the second coin is, where
 // that is drawn anew.
-const ROWS: [Row<Config>; 15] = [
-    ("nothing", &[], Trial::Gives(&[], 0, &[], &[])),
+static ROWS: [Row<Config>; 15] = [
+    ("nothing", &[], Trial::Gives(&[&[]], 0, &[], &[])),
     (
         "a tail past a round trip",
         &WITH_ROUND_TRIP,
-        Trial::Always(1, &[(0, 38, 38, 50)]),
+        Trial::Gives(&WORDS, 1, &[], &[(0, 38, 38, 50)]),
     ),
     (
         "a copy",
         &[HIGH_12, Step::Updates(0, 1, 72), Step::Merge(0, 0)],
-        Trial::Gives(&[false], 1, &[], &[(0, 54, 108, 144)]),
+        Trial::Gives(&[&[false]], 1, &[], &[(0, 54, 108, 144)]),
     ),
     (
         "what no sketch takes",
@@ -59,10 +70,14 @@ const ROWS: [Row<Config>; 15] = [
             Step::MergeRedrawn(0, 7),
             Step::MergeRedrawn(0, 0),
         ],
-        Trial::Gives(&[], 0, &[0, 1, 2, 6, 7, 8, 9, 11, 13, 14], &[]),
+        Trial::Gives(&[&[]], 0, &[0, 1, 2, 6, 7, 8, 9, 11, 13, 14], &[]),
     ),
     ("no coin", &ONE_COIN, Trial::WantsMore(&[])),
-    ("one coin", &ONE_COIN, Trial::Always(1, &[(0, 36, 36, 72)])),
+    (
+        "one coin",
+        &ONE_COIN,
+        Trial::Gives(&WORDS, 1, &[], &[(0, 36, 36, 72)]),
+    ),
     (
         "other slots",
         &[
@@ -84,7 +99,7 @@ const ROWS: [Row<Config>; 15] = [
             ABSENT,
         ],
         Trial::Gives(
-            &[false; 1001],
+            &[&[false; 1001]],
             2,
             &[54, 55, 56, 57, 58, 59, 60, 61, 62, 63],
             &[(255, 3, 4, 24), (100, 2, 2, 3)],
@@ -160,7 +175,7 @@ fn runs_and_audits(rt: HostRuntime) {
     assert!(rt; wrong.is_none(), "{wrong:?}");
 }
 
-const LONG: [Row<Config>; 2] = [
+static LONG: [Row<Config>; 2] = [
     (
         "too many coins",
         &[Step::New(0, (4, LowRank)), Step::Updates(0, 1, 2000)],
@@ -174,7 +189,7 @@ const LONG: [Row<Config>; 2] = [
             Step::Merge(0, 0),
             Step::RoundTrip(0),
         ],
-        Trial::Takes(&[false; 1000], 200_000, 100_000),
+        Trial::Takes(&[&[false; 1000]], 200_000, 100_000),
     ),
 ];
 

@@ -424,13 +424,13 @@ pub(super) fn is_same<S: Tried>(
     alloc: Global,
     a: &Answer<S>,
     b: &Answer<S>,
-    points: &[S::Item],
+    points: &Vec<S::Item>,
 ) -> bool
     requires { S.Asks }
 {
     match (a, b) {
         (Answer::Sketch(a), Answer::Sketch(b)) => are_alike(alloc, a, b),
-        (Answer::View(a), Answer::View(b)) => are_views_alike::<S>(a, b, points),
+        (Answer::View(a), Answer::View(b)) => are_views_alike::<S>(a, b, points.as_slice()),
         (Answer::Run(a), Answer::Run(b)) => are_runs_alike(alloc, a, b),
         (a, b) => are_same_values(a, b),
     }

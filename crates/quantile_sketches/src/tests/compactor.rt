@@ -153,28 +153,20 @@ fn merges_in_order(alloc: Global) -> bool {
     }
 }
 
-/// A level of k 12 of the numbers from 1 to one that merged those to another in, of a level of another k and accuracy.
-fn merged(alloc: Global, last: i32, other: i32) -> Result<Level, Error> {
-    let mut level = filled(alloc, 12, HIGH, last)?;
-    level.merge(&filled(alloc, 4, LOW, other)?)?;
-    Ok(level)
+/// Whether a level of 3, 2, 1 that merged nothing in is as it was, one that merged 2, 1 in has five items, and one of the numbers
+/// from 1 to 20 that merged those to 52 in counts 72.
+fn is_merged(level: &Level, other: i32) -> bool {
+    match other {
+        0 => holds(level, &[3, 2, 1], false),
+        2 => holds(level, &[1, 1, 2, 2, 3], true) && has_numbers(level, (5, 0, 3, 12, 72)),
+        _ => level.is_sorted() && counts(level, 20, 40, 38) && counts(level, 52, 72, 71),
+    }
 }
 
-/// Whether a level of 3, 2, 1 merges nothing in, and is as it was, or 2, 1; and one of the numbers from 1 to 20 those to 52.
-fn merges(alloc: Global) -> bool {
-    match (
-        merged(alloc, 3, 0),
-        merged(alloc, 3, 2),
-        merged(alloc, 20, 52),
-    ) {
-        (Ok(same), Ok(five), Ok(many)) => {
-            holds(&same, &[3, 2, 1], false)
-                && holds(&five, &[1, 1, 2, 2, 3], true)
-                && has_numbers(&five, (5, 0, 3, 12, 72))
-                && many.is_sorted()
-                && counts(&many, 20, 40, 38)
-                && counts(&many, 52, 72, 71)
-        }
+/// Whether a level of k 12 of the numbers from 1 to one merges those to another in, of a level of another k and accuracy.
+fn merges(alloc: Global, last: i32, other: i32) -> bool {
+    match (filled(alloc, 12, HIGH, last), filled(alloc, 4, LOW, other)) {
+        (Ok(mut level), Ok(taken)) => level.merge(&taken).is_ok() && is_merged(&level, other),
         _ => false,
     }
 }
@@ -188,7 +180,8 @@ fn appends_above(alloc: Global) -> bool {
 #[test]
 fn merges_levels(rt: HostRuntime) {
     let alloc = rt.alloc();
-    assert!(rt; merges(alloc) && appends_above(alloc) && merges_in_order(alloc));
+    assert!(rt; merges(alloc, 3, 0) && merges(alloc, 3, 2) && merges(alloc, 20, 52));
+    assert!(rt; appends_above(alloc) && merges_in_order(alloc));
 }
 
 /// A side, the greatest of the numbers from 1 on that a level of k 4 has, a coin, the items that are sent up, and the first and
@@ -226,7 +219,7 @@ fn compacts_to(alloc: Global, compaction: Compaction<'_>) -> bool {
     }
 }
 
-const COMPACTIONS: [Compaction<'static>; 8] = [
+static COMPACTIONS: [Compaction<'static>; 8] = [
     (HIGH, 24, false, &[1, 3], 5, 24),
     (HIGH, 24, true, &[2, 4], 5, 24),
     (HIGH, 84, false, &ODD, 65, 84),

@@ -111,7 +111,7 @@ fn read(alloc: Global, image: &str) -> Result<KllSketch<i64>, Error> {
 }
 
 // Images of sketches that differ: by an item, and by the flag alone that level 0 counts as sorted, of no item and of 1 and 2.
-const DIFFERENT: [(&str, &str); 3] = [
+static DIFFERENT: [(&str, &str); 3] = [
     ("02010f01c8000800", "02020f04c80008000700000000000000"),
     ("02010f01c8000800", "02010f03c8000800"),
     (

@@ -46,7 +46,7 @@ fn gives_as<S: Tried>(
 {
     match answer_of(alloc, other) {
         Ok(wanted) => {
-            is_same(alloc, given, &wanted, other.points.as_slice())
+            is_same(alloc, given, &wanted, &other.points)
                 && are_alike(alloc, &subject.sketch, &other.sketch)
         }
         Err(_) => false,
@@ -87,14 +87,14 @@ fn is_left<S: Tried>(alloc: Global, subject: &Subject<S>) -> bool
 /// was, and answers when it is made again.
 fn is_well<S: Tried>(
     alloc: Global,
-    first: Result<Answer<S>, Error>,
+    first: &Result<Answer<S>, Error>,
     is_refused: bool,
     subject: &mut Subject<S>,
 ) -> bool
     requires { S.Asks }
 {
     match first {
-        Ok(given) => gives_the_same(alloc, &given, subject),
+        Ok(given) => gives_the_same(alloc, given, subject),
         Err(error) => {
             is_refused
                 && error.kind() == ErrorKind::OutOfMemory
@@ -112,7 +112,7 @@ fn try_on<S: Tried>(alloc: Global, nth: usize, subject: &mut Subject<S>) -> (boo
     let is_told = refuse(alloc, nth);
     let first = answer_of(alloc, subject);
     let is_refused = was_refused(alloc);
-    let is_well = is_well(alloc, first, is_refused, subject);
+    let is_well = is_well(alloc, &first, is_refused, subject);
     (is_refused, (is_told || is_refused) && is_well)
 }
 
@@ -304,7 +304,7 @@ fn asks_for_none<S: Tried>(alloc: Global) -> bool
 }
 
 /// What is tried of each family.
-const ROWS: [Row; 15] = [
+static ROWS: [Row; 15] = [
     (Call::Default, 8, 0, 0),
     (Call::New, 8, 0, 0),
     (Call::Clone, 8, 27, 0),
@@ -323,7 +323,7 @@ const ROWS: [Row; 15] = [
 ];
 
 /// What is tried of KLL sketches: a weight with and without a compaction, and merges that end in all ways.
-const KLL_ROWS: [Row; 6] = [
+static KLL_ROWS: [Row; 6] = [
     (Call::UpdateWeighted, 8, 0, 5),
     (Call::UpdateWeighted, 8, 8, 3),
     (Call::Merge, 8, 0, 9),
@@ -333,7 +333,7 @@ const KLL_ROWS: [Row; 6] = [
 ];
 
 /// What is tried of REQ sketches: the 48th item compacts at k 8, the 72nd at k 12, and so may merges.
-const REQ_ROWS: [Row; 6] = [
+static REQ_ROWS: [Row; 6] = [
     (Call::Update, 8, 47, 0),
     (Call::Update, 12, 149, 0),
     (Call::Clone, 12, 211, 0),

@@ -31,15 +31,13 @@ impl<C: Copy> Copy for Step<C> {}
 
 /// What must come of some steps.
 pub(crate) enum Trial<'a> {
-    /// A run under a word takes so many coins, refuses these commands, and gives inclusive ranks: slot, number, its weight and the
-    /// whole.
-    Gives(&'a [bool], usize, &'a [usize], &'a [(u8, u32, u64, u64)]),
-    /// A run under each word of three coins takes so many, refuses nothing, and gives these ranks.
-    Always(usize, &'a [(u8, u32, u64, u64)]),
+    /// A run under each of these words takes so many coins, refuses these commands, and gives inclusive ranks: slot, number, its
+    /// weight and the whole.
+    Gives(&'a [&'a [bool]], usize, &'a [usize], &'a [(u8, u32, u64, u64)]),
     /// A run wants more coins than this word has.
     WantsMore(&'a [bool]),
     /// A run under a word refuses nothing, and leaves this many in slot 0, of which this number is the greatest.
-    Takes(&'a [bool], u64, u32),
+    Takes(&'a [&'a [bool]], u64, u32),
     /// An audit of a number in a slot takes so many coins, and gives these inclusive weights under each word, and this true rank.
     Audits(u8, u32, usize, &'a [u64], u64),
     /// An audit of the ranks of the numbers below this one is unbiased, over three coins.
@@ -52,17 +50,6 @@ pub(crate) enum Trial<'a> {
 
 /// A name, some steps, and what must come of them.
 pub(crate) type Row<C> = (&'static str, &'static [Step<C>], Trial<'static>);
-
-const WORDS: [[bool; 3]; 8] = [
-    [false, false, false],
-    [true, false, false],
-    [false, true, false],
-    [true, true, false],
-    [false, false, true],
-    [true, false, true],
-    [false, true, true],
-    [true, true, true],
-];
 
 pub(crate) type Commands<S> = Vec<Command<<S as Family>::Item, <S as Family>::Config>>;
 
@@ -204,17 +191,6 @@ fn audit_of<S: Tried>(
     S::audit_of(alloc, commands.as_slice(), slot, &item, criteria)
 }
 
-fn is_audit(answer: Result<Audit, Error>, coins: usize, weights: &[u64], true_rank: u64) -> bool {
-    match answer {
-        Ok(audit) => {
-            audit.coins == coins
-                && audit.weights.as_slice() == weights
-                && audit.true_rank == true_rank
-        }
-        Err(_) => false,
-    }
-}
-
 /// Whether the weights under all words of `coins` coins sum to the number of words times the true rank.
 fn is_even(audit: &Audit, coins: usize, words: u64) -> bool {
     let mut sum = 0u64;
@@ -263,9 +239,6 @@ fn ends<S: Tried>(alloc: Global, run: &Run<S>, trial: &Trial<'_>) -> bool {
                 && run.coins == *coins
                 && are_ranked(alloc, run, ranks)
         }
-        Trial::Always(coins, ranks) => {
-            run.refused.is_empty() && run.coins == *coins && are_ranked(alloc, run, ranks)
-        }
         Trial::Takes(_, total, number) => {
             run.refused.is_empty() && is_ranked(alloc, run, (0, *number, *total, *total))
         }
@@ -282,10 +255,15 @@ fn runs<S: Tried>(alloc: Global, steps: Steps<'_, S>, word: &[bool], trial: &Tri
     }
 }
 
-fn runs_always<S: Tried>(alloc: Global, steps: Steps<'_, S>, trial: &Trial<'_>) -> bool
+fn runs_each<S: Tried>(
+    alloc: Global,
+    steps: Steps<'_, S>,
+    words: &[&[bool]],
+    trial: &Trial<'_>,
+) -> bool
     requires { S.Asks }
 {
-    for word in &WORDS {
+    for word in words {
         if !runs::<S>(alloc, steps, word, trial) {
             return false;
         }
@@ -293,34 +271,51 @@ fn runs_always<S: Tried>(alloc: Global, steps: Steps<'_, S>, trial: &Trial<'_>) 
     true
 }
 
+/// Whether an audit gives these weights under each word, and this true rank.
+fn weighs(audit: &Audit, coins: usize, weights: &[u64], true_rank: u64) -> bool {
+    audit.coins == coins && audit.weights.as_slice() == weights && audit.true_rank == true_rank
+}
+
+fn is_audit(answer: Result<Audit, Error>, trial: &Trial<'_>) -> bool {
+    match (answer, trial) {
+        (Ok(audit), Trial::Audits(_, _, coins, weights, true_rank)) => {
+            weighs(&audit, *coins, weights, *true_rank)
+        }
+        (Ok(audit), Trial::HasSixteen(..)) => is_even(&audit, 16, 65536),
+        (Err(error), Trial::HasTooMany) => error.kind() == ErrorKind::InvalidArgument,
+        _ => false,
+    }
+}
+
+fn audits<S: Tried>(
+    alloc: Global,
+    steps: Steps<'_, S>,
+    slot: u8,
+    number: u32,
+    trial: &Trial<'_>,
+) -> bool
+    requires { S.Asks }
+{
+    is_audit(audit_of::<S>(alloc, steps, slot, number, CRITERIA), trial)
+}
+
 /// Whether it is so of these steps.
 pub(crate) fn holds<S: Tried>(alloc: Global, steps: Steps<'_, S>, trial: &Trial<'_>) -> bool
     requires { S.Asks }
 {
     match trial {
-        Trial::Gives(word, ..) | Trial::Takes(word, ..) => runs::<S>(alloc, steps, word, trial),
-        Trial::Always(..) => runs_always::<S>(alloc, steps, trial),
-        Trial::WantsMore(word) => is_invalid(run_of::<S>(alloc, steps, word)),
-        Trial::Audits(slot, number, coins, weights, true_rank) => {
-            is_audit(
-                audit_of::<S>(alloc, steps, *slot, *number, CRITERIA),
-                *coins,
-                weights,
-                *true_rank,
-            )
+        Trial::Gives(words, ..) | Trial::Takes(words, ..) => {
+            runs_each::<S>(alloc, steps, words, trial)
         }
+        Trial::WantsMore(word) => is_invalid(run_of::<S>(alloc, steps, word)),
         Trial::IsUnbiased(count) => {
             is_unbiased::<S>(alloc, steps, *count, SearchCriteria::Inclusive)
                 && is_unbiased::<S>(alloc, steps, *count, SearchCriteria::Exclusive)
         }
-        Trial::HasSixteen(slot, number) => {
-            is_even_audit(
-                audit_of::<S>(alloc, steps, *slot, *number, CRITERIA),
-                16,
-                65536,
-            )
-        }
-        Trial::HasTooMany => is_invalid(audit_of::<S>(alloc, steps, 0, 5, CRITERIA)),
+        Trial::Audits(slot, number, ..) | Trial::HasSixteen(slot, number) => audits::<S>(
+            alloc, steps, *slot, *number, trial,
+        ),
+        Trial::HasTooMany => audits::<S>(alloc, steps, 0, 5, trial),
     }
 }
 

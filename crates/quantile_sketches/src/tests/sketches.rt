@@ -28,19 +28,6 @@ impl Numbered for i64 {
     }
 }
 
-impl Numbered for u32 {
-    fn numbered(_alloc: Global, number: u32) -> Result<u32, AllocError> {
-        Ok(number)
-    }
-}
-
-/// The greatest ones.
-impl Numbered for u64 {
-    fn numbered(_alloc: Global, number: u32) -> Result<u64, AllocError> {
-        Ok(u64::MAX - (u32::MAX - number) as u64)
-    }
-}
-
 /// Six digits.
 impl Numbered for String {
     fn numbered(alloc: Global, number: u32) -> Result<String, AllocError> {
