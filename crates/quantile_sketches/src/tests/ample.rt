@@ -220,14 +220,16 @@ fn large_kll_of_text_answers(rt: HostRuntime) {
     assert!(rt; holds_many::<KllSketch<String>>(rt.alloc(), 4096));
 }
 
+fn large_req(alloc: Global, rank_accuracy: RankAccuracy) -> bool {
+    holds_many::<ReqSketch<i32>>(alloc, (1024, rank_accuracy))
+}
+
 #[test]
 fn large_req_answers(rt: HostRuntime) {
-    let config = (1024, RankAccuracy::HighRank);
-    assert!(rt; holds_many::<ReqSketch<i32>>(rt.alloc(), config));
+    assert!(rt; large_req(rt.alloc(), RankAccuracy::HighRank));
 }
 
 #[test]
 fn large_req_of_low_ranks_answers(rt: HostRuntime) {
-    let config = (1024, RankAccuracy::LowRank);
-    assert!(rt; holds_many::<ReqSketch<i32>>(rt.alloc(), config));
+    assert!(rt; large_req(rt.alloc(), RankAccuracy::LowRank));
 }

@@ -8,8 +8,7 @@ use sketch_kll::sketch::KllSketch;
 use sketch_req::compactor::Compactor;
 use sketch_req::iter::ReqSketchIterator;
 use sketch_req::serialization::{
-    check_preamble_ints, check_serial_version, nearest_even_section_size, section_size,
-    validate_compactor_state,
+    nearest_even_section_size, section_size, validate_compactor_state,
 };
 use sketch_req::sketch::ReqSketch;
 use sketch_req::sorted_view::SortedView;
@@ -97,11 +96,6 @@ fn all_are_shown(rt: HostRuntime) {
     assert!(rt; is_kll_shown(alloc) && is_level_shown(alloc) && is_req_shown(alloc));
 }
 
-/// Whether an image of this version, preamble and number of levels may be read.
-fn is_head(version: u8, preamble: u8, num_levels: u8) -> bool {
-    check_serial_version(version).is_ok() && check_preamble_ints(preamble, num_levels).is_ok()
-}
-
 /// Whether a level of k 12 in a state, with 24 sections of 4, may be in an image.
 fn is_layout(state: u64) -> bool {
     validate_compactor_state(12, 0, state, 4, 0, 24).is_ok()
@@ -109,16 +103,7 @@ fn is_layout(state: u64) -> bool {
 
 #[test]
 fn images_are_checked(rt: HostRuntime) {
-    assert!(rt; is_head(1, 2, 0) && is_head(1, 2, 1) && is_head(1, 4, 2) && is_layout(2048));
-    assert!(rt;
-        [
-            is_head(0, 2, 1),
-            is_head(2, 2, 1),
-            is_head(1, 4, 1),
-            is_head(1, 2, 2)
-        ] == [false; 4]
-            && [is_head(1, 3, 2), is_layout(2047)] == [false; 2]
-    );
+    assert!(rt; is_layout(2048) && !is_layout(2047));
 }
 
 /// Whether a value is written into no bytes as these, and says how many they are.

@@ -30,7 +30,8 @@ impl<C: Copy> Clone for Step<C> {
 impl<C: Copy> Copy for Step<C> {}
 
 /// What must come of some steps.
-pub(crate) enum Trial<'a> {
+#[derive(Drop)]
+pub(crate) enum Trial<'a, C> {
     /// A run under each of these words takes so many coins, refuses these commands, and gives inclusive ranks: slot, number, its
     /// weight and the whole.
     Gives(&'a [&'a [bool]], usize, &'a [usize], &'a [(u8, u32, u64, u64)]),
@@ -38,6 +39,8 @@ pub(crate) enum Trial<'a> {
     WantsMore(&'a [bool]),
     /// A run under a word refuses nothing, and leaves this many in slot 0, of which this number is the greatest.
     Takes(&'a [&'a [bool]], u64, u32),
+    /// A run under this word leaves the same sketch in slot 0 as a run of other steps does.
+    LeavesAs(&'a [bool], &'a [Step<C>]),
     /// An audit of a number in a slot takes so many coins, and gives these inclusive weights under each word, and this true rank.
     Audits(u8, u32, usize, &'a [u64], u64),
     /// An audit of the ranks of the numbers below this one is unbiased, over three coins.
@@ -49,7 +52,7 @@ pub(crate) enum Trial<'a> {
 }
 
 /// A name, some steps, and what must come of them.
-pub(crate) type Row<C> = (&'static str, &'static [Step<C>], Trial<'static>);
+pub(crate) type Row<'a, C> = (&'a str, &'a [Step<C>], Trial<'a, C>);
 
 pub(crate) type Commands<S> = Vec<Command<<S as Family>::Item, <S as Family>::Config>>;
 
@@ -160,7 +163,7 @@ fn are_left_alike<S: Tried>(run: &Run<S>, other: &Run<S>) -> bool {
 }
 
 /// Whether some steps leave the same sketch in slot 0 as others do.
-pub(crate) fn leaves_alike<S: Tried>(
+fn leaves_alike<S: Tried>(
     alloc: Global,
     steps: Steps<'_, S>,
     others: Steps<'_, S>,
@@ -232,7 +235,7 @@ pub(crate) fn is_invalid<X: Drop>(answer: Result<X, Error>) -> bool {
     }
 }
 
-fn ends<S: Tried>(alloc: Global, run: &Run<S>, trial: &Trial<'_>) -> bool {
+fn ends<S: Tried>(alloc: Global, run: &Run<S>, trial: &Trial<'_, S::Config>) -> bool {
     match trial {
         Trial::Gives(_, coins, refused, ranks) => {
             run.refused.as_slice() == *refused
@@ -246,7 +249,12 @@ fn ends<S: Tried>(alloc: Global, run: &Run<S>, trial: &Trial<'_>) -> bool {
     }
 }
 
-fn runs<S: Tried>(alloc: Global, steps: Steps<'_, S>, word: &[bool], trial: &Trial<'_>) -> bool
+fn runs<S: Tried>(
+    alloc: Global,
+    steps: Steps<'_, S>,
+    word: &[bool],
+    trial: &Trial<'_, S::Config>,
+) -> bool
     requires { S.Asks }
 {
     match run_of::<S>(alloc, steps, word) {
@@ -259,7 +267,7 @@ fn runs_each<S: Tried>(
     alloc: Global,
     steps: Steps<'_, S>,
     words: &[&[bool]],
-    trial: &Trial<'_>,
+    trial: &Trial<'_, S::Config>,
 ) -> bool
     requires { S.Asks }
 {
@@ -276,7 +284,7 @@ fn weighs(audit: &Audit, coins: usize, weights: &[u64], true_rank: u64) -> bool 
     audit.coins == coins && audit.weights.as_slice() == weights && audit.true_rank == true_rank
 }
 
-fn is_audit(answer: Result<Audit, Error>, trial: &Trial<'_>) -> bool {
+fn is_audit<C>(answer: Result<Audit, Error>, trial: &Trial<'_, C>) -> bool {
     match (answer, trial) {
         (Ok(audit), Trial::Audits(_, _, coins, weights, true_rank)) => {
             weighs(&audit, *coins, weights, *true_rank)
@@ -292,7 +300,7 @@ fn audits<S: Tried>(
     steps: Steps<'_, S>,
     slot: u8,
     number: u32,
-    trial: &Trial<'_>,
+    trial: &Trial<'_, S::Config>,
 ) -> bool
     requires { S.Asks }
 {
@@ -300,13 +308,14 @@ fn audits<S: Tried>(
 }
 
 /// Whether it is so of these steps.
-pub(crate) fn holds<S: Tried>(alloc: Global, steps: Steps<'_, S>, trial: &Trial<'_>) -> bool
+fn holds<S: Tried>(alloc: Global, steps: Steps<'_, S>, trial: &Trial<'_, S::Config>) -> bool
     requires { S.Asks }
 {
     match trial {
         Trial::Gives(words, ..) | Trial::Takes(words, ..) => {
             runs_each::<S>(alloc, steps, words, trial)
         }
+        Trial::LeavesAs(word, others) => leaves_alike::<S>(alloc, steps, others, word),
         Trial::WantsMore(word) => is_invalid(run_of::<S>(alloc, steps, word)),
         Trial::IsUnbiased(count) => {
             is_unbiased::<S>(alloc, steps, *count, SearchCriteria::Inclusive)
@@ -320,7 +329,10 @@ pub(crate) fn holds<S: Tried>(alloc: Global, steps: Steps<'_, S>, trial: &Trial<
 }
 
 /// The name of the first row that isn't as wanted.
-pub(crate) fn first_wrong<S: Tried>(alloc: Global, rows: &[Row<S::Config>]) -> Option<&'static str>
+pub(crate) fn first_wrong<'a, S: Tried>(
+    alloc: Global,
+    rows: &'a [Row<'a, S::Config>],
+) -> Option<&'a str>
     requires { S.Asks }
 {
     for (name, steps, trial) in rows {

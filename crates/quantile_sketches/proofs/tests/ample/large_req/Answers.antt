@@ -1,6 +1,6 @@
 use Rattle.std.proofs.Common.{rules}
 use Rattle.sketch_base.specs.NumberSpellings.{i32_ties}
-use Rattle.quantile_sketches.proofs.tests.ample.large_req_of_low_ranks_answers.Goals as goal
+use Rattle.quantile_sketches.proofs.tests.ample.large_req.Goals as goal
 
 pub holds_many-requires : goal.holds_many-requires
-holds_many-requires c _ = (i32_ties, search rules)
+holds_many-requires c = (i32_ties, search rules)

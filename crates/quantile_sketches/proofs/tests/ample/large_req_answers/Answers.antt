@@ -1,6 +1,0 @@
-use Rattle.std.proofs.Common.{rules}
-use Rattle.sketch_base.specs.NumberSpellings.{i32_ties}
-use Rattle.quantile_sketches.proofs.tests.ample.large_req_answers.Goals as goal
-
-pub holds_many-requires : goal.holds_many-requires
-holds_many-requires c _ = (i32_ties, search rules)
