@@ -31,7 +31,7 @@ use sketch_base::error::Error;
 use std::alloc::AllocError;
 use std::marker::Model;
 use std::mem;
-use walk::{add_level, append, append_and_walk};
+use walk::{add_level, append_and_walk};
 
 /// The levels of a sketch, from level 0 up, and the sums over them. A contract sees them as the
 /// record `Held` of specs/Held.
@@ -84,21 +84,16 @@ impl<T: Clone + Ord> Levels<T> {
         (self.num_retained, self.capacity) = sums(self.compactors.as_slice());
     }
 
-    /// Puts an item last into level 0, and then walks over the levels where these are full together.
-    /// What can fail comes first.
-    pub(crate) fn take_item<B: RandomBits>(&mut self, item: T, coins: &mut B) -> Result<(), Error>
-        requires fits { weight_of (layouts_of self.old.levels) < 2 ^ 64 - 1 }
-        requires few { retained_of (layouts_of self.old.levels) < 4294967295 }
-        ensures kept { self.new ≡ record self.old { levels = self.new.levels } }
-        ensures acted { OnOk result (AreWalkedIfFull T.cmp B.bit B.next coins.old coins.new
-            self.old.k self.old.accuracy (appended_first self.old.levels item) self.new.levels) }
-        ensures err { OnErr result ((self.new ≡ self.old) × (coins.new ≡ coins.old)) }
-        ensures memory { IfErr result (λ e. e ≡ OutOfMemory) }
+    /// Puts an item last into level 0, where the levels are then not full together.
+    #[inline(always)]
+    pub(crate) fn put(&mut self, item: T) -> Result<(), AllocError>
+        requires spare { retained_of (layouts_of self.old.levels) + 1
+            < nominal_sum self.old.k (layouts_of self.old.levels) }
+        ensures ok { OnOk result
+            (self.new ≡ record self.old { levels = appended_first self.old.levels item }) }
+        ensures err { OnErr result (self.new ≡ self.old) }
     {
-        if self.num_retained + 1 >= self.capacity {
-            return self.take_last(item, coins);
-        }
-        append(&mut self.compactors, item)?;
+        self.compactors[0].put(item)?;
         self.num_retained += 1;
         Ok(())
     }
@@ -107,7 +102,7 @@ impl<T: Clone + Ord> Levels<T> {
     /// It is out of line and rare, so that an update without a walk stays short.
     #[cold]
     #[inline(never)]
-    fn take_last<B: RandomBits>(&mut self, item: T, coins: &mut B) -> Result<(), Error>
+    pub(crate) fn take_last<B: RandomBits>(&mut self, item: T, coins: &mut B) -> Result<(), Error>
         requires fits { weight_of (layouts_of self.old.levels) < 2 ^ 64 - 1 }
         requires few { retained_of (layouts_of self.old.levels) < 4294967295 }
         requires full { nominal_sum self.old.k (layouts_of self.old.levels)
@@ -195,7 +190,7 @@ impl<T: Clone + Ord> Levels<T> {
         let room = self.capacity.saturating_sub(self.num_retained + 1);
         if room == 0 {
             let item = items[0].clone()?;
-            self.take_item(item, coins)?;
+            self.take_last(item, coins)?;
             return Ok(1);
         }
         let count = room.min(items.len());

@@ -1,9 +1,10 @@
 -- A part of the items, or one of them with its walk.
-use Rattle.std.proofs.Common.{◌≡◌, Equal, arith, take}
+use Rattle.std.proofs.Common.{◌≡◌, ◌+◌, ◌≤◌, Equal, arith, take}
 use Rattle.std.proofs.lemmas.List.{length-take}
+use Rattle.sketch_req.specs.Schedule.{layouts_of, nominal_sum, retained_of}
 use Rattle.sketch_req.specs.Updates.{AreTakenInTurn}
 use Rattle.sketch_req.proofs.TakenInTurn.{are-kept, first-item, taken-filled, taken-one}
-use Rattle.sketch_req.proofs.sketch.levels.Levels.take_some.Goals.{In_ok-fill, In_ok-take_item}
+use Rattle.sketch_req.proofs.sketch.levels.Levels.take_some.Goals.{In_ok-fill, In_ok-take_last}
 use Rattle.sketch_req.proofs.sketch.levels.Levels.take_some.Given.{Over}
 use Rattle.sketch_req.proofs.sketch.levels.Levels.take_some.Goals as goal
 
@@ -30,14 +31,20 @@ returns-clause-left g c =
     rw (← c.self.view_is) ((are-kept g.met.T.Ord.total g.B.RandomBits.bit g.B.RandomBits.next _ _ _ _ _ _ _ c.self.invariant.some c.self.invariant.placed (rw (← c.self.view_is) at few)
     (part g (goal.at.returns-clause-left g c).In_ok-fill)).left)
 
+pub take_last-requires-clause-full : goal.take_last-requires-clause-full
+take_last-requires-clause-full g c =
+    let full : nominal_sum c.self.inside.k (layouts_of c.self.inside.compactors.items) ≤ retained_of (layouts_of c.self.inside.compactors.items) + 1 =
+    omega (arith, c.saturating_sub-room.ensures, c.if-room-eq0.true, c.self.invariant.retained_is, c.self.invariant.capacity_is) in
+    rw (← c.self.view_is) full
+
 -- one of them
-one : (g : Over) (c : In_ok-take_item g) → let s = c.self.inside in
-    AreTakenInTurn g.T.Ord.cmp g.B.RandomBits.bit g.B.RandomBits.next c.args.coins.now c.take_item.new.coins s.k s.rank_accuracy s.compactors.items (take 1 c.args.items.now)
-    c.take_item.new.self.levels
+one : (g : Over) (c : In_ok-take_last g) → let s = c.self.inside in
+    AreTakenInTurn g.T.Ord.cmp g.B.RandomBits.bit g.B.RandomBits.next c.args.coins.now c.take_last.new.coins s.k s.rank_accuracy s.compactors.items (take 1 c.args.items.now)
+    c.take_last.new.self.levels
 one g c =
     let s = c.self.inside in
     let same : g.T.Ord.cmp c.index-items-0.result c.in_ok-item.item ≡ Equal = c.requires.clones _ _ c.in_ok-item.ensures.cases in
-    let acted = c.in_ok-take_item.ensures.acted in
+    let acted = c.in_ok-take_last.ensures.acted in
     rw (first-item c.args.items.now c.index-items-0.result c.requires.some c.index-items-0.is)
     (taken-one g.met.T.Ord.total g.B.RandomBits.bit g.B.RandomBits.next s.k s.rank_accuracy _ _ s.compactors.items _ c.index-items-0.result c.in_ok-item.item same (rw (← c.self.view_is) at acted))
 
@@ -45,4 +52,4 @@ pub returns-then-room-eq0-clause-left : goal.returns-then-room-eq0-clause-left
 returns-then-room-eq0-clause-left g c =
     let few = c.requires.few in
     rw (← c.self.view_is) ((are-kept g.met.T.Ord.total g.B.RandomBits.bit g.B.RandomBits.next _ _ _ _ _ _ _ c.self.invariant.some c.self.invariant.placed (rw (← c.self.view_is) at few)
-    (one g (goal.at.returns-then-room-eq0-clause-left g c).In_ok-take_item)).left)
+    (one g (goal.at.returns-then-room-eq0-clause-left g c).In_ok-take_last)).left)
