@@ -51,17 +51,6 @@ module _ {A : Type 0} where
             (rw (read-here (λ b. b.merged_space) 0 buffers h own inside) here)
       ]
 
-  -- there is space for a step of a walk whose later buffers are as at its start
-  pub space-there : (k h : ℕ) (layouts now : List Layout) (start buffers : List (Space A)) (own : Space A) (promoted : ℕ) → HaveSpace k layouts start promoted → h < length layouts →
-      length buffers ≡ length start →
-      get_or (merged_spaces buffers) h 0 ≡ get_or (merged_spaces start) h 0 →
-      own ≡ get_or buffers h own → now ≡ steps_layouts k h 0 layouts →
-      HasSpace k h now own.merged_space promoted
-  space-there k h layouts now start buffers own promoted fit within len merged there now_is =
-      let inside : h < length buffers = omega (arith, fit.enough, len, within) in
-      rw (now_is, ← read-there (λ b. b.merged_space) 0 buffers h own inside there)
-      (space-same k h (steps_layouts k h 0 layouts) start buffers promoted promoted merged (omega arith) (fit.fits h within))
-
   -- the same holds of other buffers that have as much
   pub space-kept : (k : ℕ) (layouts : List Layout) (buffers news : List (Space A)) (promoted more : ℕ) → merged_spaces news ≡ merged_spaces buffers → promoted ≤ more →
       HaveSpace k layouts buffers promoted → HaveSpace k layouts news more

@@ -106,7 +106,7 @@ fn join_levels<T: Clone + Ord>(
 fn join<T: Clone + Ord>(
     levels: &mut Vec<Compactor<T>>,
     others: &[Compactor<T>],
-) -> Result<(Vec<T>, Vec<Buffers<T>>), AllocError>
+) -> Result<(Vec<T>, Vec<T>, Vec<Buffers<T>>), AllocError>
     requires clones { (x y : T) → T.is_clone x y → T.cmp x y ≡ Equal }
     requires levels { AreHeld T.cmp levels.old.items }
     requires others { AreLevels T.cmp (k_of others.now) (accuracy_of levels.old.items) 0
@@ -119,15 +119,18 @@ fn join<T: Clone + Ord>(
         ≡ max (length levels.old.items) (length others.now)) }
     ensures spare { OnOk result (vec_len levels.new < vec_capacity levels.new) }
     ensures empty { IfOk result (λ room. room.0.items ≡ []) }
+    ensures nothing { IfOk result (λ room. room.1.items ≡ []) }
+    ensures above { IfOk result (λ room. vec_capacity room.0 ≤ vec_capacity room.1) }
     ensures fit { IfOk result (λ room. HaveSpace (k_of levels.old.items)
-        (layouts_of levels.new.items) room.1.items (vec_capacity room.0)) }
+        (layouts_of levels.new.items) room.2.items (vec_capacity room.0)) }
     ensures err { OnErr result (levels.new.items ≡ levels.old.items) }
 {
     let alloc = *levels.allocator();
     let (mut promoted, mut buffers) = reserve_joined(alloc, levels.as_slice(), others)?;
+    let up = Vec::with_capacity(alloc, promoted.capacity())?;
     levels.reserve_exact(others.len().saturating_sub(levels.len()) + 1)?;
     join_levels(levels, others, &mut promoted, &mut buffers);
-    Ok((promoted, buffers))
+    Ok((promoted, up, buffers))
 }
 
 /// Joins other levels in, draws coins anew or doesn't, and walks where all are then at or over their
@@ -152,9 +155,9 @@ pub(super) fn join_and_walk<T: Clone + Ord, B: RandomBits>(
     ensures err { OnErr result ((levels.new.items ≡ levels.old.items)
         × (coins.new ≡ coins.old)) }
 {
-    let (mut promoted, mut buffers) = join(levels, others)?;
+    let (mut coming, mut up, mut buffers) = join(levels, others)?;
     redraw_if(redraws, levels, coins);
-    walk_if_full(levels, &mut promoted, &mut buffers, coins);
+    walk_if_full(levels, &mut coming, &mut up, &mut buffers, coins);
     give_back(levels);
     Ok(())
 }

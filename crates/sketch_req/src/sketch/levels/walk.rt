@@ -5,7 +5,7 @@ ghost use Rattle.sketch_base.specs.declared.error.ErrorKind.TheVariants.{OutOfMe
 ghost use Rattle.sketch_req.specs.Level.{fresh};
 ghost use Rattle.sketch_req.specs.Schedule.{layouts_of, layout_at, retained_of, weight_of};
 ghost use Rattle.sketch_req.specs.Sections.{IsLegalK};
-ghost use Rattle.sketch_req.specs.Walk.{AreHeld, HasSpace, HaveSpace, AreStepped, AreWalkedIfFull, AreWalkedOver, accuracy_of, appended_first, k_of, with_more};
+ghost use Rattle.sketch_req.specs.Walk.{AreHeld, HasSpace, HaveSpace, AreWalkedIfFull, AreWalkedOver, accuracy_of, appended_first, k_of, with_more};
 
 use super::sums;
 use crate::RankAccuracy;
@@ -14,6 +14,7 @@ use crate::merging::Buffers;
 use sketch_base::common::random::RandomBits;
 use sketch_base::error::Error;
 use std::alloc::{AllocError, Global};
+use std::mem;
 
 /// Buffers for each of `count` levels.
 pub(super) fn new_buffers<T: Clone + Ord>(
@@ -84,46 +85,12 @@ pub(super) fn add_level<T: Clone + Ord>(
     }
 }
 
-/// One step of a walk: compacts a level into the one above, where it is full.
-fn step<T: Clone + Ord, B: RandomBits>(
-    levels: &mut Vec<Compactor<T>>,
-    level: usize,
-    promoted: &mut Vec<T>,
-    buffers: &mut Buffers<T>,
-    coins: &mut B,
-)
-    requires levels { AreHeld T.cmp levels.old.items }
-    requires within { level < length levels.old.items }
-    requires fits { weight_of (layouts_of levels.old.items) < 2 ^ 64 }
-    requires few_items { retained_of (layouts_of levels.old.items) < 2 ^ 32 }
-    requires spare { level + 1 ≡ length levels.old.items
-        → vec_len levels.old < vec_capacity levels.old }
-    requires fit { HasSpace (k_of levels.old.items) level (layouts_of levels.old.items)
-        buffers.old.merged_space (vec_capacity promoted.old) }
-    requires empty { promoted.old.items ≡ [] }
-    ensures empty { promoted.new.items ≡ [] }
-    ensures promoted { vec_capacity promoted.new ≡ vec_capacity promoted.old }
-    ensures acted { AreStepped T.cmp B.bit B.next coins.old coins.new (k_of levels.old.items)
-        (accuracy_of levels.old.items) level levels.old.items levels.new.items }
-    ensures same_len { level + 1 < length levels.old.items
-        → vec_len levels.new ≡ vec_len levels.old }
-    ensures capacity { vec_capacity levels.old ≤ vec_capacity levels.new }
-{
-    let here = &levels[level];
-    if here.num_items() < here.nominal_capacity() {
-        return;
-    }
-    let (k, rank_accuracy) = here.parameters();
-    levels[level].compact_reserved(promoted, &mut buffers.merged, coins);
-    add_level(levels, level + 1, k, rank_accuracy);
-    levels[level + 1].absorb(promoted, &mut buffers.merged);
-}
-
-/// Compacts, from level 0 up, each level that is at or over its nominal capacity at its turn. A
-/// level that is added isn't compacted.
+/// Compacts, from level 0 up, each level that is at or over its nominal capacity at its turn, with
+/// what comes up from the level below. A level that is added isn't compacted.
 fn walk<T: Clone + Ord, B: RandomBits>(
     levels: &mut Vec<Compactor<T>>,
-    promoted: &mut Vec<T>,
+    coming: &mut Vec<T>,
+    up: &mut Vec<T>,
     buffers: &mut Vec<Buffers<T>>,
     coins: &mut B,
 )
@@ -131,15 +98,24 @@ fn walk<T: Clone + Ord, B: RandomBits>(
     requires fits { weight_of (layouts_of levels.old.items) < 2 ^ 64 }
     requires few_items { retained_of (layouts_of levels.old.items) < 2 ^ 32 }
     requires spare { vec_len levels.old < vec_capacity levels.old }
-    requires empty { promoted.old.items ≡ [] }
+    requires empty { coming.old.items ≡ [] }
+    requires nothing { up.old.items ≡ [] }
     requires fit { HaveSpace (k_of levels.old.items) (layouts_of levels.old.items)
-        buffers.old.items (vec_capacity promoted.old) }
+        buffers.old.items (vec_capacity coming.old) }
+    requires above { vec_capacity coming.old ≤ vec_capacity up.old }
     ensures acted { AreWalkedOver T.cmp B.bit B.next coins.old coins.new (k_of levels.old.items)
         (accuracy_of levels.old.items) levels.old.items levels.new.items }
 {
     let count = levels.len();
     for level in 0..count {
-        step(levels, level, promoted, &mut buffers[level], coins);
+        let own = &mut buffers[level.saturating_sub(1)];
+        levels[level].turn(coming, up, &mut own.merged, coins);
+        mem::swap(coming, up);
+    }
+    if !coming.is_empty() {
+        let (k, rank_accuracy) = levels[0].parameters();
+        add_level(levels, count, k, rank_accuracy);
+        levels[count].absorb(coming, &mut buffers[count - 1].merged);
     }
 }
 
@@ -155,7 +131,8 @@ pub(super) fn give_back<T: Clone + Ord>(levels: &mut Vec<Compactor<T>>)
 /// Walks if the levels hold as many items as their nominal capacities together, or more.
 pub(super) fn walk_if_full<T: Clone + Ord, B: RandomBits>(
     levels: &mut Vec<Compactor<T>>,
-    promoted: &mut Vec<T>,
+    coming: &mut Vec<T>,
+    up: &mut Vec<T>,
     buffers: &mut Vec<Buffers<T>>,
     coins: &mut B,
 )
@@ -163,15 +140,17 @@ pub(super) fn walk_if_full<T: Clone + Ord, B: RandomBits>(
     requires fits { weight_of (layouts_of levels.old.items) < 2 ^ 64 }
     requires few_items { retained_of (layouts_of levels.old.items) < 2 ^ 32 }
     requires spare { vec_len levels.old < vec_capacity levels.old }
-    requires empty { promoted.old.items ≡ [] }
+    requires empty { coming.old.items ≡ [] }
+    requires nothing { up.old.items ≡ [] }
     requires fit { HaveSpace (k_of levels.old.items) (layouts_of levels.old.items)
-        buffers.old.items (vec_capacity promoted.old) }
+        buffers.old.items (vec_capacity coming.old) }
+    requires above { vec_capacity coming.old ≤ vec_capacity up.old }
     ensures acted { AreWalkedIfFull T.cmp B.bit B.next coins.old coins.new
         (k_of levels.old.items) (accuracy_of levels.old.items) levels.old.items levels.new.items }
 {
     let (num_retained, capacity) = sums(levels.as_slice());
     if num_retained >= capacity {
-        walk(levels, promoted, buffers, coins);
+        walk(levels, coming, up, buffers, coins);
     }
 }
 
@@ -204,9 +183,11 @@ pub(super) fn append_and_walk<T: Clone + Ord, B: RandomBits>(
     ensures memory { IfErr result (λ e. e ≡ OutOfMemory) }
 {
     levels.reserve_exact(1)?;
-    let (mut promoted, mut buffers) = reserve_next(*levels.allocator(), levels.as_slice())?;
+    let alloc = *levels.allocator();
+    let (mut coming, mut buffers) = reserve_next(alloc, levels.as_slice())?;
+    let mut up = Vec::with_capacity(alloc, coming.capacity())?;
     append(levels, item)?;
-    walk(levels, &mut promoted, &mut buffers, coins);
+    walk(levels, &mut coming, &mut up, &mut buffers, coins);
     give_back(levels);
     Ok(())
 }

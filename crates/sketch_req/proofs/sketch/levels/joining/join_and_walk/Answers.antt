@@ -25,7 +25,7 @@ module _ (g : Over) (c : After-redraw_if g) where
   same = ap layouts_of c.redraw_if.ensures.levels ∙ layouts-ready c.args.redraws _ c.join.new.levels.items
 
   joined : layouts_of ready ≡ joined_layouts (k_of ls) (layouts_of ls) (layouts_of c.args.others.now)
-  joined = same ∙ layouts-joined _ _ _ _ _ c.in_ok-promoted.ensures.joined c.in_ok-promoted.ensures.count
+  joined = same ∙ layouts-joined _ _ _ _ _ c.in_ok-coming.ensures.joined c.in_ok-coming.ensures.count
 
   count : length ready ≡ length c.join.new.levels.items
   count = sym (length-layouts ready) ∙ (ap length same ∙ length-layouts c.join.new.levels.items)
@@ -33,9 +33,9 @@ module _ (g : Over) (c : After-redraw_if g) where
   own : IsOwn g.T.Ord.cmp (k_of ls) (accuracy_of ls) ready
   own =
       let n = count in
-      own-levels _ _ _ _ (omega (arith, n, c.in_ok-promoted.ensures.count, c.requires.levels.some))
+      own-levels _ _ _ _ (omega (arith, n, c.in_ok-coming.ensures.count, c.requires.levels.some))
       (subst (AreLevels g.T.Ord.cmp (k_of ls) (accuracy_of ls) 0) (sym c.redraw_if.ensures.levels)
-      (placed-ready g.T.Ord.cmp _ _ c.args.redraws _ c.join.new.levels.items c.in_ok-promoted.ensures.joined.placed))
+      (placed-ready g.T.Ord.cmp _ _ c.args.redraws _ c.join.new.levels.items c.in_ok-coming.ensures.joined.placed))
 
 pub walk_if_full-requires : goal.walk_if_full-requires
 walk_if_full-requires g c =
@@ -48,9 +48,11 @@ walk_if_full-requires g c =
       levels = (own g before).held;
       fits = omega (arith, ap weight_of (joined g before), both, c.requires.fits);
       few_items = omega (arith, ap retained_of (joined g before), all, c.requires.few);
-      spare = omega (arith, n, c.in_ok-promoted.ensures.spare, c.redraw_if.ensures.room, c.redraw_if.new.levels.ok, c.join.new.levels.ok);
-      empty = c.in_ok-promoted.ensures.empty;
-      fit = rw (own g before).k_is (subst (λ (xs : List Layout). HaveSpace (k_of levels) xs c.in_ok-promoted.buffers.items (vec_capacity c.in_ok-promoted.promoted)) (sym (same g before)) c.in_ok-promoted.ensures.fit);
+      spare = omega (arith, n, c.in_ok-coming.ensures.spare, c.redraw_if.ensures.room, c.redraw_if.new.levels.ok, c.join.new.levels.ok);
+      empty = c.in_ok-coming.ensures.empty;
+      nothing = c.in_ok-coming.ensures.nothing;
+      above = c.in_ok-coming.ensures.above;
+      fit = rw (own g before).k_is (subst (λ (xs : List Layout). HaveSpace (k_of levels) xs c.in_ok-coming.buffers.items (vec_capacity c.in_ok-coming.coming)) (sym (same g before)) c.in_ok-coming.ensures.fit);
     }
 
 pub returns-clause-taken_in : goal.returns-clause-taken_in
@@ -59,8 +61,8 @@ returns-clause-taken_in g c =
     let acted = c.walk_if_full.ensures.acted in
     rw c.give_back.ensures (record {
       joined = c.join.new.levels.items;
-      joined_are = c.in_ok-promoted.ensures.joined;
-      count_is = c.in_ok-promoted.ensures.count;
+      joined_are = c.in_ok-coming.ensures.joined;
+      count_is = c.in_ok-coming.ensures.count;
       ready = c.redraw_if.new.levels.items;
       ready_are = c.redraw_if.ensures.levels;
       acted = rw ((own g before).k_is, (own g before).accuracy_is, c.redraw_if.ensures.coins) at acted;

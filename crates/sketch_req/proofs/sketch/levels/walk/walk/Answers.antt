@@ -1,85 +1,250 @@
--- The loop keeps that the levels are those after the steps so far.
-use Rattle.std.proofs.Common.{◌≡◌, ◌<◌, List, length, length-set, ap, sym, ◌∙◌, subst, arith, refl, ℕ}
-use Rattle.sketch_req.specs.Buffers.{Space}
-use Rattle.sketch_req.specs.Level.{Level}
+-- The loop keeps what is pending after the turns so far.
+use Rattle.std.proofs.Common.{◌≡◌, ℕ, ◌+◌, ◌-◌, ◌<◌, ◌==◌, Bool, true, if◌then◌else◌, eq-eqb, length-append, List, [], ◌∷◌, ◌++◌, get_or, length, length-set, set, refl, sym, ap, ap₂, ◌∙◌, subst, arith, inl, inr, vec_capacity, IsSorted}
+use Rattle.std.proofs.lemmas.Bool.{cases_lt}
+use Rattle.std.proofs.lemmas.List.{nil_from_length}
+use Rattle.std.proofs.Math.Seq.{map-set_same}
+use Rattle.sketch_base.proofs.Sorting.{short_sorted}
+use Rattle.sketch_req.specs.Buffers.{Space, merged_spaces}
+use Rattle.sketch_req.specs.Level.{Level, fresh}
 use Rattle.sketch_req.specs.Schedule.{layouts_of, steps_actions, steps_layouts}
-use Rattle.sketch_req.specs.Walk.{AreWalked, accuracy_of, k_of}
-use Rattle.sketch_req.proofs.Buffers.{read-other, space-there}
-use Rattle.sketch_req.proofs.Held.{IsOwn, own-levels}
+use Rattle.sketch_req.specs.Sections.{IsLegalK}
+use Rattle.sketch_req.specs.Walk.{AreWalked, HasSpace, accuracy_of, k_of}
+use Rattle.sketch_req.specs.declared.RankAccuracy.{RankAccuracy}
+use Rattle.sketch_req.proofs.Buffers.{read-other, read-there}
+use Rattle.sketch_req.proofs.Held.{own-levels}
 use Rattle.sketch_req.proofs.Layouts.{length-layouts}
-use Rattle.sketch_req.proofs.Walks.{acted-start, walked-more}
-use Rattle.sketch_req.proofs.sketch.levels.walk.walk.Given.{Over}
-use Rattle.sketch_req.proofs.sketch.levels.walk.walk.Goals.{After-index_mut}
+use Rattle.sketch_req.proofs.WalkSteps.{own-there, raised}
+use Rattle.sketch_req.proofs.Turns.{IsReady, is-ready, next-pending, pending-above, pending-start, ready-taken}
+use Rattle.sketch_req.proofs.sketch.levels.walk.walk.Goals.{After-index_mut, After-parameters-k, After-add_level}
 use Rattle.sketch_req.proofs.sketch.levels.walk.walk.Goals as goal
 
 pub loop-level-init : goal.loop-level-init
 loop-level-init g c = record {
-  acted = acted-start g.met.T.Ord.total _ _ _ _ _ _ c.requires.levels.placed;
-  len = λ _. sym c.len-count.ensures;
+  pending = pending-start g.met.T.Ord.total _ _ _ _ _ _ _ _ c.requires.empty c.requires.levels.placed;
+  len = sym c.len-count.ensures;
   spare = omega (arith, c.requires.spare, c.len-count.ensures);
   as_many = refl;
   merged = λ j _. refl;
-  empty = c.requires.empty;
-  promoted = refl;
+  sorted = subst (IsSorted g.T.Ord.cmp) (sym c.requires.empty) (short_sorted g.T.Ord.cmp [] (omega arith));
+  empty = c.requires.nothing;
+  room = omega arith;
+  above = c.requires.above;
 }
 
+pub index_mut-own-requires : goal.index_mut-own-requires
+index_mut-own-requires g c =
+    let levels = c.args.levels.now in
+    omega (
+      arith,
+      c.saturating_sub.ensures,
+      c.loop-level-test.true,
+      c.loop-level.buffers.ok,
+      c.loop-level.invariant.as_many,
+      c.requires.fit.enough,
+      length-layouts levels.items,
+      c.len-count.ensures,
+      levels.ok,
+    )
+
 pub index_mut-requires : goal.index_mut-requires
-index_mut-requires g c =
-    let levels = c.args.levels.now in
-    let many = c.loop-level.invariant.as_many in
-    omega (arith, c.loop-level.buffers.ok, many, c.requires.fit.enough, length-layouts levels.items, c.loop-level-test.true, c.len-count.ensures, levels.ok)
+index_mut-requires g c = omega (arith, c.loop-level-test.true, c.loop-level.invariant.len)
 
--- the levels at a turn
-module _ (g : Over) (c : After-index_mut g) where
-  inside : c.loop-level.level < length c.loop-level.levels.items
-  inside = omega (arith, c.loop-level.invariant.len c.loop-level-test.true, c.loop-level-test.true, c.loop-level.levels.ok)
+-- a turn
+module _ (g : _) (c : After-index_mut g) where
+  within : c.loop-level.level < length c.loop-level.levels.items
+  within = omega (arith, c.loop-level-test.true, c.loop-level.invariant.len, c.loop-level.levels.ok)
 
-  own : IsOwn g.T.Ord.cmp (k_of c.args.levels.now.items) (accuracy_of c.args.levels.now.items) c.loop-level.levels.items
-  own = let n = inside in own-levels _ _ _ _ (omega (arith, n)) c.loop-level.invariant.acted.acted.placed
+  abbrev spaces : List ℕ
+  spaces = merged_spaces c.args.buffers.now.items
 
-pub step-requires-clause-levels : goal.step-requires-clause-levels
-step-requires-clause-levels g c = (own g (goal.at.step-requires-clause-levels g c).After-index_mut).held
+  ready : IsReady g.met.T.Ord.total g.B.RandomBits.bit g.B.RandomBits.next c.args.coins.now (k_of c.args.levels.now.items) (accuracy_of c.args.levels.now.items) c.args.levels.now.items
+      spaces c.loop-level.level c.loop-level.coins c.loop-level.levels.items c.index_mut.result.now c.loop-level.coming.items
+  ready = is-ready g.met.T.Ord.total _ _ _ _ _ _ _ _ _ _ _ _ c.requires.few_items c.loop-level.invariant.pending within c.index_mut.ensures.value
 
-pub step-requires-clause-within : goal.step-requires-clause-within
-step-requires-clause-within g c = inside g (goal.at.step-requires-clause-within g c).After-index_mut
+  fit : HasSpace (k_of c.args.levels.now.items) c.loop-level.level (steps_layouts (k_of c.args.levels.now.items) c.loop-level.level 0 (layouts_of c.args.levels.now.items))
+      (get_or spaces c.loop-level.level 0) (vec_capacity c.args.coming.now)
+  fit =
+      let levels = c.args.levels.now in
+      c.requires.fit.fits c.loop-level.level (omega (arith, length-layouts levels.items, c.loop-level-test.true, c.len-count.ensures, levels.ok))
 
-pub step-requires-clause-fits : goal.step-requires-clause-fits
-step-requires-clause-fits g c = omega (arith, c.loop-level.invariant.acted.acted.weigh, c.requires.fits)
+  -- the space of the buffers that come up with it
+  own-space : get_or spaces (c.loop-level.level - 1) 0 ≡ c.index_mut-own.result.now.merged_space
+  own-space =
+      let levels = c.args.levels.now in
+      let i = c.loop-level.invariant in
+      let inside : c.saturating_sub.result < length c.loop-level.buffers.items =
+      omega (arith, c.saturating_sub.ensures, c.loop-level-test.true, i.as_many, c.requires.fit.enough, length-layouts levels.items, c.len-count.ensures, levels.ok) in
+      sym (i.merged (c.loop-level.level - 1) (omega arith)) ∙ (ap (λ (n : ℕ). get_or (merged_spaces c.loop-level.buffers.items) n 0) (sym c.saturating_sub.ensures)
+      ∙ read-there (λ b. b.merged_space) 0 c.loop-level.buffers.items c.saturating_sub.result c.index_mut-own.result.now inside c.index_mut-own.ensures.value)
 
-pub step-requires-clause-few_items : goal.step-requires-clause-few_items
-step-requires-clause-few_items g c = omega (arith, c.loop-level.invariant.acted.acted.fewer, c.requires.few_items)
-
-pub step-requires-clause-fit : goal.step-requires-clause-fit
-step-requires-clause-fit g c =
+pub turn-requires : goal.turn-requires
+turn-requires g c =
     let i = c.loop-level.invariant in
-    let levels = c.args.levels.now in
-    rw ((own g (goal.at.step-requires-clause-fit g c).After-index_mut).k_is, i.promoted)
-    (space-there _ c.loop-level.level _ _ _ c.loop-level.buffers.items _ _ c.requires.fit
-    (omega (arith, length-layouts levels.items, c.loop-level-test.true, c.len-count.ensures, levels.ok)) i.as_many
-    (i.merged c.loop-level.level (omega arith)) c.index_mut.ensures.value i.acted.acted.layouts_are)
+    let at = (goal.at.turn-requires g c).After-index_mut in
+    let r = ready g at in
+    record {
+      sorted = i.sorted;
+      few = omega (arith, r.few, c.requires.few_items);
+      space = λ some.
+          omega (
+            arith,
+            r.space some (c.loop-level.level - 1) (pending-above g.met.T.Ord.total _ _ _ _ _ _ _ _ _ _ _ i.pending some),
+            own-space g at,
+            ap (λ (b : Space g.row.T.Denot). b.merged_space) c.own.view_is,
+          );
+      empty = c.own.invariant;
+      nothing = i.empty;
+      above = λ full. omega (arith, ready-taken g.met.T.Ord.total _ _ _ _ _ _ _ _ _ _ _ _ _ _ r (fit g at) full, i.above);
+    }
 
 pub loop-level-preserved : goal.loop-level-preserved
 loop-level-preserved g c =
-    let before = (goal.at.loop-level-preserved g c).After-index_mut in
     let i = c.loop-level.invariant in
-    let acted = c.step.ensures.acted in
+    let at = (goal.at.loop-level-preserved g c).After-index_mut in
+    let legal = (own-levels g.T.Ord.cmp _ _ _ c.requires.levels.some c.requires.levels.placed).legal in
+    let x = ap (λ v. v.items) c.swap.ensures.x_after in
+    let next = next-pending g.met.T.Ord.total _ _ _ _ _ _ _ _ _ _ _ _ _ _ _ _ c.requires.few_items i.pending (within g at) c.index_mut.ensures.value c.requires.fits legal (fit g at)
+    c.turn.ensures.turned c.turn.ensures.sound c.turn.ensures.coins in
+    let buffers = c.loop-level.buffers.items in
+    let place = c.saturating_sub.result in
+    let space = λ (b : Space g.row.T.Denot). b.merged_space in
     record {
-      acted = walked-more g.met.T.Ord.total _ _ _ _ _ _ _ _ _ _ _ i.acted (rw ((own g before).k_is, (own g before).accuracy_is) at acted);
-      len = λ h. c.step.ensures.same_len (let n = inside g before in omega (arith, h, n, i.len c.loop-level-test.true, c.loop-level.levels.ok)) ∙ i.len c.loop-level-test.true;
-      spare = omega (arith, i.spare, c.step.ensures.capacity);
+      pending = rw x next;
+      len = i.len;
+      spare = i.spare;
       as_many = simp length-set i.as_many;
-      merged = λ j h. read-other (λ b. b.merged_space) 0 _ c.loop-level.level c.step.new.buffers j (omega (arith, h)) ∙ i.merged j (omega (arith, h));
-      empty = c.step.ensures.empty;
-      promoted = c.step.ensures.promoted ∙ i.promoted;
+      merged = λ j low.
+          elim (cases_lt 0 c.loop-level.level) [
+            | inl some ↦ read-other space 0 buffers place _ j (omega (arith, low, some, c.saturating_sub.ensures)) ∙ i.merged j (omega (arith, low))
+            | inr none ↦
+                let same = c.turn.ensures.kept (i.pending.first (omega (arith, none))) ∙ (ap space c.own.view_is ∙ ap space c.index_mut-own.ensures.value) in
+                ap (λ (spaces : List ℕ). get_or spaces j 0) (map-set_same space buffers place _ c.index_mut-own.result.now same) ∙ i.merged j (omega (arith, low))
+          ];
+      sorted = rw x c.turn.ensures.sorted;
+      empty = ap (λ v. v.items) c.swap.ensures.y_after ∙ c.turn.ensures.coming;
+      room = omega (arith, i.above, c.turn.ensures.up_capacity, ap (λ v. vec_capacity v) c.swap.ensures.x_after);
+      above = omega (arith, i.room, c.turn.ensures.coming_capacity, ap (λ v. vec_capacity v) c.swap.ensures.y_after);
     }
 
-pub returns : goal.returns
-returns g c =
+pub index-requires : goal.index-requires
+index-requires g c =
+    omega (arith, c.loop-level.invariant.len, c.len-count.ensures, c.requires.levels.some, c.args.levels.now.ok)
+
+-- the highest level gave up items
+module _ (g : _) (c : After-parameters-k g) where
+  abbrev k : ℕ
+  k = k_of c.args.levels.now.items
+
+  abbrev accuracy : RankAccuracy
+  accuracy = accuracy_of c.args.levels.now.items
+
+  some : 0 < length c.loop-level.coming.items
+  some = grind (arith, c.if-not-is_empty.true, c.is_empty.ensures, c.loop-level.coming.ok.0)
+
+  ends : c.len-count.result ≡ (c.loop-level.level - 1) + 1
+  ends = omega (arith, c.loop-level-test.false, pending-above g.met.T.Ord.total _ _ _ _ _ _ _ _ _ _ _ c.loop-level.invariant.pending some)
+
+  own : c.parameters-k.result ≡ (k, accuracy)
+  own =
+      own-there g.T.Ord.cmp _ _ _ _ _ _ c.loop-level.invariant.pending.placed
+      (omega (arith, c.loop-level.invariant.len, c.len-count.ensures, c.requires.levels.some, c.args.levels.now.ok, c.loop-level.levels.ok)) c.index.ensures c.parameters-k.ensures
+
+pub add_level-requires : goal.add_level-requires
+add_level-requires g c =
+    let at = goal.at.add_level-requires g c in
+    let before = at.After-parameters-k in
+    record {
+      legal = subst IsLegalK (sym (ap (λ (p : ℕ × RankAccuracy). p.0) (own g before))) (own-levels g.T.Ord.cmp _ _ _ c.requires.levels.some c.requires.levels.placed).legal;
+      few = omega (arith, ends g before, c.loop-level.invariant.pending.low (some g before), pending-above g.met.T.Ord.total _ _ _ _ _ _ _ _ _ _ _ c.loop-level.invariant.pending (some g before));
+      spare = λ _. omega (arith, c.loop-level.invariant.spare, c.loop-level.invariant.len);
+    }
+
+-- with the level that was added
+module _ (g : _) (c : After-add_level g) (own : c.parameters-k.result ≡ (k_of c.args.levels.now.items, accuracy_of c.args.levels.now.items)) (ends : c.len-count.result ≡ (c.loop-level.level - 1) + 1) where
+  added : c.add_level.new.levels.items ≡ raised (k_of c.args.levels.now.items) (accuracy_of c.args.levels.now.items) (c.loop-level.level - 1) c.loop-level.levels.items
+  added =
+      let ls = c.loop-level.levels.items in
+      c.add_level.ensures.items
+      ∙ (ap (λ (n : ℕ). if n == length ls then ls ++ fresh [] true n c.parameters-k.result.0 c.parameters-k.result.1 ∷ [] else ls) ends
+      ∙ ap (λ (p : ℕ × RankAccuracy). raised p.0 p.1 (c.loop-level.level - 1) ls) own)
+
+  longer : length c.add_level.new.levels.items ≡ c.len-count.result + 1
+  longer =
+      let ls = c.loop-level.levels.items in
+      let last = fresh [] true c.len-count.result c.parameters-k.result.0 c.parameters-k.result.1 in
+      let is : (c.len-count.result == length ls) ≡ true = eq-eqb c.len-count.result (length ls) (omega (arith, c.loop-level.invariant.len, c.loop-level.levels.ok)) in
+      ap length (c.add_level.ensures.items ∙ ap (λ (b : Bool). if b then ls ++ last ∷ [] else ls) is) ∙ omega (arith, length-append ls (last ∷ []), c.loop-level.invariant.len, c.loop-level.levels.ok)
+
+pub index_mut-requires-then-not-is_empty : goal.index_mut-requires-then-not-is_empty
+index_mut-requires-then-not-is_empty g c =
+    let at = goal.at.index_mut-requires-then-not-is_empty g c in
+    let before = at.After-parameters-k in
+    omega (arith, longer g at.After-add_level (own g before) (ends g before), c.add_level.new.levels.ok)
+
+pub index_mut-requires-then-not-is_empty-2 : goal.index_mut-requires-then-not-is_empty-2
+index_mut-requires-then-not-is_empty-2 g c =
+    let levels = c.args.levels.now in
+    omega (arith, c.loop-level.buffers.ok, c.loop-level.invariant.as_many, c.requires.fit.enough, length-layouts levels.items, c.len-count.ensures, levels.ok, c.requires.levels.some)
+
+pub absorb-requires : goal.absorb-requires
+absorb-requires g c =
+    let at = goal.at.absorb-requires g c in
+    let before = at.After-parameters-k in
+    let i = c.loop-level.invariant in
+    let space = λ (b : Space g.row.T.Denot). b.merged_space in
+    let ends = ends g before in
+    let all = added g at.After-add_level (own g before) ends in
+    let upper = c.index_mut-then-not-is_empty.result.now in
+    let above = pending-above g.met.T.Ord.total _ _ _ _ _ _ _ _ _ _ _ i.pending (some g before) in
+    let few = i.pending.few (some g before) (c.loop-level.level - 1) above upper
+    (c.index_mut-then-not-is_empty.ensures.value ∙ ap₂ (λ (ls : List (Level g.row.T.Denot)) (n : ℕ). get_or ls n upper) all ends) in
+    let buffers = c.loop-level.buffers.items in
+    let levels = c.args.levels.now in
+    let place : c.len-count.result - 1 ≡ c.loop-level.level - 1 = omega (arith, ends) in
+    let inside : c.len-count.result - 1 < length buffers = omega (arith, i.as_many, c.requires.fit.enough, length-layouts levels.items, c.len-count.ensures, levels.ok, c.requires.levels.some) in
+    let there : get_or (merged_spaces c.args.buffers.now.items) (c.loop-level.level - 1) 0 ≡ c.index_mut-then-not-is_empty-2.result.now.merged_space =
+    sym (i.merged (c.loop-level.level - 1) (omega arith)) ∙ (ap (λ (n : ℕ). get_or (merged_spaces buffers) n 0) (sym place)
+    ∙ read-there space 0 buffers (c.len-count.result - 1) c.index_mut-then-not-is_empty-2.result.now inside c.index_mut-then-not-is_empty-2.ensures.value) in
+    record {
+      sorted = i.sorted;
+      empty = c.behind-buffers.invariant;
+      capacity = omega (arith, few.1, there, ap space c.behind-buffers.view_is);
+      few = omega (arith, few.0, c.requires.few_items);
+    }
+
+pub returns-then-not-is_empty : goal.returns-then-not-is_empty
+returns-then-not-is_empty g c =
+    let at = goal.at.returns-then-not-is_empty g c in
+    let before = at.After-parameters-k in
+    let i = c.loop-level.invariant in
+    let ends = ends g before in
+    let all = added g at.After-add_level (own g before) ends in
+    let upper = c.index_mut-then-not-is_empty.result.now in
+    let new = c.absorb.new.self in
+    let ls : List (Level g.row.T.Denot) = c.args.levels.now.items in
+    let layouts = layouts_of ls in
+    let above = pending-above g.met.T.Ord.total _ _ _ _ _ _ _ _ _ _ _ i.pending (some g before) in
+    let walked = i.pending.some (some g before) (c.loop-level.level - 1) above upper new
+    (c.index_mut-then-not-is_empty.ensures.value ∙ ap₂ (λ (l : List (Level g.row.T.Denot)) (n : ℕ). get_or l n upper) all ends) c.absorb.ensures.taken_in c.absorb.ensures.sound in
+    let same : set (raised (k_of ls) (accuracy_of ls) (c.loop-level.level - 1) c.loop-level.levels.items) ((c.loop-level.level - 1) + 1) new ≡ set c.add_level.new.levels.items c.len-count.result new =
+    ap₂ (λ (l : List (Level g.row.T.Denot)) (n : ℕ). set l n new) (sym all) (sym ends) in
+    let count : c.loop-level.level ≡ length layouts = omega (arith, length-layouts ls, ends, above, c.len-count.ensures, c.args.levels.now.ok) in
+    record {
+      acted = subst (λ (n : ℕ). AreWalked g.T.Ord.cmp g.B.RandomBits.bit g.B.RandomBits.next c.args.coins.now c.loop-level.coins (k_of ls) (accuracy_of ls)
+          (steps_actions (k_of ls) (accuracy_of ls) n 0 layouts) (steps_layouts (k_of ls) n 0 layouts) ls (set c.add_level.new.levels.items c.len-count.result new))
+          count (subst (λ (l : List (Level g.row.T.Denot)). AreWalked g.T.Ord.cmp g.B.RandomBits.bit g.B.RandomBits.next c.args.coins.now c.loop-level.coins (k_of ls) (accuracy_of ls)
+          (steps_actions (k_of ls) (accuracy_of ls) c.loop-level.level 0 layouts) (steps_layouts (k_of ls) c.loop-level.level 0 layouts) ls l) same walked);
+    }
+
+pub returns-else-not-is_empty : goal.returns-else-not-is_empty
+returns-else-not-is_empty g c =
     let ls : List (Level g.row.T.Denot) = c.args.levels.now.items in
     let layouts = layouts_of ls in
     let all : c.loop-level.level ≡ length layouts = omega (arith, length-layouts ls, c.len-count.ensures, c.args.levels.now.ok) in
+    let none : c.loop-level.coming.items ≡ [] =
+    nil_from_length c.loop-level.coming.items (grind (arith, c.if-not-is_empty.false, c.is_empty.ensures, c.loop-level.coming.ok.0)) in
     record {
       acted = subst (λ (n : ℕ). AreWalked g.T.Ord.cmp g.B.RandomBits.bit g.B.RandomBits.next c.args.coins.now c.loop-level.coins (k_of ls) (accuracy_of ls)
           (steps_actions (k_of ls) (accuracy_of ls) n 0 layouts) (steps_layouts (k_of ls) n 0 layouts) ls c.loop-level.levels.items)
-          all c.loop-level.invariant.acted;
+          all (c.loop-level.invariant.pending.none none);
     }
