@@ -7,34 +7,12 @@ ghost use Rattle.sketch_req.specs.Merged.{AreJoined, AreCloned, AreTakenIn, item
 ghost use Rattle.sketch_req.specs.Schedule.{layouts_of, joined_layouts, retained_of, weight_of};
 ghost use Rattle.sketch_req.specs.Walk.{AreHeld, AreLevels, HaveSpace, accuracy_of, k_of};
 
-use super::redraw_if;
-use super::walk::{add_level, count_at, give_back, new_buffers, walk_if_full};
+use super::walk::{add_level, count_at, give_back, new_buffers, walk};
+use super::{redraw_if, sums};
 use crate::compactor::Compactor;
 use crate::merging::Buffers;
 use sketch_base::common::random::RandomBits;
 use std::alloc::{AllocError, Global};
-
-/// Takes clones of the items of a level, if there is one, with space for `count` items.
-fn clone_level<T: Clone + Ord>(
-    levels: &[Compactor<T>],
-    level: usize,
-    count: usize,
-    buffers: &mut Buffers<T>,
-) -> Result<(), AllocError>
-    requires clones { (x y : T) → T.is_clone x y → T.cmp x y ≡ Equal }
-    ensures same { OnOk result (level < length levels.now
-        → SameItems T.cmp (level_at (item_lists levels.now) level) buffers.new.clones) }
-    ensures space { OnOk result (level < length levels.now → count ≤ buffers.new.clones_space) }
-    ensures rest { buffers.new ≡ record buffers.old {
-      clones = buffers.new.clones;
-      clones_space = buffers.new.clones_space;
-    } }
-{
-    if level < levels.len() {
-        buffers.take_clones(levels[level].items_slice(), count)?;
-    }
-    Ok(())
-}
 
 /// Room for all that a walk moves, if other levels are joined into these before: an empty vector for
 /// what a level gives up, and buffers with clones of the others' items.
@@ -61,7 +39,9 @@ fn reserve_joined<T: Clone + Ord>(
         let above = count_at(levels, level + 1) + count_at(others, level + 1);
         let own = &mut buffers[level];
         own.reserve(here, above)?;
-        clone_level(others, level, here, own)?;
+        if level < others.len() {
+            own.take_clones(others[level].items_slice(), here)?;
+        }
         most = most.max(here);
         carried = here / 2;
     }
@@ -157,7 +137,10 @@ pub(super) fn join_and_walk<T: Clone + Ord, B: RandomBits>(
 {
     let (mut coming, mut up, mut buffers) = join(levels, others)?;
     redraw_if(redraws, levels, coins);
-    walk_if_full(levels, &mut coming, &mut up, &mut buffers, coins);
+    let (num_retained, capacity) = sums(levels.as_slice());
+    if num_retained >= capacity {
+        walk(levels, &mut coming, &mut up, &mut buffers, coins);
+    }
     give_back(levels);
     Ok(())
 }

@@ -5,9 +5,8 @@ ghost use Rattle.sketch_base.specs.declared.error.ErrorKind.TheVariants.{OutOfMe
 ghost use Rattle.sketch_req.specs.Level.{fresh};
 ghost use Rattle.sketch_req.specs.Schedule.{layouts_of, layout_at, retained_of, weight_of};
 ghost use Rattle.sketch_req.specs.Sections.{IsLegalK};
-ghost use Rattle.sketch_req.specs.Walk.{AreHeld, HasSpace, HaveSpace, AreWalkedIfFull, AreWalkedOver, accuracy_of, appended_first, k_of, with_more};
+ghost use Rattle.sketch_req.specs.Walk.{AreHeld, HasSpace, HaveSpace, AreWalkedOver, accuracy_of, appended_first, k_of, with_more};
 
-use super::sums;
 use crate::RankAccuracy;
 use crate::compactor::Compactor;
 use crate::merging::Buffers;
@@ -87,7 +86,7 @@ pub(super) fn add_level<T: Clone + Ord>(
 
 /// Compacts, from level 0 up, each level that is at or over its nominal capacity at its turn, with
 /// what comes up from the level below. A level that is added isn't compacted.
-fn walk<T: Clone + Ord, B: RandomBits>(
+pub(super) fn walk<T: Clone + Ord, B: RandomBits>(
     levels: &mut Vec<Compactor<T>>,
     coming: &mut Vec<T>,
     up: &mut Vec<T>,
@@ -128,44 +127,6 @@ pub(super) fn give_back<T: Clone + Ord>(levels: &mut Vec<Compactor<T>>)
     }
 }
 
-/// Walks if the levels hold as many items as their nominal capacities together, or more.
-pub(super) fn walk_if_full<T: Clone + Ord, B: RandomBits>(
-    levels: &mut Vec<Compactor<T>>,
-    coming: &mut Vec<T>,
-    up: &mut Vec<T>,
-    buffers: &mut Vec<Buffers<T>>,
-    coins: &mut B,
-)
-    requires levels { AreHeld T.cmp levels.old.items }
-    requires fits { weight_of (layouts_of levels.old.items) < 2 ^ 64 }
-    requires few_items { retained_of (layouts_of levels.old.items) < 2 ^ 32 }
-    requires spare { vec_len levels.old < vec_capacity levels.old }
-    requires empty { coming.old.items ≡ [] }
-    requires nothing { up.old.items ≡ [] }
-    requires fit { HaveSpace (k_of levels.old.items) (layouts_of levels.old.items)
-        buffers.old.items (vec_capacity coming.old) }
-    requires above { vec_capacity coming.old ≤ vec_capacity up.old }
-    ensures acted { AreWalkedIfFull T.cmp B.bit B.next coins.old coins.new
-        (k_of levels.old.items) (accuracy_of levels.old.items) levels.old.items levels.new.items }
-{
-    let (num_retained, capacity) = sums(levels.as_slice());
-    if num_retained >= capacity {
-        walk(levels, coming, up, buffers, coins);
-    }
-}
-
-/// Puts an item last into level 0.
-pub(super) fn append<T: Clone + Ord>(levels: &mut Vec<Compactor<T>>, item: T) -> Result<(), Error>
-    requires some { 0 < length levels.old.items }
-    requires few { retained_of (layouts_of levels.old.items) < 4294967295 }
-    ensures ok { OnOk result (levels.new.items ≡ appended_first levels.old.items item) }
-    ensures err { OnErr result (levels.new.items ≡ levels.old.items) }
-    ensures memory { IfErr result (λ e. e ≡ OutOfMemory) }
-    ensures room { vec_capacity levels.new ≡ vec_capacity levels.old }
-{
-    levels[0].append(item)
-}
-
 /// Puts an item last into level 0, and then walks over the levels.
 pub(super) fn append_and_walk<T: Clone + Ord, B: RandomBits>(
     levels: &mut Vec<Compactor<T>>,
@@ -186,7 +147,7 @@ pub(super) fn append_and_walk<T: Clone + Ord, B: RandomBits>(
     let alloc = *levels.allocator();
     let (mut coming, mut buffers) = reserve_next(alloc, levels.as_slice())?;
     let mut up = Vec::with_capacity(alloc, coming.capacity())?;
-    append(levels, item)?;
+    levels[0].append(item)?;
     walk(levels, &mut coming, &mut up, &mut buffers, coins);
     give_back(levels);
     Ok(())
