@@ -2,7 +2,7 @@
 use Rattle.std.proofs.Common.{◌≢◌, ◌≡◌, ℕ, ◌+◌, ◌<◌, ◌≤◌, List, length, map, get_or, set, sym, ap, ◌∙◌, subst, arith, inl, inr}
 use Rattle.std.proofs.lemmas.Bool.{cases_lt}
 use Rattle.std.proofs.lemmas.List.{map-set, length-map, get_or-map, get_or-set_other, get_or-set_same}
-use Rattle.sketch_req.specs.Buffers.{Space, merged_spaces}
+use Rattle.sketch_base.specs.Buffers.{Space, merged_spaces}
 use Rattle.sketch_req.specs.Schedule.{Layout, steps_layouts}
 use Rattle.sketch_req.specs.Walk.{HasSpace, HaveSpace}
 

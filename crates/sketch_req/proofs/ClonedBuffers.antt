@@ -2,7 +2,7 @@
 use Rattle.std.proofs.Common.{◌≢◌, ◌≡◌, ℕ, ◌+◌, ◌<◌, ◌≤◌, List, [], length, get_or, set, ap, subst, arith, inl, inr, Ordering}
 use Rattle.std.proofs.lemmas.Bool.{cases_lt}
 use Rattle.sketch_base.specs.Bag.{SameItems}
-use Rattle.sketch_req.specs.Buffers.{Space, clones_of, clones_spaces}
+use Rattle.sketch_base.specs.Buffers.{Space, clones_of, clones_spaces}
 use Rattle.sketch_req.specs.Level.{Level}
 use Rattle.sketch_req.specs.Merged.{IsCopied, IsCloned}
 use Rattle.sketch_req.specs.Schedule.{Layout, layouts_of, layout_at, retained_of}

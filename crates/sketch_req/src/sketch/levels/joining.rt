@@ -2,15 +2,15 @@
 ghost use Rattle.std.specs.Prelude.{◌≡◌, ℕ, ◌+◌, ◌^◌, ◌<◌, ◌≤◌, [], max, length, vec_len, vec_capacity, IfOk, OnOk, OnErr};
 ghost use Rattle.std.specs.declared.cmp.Ordering.TheVariants.{Equal};
 ghost use Rattle.sketch_base.specs.Bag.{SameItems, level_at};
-ghost use Rattle.sketch_req.specs.Buffers.{merged_spaces};
+ghost use Rattle.sketch_base.specs.Buffers.{merged_spaces};
 ghost use Rattle.sketch_req.specs.Merged.{AreJoined, AreCloned, AreTakenIn, item_lists};
 ghost use Rattle.sketch_req.specs.Schedule.{layouts_of, joined_layouts, retained_of, weight_of};
 ghost use Rattle.sketch_req.specs.Walk.{AreHeld, AreLevels, HaveSpace, accuracy_of, k_of};
 
-use super::walk::{add_level, count_at, give_back, new_buffers, walk};
+use super::walk::{add_level, count_at, give_back, walk};
 use super::{redraw_if, sums};
 use crate::compactor::Compactor;
-use crate::merging::Buffers;
+use sketch_base::common::buffers::Buffers;
 use sketch_base::common::random::RandomBits;
 use std::alloc::{AllocError, Global};
 
@@ -32,7 +32,7 @@ fn reserve_joined<T: Clone + Ord>(
         (vec_capacity room.0)) }
 {
     let count = levels.len().max(others.len());
-    let mut buffers = new_buffers(alloc, count)?;
+    let mut buffers = Buffers::for_levels(alloc, count)?;
     let (mut carried, mut most) = (0, 0);
     for level in 0..count {
         let here = count_at(levels, level) + count_at(others, level) + carried;

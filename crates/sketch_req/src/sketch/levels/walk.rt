@@ -9,25 +9,11 @@ ghost use Rattle.sketch_req.specs.Walk.{AreHeld, HasSpace, HaveSpace, AreWalkedO
 
 use crate::RankAccuracy;
 use crate::compactor::Compactor;
-use crate::merging::Buffers;
+use sketch_base::common::buffers::Buffers;
 use sketch_base::common::random::RandomBits;
 use sketch_base::error::Error;
 use std::alloc::{AllocError, Global};
 use std::mem;
-
-/// Buffers for each of `count` levels.
-pub(super) fn new_buffers<T: Clone + Ord>(
-    alloc: Global,
-    count: usize,
-) -> Result<Vec<Buffers<T>>, AllocError>
-    ensures { IfOk result (λ buffers. count ≤ vec_len buffers) }
-{
-    let mut buffers = Vec::with_capacity(alloc, count)?;
-    while buffers.len() < count {
-        buffers.push(Buffers::new(alloc))?;
-    }
-    Ok(buffers)
-}
 
 /// How many items a level holds; none if there is no such level.
 pub(super) fn count_at<T: Clone + Ord>(levels: &[Compactor<T>], level: usize) -> usize
@@ -49,7 +35,7 @@ fn reserve_next<T: Clone + Ord>(
     ensures fit { IfOk result (λ room. HaveSpace (k_of levels.now)
         (with_more 1 (layouts_of levels.now)) room.1.items (vec_capacity room.0)) }
 {
-    let mut buffers = new_buffers(alloc, levels.len())?;
+    let mut buffers = Buffers::for_levels(alloc, levels.len())?;
     let mut most = levels[0].reserve_to_sort(&mut buffers[0])?;
     let mut carried = 1;
     for level in 0..levels.len() {

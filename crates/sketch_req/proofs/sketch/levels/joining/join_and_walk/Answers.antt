@@ -4,7 +4,7 @@ use Rattle.std.proofs.lemmas.Bool.{lt-leb}
 use Rattle.sketch_req.specs.Held.{IsHeld, held_of}
 use Rattle.sketch_req.specs.Level.{Level}
 use Rattle.sketch_req.specs.Schedule.{Layout, are_full, layouts_of, joined_layouts, retained_of, weight_of}
-use Rattle.sketch_req.specs.Walk.{AreLevels, AreWalkedIfFull, HaveSpace, accuracy_of, k_of}
+use Rattle.sketch_req.specs.Walk.{AreHeld, AreLevels, AreWalkedIfFull, HaveSpace, accuracy_of, k_of}
 use Rattle.sketch_req.proofs.Held.{IsOwn, few-levels, held-sums, own-levels}
 use Rattle.sketch_req.proofs.Layouts.{length-layouts}
 use Rattle.sketch_req.proofs.Mergings.{layouts-joined}
@@ -42,11 +42,10 @@ module _ (g : Over) (c : After-redraw_if g) where
       (placed-ready g.T.Ord.cmp _ _ c.args.redraws _ c.join.new.levels.items c.in_ok-coming.ensures.joined.placed))
 
 -- the sums are those of the levels
-summed : (g : Over) (c : After-sums-num_retained g) → let ls = ready g c.After-redraw_if in
-    IsHeld g.T.Ord.cmp c.sums-num_retained.result.0 c.sums-num_retained.result.1 (held_of (k_of ls) (accuracy_of ls) ls)
-summed g c =
+summed : (g : Over) (c : After-sums-num_retained g) → let ls = c.redraw_if.new.levels.items in
+    AreHeld g.T.Ord.cmp ls → IsHeld g.T.Ord.cmp c.sums-num_retained.result.0 c.sums-num_retained.result.1 (held_of (k_of ls) (accuracy_of ls) ls)
+summed g c held =
     let sums = c.sums-num_retained.ensures in
-    let held = (own g c.After-redraw_if).held in
     held-sums g.T.Ord.cmp _ _ _ _ _ _ held.some held.placed c.as_slice.ensures.value sums.retained sums.capacity
 
 pub sums-num_retained-requires : goal.sums-num_retained-requires
@@ -75,18 +74,18 @@ walk-requires g c =
 pub returns-clause-taken_in : goal.returns-clause-taken_in
 returns-clause-taken_in g c =
     let before = (goal.at.returns-clause-taken_in g c).After-redraw_if in
-    let h = summed g (goal.at.returns-clause-taken_in g c).After-sums-num_retained in
+    let h = summed g (goal.at.returns-clause-taken_in g c).After-sums-num_retained (own g before).held in
     let ls : List (Level g.row.T.Denot) = c.redraw_if.new.levels.items in
     let acted : AreWalkedIfFull g.T.Ord.cmp g.B.RandomBits.bit g.B.RandomBits.next c.redraw_if.new.coins c.if-num_retained-capacity.coins (k_of ls) (accuracy_of ls) ls
-        c.if-num_retained-capacity.levels.items =
-        elim c.if-num_retained-capacity.branch [
-          | then-num_retained-capacity w ↦
-              let full : are_full (k_of ls) (layouts_of ls) ≡ true = le-leb _ _ (omega (arith, h.retained_is, h.capacity_is, w.if-num_retained-capacity.true)) in
-              rw (w.levels-is, w.coins-is) (acted-walk _ _ _ _ _ _ _ _ full w.walk.ensures.acted)
-          | else-num_retained-capacity w ↦
-              let spare : are_full (k_of ls) (layouts_of ls) ≡ false = lt-leb _ _ (omega (arith, h.retained_is, h.capacity_is, w.if-num_retained-capacity.false)) in
-              rw (w.levels-is, w.coins-is) (acted-spare g.met.T.Ord.total _ _ _ _ _ _ (own g before).held.placed spare)
-        ] in
+    c.if-num_retained-capacity.levels.items =
+    elim c.if-num_retained-capacity.branch [
+      | then-num_retained-capacity w ↦
+          let full : are_full (k_of ls) (layouts_of ls) ≡ true = le-leb _ _ (omega (arith, h.retained_is, h.capacity_is, w.if-num_retained-capacity.true)) in
+          rw (w.levels-is, w.coins-is) (acted-walk _ _ _ _ _ _ _ _ full w.walk.ensures.acted)
+      | else-num_retained-capacity w ↦
+          let spare : are_full (k_of ls) (layouts_of ls) ≡ false = lt-leb _ _ (omega (arith, h.retained_is, h.capacity_is, w.if-num_retained-capacity.false)) in
+          rw (w.levels-is, w.coins-is) (acted-spare g.met.T.Ord.total _ _ _ _ _ _ (own g before).held.placed spare)
+    ] in
     rw c.give_back.ensures (record {
       joined = c.join.new.levels.items;
       joined_are = c.in_ok-coming.ensures.joined;

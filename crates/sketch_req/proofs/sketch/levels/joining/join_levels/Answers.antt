@@ -2,7 +2,7 @@ use Rattle.sketch_req.proofs.Held.{own-levels}
 -- The loop keeps that the levels below are joined, and that there are clones and room for the others.
 use Rattle.std.proofs.Common.{◌≡◌, ℕ, true, get_or, [], vec_capacity, length-set, ap, sym, ◌∙◌, refl, subst, arith}
 use Rattle.std.proofs.Math.Seq.{map-set_same}
-use Rattle.sketch_req.specs.Buffers.{Space}
+use Rattle.sketch_base.specs.Buffers.{Space}
 use Rattle.sketch_req.specs.Level.{Level, fresh}
 use Rattle.sketch_req.specs.Merged.{IsCopied}
 use Rattle.sketch_req.specs.Sections.{IsLegalK}

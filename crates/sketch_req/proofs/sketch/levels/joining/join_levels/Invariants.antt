@@ -1,5 +1,5 @@
 use Rattle.std.proofs.Common.{◌≡◌, ℕ, ◌<◌, ◌≤◌, [], length, max, vec_capacity}
-use Rattle.sketch_req.specs.Buffers.{merged_spaces}
+use Rattle.sketch_base.specs.Buffers.{merged_spaces}
 use Rattle.sketch_req.specs.Walk.{accuracy_of, k_of}
 use Rattle.sketch_req.proofs.ClonedBuffers.{HasClones}
 use Rattle.sketch_req.proofs.MergedLevels.{AreJoinedTo}

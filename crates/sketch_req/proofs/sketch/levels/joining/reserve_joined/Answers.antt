@@ -4,7 +4,7 @@ use Rattle.std.proofs.Common.{◌≡◌, ◌+◌, ◌/◌, ◌<◌, ◌≤◌, a
 use Rattle.std.specs.Ordering.{ord_max}
 use Rattle.sketch_req.specs.Schedule.{Layout, layouts_of, layout_at, joined_layouts, steps_layouts}
 use Rattle.sketch_base.specs.Bag.{SameItems, level_at}
-use Rattle.sketch_req.specs.Buffers.{Space}
+use Rattle.sketch_base.specs.Buffers.{Space}
 use Rattle.sketch_req.specs.Level.{Level}
 use Rattle.sketch_req.specs.Merged.{item_lists}
 use Rattle.sketch_req.proofs.ReservedWalks.{count-within, bounded-start, bounded-more, bounded-space}

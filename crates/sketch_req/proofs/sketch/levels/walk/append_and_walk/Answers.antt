@@ -1,4 +1,4 @@
-use Rattle.std.proofs.Common.{◌≡◌, ap, ◌∙◌, rules, slice_set}
+use Rattle.std.proofs.Common.{◌≡◌, rules, slice_set}
 use Rattle.sketch_req.specs.Walk.{appended_first}
 use Rattle.sketch_req.proofs.Held.{own-appended}
 use Rattle.sketch_req.proofs.sketch.levels.walk.append_and_walk.Goals as goal

@@ -4,7 +4,7 @@ use Rattle.std.proofs.lemmas.Bool.{cases_lt}
 use Rattle.std.proofs.lemmas.List.{nil_from_length}
 use Rattle.std.proofs.Math.Seq.{map-set_same}
 use Rattle.sketch_base.proofs.Sorting.{short_sorted}
-use Rattle.sketch_req.specs.Buffers.{Space, merged_spaces}
+use Rattle.sketch_base.specs.Buffers.{Space, merged_spaces}
 use Rattle.sketch_req.specs.Level.{Level, fresh}
 use Rattle.sketch_req.specs.Schedule.{layouts_of, steps_actions, steps_layouts}
 use Rattle.sketch_req.specs.Sections.{IsLegalK}

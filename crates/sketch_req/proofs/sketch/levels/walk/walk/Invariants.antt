@@ -1,5 +1,5 @@
 use Rattle.std.proofs.Common.{◌≡◌, ℕ, ◌+◌, ◌<◌, ◌≤◌, [], length, get_or, vec_len, vec_capacity, IsSorted}
-use Rattle.sketch_req.specs.Buffers.{merged_spaces}
+use Rattle.sketch_base.specs.Buffers.{merged_spaces}
 use Rattle.sketch_req.specs.Walk.{accuracy_of, k_of}
 use Rattle.sketch_req.proofs.Turns.{IsPending}
 use Rattle.sketch_req.proofs.sketch.levels.walk.walk.Given as goal
