@@ -98,21 +98,22 @@ impl<T: Clone + Ord> Levels<T> {
         Ok(())
     }
 
-    /// Puts an item last into level 0 where the levels are then full together, and walks over them.
-    /// It is out of line and rare, so that an update without a walk stays short.
+    /// Puts an item last into level 0, and walks over the levels where they are then full together. It
+    /// is out of line and rare, so that an update without a walk stays short.
     #[cold]
     #[inline(never)]
     pub(crate) fn take_last<B: RandomBits>(&mut self, item: T, coins: &mut B) -> Result<(), Error>
         requires fits { weight_of (layouts_of self.old.levels) < 2 ^ 64 - 1 }
         requires few { retained_of (layouts_of self.old.levels) < 4294967295 }
-        requires full { nominal_sum self.old.k (layouts_of self.old.levels)
-            ≤ retained_of (layouts_of self.old.levels) + 1 }
         ensures kept { self.new ≡ record self.old { levels = self.new.levels } }
         ensures acted { OnOk result (AreWalkedIfFull T.cmp B.bit B.next coins.old coins.new
             self.old.k self.old.accuracy (appended_first self.old.levels item) self.new.levels) }
         ensures err { OnErr result ((self.new ≡ self.old) × (coins.new ≡ coins.old)) }
         ensures memory { IfErr result (λ e. e ≡ OutOfMemory) }
     {
+        if self.num_retained + 1 < self.capacity {
+            return Ok(self.put(item)?);
+        }
         append_and_walk(&mut self.compactors, item, coins)?;
         (self.num_retained, self.capacity) = sums(self.compactors.as_slice());
         Ok(())

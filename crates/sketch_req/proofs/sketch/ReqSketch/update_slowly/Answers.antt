@@ -1,9 +1,8 @@
 -- The goals at the return are what a step of the model says of the fields.
-use Rattle.std.proofs.Common.{◌≡◌, ◌+◌, ◌-◌, ◌^◌, ◌<◌, ◌≤◌, ap, arith, refl, sym, subst}
+use Rattle.std.proofs.Common.{◌≡◌, ◌+◌, ap, arith, refl, sym, subst}
 use Rattle.std.proofs.lemmas.Bool.{not-true}
 use Rattle.sketch_base.specs.Random.{bits_from, after_draws}
 use Rattle.sketch_req.specs.Held.{Held}
-use Rattle.sketch_req.specs.Schedule.{layouts_of, nominal_sum, retained_of}
 use Rattle.sketch_req.specs.Sketch.{Req, IsSound, IsUpdated, sketch_of, Ties, coins_of_update, least_with, greatest_with}
 use Rattle.sketch_req.proofs.UpdatedLevels.{not-full, updated_sketch}
 use Rattle.sketch_req.proofs.sketch.ReqSketch.update_slowly.Given.{Over}
@@ -33,8 +32,7 @@ module _ (g : Over) (c : After-set_if_some-2 g) where
 pub take_last-requires : goal.take_last-requires
 take_last-requires g c =
     let known = not-full _ _ _ c.self.view_is c.self.invariant c.is_full.ensures (not-true _ (c.in_ok-unless.ensures.ok.0 refl)) in
-    let full = subst (λ (u : Req g.row.T.Denot). u.n < 2 ^ 64 - 1 → nominal_sum u.k (layouts_of u.levels) ≤ retained_of (layouts_of u.levels) + 1) (sym c.self.view_is) c.requires.full in
-    record { fits = omega (arith, known.0, c.self.invariant.weighs_n); few = known.1; full = full known.0 }
+    record { fits = omega (arith, known.0, c.self.invariant.weighs_n); few = known.1 }
 
 pub invariant_of-self-2 : goal.invariant_of-self-2
 invariant_of-self-2 g c = (updated g (goal.at.invariant_of-self-2 g c).After-set_if_some-2).0

@@ -1,9 +1,10 @@
-use Rattle.std.proofs.Common.{◌≡◌, true, ap, arith, le-leb}
+use Rattle.std.proofs.Common.{◌≡◌, ◌<◌, true, false, ap, arith, le-leb}
+use Rattle.std.proofs.lemmas.Bool.{lt-leb}
 use Rattle.sketch_req.specs.Held.{Held}
-use Rattle.sketch_req.specs.Schedule.{layouts_of, are_full, nominal_sum, retained_of}
+use Rattle.sketch_req.specs.Schedule.{layouts_of, are_full, retained_of}
 use Rattle.sketch_req.specs.Walk.{AreWalkedOver, appended_first}
 use Rattle.sketch_req.proofs.Held.{few-levels, own-levels}
-use Rattle.sketch_req.proofs.UpdatedLevels.{acted-walk, nominal-appended, retained-appended}
+use Rattle.sketch_req.proofs.UpdatedLevels.{acted-spare, acted-walk, nominal-appended, placed-appended, retained-appended}
 use Rattle.sketch_req.proofs.sketch.levels.Levels.take_last.Given.{Over}
 use Rattle.sketch_req.proofs.sketch.levels.Levels.take_last.Goals.{In_ok-append_and_walk}
 use Rattle.sketch_req.proofs.sketch.levels.Levels.take_last.Goals as goal
@@ -28,5 +29,17 @@ returns-clause-acted g c =
     let more = retained-appended s.compactors.items c.args.item c.self.invariant.some in
     let same = nominal-appended s.k s.compactors.items c.args.item in
     let full : are_full s.k (layouts_of (appended_first s.compactors.items c.args.item)) ≡ true =
-    le-leb _ _ (omega (arith, more, same, c.self.invariant.retained_is, c.self.invariant.capacity_is, ap (λ (h : Held g.row.T.Denot). retained_of (layouts_of h.levels)) c.self.view_is, ap (λ (h : Held g.row.T.Denot). nominal_sum h.k (layouts_of h.levels)) c.self.view_is, c.requires.full)) in
+    le-leb _ _ (omega (arith, more, same, c.self.invariant.retained_is, c.self.invariant.capacity_is, c.if-self.false)) in
     rw (← c.self.view_is) (acted-walk _ _ _ _ _ _ _ _ full (walked g (goal.at.returns-clause-acted g c).In_ok-append_and_walk))
+
+pub returns-then-self-clause-acted : goal.returns-then-self-clause-acted
+returns-then-self-clause-acted g c =
+    let s = c.self.inside in
+    let more = retained-appended s.compactors.items c.args.item c.self.invariant.some in
+    let same = nominal-appended s.k s.compactors.items c.args.item in
+    let spare : are_full s.k (layouts_of (appended_first s.compactors.items c.args.item)) ≡ false =
+    lt-leb _ _ (omega (arith, more, same, c.self.invariant.retained_is, c.self.invariant.capacity_is, c.if-self.true)) in
+    let few : retained_of (layouts_of s.compactors.items) < 4294967295 = rw (← c.self.view_is) at (c.requires.few) in
+    let acted = acted-spare g.met.T.Ord.total g.B.RandomBits.bit g.B.RandomBits.next c.args.coins.now s.k s.rank_accuracy (appended_first s.compactors.items c.args.item)
+    (placed-appended g.T.Ord.cmp s.k s.rank_accuracy s.compactors.items c.args.item c.self.invariant.placed few) spare in
+    rw (ap (λ (h : Held g.row.T.Denot). h.levels) c.in_ok-put.ensures.ok, ← c.self.view_is) acted

@@ -1,7 +1,6 @@
 -- A part of the items, or one of them with its walk.
-use Rattle.std.proofs.Common.{◌≡◌, ◌+◌, ◌≤◌, Equal, arith, take}
+use Rattle.std.proofs.Common.{◌≡◌, Equal, arith, take}
 use Rattle.std.proofs.lemmas.List.{length-take}
-use Rattle.sketch_req.specs.Schedule.{layouts_of, nominal_sum, retained_of}
 use Rattle.sketch_req.specs.Updates.{AreTakenInTurn}
 use Rattle.sketch_req.proofs.TakenInTurn.{are-kept, first-item, taken-filled, taken-one}
 use Rattle.sketch_req.proofs.sketch.levels.Levels.take_some.Goals.{In_ok-fill, In_ok-take_last}
@@ -30,12 +29,6 @@ returns-clause-left g c =
     let few = c.requires.few in
     rw (← c.self.view_is) ((are-kept g.met.T.Ord.total g.B.RandomBits.bit g.B.RandomBits.next _ _ _ _ _ _ _ c.self.invariant.some c.self.invariant.placed (rw (← c.self.view_is) at few)
     (part g (goal.at.returns-clause-left g c).In_ok-fill)).left)
-
-pub take_last-requires-clause-full : goal.take_last-requires-clause-full
-take_last-requires-clause-full g c =
-    let full : nominal_sum c.self.inside.k (layouts_of c.self.inside.compactors.items) ≤ retained_of (layouts_of c.self.inside.compactors.items) + 1 =
-    omega (arith, c.saturating_sub-room.ensures, c.if-room-eq0.true, c.self.invariant.retained_is, c.self.invariant.capacity_is) in
-    rw (← c.self.view_is) full
 
 -- one of them
 one : (g : Over) (c : In_ok-take_last g) → let s = c.self.inside in
