@@ -1,6 +1,6 @@
 //! The walk over levels: each level that is full is compacted into the one above. What can fail
 //! comes first, in `reserve_next`.
-ghost use Rattle.std.specs.Prelude.{◌≡◌, ◌+◌, ◌-◌, ◌^◌, ◌<◌, ◌≤◌, [], ◌∷◌, ◌++◌, length, vec_len, vec_capacity, IfOk, IfErr, OnOk, OnErr, true, if◌then◌else◌, ◌==◌};
+ghost use Rattle.std.specs.Prelude.{◌≡◌, ◌+◌, ◌*◌, ◌-◌, ◌^◌, ◌<◌, ◌≤◌, [], ◌∷◌, ◌++◌, length, vec_len, vec_capacity, IfOk, IfErr, OnOk, OnErr, true, if◌then◌else◌, ◌==◌};
 ghost use Rattle.sketch_base.specs.declared.error.ErrorKind.TheVariants.{OutOfMemory};
 ghost use Rattle.sketch_req.specs.Level.{fresh};
 ghost use Rattle.sketch_req.specs.Schedule.{layouts_of, layout_at, retained_of, weight_of};
@@ -23,17 +23,16 @@ pub(super) fn count_at<T: Clone + Ord>(levels: &[Compactor<T>], level: usize) ->
     found.map_or(0, |level| level.num_items() as usize)
 }
 
-/// Room to sort level 0 with an item more, and for all that a walk then moves: an empty vector for
-/// what a level gives up at its turn, and the buffers of each level.
+/// Room to sort level 0 with an item more, and for all that a walk then moves: the buffers of each
+/// level, and how many items at most a level gives up at its turn, or are to be sorted.
 fn reserve_next<T: Clone + Ord>(
     alloc: Global,
     levels: &[Compactor<T>],
-) -> Result<(Vec<T>, Vec<Buffers<T>>), AllocError>
+) -> Result<(usize, Vec<Buffers<T>>), AllocError>
     requires levels { AreHeld T.cmp levels.now }
     requires few { retained_of (with_more 1 (layouts_of levels.now)) < 2 ^ 32 }
-    ensures empty { IfOk result (λ room. room.0.items ≡ []) }
-    ensures fit { IfOk result (λ room. HaveSpace (k_of levels.now)
-        (with_more 1 (layouts_of levels.now)) room.1.items (vec_capacity room.0)) }
+    ensures { IfOk result (λ room. HaveSpace (k_of levels.now)
+        (with_more 1 (layouts_of levels.now)) room.1.items room.0) }
 {
     let mut buffers = Buffers::for_levels(alloc, levels.len())?;
     let mut most = levels[0].reserve_to_sort(&mut buffers[0])?;
@@ -45,7 +44,7 @@ fn reserve_next<T: Clone + Ord>(
         most = most.max(count);
         carried = count / 2;
     }
-    Ok((Vec::with_capacity(alloc, most)?, buffers))
+    Ok((most, buffers))
 }
 
 /// Adds a level at a place where there is none; the place is at most the next one.
@@ -86,7 +85,7 @@ pub(super) fn walk<T: Clone + Ord, B: RandomBits>(
     requires empty { coming.old.items ≡ [] }
     requires nothing { up.old.items ≡ [] }
     requires fit { HaveSpace (k_of levels.old.items) (layouts_of levels.old.items)
-        buffers.old.items (vec_capacity coming.old) }
+        buffers.old.items (2 * vec_capacity coming.old) }
     requires above { vec_capacity coming.old ≤ vec_capacity up.old }
     ensures acted { AreWalkedOver T.cmp B.bit B.next coins.old coins.new (k_of levels.old.items)
         (accuracy_of levels.old.items) levels.old.items levels.new.items }
@@ -131,8 +130,10 @@ pub(super) fn append_and_walk<T: Clone + Ord, B: RandomBits>(
 {
     levels.reserve_exact(1)?;
     let alloc = *levels.allocator();
-    let (mut coming, mut buffers) = reserve_next(alloc, levels.as_slice())?;
-    let mut up = Vec::with_capacity(alloc, coming.capacity())?;
+    let (most, mut buffers) = reserve_next(alloc, levels.as_slice())?;
+    // Half of what a level gives up goes up; level 0 is sorted by way of `up`.
+    let mut coming = Vec::with_capacity(alloc, most.div_ceil(2))?;
+    let mut up = Vec::with_capacity(alloc, most)?;
     levels[0].append(item)?;
     walk(levels, &mut coming, &mut up, &mut buffers, coins);
     give_back(levels);

@@ -1,10 +1,11 @@
 -- The levels before the walk have the layouts of the joined ones.
-use Rattle.std.proofs.Common.{◌≡◌, false, true, List, length, vec_capacity, sym, ap, ◌∙◌, subst, arith, le-leb}
+use Rattle.std.proofs.Common.{◌≡◌, ◌*◌, false, true, List, length, vec_capacity, refl, sym, ap, ◌∙◌, subst, arith, le-leb}
 use Rattle.std.proofs.lemmas.Bool.{lt-leb}
 use Rattle.sketch_req.specs.Held.{IsHeld, held_of}
 use Rattle.sketch_req.specs.Level.{Level}
 use Rattle.sketch_req.specs.Schedule.{Layout, are_full, layouts_of, joined_layouts, retained_of, weight_of}
 use Rattle.sketch_req.specs.Walk.{AreHeld, AreLevels, AreWalkedIfFull, HaveSpace, accuracy_of, k_of}
+use Rattle.sketch_req.proofs.Buffers.{space-kept}
 use Rattle.sketch_req.proofs.Held.{IsOwn, few-levels, held-sums, own-levels}
 use Rattle.sketch_req.proofs.Layouts.{length-layouts}
 use Rattle.sketch_req.proofs.Mergings.{layouts-joined}
@@ -68,7 +69,8 @@ walk-requires g c =
       empty = c.in_ok-coming.ensures.empty;
       nothing = c.in_ok-coming.ensures.nothing;
       above = c.in_ok-coming.ensures.above;
-      fit = rw (own g before).k_is (subst (λ (xs : List Layout). HaveSpace (k_of levels) xs c.in_ok-coming.buffers.items (vec_capacity c.in_ok-coming.coming)) (sym (same g before)) c.in_ok-coming.ensures.fit);
+      fit = space-kept _ _ _ _ (vec_capacity c.in_ok-coming.coming) _ refl (omega arith)
+          (rw (own g before).k_is (subst (λ (xs : List Layout). HaveSpace (k_of levels) xs c.in_ok-coming.buffers.items (vec_capacity c.in_ok-coming.coming)) (sym (same g before)) c.in_ok-coming.ensures.fit));
     }
 
 pub returns-clause-taken_in : goal.returns-clause-taken_in

@@ -45,9 +45,6 @@ returns g c =
     let n = length-layouts c.args.levels.now in
     let m = length-more 1 (layouts_of c.args.levels.now) (omega (arith, n, c.requires.levels.some)) in
     record {
-      empty = c.in_ok-with_capacity.ensures.items;
-      fit = record {
-        enough = omega (arith, n, m, c.loop-level.invariant.enough);
-        fits = λ h l. space-grown _ h _ c.loop-level.buffers.items _ _ c.in_ok-with_capacity.ensures.capacity (c.loop-level.invariant.fits h (omega (arith, l, n, m)));
-      };
+      enough = omega (arith, n, m, c.loop-level.invariant.enough);
+      fits = λ h l. c.loop-level.invariant.fits h (omega (arith, l, n, m));
     }

@@ -1,5 +1,5 @@
 -- The loop keeps what is pending after the turns so far.
-use Rattle.std.proofs.Common.{◌≡◌, ℕ, ◌+◌, ◌-◌, ◌<◌, ◌==◌, Bool, true, if◌then◌else◌, eq-eqb, length-append, List, [], ◌∷◌, ◌++◌, get_or, length, length-set, set, refl, sym, ap, ap₂, ◌∙◌, subst, arith, inl, inr, vec_capacity, IsSorted}
+use Rattle.std.proofs.Common.{◌≡◌, ℕ, ◌+◌, ◌-◌, ◌*◌, ◌<◌, ◌==◌, Bool, true, if◌then◌else◌, eq-eqb, length-append, List, [], ◌∷◌, ◌++◌, get_or, length, length-set, set, refl, sym, ap, ap₂, ◌∙◌, subst, arith, inl, inr, vec_capacity, IsSorted}
 use Rattle.std.proofs.lemmas.Bool.{cases_lt}
 use Rattle.std.proofs.lemmas.List.{nil_from_length}
 use Rattle.std.proofs.Math.Seq.{map-set_same}
@@ -62,7 +62,7 @@ module _ (g : _) (c : After-index_mut g) where
   ready = is-ready g.met.T.Ord.total _ _ _ _ _ _ _ _ _ _ _ _ c.requires.few_items c.loop-level.invariant.pending within c.index_mut.ensures.value
 
   fit : HasSpace (k_of c.args.levels.now.items) c.loop-level.level (steps_layouts (k_of c.args.levels.now.items) c.loop-level.level 0 (layouts_of c.args.levels.now.items))
-      (get_or spaces c.loop-level.level 0) (vec_capacity c.args.coming.now)
+      (get_or spaces c.loop-level.level 0) (2 * vec_capacity c.args.coming.now)
   fit =
       let levels = c.args.levels.now in
       c.requires.fit.fits c.loop-level.level (omega (arith, length-layouts levels.items, c.loop-level-test.true, c.len-count.ensures, levels.ok))
