@@ -30,7 +30,6 @@ use sketch_base::common::random::RandomBits;
 use sketch_base::error::Error;
 use std::alloc::AllocError;
 use std::marker::Model;
-use std::mem;
 use walk::{add_level, append_and_walk};
 
 /// The levels of a sketch, from level 0 up, and the sums over them. A contract sees them as the
@@ -146,7 +145,7 @@ impl<T: Clone + Ord> Levels<T> {
         let copies = copy_levels(&self.compactors)?;
         let mut copy = Levels::new(self.k, self.rank_accuracy, copies);
         copy.take_in_turn(items, coins)?;
-        mem::swap(self, &mut copy);
+        *self = copy;
         Ok(())
     }
 

@@ -1,5 +1,5 @@
 -- The levels before the walk have the layouts of the joined ones.
-use Rattle.std.proofs.Common.{◌≡◌, ◌*◌, false, true, List, length, vec_capacity, refl, sym, ap, ◌∙◌, subst, arith, le-leb}
+use Rattle.std.proofs.Common.{◌≡◌, false, true, List, length, vec_capacity, refl, sym, ap, ◌∙◌, subst, arith, le-leb}
 use Rattle.std.proofs.lemmas.Bool.{lt-leb}
 use Rattle.sketch_req.specs.Held.{IsHeld, held_of}
 use Rattle.sketch_req.specs.Level.{Level}

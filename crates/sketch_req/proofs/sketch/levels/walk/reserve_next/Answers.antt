@@ -3,7 +3,7 @@ use Rattle.std.proofs.Common.{◌+◌, ◌<◌, List, length, length-set, arith}
 use Rattle.sketch_req.specs.Schedule.{Layout, layouts_of, steps_layouts}
 use Rattle.sketch_req.specs.Walk.{k_of, with_more}
 use Rattle.sketch_req.proofs.ReservedWalks.{planned-start, planned-more, planned-few, planned-carried, planned-space, length-more}
-use Rattle.sketch_req.proofs.Buffers.{space-grown, space-more}
+use Rattle.sketch_req.proofs.Buffers.{space-more}
 use Rattle.sketch_req.proofs.Layouts.{length-layouts}
 use Rattle.sketch_req.proofs.WalkSteps.{taken-there}
 use Rattle.sketch_req.proofs.sketch.levels.walk.reserve_next.Goals as goal
