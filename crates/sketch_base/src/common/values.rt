@@ -57,8 +57,7 @@ impl WholeNumber for i32 {
     }
 
     fn read_le(input: &mut SketchSlice<'_>) -> Result<Self, Error> {
-        let value = input.read_i32_le()?;
-        Ok(value)
+        Ok(input.read_i32_le()?)
     }
 }
 
@@ -81,8 +80,7 @@ impl WholeNumber for i64 {
     }
 
     fn read_le(input: &mut SketchSlice<'_>) -> Result<Self, Error> {
-        let value = input.read_i64_le()?;
-        Ok(value)
+        Ok(input.read_i64_le()?)
     }
 }
 
@@ -105,8 +103,7 @@ impl WholeNumber for u32 {
     }
 
     fn read_le(input: &mut SketchSlice<'_>) -> Result<Self, Error> {
-        let value = input.read_u32_le()?;
-        Ok(value)
+        Ok(input.read_u32_le()?)
     }
 }
 
@@ -129,7 +126,6 @@ impl WholeNumber for u64 {
     }
 
     fn read_le(input: &mut SketchSlice<'_>) -> Result<Self, Error> {
-        let value = input.read_u64_le()?;
-        Ok(value)
+        Ok(input.read_u64_le()?)
     }
 }
