@@ -30,7 +30,7 @@ use sketch_base::common::random::RandomBits;
 use sketch_base::error::Error;
 use std::alloc::AllocError;
 use std::marker::Model;
-use walk::{add_level, append_and_walk};
+use walk::{add_level, append_and_walk, give_back};
 
 /// The levels of a sketch, from level 0 up, and the sums over them. A contract sees them as the
 /// record `Held` of specs/Held.
@@ -114,6 +114,7 @@ impl<T: Clone + Ord> Levels<T> {
             return Ok(self.put(item)?);
         }
         append_and_walk(&mut self.compactors, item, coins)?;
+        give_back(&mut self.compactors, self.num_retained / 8);
         (self.num_retained, self.capacity) = sums(self.compactors.as_slice());
         Ok(())
     }

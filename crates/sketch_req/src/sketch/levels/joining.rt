@@ -141,6 +141,6 @@ pub(super) fn join_and_walk<T: Clone + Ord, B: RandomBits>(
     if num_retained >= capacity {
         walk(levels, &mut coming, &mut up, &mut buffers, coins);
     }
-    give_back(levels);
+    give_back(levels, 0);
     Ok(())
 }

@@ -103,12 +103,13 @@ pub(super) fn walk<T: Clone + Ord, B: RandomBits>(
     }
 }
 
-/// Gives back what levels have too much room.
-pub(super) fn give_back<T: Clone + Ord>(levels: &mut Vec<Compactor<T>>)
+/// Gives back what levels have too much room. Level 0, which soon grows again, keeps room for `spare`
+/// items.
+pub(super) fn give_back<T: Clone + Ord>(levels: &mut Vec<Compactor<T>>, spare: usize)
     ensures { levels.new.items ≡ levels.old.items }
 {
     for level in 0..levels.len() {
-        levels[level].give_back();
+        levels[level].give_back(if level == 0 { spare } else { 0 });
     }
 }
 
@@ -136,6 +137,5 @@ pub(super) fn append_and_walk<T: Clone + Ord, B: RandomBits>(
     let mut up = Vec::with_capacity(alloc, most)?;
     levels[0].append(item)?;
     walk(levels, &mut coming, &mut up, &mut buffers, coins);
-    give_back(levels);
     Ok(())
 }

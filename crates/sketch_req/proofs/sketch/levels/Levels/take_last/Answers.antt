@@ -1,4 +1,4 @@
-use Rattle.std.proofs.Common.{◌≡◌, ◌<◌, true, false, ap, arith, le-leb}
+use Rattle.std.proofs.Common.{◌≡◌, ◌∙◌, ◌<◌, true, false, ap, arith, le-leb}
 use Rattle.std.proofs.lemmas.Bool.{lt-leb}
 use Rattle.sketch_req.specs.Held.{Held}
 use Rattle.sketch_req.specs.Schedule.{layouts_of, are_full, retained_of}
@@ -21,7 +21,7 @@ walked g c =
 pub sums-requires : goal.sums-requires
 sums-requires g c =
     let walked = walked g (goal.at.sums-requires g c).In_ok-append_and_walk in
-    record { few = few-levels g.T.Ord.cmp _ _ _ _ walked.acted.placed c.as_slice.ensures.value }
+    record { few = few-levels g.T.Ord.cmp _ _ _ _ walked.acted.placed (c.as_slice.ensures.value ∙ c.give_back.ensures) }
 
 pub returns-clause-acted : goal.returns-clause-acted
 returns-clause-acted g c =
@@ -30,7 +30,7 @@ returns-clause-acted g c =
     let same = nominal-appended s.k s.compactors.items c.args.item in
     let full : are_full s.k (layouts_of (appended_first s.compactors.items c.args.item)) ≡ true =
     le-leb _ _ (omega (arith, more, same, c.self.invariant.retained_is, c.self.invariant.capacity_is, c.if-self.false)) in
-    rw (← c.self.view_is) (acted-walk _ _ _ _ _ _ _ _ full (walked g (goal.at.returns-clause-acted g c).In_ok-append_and_walk))
+    rw (c.give_back.ensures, ← c.self.view_is) (acted-walk _ _ _ _ _ _ _ _ full (walked g (goal.at.returns-clause-acted g c).In_ok-append_and_walk))
 
 pub returns-then-self-clause-acted : goal.returns-then-self-clause-acted
 returns-then-self-clause-acted g c =

@@ -8,4 +8,4 @@ returns-clause-acted g c =
     let put : slice_set c.reserve_exact.new.self.items 0 c.append.new.self ≡ appended_first c.args.levels.now.items c.args.item = search rules in
     let own = own-appended c.args.levels.now.items c.args.item in
     let acted = c.walk.ensures.acted in
-    rw c.give_back.ensures (rw (put, own.0, own.1) at acted)
+    rw (put, own.0, own.1) at acted
