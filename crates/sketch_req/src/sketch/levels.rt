@@ -143,8 +143,7 @@ impl<T: Clone + Ord> Levels<T> {
             self.fill(items)?;
             return Ok(());
         }
-        let copies = copy_levels(&self.compactors)?;
-        let mut copy = Levels::new(self.k, self.rank_accuracy, copies);
+        let mut copy = Levels::new(self.k, self.rank_accuracy, copy_levels(&self.compactors)?);
         copy.take_in_turn(items, coins)?;
         *self = copy;
         Ok(())
@@ -190,8 +189,7 @@ impl<T: Clone + Ord> Levels<T> {
     {
         let room = self.capacity.saturating_sub(self.num_retained + 1);
         if room == 0 {
-            let item = items[0].clone()?;
-            self.take_last(item, coins)?;
+            self.take_last(items[0].clone()?, coins)?;
             return Ok(1);
         }
         let count = room.min(items.len());
@@ -302,8 +300,7 @@ pub(crate) fn weight_counted<T: Clone + Ord>(
     let mut level = levels.len();
     while level > 0 {
         level -= 1;
-        let counted = levels[level].count(item, criteria);
-        weight = 2 * weight + counted as u64;
+        weight = levels[level].count(item, criteria) as u64 + 2 * weight;
     }
     weight
 }

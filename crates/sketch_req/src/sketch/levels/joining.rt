@@ -22,13 +22,14 @@ fn reserve_joined<T: Clone + Ord>(
     others: &[Compactor<T>],
 ) -> Result<(Vec<T>, Vec<Buffers<T>>), AllocError>
     requires clones { (x y : T) → T.is_clone x y → T.cmp x y ≡ Equal }
+    requires levels { AreHeld T.cmp levels.now }
     requires few { retained_of (layouts_of levels.now) + retained_of (layouts_of others.now)
         < 2 ^ 32 }
     ensures empty { IfOk result (λ room. room.0.items ≡ []) }
     ensures cloned { IfOk result (λ room.
         AreCloned T.cmp levels.now others.now room.1.items (vec_capacity room.0)) }
-    ensures fit { IfOk result (λ room. (k : ℕ) → HaveSpace k
-        (joined_layouts k (layouts_of levels.now) (layouts_of others.now)) room.1.items
+    ensures fit { IfOk result (λ room. HaveSpace (k_of levels.now) (joined_layouts
+        (k_of levels.now) (layouts_of levels.now) (layouts_of others.now)) room.1.items
         (vec_capacity room.0)) }
 {
     let count = levels.len().max(others.len());
@@ -38,12 +39,16 @@ fn reserve_joined<T: Clone + Ord>(
         let here = count_at(levels, level) + count_at(others, level) + carried;
         let above = count_at(levels, level + 1) + count_at(others, level + 1);
         let own = &mut buffers[level];
-        own.reserve(here, above)?;
-        if level < others.len() {
+        // Above the others' levels a walk mostly ends soon: what it takes there is known beforehand.
+        let taken = if level < others.len() {
             own.take_clones(others[level].items_slice(), here)?;
-        }
+            here
+        } else {
+            levels[level].count_to_take_with(carried)
+        };
+        own.reserve(taken, above)?;
         most = most.max(here);
-        carried = here / 2;
+        carried = taken / 2;
     }
     Ok((Vec::with_capacity(alloc, most)?, buffers))
 }

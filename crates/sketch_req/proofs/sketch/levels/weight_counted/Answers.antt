@@ -6,17 +6,17 @@ use Rattle.sketch_req.proofs.sketch.levels.weight_counted.Goals as goal
 pub overflow_mul-weight : goal.overflow_mul-weight
 overflow_mul-weight g c =
     let m = more_weight (counted g.T.Ord.cmp c.args.item.now c.args.criteria) _ _ _ _ _ c.loop-level-test.true c.loop-level.invariant.within
-    c.loop-level.invariant.so_far c.index-levels-level.is c.count-counted.ensures in
+    c.loop-level.invariant.so_far c.index-levels-level.is c.count.ensures in
     omega (arith, m.1, c.requires)
 
 pub overflow_add-weight : goal.overflow_add-weight
 overflow_add-weight g c =
     let m = more_weight (counted g.T.Ord.cmp c.args.item.now c.args.criteria) _ _ _ _ _ c.loop-level-test.true c.loop-level.invariant.within
-    c.loop-level.invariant.so_far c.index-levels-level.is c.count-counted.ensures in
+    c.loop-level.invariant.so_far c.index-levels-level.is c.count.ensures in
     omega (arith, m.1, c.requires)
 
 pub loop-level-preserved : goal.loop-level-preserved
 loop-level-preserved g c =
     let m = more_weight (counted g.T.Ord.cmp c.args.item.now c.args.criteria) _ _ _ _ _ c.loop-level-test.true c.loop-level.invariant.within
-    c.loop-level.invariant.so_far c.index-levels-level.is c.count-counted.ensures in
-    record { within = omega (arith, c.loop-level.invariant.within); so_far = m.0 }
+    c.loop-level.invariant.so_far c.index-levels-level.is c.count.ensures in
+    record { within = omega (arith, c.loop-level.invariant.within); so_far = omega (arith, m.0) }

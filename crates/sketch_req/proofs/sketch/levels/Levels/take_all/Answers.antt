@@ -36,16 +36,16 @@ returns-then-self-items-clause-taken g c =
     })
 
 pub new-copy-requires-clause-some : goal.new-copy-requires-clause-some
-new-copy-requires-clause-some g c = omega (arith, length_all_zip (IsLevelCopy g.T.Ord.cmp) _ _ c.in_ok-copies.ensures, c.self.invariant.some)
+new-copy-requires-clause-some g c = omega (arith, length_all_zip (IsLevelCopy g.T.Ord.cmp) _ _ c.in_ok-copy_levels.ensures, c.self.invariant.some)
 
 pub new-copy-requires-clause-levels : goal.new-copy-requires-clause-levels
-new-copy-requires-clause-levels g c = placed-copied g.met.T.Ord.total _ _ 0 _ _ c.in_ok-copies.ensures c.self.invariant.placed
+new-copy-requires-clause-levels g c = placed-copied g.met.T.Ord.total _ _ 0 _ _ c.in_ok-copy_levels.ensures c.self.invariant.placed
 
 -- the layouts of the copy
 copied : (g : Over) (c : After-new-copy g) → layouts_of c.new-copy.result.levels ≡ layouts_of c.args.self.now.levels
 copied g c =
     let copy = ap (λ (h : Held g.row.T.Denot). layouts_of h.levels) c.new-copy.ensures in
-    let same = layouts-copied g.met.T.Ord.total _ _ c.in_ok-copies.ensures in
+    let same = layouts-copied g.met.T.Ord.total _ _ c.in_ok-copy_levels.ensures in
     copy ∙ (same ∙ ap (λ (h : Held g.row.T.Denot). layouts_of h.levels) c.self.view_is)
 
 pub take_in_turn-requires-clause-fits : goal.take_in_turn-requires-clause-fits

@@ -36,10 +36,10 @@ one : (g : Over) (c : In_ok-take_last g) → let s = c.self.inside in
     c.take_last.new.self.levels
 one g c =
     let s = c.self.inside in
-    let same : g.T.Ord.cmp c.index-items-0.result c.in_ok-item.item ≡ Equal = c.requires.clones _ _ c.in_ok-item.ensures.cases in
+    let same : g.T.Ord.cmp c.index-items-0.result c.in_ok-clone.field-0 ≡ Equal = c.requires.clones _ _ c.in_ok-clone.ensures.cases in
     let acted = c.in_ok-take_last.ensures.acted in
     rw (first-item c.args.items.now c.index-items-0.result c.requires.some c.index-items-0.is)
-    (taken-one g.met.T.Ord.total g.B.RandomBits.bit g.B.RandomBits.next s.k s.rank_accuracy _ _ s.compactors.items _ c.index-items-0.result c.in_ok-item.item same (rw (← c.self.view_is) at acted))
+    (taken-one g.met.T.Ord.total g.B.RandomBits.bit g.B.RandomBits.next s.k s.rank_accuracy _ _ s.compactors.items _ c.index-items-0.result c.in_ok-clone.field-0 same (rw (← c.self.view_is) at acted))
 
 pub returns-then-room-eq0-clause-left : goal.returns-then-room-eq0-clause-left
 returns-then-room-eq0-clause-left g c =
