@@ -39,7 +39,7 @@ fn reserve_joined<T: Clone + Ord>(
         let here = count_at(levels, level) + count_at(others, level) + carried;
         let above = count_at(levels, level + 1) + count_at(others, level + 1);
         let own = &mut buffers[level];
-        // Above the others' levels a walk mostly ends soon: what it takes there is known beforehand.
+        // Above the others' levels the states are known, and so is how much a walk takes at most.
         let taken = if level < others.len() {
             own.take_clones(others[level].items_slice(), here)?;
             here
