@@ -1,6 +1,6 @@
 -- The loop keeps a bound of what comes into the next level, and that there is room for the turns so far.
 use Rattle.std.proofs.lemmas.Grind.{common_steps}
-use Rattle.std.proofs.Common.{◌≡◌, ◌+◌, ◌/◌, ◌<◌, ◌≤◌, ap, nat_cmp, ℕ, List, [], length, length-set, set, refl, sym, ◌∙◌, subst, rules, arith}
+use Rattle.std.proofs.Common.{◌≡◌, ◌+◌, ◌<◌, ◌≤◌, ap, nat_cmp, ℕ, List, [], length, length-set, sym, ◌∙◌, subst, arith}
 use Rattle.std.specs.Ordering.{ord_max}
 use Rattle.sketch_req.specs.Schedule.{Layout, layouts_of, layout_at, joined_layouts, steps_layouts, filled}
 use Rattle.sketch_base.specs.Bag.{SameItems, level_at}
