@@ -1,10 +1,11 @@
 -- The buffers of a walk's turns: what stays of them where those of one turn are set.
-use Rattle.std.proofs.Common.{◌≢◌, ◌≡◌, ℕ, ◌+◌, ◌<◌, ◌≤◌, List, length, map, get_or, set, sym, ap, ◌∙◌, subst, arith, inl, inr}
+use Rattle.std.proofs.Common.{◌≢◌, ◌≡◌, ℕ, suc, ◌+◌, ◌<◌, ◌≤◌, List, length, map, get_or, set, sym, ap, ◌∙◌, subst, arith, inl, inr}
 use Rattle.std.proofs.lemmas.Bool.{cases_lt}
 use Rattle.std.proofs.lemmas.List.{map-set, length-map, get_or-map, get_or-set_other, get_or-set_same}
 use Rattle.sketch_base.specs.Buffers.{Space, merged_spaces}
-use Rattle.sketch_req.specs.Schedule.{Layout, steps_layouts}
-use Rattle.sketch_req.specs.Walk.{HasSpace, HaveSpace}
+use Rattle.sketch_req.specs.Schedule.{Layout}
+use Rattle.sketch_req.specs.Walk.{HaveSpace}
+use Rattle.sketch_req.specs.declared.RankAccuracy.{RankAccuracy}
 
 -- what is read of the buffers of each turn, at one place
 module _ {R B : Type 0} (read : R → B) (d : B) (rooms : List R) (h : ℕ) (room : R) where
@@ -20,41 +21,29 @@ module _ {R B : Type 0} (read : R → B) (d : B) (rooms : List R) (h : ℕ) (roo
   pub read-here : h < length rooms → get_or (map read (set rooms h room)) h d ≡ read room
   read-here inside = ap (λ (xs : List B). get_or xs h d) (map-set read rooms h room) ∙ get_or-set_same (map read rooms) h (read room) d (omega (arith, inside, length-map rooms read))
 
+-- space that as many other buffers have
 module _ {A : Type 0} where
-  -- space for the turn of level h: in the buffers of its place, and in a vector for what it gives up
-  abbrev pub SpaceAt : ℕ → ℕ → List Layout → List (Space A) → ℕ → Type 0
-  SpaceAt k h layouts buffers promoted = HasSpace k h layouts (get_or (merged_spaces buffers) h 0) promoted
-
-  -- a vector of more space serves too
-  pub space-grown : (k h : ℕ) (layouts : List Layout) (buffers : List (Space A)) (promoted more : ℕ) → promoted ≤ more → SpaceAt k h layouts buffers promoted → SpaceAt k h layouts buffers more
-  space-grown k h layouts buffers promoted more grows has = record { promoted = omega (arith, has.promoted, grows); above = has.above }
-
-  -- buffers with as much space at a place, and a vector with as much or more
-  space-same : (k h : ℕ) (layouts : List Layout) (buffers news : List (Space A)) (promoted more : ℕ) → get_or (merged_spaces news) h 0 ≡ get_or (merged_spaces buffers) h 0 →
-      promoted ≤ more → SpaceAt k h layouts buffers promoted → SpaceAt k h layouts news more
-  space-same k h layouts buffers news promoted more merged grows has =
-      rw merged (space-grown k h layouts buffers promoted more grows has)
-
-  -- there is space for the turns up to one, where the buffers of this one are set
-  pub space-more : (k h : ℕ) (layouts : ℕ → List Layout) (buffers : List (Space A)) (own : Space A) (promoted more : ℕ) → h < length buffers → promoted ≤ more →
-      ((j : ℕ) → j < h → SpaceAt k j (layouts j) buffers promoted) →
-      HasSpace k h (layouts h) own.merged_space more →
-      (j : ℕ) → j < h + 1 → SpaceAt k j (layouts j) (set buffers h own) more
-  space-more k h layouts buffers own promoted more inside grows below here j within =
-      elim (cases_lt j h) [
+  -- there is space of their own for the levels of the turns up to one, where the buffers of this one are set
+  pub own-more : (need : ℕ → ℕ) (buffers : List (Space A)) (own : Space A) (h : ℕ) → h < length buffers →
+      ((j : ℕ) → suc j < h → need j ≤ get_or (merged_spaces buffers) (suc j) 0) → ((j : ℕ) → h ≡ suc j → need j ≤ own.merged_space) →
+      (j : ℕ) → suc j < h + 1 → need j ≤ get_or (merged_spaces (set buffers h own)) (suc j) 0
+  own-more need buffers own h inside below here j within =
+      elim (cases_lt (suc j) h) [
         | inl low ↦
-            let other : j ≢ h = omega (arith, low) in
-            space-same k j (layouts j) buffers (set buffers h own) promoted more (read-other (λ b. b.merged_space) 0 buffers h own j other) grows (below j low)
+            let other : suc j ≢ h = omega (arith, low) in
+            omega (arith, below j low, read-other (λ b. b.merged_space) 0 buffers h own (suc j) other)
         | inr high ↦
-            let place : h ≡ j = omega (arith, within, high) in
-            subst (λ (n : ℕ). SpaceAt k n (layouts n) (set buffers h own) more) place
-            (rw (read-here (λ b. b.merged_space) 0 buffers h own inside) here)
+            let place : h ≡ suc j = omega (arith, within, high) in
+            let set_here : get_or (merged_spaces (set buffers h own)) (suc j) 0 ≡ own.merged_space =
+            ap (λ (n : ℕ). get_or (merged_spaces (set buffers h own)) n 0) (sym place) ∙ read-here (λ b. b.merged_space) 0 buffers h own inside in
+            omega (arith, here j place, set_here)
       ]
 
-  -- the same holds of other buffers that have as much
-  pub space-kept : (k : ℕ) (layouts : List Layout) (buffers news : List (Space A)) (promoted more : ℕ) → merged_spaces news ≡ merged_spaces buffers → promoted ≤ more →
-      HaveSpace k layouts buffers promoted → HaveSpace k layouts news more
-  space-kept k layouts buffers news promoted more merged grows fit = record {
+  -- the same holds of other buffers that have as much, and of more
+  pub space-kept : (k : ℕ) (accuracy : RankAccuracy) (layouts : List Layout) (buffers news : List (Space A)) (most more : ℕ) → merged_spaces news ≡ merged_spaces buffers → most ≤ more →
+      HaveSpace k accuracy layouts buffers most → HaveSpace k accuracy layouts news more
+  space-kept k accuracy layouts buffers news most more merged grows fit = record {
     enough = omega (arith, fit.enough, ap length merged, length-map news (λ (b : Space A). b.merged_space), length-map buffers (λ (b : Space A). b.merged_space));
-    fits = λ h within. space-same k h (steps_layouts k h 0 layouts) buffers news promoted more (ap (λ (spaces : List ℕ). get_or spaces h 0) merged) grows (fit.fits h within);
+    promoted = λ h within. omega (arith, fit.promoted h within, grows);
+    own = λ h within. omega (arith, fit.own h within, ap (λ (spaces : List ℕ). get_or spaces (suc h) 0) merged);
   }

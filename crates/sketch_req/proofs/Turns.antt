@@ -1,17 +1,17 @@
 -- The turns of a walk: what a level gives up is pending until the turn of the level above.
-use Rattle.std.proofs.Common.{◌≡◌, ℕ, zero, suc, ◌+◌, ◌-◌, ◌<◌, ◌≤◌, ◌&&◌, ◌^◌, Bool, true, false, if◌then◌else◌, List, [], ◌∷◌, ◌++◌, length, get_or, set, length-set, refl, sym, ap, ap₂, ◌∙◌, subst, arith, Ordering, le-leb, leb-true, leb-false}
+use Rattle.std.proofs.Common.{◌≡◌, ℕ, zero, suc, ◌+◌, ◌-◌, ◌/◌, ◌<◌, ◌≤◌, ◌&&◌, ◌^◌, Bool, true, false, if◌then◌else◌, List, [], ◌∷◌, ◌++◌, length, get_or, set, length-set, refl, sym, ap, ap₂, ◌∙◌, subst, arith, Ordering, le-leb, leb-true, leb-false}
 use Rattle.std.specs.Cmp.{IsTotalOrder}
 use Rattle.std.proofs.lemmas.Bool.{lt-leb, ne_eqb}
 use Rattle.std.proofs.lemmas.List.{get_or-set_same}
 use Rattle.sketch_req.specs.Level.{Level, IsLevel, IsCompacted, IsTakenIn, IsTurned, coin_of, draws_coin, is_full_with, nominal_of, taken_count, with_coming, fresh}
-use Rattle.sketch_req.specs.Schedule.{Layout, layouts_of, layout_at, is_full, taken, retained_of, steps_actions, steps_layouts, weight_of}
+use Rattle.sketch_req.specs.Schedule.{Layout, layout_of, layouts_of, layout_at, is_full, taken, retained_of, steps_actions, steps_layouts, weight_of}
 use Rattle.sketch_req.specs.Sections.{IsLegalK}
-use Rattle.sketch_req.specs.Walk.{AreLevels, AreWalked, HasSpace, IsPlaced}
+use Rattle.sketch_req.specs.Walk.{AreLevels, AreWalked, IsPlaced, own_space, taken_if_full}
 use Rattle.sketch_req.specs.declared.RankAccuracy.{RankAccuracy}
 use Rattle.sketch_req.proofs.Comings.{coin-coming, coming-sound, coming-taken, length-coming, nominal-coming}
-use Rattle.sketch_req.proofs.ReservedWalks.{count-within}
+use Rattle.sketch_req.proofs.ReservedWalks.{count-within, own-nothing}
 use Rattle.sketch_req.proofs.WalkSteps.{comes-up, coins-there, given-there, gives_up-there, length-taken_in, length-up, opened, placed-new, raised, stepped}
-use Rattle.sketch_req.proofs.Walks.{acted-full, acted-none, acted-start, is-full-there, step-needs, walked-more}
+use Rattle.sketch_req.proofs.Walks.{acted-full, acted-none, acted-start, is-full-there, step-low, walked-more}
 
 -- an item set twice, and one set where it is
 set-twice : {A : Type 0} (xs : List A) (i : ℕ) (x y : A) → set (set xs i x) i y ≡ set xs i y
@@ -36,13 +36,16 @@ module _ {A S : Type 0} {cmp : A → A → Ordering} (order : IsTotalOrder cmp) 
   abbrev pub IsWalked : ℕ → S → List (Level A) → Type 0
   IsWalked n now ls = AreWalked cmp bit next source now k accuracy (steps_actions k accuracy n 0 (layouts_of start)) (steps_layouts k n 0 (layouts_of start)) start ls
 
-  -- items that come up to the next level, if there are any; `spaces` are those of the levels' buffers
-  pub record IsPending (spaces : List ℕ) (n : ℕ) (now : S) (ls : List (Level A)) (coming : List A) : Type 0 where
+  -- items that come up to the next level, if there are any; `spaces` are those of the levels' buffers, and `most` are what a vector has space for
+  pub record IsPending (spaces : List ℕ) (most n : ℕ) (now : S) (ls : List (Level A)) (coming : List A) : Type 0 where
     pub none : coming ≡ [] → IsWalked n now ls
     pub some : 0 < length coming → (h : ℕ) → n ≡ h + 1 → (upper u : Level A) → upper ≡ get_or (raised k accuracy h ls) (h + 1) upper → IsTakenIn cmp upper coming u → IsLevel cmp u →
         IsWalked n now (set (raised k accuracy h ls) (h + 1) u)
     pub few : 0 < length coming → (h : ℕ) → n ≡ h + 1 → (upper : Level A) → upper ≡ get_or (raised k accuracy h ls) (h + 1) upper →
-        (length upper.items + length coming ≤ retained_of (layouts_of start)) × (length upper.items + length coming ≤ get_or spaces h 0)
+        length upper.items + length coming ≤ retained_of (layouts_of start)
+    pub own : 0 < length coming → (h : ℕ) → n ≡ h + 1 → h + 1 < length (layouts_of start) → (upper : Level A) → upper ≡ get_or (raised k accuracy h ls) (h + 1) upper →
+        own_space k accuracy (length coming) (layout_of upper) ≤ get_or spaces (h + 1) 0
+    pub short : length coming ≤ most
     pub low : 0 < length coming → n ≤ 60
     pub first : n ≡ 0 → coming ≡ []
     pub placed : AreLevels cmp k accuracy 0 ls
@@ -55,14 +58,16 @@ module _ {A S : Type 0} {cmp : A → A → Ordering} (order : IsTotalOrder cmp) 
     pub there : with_coming cmp old coming ≡ get_or all n (with_coming cmp old coming)
     pub after : (new : Level A) → set all n new ≡ set ls n new
     pub few : length old.items + length coming ≤ retained_of (layouts_of start)
-    pub space : 0 < length coming → (h : ℕ) → n ≡ h + 1 → length old.items + length coming ≤ get_or spaces h 0
+    pub own : n < length (layouts_of start) → own_space k accuracy (length coming) (layout_of old) ≤ get_or spaces n 0
 
   -- at the start
-  pub pending-start : (spaces : List ℕ) (coming : List A) → coming ≡ [] → AreLevels cmp k accuracy 0 start → IsPending spaces 0 source start coming
-  pending-start spaces coming none placed = record {
+  pub pending-start : (spaces : List ℕ) (most : ℕ) (coming : List A) → coming ≡ [] → AreLevels cmp k accuracy 0 start → IsPending spaces most 0 source start coming
+  pending-start spaces most coming none placed = record {
     none = λ e. acted-start order bit next source k accuracy start placed;
     some = λ s. absurd (omega (arith, s, ap length none));
     few = λ s. absurd (omega (arith, s, ap length none));
+    own = λ s. absurd (omega (arith, s, ap length none));
+    short = omega (arith, ap length none);
     low = λ s. absurd (omega (arith, s, ap length none));
     first = λ e. none;
     placed = placed;
@@ -71,9 +76,9 @@ module _ {A S : Type 0} {cmp : A → A → Ordering} (order : IsTotalOrder cmp) 
   raised-below : (h : ℕ) (ls : List (Level A)) → h + 1 < length ls → raised k accuracy h ls ≡ ls
   raised-below h ls l = ap (λ (b : Bool). if b then ls ++ fresh [] true (h + 1) k accuracy ∷ [] else ls) (ne_eqb (h + 1) (length ls) (λ e. absurd (omega (arith, e, l))))
 
-  pub is-ready : (spaces : List ℕ) (n : ℕ) (now : S) (ls : List (Level A)) (old : Level A) (coming : List A) → retained_of (layouts_of start) < 2 ^ 32 → IsPending spaces n now ls coming → n < length ls →
+  pub is-ready : (spaces : List ℕ) (most n : ℕ) (now : S) (ls : List (Level A)) (old : Level A) (coming : List A) → retained_of (layouts_of start) < 2 ^ 32 → IsPending spaces most n now ls coming → n < length ls →
       old ≡ get_or ls n old → IsReady spaces n now ls old coming
-  is-ready spaces n now ls old [] small p within e =
+  is-ready spaces most n now ls old [] small p within e =
       let w = p.none refl in
       let o = opened k accuracy n ls old p.placed within e in
       record {
@@ -83,10 +88,10 @@ module _ {A S : Type 0} {cmp : A → A → Ordering} (order : IsTotalOrder cmp) 
         there = e;
         after = λ new. refl;
         few = omega (arith, w.acted.fewer, count-within n (layouts_of ls), ap (λ (l : Layout). l.count) o.layout);
-        space = λ s. absurd (omega (arith, s));
+        own = λ s. omega (arith, own-nothing k accuracy (layout_of old));
       }
-  is-ready spaces zero now ls old (x ∷ more) small p within e = absurd (omega (arith, ap length (p.first refl)))
-  is-ready spaces (suc h) now ls old (x ∷ more) small p within e =
+  is-ready spaces most zero now ls old (x ∷ more) small p within e = absurd (omega (arith, ap length (p.first refl)))
+  is-ready spaces most (suc h) now ls old (x ∷ more) small p within e =
       let coming : List A = x ∷ more in
       let some : 0 < length coming = omega arith in
       let one : suc h ≡ h + 1 = omega arith in
@@ -95,7 +100,7 @@ module _ {A S : Type 0} {cmp : A → A → Ordering} (order : IsTotalOrder cmp) 
       let few = p.few some h one old upper in
       let o = opened k accuracy (suc h) ls old p.placed within e in
       let mid : Level A = with_coming cmp old coming in
-      let sound = coming-sound order old coming (omega (arith, few.0, small)) o.placed.sound in
+      let sound = coming-sound order old coming (omega (arith, few, small)) o.placed.sound in
       let w = p.some some h one old mid upper (coming-taken order old coming some) sound in
       let place : set (raised k accuracy h ls) (h + 1) mid ≡ set ls (suc h) mid = ap₂ (λ (l : List (Level A)) (i : ℕ). set l i mid) same (sym one) in
       record {
@@ -104,14 +109,14 @@ module _ {A S : Type 0} {cmp : A → A → Ordering} (order : IsTotalOrder cmp) 
         within = rw (length-set ls (suc h) mid) within;
         there = sym (get_or-set_same ls (suc h) mid mid within);
         after = λ new. set-twice ls (suc h) mid new;
-        few = few.0;
-        space = λ s i q. let j : h ≡ i = omega (arith, q) in subst (λ (m : ℕ). length old.items + length coming ≤ get_or spaces m 0) j few.1;
+        few = few;
+        own = λ low. rw one (p.own some h one (omega (arith, low)) old upper);
       }
 
   -- only above level 0 something comes up
-  pub pending-above : (spaces : List ℕ) (n : ℕ) (now : S) (ls : List (Level A)) (coming : List A) → IsPending spaces n now ls coming → 0 < length coming → n ≡ (n - 1) + 1
-  pending-above spaces zero now ls coming p some = absurd (omega (arith, some, ap length (p.first refl)))
-  pending-above spaces (suc n) now ls coming p some = omega arith
+  pub pending-above : (spaces : List ℕ) (most n : ℕ) (now : S) (ls : List (Level A)) (coming : List A) → IsPending spaces most n now ls coming → 0 < length coming → n ≡ (n - 1) + 1
+  pending-above spaces most zero now ls coming p some = absurd (omega (arith, some, ap length (p.first refl)))
+  pending-above spaces most (suc n) now ls coming p some = omega arith
 
   -- a full level is so among the others
   ready-full : (spaces : List ℕ) (n : ℕ) (now : S) (ls : List (Level A)) (old : Level A) (coming : List A) (r : IsReady spaces n now ls old coming) → nominal_of old ≤ length old.items + length coming →
@@ -121,19 +126,24 @@ module _ {A S : Type 0} {cmp : A → A → Ordering} (order : IsTotalOrder cmp) 
       is-full-there cmp k accuracy n r.all mid (length mid.items) (nominal_of mid) r.walked.acted.placed r.within r.there refl refl
       ∙ le-leb (nominal_of mid) (length mid.items) (omega (arith, full, length-coming order old coming, nominal-coming order old coming))
 
-  -- there is room for what it gives up
-  pub ready-taken : (spaces : List ℕ) (n room promoted : ℕ) (now : S) (ls : List (Level A)) (old : Level A) (coming : List A) → IsReady spaces n now ls old coming →
-      HasSpace k n (steps_layouts k n 0 (layouts_of start)) room promoted → is_full_with old coming ≡ true → taken_count (with_coming cmp old coming) ≤ promoted
-  ready-taken spaces n room promoted now ls old coming r fit full =
-      let is = ready-full spaces n now ls old coming r (leb-true _ _ full) in
-      let given = given-there order k accuracy n r.all (with_coming cmp old coming) r.walked.acted.placed r.within is r.there in
-      let has = subst (λ (l : List Layout). HasSpace k n l room promoted) (sym r.walked.acted.layouts_are) fit in
-      omega (arith, given, has.promoted, ap (λ (b : Bool). if b then taken k (layout_at (layouts_of r.all) n) else 0) is)
+  -- there is room for all that it then holds
+  pub ready-held : (spaces : List ℕ) (n most : ℕ) (now : S) (ls : List (Level A)) (old : Level A) (coming : List A) → IsReady spaces n now ls old coming →
+      (layout_at (steps_layouts k n 0 (layouts_of start)) n).count ≤ most → length old.items + length coming ≤ most
+  ready-held spaces n most now ls old coming r fit =
+      let mid : Level A = with_coming cmp old coming in
+      let o = opened k accuracy n r.all mid r.walked.acted.placed r.within r.there in
+      omega (
+        arith,
+        fit,
+        length-coming order old coming,
+        ap (λ (l : Layout). l.count) o.layout,
+        ap (λ (ls : List Layout). (layout_at ls n).count) r.walked.acted.layouts_are,
+      )
 
   -- a level that isn't full at its turn
-  settled : (spaces : List ℕ) (n : ℕ) (now : S) (ls : List (Level A)) (new : Level A) → IsWalked n now (set ls n new) → n < length ls → length new.items < nominal_of new →
-      IsPending spaces (n + 1) now (set ls n new) []
-  settled spaces n now ls new w l less =
+  settled : (spaces : List ℕ) (most n : ℕ) (now : S) (ls : List (Level A)) (new : Level A) → IsWalked n now (set ls n new) → n < length ls → length new.items < nominal_of new →
+      IsPending spaces most (n + 1) now (set ls n new) []
+  settled spaces most n now ls new w l less =
       let within : n < length (set ls n new) = rw (length-set ls n new) l in
       let there : new ≡ get_or (set ls n new) n new = sym (get_or-set_same ls n new new l) in
       let full = is-full-there cmp k accuracy n (set ls n new) new (length new.items) (nominal_of new) w.acted.placed within there refl refl ∙ lt-leb (nominal_of new) (length new.items) less in
@@ -141,44 +151,46 @@ module _ {A S : Type 0} {cmp : A → A → Ordering} (order : IsTotalOrder cmp) 
         none = λ _. walked-more order bit next source now now k accuracy n start (set ls n new) (set ls n new) w (acted-none order bit next now k accuracy n (set ls n new) w.acted.placed full);
         some = λ s. absurd (omega (arith, s));
         few = λ s. absurd (omega (arith, s));
+        own = λ s. absurd (omega (arith, s));
+        short = omega arith;
         low = λ s. absurd (omega (arith, s));
         first = λ e. refl;
         placed = w.acted.placed;
       }
 
-  settled-turn : (spaces : List ℕ) (n : ℕ) (now : S) (ls : List (Level A)) (old new : Level A) (coming : List A) → IsPending spaces n now ls coming → n < length ls → old ≡ get_or ls n old →
-      length old.items + length coming < nominal_of old → (coming ≡ [] → new ≡ old) → (0 < length coming → IsTakenIn cmp old coming new) → IsLevel cmp new → IsPending spaces (n + 1) now (set ls n new) []
-  settled-turn spaces n now ls old new [] p within there less kept taken sound =
+  settled-turn : (spaces : List ℕ) (most n : ℕ) (now : S) (ls : List (Level A)) (old new : Level A) (coming : List A) → IsPending spaces most n now ls coming → n < length ls → old ≡ get_or ls n old →
+      length old.items + length coming < nominal_of old → (coming ≡ [] → new ≡ old) → (0 < length coming → IsTakenIn cmp old coming new) → IsLevel cmp new → IsPending spaces most (n + 1) now (set ls n new) []
+  settled-turn spaces most n now ls old new [] p within there less kept taken sound =
       let same : new ≡ old = kept refl in
       let all : ls ≡ set ls n new = sym (ap (set ls n) same ∙ set-there ls n old within there) in
-      settled spaces n now ls new (subst (λ (l : List (Level A)). IsWalked n now l) all (p.none refl)) within (rw same (omega (arith, less)))
-  settled-turn spaces zero now ls old new (x ∷ more) p within there less kept taken sound = absurd (omega (arith, ap length (p.first refl)))
-  settled-turn spaces (suc h) now ls old new (x ∷ more) p within there less kept taken sound =
+      settled spaces most n now ls new (subst (λ (l : List (Level A)). IsWalked n now l) all (p.none refl)) within (rw same (omega (arith, less)))
+  settled-turn spaces most zero now ls old new (x ∷ more) p within there less kept taken sound = absurd (omega (arith, ap length (p.first refl)))
+  settled-turn spaces most (suc h) now ls old new (x ∷ more) p within there less kept taken sound =
       let some : 0 < length (x ∷ more) = omega arith in
       let one : suc h ≡ h + 1 = omega arith in
       let same : raised k accuracy h ls ≡ ls = raised-below h ls (omega (arith, within)) in
       let upper : old ≡ get_or (raised k accuracy h ls) (h + 1) old = there ∙ ap₂ (λ (l : List (Level A)) (i : ℕ). get_or l i old) (sym same) one in
       let t = taken some in
       let place : set (raised k accuracy h ls) (h + 1) new ≡ set ls (suc h) new = ap₂ (λ (l : List (Level A)) (i : ℕ). set l i new) same (sym one) in
-      settled spaces (suc h) now ls new (subst (λ (l : List (Level A)). IsWalked (suc h) now l) place (p.some some h one old new upper t sound)) within
+      settled spaces most (suc h) now ls new (subst (λ (l : List (Level A)). IsWalked (suc h) now l) place (p.some some h one old new upper t sound)) within
       (omega (arith, less, length-taken_in old new (x ∷ more) t, ap (λ (l : Level A). nominal_of l) t.rest_is))
 
   -- a level that is full at its turn
-  compacted-turn : (spaces : List ℕ) (n promoted : ℕ) (now after : S) (ls : List (Level A)) (old new : Level A) (coming up : List A) → IsReady spaces n now ls old coming → AreLevels cmp k accuracy 0 ls →
-      weight_of (layouts_of start) < 2 ^ 64 → IsLegalK k → HasSpace k n (steps_layouts k n 0 (layouts_of start)) (get_or spaces n 0) promoted →
+  compacted-turn : (spaces : List ℕ) (n most : ℕ) (now after : S) (ls : List (Level A)) (old new : Level A) (coming up : List A) → IsReady spaces n now ls old coming → AreLevels cmp k accuracy 0 ls →
+      weight_of (layouts_of start) < 2 ^ 64 → IsLegalK k → (layout_at (steps_layouts k n 0 (layouts_of start)) n).count ≤ most →
+      (suc n < length (layouts_of start) → let now = steps_layouts k n 0 (layouts_of start) in own_space k accuracy (taken_if_full k (layout_at now n) / 2) (layout_at now (suc n)) ≤ get_or spaces (suc n) 0) →
       nominal_of old ≤ length old.items + length coming → IsCompacted cmp (with_coming cmp old coming) (coin_of old (bit now)) up new → IsLevel cmp new →
-      after ≡ (if draws_coin (with_coming cmp old coming) then next now else now) → IsPending spaces (n + 1) after (set ls n new) up
-  compacted-turn spaces n promoted now after ls old new coming up r placed fits legal fit full c sound coins =
+      after ≡ (if draws_coin (with_coming cmp old coming) then next now else now) → IsPending spaces most (n + 1) after (set ls n new) up
+  compacted-turn spaces n most now after ls old new coming up r placed fits legal held space full c sound coins =
       let mid : Level A = with_coming cmp old coming in
       let levels = r.walked.acted.placed in
       let is = ready-full spaces n now ls old coming r full in
       let o = opened k accuracy n r.all mid levels r.within r.there in
       let g = gives_up-there order k accuracy n r.all mid o is in
       let c' : IsCompacted cmp mid (coin_of mid (bit now)) up new = subst (λ (b : Bool). IsCompacted cmp mid b up new) (sym (coin-coming order old coming (bit now))) c in
-      let has = subst (λ (l : List Layout). HasSpace k n l (get_or spaces n 0) promoted) (sym r.walked.acted.layouts_are) fit in
       let counts = length-up k mid new (coin_of mid (bit now)) up g c' in
       let some : 2 ≤ length up = omega (arith, counts.1, g.some) in
-      let need = step-needs order k accuracy n (get_or spaces n 0) promoted r.all mid legal levels r.within r.there is (omega (arith, r.walked.acted.weigh, fits)) has in
+      let low = step-low order k accuracy n r.all mid legal levels r.within r.there is (omega (arith, r.walked.acted.weigh, fits)) in
       let above : List (Level A) = raised k accuracy n (set ls n new) in
       let is-above : above ≡ raised k accuracy n (set r.all n new) = ap (raised k accuracy n) (sym (r.after new)) in
       let rise : (upper u : Level A) → upper ≡ get_or above (n + 1) upper → IsTakenIn cmp upper up u → IsLevel cmp u → IsWalked (n + 1) after (set above (n + 1) u) = λ upper u e t s.
@@ -186,37 +198,52 @@ module _ {A S : Type 0} {cmp : A → A → Ordering} (order : IsTotalOrder cmp) 
       let drawn = coins-there order k accuracy n r.all mid now (next now) after levels r.within is r.there coins in
       walked-more order bit next source now after k accuracy n start r.all (set above (n + 1) u) r.walked
       (acted-full order bit next now after k accuracy n r.all (set above (n + 1) u) mid levels r.within r.there is step drawn) in
-      let room : (upper : Level A) → upper ≡ get_or above (n + 1) upper → (length upper.items + length up ≤ retained_of (layouts_of start)) × (length upper.items + length up ≤ get_or spaces n 0) = λ upper e.
-      let both = comes-up order k accuracy n r.all above mid new upper (coin_of mid (bit now)) up levels r.within is r.there is-above e c' in
-      (omega (arith, both.1, r.walked.acted.fewer), omega (arith, both.0, need.above)) in
-      let own : 0 + n ≡ n = omega arith in
+      let comes = λ (upper : Level A) (e : upper ≡ get_or above (n + 1) upper). comes-up order k accuracy n r.all above mid new upper (coin_of mid (bit now)) up levels r.within is r.there is-above e c' in
+      let few : (upper : Level A) → upper ≡ get_or above (n + 1) upper → length upper.items + length up ≤ retained_of (layouts_of start) = λ upper e.
+      omega (arith, (comes upper e).2, r.walked.acted.fewer) in
+      let taken_is : length up ≡ taken_if_full k (layout_at (layouts_of r.all) n) / 2 = counts.1
+      ∙ ap (λ (m : ℕ). m / 2) (sym (ap (λ (b : Bool). if b then taken k (layout_at (layouts_of r.all) n) else 0) is ∙ ap (taken k) o.layout)) in
+      let own : suc n < length (layouts_of start) → (upper : Level A) → upper ≡ get_or above (n + 1) upper → own_space k accuracy (length up) (layout_of upper) ≤ get_or spaces (n + 1) 0 = λ more upper e.
+      let one : suc n ≡ n + 1 = omega arith in
+      let same = r.walked.acted.layouts_are in
+      let needs : own_space k accuracy (length up) (layout_of upper)
+      ≡ own_space k accuracy (taken_if_full k (layout_at (steps_layouts k n 0 (layouts_of start)) n) / 2) (layout_at (steps_layouts k n 0 (layouts_of start)) (suc n)) =
+      ap₂ (λ (m : ℕ) (l : Layout). own_space k accuracy m l) (taken_is ∙ ap (λ (ls : List Layout). taken_if_full k (layout_at ls n) / 2) same)
+      ((comes upper e).0 ∙ ap₂ (λ (ls : List Layout) (i : ℕ). layout_at ls i) same (sym one)) in
+      omega (arith, needs, space more, ap (λ (i : ℕ). get_or spaces i 0) one) in
+      let zero_n : 0 + n ≡ n = omega arith in
       record {
         none = λ e. absurd (omega (arith, some, ap length e));
         some = λ s h q. subst (λ (m : ℕ). (upper u : Level A) → upper ≡ get_or (raised k accuracy m (set ls n new)) (m + 1) upper → IsTakenIn cmp upper up u → IsLevel cmp u →
             IsWalked (n + 1) after (set (raised k accuracy m (set ls n new)) (m + 1) u)) (same-place h q) rise;
-        few = λ s h q. subst (λ (m : ℕ). (upper : Level A) → upper ≡ get_or (raised k accuracy m (set ls n new)) (m + 1) upper →
-            (length upper.items + length up ≤ retained_of (layouts_of start)) × (length upper.items + length up ≤ get_or spaces m 0)) (same-place h q) room;
-        low = λ s. omega (arith, need.low);
+        few = λ s h q. subst (λ (m : ℕ). (upper : Level A) → upper ≡ get_or (raised k accuracy m (set ls n new)) (m + 1) upper → length upper.items + length up ≤ retained_of (layouts_of start))
+            (same-place h q) few;
+        own = λ s h q more. subst (λ (m : ℕ). (upper : Level A) → upper ≡ get_or (raised k accuracy m (set ls n new)) (m + 1) upper →
+            own_space k accuracy (length up) (layout_of upper) ≤ get_or spaces (m + 1) 0) (same-place h q) (own (omega (arith, q, more)));
+        short = omega (arith, counts.1, g.within, ready-held spaces n most now ls old coming r held, length-coming order old coming);
+        low = λ s. omega (arith, low);
         first = λ e. absurd (omega (arith, e));
         placed = placed-set cmp k accuracy 0 n ls new placed
-            (subst (λ (i : ℕ). IsPlaced cmp k accuracy i new) (sym own) (placed-new k accuracy n mid new (coin_of mid (bit now)) up o.placed c' sound));
+            (subst (λ (i : ℕ). IsPlaced cmp k accuracy i new) (sym zero_n) (placed-new k accuracy n mid new (coin_of mid (bit now)) up o.placed c' sound));
       }
     where
       same-place : (h : ℕ) → n + 1 ≡ h + 1 → n ≡ h
       same-place h q = omega (arith, q)
 
   -- the next turn
-  pub next-pending : (spaces : List ℕ) (n promoted : ℕ) (now after : S) (ls : List (Level A)) (old new : Level A) (coming up : List A) → retained_of (layouts_of start) < 2 ^ 32 →
-      IsPending spaces n now ls coming → n < length ls → old ≡ get_or ls n old → weight_of (layouts_of start) < 2 ^ 64 → IsLegalK k →
-      HasSpace k n (steps_layouts k n 0 (layouts_of start)) (get_or spaces n 0) promoted → IsTurned cmp old coming (bit now) up new → IsLevel cmp new →
-      after ≡ (if is_full_with old coming && draws_coin (with_coming cmp old coming) then next now else now) → IsPending spaces (n + 1) after (set ls n new) up
-  next-pending spaces n promoted now after ls old new coming up small p within there fits legal fit t sound coins = go (is_full_with old coming) refl
+  pub next-pending : (spaces : List ℕ) (n most : ℕ) (now after : S) (ls : List (Level A)) (old new : Level A) (coming up : List A) → retained_of (layouts_of start) < 2 ^ 32 →
+      IsPending spaces most n now ls coming → n < length ls → old ≡ get_or ls n old → weight_of (layouts_of start) < 2 ^ 64 → IsLegalK k →
+      (layout_at (steps_layouts k n 0 (layouts_of start)) n).count ≤ most →
+      (suc n < length (layouts_of start) → let now = steps_layouts k n 0 (layouts_of start) in own_space k accuracy (taken_if_full k (layout_at now n) / 2) (layout_at now (suc n)) ≤ get_or spaces (suc n) 0) →
+      IsTurned cmp old coming (bit now) up new → IsLevel cmp new →
+      after ≡ (if is_full_with old coming && draws_coin (with_coming cmp old coming) then next now else now) → IsPending spaces most (n + 1) after (set ls n new) up
+  next-pending spaces n most now after ls old new coming up small p within there fits legal held space t sound coins = go (is_full_with old coming) refl
     where
-      go : (b : Bool) → is_full_with old coming ≡ b → IsPending spaces (n + 1) after (set ls n new) up
+      go : (b : Bool) → is_full_with old coming ≡ b → IsPending spaces most (n + 1) after (set ls n new) up
       go true e =
-          compacted-turn spaces n promoted now after ls old new coming up (is-ready spaces n now ls old coming small p within there) p.placed fits legal fit
+          compacted-turn spaces n most now after ls old new coming up (is-ready spaces most n now ls old coming small p within there) p.placed fits legal held space
           (leb-true _ _ e) (t.full e) sound (rw e at coins)
       go false e =
-          let rest = settled-turn spaces n now ls old new coming p within there (leb-false _ _ e) (t.kept e) (t.taken_in e) sound in
+          let rest = settled-turn spaces most n now ls old new coming p within there (leb-false _ _ e) (t.kept e) (t.taken_in e) sound in
           let still : now ≡ after = sym (rw e at coins) in
-          subst (λ (s : S). IsPending spaces (n + 1) s (set ls n new) up) still (subst (λ (xs : List A). IsPending spaces (n + 1) now (set ls n new) xs) (sym (t.nothing_up e)) rest)
+          subst (λ (s : S). IsPending spaces most (n + 1) s (set ls n new) up) still (subst (λ (xs : List A). IsPending spaces most (n + 1) now (set ls n new) xs) (sym (t.nothing_up e)) rest)

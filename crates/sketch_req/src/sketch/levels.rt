@@ -102,6 +102,7 @@ impl<T: Clone + Ord> Levels<T> {
     #[cold]
     #[inline(never)]
     pub(crate) fn take_last<B: RandomBits>(&mut self, item: T, coins: &mut B) -> Result<(), Error>
+        requires clones { (x y : T) → T.is_clone x y → T.cmp x y ≡ Equal }
         requires fits { weight_of (layouts_of self.old.levels) < 2 ^ 64 - 1 }
         requires few { retained_of (layouts_of self.old.levels) < 4294967295 }
         ensures kept { self.new ≡ record self.old { levels = self.new.levels } }
@@ -140,8 +141,7 @@ impl<T: Clone + Ord> Levels<T> {
         ensures memory { IfErr result (λ e. e ≡ OutOfMemory) }
     {
         if self.num_retained + items.len() < self.capacity {
-            self.fill(items)?;
-            return Ok(());
+            return Ok(self.fill(items)?);
         }
         let mut copy = Levels::new(self.k, self.rank_accuracy, copy_levels(&self.compactors)?);
         copy.take_in_turn(items, coins)?;

@@ -1,4 +1,4 @@
-//! How other levels are joined into a sketch's. What can fail comes first, in `reserve_joined`.
+//! How other levels are joined into a sketch's. What can fail comes first, in `reserve`.
 ghost use Rattle.std.specs.Prelude.{◌≡◌, ℕ, ◌+◌, ◌^◌, ◌<◌, ◌≤◌, [], max, length, vec_len, vec_capacity, IfOk, OnOk, OnErr};
 ghost use Rattle.std.specs.declared.cmp.Ordering.TheVariants.{Equal};
 ghost use Rattle.sketch_base.specs.Bag.{SameItems, level_at};
@@ -7,51 +7,12 @@ ghost use Rattle.sketch_req.specs.Merged.{AreJoined, AreCloned, AreTakenIn, item
 ghost use Rattle.sketch_req.specs.Schedule.{layouts_of, joined_layouts, retained_of, weight_of};
 ghost use Rattle.sketch_req.specs.Walk.{AreHeld, AreLevels, HaveSpace, accuracy_of, k_of};
 
-use super::walk::{add_level, count_at, give_back, walk};
+use super::walk::{add_level, give_back, reserve, walk};
 use super::{redraw_if, sums};
 use crate::compactor::Compactor;
 use sketch_base::common::buffers::Buffers;
 use sketch_base::common::random::RandomBits;
 use std::alloc::{AllocError, Global};
-
-/// Room for all that a walk moves, if other levels are joined into these before: an empty vector for
-/// what a level gives up, and buffers with clones of the others' items.
-fn reserve_joined<T: Clone + Ord>(
-    alloc: Global,
-    levels: &[Compactor<T>],
-    others: &[Compactor<T>],
-) -> Result<(Vec<T>, Vec<Buffers<T>>), AllocError>
-    requires clones { (x y : T) → T.is_clone x y → T.cmp x y ≡ Equal }
-    requires levels { AreHeld T.cmp levels.now }
-    requires few { retained_of (layouts_of levels.now) + retained_of (layouts_of others.now)
-        < 2 ^ 32 }
-    ensures empty { IfOk result (λ room. room.0.items ≡ []) }
-    ensures cloned { IfOk result (λ room.
-        AreCloned T.cmp levels.now others.now room.1.items (vec_capacity room.0)) }
-    ensures fit { IfOk result (λ room. HaveSpace (k_of levels.now) (joined_layouts
-        (k_of levels.now) (layouts_of levels.now) (layouts_of others.now)) room.1.items
-        (vec_capacity room.0)) }
-{
-    let count = levels.len().max(others.len());
-    let mut buffers = Buffers::for_levels(alloc, count)?;
-    let (mut carried, mut most) = (0, 0);
-    for level in 0..count {
-        let here = count_at(levels, level) + count_at(others, level) + carried;
-        let above = count_at(levels, level + 1) + count_at(others, level + 1);
-        let own = &mut buffers[level];
-        // Above the others' levels the states are known, and so is how much a walk takes at most.
-        let taken = if level < others.len() {
-            own.take_clones(others[level].items_slice(), here)?;
-            here
-        } else {
-            levels[level].count_to_take_with(carried)
-        };
-        own.reserve(taken, above)?;
-        most = most.max(here);
-        carried = taken / 2;
-    }
-    Ok((Vec::with_capacity(alloc, most)?, buffers))
-}
 
 /// Joins the others' levels, by clones of their items, into the levels of the same places. Those
 /// that are missing are added.
@@ -59,6 +20,7 @@ fn join_levels<T: Clone + Ord>(
     levels: &mut Vec<Compactor<T>>,
     others: &[Compactor<T>],
     promoted: &mut Vec<T>,
+    spare: &mut Vec<T>,
     buffers: &mut Vec<Buffers<T>>,
 )
     requires levels { AreHeld T.cmp levels.old.items }
@@ -71,6 +33,7 @@ fn join_levels<T: Clone + Ord>(
     requires empty { promoted.old.items ≡ [] }
     requires cloned { AreCloned T.cmp levels.old.items others.now buffers.old.items
         (vec_capacity promoted.old) }
+    requires spare_empty { spare.old.items ≡ [] }
     ensures joined { AreJoined T.cmp (k_of levels.old.items) (accuracy_of levels.old.items)
         levels.old.items others.now levels.new.items }
     ensures count { length levels.new.items ≡ max (length levels.old.items) (length others.now) }
@@ -78,12 +41,13 @@ fn join_levels<T: Clone + Ord>(
     ensures merged_spaces { merged_spaces buffers.new.items ≡ merged_spaces buffers.old.items }
     ensures empty { promoted.new.items ≡ [] }
     ensures promoted { vec_capacity promoted.new ≡ vec_capacity promoted.old }
+    ensures spare_empty { spare.new.items ≡ [] }
+    ensures spare_capacity { vec_capacity spare.new ≡ vec_capacity spare.old }
 {
     let (k, rank_accuracy) = levels[0].parameters();
     for level in 0..others.len() {
         add_level(levels, level, k, rank_accuracy);
-        let own = &mut buffers[level];
-        levels[level].join(&others[level], promoted, own);
+        levels[level].join(&others[level], promoted, spare, &mut buffers[level]);
     }
 }
 
@@ -107,15 +71,15 @@ fn join<T: Clone + Ord>(
     ensures nothing { IfOk result (λ room. room.1.items ≡ []) }
     ensures above { IfOk result (λ room. vec_capacity room.0 ≤ vec_capacity room.1) }
     ensures fit { IfOk result (λ room. HaveSpace (k_of levels.old.items)
-        (layouts_of levels.new.items) room.2.items (vec_capacity room.0)) }
+        (accuracy_of levels.old.items) (layouts_of levels.new.items) room.2.items
+        (vec_capacity room.0)) }
     ensures err { OnErr result (levels.new.items ≡ levels.old.items) }
 {
     let alloc = *levels.allocator();
-    let (mut promoted, mut buffers) = reserve_joined(alloc, levels.as_slice(), others)?;
-    let up = Vec::with_capacity(alloc, promoted.capacity())?;
+    let (mut coming, mut up, mut buffers) = reserve(alloc, levels.as_slice(), others, 0)?;
     levels.reserve_exact(others.len().saturating_sub(levels.len()) + 1)?;
-    join_levels(levels, others, &mut promoted, &mut buffers);
-    Ok((promoted, up, buffers))
+    join_levels(levels, others, &mut coming, &mut up, &mut buffers);
+    Ok((coming, up, buffers))
 }
 
 /// Joins other levels in, draws coins anew or doesn't, and walks where all are then at or over their

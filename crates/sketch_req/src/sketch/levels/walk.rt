@@ -1,11 +1,13 @@
 //! The walk over levels: each level that is full is compacted into the one above. What can fail
-//! comes first, in `reserve_next`.
+//! comes first, in `reserve`.
 ghost use Rattle.std.specs.Prelude.{◌≡◌, ◌+◌, ◌*◌, ◌-◌, ◌^◌, ◌<◌, ◌≤◌, [], ◌∷◌, ◌++◌, length, vec_len, vec_capacity, IfOk, IfErr, OnOk, OnErr, true, if◌then◌else◌, ◌==◌};
+ghost use Rattle.std.specs.declared.cmp.Ordering.TheVariants.{Equal};
 ghost use Rattle.sketch_base.specs.declared.error.ErrorKind.TheVariants.{OutOfMemory};
 ghost use Rattle.sketch_req.specs.Level.{fresh};
-ghost use Rattle.sketch_req.specs.Schedule.{layouts_of, layout_at, retained_of, weight_of};
+ghost use Rattle.sketch_req.specs.Merged.{AreCloned};
+ghost use Rattle.sketch_req.specs.Schedule.{layouts_of, layout_at, filled, joined_layouts, retained_of, weight_of};
 ghost use Rattle.sketch_req.specs.Sections.{IsLegalK};
-ghost use Rattle.sketch_req.specs.Walk.{AreHeld, HasSpace, HaveSpace, AreWalkedOver, accuracy_of, appended_first, k_of, with_more};
+ghost use Rattle.sketch_req.specs.Walk.{AreHeld, HaveSpace, AreWalkedOver, accuracy_of, appended_first, k_of, taken_if_full, with_more};
 
 use crate::RankAccuracy;
 use crate::compactor::Compactor;
@@ -19,32 +21,73 @@ use std::mem;
 pub(super) fn count_at<T: Clone + Ord>(levels: &[Compactor<T>], level: usize) -> usize
     ensures { result ≡ (layout_at (layouts_of levels.now) level).count }
 {
-    let found = levels.get(level);
-    found.map_or(0, |level| level.num_items() as usize)
+    levels.get(level).map_or(0, |it| it.num_items() as usize)
 }
 
-/// Room to sort level 0 with an item more, and for all that a walk then moves: the buffers of each
-/// level, and how many items at most a level gives up at its turn, or are to be sorted.
-fn reserve_next<T: Clone + Ord>(
+/// How many items a walk takes of a level, where another one of the same place is joined in before,
+/// and `coming` items come up.
+fn count_to_take_at<T: Clone + Ord>(
     alloc: Global,
     levels: &[Compactor<T>],
-) -> Result<(usize, Vec<Buffers<T>>), AllocError>
+    others: &[Compactor<T>],
+    level: usize,
+    coming: usize,
+) -> usize
     requires levels { AreHeld T.cmp levels.now }
-    requires few { retained_of (with_more 1 (layouts_of levels.now)) < 2 ^ 32 }
-    ensures { IfOk result (λ room. HaveSpace (k_of levels.now)
-        (with_more 1 (layouts_of levels.now)) room.1.items room.0) }
+    requires few { (layout_at (layouts_of levels.now) level).count
+        + (layout_at (layouts_of others.now) level).count + coming < 2 ^ 32 }
+    ensures { result ≡ taken_if_full (k_of levels.now) (filled coming (layout_at (joined_layouts
+        (k_of levels.now) (layouts_of levels.now) (layouts_of others.now)) level)) }
 {
-    let mut buffers = Buffers::for_levels(alloc, levels.len())?;
-    let mut most = levels[0].reserve_to_sort(&mut buffers[0])?;
-    let mut carried = 1;
-    for level in 0..levels.len() {
-        let above = count_at(levels, level + 1);
-        let count = levels[level].count_to_take_with(carried);
-        buffers[level].reserve(count, above)?;
-        most = most.max(count);
-        carried = count / 2;
+    let (k, rank_accuracy) = levels[0].parameters();
+    let fresh = Compactor::new(alloc, 0, k, rank_accuracy);
+    let own = levels.get(level).unwrap_or(&fresh);
+    match others.get(level) {
+        Some(other) => own.count_to_take_joined(other, coming),
+        None => own.count_to_take_with(coming),
     }
-    Ok((most, buffers))
+}
+
+/// Room for all that a walk moves, if other levels are joined in before, or `more` items come into
+/// level 0: two empty vectors for what a level gives up, each with room for all that it holds, and
+/// buffers with clones of the others' items, and with room where fewer items go than come.
+pub(super) fn reserve<T: Clone + Ord>(
+    alloc: Global,
+    levels: &[Compactor<T>],
+    others: &[Compactor<T>],
+    more: usize,
+) -> Result<(Vec<T>, Vec<T>, Vec<Buffers<T>>), AllocError>
+    requires clones { (x y : T) → T.is_clone x y → T.cmp x y ≡ Equal }
+    requires levels { AreHeld T.cmp levels.now }
+    requires few { retained_of (layouts_of levels.now) + retained_of (layouts_of others.now) + more
+        < 2 ^ 32 }
+    ensures empty { IfOk result (λ room. room.0.items ≡ []) }
+    ensures nothing { IfOk result (λ room. room.1.items ≡ []) }
+    ensures above { IfOk result (λ room. vec_capacity room.0 ≤ vec_capacity room.1) }
+    ensures cloned { IfOk result (λ room.
+        AreCloned T.cmp levels.now others.now room.2.items (vec_capacity room.0)) }
+    ensures fit { IfOk result (λ room. HaveSpace (k_of levels.now) (accuracy_of levels.now)
+        (with_more more (joined_layouts (k_of levels.now) (layouts_of levels.now)
+        (layouts_of others.now))) room.2.items (vec_capacity room.0)) }
+{
+    let is_high = levels[0].parameters().1 == RankAccuracy::HighRank;
+    let count = levels.len().max(others.len());
+    let mut buffers = Buffers::for_levels(alloc, count)?;
+    let (mut coming, mut most) = (more, 0);
+    for level in 0..count {
+        let here = count_at(levels, level) + count_at(others, level) + coming;
+        let taken = count_to_take_at(alloc, levels, others, level, coming);
+        let own = &mut buffers[level];
+        if level < others.len() {
+            own.take_clones(others[level].items_slice(), here)?;
+        }
+        let going = if is_high { taken } else { 0 };
+        own.reserve(here - going, coming, going)?;
+        most = most.max(here);
+        coming = taken / 2;
+    }
+    let coming = Vec::with_capacity(alloc, most)?;
+    Ok((coming, Vec::with_capacity(alloc, most)?, buffers))
 }
 
 /// Adds a level at a place where there is none; the place is at most the next one.
@@ -84,22 +127,21 @@ pub(super) fn walk<T: Clone + Ord, B: RandomBits>(
     requires spare { vec_len levels.old < vec_capacity levels.old }
     requires empty { coming.old.items ≡ [] }
     requires nothing { up.old.items ≡ [] }
-    requires fit { HaveSpace (k_of levels.old.items) (layouts_of levels.old.items)
-        buffers.old.items (2 * vec_capacity coming.old) }
+    requires fit { HaveSpace (k_of levels.old.items) (accuracy_of levels.old.items)
+        (layouts_of levels.old.items) buffers.old.items (vec_capacity coming.old) }
     requires above { vec_capacity coming.old ≤ vec_capacity up.old }
     ensures acted { AreWalkedOver T.cmp B.bit B.next coins.old coins.new (k_of levels.old.items)
         (accuracy_of levels.old.items) levels.old.items levels.new.items }
 {
     let count = levels.len();
     for level in 0..count {
-        let own = &mut buffers[level.saturating_sub(1)];
-        levels[level].turn(coming, up, &mut own.merged, coins);
+        levels[level].turn(coming, up, &mut buffers[level].merged, coins);
         mem::swap(coming, up);
     }
     if !coming.is_empty() {
         let (k, rank_accuracy) = levels[0].parameters();
         add_level(levels, count, k, rank_accuracy);
-        levels[count].absorb(coming, &mut buffers[count - 1].merged);
+        levels[count].absorb(coming, up);
     }
 }
 
@@ -119,6 +161,7 @@ pub(super) fn append_and_walk<T: Clone + Ord, B: RandomBits>(
     item: T,
     coins: &mut B,
 ) -> Result<(), Error>
+    requires clones { (x y : T) → T.is_clone x y → T.cmp x y ≡ Equal }
     requires levels { AreHeld T.cmp levels.old.items }
     requires fits { weight_of (layouts_of levels.old.items) < 2 ^ 64 - 1 }
     requires few { retained_of (layouts_of levels.old.items) < 4294967295 }
@@ -131,10 +174,7 @@ pub(super) fn append_and_walk<T: Clone + Ord, B: RandomBits>(
 {
     levels.reserve_exact(1)?;
     let alloc = *levels.allocator();
-    let (most, mut buffers) = reserve_next(alloc, levels.as_slice())?;
-    // Half of what a level gives up goes up; level 0 is sorted by way of `up`.
-    let mut coming = Vec::with_capacity(alloc, most.div_ceil(2))?;
-    let mut up = Vec::with_capacity(alloc, most)?;
+    let (mut coming, mut up, mut buffers) = reserve(alloc, levels.as_slice(), &levels[..0], 1)?;
     levels[0].append(item)?;
     walk(levels, &mut coming, &mut up, &mut buffers, coins);
     Ok(())

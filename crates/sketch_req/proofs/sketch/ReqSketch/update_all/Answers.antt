@@ -1,5 +1,6 @@
 -- The goals at the return are what updates by all items make of the fields.
-use Rattle.std.proofs.Common.{◌≡◌, ◌+◌, ◌++◌, ap, arith, length, rules, subst, sym}
+use Rattle.std.proofs.Common.{◌≡◌, ◌+◌, ◌++◌, ap, arith, leb-true, length, refl, rules, subst, sym}
+use Rattle.std.proofs.lemmas.Bool.{not-true}
 use Rattle.std.specs.Option.{option_to_list}
 use Rattle.sketch_base.specs.Extremes.{IsGreatestOf, IsLeastOf}
 use Rattle.sketch_base.specs.Random.{bits_from, after_draws}
@@ -29,14 +30,14 @@ module _ (g : Over) (c : After-set_if_some-2 g) where
       × AreUpdated g.T.Ord.cmp old c.args.items.now (bits_from g.B.RandomBits.bit g.B.RandomBits.next c.args.coins.now (coins_of_updates old c.args.items.now)) new
       × (c.take_all.new.coins ≡ after_draws g.B.RandomBits.next c.args.coins.now (coins_of_updates old c.args.items.now))
   updated =
-      let known = not-full _ _ _ c.self.view_is c.self.invariant c.is_full.ensures c.if-is_full.false in
+      let known = not-full _ _ _ c.self.view_is c.self.invariant c.is_full.ensures (not-true _ (c.in_ok-unless.ensures.ok.0 refl)) in
       let least = subst (IsLeastOf g.T.Ord.cmp (option_to_list old.least ++ c.args.items.now)) (sym c.set_if_some.ensures) c.in_ok-least.ensures.least in
       let greatest = subst (IsGreatestOf g.T.Ord.cmp (option_to_list old.greatest ++ c.args.items.now)) (sym c.set_if_some-2.ensures) c.in_ok-least.ensures.greatest in
       let kept = c.take_all.ensures.kept in
       let t = c.in_ok-take_all.ensures.taken in
       rw (ap (λ (h : Held g.row.T.Denot). h.k) kept, ap (λ (h : Held g.row.T.Denot). h.accuracy) kept)
       (updates_sketch g.met.T.Ord.total g.B.RandomBits.bit g.B.RandomBits.next c.args.coins.now c.take_all.new.coins old t.copies c.take_all.new.self.levels c.args.items.now _ _
-      c.self.invariant (omega (arith, c.if-count-left.false, c.self.invariant.n_fits)) known.1 t.are_copies t.taken least greatest)
+      c.self.invariant (omega (arith, leb-true _ _ (c.in_ok-unless-2.ensures.ok.0 refl), c.self.invariant.n_fits)) known.1 t.are_copies t.taken least greatest)
 
 pub invariant_of-self-2 : goal.invariant_of-self-2
 invariant_of-self-2 g c = (updated g (goal.at.invariant_of-self-2 g c).After-set_if_some-2).0

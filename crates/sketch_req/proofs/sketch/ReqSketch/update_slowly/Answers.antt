@@ -32,7 +32,7 @@ module _ (g : Over) (c : After-set_if_some-2 g) where
 pub take_last-requires : goal.take_last-requires
 take_last-requires g c =
     let known = not-full _ _ _ c.self.view_is c.self.invariant c.is_full.ensures (not-true _ (c.in_ok-unless.ensures.ok.0 refl)) in
-    record { fits = omega (arith, known.0, c.self.invariant.weighs_n); few = known.1 }
+    record { clones = c.requires.clones; fits = omega (arith, known.0, c.self.invariant.weighs_n); few = known.1 }
 
 pub invariant_of-self-2 : goal.invariant_of-self-2
 invariant_of-self-2 g c = (updated g (goal.at.invariant_of-self-2 g c).After-set_if_some-2).0

@@ -69,8 +69,10 @@ walk-requires g c =
       empty = c.in_ok-coming.ensures.empty;
       nothing = c.in_ok-coming.ensures.nothing;
       above = c.in_ok-coming.ensures.above;
-      fit = space-kept _ _ _ _ (vec_capacity c.in_ok-coming.coming) _ refl (omega arith)
-          (rw (own g before).k_is (subst (λ (xs : List Layout). HaveSpace (k_of levels) xs c.in_ok-coming.buffers.items (vec_capacity c.in_ok-coming.coming)) (sym (same g before)) c.in_ok-coming.ensures.fit));
+      fit =
+          let k = (own g before).k_is in
+          let accuracy = (own g before).accuracy_is in
+          rw (k, accuracy) (rw (sym (same g before)) at c.in_ok-coming.ensures.fit);
     }
 
 pub returns-clause-taken_in : goal.returns-clause-taken_in

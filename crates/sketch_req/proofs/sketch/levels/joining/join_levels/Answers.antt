@@ -13,7 +13,7 @@ use Rattle.sketch_req.proofs.MergedLevels.{IsAdded, all-joined-to, is-added, joi
 use Rattle.sketch_req.proofs.WalkSteps.{own-there}
 use Rattle.sketch_req.proofs.Sounds.{few-placed}
 use Rattle.sketch_req.proofs.sketch.levels.joining.join_levels.Given.{Over}
-use Rattle.sketch_req.proofs.sketch.levels.joining.join_levels.Goals.{After-add_level, After-index_mut}
+use Rattle.sketch_req.proofs.sketch.levels.joining.join_levels.Goals.{After-add_level, After-index_mut-in-loop-level}
 use Rattle.sketch_req.proofs.sketch.levels.joining.join_levels.Goals as goal
 
 pub loop-level-init : goal.loop-level-init
@@ -26,6 +26,8 @@ loop-level-init g c =
       merged_spaces = refl;
       empty = c.requires.empty;
       promoted = refl;
+      spare_empty = c.requires.spare_empty;
+      spare_capacity = refl;
     }
 
 -- the level was there, or was added
@@ -38,7 +40,7 @@ added g c =
     (is-added _ _ _ _ (omega (arith, c.loop-level.invariant.joined.len)) c.add_level.ensures.items)
 
 -- one turn, before the join
-module _ (g : Over) (c : After-index_mut g) (added : let ls = c.args.levels.now.items in
+module _ (g : Over) (c : After-index_mut-in-loop-level g) (added : let ls = c.args.levels.now.items in
     IsAdded c.loop-level.level (fresh [] true c.loop-level.level (k_of ls) (accuracy_of ls)) c.loop-level.levels.items c.add_level.new.levels.items)
     (other : Level g.row.T.Denot) (is : other ≡ get_or c.args.others.now c.loop-level.level other) where
   placed : IsPlaced g.T.Ord.cmp (k_of c.args.others.now) (accuracy_of c.args.levels.now.items) c.loop-level.level other
@@ -51,11 +53,11 @@ module _ (g : Over) (c : After-index_mut g) (added : let ls = c.args.levels.now.
       next-copied g.met.T.Ord.total _ _ _ _ c.requires.levels.placed _ _ _ _ legal (omega (arith, low, placed.place_is))
       c.loop-level.invariant.joined added c.index_mut.ensures.value
 
-  ready : IsReady g.T.Ord.cmp c.args.levels.now.items c.args.others.now c.index_mut.result.now other c.index_mut-own.result.now (vec_capacity c.args.promoted.now)
+  ready : IsReady g.T.Ord.cmp c.args.levels.now.items c.args.others.now c.index_mut.result.now other c.index_mut-in-loop-level.result.now (vec_capacity c.args.promoted.now)
   ready =
       let i = c.loop-level.invariant in
       is-ready _ _ _ _ _ _ c.loop-level.buffers.items _ _ _ _ copied c.loop-level-test.true is (omega (arith, i.enough, c.loop-level-test.true))
-      c.index_mut-own.ensures.value (i.cloned c.loop-level.level (omega arith) c.loop-level-test.true)
+      c.index_mut-in-loop-level.ensures.value (i.cloned c.loop-level.level (omega arith) c.loop-level-test.true)
 
 pub add_level-requires-clause-legal : goal.add_level-requires-clause-legal
 add_level-requires-clause-legal g c =
@@ -77,7 +79,7 @@ index_mut-requires g c = omega (arith, (added g (goal.at.index_mut-requires g c)
 pub join-requires : goal.join-requires
 join-requires g c =
     let at = goal.at.join-requires g c in
-    let before = at.After-index_mut in
+    let before = at.After-index_mut-in-loop-level in
     let new = added g at.After-add_level in
     let other = c.index-others-level.result in
     let is = c.index-others-level.is in
@@ -89,19 +91,20 @@ join-requires g c =
       space = ready.space;
       empty = c.loop-level.invariant.empty;
       promoted = rw c.loop-level.invariant.promoted ready.promoted;
+      spare = c.loop-level.invariant.spare_empty;
     }
 
 pub loop-level-preserved : goal.loop-level-preserved
 loop-level-preserved g c =
     let at = goal.at.loop-level-preserved g c in
-    let before = at.After-index_mut in
+    let before = at.After-index_mut-in-loop-level in
     let new = added g at.After-add_level in
     let i = c.loop-level.invariant in
     let buffers = c.loop-level.buffers.items in
-    let old = c.index_mut-own.result.now in
+    let old = c.index_mut-in-loop-level.result.now in
     let own = c.join.new.buffers in
     let merged = λ (b : Space g.row.T.Denot). b.merged_space in
-    let same = ap merged c.join.ensures.rest ∙ ap merged c.index_mut-own.ensures.value in
+    let same = ap merged c.join.ensures.rest ∙ ap merged c.index_mut-in-loop-level.ensures.value in
     let joined = joined-there g.met.T.Ord.total _ (k_of c.args.others.now) _ _ _ _ c.index_mut.result.now _ _
     (copied g before new c.index-others-level.result c.index-others-level.is) c.loop-level-test.true c.index-others-level.is c.join.ensures.ok c.join.ensures.sound in
     record {
@@ -112,6 +115,8 @@ loop-level-preserved g c =
       merged_spaces = map-set_same (λ b. b.merged_space) buffers c.loop-level.level own old same ∙ i.merged_spaces;
       empty = c.join.ensures.empty;
       promoted = c.join.ensures.promoted ∙ i.promoted;
+      spare_empty = c.join.ensures.spare;
+      spare_capacity = c.join.ensures.spare_capacity ∙ i.spare_capacity;
     }
 
 pub returns-clause-joined : goal.returns-clause-joined

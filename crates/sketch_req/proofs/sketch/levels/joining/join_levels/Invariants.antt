@@ -16,4 +16,6 @@ invariant-loop-level g l =
       merged_spaces : merged_spaces l.buffers.items ≡ merged_spaces l.initial.buffers.items;
       empty : l.promoted.items ≡ [];
       promoted : vec_capacity l.promoted ≡ vec_capacity l.initial.promoted;
+      spare_empty : l.spare.items ≡ [];
+      spare_capacity : vec_capacity l.spare ≡ vec_capacity l.initial.spare;
     }

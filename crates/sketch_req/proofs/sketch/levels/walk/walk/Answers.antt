@@ -8,19 +8,20 @@ use Rattle.sketch_base.specs.Buffers.{Space, merged_spaces}
 use Rattle.sketch_req.specs.Level.{Level, fresh}
 use Rattle.sketch_req.specs.Schedule.{layouts_of, steps_actions, steps_layouts}
 use Rattle.sketch_req.specs.Sections.{IsLegalK}
-use Rattle.sketch_req.specs.Walk.{AreWalked, HasSpace, accuracy_of, k_of}
+use Rattle.sketch_req.specs.Walk.{AreWalked, accuracy_of, k_of}
 use Rattle.sketch_req.specs.declared.RankAccuracy.{RankAccuracy}
 use Rattle.sketch_req.proofs.Buffers.{read-other, read-there}
 use Rattle.sketch_req.proofs.Held.{own-levels}
 use Rattle.sketch_req.proofs.Layouts.{length-layouts}
-use Rattle.sketch_req.proofs.WalkSteps.{own-there, raised}
-use Rattle.sketch_req.proofs.Turns.{IsReady, is-ready, next-pending, pending-above, pending-start, ready-taken}
-use Rattle.sketch_req.proofs.sketch.levels.walk.walk.Goals.{After-index_mut, After-parameters-k, After-add_level}
+use Rattle.sketch_req.proofs.MergedLevels.{is-added}
+use Rattle.sketch_req.proofs.WalkSteps.{opened, own-there, raised}
+use Rattle.sketch_req.proofs.Turns.{IsReady, is-ready, next-pending, pending-above, pending-start, ready-held}
+use Rattle.sketch_req.proofs.sketch.levels.walk.walk.Goals.{After-index_mut-in-loop-level, After-parameters-k, After-add_level}
 use Rattle.sketch_req.proofs.sketch.levels.walk.walk.Goals as goal
 
 pub loop-level-init : goal.loop-level-init
 loop-level-init g c = record {
-  pending = pending-start g.met.T.Ord.total _ _ _ _ _ _ _ _ c.requires.empty c.requires.levels.placed;
+  pending = pending-start g.met.T.Ord.total _ _ _ _ _ _ _ _ _ c.requires.empty c.requires.levels.placed;
   len = sym c.len-count.ensures;
   spare = omega (arith, c.requires.spare, c.len-count.ensures);
   as_many = refl;
@@ -31,12 +32,11 @@ loop-level-init g c = record {
   above = c.requires.above;
 }
 
-pub index_mut-own-requires : goal.index_mut-own-requires
-index_mut-own-requires g c =
+pub index_mut-requires-in-loop-level : goal.index_mut-requires-in-loop-level
+index_mut-requires-in-loop-level g c =
     let levels = c.args.levels.now in
     omega (
       arith,
-      c.saturating_sub.ensures,
       c.loop-level-test.true,
       c.loop-level.buffers.ok,
       c.loop-level.invariant.as_many,
@@ -50,7 +50,7 @@ pub index_mut-requires : goal.index_mut-requires
 index_mut-requires g c = omega (arith, c.loop-level-test.true, c.loop-level.invariant.len)
 
 -- a turn
-module _ (g : _) (c : After-index_mut g) where
+module _ (g : _) (c : After-index_mut-in-loop-level g) where
   within : c.loop-level.level < length c.loop-level.levels.items
   within = omega (arith, c.loop-level-test.true, c.loop-level.invariant.len, c.loop-level.levels.ok)
 
@@ -59,67 +59,55 @@ module _ (g : _) (c : After-index_mut g) where
 
   ready : IsReady g.met.T.Ord.total g.B.RandomBits.bit g.B.RandomBits.next c.args.coins.now (k_of c.args.levels.now.items) (accuracy_of c.args.levels.now.items) c.args.levels.now.items
       spaces c.loop-level.level c.loop-level.coins c.loop-level.levels.items c.index_mut.result.now c.loop-level.coming.items
-  ready = is-ready g.met.T.Ord.total _ _ _ _ _ _ _ _ _ _ _ _ c.requires.few_items c.loop-level.invariant.pending within c.index_mut.ensures.value
+  ready = is-ready g.met.T.Ord.total _ _ _ _ _ _ _ _ _ _ _ _ _ c.requires.few_items c.loop-level.invariant.pending within c.index_mut.ensures.value
 
-  fit : HasSpace (k_of c.args.levels.now.items) c.loop-level.level (steps_layouts (k_of c.args.levels.now.items) c.loop-level.level 0 (layouts_of c.args.levels.now.items))
-      (get_or spaces c.loop-level.level 0) (2 * vec_capacity c.args.coming.now)
-  fit =
+  inside : c.loop-level.level < length (layouts_of c.args.levels.now.items)
+  inside =
       let levels = c.args.levels.now in
-      c.requires.fit.fits c.loop-level.level (omega (arith, length-layouts levels.items, c.loop-level-test.true, c.len-count.ensures, levels.ok))
+      omega (arith, length-layouts levels.items, c.loop-level-test.true, c.len-count.ensures, levels.ok)
 
-  -- the space of the buffers that come up with it
-  own-space : get_or spaces (c.loop-level.level - 1) 0 ≡ c.index_mut-own.result.now.merged_space
-  own-space =
-      let levels = c.args.levels.now in
+  -- the space of the level's buffers
+  own-there_is : get_or spaces c.loop-level.level 0 ≡ c.index_mut-in-loop-level.result.now.merged_space
+  own-there_is =
       let i = c.loop-level.invariant in
-      let inside : c.saturating_sub.result < length c.loop-level.buffers.items =
-      omega (arith, c.saturating_sub.ensures, c.loop-level-test.true, i.as_many, c.requires.fit.enough, length-layouts levels.items, c.len-count.ensures, levels.ok) in
-      sym (i.merged (c.loop-level.level - 1) (omega arith)) ∙ (ap (λ (n : ℕ). get_or (merged_spaces c.loop-level.buffers.items) n 0) (sym c.saturating_sub.ensures)
-      ∙ read-there (λ b. b.merged_space) 0 c.loop-level.buffers.items c.saturating_sub.result c.index_mut-own.result.now inside c.index_mut-own.ensures.value)
+      sym (i.merged c.loop-level.level (omega arith))
+      ∙ read-there (λ b. b.merged_space) 0 c.loop-level.buffers.items c.loop-level.level c.index_mut-in-loop-level.result.now (omega (arith, i.as_many, c.requires.fit.enough, inside)) c.index_mut-in-loop-level.ensures.value
+
+  -- the level is one of the sketch
+  own-told : (c.index_mut.result.now.k ≡ k_of c.args.levels.now.items) × (c.index_mut.result.now.accuracy ≡ accuracy_of c.args.levels.now.items)
+  own-told =
+      let placed = (opened _ _ _ _ _ c.loop-level.invariant.pending.placed within c.index_mut.ensures.value).placed in
+      (placed.k_is, placed.accuracy_is)
 
 pub turn-requires : goal.turn-requires
 turn-requires g c =
     let i = c.loop-level.invariant in
-    let at = (goal.at.turn-requires g c).After-index_mut in
+    let at = (goal.at.turn-requires g c).After-index_mut-in-loop-level in
     let r = ready g at in
     record {
       sorted = i.sorted;
       few = omega (arith, r.few, c.requires.few_items);
-      space = λ some.
-          omega (
-            arith,
-            r.space some (c.loop-level.level - 1) (pending-above g.met.T.Ord.total _ _ _ _ _ _ _ _ _ _ _ i.pending some),
-            own-space g at,
-            ap (λ (b : Space g.row.T.Denot). b.merged_space) c.own.view_is,
-          );
-      empty = c.own.invariant;
+      space = rw ((own-told g at).0, (own-told g at).1) (omega (arith, r.own (inside g at), own-there_is g at, ap (λ (b : Space g.row.T.Denot). b.merged_space) c.behind-buffers.view_is));
+      empty = c.behind-buffers.invariant;
       nothing = i.empty;
-      above = λ full. omega (arith, ready-taken g.met.T.Ord.total _ _ _ _ _ _ _ _ _ _ _ _ _ _ r (fit g at) full, i.above);
+      above = λ _. omega (arith, ready-held g.met.T.Ord.total _ _ _ _ _ _ _ _ _ _ _ _ _ r (c.requires.fit.promoted c.loop-level.level (inside g at)), i.above);
     }
 
 pub loop-level-preserved : goal.loop-level-preserved
 loop-level-preserved g c =
     let i = c.loop-level.invariant in
-    let at = (goal.at.loop-level-preserved g c).After-index_mut in
+    let at = (goal.at.loop-level-preserved g c).After-index_mut-in-loop-level in
     let legal = (own-levels g.T.Ord.cmp _ _ _ c.requires.levels.some c.requires.levels.placed).legal in
     let x = ap (λ v. v.items) c.swap.ensures.x_after in
-    let next = next-pending g.met.T.Ord.total _ _ _ _ _ _ _ _ _ _ _ _ _ _ _ _ c.requires.few_items i.pending (within g at) c.index_mut.ensures.value c.requires.fits legal (fit g at)
-    c.turn.ensures.turned c.turn.ensures.sound c.turn.ensures.coins in
+    let next = next-pending g.met.T.Ord.total _ _ _ _ _ _ _ _ _ _ _ _ _ _ _ _ c.requires.few_items i.pending (within g at) c.index_mut.ensures.value c.requires.fits legal
+    (c.requires.fit.promoted c.loop-level.level (inside g at)) (c.requires.fit.own c.loop-level.level) c.turn.ensures.turned c.turn.ensures.sound c.turn.ensures.coins in
     let buffers = c.loop-level.buffers.items in
-    let place = c.saturating_sub.result in
-    let space = λ (b : Space g.row.T.Denot). b.merged_space in
     record {
       pending = rw x next;
       len = i.len;
       spare = i.spare;
       as_many = simp length-set i.as_many;
-      merged = λ j low.
-          elim (cases_lt 0 c.loop-level.level) [
-            | inl some ↦ read-other space 0 buffers place _ j (omega (arith, low, some, c.saturating_sub.ensures)) ∙ i.merged j (omega (arith, low))
-            | inr none ↦
-                let same = c.turn.ensures.kept (i.pending.first (omega (arith, none))) ∙ (ap space c.own.view_is ∙ ap space c.index_mut-own.ensures.value) in
-                ap (λ (spaces : List ℕ). get_or spaces j 0) (map-set_same space buffers place _ c.index_mut-own.result.now same) ∙ i.merged j (omega (arith, low))
-          ];
+      merged = λ j low. read-other (λ (b : Space g.row.T.Denot). b.merged_space) 0 buffers c.loop-level.level _ j (omega (arith, low)) ∙ i.merged j (omega (arith, low));
       sorted = rw x c.turn.ensures.sorted;
       empty = ap (λ v. v.items) c.swap.ensures.y_after ∙ c.turn.ensures.coming;
       room = omega (arith, i.above, c.turn.ensures.up_capacity, ap (λ v. vec_capacity v) c.swap.ensures.x_after);
@@ -142,7 +130,7 @@ module _ (g : _) (c : After-parameters-k g) where
   some = grind (arith, c.if-not-is_empty.true, c.is_empty.ensures, c.loop-level.coming.ok.0)
 
   ends : c.len-count.result ≡ (c.loop-level.level - 1) + 1
-  ends = omega (arith, c.loop-level-test.false, pending-above g.met.T.Ord.total _ _ _ _ _ _ _ _ _ _ _ c.loop-level.invariant.pending some)
+  ends = omega (arith, c.loop-level-test.false, pending-above g.met.T.Ord.total _ _ _ _ _ _ _ _ _ _ _ _ c.loop-level.invariant.pending some)
 
   own : c.parameters-k.result ≡ (k, accuracy)
   own =
@@ -155,7 +143,7 @@ add_level-requires g c =
     let before = at.After-parameters-k in
     record {
       legal = subst IsLegalK (sym (ap (λ (p : ℕ × RankAccuracy). p.0) (own g before))) (own-levels g.T.Ord.cmp _ _ _ c.requires.levels.some c.requires.levels.placed).legal;
-      few = omega (arith, ends g before, c.loop-level.invariant.pending.low (some g before), pending-above g.met.T.Ord.total _ _ _ _ _ _ _ _ _ _ _ c.loop-level.invariant.pending (some g before));
+      few = omega (arith, ends g before, c.loop-level.invariant.pending.low (some g before), pending-above g.met.T.Ord.total _ _ _ _ _ _ _ _ _ _ _ _ c.loop-level.invariant.pending (some g before));
       spare = λ _. omega (arith, c.loop-level.invariant.spare, c.loop-level.invariant.len);
     }
 
@@ -171,7 +159,7 @@ module _ (g : _) (c : After-add_level g) (own : c.parameters-k.result ≡ (k_of 
   longer : length c.add_level.new.levels.items ≡ c.len-count.result + 1
   longer =
       let ls = c.loop-level.levels.items in
-      let last = fresh [] true c.len-count.result c.parameters-k.result.0 c.parameters-k.result.1 in
+      let last : Level g.row.T.Denot = fresh [] true c.len-count.result c.parameters-k.result.0 c.parameters-k.result.1 in
       let is : (c.len-count.result == length ls) ≡ true = eq-eqb c.len-count.result (length ls) (omega (arith, c.loop-level.invariant.len, c.loop-level.levels.ok)) in
       ap length (c.add_level.ensures.items ∙ ap (λ (b : Bool). if b then ls ++ last ∷ [] else ls) is) ∙ omega (arith, length-append ls (last ∷ []), c.loop-level.invariant.len, c.loop-level.levels.ok)
 
@@ -180,11 +168,6 @@ index_mut-requires-then-not-is_empty g c =
     let at = goal.at.index_mut-requires-then-not-is_empty g c in
     let before = at.After-parameters-k in
     omega (arith, longer g at.After-add_level (own g before) (ends g before), c.add_level.new.levels.ok)
-
-pub index_mut-requires-then-not-is_empty-2 : goal.index_mut-requires-then-not-is_empty-2
-index_mut-requires-then-not-is_empty-2 g c =
-    let levels = c.args.levels.now in
-    omega (arith, c.loop-level.buffers.ok, c.loop-level.invariant.as_many, c.requires.fit.enough, length-layouts levels.items, c.len-count.ensures, levels.ok, c.requires.levels.some)
 
 pub absorb-requires : goal.absorb-requires
 absorb-requires g c =
@@ -195,21 +178,18 @@ absorb-requires g c =
     let ends = ends g before in
     let all = added g at.After-add_level (own g before) ends in
     let upper = c.index_mut-then-not-is_empty.result.now in
-    let above = pending-above g.met.T.Ord.total _ _ _ _ _ _ _ _ _ _ _ i.pending (some g before) in
+    let above = pending-above g.met.T.Ord.total _ _ _ _ _ _ _ _ _ _ _ _ i.pending (some g before) in
     let few = i.pending.few (some g before) (c.loop-level.level - 1) above upper
     (c.index_mut-then-not-is_empty.ensures.value ∙ ap₂ (λ (ls : List (Level g.row.T.Denot)) (n : ℕ). get_or ls n upper) all ends) in
-    let buffers = c.loop-level.buffers.items in
-    let levels = c.args.levels.now in
-    let place : c.len-count.result - 1 ≡ c.loop-level.level - 1 = omega (arith, ends) in
-    let inside : c.len-count.result - 1 < length buffers = omega (arith, i.as_many, c.requires.fit.enough, length-layouts levels.items, c.len-count.ensures, levels.ok, c.requires.levels.some) in
-    let there : get_or (merged_spaces c.args.buffers.now.items) (c.loop-level.level - 1) 0 ≡ c.index_mut-then-not-is_empty-2.result.now.merged_space =
-    sym (i.merged (c.loop-level.level - 1) (omega arith)) ∙ (ap (λ (n : ℕ). get_or (merged_spaces buffers) n 0) (sym place)
-    ∙ read-there space 0 buffers (c.len-count.result - 1) c.index_mut-then-not-is_empty-2.result.now inside c.index_mut-then-not-is_empty-2.ensures.value) in
+    let last : Level g.row.T.Denot = fresh [] true c.len-count.result c.parameters-k.result.0 c.parameters-k.result.1 in
+    let same : c.len-count.result ≡ length c.loop-level.levels.items = omega (arith, i.len, c.loop-level.levels.ok) in
+    let new : upper ≡ last = c.index_mut-then-not-is_empty.ensures.value
+    ∙ (is-added c.len-count.result last c.loop-level.levels.items c.add_level.new.levels.items (omega (arith, same)) c.add_level.ensures.items).new upper (sym same) in
     record {
       sorted = i.sorted;
-      empty = c.behind-buffers.invariant;
-      capacity = omega (arith, few.1, there, ap space c.behind-buffers.view_is);
-      few = omega (arith, few.0, c.requires.few_items);
+      empty = i.empty;
+      capacity = omega (arith, ap (λ (l : Level g.row.T.Denot). length l.items) new, i.pending.short, i.above);
+      few = omega (arith, few, c.requires.few_items);
     }
 
 pub returns-then-not-is_empty : goal.returns-then-not-is_empty
@@ -223,7 +203,7 @@ returns-then-not-is_empty g c =
     let new = c.absorb.new.self in
     let ls : List (Level g.row.T.Denot) = c.args.levels.now.items in
     let layouts = layouts_of ls in
-    let above = pending-above g.met.T.Ord.total _ _ _ _ _ _ _ _ _ _ _ i.pending (some g before) in
+    let above = pending-above g.met.T.Ord.total _ _ _ _ _ _ _ _ _ _ _ _ i.pending (some g before) in
     let walked = i.pending.some (some g before) (c.loop-level.level - 1) above upper new
     (c.index_mut-then-not-is_empty.ensures.value ∙ ap₂ (λ (l : List (Level g.row.T.Denot)) (n : ℕ). get_or l n upper) all ends) c.absorb.ensures.taken_in c.absorb.ensures.sound in
     let same : set (raised (k_of ls) (accuracy_of ls) (c.loop-level.level - 1) c.loop-level.levels.items) ((c.loop-level.level - 1) + 1) new ≡ set c.add_level.new.levels.items c.len-count.result new =

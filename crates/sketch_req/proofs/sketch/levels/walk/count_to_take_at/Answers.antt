@@ -1,0 +1,66 @@
+-- The level of the place, or a fresh one, and the other of the same place.
+use Rattle.std.proofs.Common.{rules, ◌≡◌, ℕ, List, get_or, Option, unwrap_or, sym, ap, ap₂, ◌∙◌, arith}
+use Rattle.std.specs.Option.{option_map}
+use Rattle.sketch_req.specs.Level.{Level}
+use Rattle.sketch_req.specs.Schedule.{Layout, layout_of, layouts_of, layout_at, joined_layout, filled}
+use Rattle.sketch_req.specs.Walk.{k_of, accuracy_of, taken_if_full}
+use Rattle.sketch_req.specs.declared.RankAccuracy.{RankAccuracy}
+use Rattle.sketch_req.proofs.Layouts.{length-layouts}
+use Rattle.sketch_req.proofs.MergedLevels.{joined-at, joined-past, k-at, layout-there, reads}
+use Rattle.sketch_req.proofs.WalkSteps.{own-there}
+use Rattle.sketch_req.proofs.sketch.levels.walk.count_to_take_at.Given.{Over}
+use Rattle.sketch_req.proofs.sketch.levels.walk.count_to_take_at.Goals as goal
+use Rattle.sketch_req.proofs.sketch.levels.walk.count_to_take_at.Goals.{After-unwrap_or-own}
+
+-- what is found, or else another one
+found : {R A : Type 0} (read : R → A) (r : Option R) (none : R) → read (unwrap_or r none) ≡ unwrap_or (option_map read r) (read none)
+found read r none = search rules
+
+module _ (g : Over) (c : After-unwrap_or-own g) where
+  abbrev own : Level g.row.T.Denot
+  own = c.unwrap_or-own.result.now
+
+  own_is : own ≡ get_or c.args.levels.now c.args.level c.new-fresh.result
+  own_is = ap (λ r. r.now) c.unwrap_or-own.ensures ∙ (found (λ r. r.now) c.get.result _ ∙ c.get.ensures.lookup.4 (omega arith) c.new-fresh.result)
+
+  layout_is : layout_of own ≡ layout_at (layouts_of c.args.levels.now) c.args.level
+  layout_is =
+      let ls : List (Level g.row.T.Denot) = c.args.levels.now in
+      ap layout_of (own_is ∙ ap (λ (d : Level g.row.T.Denot). get_or ls c.args.level d) c.new-fresh.ensures.value)
+      ∙ sym (reads c.parameters-k.result.0 0 c.parameters-k.result.1 ls c.args.level).1
+
+  k_is : own.k ≡ k_of c.args.levels.now
+  k_is =
+      let told = own-there g.T.Ord.cmp _ _ 0 _ _ _ c.requires.levels.placed c.requires.levels.some c.index-levels-0.is c.parameters-k.ensures in
+      ap (λ (l : Level g.row.T.Denot). l.k) own_is
+      ∙ k-at g.T.Ord.cmp _ _ 0 c.args.level c.args.levels.now c.new-fresh.result c.requires.levels.placed
+      (ap (λ (l : Level g.row.T.Denot). l.k) c.new-fresh.ensures.value ∙ ap (λ (p : ℕ × RankAccuracy). p.0) told)
+
+pub count_to_take_joined-requires : goal.count_to_take_joined-requires
+count_to_take_joined-requires g c =
+    let at = (goal.at.count_to_take_joined-requires g c).After-unwrap_or-own in
+    let other = layout-there c.args.others.now c.args.level c.in-Some.other.now c.in-Some.ensures.lookup.3.0 c.in-Some.ensures.lookup.1 in
+    omega (arith, c.requires.few, ap (λ (l : Layout). l.count) (layout_is g at), ap (λ (l : Layout). l.count) other)
+
+pub returns-in-Some : goal.returns-in-Some
+returns-in-Some g c =
+    let at = (goal.at.returns-in-Some g c).After-unwrap_or-own in
+    let ls : List Layout = layouts_of c.args.levels.now in
+    let os : List Layout = layouts_of c.args.others.now in
+    let k = k_of c.args.levels.now in
+    let within = c.in-Some.ensures.lookup.3.0 in
+    let other = layout-there c.args.others.now c.args.level c.in-Some.other.now within c.in-Some.ensures.lookup.1 in
+    c.count_to_take_joined.ensures
+    ∙ (ap₂ (λ (k : ℕ) (l : Layout). taken_if_full k (filled c.args.coming (joined_layout k l (layout_of c.in-Some.other.now)))) (k_is g at) (layout_is g at)
+    ∙ ap (λ (l : Layout). taken_if_full k (filled c.args.coming l))
+    (ap (joined_layout k (layout_at ls c.args.level)) (sym other) ∙ sym (joined-at k ls os c.args.level (omega (arith, within, length-layouts c.args.others.now)))))
+
+pub returns : goal.returns
+returns g c =
+    let at = (goal.at.returns g c).After-unwrap_or-own in
+    let ls : List Layout = layouts_of c.args.levels.now in
+    let os : List Layout = layouts_of c.args.others.now in
+    let k = k_of c.args.levels.now in
+    c.count_to_take_with.ensures
+    ∙ ap₂ (λ (k : ℕ) (l : Layout). taken_if_full k (filled c.args.coming l)) (k_is g at)
+    (layout_is g at ∙ sym (joined-past k ls os c.args.level (omega (arith, c.in-None.ensures.lookup.3, length-layouts c.args.others.now))))
