@@ -115,7 +115,7 @@ impl<T: Clone + Ord> Levels<T> {
             return Ok(self.put(item)?);
         }
         append_and_walk(&mut self.compactors, item, coins)?;
-        give_back(&mut self.compactors, self.num_retained / 16);
+        give_back(&mut self.compactors, (self.num_retained / 8).max(24) - 24);
         (self.num_retained, self.capacity) = sums(self.compactors.as_slice());
         Ok(())
     }
