@@ -99,33 +99,35 @@ fn filled<S: Original>(items: &[i64], k: u16) -> S {
     sketch
 }
 
-/// Nanoseconds of a call of each, the best of so many rounds in turn.
-fn in_turn(rounds: usize, calls: usize, mut original: impl FnMut() -> f64, mut ours: impl FnMut() -> f64) -> [f64; 2] {
-    let (mut a, mut b) = (f64::INFINITY, f64::INFINITY);
+/// Nanoseconds of a call of each, the best of so many rounds in turn. Ours come with those of filling a sketch first, and the best
+/// of these is taken off the best of all: a round's own filling may have been slower than its work.
+fn in_turn(rounds: usize, calls: usize, mut original: impl FnMut() -> f64, mut ours: impl FnMut() -> [f64; 2]) -> [f64; 2] {
+    let (mut a, mut all, mut filling) = (f64::INFINITY, f64::INFINITY, f64::INFINITY);
     for _ in 0..rounds {
         a = a.min(original());
-        b = b.min(ours());
+        let [more, less] = ours();
+        all = all.min(more);
+        filling = filling.min(less);
     }
-    [a / calls as f64, b / calls as f64]
+    [a / calls as f64, (all - filling) / calls as f64]
 }
 
 /// Both in turn, the best of each, a row of the table, and the ratio.
-fn row(what: &str, k: u16, calls: usize, original: impl FnMut() -> f64, ours: impl FnMut() -> f64) -> f64 {
+fn row(what: &str, k: u16, calls: usize, original: impl FnMut() -> f64, ours: impl FnMut() -> [f64; 2]) -> f64 {
     let [a, b] = in_turn(ROUNDS, calls, original, ours);
     println!("| {what} | {k} | {a:.0} ns | {b:.0} ns | {:.2} |", b / a);
     b / a
 }
 
-/// The nanoseconds of a batch of our work on items, less those of filling a sketch, which it does first.
-fn less_filling(work: Work, items: &[i64], which: u8, k: u16, times: u64) -> f64 {
+/// The nanoseconds of a batch of our work on items, and those of filling a sketch, which it does first.
+fn with_filling(work: Work, items: &[i64], which: u8, k: u16, times: u64) -> [f64; 2] {
     let call = |times| nanoseconds(|| unsafe { work(items.as_ptr(), items.len(), which, k, times) });
-    let fill = (0..3).map(|_| call(0)).fold(f64::INFINITY, f64::min);
-    call(times) - fill
+    [call(times), call(0)]
 }
 
 /// The nanoseconds of updates by items, one by one or all at once.
-fn updates(work: Work, items: &[i64], which: u8, k: u16) -> f64 {
-    nanoseconds(|| unsafe { work(items.as_ptr(), items.len(), which, k, 0) })
+fn updates(work: Work, items: &[i64], which: u8, k: u16) -> [f64; 2] {
+    [nanoseconds(|| unsafe { work(items.as_ptr(), items.len(), which, k, 0) }), 0.0]
 }
 
 /// The nanoseconds of merges of a sketch into another one by the original.
@@ -149,7 +151,7 @@ fn rows<S: Original>(name: &str, work: Work, k: u16, count: usize, times: u64) -
     let some = &random[..count];
     let made: S = filled(some, k);
     let image = made.write();
-    let ours = |which: u8| less_filling(work, some, which, k, times);
+    let ours = |which: u8| with_filling(work, some, which, k, times);
     let calls = times as usize;
     ratios.push(row(&format!("{name} `merge`"), k, calls, || merges(&made, k, times), || ours(MERGE)));
     let views = || nanoseconds(|| (0..times).map(|_| made.view_weight()).sum::<u64>());
@@ -177,7 +179,8 @@ fn records<S: Original>(name: &str, work: Work, k: u16, stream: &str, items: &[i
     let calls = TURNS * PARTS as u64;
     // (20 times 168 merges in a row, each 168 into a new sketch)
     let original = || (0..TURNS).map(|_| merges(&made, k, PARTS as u64)).sum();
-    let ours = || (0..TURNS).map(|_| less_filling(work, part, MERGE, k, PARTS as u64)).sum();
+    let once = || with_filling(work, part, MERGE, k, PARTS as u64);
+    let ours = || (0..TURNS).map(|_| once()).fold([0.0, 0.0], |[a, b], [c, d]| [a + c, b + d]);
     let merged = in_turn(FEW_ROUNDS, calls as usize, original, ours);
     for (who, at) in [("original", 0), ("ours", 1)] {
         println!("update_ns {who}_{name} {k} {stream} {:.1}", updated[at]);
