@@ -1,4 +1,5 @@
-use Rattle.std.proofs.Common.{◌+◌, ap, ◌∙◌}
+use Rattle.std.proofs.Common.{◌+◌, ap, ◌∙◌, arith}
+use Rattle.std.proofs.lemmas.Grind.{common_steps}
 use Rattle.sketch_base.specs.Query.{counted}
 use Rattle.sketch_base.proofs.Entries.{counted-parted}
 use Rattle.sketch_base.proofs.PassedFronts.{count-of_part}
@@ -14,3 +15,12 @@ returns-clause-count g c =
 
 pub returns-clause-parts : goal.returns-clause-parts
 returns-clause-parts g c = sorted-split g.met.T.Ord.total c.args.items.now c.args.query.now c.args.criteria _ c.requires.sorted (returns-clause-count g c)
+
+pub count_in_part-requires : goal.count_in_part-requires
+count_in_part-requires g c = grind (arith, common_steps)
+
+pub overflow_add-result : goal.overflow_add-result
+overflow_add-result g c = grind (arith, common_steps)
+
+pub returns-clause-within : goal.returns-clause-within
+returns-clause-within g c = grind (arith, common_steps)

@@ -1,4 +1,5 @@
 use Rattle.std.proofs.Common.{◌≤◌, ◌+◌, ◌-◌, count_by, sym, ap, ◌∙◌, arith}
+use Rattle.std.proofs.lemmas.Grind.{common_steps}
 use Rattle.std.proofs.lemmas.List.Sums.{count_by-le-length}
 use Rattle.sketch_base.specs.Query.{counted}
 use Rattle.sketch_base.proofs.Entries.{counted-parted}
@@ -29,3 +30,6 @@ returns-clause-ends g c =
       | else-loop-step-test w ↦ omega (arith, count_by-le-length test items, w.loop-step-test.false, c.min.ensures, c.loop-step.invariant.1.0)
     ] in
     past
+
+pub loop-step-init : goal.loop-step-init
+loop-step-init g c = grind (arith, common_steps)

@@ -26,3 +26,12 @@ pub returns-clause-joined : goal.returns-clause-joined
 returns-clause-joined g c =
     rw c.from_cumulated-2.ensures (clones-distinct g.met.T.Ord.total (pairs_in c.args.entries.now) (sorted g (goal.at.returns-clause-joined g c).In_ok-items) c.requires.weights
     c.in_ok-items.items.items c.in_ok-items.cumulated.items c.in_ok-items.ensures.items c.in_ok-items.ensures.weights)
+
+pub from_cumulated-requires : goal.from_cumulated-requires
+from_cumulated-requires g c = grind (arith, common_steps)
+
+pub returns-then-is_empty-clause-entries : goal.returns-then-is_empty-clause-entries
+returns-then-is_empty-clause-entries g c = grind (arith, common_steps)
+
+pub returns-then-is_empty-clause-joined : goal.returns-then-is_empty-clause-joined
+returns-then-is_empty-clause-joined g c = grind (arith, common_steps)
