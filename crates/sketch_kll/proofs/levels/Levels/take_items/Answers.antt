@@ -1,3 +1,4 @@
+use Rattle.std.proofs.lemmas.Grind.{common_steps}
 use Rattle.std.proofs.Common.{◌≡◌, ℕ, ◌+◌, ◌^◌, ◌<◌, List, length, reverse, drop, cond, ap, ◌∙◌, arith, refl, rules, length-append, length-drop, length-take-le}
 use Rattle.std.proofs.lemmas.List.{length-reverse}
 use Rattle.sketch_kll.specs.Capacity.{total_of}
@@ -109,3 +110,9 @@ loop-self-preserved g c =
       room = omega (arith, i.room, c.compact_if_full.ensures.kept.items_room, c.fill.ensures.room);
       spare = omega (arith, i.spare, c.compact_if_full.ensures.kept.bounds_room, c.fill.ensures.bounds_room);
     }
+
+pub compact_if_full-requires-clause-light : goal.compact_if_full-requires-clause-light
+compact_if_full-requires-clause-light g c = grind (arith, common_steps)
+
+pub returns-clause-taken : goal.returns-clause-taken
+returns-clause-taken g c = grind (arith, common_steps)

@@ -1,4 +1,5 @@
 -- The goals at the return are what updates by all items make of the fields.
+use Rattle.std.proofs.lemmas.Grind.{common_steps}
 use Rattle.std.proofs.Common.{◌≡◌, ◌<◌, ◌^◌, ◌+◌, length, ap, arith, rules}
 use Rattle.sketch_kll.specs.Levels.{weight}
 use Rattle.sketch_kll.proofs.CompactedSizes.{length-same}
@@ -33,3 +34,6 @@ returns g c =
 
 pub invariant_of-self-2 : goal.invariant_of-self-2
 invariant_of-self-2 g c = (returns g c).sound
+
+pub returns-then-is_empty-clause-coins : goal.returns-then-is_empty-clause-coins
+returns-then-is_empty-clause-coins g c = grind (arith, common_steps)
