@@ -1,3 +1,4 @@
+use Rattle.std.proofs.lemmas.Grind.{common_steps}
 use Rattle.std.proofs.Common.{◌≡◌, ◌≤◌, ◌<◌, ℕ, List, [], ◌∷◌, length, get_or, map, sym, ap, ◌∙◌, arith, rules}
 use Rattle.std.specs.Prelude.{codes, string_bytes}
 use Rattle.quantile_sketches.proofs.lines.arguments.Goals as goal
@@ -14,3 +15,15 @@ returns-in_default-as_str c =
     let n : string_bytes c.family-item.result ≡ codes "kll" → ⊥ = λ e. c.in_default-as_str.not-kll (c.as_str.ensures.value ∙ e) in
     let m : string_bytes c.family-item.result ≡ codes "req" → ⊥ = λ e. c.in_default-as_str.not-req (c.as_str.ensures.value ∙ e) in
     rw w (search (rules, n, m))
+
+pub returns-in_default : goal.returns-in_default
+returns-in_default c = grind (arith, common_steps)
+
+pub returns-in_err-seed : goal.returns-in_err-seed
+returns-in_err-seed c = grind (arith, common_steps)
+
+pub returns-in-kll : goal.returns-in-kll
+returns-in-kll c = grind (arith, common_steps)
+
+pub returns-in-req : goal.returns-in-req
+returns-in-req c = grind (arith, common_steps)
