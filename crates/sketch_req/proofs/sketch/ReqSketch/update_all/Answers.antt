@@ -1,4 +1,5 @@
 -- The goals at the return are what updates by all items make of the fields.
+use Rattle.std.proofs.lemmas.Grind.{common_steps}
 use Rattle.std.proofs.Common.{◌≡◌, ◌+◌, ◌++◌, ap, arith, leb-true, length, refl, rules, subst, sym}
 use Rattle.std.proofs.lemmas.Bool.{not-true}
 use Rattle.std.specs.Option.{option_to_list}
@@ -50,3 +51,9 @@ returns-clause-ok g c = rw (← c.self.view_is) (updated g (goal.at.returns-clau
 
 pub returns-clause-coins : goal.returns-clause-coins
 returns-clause-coins g c = rw (← c.self.view_is) (updated g (goal.at.returns-clause-coins g c).After-set_if_some-2).2
+
+pub returns-then-count-eq0-clause-coins : goal.returns-then-count-eq0-clause-coins
+returns-then-count-eq0-clause-coins g c = grind (arith, common_steps)
+
+pub take_all-requires-clause-few : goal.take_all-requires-clause-few
+take_all-requires-clause-few g c = grind (arith, common_steps)

@@ -1,5 +1,6 @@
 -- Level 0 takes all clones at once.
 use Rattle.std.proofs.Common.{◌≡◌, ◌<◌, ◌+◌, Equal, arith, length, set}
+use Rattle.std.proofs.lemmas.Grind.{common_steps}
 use Rattle.std.proofs.lemmas.List.Elements.{length_all_zip}
 use Rattle.sketch_req.specs.Schedule.{layouts_of, nominal_sum, retained_of}
 use Rattle.sketch_req.specs.Updates.{all_appended_first}
@@ -38,3 +39,9 @@ pub returns-clause-filled : goal.returns-clause-filled
 returns-clause-filled g c =
     let h = c.in_ok-append_clones.ensures.ok in
     rw (← c.self.view_is) (record { clones = h.clones; same = h.same; levels_are = filled g (goal.at.returns-clause-filled g c).In_ok-append_clones })
+
+pub invariant_of-self : goal.invariant_of-self
+invariant_of-self g c = grind (arith, common_steps)
+
+pub returns-in_err-append_clones-clause-err : goal.returns-in_err-append_clones-clause-err
+returns-in_err-append_clones-clause-err g c = grind (arith, common_steps)

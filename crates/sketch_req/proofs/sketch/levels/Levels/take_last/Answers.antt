@@ -1,4 +1,5 @@
 use Rattle.std.proofs.Common.{◌≡◌, ◌∙◌, ◌<◌, true, false, ap, arith, le-leb}
+use Rattle.std.proofs.lemmas.Grind.{common_steps}
 use Rattle.std.proofs.lemmas.Bool.{lt-leb}
 use Rattle.sketch_req.specs.Held.{Held}
 use Rattle.sketch_req.specs.Schedule.{layouts_of, are_full, retained_of}
@@ -43,3 +44,6 @@ returns-then-self-clause-acted g c =
     let acted = acted-spare g.met.T.Ord.total g.B.RandomBits.bit g.B.RandomBits.next c.args.coins.now s.k s.rank_accuracy (appended_first s.compactors.items c.args.item)
     (placed-appended g.T.Ord.cmp s.k s.rank_accuracy s.compactors.items c.args.item c.self.invariant.placed few) spare in
     rw (ap (λ (h : Held g.row.T.Denot). h.levels) c.in_ok-put.ensures.ok, ← c.self.view_is) acted
+
+pub invariant_of-self-2 : goal.invariant_of-self-2
+invariant_of-self-2 g c = grind (arith, common_steps)

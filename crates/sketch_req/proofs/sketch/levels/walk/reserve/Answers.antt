@@ -1,7 +1,7 @@
 -- The loop keeps what is known of the next level's turn, and that there are clones, and room for the turns so far.
+use Rattle.std.proofs.Common.{nat_cmp, inl, inr, ◌≡◌, ℕ, suc, ◌+◌, ◌/◌, ◌<◌, ◌≤◌, Bool, if◌then◌else◌, List, [], length, length-set, refl, sym, ap, ◌∙◌, subst, arith}
 use Rattle.std.specs.Ordering.{ord_max}
 use Rattle.std.proofs.lemmas.Bool.{cases_lt}
-use Rattle.std.proofs.Common.{nat_cmp, inl, inr, ◌≡◌, ℕ, suc, ◌+◌, ◌/◌, ◌<◌, ◌≤◌, Bool, if◌then◌else◌, List, [], length, length-set, refl, sym, ap, ◌∙◌, subst, arith}
 use Rattle.std.proofs.lemmas.Grind.{common_steps}
 use Rattle.sketch_base.specs.Bag.{SameItems, level_at}
 use Rattle.sketch_base.specs.Buffers.{Space}
@@ -168,3 +168,6 @@ returns-clause-fit g c =
       promoted = λ h l. omega (arith, c.in_ok-coming.ensures.capacity, i.promoted h (omega (arith, l, n, m, b, more, c.max-count.ensures, c.loop-level-test.false)));
       own = λ h l. i.own h (omega (arith, l, n, m, b, more, c.max-count.ensures, c.loop-level-test.false));
     }
+
+pub overflow_add-here : goal.overflow_add-here
+overflow_add-here g c = grind (arith, common_steps)
