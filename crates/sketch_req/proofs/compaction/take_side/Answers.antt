@@ -1,4 +1,5 @@
 use Rattle.std.proofs.Common.{◌≡◌, ℕ, ◌-◌, ◌%◌, List, ◌++◌, length, take, drop, reverse, sym, ap, ◌∙◌, not, arith, take_at, length-take}
+use Rattle.std.proofs.lemmas.Grind.{common_steps}
 use Rattle.std.proofs.lemmas.List.{reverse-reverse}
 use Rattle.sketch_base.specs.Bag.{half}
 use Rattle.sketch_base.proofs.MovedHalves.{half_reverse}
@@ -29,3 +30,12 @@ returns-in-HighRank-clause-moved g c =
     ap reverse (sym (ap (half (not c.args.odd)) parts.1) ∙ c.move_half.ensures.moved) ∙ reverse-reverse c.move_half.new.out.items in
     let even : length (take c.args.count xs) % 2 ≡ 0 = omega (arith, length-take c.args.count xs, c.requires.within, c.requires.even) in
     rw c.in-HighRank.is (sym (half_reverse c.args.odd (take c.args.count xs) even ∙ out))
+
+pub move_half-requires-clause-within : goal.move_half-requires-clause-within
+move_half-requires-clause-within g c = grind (arith, common_steps)
+
+pub move_half-requires-clause-even : goal.move_half-requires-clause-even
+move_half-requires-clause-even g c = grind (arith, common_steps)
+
+pub move_half-requires-clause-room : goal.move_half-requires-clause-room
+move_half-requires-clause-room g c = grind (arith, common_steps)

@@ -1,4 +1,5 @@
-use Rattle.std.proofs.Common.{◌≡◌, length, false, rules, sym, subst, ◌∙◌}
+use Rattle.std.proofs.Common.{◌≡◌, length, false, rules, sym, subst, ◌∙◌, arith}
+use Rattle.std.proofs.lemmas.Grind.{common_steps}
 use Rattle.std.specs.Prelude.{Option, Some, IfSome, ◌==◌}
 use Rattle.sketch_base.specs.Bag.{expanded}
 use Rattle.sketch_base.specs.Queries.{SameAnswer}
@@ -17,3 +18,9 @@ returns-in_default-3-clause-same g c =
     let part : (f.weight == f.total) ≡ false = search rules in
     subst (λ (q : Option g.row.T.Denot). IfSome c.find_at.result (λ x. SameAnswer g.T.Ord.cmp q (Some x.now)))
     (quantile-at entries s.least s.greatest f.weight f.total c.n.result c.place_of.result c.args.criteria some part whole c.place_of.ensures.place) c.find_at.ensures
+
+pub returns-then-fraction-eq0-clause-same : goal.returns-then-fraction-eq0-clause-same
+returns-then-fraction-eq0-clause-same g c = grind (arith, common_steps)
+
+pub returns-then-fraction-clause-same : goal.returns-then-fraction-clause-same
+returns-then-fraction-clause-same g c = grind (arith, common_steps)

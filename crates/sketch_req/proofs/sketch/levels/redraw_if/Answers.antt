@@ -1,5 +1,6 @@
 -- The loop keeps that what it has drawn, and what is left to draw, make up the whole.
 use Rattle.std.proofs.Common.{◌<◌, List, length, length-set, set, refl, ap, ◌∙◌, arith}
+use Rattle.std.proofs.lemmas.Grind.{common_steps}
 use Rattle.sketch_req.specs.Level.{Level}
 use Rattle.sketch_req.proofs.Redraws.{redrawn-more}
 use Rattle.sketch_req.proofs.sketch.levels.redraw_if.Goals as goal
@@ -21,3 +22,9 @@ loop-level-preserved g c =
       coins = rw (e, c.redraw_coin.ensures.coins) (more.1 ∙ i.coins);
       room = i.room;
     }
+
+pub returns-clause-levels : goal.returns-clause-levels
+returns-clause-levels g c = grind (arith, common_steps)
+
+pub returns-clause-coins : goal.returns-clause-coins
+returns-clause-coins g c = grind (arith, common_steps)

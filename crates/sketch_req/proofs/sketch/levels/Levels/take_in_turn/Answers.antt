@@ -1,4 +1,5 @@
 -- The loop takes one part of the items after another.
+use Rattle.std.proofs.lemmas.Grind.{common_steps}
 use Rattle.std.proofs.Common.{◌≡◌, ◌≤◌, ◌∙◌, List, ℕ, arith, length, take, drop, ap, subst, rules, take-add, take_all, length-drop, ◌-◌}
 use Rattle.std.proofs.lemmas.List.{take-append-drop}
 use Rattle.sketch_base.specs.Trace.{draws_of}
@@ -45,3 +46,6 @@ loop-taken-preserved g c =
       left = rw (take-add c.loop-taken.taken c.in_ok-taken.field-0 items)
           (left-append g.B.RandomBits.next _ _ _ s.k s.accuracy s.levels c.loop-taken.self.levels _ (take c.loop-taken.taken items) _ i.left left);
     }
+
+pub returns-clause-taken : goal.returns-clause-taken
+returns-clause-taken g c = grind (arith, common_steps)
