@@ -1,4 +1,4 @@
-use Rattle.std.proofs.Common.{◌≡◌, Some, sym, ap, ◌∙◌}
+use Rattle.std.proofs.Common.{◌≡◌, None, Some, refl, sym, ap, ◌∙◌}
 use Rattle.quantile_sketches.specs.Command.{request_of}
 use Rattle.quantile_sketches.specs.LineWords.{words}
 use Rattle.quantile_sketches.specs.declared.command.Request.TheVariants.{Run}
@@ -9,3 +9,9 @@ returns-in-Some-Run g c =
     let it : request_of g.S.Config.Config.grammar (words c.args.line.now) ≡ Some (Run c.in-Some-Run.command) =
     ap (request_of g.S.Config.Config.grammar) (sym c.new-words.ensures) ∙ (sym c.parse.ensures ∙ (c.in-Some-Run.is ∙ ap (λ command. Some command) c.in-Some-Run.field-0-is)) in
     rw it (c.carry_out.ensures (words c.args.line.now))
+
+pub returns-in-None : goal.returns-in-None
+returns-in-None g c =
+    let it : request_of g.S.Config.Config.grammar (words c.args.line.now) ≡ None =
+    ap (request_of g.S.Config.Config.grammar) (sym c.new-words.ensures) ∙ (sym c.parse.ensures ∙ c.in-None.is) in
+    rw it (refl, refl, refl)

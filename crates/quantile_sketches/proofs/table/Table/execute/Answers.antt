@@ -31,3 +31,9 @@ returns-in-Redraw g c =
     let all : 256 ≡ length c.self-in-Redraw.inside.slots.items = omega (arith, c.self-in-Redraw.invariant, c.self-in-Redraw.inside.slots.ok) in
     let held = slice_get_read _ 256 c.in-Redraw.slot _ all (omega arith) c.index_mut-in-Redraw.ensures.value in
     rw c.in-Redraw.is (rw (← c.self-in-Redraw.view_is) (c.index_mut-in-Redraw.result.now, c.redraw.new.slot, held, c.redraw.ensures, refl))
+
+pub returns-in-Merge : goal.returns-in-Merge
+returns-in-Merge g c = rw c.in-Merge.is c.merge.ensures
+
+pub returns-in-MergeRedrawn : goal.returns-in-MergeRedrawn
+returns-in-MergeRedrawn g c = rw c.in-MergeRedrawn.is c.merge-in-MergeRedrawn.ensures
