@@ -8,6 +8,7 @@ BEGIN {
     head[1] = "count"; head[many + 2] = "max"
     columns = many + 2
     most = 0
+    nul = sprintf("%c", 0)
 }
 
 {
@@ -38,7 +39,7 @@ function trimmed(it,   dot) {
     return dot ? substr(it, 1, most ? dot + most : dot - 1) : it
 }
 
-# How many places a text takes: UTF-8's later bytes take none.
+# How many columns a text takes: continuation bytes of UTF-8 take none.
 function places(text) {
     gsub(/[\200-\277]/, "", text)
     return length(text)
@@ -69,7 +70,7 @@ function print_table(   r, i, wide, width, line, text) {
     }
 }
 
-# tsv has \t and \\ for a tab and a backslash in a key; csv quotes a key where it must
+# tsv has \t and \\ for a tab and a backslash in a key; csv quotes a key if it has to
 function print_lines(   r, i, line, between) {
     between = format == "csv" ? "," : "\t"
     for (r = 0; r <= NR; r++) {
@@ -86,7 +87,7 @@ function quoted(text) {
 }
 
 function replaced(text,   i, c, it) {
-    if (text !~ /[\t\\"\001-\037]/) return text
+    if (text !~ /[\t\\"\001-\037]/ && !index(text, nul)) return text
     for (i = 1; i <= length(text); i++) {
         c = substr(text, i, 1)
         if (c == "\\" || c == "\"" && format == "json") c = "\\" c
@@ -98,7 +99,7 @@ function replaced(text,   i, c, it) {
 }
 
 function code_of(c,   i) {
-    for (i = 1; i < 32; i++) if (sprintf("%c", i) == c) return i
+    for (i = 0; i < 32; i++) if (sprintf("%c", i) == c) return i
 }
 
 function print_json(   r, i, line) {
