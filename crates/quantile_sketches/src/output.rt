@@ -1,6 +1,5 @@
-//! How bytes are written: they wait in a vector, and go out together.
-//! Of what is owed always a beginning is out and the rest waits, also where memory or the output
-//! fails.
+//! How bytes are written: they wait in a vector, and go out together. At all times a beginning of
+//! what is owed is out and the rest waits, even if memory or the output fails.
 ghost use Rattle.std.specs.Prelude.{◌≡◌, ◌≤◌, ◌<◌, ◌+◌, ◌++◌, ◌∷◌, length, take, drop, [], IfOk, OnOk, OnErr, IsTrue, false};
 ghost use Rattle.std.specs.Io.KnownBytes.{Appends, Keeps};
 ghost use Rattle.std.specs.Fmt.{decimal};
@@ -8,13 +7,14 @@ ghost use Rattle.quantile_sketches.specs.Output.{Writes};
 
 use std::io::{self, ErrorKind, Write};
 
-/// Two numbers of at most 20 digits, and a byte behind each.
+/// Room for two numbers of at most 20 digits, with a byte after each.
 pub const ROOM: usize = 42;
 
-/// As many bytes wait at most.
+/// At most this many bytes wait.
 pub const MOST_WAITING: usize = 16384;
 
-/// Adds bytes to those that wait. Where there is no room for them all go out, and nothing grows.
+/// Adds bytes to those that wait. If there is no room for them, all bytes go out, and nothing
+/// grows.
 #[inline(always)]
 pub fn add<W: Write>(output: &mut W, waiting: &mut Vec<u8>, bytes: &[u8]) -> io::Result<()>
     ensures { Writes result (W.contents output.old) (W.contents output.new)
@@ -27,7 +27,7 @@ pub fn add<W: Write>(output: &mut W, waiting: &mut Vec<u8>, bytes: &[u8]) -> io:
     write_through(output, waiting, bytes)
 }
 
-// This is kept out of the loop over the lines.
+// Kept out of the loop over the lines.
 #[inline(never)]
 fn write_through<W: Write>(output: &mut W, waiting: &mut Vec<u8>, bytes: &[u8]) -> io::Result<()>
     ensures { Writes result (W.contents output.old) (W.contents output.new)
@@ -37,7 +37,7 @@ fn write_through<W: Write>(output: &mut W, waiting: &mut Vec<u8>, bytes: &[u8]) 
     write_bytes(output, bytes)
 }
 
-/// Writes out all that waits, and flushes.
+/// Writes out all bytes that wait, and flushes.
 pub fn write_out<W: Write>(output: &mut W, waiting: &mut Vec<u8>) -> io::Result<()>
     ensures written { Writes result (W.contents output.old) (W.contents output.new)
         waiting.old.items [] }
@@ -62,7 +62,7 @@ pub fn write_bytes<W: Write>(output: &mut W, bytes: &[u8]) -> io::Result<()>
     Err(io::Error::from(ErrorKind::Other))
 }
 
-/// Writes once, and says how many bytes were taken: none where a signal came between.
+/// Writes once, and returns how many bytes were taken: 0 if a signal interrupted the write.
 fn write_some<W: Write>(output: &mut W, bytes: &[u8]) -> io::Result<usize>
     ensures within { IfOk result (λ count. count ≤ length bytes.now) }
     ensures out { IfOk result (λ count. Appends (W.contents output.old) (W.contents output.new)

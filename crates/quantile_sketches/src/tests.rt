@@ -1,6 +1,6 @@
-//! What no contract can say: calls go through where memory is ample, and leave all as it was where it is refused.
-//! `tests/memory` runs the tests of `refused` under a library that refuses each request for memory in turn. The README's example.
-//! `compactor` and `req` try what no line of the program shows of REQ's calls.
+//! What no contract can say: calls succeed if memory is ample, and leave everything as it was if it is refused. `tests/memory`
+//! runs the tests of `refused` under a library that refuses each memory request in turn. The README's example. `compactor` and
+//! `req` try what no line of the program shows of REQ's calls.
 
 mod ample;
 mod base;

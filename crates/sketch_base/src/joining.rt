@@ -1,4 +1,4 @@
-//! How weighted items are put in order, and equal ones joined.
+//! Sorts weighted items and joins equal ones.
 ghost use Rattle.std.specs.Prelude.{◌≡◌, ℕ, ◌+◌, ◌^◌, ◌<◌, ◌≤◌, [], ◌∷◌, ◌++◌, length, map, reverse, sum_by, IsSorted, vec_len, vec_capacity, if◌then◌else◌, OnOk, IfOk, IfErr};
 ghost use Rattle.std.specs.declared.cmp.Ordering.TheVariants.{Equal};
 ghost use Rattle.std.specs.List.Sorted.{IsPermutation};
@@ -9,7 +9,8 @@ ghost use Rattle.sketch_base.specs.Weighted.{pairs_in};
 use crate::weighted::Weighted;
 use std::alloc::{AllocError, Global};
 
-/// Puts weighted items in order of the items, the least last. Runs that are in order already, as levels are, are merged.
+/// Sorts weighted items by item in descending order. Runs that are already sorted, as levels are,
+/// are merged.
 pub(crate) fn sort_from_greatest<T: Ord>(weighted: &mut Vec<(T, u64)>) -> Result<(), AllocError>
     ensures permutation { OnOk result
         (IsPermutation weighted.old.items (reverse weighted.new.items)) }
@@ -22,7 +23,7 @@ pub(crate) fn sort_from_greatest<T: Ord>(weighted: &mut Vec<(T, u64)>) -> Result
     Ok(())
 }
 
-/// Whether an item is below the last of weighted items, if there is one.
+/// Returns whether an item is below the last of weighted items, or true if there is none.
 fn is_below_last<T: Ord>(item: &T, weighted: &[(T, u64)]) -> bool
     ensures { result ≡ is_below_next T.cmp item.now (reverse weighted.now) }
 {
@@ -32,7 +33,7 @@ fn is_below_last<T: Ord>(item: &T, weighted: &[(T, u64)]) -> bool
     }
 }
 
-/// Puts an item and the weight up to it last, if it is asked to.
+/// Appends an item and the weight up to it if `is_wanted` is true.
 fn push_if<T: Drop>(
     is_wanted: bool,
     item: T,
@@ -55,8 +56,8 @@ fn push_if<T: Drop>(
     }
 }
 
-/// Moves weighted items, which are in order with the least last, into the end of a list of items and one of the
-/// weights up to them. Of items that compare equal the last one is kept.
+/// Moves weighted items, which are in descending order, to the end of `items`, and the weights up
+/// to them to the end of `weights`. Of items that compare equal, the last one is kept.
 pub(crate) fn join_equal<T: Ord + Drop>(
     weighted: &mut Vec<(T, u64)>,
     items: &mut Vec<T>,
@@ -79,7 +80,7 @@ pub(crate) fn join_equal<T: Ord + Drop>(
     }
 }
 
-/// Whether an item is below the first of weighted items, if there is one.
+/// Returns whether an item is below the first of weighted items, or true if there is none.
 fn is_below_first<T: Ord>(item: &T, entries: &[Weighted<'_, T>]) -> bool
     ensures { result ≡ is_below_next T.cmp item.now (pairs_in entries.now) }
 {
@@ -89,7 +90,8 @@ fn is_below_first<T: Ord>(item: &T, entries: &[Weighted<'_, T>]) -> bool
     }
 }
 
-/// Clones of weighted items in order, and the weights up to them. Of items that compare equal the last one is cloned.
+/// Clones sorted weighted items, and returns the clones and the weights up to them. Of items that
+/// compare equal, the last one is cloned.
 pub(crate) fn join_clones<T: Clone + Ord>(
     alloc: Global,
     entries: &[Weighted<'_, T>],

@@ -1,4 +1,5 @@
-//! A snapshot of a sketch's items in order, for many queries. Each family builds it from what its sketches hold.
+//! A sorted snapshot of a sketch's items, for many queries. Each family builds it from what its
+//! sketches hold.
 ghost use Rattle.std.specs.Prelude.{◌≡◌, ◌↔◌, ◌<◌, ◌^◌, length, map, sum_by, IsTrue, IsSome, IsSorted, IfOk, IfErr, IfSome, Some, option_copied};
 ghost use Rattle.std.specs.declared.cmp.Ordering.TheVariants.{Equal};
 ghost use Rattle.std.specs.List.{All};
@@ -24,7 +25,8 @@ use crate::weighted::Weighted;
 use std::alloc::{AllocError, Global};
 use std::marker::Model;
 
-/// The items of a sketch in order, with their weights. It stands for each item as often as it weighs.
+/// The sorted items of a sketch, with their weights. Each item stands for as many entries as it
+/// weighs.
 #[derive(Debug, Drop)]
 pub struct SortedView<T: Clone + Ord> {
     items: Vec<T>,
@@ -44,8 +46,9 @@ impl<T: Clone + Ord> Model for SortedView<T> {
 }
 
 impl<T: Clone + Ord> SortedView<T> {
-    /// The view of items with their weights, in any order. Of items that compare equal one is kept, with the weight
-    /// of them all. The extremes are those of the stream, and None if there are no items.
+    /// Builds the view of items with their weights, in any order. Of items that compare equal, one
+    /// is kept, with the weight of them all. The extremes are those of the stream, or None if there
+    /// are no items.
     pub fn new(
         weighted: Vec<(T, u64)>,
         min_item: Option<T>,
@@ -77,8 +80,8 @@ impl<T: Clone + Ord> SortedView<T> {
         Ok(SortedView::from_cumulated(items, cumulated, min_item, max_item))
     }
 
-    /// The view of clones of weighted items in order. Of items that compare equal one is cloned, with the weight of them
-    /// all. The extremes are as for `new`.
+    /// Builds the view of clones of sorted weighted items. Of items that compare equal, one is
+    /// cloned, with the weight of them all. The extremes are as for `new`.
     pub fn from_weighted(
         alloc: Global,
         entries: &[Weighted<'_, T>],
@@ -106,7 +109,8 @@ impl<T: Clone + Ord> SortedView<T> {
         Ok(SortedView::from_cumulated(items, cumulated, min_item, max_item))
     }
 
-    /// The view of items in order with their cumulated weights, whose stream has these extremes.
+    /// Builds the view of sorted items with their cumulative weights, whose stream has these
+    /// extremes.
     pub fn from_cumulated(
         items: Vec<T>,
         cumulated: Vec<u64>,
@@ -124,29 +128,30 @@ impl<T: Clone + Ord> SortedView<T> {
         }
     }
 
-    /// Whether the sketch had no items.
+    /// Returns whether the sketch had no items.
     pub fn is_empty(&self) -> bool
         ensures { IsTrue result ↔ (length self.now.entries ≡ 0) }
     {
         self.items.is_empty()
     }
 
-    /// How many items the view holds: of a KLL sketch the retained ones, of a REQ sketch the distinct
-    /// ones among them, since `new` joins equal items.
+    /// Returns the number of items that the view holds: for a KLL sketch the retained ones, for a
+    /// REQ sketch the distinct ones among them, since `new` joins equal items.
     pub fn len(&self) -> usize
         ensures { result ≡ self.now.held }
     {
         self.items.len()
     }
 
-    /// How many items the sketch took in.
+    /// Returns the number of items that the sketch took.
     pub fn total_weight(&self) -> u64
         ensures { result ≡ length self.now.entries }
     {
         entries_of(self.items.as_slice(), self.cumulated.as_slice())
     }
 
-    /// How many entries a query counts, of them all; None where there are none.
+    /// Returns the number of entries that a query counts, out of all entries, or None if there are
+    /// none.
     pub fn rank(&self, item: &T, criteria: SearchCriteria) -> Option<Rank>
         ensures there { IsSome result ↔ (0 < length self.now.entries) }
         ensures weight { IfSome result (λ r.
@@ -162,7 +167,7 @@ impl<T: Clone + Ord> SortedView<T> {
         Some(Rank { weight, total })
     }
 
-    /// The entry that a fraction names; None where there are none.
+    /// Returns the entry at the quantile given by `fraction`, or None if there are no entries.
     pub fn quantile(&self, fraction: Rank, criteria: SearchCriteria) -> Result<Option<T>, Error>
         requires clones { (x y : T) → T.is_clone x y → T.cmp x y ≡ Equal }
         ensures found { IfOk result (SameAnswer T.cmp (quantile_of self.now fraction criteria)) }
@@ -173,7 +178,7 @@ impl<T: Clone + Ord> SortedView<T> {
         Ok(clone_found(self.entry_of(fraction, criteria))?)
     }
 
-    /// The entries that fractions name, one for each; None where there are none.
+    /// Returns the entry at the quantile given by each fraction, or None if there are no entries.
     pub fn quantiles(
         &self,
         fractions: &[Rank],
@@ -192,7 +197,8 @@ impl<T: Clone + Ord> SortedView<T> {
         Ok(Some(self.entries_of_all(fractions, criteria)?))
     }
 
-    /// The rank of each split point, and last the whole; None where there are no entries.
+    /// Returns the rank of each split point, followed by the whole, or None if there are no
+    /// entries.
     pub fn cdf(&self, points: &[T], criteria: SearchCriteria) -> Result<Option<Vec<Rank>>, Error>
         ensures found { let entries = self.now.entries in
             IfOk result (FindsRanks (length entries) (cdf_of T.cmp criteria entries points.now)) }
@@ -211,7 +217,7 @@ impl<T: Clone + Ord> SortedView<T> {
         Ok(Some(cdf_among(alloc, items, cumulated, points, criteria)?))
     }
 
-    /// How many entries lie between the split points; None where there are no entries.
+    /// Returns the numbers of entries between the split points, or None if there are no entries.
     pub fn pmf(&self, points: &[T], criteria: SearchCriteria) -> Result<Option<Vec<Rank>>, Error>
         ensures found { let entries = self.now.entries in
             IfOk result (FindsRanks (length entries) (pmf_of T.cmp criteria entries points.now)) }
@@ -230,7 +236,7 @@ impl<T: Clone + Ord> SortedView<T> {
         Ok(Some(pmf_among(alloc, items, cumulated, points, criteria)?))
     }
 
-    /// A view of clones of the items.
+    /// Returns a view of clones of the items.
     pub fn clone(&self) -> Result<Self, AllocError>
         requires clones { (x y : T) → T.is_clone x y → T.cmp x y ≡ Equal }
         ensures { IfOk result (SameView T.cmp self.now) }
@@ -243,7 +249,7 @@ impl<T: Clone + Ord> SortedView<T> {
         })
     }
 
-    /// The entries that fractions name.
+    /// Returns the entries at the quantiles given by `fractions`.
     fn entries_of_all(
         &self,
         fractions: &[Rank],
@@ -262,7 +268,7 @@ impl<T: Clone + Ord> SortedView<T> {
         Ok(found)
     }
 
-    /// A clone of the entry that a fraction names.
+    /// Returns a clone of the entry at the quantile given by `fraction`.
     fn clone_of_entry(&self, fraction: &Rank, criteria: SearchCriteria) -> Result<T, AllocError>
         requires clones { (x y : T) → T.is_clone x y → T.cmp x y ≡ Equal }
         requires fraction { IsFraction fraction.now }
@@ -273,7 +279,7 @@ impl<T: Clone + Ord> SortedView<T> {
         self.entry_of(*fraction, criteria).unwrap().clone()
     }
 
-    /// The entry that a fraction names.
+    /// Returns the entry at the quantile given by `fraction`.
     fn entry_of(&self, fraction: Rank, criteria: SearchCriteria) -> Option<&T>
         requires { IsFraction fraction }
         ensures entry { option_copied result ≡ quantile_of self.now fraction criteria }

@@ -25,7 +25,8 @@ use sketch_base::common::room::{give_back, reserve_next};
 use std::alloc::{AllocError, Global};
 use std::marker::Model;
 
-/// How many bounds levels may need: those of 61 levels, and one to spare for general compress.
+/// The number of bounds that levels may need: those of 61 levels, and a spare one for general
+/// compress.
 const MAX_BOUNDS: usize = 63;
 
 /// The levels of a sketch: level h is `items[bounds[h + 1]..bounds[h]]`, so that an update without
@@ -52,7 +53,7 @@ impl<T: Ord> Model for Levels<T> {
 }
 
 impl<T: Ord + Drop> Levels<T> {
-    /// One level with nothing in it, which does not count as sorted.
+    /// Creates one empty level, which does not count as sorted.
     pub(crate) fn new(alloc: Global, k: u16) -> Result<Self, AllocError>
         requires k { 8 ≤ k }
         ensures k { IfOk result (λ x. x.k ≡ k) }
@@ -68,14 +69,14 @@ impl<T: Ord + Drop> Levels<T> {
         })
     }
 
-    /// How many levels there are.
+    /// Returns the number of levels.
     pub(crate) fn num_levels(&self) -> usize
         ensures { result ≡ length self.now.levels }
     {
         self.bounds.len() - 1
     }
 
-    /// Makes the levels what `new` gives.
+    /// Resets the levels to what `new` returns.
     pub(crate) fn clear(&mut self)
         ensures k { self.new.k ≡ self.old.k }
         ensures flag { self.new.is_sorted ≡ false }
@@ -89,7 +90,7 @@ impl<T: Ord + Drop> Levels<T> {
         self.total_capacity = total_capacity(self.k, MINIMUM_CAPACITY, 1);
     }
 
-    /// Makes room for one item and one level more.
+    /// Makes room for one more item and one more level.
     pub(crate) fn reserve_next(&mut self) -> Result<(), AllocError>
         ensures kept { KeepsLevels self.old self.new }
         ensures room { OnOk result (retained self.new.levels < self.new.items_room) }
@@ -99,7 +100,7 @@ impl<T: Ord + Drop> Levels<T> {
         reserve_both(&mut self.items, &mut self.bounds, most)
     }
 
-    /// Whether an item can be put in with neither a compaction nor memory.
+    /// Returns whether an item can be added with neither a compaction nor an allocation.
     #[inline(always)]
     pub(crate) fn has_place(&self) -> bool
         ensures room { result ≡ true → retained self.now.levels < self.now.items_room }
@@ -109,14 +110,15 @@ impl<T: Ord + Drop> Levels<T> {
         len < self.items.capacity() && len < self.total_capacity as usize
     }
 
-    /// Gives back memory for more than an eighth more items, and for more than one more level.
+    /// Frees memory beyond room for an eighth more items and one more level.
     pub(crate) fn give_back(&mut self)
         ensures kept { KeepsLevels self.old self.new }
     {
         shrink_both(&mut self.items, &mut self.bounds);
     }
 
-    /// Does so where there is memory for over a quarter more items than a vector that grows takes.
+    /// Calls `give_back` if there is memory for over a quarter more items, more than a growing
+    /// vector takes.
     pub(crate) fn give_back_much(&mut self)
         ensures kept { KeepsLevels self.old self.new }
     {
@@ -126,7 +128,7 @@ impl<T: Ord + Drop> Levels<T> {
         }
     }
 
-    /// Compacts one level, where the levels are at or over their total capacity.
+    /// Compacts one level if the levels are at or over their total capacity.
     #[inline(always)]
     pub(crate) fn compact_if_full<B: RandomBits>(&mut self, coins: &mut B)
         requires light { weight_in self.old.levels < 2 ^ 64 }
@@ -148,7 +150,7 @@ impl<T: Ord + Drop> Levels<T> {
         }
     }
 
-    /// Compacts one level under the next coin; above the top one a level is added.
+    /// Compacts one level under the next coin. If it is the top one, a level is added above it.
     fn compact<B: RandomBits>(&mut self, level: usize, coins: &mut B)
         requires within { level < length self.old.levels }
         requires few { level < 60 }
@@ -176,7 +178,7 @@ impl<T: Ord + Drop> Levels<T> {
         self.total_capacity = total_at(self.k, self.total_capacity, known, num_levels);
     }
 
-    /// Puts an item last into level 0.
+    /// Appends an item to level 0.
     pub(crate) fn push(&mut self, item: T)
         requires spare { retained self.old.levels < self.old.items_room }
         ensures k { self.new.k ≡ self.old.k }
@@ -191,7 +193,7 @@ impl<T: Ord + Drop> Levels<T> {
     }
 }
 
-/// The items of one level.
+/// Returns the items of one level.
 pub(crate) fn level_slice<'a, T>(items: &'a [T], bounds: &[usize], level: usize) -> &'a [T]
     requires flat { IsFlat items.now bounds.now }
     requires within { level + 1 < length bounds.now }
@@ -208,7 +210,7 @@ fn run_between<T>(items: &[T], start: usize, end: usize) -> &[T]
     &items[start..end]
 }
 
-/// The weight of the items that a query counts.
+/// Returns the weight of the items that a query counts.
 pub(crate) fn weight_counted<T: Ord>(
     items: &[T],
     bounds: &[usize],
@@ -232,7 +234,8 @@ pub(crate) fn weight_counted<T: Ord>(
     2 * weight + count_all(level_slice(items, bounds, 0), query, criteria) as u64
 }
 
-/// The lowest level at or over its capacity, where the levels are at or over their total capacity.
+/// Returns the lowest level at or over its capacity, if the levels are at or over their total
+/// capacity.
 fn find_level_to_compact<T>(k: u16, total: u32, items: &[T], bounds: &[usize]) -> Option<usize>
     requires k { 8 ≤ k }
     requires total { total ≡ total_of k 8 (length bounds.now - 1) }
@@ -256,8 +259,8 @@ fn find_level_to_compact<T>(k: u16, total: u32, items: &[T], bounds: &[usize]) -
     unreachable!()
 }
 
-/// Whether a level with `count` items is at or over its capacity. One of few items, and one far below
-/// the top, need no look at what that is.
+/// Returns whether a level with `count` items is at or over its capacity. The capacity of a level
+/// with few items, or far below the top, isn't computed.
 fn is_at_capacity(k: u16, num_levels: usize, level: usize, count: usize) -> bool
     requires k { 8 ≤ k }
     requires few_levels { num_levels ≤ 61 }
@@ -269,7 +272,7 @@ fn is_at_capacity(k: u16, num_levels: usize, level: usize, count: usize) -> bool
             || count >= level_capacity(k, num_levels, level, MINIMUM_CAPACITY) as usize)
 }
 
-/// The total capacity of `num_levels` levels, given that of `known` levels.
+/// Returns the total capacity of `num_levels` levels, given that of `known` levels.
 fn total_at(k: u16, total: u32, known: usize, num_levels: usize) -> u32
     requires k { 8 ≤ k }
     requires total { total ≡ total_of k 8 known }
@@ -283,14 +286,15 @@ fn total_at(k: u16, total: u32, known: usize, num_levels: usize) -> u32
     }
 }
 
-/// Whether a level has to be sorted before it is compacted: level 0 where it does not count as sorted.
+/// Returns whether a level has to be sorted before it is compacted: level 0 if it does not count as
+/// sorted.
 fn needs_sorting(is_sorted: bool, level: usize) -> bool
     ensures { result ≡ needs_sorting is_sorted level }
 {
     level == 0 && !is_sorted
 }
 
-/// Adds a level above a level where there is none.
+/// Adds a level above `level` if there is none.
 fn add_level_above(bounds: &mut Vec<usize>, level: usize)
     requires spare { vec_len bounds.old < vec_capacity bounds.old }
     requires within { level + 2 < 2 ^ 64 }
@@ -318,7 +322,7 @@ fn reserve_both<T: Drop>(
     bounds.reserve(1)
 }
 
-/// Gives back room for more than an eighth more items, and for more than one more bound.
+/// Frees room beyond an eighth more items and one more bound.
 fn shrink_both<T>(items: &mut Vec<T>, bounds: &mut Vec<usize>)
     ensures items { items.new.items ≡ items.old.items }
     ensures bounds { bounds.new.items ≡ bounds.old.items }

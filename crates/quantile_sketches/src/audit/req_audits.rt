@@ -22,13 +22,13 @@ use sketch_req::value::ReqValue;
 use std::alloc::Global;
 
 /// Runs commands on REQ sketches under every word of the coins that they take, and asks a slot for
-/// the rank of an item under each. An absent slot counts 0.
+/// the rank of an item under each word. An absent slot counts as 0.
 ///
-/// Where the slot was only updated since its New or Reset, the weights average out at the true
-/// rank, and their standard error is relative: small where few items lie between the item and the
+/// Where the slot was only updated since its New or Reset, the weights average to the true rank,
+/// and their standard error is relative: small where few items lie between the item and the
 /// protected end.
 ///
-/// Values with one spelling have to compare equal, and so have an item and its clone.
+/// Values with the same spelling must compare equal, and so must an item and its clone.
 /// `InvalidArgument` exactly where more than 16 coins are taken; any other error is `OutOfMemory`.
 pub fn audit_req<T: ReqValue + Clone + Ord>(
     alloc: Global,

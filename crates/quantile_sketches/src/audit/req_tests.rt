@@ -36,8 +36,8 @@ const ONE_COIN: [Steps; 2] = [HIGH_12, Step::Updates(0, 1, 72)];
 
 const ABSENT: Steps = Step::Merge(255, 101);
 
-// Where a merge compacts at once, one sketch drew a coin and the other none: 5 goes up or stays behind as the second coin is, where
-// that is drawn anew.
+// Where a merge compacts at once, one sketch drew a coin and the other none. With coins redrawn, the second coin decides whether
+// 5 goes up or stays.
 static ROWS: [Row<'static, Config>; 15] = [
     ("nothing", &[], Trial::Gives(&[&[]], 0, &[], &[])),
     (
@@ -198,7 +198,7 @@ fn long_run_ends(rt: HostRuntime) {
     assert!(rt; wrong_of(rt.alloc(), &LONG).is_none());
 }
 
-// 23 items, which are merged sixteen times into a new sketch, and one more each time, which takes a coin.
+// 23 items, merged sixteen times into a new sketch, and one more item each time, which takes a coin.
 fn with_sixteen_coins() -> [Steps; 50] {
     let mut steps = [Step::Merge(255, 100); 50];
     steps[0] = Step::New(100, (4, HighRank));

@@ -1,4 +1,5 @@
-//! Large sketches: no call gives up from some size on where memory is ample. `audit` has the long runs.
+//! Large sketches: with ample memory, calls don't start to fail at some size. `audit` has the long
+//! runs.
 use super::calls::{CRITERIA, View, are_equal, double, fill_with, fraction, ranks_alike};
 use super::sketches::Tried;
 use crate::text::image_text;
@@ -30,7 +31,7 @@ fn fractions(alloc: Global) -> Result<Vec<Rank>, AllocError> {
     Ok(fractions)
 }
 
-/// Whether a fraction of a sketch, 0 or 1, names a number's item.
+/// Whether a fraction of a sketch, 0 or 1, names the item of a number.
 fn names<S: Tried>(alloc: Global, sketch: &S, weight: u64, number: u32) -> bool
     requires { S.Asks }
 {
@@ -43,7 +44,7 @@ fn names<S: Tried>(alloc: Global, sketch: &S, weight: u64, number: u32) -> bool
     }
 }
 
-/// Whether a sketch ranks a number's item as the whole of its weight.
+/// Whether a sketch ranks the item of a number as the whole of its weight.
 fn ranks_last<S: Tried>(alloc: Global, sketch: &S, number: u32, count: u64) -> bool {
     match S::item_of(alloc, number) {
         Ok(item) => sketch.rank_of(&item, CRITERIA) == Some(fraction(count, count)),
@@ -68,7 +69,7 @@ fn distributes_alike<S: Tried>(sketch: &S, view: &View<S>, points: &[S::Item]) -
         && are_equal(sketch.pmf_of(points, CRITERIA), view.pmf(points, CRITERIA))
 }
 
-/// Whether all quantiles were found, and the one in the middle is the one that is found alone.
+/// Whether all quantiles were found, and the middle one equals the one that is found alone.
 fn has_middle<S: Tried>(
     sketch: &S,
     found: &[S::Item],
@@ -83,7 +84,7 @@ fn has_middle<S: Tried>(
     }
 }
 
-/// Whether a sketch has one quantile for each fraction, which are those of its view.
+/// Whether a sketch has one quantile for each fraction, the same as its view.
 fn finds_alike<S: Tried>(
     sketch: &S,
     view: &View<S>,
@@ -101,7 +102,7 @@ fn finds_alike<S: Tried>(
     }
 }
 
-/// Whether the text of an image reads as the image.
+/// Whether the text of an image reads back as the image.
 fn is_read_as_text(alloc: Global, image: &[u8]) -> bool {
     match image_text(alloc, image) {
         Ok(text) => are_bytes_of(alloc, image, text.as_str()),
@@ -126,7 +127,7 @@ fn is_read_as<S: Tried>(alloc: Global, image: &[u8], count: u64) -> bool
     }
 }
 
-/// Whether a sketch's image, as a text too, is read as a sketch that took `count` items.
+/// Whether a sketch's image, also as a text, is read as a sketch that took `count` items.
 fn reads_back<S: Tried>(alloc: Global, sketch: &S, count: u64) -> bool
     requires { S.Asks }
 {
@@ -186,7 +187,7 @@ fn answers_many<S: Tried>(alloc: Global, sketch: &S) -> bool
     }
 }
 
-/// Whether a large sketch that a copy of it was merged into answers all that it is asked.
+/// Whether a large sketch answers all that it is asked, after a copy of it was merged in.
 fn answers_all<S: Tried>(alloc: Global, sketch: &S) -> bool
     requires { S.Asks }
 {

@@ -1,4 +1,4 @@
-//! The crate below all others: families, coins and errors. `req` has numbers of each width, as their bytes.
+//! The crate below all others: families, coins and errors. `req` tries the bytes of numbers of each width.
 use sketch_base::codec::Family;
 use sketch_base::common::random::{RandomBits, SplitMix64, WordBits};
 use sketch_base::error::{Error, ErrorKind};
@@ -35,7 +35,7 @@ fn splitmix64_from_zero(rt: HostRuntime) {
     assert!(rt; gives(&mut SplitMix64::new(0), &numbers));
 }
 
-// Whether the draws from a new source on are these bits, and each is counted.
+// Whether the first draws from a source are these bits, and each is counted.
 fn draws(source: &mut WordBits<'_>, bits: &[bool]) -> bool {
     for (drawn, bit) in bits.iter().enumerate() {
         if source.drawn() != drawn || source.random_bit() != *bit {
@@ -51,7 +51,7 @@ fn word_then_false(rt: HostRuntime) {
     assert!(rt; draws(&mut source, &[true, false, true, false, false]));
 }
 
-// Whether an error prints so.
+// Whether an error prints as this text.
 fn prints(alloc: Global, error: &Error, text: &str) -> bool {
     match error.to_string(alloc) {
         Ok(printed) => printed.as_str() == text,
@@ -59,7 +59,7 @@ fn prints(alloc: Global, error: &Error, text: &str) -> bool {
     }
 }
 
-// Whether the error of a kind prints so, and tells its kind.
+// Whether the error of a kind prints as this text, and gives its kind.
 fn tells(alloc: Global, kind: ErrorKind, text: &str) -> bool {
     let error = Error::new(kind);
     error.kind() == kind && prints(alloc, &error, text)

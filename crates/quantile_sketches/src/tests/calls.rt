@@ -1,4 +1,4 @@
-//! A call that takes memory, as data: what it is made on and with, what it gave, and whether two gave the same.
+//! A call that allocates, as data: what it is made on and with, what it gave, and whether two calls gave the same.
 use super::runs::{Commands, Step, push_step};
 use super::sketches::Tried;
 use crate::audit::{Audit, Run};
@@ -52,8 +52,8 @@ pub(super) fn name_of(call: Call) -> &'static str {
     }
 }
 
-/// A call on a sketch of this k and number of items. The last number is how many items the merged sketch has, or the weight of
-/// the item that is put in.
+/// A call on a sketch of this k and number of items. The last number is the number of items in the sketch that is merged in, or
+/// the weight of the item that is put in.
 pub(super) type Row = (Call, u16, u32, u32);
 
 /// What a row's call is made on and with.
@@ -65,11 +65,11 @@ pub(super) struct Subject<S: Tried> {
     pub(super) given: Given<S>,
 }
 
-/// What a call takes besides.
+/// What else a call takes.
 #[derive(Drop)]
 pub(super) enum Given<S: Tried> {
     Nothing,
-    /// Items to put in, one for each time that the call is made.
+    /// Items to put in, one for each time the call is made.
     Items(Vec<S::Item>),
     /// A sketch to merge in.
     Other(S),
@@ -142,7 +142,7 @@ fn is_ranked_alike<S: Tried>(sketch: &S, view: &View<S>, item: &S::Item) -> bool
             == sketch.rank_of(item, SearchCriteria::Exclusive)
 }
 
-/// Whether a view ranks a number's item as its sketch does.
+/// Whether a view ranks the item of a number as its sketch does.
 fn ranks_item_alike<S: Tried>(alloc: Global, sketch: &S, view: &View<S>, number: u32) -> bool {
     match S::item_of(alloc, number) {
         Ok(item) => is_ranked_alike(sketch, view, &item),
@@ -160,7 +160,8 @@ pub(super) fn ranks_alike<S: Tried>(alloc: Global, sketch: &S, view: &View<S>, c
     true
 }
 
-/// A sketch of a number of items in slot 0, and in slot 1 what is read from the image of a sketch that it was merged into.
+/// A step of the commands that leave a sketch of `count` items in slot 0, and in slot 1 what is read from the image of a sketch
+/// that it was merged into.
 fn step_of<S: Tried>(place: u8, k: u16, count: u32) -> Step<S::Config> {
     match place {
         0 | 1 => Step::New(place, S::config_of(k)),
@@ -350,7 +351,8 @@ pub(super) fn are_equal<X: PartialEq + Drop>(a: Result<X, Error>, b: Result<X, E
     }
 }
 
-/// The image of a sketch that took `more` items: it shows states and coins that no image holds.
+/// The image of a sketch that took `more` items: it shows states and coins that an image doesn't
+/// hold.
 fn image_past<S: Tried>(alloc: Global, sketch: &S, more: u32) -> Result<Vec<u8>, Error>
     requires { S.Asks }
 {

@@ -34,7 +34,7 @@ fn has_numbers(level: &Level, numbers: Numbers) -> bool {
         && level.nominal_capacity() == capacity
 }
 
-/// Whether a level has these items, and counts as sorted or not.
+/// Whether a level has these items, and counts as sorted exactly if `is_sorted`.
 fn holds(level: &Level, items: &[i32], is_sorted: bool) -> bool {
     level.items_slice() == items && level.is_sorted() == is_sorted
 }
@@ -48,7 +48,7 @@ fn is_range(level: &Level, first: i32, last: i32) -> bool {
         && level.is_sorted()
 }
 
-/// A level of weight 1 with the numbers from 1 to another, the last first.
+/// A level of weight 1 with the numbers from 1 to `last`, the greatest first.
 fn filled(alloc: Global, k: u16, rank_accuracy: RankAccuracy, last: i32) -> Result<Level, Error>
     requires { IsLegalK k }
     ensures { IfOk result (λ level. level.lg_weight ≡ 0) }
@@ -69,13 +69,13 @@ fn level_of(alloc: Global, items: &[i32]) -> Result<Level, Error> {
     Ok(level)
 }
 
-/// Whether a new level of the third place and k 12 has 3 sections of 12, weighs 8 an item, and counts as sorted.
+/// Whether a new level at place 3 with k 12 has 3 sections of 12, a weight of 8 an item, and counts as sorted.
 fn is_new(alloc: Global) -> bool {
     let level: Level = Compactor::new(alloc, 3, 12, LOW);
     holds(&level, &[], true) && level.weight() == 8 && has_numbers(&level, (0, 0, 3, 12, 72))
 }
 
-/// Whether a level of two items, which are said to be sorted or not, counts as sorted or not, and is new else.
+/// Whether a level of two items that `said` calls sorted or not counts as sorted exactly if `is_sorted`, and is new otherwise.
 fn is_raw(alloc: Global, items: [i32; 2], said: bool, is_sorted: bool) -> bool {
     match Vec::from_array(alloc, items) {
         Ok(given) => {
@@ -99,7 +99,7 @@ fn new_levels(rt: HostRuntime) {
     );
 }
 
-/// Whether a level counts these numbers of items at most another, and below it.
+/// Whether a level counts these numbers of items at most `item`, and below it.
 fn counts(level: &Level, item: i32, at_most: usize, below: usize) -> bool {
     level.count_below(&item, true) == at_most && level.count_below(&item, false) == below
 }
@@ -112,7 +112,7 @@ fn counts_all(level: &Level) -> bool {
         && counts(level, 6, 4, 4)
 }
 
-/// Whether 5, 3, 5, 1 are counted alike before and after a sort, which orders them.
+/// Whether `sort` sorts 5, 3, 5, 1, and they are counted alike before and after it.
 fn sorts(level: &mut Level) -> bool {
     let is_counted = holds(level, &[5, 3, 5, 1], false) && counts_all(level);
     level.sort();
@@ -132,7 +132,7 @@ fn sorts_and_counts_items_below(rt: HostRuntime) {
     assert!(rt; counts_in_any_order(rt.alloc()));
 }
 
-/// Whether a level of 5, 1, 3 that is sorted takes 2, 4, 6 in order.
+/// Whether a level of 5, 1, 3 takes in 2, 4, 6 after a sort.
 fn merges_sorted(level: &mut Level) -> bool {
     level.sort();
     level.merge_sorted([2, 4, 6].as_slice()).is_ok()
@@ -153,8 +153,8 @@ fn merges_in_order(alloc: Global) -> bool {
     }
 }
 
-/// Whether a level of 3, 2, 1 that merged nothing in is as it was, one that merged 2, 1 in has five items, and one of the numbers
-/// from 1 to 20 that merged those to 52 in counts 72.
+/// Whether a level of 3, 2, 1 is as it was if nothing was merged in, has five items if 2, 1 were merged in, and a level of the
+/// numbers from 1 to 20 counts 72 if those to 52 were merged in.
 fn is_merged(level: &Level, other: i32) -> bool {
     match other {
         0 => holds(level, &[3, 2, 1], false),
@@ -163,7 +163,7 @@ fn is_merged(level: &Level, other: i32) -> bool {
     }
 }
 
-/// Whether a level of k 12 of the numbers from 1 to one merges those to another in, of a level of another k and accuracy.
+/// Whether a level of k 12 with the numbers from 1 to `last` merges in those to `other`, from a level of another k and accuracy.
 fn merges(alloc: Global, last: i32, other: i32) -> bool {
     match (filled(alloc, 12, HIGH, last), filled(alloc, 4, LOW, other)) {
         (Ok(mut level), Ok(taken)) => level.merge(&taken).is_ok() && is_merged(&level, other),
@@ -185,7 +185,7 @@ fn merges_levels(rt: HostRuntime) {
 }
 
 /// A side, the greatest of the numbers from 1 on that a level of k 4 has, a coin, the items that are sent up, and the first and
-/// the last number that is kept.
+/// last number kept.
 type Compaction<'a> = (RankAccuracy, i32, bool, &'a [i32], i32, i32);
 
 /// The odd numbers below 64.
@@ -194,14 +194,14 @@ const ODD: [i32; 32] = [
     51, 53, 55, 57, 59, 61, 63,
 ];
 
-/// Whether a level that was compacted has sent these items up and kept its range, and moved its state where anything went up.
+/// Whether a compacted level has sent these items up and kept its range, and moved its state if anything went up.
 fn is_compacted(level: &Level, out: &[i32], compaction: Compaction<'_>) -> bool {
     let (_, _, _, up, first, last) = compaction;
     let moved = if up.is_empty() { 0 } else { 1 };
     out == up && is_range(level, first, last) && level.state() == moved
 }
 
-/// Whether a compaction does so, and draws a coin where anything goes up.
+/// Whether a compaction does so, and draws a coin if anything goes up.
 fn compacts_into(level: &mut Level, out: &mut Vec<i32>, compaction: Compaction<'_>) -> bool {
     let (_, _, coin, up, ..) = compaction;
     let word = [coin];
@@ -257,7 +257,7 @@ fn is_written_as(alloc: Global, level: &Level, image: &[u8]) -> bool {
     }
 }
 
-/// Whether a new level gets 24 sections by a merge of one that is read.
+/// Whether a new level gets 24 sections by merging in one that is read.
 fn doubles_sections(alloc: Global, level: &mut Level, read: &Level) -> bool
     requires { level.old.lg_weight ≡ read.now.lg_weight }
 {

@@ -78,7 +78,7 @@ fn item_of(class: u32) -> Third {
     }
 }
 
-/// Whether a sketch of `count` items 0, 1, 2, 0, 1 and so on shows that count, and the least and the greatest.
+/// Whether a sketch of `count` items 0, 1, 2, 0, 1 and so on shows that count and the least and the greatest item.
 fn is_seen(count: u32, n: u64, least: Option<&Third>, greatest: Option<&Third>) -> bool {
     let last = count.wrapping_sub(1).min(2) as u8;
     match (least, greatest) {
@@ -99,7 +99,7 @@ fn is_answered(median: Result<Option<Third>, Error>, rank: Option<Rank>) -> bool
     }
 }
 
-/// Whether a KLL sketch is as it should be behind an item.
+/// Whether a KLL sketch is as it should be after an item.
 fn is_kll_seen(sketch: &KllSketch<Third>, number: u32) -> bool {
     let (least, greatest) = (sketch.min_item(), sketch.max_item());
     is_seen(number.wrapping_add(1), sketch.n(), least, greatest) && sketch.num_retained() <= 80
@@ -121,7 +121,7 @@ fn answers_kll(sketch: &KllSketch<Third>) -> bool {
     is_answered(sketch.quantile(fraction(1, 2), CRITERIA), rank)
 }
 
-/// Merges a copy of a sketch into it, and asks for its median and the whole: whether both are as wanted.
+/// Merges a copy of a sketch into it, and returns whether its median and the rank of the whole are as wanted.
 fn double_kll(sketch: &mut KllSketch<Third>, coins: &mut SplitMix64) -> bool {
     match sketch.clone() {
         Ok(copy) => sketch.merge(&copy, coins).is_ok() && answers_kll(sketch),
@@ -138,7 +138,7 @@ fn takes_kll(alloc: Global) -> bool {
     }
 }
 
-/// Whether a REQ sketch is as it should be behind an item.
+/// Whether a REQ sketch is as it should be after an item.
 fn is_req_seen(sketch: &ReqSketch<Third>, number: u32) -> bool {
     let (least, greatest) = (sketch.min_item(), sketch.max_item());
     is_seen(number.wrapping_add(1), sketch.n(), least, greatest) && sketch.num_retained() <= 216
@@ -159,7 +159,7 @@ fn answers_req(sketch: &ReqSketch<Third>) -> bool {
     is_answered(sketch.quantile(fraction(1, 2), CRITERIA), rank)
 }
 
-/// Merges a copy of a sketch into it, and asks for its median and the whole: whether both are as wanted.
+/// Merges a copy of a sketch into it, and returns whether its median and the rank of the whole are as wanted.
 fn double_req(sketch: &mut ReqSketch<Third>, coins: &mut SplitMix64) -> bool {
     match sketch.clone() {
         Ok(copy) => sketch.merge(&copy, coins).is_ok() && answers_req(sketch),

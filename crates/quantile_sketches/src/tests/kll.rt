@@ -1,6 +1,6 @@
-//! KLL sketches by what no line can say: estimates and the sizes of views, items that have no spelling, `==`.
-//! The worked updates, merges, weights, quantiles and images of numbers are in `tests/lines`, the greatest weights in
-//! `tests/program`, and the images of texts in `text::tests`.
+//! What no line can say of KLL sketches: estimates and the sizes of views, items that have no spelling, `==`. The worked updates,
+//! merges, weights, quantiles and images of numbers are in `tests/lines`, the greatest weights in `tests/program`, and the images
+//! of texts in `text::tests`.
 ghost use Rattle.std.proofs.lemmas.Bool.{false≢true};
 ghost use Rattle.std.specs.Prelude.{None};
 
@@ -34,7 +34,7 @@ fn is_seen(sketch: &KllSketch<i64>, wanted: Seen) -> bool {
     }
 }
 
-// Whether a sketch of some items is seen so.
+// Whether a sketch of some items is seen as `wanted`.
 fn shows(alloc: Global, items: &[i64], wanted: Seen) -> bool {
     match filled(alloc, items) {
         Ok(sketch) => is_seen(&sketch, wanted),
@@ -110,7 +110,7 @@ fn read(alloc: Global, image: &str) -> Result<KllSketch<i64>, Error> {
     KllSketch::deserialize(alloc, &bytes)
 }
 
-// Images of sketches that differ: by an item, and by the flag alone that level 0 counts as sorted, of no item and of 1 and 2.
+// Images of sketches that differ: by an item, and only by the flag that level 0 counts as sorted, with no item and with 1 and 2.
 static DIFFERENT: [(&str, &str); 3] = [
     ("02010f01c8000800", "02020f04c80008000700000000000000"),
     ("02010f01c8000800", "02010f03c8000800"),

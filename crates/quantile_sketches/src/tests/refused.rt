@@ -1,7 +1,7 @@
-//! Calls whose requests for memory are refused one by one.
+//! Calls whose memory requests are refused one by one.
 //!
-//! `tests/memory` runs these tests under tests/refuse.c, and each call is then made anew for the first request, the second and
-//! so on, until none is refused. Without that library nothing is refused: each call is made once.
+//! `tests/memory` runs these tests under tests/refuse.c, and each call is then repeated with the first request refused, then the
+//! second and so on, until none is refused. Without that library nothing is refused: each call is made once.
 use super::calls::{
     Answer, CRITERIA, Call, Row, Subject, View, WORD, answer_of, are_alike, copied, filled,
     fraction, fractions, is_same, items, name_of, subject_of,
@@ -16,8 +16,8 @@ use sketch_req::sketch::ReqSketch;
 use std::alloc::Global;
 use std::io::{self, Cursor};
 
-/// Requests of at least this many bytes are signs to the library alone: N more have the Nth request from then on refused, and exactly this many are
-/// refused where a request was.
+/// Requests of at least this many bytes are only signs to the library. N bytes more have it refuse the Nth request from then on.
+/// A request of exactly this many bytes is refused if a request was.
 const SIGN: usize = 1 << 24;
 
 fn refuse(alloc: Global, nth: usize) -> bool {
@@ -83,8 +83,8 @@ fn is_left<S: Tried>(alloc: Global, subject: &Subject<S>) -> bool
     }
 }
 
-/// Whether all is as wanted behind the first try: it answers, or a call whose request was refused says so, leaves the sketch as it
-/// was, and answers when it is made again.
+/// Whether all is as wanted after the first try: the call answers, or, if its request was refused, says so, leaves the sketch as
+/// it was, and answers when it is made again.
 fn is_well<S: Tried>(
     alloc: Global,
     first: &Result<Answer<S>, Error>,
@@ -104,8 +104,8 @@ fn is_well<S: Tried>(
     }
 }
 
-/// Makes the row's call on a sketch with the Nth request refused: whether one was, and whether all is as wanted. (A refused request
-/// to give memory back leaves a call as it is.)
+/// Makes the row's call on a sketch with the Nth request refused: whether one was, and whether all is as wanted. (A refused
+/// request to shrink leaves a call as it is.)
 fn try_on<S: Tried>(alloc: Global, nth: usize, subject: &mut Subject<S>) -> (bool, bool)
     requires { S.Asks }
 {
@@ -145,7 +145,7 @@ fn print_row(rt: &impl Print, row: Row, refused: Option<usize>) -> io::Result<()
     println!(rt; "{name} {k} {count} {number} {refused:?}")
 }
 
-/// Tries a row, and prints it under the library, or where it isn't as wanted.
+/// Tries a row, and prints it under the library, or if it isn't as wanted.
 fn try_row<S: Tried>(rt: &(impl Print + AllocGlobal), row: Row) -> bool
     requires { S.Asks }
 {
@@ -204,7 +204,8 @@ fn view_refuses<S: Tried>(view: &View<S>, equal: &[S::Item]) -> bool
         && is_invalid(view.pmf(equal, CRITERIA))
 }
 
-// Each of these makes calls that take no memory, with the first request refused: whether none was made, and the answers are right.
+// Each of these makes calls that allocate nothing, with the first request refused: whether no request was made, and the answers
+// are right.
 fn reads_quietly<S: Tried>(
     alloc: Global,
     sketch: &S,
@@ -265,7 +266,7 @@ fn refuses<S: Tried>(alloc: Global, sketch: &S, view: &View<S>) -> bool
     }
 }
 
-/// Merges an empty sketch in, takes all items out, and asks the sketch and the view of an empty one.
+/// Merges an empty sketch in, removes all items, and asks the sketch and the view of an empty one.
 fn empties<S: Tried>(alloc: Global, sketch: &mut S, empty: &S, view: &View<S>) -> bool
     requires { S.Asks }
 {
@@ -293,7 +294,7 @@ fn are_quiet<S: Tried>(alloc: Global, sketch: &mut S, empty: &S) -> bool
     }
 }
 
-/// Makes the calls that take no memory, of the two families alike.
+/// Makes the calls that allocate nothing, the same for both families.
 fn asks_for_none<S: Tried>(alloc: Global) -> bool
     requires { S.Asks }
 {
@@ -354,7 +355,7 @@ fn try_rows<S: Tried>(rt: &(impl Print + AllocGlobal), rows: &[Row]) -> bool
     true
 }
 
-/// Tries the rows of each family and some more, and the calls that take no memory.
+/// Tries the rows of each family and some more, and the calls that allocate nothing.
 fn try_all<S: Tried>(rt: &(impl Print + AllocGlobal), more: &[Row]) -> bool
     requires { S.Asks }
 {
@@ -376,7 +377,7 @@ fn req_of_i64(rt: HostRuntime) {
     assert!(rt; try_all::<ReqSketch<i64>>(&rt, &REQ_ROWS));
 }
 
-/// Whether lines are served, or memory runs out and that is said.
+/// Whether lines are served, or memory runs out and the error says so.
 fn is_served(served: io::Result<()>) -> bool {
     match served {
         Ok(()) => true,

@@ -106,7 +106,7 @@ fn images_are_checked(rt: HostRuntime) {
     assert!(rt; is_layout(2048) && !is_layout(2047));
 }
 
-/// Whether a value is written into no bytes as these, and says how many they are.
+/// Whether a value is written into an empty buffer as these bytes, and says how many they are.
 fn writes<T: ReqValue>(mut bytes: SketchBytes, value: &T, spelling: &[u8]) -> bool {
     value.serialize_value(&mut bytes).is_ok()
         && bytes.into_bytes().as_slice() == spelling
@@ -132,7 +132,7 @@ fn is_read_as<T: ReqValue + PartialEq + Drop>(
     }
 }
 
-/// Whether these bytes are read as a value, and then no bytes as none.
+/// Whether these bytes are read as a value, and no second value is read.
 fn is_spelled<T: ReqValue + PartialEq + Drop>(alloc: Global, value: &T, spelling: &[u8]) -> bool {
     let mut input = SketchSlice::new(spelling);
     is_read_as(alloc, &mut input, value)
@@ -168,12 +168,12 @@ fn is_at_its_end(pairs: &mut ReqSketchIterator<'_, i32>) -> bool {
     pairs.len() == 0 && pairs.next().is_none() && pairs.next().is_none()
 }
 
-/// Whether std may take it that nothing comes after the end.
+/// Whether std may assume that nothing comes after the end.
 fn is_fused<I: FusedIterator>(_items: &I) -> bool {
     true
 }
 
-/// Whether the pairs of 1 to 24 under a k of 4 are 22, from 5 on, and 3 is the last.
+/// Whether 1 to 24 under a k of 4 give 22 pairs, from 5 on, and 3 is the last.
 fn iterates_over(sketch: &ReqSketch<i32>) -> bool {
     let mut pairs = sketch.iter();
     is_fused(&pairs)

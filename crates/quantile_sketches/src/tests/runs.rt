@@ -20,7 +20,7 @@ pub(crate) enum Step<C> {
     MergeRedrawn(u8, u8),
 }
 
-// (by hand, since it is proved sooner than a derived one)
+// (by hand, since it is proved faster than a derived one)
 impl<C: Copy> Clone for Step<C> {
     fn clone(&self) -> Result<Self, AllocError> {
         Ok(*self)
@@ -32,16 +32,18 @@ impl<C: Copy> Copy for Step<C> {}
 /// What must come of some steps.
 #[derive(Drop)]
 pub(crate) enum Trial<'a, C> {
-    /// A run under each of these words takes so many coins, refuses these commands, and gives inclusive ranks: slot, number, its
-    /// weight and the whole.
+    /// A run under each of these words takes this number of coins, refuses these commands, and gives these inclusive ranks: slot,
+    /// number, its weight and the whole.
     Gives(&'a [&'a [bool]], usize, &'a [usize], &'a [(u8, u32, u64, u64)]),
     /// A run wants more coins than this word has.
     WantsMore(&'a [bool]),
-    /// A run under a word refuses nothing, and leaves this many in slot 0, of which this number is the greatest.
+    /// A run under each of these words refuses nothing, and leaves this many items in slot 0, of which this number is the
+    /// greatest.
     Takes(&'a [&'a [bool]], u64, u32),
     /// A run under this word leaves the same sketch in slot 0 as a run of other steps does.
     LeavesAs(&'a [bool], &'a [Step<C>]),
-    /// An audit of a number in a slot takes so many coins, and gives these inclusive weights under each word, and this true rank.
+    /// An audit of a number in a slot takes this number of coins, and gives these inclusive weights, one for each word, and this
+    /// true rank.
     Audits(u8, u32, usize, &'a [u64], u64),
     /// An audit of the ranks of the numbers below this one is unbiased, over three coins.
     IsUnbiased(u32),
@@ -126,7 +128,7 @@ fn run_of<S: Tried>(alloc: Global, steps: Steps<'_, S>, word: &[bool]) -> Result
     S::run_of(alloc, commands.as_slice(), word)
 }
 
-/// The weight of an item and the whole, 0 both of an empty sketch. None of an absent one.
+/// The weight of an item and the whole, both 0 for an empty sketch. None for an absent one.
 fn rank_in<S: Tried>(run: &Run<S>, slot: u8, item: &S::Item) -> Option<(u64, u64)> {
     match run.slots.get(&slot) {
         Some(sketch) => match sketch.rank_of(item, CRITERIA) {
@@ -307,7 +309,7 @@ fn audits<S: Tried>(
     is_audit(audit_of::<S>(alloc, steps, slot, number, CRITERIA), trial)
 }
 
-/// Whether it is so of these steps.
+/// Whether a trial holds for these steps.
 fn holds<S: Tried>(alloc: Global, steps: Steps<'_, S>, trial: &Trial<'_, S::Config>) -> bool
     requires { S.Asks }
 {

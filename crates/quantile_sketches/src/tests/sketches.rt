@@ -1,4 +1,4 @@
-//! The sketches that are tried, with all calls that take memory, and items by number.
+//! The sketches that are tried, with all calls that allocate, and items by number.
 use crate::audit::{Audit, Command, Run, audit, audit_req, run, run_req};
 use crate::family::Family;
 use sketch_base::common::{Rank, SearchCriteria};
@@ -35,7 +35,7 @@ impl Numbered for String {
     }
 }
 
-/// A sketch with the calls that take memory and that the program has no word for.
+/// A sketch with the calls that allocate and that the program has no word for.
 pub(crate) trait Tried: Family {
     fn config_of(k: u16) -> Self::Config;
 

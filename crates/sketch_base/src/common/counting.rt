@@ -1,4 +1,4 @@
-//! How many items a query counts. The criterion is chosen once, outside the loops.
+//! The number of items that a query counts. The criterion is chosen once, outside the loops.
 ghost use Rattle.std.specs.Prelude.{◌≡◌, ◌+◌, ◌*◌, ◌^◌, ◌<◌, ◌≤◌, if◌then◌else◌, length, count_by, IsSorted};
 ghost use Rattle.sketch_base.specs.Query.{counted};
 ghost use Rattle.sketch_base.specs.Queries.{IsSplitAt};
@@ -6,13 +6,13 @@ ghost use Rattle.sketch_base.specs.declared.common.SearchCriteria.TheVariants.{I
 
 use crate::common::SearchCriteria;
 
-/// From this number of items on, a binary search is faster than a count of them all.
+/// For more than this number of items, a binary search is faster than counting them all.
 const FEW: usize = 16;
 
-/// How many steps of a binary search are written out.
+/// The number of steps of a binary search that are unrolled.
 const LAST_STEPS: u32 = 8;
 
-/// How many items a query counts, in any order.
+/// Returns the number of items, in any order, that a query counts.
 pub fn count_all<T: Ord>(items: &[T], query: &T, criteria: SearchCriteria) -> usize
     ensures { result ≡ count_by (counted T.cmp query.now criteria) items.now }
 {
@@ -22,7 +22,7 @@ pub fn count_all<T: Ord>(items: &[T], query: &T, criteria: SearchCriteria) -> us
     }
 }
 
-/// How many items are at most an item.
+/// Returns the number of items that are at most `query`.
 fn count_up_to<T: Ord>(items: &[T], query: &T) -> usize
     ensures { result ≡ count_by (counted T.cmp query.now Inclusive) items.now }
 {
@@ -35,7 +35,7 @@ fn count_up_to<T: Ord>(items: &[T], query: &T) -> usize
     count
 }
 
-/// How many items are below an item.
+/// Returns the number of items that are below `query`.
 fn count_below<T: Ord>(items: &[T], query: &T) -> usize
     ensures { result ≡ count_by (counted T.cmp query.now Exclusive) items.now }
 {
@@ -48,7 +48,7 @@ fn count_below<T: Ord>(items: &[T], query: &T) -> usize
     count
 }
 
-/// How many items in order a query counts: those before a place.
+/// Returns the number of sorted items that a query counts: those before a place.
 pub fn count_in_order<T: Ord>(items: &[T], query: &T, criteria: SearchCriteria) -> usize
     requires sorted { IsSorted T.cmp items.now }
     ensures within { result ≤ length items.now }
@@ -62,7 +62,7 @@ pub fn count_in_order<T: Ord>(items: &[T], query: &T, criteria: SearchCriteria) 
 }
 
 /// Counts the items of a sorted slice that the query counts, by a binary search whose steps are
-/// powers of two. No branch depends on a comparison, since a processor would guess it wrong half of
+/// powers of two. No branch depends on a comparison, since a processor would mispredict it half of
 /// the time. It is inlined so that it knows the criterion.
 #[inline(always)]
 fn count_by_halves<T: Ord>(items: &[T], query: &T, criteria: SearchCriteria) -> usize
@@ -81,8 +81,8 @@ fn count_by_halves<T: Ord>(items: &[T], query: &T, criteria: SearchCriteria) -> 
     count_by_last_steps(items, count, shift, query, criteria)
 }
 
-/// The last steps of a search by halves, from a count that the query's count exceeds by less than
-/// 2 ^ `steps`. The compiler writes this loop out, and then a step, whose size it knows, takes less
+/// Does the last steps of a binary search, from a count that the query's count exceeds by less than
+/// 2 ^ `steps`. The compiler unrolls this loop, and then a step, whose size it knows, takes less
 /// than half of the time.
 #[inline(always)]
 fn count_by_last_steps<T: Ord>(
@@ -110,7 +110,7 @@ fn count_by_last_steps<T: Ord>(
     count
 }
 
-/// One step of a search by halves: from a count that the query's count exceeds by less than
+/// Does one step of a binary search: from a count that the query's count exceeds by less than
 /// 2 * 2 ^ `shift` to one that it exceeds by less than half of that.
 fn halve<T: Ord>(
     items: &[T],
@@ -133,7 +133,8 @@ fn halve<T: Ord>(
     known + power_if(is_counted, shift)
 }
 
-/// 2 ^ `shift`, or 0 where `is_power` is false: by a shift, which the compiler leaves without a branch.
+/// Returns 2 ^ `shift`, or 0 if `is_power` is false, by a shift, which the compiler leaves without
+/// a branch.
 fn power_if(is_power: bool, shift: u32) -> usize
     requires { shift < 64 }
     ensures { result ≡ (if is_power then 2 ^ shift else 0) }
@@ -141,7 +142,8 @@ fn power_if(is_power: bool, shift: u32) -> usize
     (is_power as usize) << shift
 }
 
-/// A count that the query's count exceeds by less than `step`, which is more than half of the items.
+/// Returns a count that the query's count exceeds by less than `step`, which is more than half of
+/// the items.
 fn first_count<T: Ord>(items: &[T], step: usize, query: &T, criteria: SearchCriteria) -> usize
     requires sorted { IsSorted T.cmp items.now }
     requires some { 0 < step }
@@ -159,7 +161,7 @@ fn first_count<T: Ord>(items: &[T], step: usize, query: &T, criteria: SearchCrit
     }
 }
 
-/// Whether a query counts an item.
+/// Returns whether a query counts an item.
 fn counts<T: Ord>(item: &T, query: &T, criteria: SearchCriteria) -> bool
     ensures { result ≡ counted T.cmp query.now criteria item.now }
 {
@@ -169,8 +171,8 @@ fn counts<T: Ord>(item: &T, query: &T, criteria: SearchCriteria) -> bool
     }
 }
 
-/// A range of items in order, starting at or after `known`, that contains the query's count, which is
-/// at least `known`. The parts that are tried get twice as long each time.
+/// Returns a range of sorted items, starting at or after `known`, that contains the query's count,
+/// which is at least `known`. Each range tried is twice as long as the one before.
 fn part_from<T: Ord>(
     items: &[T],
     known: usize,
@@ -193,7 +195,8 @@ fn part_from<T: Ord>(
     (start, start + rest.min(step))
 }
 
-/// How many items in order a query counts: all of them are looked at where they are few.
+/// Returns the number of sorted items that a query counts. If there are few items, it looks at all
+/// of them.
 fn count_in_part<T: Ord>(items: &[T], query: &T, criteria: SearchCriteria) -> usize
     requires sorted { IsSorted T.cmp items.now }
     ensures { result ≡ count_by (counted T.cmp query.now criteria) items.now }

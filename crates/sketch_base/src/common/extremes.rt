@@ -1,5 +1,5 @@
-//! The least and the greatest of some items, items between two, clones of what was found, and the extremes of a stream with
-//! one more item, or with those of another stream.
+//! The least and the greatest of some items, tests whether items lie between two others, clones of
+//! found items, and the extremes of a stream with one more item, or with those of another stream.
 ghost use Rattle.std.specs.Prelude.{◌≡◌, ◌<◌, ◌++◌, length, IfOk, IsOk, IsTrue, IsSorted, None, Some, option_copied, if◌then◌else◌};
 ghost use Rattle.std.specs.List.{AllByRecursion};
 ghost use Rattle.std.specs.Option.{option_to_list};
@@ -10,7 +10,7 @@ ghost use Rattle.sketch_base.specs.Queries.{SameAnswer};
 
 use std::alloc::AllocError;
 
-/// A clone of what was found.
+/// Clones the found item, if there is one.
 pub fn clone_found<T: Clone + Ord>(found: Option<&T>) -> Result<Option<T>, AllocError>
     requires clones { (x y : T) → T.is_clone x y → T.cmp x y ≡ Equal }
     ensures same { IfOk result (SameAnswer T.cmp (option_copied found.entry)) }
@@ -22,7 +22,7 @@ pub fn clone_found<T: Clone + Ord>(found: Option<&T>) -> Result<Option<T>, Alloc
     }
 }
 
-/// An item that is at most each.
+/// Returns an item that is at most every item.
 pub fn least_of<T: Ord>(items: &[T]) -> &T
     requires { 0 < length items.now }
     ensures { IsExtreme T.cmp (λ x y. IsAtMost T.cmp x y) items.now result.now }
@@ -36,7 +36,7 @@ pub fn least_of<T: Ord>(items: &[T]) -> &T
     least
 }
 
-/// An item that each is at most.
+/// Returns an item that every item is at most.
 pub fn greatest_of<T: Ord>(items: &[T]) -> &T
     requires { 0 < length items.now }
     ensures { IsExtreme T.cmp (λ x y. IsAtMost T.cmp y x) items.now result.now }
@@ -50,7 +50,7 @@ pub fn greatest_of<T: Ord>(items: &[T]) -> &T
     greatest
 }
 
-/// Whether each item is at least the one and at most the other.
+/// Returns whether every item is at least `least` and at most `greatest`.
 pub fn are_between<T: Ord>(items: &[T], least: &T, greatest: &T) -> bool
     ensures yes { IsTrue result
         → AllByRecursion (IsBetween T.cmp least.now greatest.now) items.now }
@@ -65,7 +65,7 @@ pub fn are_between<T: Ord>(items: &[T], least: &T, greatest: &T) -> bool
     true
 }
 
-/// The same of items that may be said to be in order.
+/// Does what `are_between` does for items that are sorted if `is_sorted` is true.
 pub fn are_between_if<T: Ord>(items: &[T], is_sorted: bool, least: &T, greatest: &T) -> bool
     requires { IsTrue is_sorted → IsSorted T.cmp items.now }
     ensures yes { IsTrue result
@@ -79,7 +79,7 @@ pub fn are_between_if<T: Ord>(items: &[T], is_sorted: bool, least: &T, greatest:
     are_between(items, least, greatest)
 }
 
-/// The same of items in order, of which the first and the last tell.
+/// Does what `are_between` does for sorted items, by testing the first and the last.
 fn are_ends_between<T: Ord>(items: &[T], least: &T, greatest: &T) -> bool
     requires { IsSorted T.cmp items.now }
     ensures yes { IsTrue result
@@ -94,7 +94,7 @@ fn are_ends_between<T: Ord>(items: &[T], least: &T, greatest: &T) -> bool
     !least.cmp(&items[0]).is_gt() && !items[count - 1].cmp(greatest).is_gt()
 }
 
-/// Whether an item is below the least item so far.
+/// Returns whether an item is below the least item so far.
 fn is_new_least<T: Ord>(item: &T, least: &Option<T>) -> bool
     ensures { result ≡ is_new is_lt T.cmp item.now least.now }
 {
@@ -104,7 +104,7 @@ fn is_new_least<T: Ord>(item: &T, least: &Option<T>) -> bool
     }
 }
 
-/// Whether an item is above the greatest item so far.
+/// Returns whether an item is above the greatest item so far.
 fn is_new_greatest<T: Ord>(item: &T, greatest: &Option<T>) -> bool
     ensures { result ≡ is_new is_gt T.cmp item.now greatest.now }
 {
@@ -114,7 +114,7 @@ fn is_new_greatest<T: Ord>(item: &T, greatest: &Option<T>) -> bool
     }
 }
 
-/// The item's clone, if it is asked for.
+/// Clones the item if `is_wanted` is true.
 fn clone_if<T: Clone + Ord>(is_wanted: bool, item: &T) -> Result<Option<T>, AllocError>
     requires clones { (x y : T) → T.is_clone x y → T.cmp x y ≡ Equal }
     ensures { IfOk result (SameAnswer T.cmp (if is_wanted then Some item.now else None)) }
@@ -125,7 +125,7 @@ fn clone_if<T: Clone + Ord>(is_wanted: bool, item: &T) -> Result<Option<T>, Allo
     Ok(None)
 }
 
-/// The item's clone, where it is below the least item so far.
+/// Clones the item if it is below the least item so far.
 pub fn clone_if_least<T: Clone + Ord>(item: &T, least: &Option<T>) -> Result<Option<T>, AllocError>
     requires clones { (x y : T) → T.is_clone x y → T.cmp x y ≡ Equal }
     ensures { IfOk result (λ new.
@@ -134,7 +134,7 @@ pub fn clone_if_least<T: Clone + Ord>(item: &T, least: &Option<T>) -> Result<Opt
     clone_if(is_new_least(item, least), item)
 }
 
-/// The item's clone, where it is above the greatest item so far.
+/// Clones the item if it is above the greatest item so far.
 pub fn clone_if_greatest<T: Clone + Ord>(
     item: &T,
     greatest: &Option<T>,
@@ -146,7 +146,7 @@ pub fn clone_if_greatest<T: Clone + Ord>(
     clone_if(is_new_greatest(item, greatest), item)
 }
 
-/// The item's clones, one for each extreme that it is.
+/// Clones the item once for each new extreme that it is.
 pub fn clone_new_extremes<T: Clone + Ord>(
     item: &T,
     least: &Option<T>,
@@ -163,7 +163,7 @@ pub fn clone_new_extremes<T: Clone + Ord>(
     Ok((new_least, new_greatest))
 }
 
-/// Whether no item passes an extreme so far.
+/// Returns whether no item lies beyond an extreme so far.
 fn are_within<T: Ord>(items: &[T], least: &Option<T>, greatest: &Option<T>) -> bool
     ensures least { IsTrue result → AllByRecursion (IsFrom T.cmp least.now) items.now }
     ensures greatest { IsTrue result → AllByRecursion (IsUpTo T.cmp greatest.now) items.now }
@@ -174,7 +174,7 @@ fn are_within<T: Ord>(items: &[T], least: &Option<T>, greatest: &Option<T>) -> b
     }
 }
 
-/// Clones of the least and the greatest of some items, of each that passes the extreme so far.
+/// Clones the least and the greatest of some items, each only if it lies beyond the extreme so far.
 pub fn clone_passing_extremes<T: Clone + Ord>(
     items: &[T],
     least: &Option<T>,
@@ -195,7 +195,7 @@ pub fn clone_passing_extremes<T: Clone + Ord>(
     Ok((new_least, new_greatest))
 }
 
-/// The clone of another stream's least item, where it is below the least item so far.
+/// Clones another stream's least item if it is below the least item so far.
 pub fn clone_if_lesser<T: Clone + Ord>(
     other: &Option<T>,
     least: &Option<T>,
@@ -210,7 +210,7 @@ pub fn clone_if_lesser<T: Clone + Ord>(
     }
 }
 
-/// The clone of another stream's greatest item, where it is above the greatest item so far.
+/// Clones another stream's greatest item if it is above the greatest item so far.
 pub fn clone_if_greater<T: Clone + Ord>(
     other: &Option<T>,
     greatest: &Option<T>,
@@ -225,7 +225,7 @@ pub fn clone_if_greater<T: Clone + Ord>(
     }
 }
 
-/// Puts a new extreme in its place, where there is one.
+/// Sets `place` to the new extreme, if there is one.
 pub fn set_if_some<T: Drop>(place: &mut Option<T>, new: Option<T>)
     ensures { place.new ≡ newer_or new place.old }
 {

@@ -1,4 +1,4 @@
-//! How the item of a quantile is found by ranks, without a view.
+//! Finds the item of a quantile by ranks, without a view.
 ghost use Rattle.std.specs.Prelude.{◌≡◌, IfSome, Some, slice_get};
 ghost use Rattle.sketch_base.specs.Bag.{Bag, expanded, weighted_rank};
 ghost use Rattle.sketch_base.specs.Query.{counted};
@@ -6,16 +6,17 @@ ghost use Rattle.sketch_base.specs.Queries.{SameAnswer};
 
 use crate::common::SearchCriteria::{self, Exclusive, Inclusive};
 
-/// A sketch that tells ranks.
+/// A sketch that answers rank queries.
 pub trait Ranked<T: Ord> {
     ghost bag: { Self → Bag T };
 
-    /// The weight of the retained items that a query counts.
+    /// Returns the weight of the retained items that a query counts.
     fn rank_weight(&self, item: &T, criteria: SearchCriteria) -> u64
         ensures { result ≡ weighted_rank T.cmp (counted T.cmp item.now criteria) (bag self.now) };
 }
 
-/// The item at a place of all entries of a sketch in order, where one of its runs holds it.
+/// Returns the item at `place` among all sorted entries of a sketch, if `run`, one of its runs,
+/// holds it.
 pub fn find_in<'a, T: Ord, S: Ranked<T>>(sketch: &S, run: &'a [T], place: u64) -> Option<&'a T>
     ensures { IfSome result (λ x. SameAnswer T.cmp
         (slice_get (expanded T.cmp (S.bag sketch.now)) place) (Some x.now)) }

@@ -1,10 +1,10 @@
-//! How much room a vector keeps that lives long.
+//! How much room a long-lived vector keeps.
 ghost use Rattle.std.specs.Prelude.{◌≡◌, ◌+◌, ◌/◌, ◌<◌, ◌≤◌, max, vec_len, vec_capacity, OnOk};
 
 use std::alloc::AllocError;
 
 /// Makes room for one more item. A full vector grows by a quarter, or up to `most` items if that is
-/// less: a sketch lives long, and soon grows no more.
+/// less: a sketch is long-lived and soon stops growing.
 #[inline(always)]
 pub fn reserve_next<T: Drop>(items: &mut Vec<T>, most: usize) -> Result<(), AllocError>
     ensures items { items.new.items ≡ items.old.items }
@@ -20,8 +20,8 @@ pub fn reserve_next<T: Drop>(items: &mut Vec<T>, most: usize) -> Result<(), Allo
     grow(items, most)
 }
 
-/// Makes room for a quarter more items, or up to `most` items if that is less, and for one at least.
-/// It is out of line and rare, so that an update which finds room stays short.
+/// Makes room for a quarter more items, or up to `most` items if that is less, and for at least
+/// one. It is rarely called and not inlined, so that an update that finds room stays short.
 #[cold]
 #[inline(never)]
 fn grow<T: Drop>(items: &mut Vec<T>, most: usize) -> Result<(), AllocError>
@@ -37,7 +37,7 @@ fn grow<T: Drop>(items: &mut Vec<T>, most: usize) -> Result<(), AllocError>
     items.reserve_exact((len / 4 + 4).min(left))
 }
 
-/// Makes room for so many more items. A vector that lacks it grows by a quarter at least.
+/// Makes room for `more` additional items. A vector that lacks it grows by at least a quarter.
 pub fn reserve_more<T>(items: &mut Vec<T>, more: usize) -> Result<(), AllocError>
     ensures items { items.new.items ≡ items.old.items }
     ensures ok { OnOk result (vec_len items.new + more ≤ vec_capacity items.new) }
@@ -51,7 +51,7 @@ pub fn reserve_more<T>(items: &mut Vec<T>, more: usize) -> Result<(), AllocError
     Ok(())
 }
 
-/// Gives back room for more than an eighth more items.
+/// Frees room beyond an eighth more items.
 pub fn give_back<T>(items: &mut Vec<T>)
     ensures { items.new.items ≡ items.old.items }
 {

@@ -1,4 +1,4 @@
-//! Whole numbers as the bytes of their type, the lowest first, as images of both families hold them.
+//! Whole numbers as the little-endian bytes of their type, as images of both families hold them.
 ghost use Rattle.std.specs.Prelude.{◌≡◌, ◌≢◌, ℕ, ◌≤◌, List, ◌++◌, length, Option, IsSome, IfOk, IfErr, OnOk, OnErr};
 ghost use Rattle.sketch_base.specs.declared.error.ErrorKind.TheVariants.{InvalidData, InvalidArgument, OutOfMemory};
 ghost use Rattle.sketch_base.specs.Spelling.{bytes_of, Begins};
@@ -8,15 +8,16 @@ use crate::error::Error;
 
 /// A whole number that is written as the bytes of its type.
 pub trait WholeNumber: Sized {
-    /// The bytes of a value. Each value in hand has some; a number that its type can't hold has none.
+    /// The bytes of a value. Every actual value has bytes; a number that its type can't hold has
+    /// none.
     ghost spelling: { Self → Option (List ℕ) };
 
-    /// How many bytes the spelling has.
+    /// Returns the number of bytes of the spelling.
     fn size(&self) -> usize
         ensures spelled { IsSome (spelling self.now) }
         ensures size { result ≡ length (bytes_of spelling self.now) };
 
-    /// Writes the spelling. After an `Err` the buffer begins with what it held.
+    /// Writes the spelling. After an `Err` the buffer still begins with what it held.
     fn write_le(&self, bytes: &mut SketchBytes) -> Result<(), Error>
         ensures spelled { IsSome (spelling self.now) }
         ensures appended { OnOk result (bytes.new ≡ bytes.old ++ bytes_of spelling self.now) }
@@ -30,7 +31,7 @@ pub trait WholeNumber: Sized {
             (x : Self) (rest : List ℕ) → ¬ Begins spelling input.old x rest) }
         ensures kind { IfErr result (λ e. e ≢ InvalidArgument) };
 
-    /// A text begins with one spelling.
+    /// No text begins with two different spellings.
     ghost is_prefix_free: { (x y : Self) (text rest others : List ℕ) →
         Begins spelling text x rest → Begins spelling text y others → spelling x ≡ spelling y };
 

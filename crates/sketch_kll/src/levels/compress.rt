@@ -12,8 +12,8 @@ use super::{Levels, is_at_capacity};
 use sketch_base::common::random::RandomBits;
 
 impl<T: Ord + Drop> Levels<T> {
-    /// Whether the walk reaches a level: it exists, and the levels are at or over their total
-    /// capacity.
+    /// Returns whether the walk reaches a level: it exists, and the levels are at or over their
+    /// total capacity.
     fn walk_reaches(&self, level: usize) -> bool
         requires fits { level + 1 < 2 ^ 64 }
         ensures within { IsTrue result → level < length self.now.levels }
@@ -26,8 +26,8 @@ impl<T: Ord + Drop> Levels<T> {
         level + 1 < self.bounds.len() && self.items.len() >= self.total_capacity as usize
     }
 
-    /// Whether general compress leaves a level as it is, where the levels are at or over their total
-    /// capacity.
+    /// Returns whether general compress leaves a level as it is, given levels at or over their
+    /// total capacity.
     fn level_passes(&self, level: usize) -> bool
         requires full { is_full self.now.k self.now.levels ≡ true }
         requires within { level < length self.now.levels }
@@ -38,7 +38,7 @@ impl<T: Ord + Drop> Levels<T> {
         !is_at_capacity(self.k, num_levels, level, bounds[level] - bounds[level + 1])
     }
 
-    /// One step of the walk, where the levels are at or over their total capacity.
+    /// Does one step of the walk, given levels at or over their total capacity.
     fn compress_level<B: RandomBits>(&mut self, level: usize, coins: &mut B)
         requires full { is_full self.old.k self.old.levels ≡ true }
         requires within { level < length self.old.levels }
@@ -58,8 +58,8 @@ impl<T: Ord + Drop> Levels<T> {
         }
     }
 
-    /// General compress: compacts, from level 0 up, each level that is over its capacity, until the
-    /// levels are below their total capacity. The walk goes on into a level that is added.
+    /// General compress: compacts, from level 0 up, each level that is at or over its capacity,
+    /// until the levels are below their total capacity. The walk continues into a level that is added.
     pub(crate) fn compress<B: RandomBits>(&mut self, coins: &mut B)
         requires light { weight self.old.levels < 2 ^ 64 }
         requires flag { IsTrue self.old.is_sorted → IsSorted T.cmp (first_level self.old.levels) }

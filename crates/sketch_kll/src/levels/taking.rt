@@ -1,4 +1,4 @@
-//! Levels that take items in one after another.
+//! Levels that take items one after another.
 ghost use Rattle.std.specs.Prelude.{◌≡◌, ◌+◌, ◌<◌, ◌≤◌, ◌++◌, ◌^◌, drop, length, max, min, reverse, take, vec_len, vec_capacity, false, IfOk, OnOk};
 ghost use Rattle.std.specs.declared.cmp.Ordering.TheVariants.{Equal};
 ghost use Rattle.std.specs.Option.{option_to_list};
@@ -18,8 +18,8 @@ use sketch_base::common::random::RandomBits;
 use std::alloc::AllocError;
 
 impl<T: Ord + Drop> Levels<T> {
-    /// Takes items in one after another, as updates do, and gives back the memory that only this
-    /// needed. It takes none.
+    /// Takes items one after another, as updates do, and frees the memory that only this needed. It
+    /// needs no more memory.
     pub(crate) fn take_all<B: RandomBits>(&mut self, items: Vec<T>, coins: &mut B)
         requires kept { AreKept T.cmp self.old.k self.old.is_sorted self.old.levels }
         requires light { weight self.old.levels + length items.items < 2 ^ 64 }
@@ -34,7 +34,7 @@ impl<T: Ord + Drop> Levels<T> {
         self.give_back();
     }
 
-    /// Takes items in one after another: a run of them whenever there is room for it.
+    /// Takes items one after another: a run of them whenever there is room for it.
     pub(super) fn take_items<B: RandomBits>(&mut self, mut items: Vec<T>, coins: &mut B)
         requires kept { AreKept T.cmp self.old.k self.old.is_sorted self.old.levels }
         requires light { weight self.old.levels + length items.items < 2 ^ 64 }
@@ -54,8 +54,7 @@ impl<T: Ord + Drop> Levels<T> {
         }
     }
 
-    /// Puts as many items last into level 0 as the total capacity has room for, the last of them
-    /// first.
+    /// Appends as many items to level 0 as the total capacity has room for, last item first.
     fn fill(&mut self, items: &mut Vec<T>)
         requires room { min (retained self.old.levels + vec_len items.old)
             (max (retained self.old.levels) (total_of self.old.k 8 (length self.old.levels)))
@@ -78,8 +77,8 @@ impl<T: Ord + Drop> Levels<T> {
 }
 
 impl<T: Clone + Ord> Levels<T> {
-    /// All that taking items in needs memory for: clones of them with room for what is kept of them,
-    /// and a clone for each extreme that they pass.
+    /// Makes all that taking items needs memory for: clones of them, room for those that are kept,
+    /// and a clone for each extreme that they go beyond.
     pub(crate) fn prepare_all(
         &mut self,
         items: &[T],
@@ -104,7 +103,7 @@ impl<T: Clone + Ord> Levels<T> {
         Ok((clones, least, greatest))
     }
 
-    /// Clones of items, and room for what is kept of them.
+    /// Clones items, and makes room for those that are kept.
     fn clone_with_room(&mut self, items: &[T]) -> Result<Vec<T>, AllocError>
         requires clones { (x y : T) → T.is_clone x y → T.cmp x y ≡ Equal }
         ensures kept { KeepsLevels self.old self.new }
@@ -120,8 +119,8 @@ impl<T: Clone + Ord> Levels<T> {
     }
 }
 
-/// Makes room for `count` items more, or up to `most` items if that is less, and for all bounds that
-/// levels may need.
+/// Makes room for `count` more items, or up to `most` items if that is less, and for all bounds
+/// that levels may need.
 fn reserve_taken<T: Drop>(
     items: &mut Vec<T>,
     bounds: &mut Vec<usize>,

@@ -1,5 +1,5 @@
-//! The levels of a sketch with the sums over them, and how items come in.
-//! What happens to a vector of levels half-way is in `walk` and `joining`.
+//! The levels of a sketch with the sums over them, and how they take items in. The steps in
+//! between, on a vector of levels without its sums, are in `walk` and `joining`.
 ghost use Rattle.std.specs.Prelude.{◌≡◌, ℕ, ◌+◌, ◌-◌, ◌^◌, ◌<◌, ◌≤◌, true, [], ◌∷◌, length, take, vec_capacity, IfErr, IfOk, OnOk, OnErr};
 ghost use Rattle.std.specs.List.{AllZip};
 ghost use Rattle.std.specs.declared.cmp.Ordering.TheVariants.{Equal};
@@ -83,7 +83,7 @@ impl<T: Clone + Ord> Levels<T> {
         (self.num_retained, self.capacity) = sums(self.compactors.as_slice());
     }
 
-    /// Puts an item last into level 0, where the levels are then not full together.
+    /// Appends an item to level 0, where the levels together are not full after it.
     #[inline(always)]
     pub(crate) fn put(&mut self, item: T) -> Result<(), AllocError>
         requires spare { retained_of (layouts_of self.old.levels) + 1
@@ -97,8 +97,8 @@ impl<T: Clone + Ord> Levels<T> {
         Ok(())
     }
 
-    /// Puts an item last into level 0, and walks over the levels where they are then full together. It
-    /// is out of line and rare, so that an update without a walk stays short.
+    /// Appends an item to level 0, and walks over the levels if they are then full together. It is
+    /// out of line and rare, so that an update without a walk stays short.
     #[cold]
     #[inline(never)]
     pub(crate) fn take_last<B: RandomBits>(&mut self, item: T, coins: &mut B) -> Result<(), Error>
@@ -120,8 +120,8 @@ impl<T: Clone + Ord> Levels<T> {
         Ok(())
     }
 
-    /// Takes clones of all items in, or of none. Where these make no walk, they come into level 0 at
-    /// once; else a copy of the levels takes them in, and then comes in the place of the levels.
+    /// Takes in clones of all items, or of none. If they make no walk, they are appended to level 0
+    /// at once; else a copy of the levels takes them in and then replaces the levels.
     pub(crate) fn take_all<B: RandomBits>(
         &mut self,
         items: &[T],
@@ -149,7 +149,7 @@ impl<T: Clone + Ord> Levels<T> {
         Ok(())
     }
 
-    /// Takes clones of items in, a part of them after another.
+    /// Takes in clones of the items, one part after another.
     fn take_in_turn<B: RandomBits>(&mut self, items: &[T], coins: &mut B) -> Result<(), Error>
         requires clones { (x y : T) → T.is_clone x y → T.cmp x y ≡ Equal }
         requires fits { weight_of (layouts_of self.old.levels) + length items.now < 2 ^ 64 }
@@ -169,8 +169,8 @@ impl<T: Clone + Ord> Levels<T> {
         Ok(())
     }
 
-    /// Takes clones of the first items in, and answers of how many: of as many as there is room for
-    /// below the next walk, or of one with its walk.
+    /// Takes in clones of the first items, and returns their number: as many as there is room for
+    /// before the next walk, or one with its walk.
     fn take_some<B: RandomBits>(&mut self, items: &[T], coins: &mut B) -> Result<usize, Error>
         requires clones { (x y : T) → T.is_clone x y → T.cmp x y ≡ Equal }
         requires some { 0 < length items.now }
@@ -197,7 +197,7 @@ impl<T: Clone + Ord> Levels<T> {
         Ok(count)
     }
 
-    /// Puts clones of items last into level 0, where these make no walk.
+    /// Appends clones of items to level 0, where these make no walk.
     fn fill(&mut self, items: &[T]) -> Result<(), AllocError>
         requires clones { (x y : T) → T.is_clone x y → T.cmp x y ≡ Equal }
         requires some { 0 < length items.now }
@@ -212,8 +212,8 @@ impl<T: Clone + Ord> Levels<T> {
         Ok(())
     }
 
-    /// Joins other levels in, draws coins anew or doesn't, and walks where all are then at or over
-    /// their nominal capacities together.
+    /// Joins other levels in, redraws coins if `redraws` says so, and walks if the levels together
+    /// are then at or over their nominal capacities.
     pub(crate) fn take_in<B: RandomBits>(
         &mut self,
         others: &Self,
@@ -251,7 +251,7 @@ impl<T: Clone + Ord> Levels<T> {
     }
 }
 
-/// How many items levels hold, and their nominal capacities together.
+/// How many items the levels hold, and the sum of their nominal capacities.
 fn sums<T: Clone + Ord>(levels: &[Compactor<T>]) -> (usize, usize)
     requires few { length levels.now ≤ 64 }
     ensures retained { result.0 ≡ retained_of (layouts_of levels.now) }
@@ -267,7 +267,7 @@ fn sums<T: Clone + Ord>(levels: &[Compactor<T>]) -> (usize, usize)
     (count, sum)
 }
 
-/// Draws, if it is told to, a coin for each level at an odd state, from level 0 up.
+/// If `redraws` is true, draws a coin for each level at an odd state, from level 0 up.
 fn redraw_if<T: Clone + Ord, B: RandomBits>(
     redraws: bool,
     levels: &mut Vec<Compactor<T>>,

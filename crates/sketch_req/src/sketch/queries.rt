@@ -1,4 +1,4 @@
-//! Queries of a sketch that use a view.
+//! Quantiles, distributions and the sorted view of a sketch.
 ghost use Rattle.std.specs.Prelude.{◌≡◌, ◌≢◌, ◌^◌, ◌<◌, Some, IsSome, IsSorted, IfOk, IfErr, IfSome, length, map, slice_get, sum_by};
 ghost use Rattle.std.specs.declared.cmp.Ordering.TheVariants.{Equal};
 ghost use Rattle.std.specs.List.{All};
@@ -29,9 +29,9 @@ use sketch_base::weighted::{Weighted, merge_weighted, weigh_in_order};
 use std::alloc::{AllocError, Global};
 
 impl<T: Clone + Ord> ReqSketch<T> {
-    /// A snapshot of the items in order, for many queries. Equal items are joined in it.
+    /// A sorted snapshot of the items, for many queries. Equal items are joined in it.
     ///
-    /// Item clones have to compare equal to the item. An error is `OutOfMemory`.
+    /// An item's clone must compare equal to it. An error is `OutOfMemory`.
     pub fn sorted_view(&self) -> Result<SortedView<T>, Error>
         requires clones { (x y : T) → T.is_clone x y → T.cmp x y ≡ Equal }
         ensures view { let s = self.now in
@@ -46,7 +46,7 @@ impl<T: Clone + Ord> ReqSketch<T> {
         SortedView::from_weighted(*entries.allocator(), entries.as_slice(), least, greatest)
     }
 
-    /// The retained items with their weights, in order.
+    /// The retained items with their weights, sorted.
     fn entries(&self) -> Result<Vec<Weighted<'_, T>>, AllocError>
         ensures moved { IfOk result (λ v.
             IsPermutation (pairs_of self.now.levels) (pairs_in v.items)) }
@@ -57,8 +57,9 @@ impl<T: Clone + Ord> ReqSketch<T> {
         Self::merged(*levels.compactors.allocator(), levels.compactors.as_slice())
     }
 
-    /// The items of levels with their weights, in order: those of either half are merged. Neighbouring
-    /// levels have few items in one another's midst, so that a merge mostly goes on with the same one.
+    /// The items of levels with their weights, sorted: those of the two halves of the levels are
+    /// merged. The items of neighbouring levels interleave little, so a merge mostly goes on with
+    /// the same side.
     fn merged(alloc: Global, levels: &[Compactor<T>]) -> Result<Vec<Weighted<'_, T>>, AllocError>
         requires some { 0 < length levels.now }
         requires few { length (pairs_of levels.now) < 2 ^ 64 }
@@ -80,8 +81,8 @@ impl<T: Clone + Ord> ReqSketch<T> {
 
     /// The item that a fraction names; None for an empty sketch.
     ///
-    /// Item clones have to compare equal to the item. `InvalidArgument` exactly where the fraction
-    /// is of nothing or above the whole, whether or not the sketch is empty; any other error is
+    /// An item's clone must compare equal to it. `InvalidArgument` exactly where the fraction is of
+    /// nothing or above the whole, whether or not the sketch is empty; any other error is
     /// `OutOfMemory`.
     pub fn quantile(&self, fraction: Rank, criteria: SearchCriteria) -> Result<Option<T>, Error>
         requires clones { (x y : T) → T.is_clone x y → T.cmp x y ≡ Equal }
@@ -97,8 +98,8 @@ impl<T: Clone + Ord> ReqSketch<T> {
         self.sorted_view()?.quantile(fraction, criteria)
     }
 
-    /// The item that a fraction names, where it is an extreme or a level in order holds it. The
-    /// highest level comes first, since it weighs most.
+    /// The item that a fraction names, if it is an extreme or a sorted level holds it. The highest
+    /// level comes first, since it weighs most.
     fn find(&self, fraction: Rank, criteria: SearchCriteria) -> Option<&T>
         requires { IsFraction fraction }
         ensures same { IfSome result (λ x. SameAnswer T.cmp
@@ -113,7 +114,7 @@ impl<T: Clone + Ord> ReqSketch<T> {
         }
     }
 
-    /// The item at a place of all entries in order, where a level in order holds it.
+    /// The item at a place among all entries in order, if a sorted level holds it.
     fn find_at(&self, place: u64) -> Option<&T>
         ensures { IfSome result (λ x. SameAnswer T.cmp
             (slice_get (expanded T.cmp (bag_of self.now.levels)) place) (Some x.now)) }
@@ -139,11 +140,11 @@ impl<T: Clone + Ord> ReqSketch<T> {
         self.sorted_view()?.quantiles(fractions, criteria)
     }
 
-    /// The rank of each split point, and last the whole; None for an empty sketch. It takes memory for
-    /// the answer alone.
+    /// The rank of each split point, and last the whole; None for an empty sketch. It allocates
+    /// only the answer.
     ///
-    /// `InvalidArgument` exactly where the split points do not strictly increase, whether or not the
-    /// sketch is empty; any other error is `OutOfMemory`.
+    /// `InvalidArgument` exactly where the split points do not strictly increase, whether or not
+    /// the sketch is empty; any other error is `OutOfMemory`.
     pub fn cdf(&self, points: &[T], criteria: SearchCriteria) -> Result<Option<Vec<Rank>>, Error>
         ensures found { let s = self.now in IfOk result
             (FindsRanks s.n (cdf_of T.cmp criteria (expanded T.cmp (bag_of s.levels)) points.now)) }

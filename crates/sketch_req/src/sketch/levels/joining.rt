@@ -1,4 +1,4 @@
-//! How other levels are joined into a sketch's. What can fail comes first, in `reserve`.
+//! Joins other levels into a sketch's. What can fail comes first, in `reserve`.
 ghost use Rattle.std.specs.Prelude.{◌≡◌, ℕ, ◌+◌, ◌^◌, ◌<◌, ◌≤◌, [], max, length, vec_len, vec_capacity, IfOk, OnOk, OnErr};
 ghost use Rattle.std.specs.declared.cmp.Ordering.TheVariants.{Equal};
 ghost use Rattle.sketch_base.specs.Bag.{SameItems, level_at};
@@ -14,8 +14,8 @@ use sketch_base::common::buffers::Buffers;
 use sketch_base::common::random::RandomBits;
 use std::alloc::{AllocError, Global};
 
-/// Joins the others' levels, by clones of their items, into the levels of the same places. Those
-/// that are missing are added.
+/// Joins clones of the other levels' items into the levels at the same places. Missing levels are
+/// added.
 fn join_levels<T: Clone + Ord>(
     levels: &mut Vec<Compactor<T>>,
     others: &[Compactor<T>],
@@ -51,7 +51,7 @@ fn join_levels<T: Clone + Ord>(
     }
 }
 
-/// Joins other levels in, with room for a walk over all. What can fail comes first.
+/// Joins other levels in, and returns room for a walk over all. What can fail comes first.
 fn join<T: Clone + Ord>(
     levels: &mut Vec<Compactor<T>>,
     others: &[Compactor<T>],
@@ -82,8 +82,8 @@ fn join<T: Clone + Ord>(
     Ok((coming, up, buffers))
 }
 
-/// Joins other levels in, draws coins anew or doesn't, and walks where all are then at or over their
-/// nominal capacities together.
+/// Joins other levels in, redraws coins if `redraws` says so, and walks if the levels together are
+/// then at or over their nominal capacities.
 pub(super) fn join_and_walk<T: Clone + Ord, B: RandomBits>(
     levels: &mut Vec<Compactor<T>>,
     others: &[Compactor<T>],

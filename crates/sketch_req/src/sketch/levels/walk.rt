@@ -1,5 +1,5 @@
-//! The walk over levels: each level that is full is compacted into the one above. What can fail
-//! comes first, in `reserve`.
+//! The walk over levels: each full level is compacted into the one above. What can fail comes
+//! first, in `reserve`.
 ghost use Rattle.std.specs.Prelude.{◌≡◌, ◌+◌, ◌*◌, ◌-◌, ◌^◌, ◌<◌, ◌≤◌, [], ◌∷◌, ◌++◌, length, vec_len, vec_capacity, IfOk, IfErr, OnOk, OnErr, true, if◌then◌else◌, ◌==◌};
 ghost use Rattle.std.specs.declared.cmp.Ordering.TheVariants.{Equal};
 ghost use Rattle.sketch_base.specs.declared.error.ErrorKind.TheVariants.{OutOfMemory};
@@ -17,14 +17,14 @@ use sketch_base::error::Error;
 use std::alloc::{AllocError, Global};
 use std::mem;
 
-/// How many items a level holds; none if there is no such level.
+/// How many items a level holds; 0 if there is no such level.
 pub(super) fn count_at<T: Clone + Ord>(levels: &[Compactor<T>], level: usize) -> usize
     ensures { result ≡ (layout_at (layouts_of levels.now) level).count }
 {
     levels.get(level).map_or(0, |it| it.num_items() as usize)
 }
 
-/// How many items a walk takes of a level, where another one of the same place is joined in before,
+/// How many items a walk takes from a level, after any other level at the same place is joined in
 /// and `coming` items come up.
 fn count_to_take_at<T: Clone + Ord>(
     alloc: Global,
@@ -48,9 +48,10 @@ fn count_to_take_at<T: Clone + Ord>(
     }
 }
 
-/// Room for all that a walk moves, if other levels are joined in before, or `more` items come into
-/// level 0: two empty vectors for what a level gives up, each with room for all that it holds, and
-/// buffers with clones of the others' items, and with room where fewer items go than come.
+/// Reserves room for all that a walk moves, if other levels are joined in first or `more` items
+/// come into level 0. Returns two empty vectors for what a level gives up, each with room for all
+/// that it holds, and buffers with clones of the others' items and with room where fewer items
+/// leave than come.
 pub(super) fn reserve<T: Clone + Ord>(
     alloc: Global,
     levels: &[Compactor<T>],
@@ -90,7 +91,7 @@ pub(super) fn reserve<T: Clone + Ord>(
     Ok((coming, Vec::with_capacity(alloc, most)?, buffers))
 }
 
-/// Adds a level at a place where there is none; the place is at most the next one.
+/// Adds a level at a place if there is none. The place is at most the next one.
 pub(super) fn add_level<T: Clone + Ord>(
     levels: &mut Vec<Compactor<T>>,
     level: usize,
@@ -112,8 +113,8 @@ pub(super) fn add_level<T: Clone + Ord>(
     }
 }
 
-/// Compacts, from level 0 up, each level that is at or over its nominal capacity at its turn, with
-/// what comes up from the level below. A level that is added isn't compacted.
+/// Compacts, from level 0 up, each level that is at or over its nominal capacity at its turn,
+/// counting what comes up from the level below. A level that is added isn't compacted.
 pub(super) fn walk<T: Clone + Ord, B: RandomBits>(
     levels: &mut Vec<Compactor<T>>,
     coming: &mut Vec<T>,
@@ -145,7 +146,7 @@ pub(super) fn walk<T: Clone + Ord, B: RandomBits>(
     }
 }
 
-/// Gives back what levels have too much room. Level 0, which soon grows again, keeps room for `spare`
+/// Shrinks levels that have too much room. Level 0, which soon grows again, keeps room for `spare`
 /// items.
 pub(super) fn give_back<T: Clone + Ord>(levels: &mut Vec<Compactor<T>>, spare: usize)
     ensures { levels.new.items ≡ levels.old.items }
@@ -155,7 +156,7 @@ pub(super) fn give_back<T: Clone + Ord>(levels: &mut Vec<Compactor<T>>, spare: u
     }
 }
 
-/// Puts an item last into level 0, and then walks over the levels.
+/// Appends an item to level 0, and then walks over the levels.
 pub(super) fn append_and_walk<T: Clone + Ord, B: RandomBits>(
     levels: &mut Vec<Compactor<T>>,
     item: T,
