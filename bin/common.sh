@@ -1,9 +1,9 @@
-# What the commands of bin/ and the scripts of the repository share. Source it, from sh or bash, after 'here' is set to the folder
+# What the commands of bin/ and the scripts of the repository share. Source it from sh or bash after setting 'here' to the folder
 # of this file:
 #   here=$(dirname "$(readlink -f "$0")")
 #   . "$here/common.sh"
-# From then on a command that fails ends the script, numbers and order are the same in every language, and in bash a pipe
-# fails if any part of it does. In another shell a pipe's status is that of its last part, so write what can fail to a file.
+# From then on a command that fails ends the script, numbers and sort order are the same in every locale, and in bash a pipeline
+# fails if any part of it does. In another shell a pipeline's status is that of its last part, so write what can fail to a file.
 set -eu
 # shellcheck disable=SC3040
 if (set -o pipefail) 2> /dev/null; then set -o pipefail; fi
@@ -18,7 +18,7 @@ dies() {
     exit "$1"
 }
 
-# usage STATUS: the comment at the head of the script.
+# usage STATUS: prints the comment at the head of the script, and ends it.
 usage() {
     if [ "$1" = 0 ]; then
         sed -n '2,/^$/s/^#$\|^# //p' "$0"
@@ -28,7 +28,7 @@ usage() {
     exit "$1"
 }
 
-# Makes the temporary folder $work, which is removed when the script ends, however it does.
+# Makes the temporary folder $work, which is removed however the script ends.
 make_work() {
     work=$(mktemp -d)
     export work
@@ -45,7 +45,7 @@ interrupted() {
     exit "$1"
 }
 
-# attended COMMAND..: runs it with the script's standard input, so that a signal ends both at once.
+# attended COMMAND..: runs the command with the script's standard input, so that a signal ends both at once.
 attended() {
     (exec 4<&0) 2> /dev/null || dies 3 'standard input is closed'
     exec 3<&0
@@ -58,8 +58,8 @@ attended() {
     return "$attended_status"
 }
 
-# Finds the program: PROGRAM if it is set, the one beside this file, the one of the repository, which is built if needed, or one
-# on the path by the name 'sketches'.
+# Finds the program: PROGRAM if it is set, the one beside this file, the repository's own, which is built if needed, or one named
+# 'sketches' on the path.
 find_program() {
     if [ -n "${PROGRAM:-}" ]; then
         program=$(command -v "$PROGRAM") || dies 3 "$PROGRAM is no program that can be run"
@@ -76,7 +76,7 @@ find_program() {
     export program
 }
 
-# ask FAMILY SEED < COMMANDS: prints what the program answers to these lines, except 'ok'. If one is refused it prints nothing,
+# ask FAMILY SEED < COMMANDS: prints what the program answers to these lines, except 'ok'. If a line is refused, it prints nothing,
 # reports the line, and fails. Call make_work and find_program first.
 ask() {
     cat > "$work/ask.lines"

@@ -10,7 +10,7 @@ BEGIN {
     if (reads_images) FS = "\t"
     zeros = sprintf("%0" decimals + 1 "d", 0); zeros = substr(zeros, 2)
     safe = 18 - decimals
-    # (a slot of those that images go through is where each is read)
+    # (with images, one slot of each process is kept to load them into)
     per_process = reads_images ? 255 : 256
     scratch = 255
     fields = split(groups, field, ",")
@@ -33,7 +33,7 @@ function seconds(   now) {
     return now + 0
 }
 
-# Says how far it is, each second from the fifth on; it asks for the time after so many lines as come in about a second.
+# Shows progress each second from the fifth on. It asks for the time after as many lines as arrive in about a second.
 function watch(   now) {
     now = seconds()
     if (now == before) watch_step *= 2
@@ -47,7 +47,7 @@ function watch(   now) {
     is_shown = 1
 }
 
-# The place of the field of this name or number, under the header of the lines where there is one.
+# The place of the field of this name or number, by the header if the lines have one.
 function place_of(name,   i, found) {
     if (has_header)
         for (i = 1; i <= NF; i++) if ($i == name "") { if (found) dies("the header of " file_name() " has two fields " name); found = i }
@@ -69,18 +69,18 @@ function file_name(   it) {
     return it
 }
 
-# Where this line stands, and its text.
+# This line's file, number and text.
 function line_told(   it) {
     it = $0
     if (length(it) > 200) it = substr(it, 1, 200) ".."
     return file_name() ", line " FNR ": " it
 }
 
-# The seed of a process: each has its own, and those of other seeds have others.
+# The seed of a process: each process has its own, and other given seeds lead to others.
 function seed_of(process) { return ENVIRON["seed"] sprintf("%04d", process % 10000) }
 
-# A group gets a slot as it comes; each per_process slots have a process of the program, whose answers come into a file by its
-# number. (The number stands first, since some awk looks for a pipe by comparing its command with all others.)
+# A group gets a slot when it first appears. Every per_process slots have one process of the program, whose answers go to a file
+# named by its number. (The number comes first in the command, since some awk finds a pipe by comparing its command with all others.)
 function begin(key, family) {
     if (!(family in seats) || seats[family] == per_process) {
         pipe_of[processes] = "p=" processes "; { \"$program\" " family " " seed_of(processes) \
@@ -94,7 +94,7 @@ function begin(key, family) {
     key_of[count++] = key
 }
 
-# Tells the program of this key a line, after those that wait.
+# Sends a line to the program of this key, after those that wait.
 function say(key, line,   p) {
     p = process[key]
     if (unsaid[p] != "") print substr(unsaid[p], 2) | pipe_of[p]
@@ -126,7 +126,7 @@ function say(key, line,   p) {
         update[key] = "\nupdate " slot[key] " "
         say(key, "new " slot[key] " " ENVIRON["accuracy"])
     }
-    # (many lines at once, since gawk and busybox write to a pipe whatever they are given)
+    # (many lines per print, since gawk and busybox write each print to the pipe by itself)
     p = process[key]
     unsaid[p] = unsaid[p] update[key] x
     if (++unsaid_lines[p] == 100) {
@@ -138,8 +138,8 @@ function say(key, line,   p) {
     if (is_watched && NR >= watch_at) watch()
 }
 
-# A number in any other dress, as digits with the point moved by 'decimals': '+1', '.5', '1e3', ' 7 '. It is empty where the line
-# has none, or one out of range, which is counted.
+# A number in any other form, such as '+1', '.5', '1e3' or ' 7 ', as digits with the point moved by 'decimals'. The result is empty
+# if the line has no number or one out of range, which is counted.
 function scaled(x,   sign, at, power, digits, point, rest, most) {
     gsub(/^[ \t]+|[ \t]+$/, "", x)
     if (x !~ /^[-+]?([0-9]+\.?[0-9]*|\.[0-9]+)([eE][-+]?[0-9]+)?$/) {
@@ -175,7 +175,7 @@ function far() {
     return ""
 }
 
-# The next greater number.
+# The number one greater.
 function next_of(digits,   i, nines) {
     for (i = length(digits); i > 0 && substr(digits, i, 1) == "9"; i--) nines = nines "0"
     return i ? substr(digits, 1, i - 1) (substr(digits, i, 1) + 1) nines : "1" nines
@@ -189,7 +189,7 @@ reads_images {
     if (is_watched && NR >= watch_at) watch()
 }
 
-# Images are held until the program has said of each whether it is one: only then do they go into the sketch of their key.
+# Images are held until the program has said whether each is valid. Only then do they go into the sketch of their key.
 function hold(key, image,   kind) {
     kind = tolower(substr(image, 5, 2))
     kind = kind == "0f" ? "kll" : kind == "11" ? "req" : ""
@@ -210,7 +210,7 @@ function tell_refused(where, key, why) {
     bad_images++
 }
 
-# (how the program ended is written before the pipe is closed: where it ends early, that ends this process by a signal)
+# (the program's status is written before the pipe is closed: if the program ends early, a signal ends this process)
 function judge_of(kind) {
     return "\"$program\" " kind " 0 > \"$work/verdicts." kind "\"; ended=$?; echo \"status $ended\" > \"$work/ended." kind "\"; exit $ended"
 }
@@ -231,7 +231,7 @@ function release(   i, verdict, kind, file, judge) {
     held = held_bytes = 0
 }
 
-# The one place where an image, which the program has read, goes into the sketch of its key.
+# Puts an image, which the program has read, into the sketch of its key. Nothing else does.
 function join(line, key, image, kind,   sort_of) {
     # (a REQ sketch's flag 8 says which end it is exact at)
     sort_of = kind == "req" ? kind index("89abcdef", tolower(substr(image, 8, 1))) > 0 : kind
@@ -239,7 +239,7 @@ function join(line, key, image, kind,   sort_of) {
         begin(key, kind)
         kept[key] = sort_of
         say(key, "load " slot[key] " " image)
-        # (an image holds no coins: what its levels are to turn is drawn first)
+        # (an image holds no coins: those that its levels are to use are drawn first)
         if (kind == "req") say(key, "redraw " slot[key])
     } else if (kept[key] != sort_of)
         tell_refused(line, key, "is of another kind of sketch than those before")
@@ -271,7 +271,7 @@ END {
     }
     if (!reads_images && answered != taken) dies("the program has " answered " numbers, and not the " taken " it was given")
     fflush("")
-    # (the script takes this, and no status of awk's own, for the end)
+    # (the script goes by this file, not by awk's own status)
     print (bad && ENVIRON["ignore"] == "" || beyond || bad_images ? 1 : 0), count > (work "/end")
 }
 
@@ -314,7 +314,7 @@ function check_end(p,   line) {
     close(work "/" p)
 }
 
-# How many numbers a sketch has that answers this to a rank.
+# How many numbers a sketch has, by its answer to a rank.
 function numbers_of(rank) {
     if (rank == "none") return 0
     if (rank !~ /^[0-9]+\/[0-9]+$/) dies("the program answered '" rank "' in place of a rank")

@@ -1,11 +1,11 @@
-# The options of percentiles, summarize and combine, and the run of their common part. It is sourced after common.sh.
+# The options of percentiles, summarize and combine, and the part of their run that they share. It is sourced after common.sh.
 tab=$(printf '\t')
 groups='' value=1 separator='' header='' decimals=3 points=50,90,99,99.9 family=req k='' format=table ignore='' seed='' reads=numbers
 
-# wrong TEXT: ends the script for wrong arguments
+# wrong TEXT: ends the script because of wrong arguments
 wrong() { dies 2 "$1; see $name -h"; }
 
-# is_number TEXT MOST: only digits, at most MOST
+# is_number TEXT MOST: the text is 1 to MOST digits
 is_number() {
     case $1 in '' | *[!0-9]*) return 1 ;; esac
     [ "${#1}" -le "$2" ]
@@ -78,8 +78,8 @@ check_rest() {
     [ -z "$seed" ] || is_number "$seed" 15 || wrong "a seed has up to 15 digits, and '$seed' hasn't"
 }
 
-# summed FILE..: puts the numbers or images of these files into sketches, and the rows asked for into $work/rows. The variable of this
-# name is then 0, or 1 if lines were left out.
+# summed FILE..: puts the numbers or images of these files into sketches, and the requested rows into $work/rows. The variable
+# 'summed' is then 0, or 1 if lines were left out.
 summed() {
     for file in "$@"; do
         shift
@@ -89,7 +89,7 @@ summed() {
                 ! [ -d "$file" ] || dies 3 "$file is a folder"
                 [ -r "$file" ] || dies 3 "$file can't be read" ;;
         esac
-        # (awk reads a name with an = as an assignment)
+        # (awk reads a name that contains = as an assignment)
         case $file in - | /*) ;; *) file=./$file ;; esac
         set -- "$@" "$file"
     done
@@ -99,14 +99,14 @@ summed() {
     watched=
     [ ! -t 2 ] || watched=yes
     export groups value separator header decimals points family accuracy format ignore seed reads asks watched
-    # (each process of the program takes a file descriptor)
+    # (each process of the program needs a file descriptor)
     # shellcheck disable=SC3045
     ulimit -n "$(ulimit -H -n)" 2> /dev/null || :
     attended $AWK -f "$here/groups.awk" "$@" > "$work/rows" || tell_end
     [ -s "$work/end" ] && read -r summed rows < "$work/end" && [ "$rows" = "$(wc -l < "$work/rows")" ] || tell_end
 }
 
-# finish FILE: prints it, and ends the script.
+# finish FILE: prints the file, and ends the script.
 finish() {
     cat "$1" || dies 3 "standard output can't be written"
     exit "$summed"

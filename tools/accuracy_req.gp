@@ -10,7 +10,7 @@ set xrange [80:40000]
 set yrange [0.02:40]
 set grid
 set key outside right
-# a line for each k: the greater items, and the first or the second figure of each cell where it isn't 0
+# one line for each k: the greater items, and the first or second figure of each cell unless it is 0
 rows(k, figure) = sprintf("< awk -F '|' '/^[|] k [|] levels/ { on = 1; for (i = 4; i < NF; i++) { split($i, w, \" \"); n[i] = w[1] } } on && /^$/ { exit } on && $2 + 0 == %d { for (i = 4; i < NF; i++) { split($i, w, \", \"); if (w[%d] + 0) print n[i], w[%d] + 0 } }' docs/ACCURACY.md", k, figure, figure)
 ks = "12 50 100 200"
 plot for [i = 1:4] rows(int(word(ks, i)), 2) using 1:2 with lines dashtype 2 linecolor i title sprintf("k %s, proved: at most", word(ks, i)), \

@@ -15,7 +15,7 @@ set xtics ("p50" 0, "p90" 1, "p99" 2, "p99.9" 3, "p99.99" 4, "p99.999" 5)
 set key outside right
 ours = "'KLL 200' 'KLL 2048' 'REQ 12' 'REQ 50' 'REQ 100'"
 others = "'HdrHistogram, Java, 2 digits' 'HdrHistogram, Java, 3 digits' 't-digest, Go (merging) 100' 't-digest, Go (merging) 1000' 't-digest, Java (AVL) 100' 'Greenwald-Khanna 0.001'"
-# the medians of a row of the first table below '## Errors', with 0.01 for what is less
+# the medians of a row of the first table below '## Errors', with 0.01 in place of anything less
 row(name) = sprintf("< awk -F ' *[|] *' '/^## Errors/ { on = 1 } on && $2 == \"%s\" { for (i = 4; i <= 9; i++) print i - 4, ($i + 0 > 0.01 ? $i + 0 : 0.01); exit }' %s", name, page)
 plot for [i = 1:words(ours)] row(word(ours, i)) with linespoints linewidth 2 pointtype i title word(ours, i), \
      for [i = 1:words(others)] row(word(others, i)) with linespoints dashtype 2 pointtype 5 + i title word(others, i)
@@ -30,8 +30,8 @@ set yrange [2:2000]
 set xtics auto
 set ytics auto
 unset key
-# Name, nanoseconds, live KB, image KB and where the name goes, of the rows below '## Costs' but those of the original, of CKMS and of
-# Go's HdrHistogram; the live KB twice where there is no image.
+# Name, nanoseconds, live KB, image KB and the place of the name, from the rows below '## Costs' except those of the original, of
+# CKMS and of Go's HdrHistogram; the live KB twice if there is no image.
 costs = sprintf("< awk -F ' *[|] *' '/^## Costs/ { on = 1 } /^## Errors/ { exit } on && $3 + 0 && $2 !~ /^original|^CKMS|^Hdr.*Go/ { image = $7 + 0 ? $7 : $6; printf \"\\\"%%s\\\" %%s %%s %%s %%s\\n\", $2, $3, $6, image, $2 ~ /^KLL/ ? image : $6 }' %s", page)
 plot costs using 2:4:(0):($3 - $4) with vectors nohead linewidth 2 linecolor "gray", \
      costs using 2:3 with points pointtype 7 linecolor 1, \
