@@ -1,5 +1,5 @@
 # Prints rows 'COUNT<tab>PERCENTILE<tab>..<tab>GREATEST<tab>KEY' as a table, or as tsv, csv or json. All numbers get as many
-# decimals as any of them needs.
+# decimals as any of them needs. The status is 1 if bytes of a group were replaced.
 BEGIN {
     format = ENVIRON["format"]
     many = split(ENVIRON["points"], point, ",")
@@ -102,12 +102,34 @@ function code_of(c,   i) {
     for (i = 0; i < 32; i++) if (sprintf("%c", i) == c) return i
 }
 
+# The text with U+FFFD for each byte that isn't UTF-8, which json has to be. 'spoilt' counts the texts that had such bytes.
+function utf8(text,   it, was_spoilt) {
+    while (match(text, /[\200-\377]/)) {
+        it = it substr(text, 1, RSTART - 1)
+        text = substr(text, RSTART)
+        if (match(text, /^([\302-\337]|\340[\240-\277]|[\341-\354\356\357][\200-\277]|\355[\200-\237]|\360[\220-\277][\200-\277]|[\361-\363][\200-\277][\200-\277]|\364[\200-\217][\200-\277])[\200-\277]/)) {
+            it = it substr(text, 1, RLENGTH)
+            text = substr(text, RLENGTH + 1)
+        } else {
+            it = it "\357\277\275"
+            text = substr(text, 2)
+            was_spoilt = 1
+        }
+    }
+    spoilt += was_spoilt
+    return it text
+}
+
 function print_json(   r, i, line) {
     print "["
     for (r = 1; r <= NR; r++) {
-        line = has_keys ? "\"group\":\"" replaced(key[r]) "\"," : ""
+        line = has_keys ? "\"group\":\"" replaced(utf8(key[r])) "\"," : ""
         for (i = 1; i <= columns; i++) line = line (i > 1 ? "," : "") "\"" head[i] "\":" (cell[r, i] == "-" ? "null" : cell[r, i])
         print "{" line "}" (r < NR ? "," : "")
     }
     print "]"
+    if (spoilt) {
+        printf "%s: %d group%s UTF-8: in json, U+FFFD stands for each byte that isn't\n", ENVIRON["name"], spoilt, spoilt == 1 ? " isn't" : "s aren't" > "/dev/stderr"
+        exit 1
+    }
 }
