@@ -1,15 +1,15 @@
-// A library to preload, which refuses what a program asks of the system, to see what the program then does.
+// A library to preload. It refuses what a program asks of the system, to show what the program then does.
 //
-//   REFUSE_MEMORY=N   the Nth request for memory, by malloc or realloc, counted from the start of main, gets none
+//   REFUSE_MEMORY=N   the Nth request for memory, by malloc or realloc, counted from the start of main, is refused
 //   REFUSE_READ=N     the Nth read, and each later one, fails with EIO
 //   REFUSE_WRITE=N    the Nth write, and each later one, fails with EIO
-//   REFUSE_ERROR=N    reads and writes fail with the error of this number in the place of EIO
+//   REFUSE_ERROR=N    these reads and writes fail with error number N instead of EIO
 //   REFUSE_MANY=N     reads and writes move at most N bytes at a time
-//   REFUSE_SIGNS=1    the program says itself what is to be refused: where it asks for 2^24 + N bytes, N from 1 to 4095, the
-//                     Nth request from then on gets none; where it asks for 2^24 bytes, that is over, and it gets them
-//                     exactly if no request was refused since
-//   REFUSE_REPORT=FD  at the end a line goes to this file descriptor: the requests for memory made, how many of them
-//                     were refused, the bytes read, the bytes written, the greatest resident memory in KiB and the greatest
+//   REFUSE_SIGNS=1    the program itself says what is refused: after a request for 2^24 + N bytes, N from 1 to 4095, the Nth
+//                     request is refused; a request for 2^24 bytes ends this, and is granted exactly if no request was
+//                     refused since
+//   REFUSE_REPORT=FD  at the end a line is written to this file descriptor: the number of requests for memory, the number of
+//                     those refused, the bytes read, the bytes written, the greatest resident memory in KiB and the greatest
 //                     single request in bytes
 #define _GNU_SOURCE
 #include <dlfcn.h>
@@ -20,7 +20,7 @@
 #include <sys/syscall.h>
 #include <unistd.h>
 
-// How often bytes were moved in one direction, how many, and which time fails.
+// The calls that move bytes in one direction: the first one that fails, how many were made, and how many bytes they moved.
 struct traffic {
     long fails_at, times, bytes;
 };
@@ -49,7 +49,8 @@ __attribute__((constructor)) static void start(void) {
     is_started = 1;
 }
 
-// Whether a request was refused since the last sign, which this one ends; or has a later request refused.
+// For a request of SIGN bytes, ends the refusals and returns whether a request was refused since the last sign. For a
+// greater one, arranges for a later request to be refused and returns 0.
 static int is_sign_refused(size_t size) {
     int was_refused = size == SIGN && refused > refused_before;
     memory_at = size == SIGN ? 0 : requests + (long)(size - SIGN);
@@ -57,7 +58,7 @@ static int is_sign_refused(size_t size) {
     return was_refused;
 }
 
-// Whether this request for memory is to be refused.
+// Counts a request for memory, and returns whether it is to be refused.
 static int is_refused(size_t size) {
     if (signs && size >= SIGN && size < SIGN + SIGNS)
         return is_sign_refused(size);

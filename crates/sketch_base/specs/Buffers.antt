@@ -1,13 +1,13 @@
--- The buffers of a level's turn, as their model.
+-- The model of the buffers of a level's turn.
 use Rattle.std.specs.Prelude.{ℕ, List, map}
 
--- the clones that they hold, and how many items each buffer has space for
+-- the clones that they hold, and the number of items that each buffer has space for
 pub record Space (A : Type 0) : Type 0 where
   pub clones : List A
   pub clones_space : ℕ
   pub merged_space : ℕ
 
--- of the buffers of each level
+-- the same, for the buffers of each level
 abbrev pub clones_of : {A : Type 0} → List (Space A) → List (List A)
 clones_of buffers = map (λ b. b.clones) buffers
 

@@ -1,4 +1,4 @@
--- REQ traces that are fair to a slot: each complemented coin in what gets into it had been drawn.
+-- REQ traces that are fair to a slot: each coin that is complemented in what gets into the slot was drawn before.
 use Rattle.std.specs.Prelude.{◌≡◌, ℕ, ◌*◌, ◌^◌, ◌≤◌, ◌==◌, Bool, true, false, not, ◌&&◌, ◌||◌, IsTrue, List, [], ◌∷◌, ⊤}
 use Rattle.std.specs.declared.cmp.Ordering.{Ordering}
 use Rattle.sketch_base.specs.Bag.{weighted_rank}
@@ -7,7 +7,8 @@ use Rattle.sketch_base.specs.Lengths.{start_lengths, ObeysScratch, Along, TakesE
 use Rattle.sketch_base.specs.Ranks.{rank_of_trace}
 use Rattle.sketch_base.specs.Words.{sum_over_words}
 
--- a REQ trace of updates alone: Puts, Clears and compactions, where each turned coin complements a coin that was drawn for that level of the slot since its Clear
+-- a REQ trace of updates alone: only Puts, Clears and compactions, and each turned coin complements a coin that was drawn for
+-- that level of the slot since its last Clear
 abbrev pub IsByUpdates : {A : Type 0} → List (Event A) → (ℕ → ℕ → Bool) → Type 0
 IsByUpdates [] drawn = ⊤
 IsByUpdates (At s (Put h x) ∷ es) drawn = IsByUpdates es drawn
@@ -22,7 +23,7 @@ IsByUpdates (At s Forget ∷ es) drawn = ⊥
 IsByUpdates (At s (Redraw h) ∷ es) drawn = ⊥
 IsByUpdates (Snap s t ∷ es) drawn = ⊥
 
--- whether what slot s holds before the events may get into the slot in the end
+-- whether what slot s holds before the events may end up in `slot`
 abbrev pub reaches : {A : Type 0} → List (Event A) → (slot s : ℕ) → Bool
 reaches [] slot s = s == slot
 reaches (Snap source target ∷ es) slot s = reaches es slot s || (s == source && reaches es slot target)
@@ -34,7 +35,8 @@ reaches (At i (Compact h coin taken) ∷ es) slot s = reaches es slot s
 reaches (At i Forget ∷ es) slot s = reaches es slot s
 reaches (At i (Redraw h) ∷ es) slot s = reaches es slot s
 
--- whether a REQ trace is fair to the slot: each complemented coin of a slot that may get into it had been drawn for that level of that slot since it was last cleared or made to forget; `drawn` says for which levels one had been before the events
+-- whether a REQ trace is fair to the slot: each turned coin of a slot that may get into it complements a coin that was drawn
+-- for that level of that slot since its last Clear or Forget; `drawn` says for which levels one was drawn before the events
 abbrev pub is_fair : {A : Type 0} → List (Event A) → (slot : ℕ) → (drawn : ℕ → ℕ → Bool) → Bool
 is_fair [] slot drawn = true
 is_fair (Snap source target ∷ es) slot drawn = is_fair es slot drawn
@@ -53,7 +55,8 @@ is_fair (At s (Compact h Turned taken) ∷ es) slot drawn =
 abbrev pub none_drawn : ℕ → ℕ → Bool
 none_drawn s h = false
 
--- fair is unbiased, also by merges and round trips: the weighted ranks of the slot, summed over all words, are the number of words times its true rank
+-- if a trace is fair to a slot, the slot is unbiased, even after merges and round trips: its weighted ranks, summed over all
+-- words, are the number of words times its true rank
 abbrev pub FairIsUnbiased : {A : Type 0} → (A → A → Ordering) → Type 0
 FairIsUnbiased {A} cmp = (test : A → Bool) (trace : List (Event A)) (length slot : ℕ) →
     ObeysScratch trace start_lengths → Along TakesEven trace start_lengths →

@@ -1,4 +1,4 @@
--- The header of an image as bytes. Numbers are unsigned, the lowest byte first.
+-- The header of an image as bytes. Numbers are unsigned and little-endian.
 use Rattle.std.specs.Prelude.{ℕ, ◌==◌, bit_and, Bool, not, List, [], ◌∷◌, ◌++◌}
 use Rattle.std.specs.Int.{w16, to_le_bytes}
 use Rattle.sketch_base.specs.declared.codec.Header.{Header}

@@ -3,7 +3,7 @@ use Rattle.std.specs.Prelude.{ℕ, ◌+◌, Bool, true, false, if◌then◌else�
 use Rattle.std.specs.Ordering.{is_eq, is_lt}
 use Rattle.std.specs.declared.cmp.Ordering.{Ordering}
 
--- each item as often as it weighs
+-- each item repeated by its weight
 abbrev pub copies : {A : Type 0} → List (A × ℕ) → List A
 copies pairs = flat_map (λ pair. replicate pair.1 pair.0) pairs
 
@@ -12,27 +12,27 @@ abbrev pub begins_equal : {A : Type 0} → (A → A → Ordering) → A → List
 begins_equal cmp x [] = false
 begins_equal cmp x (y ∷ ys) = is_eq (cmp x y)
 
--- how many items of a list in order are distinct: those that differ from the one after them
+-- the number of distinct items of a sorted list: those that differ from the one after them
 abbrev pub distinct : {A : Type 0} → (A → A → Ordering) → List A → ℕ
 distinct cmp [] = 0
 distinct cmp (x ∷ xs) = (if begins_equal cmp x xs then 0 else 1) + distinct cmp xs
 
--- the extreme of a stream of some items; none of no items
+-- the stream's extreme if there are items, else None
 abbrev pub extreme_among : {A B : Type 0} → List B → Option A → Option A
 extreme_among [] extreme = None
 extreme_among (x ∷ xs) extreme = extreme
 
--- whether of weighted items in order the next one, if there is one, is above x
+-- whether the first of these sorted weighted items is above x, or there is none
 abbrev pub is_below_next : {A : Type 0} → (A → A → Ordering) → A → List (A × ℕ) → Bool
 is_below_next cmp x [] = true
 is_below_next cmp x (pair ∷ pairs) = is_lt (cmp x pair.0)
 
--- of weighted items in order, the last of each that compare equal
+-- of sorted weighted items, the last of each group whose items compare equal
 abbrev pub joined : {A : Type 0} → (A → A → Ordering) → List (A × ℕ) → List A
 joined cmp [] = []
 joined cmp (pair ∷ pairs) = if is_below_next cmp pair.0 pairs then pair.0 ∷ joined cmp pairs else joined cmp pairs
 
--- the weight up to each of them, above a start
+-- the weight up to each of them, plus the weight before the list
 abbrev pub joined_weights : {A : Type 0} → (A → A → Ordering) → ℕ → List (A × ℕ) → List ℕ
 joined_weights cmp before [] = []
 joined_weights cmp before (pair ∷ pairs) =
