@@ -1,10 +1,10 @@
--- A level that was put in order before it is compacted.
+-- A level that is sorted before it is compacted.
 use Rattle.std.specs.Prelude.{◌≡◌, ℕ, Bool, List, length, drop, IsSorted}
 use Rattle.std.specs.declared.cmp.Ordering.{Ordering}
 use Rattle.sketch_kll.specs.Flat.{levels_in, IsFlat}
 use Rattle.sketch_kll.specs.Levels.{body_of, first_level, compacted, SameLevels, UpperSorted}
 
--- the body of a level is in order, and a compaction of the level makes what it would have made before
+-- the body of the level is sorted, and a compaction of the level has the result that it would have had before
 pub record IsOrdered {A : Type 0} (cmp : A → A → Ordering) (needs_sorting : Bool) (level : ℕ) (old new : List A) (bounds : List ℕ) : Type 0 where
   pub flat : IsFlat new bounds
   pub len : length new ≡ length old

@@ -27,7 +27,7 @@ pub record AreUpdated {A : Type 0} (cmp : A → A → Ordering) (s : Kll A) (ite
   pub least : IsLeastOf cmp (option_to_list s.least ++ items) t.least
   pub greatest : IsGreatestOf cmp (option_to_list s.greatest ++ items) t.greatest
 
--- updates by a single item are its update
+-- updates by a list of one item are that item's update
 abbrev pub OneUpdates : {A : Type 0} → (A → A → Ordering) → Type 0
 OneUpdates {A} cmp = (s : Kll A) (x : A) (word : List Bool) (t : Kll A) → AreUpdated cmp s (x ∷ []) word t ↔ IsUpdated cmp s x word t
 
