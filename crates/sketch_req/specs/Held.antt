@@ -1,4 +1,4 @@
--- The levels of a sketch as their model, and what is stored beside them.
+-- The model of a sketch's levels, and what is stored beside them.
 use Rattle.std.specs.Prelude.{◌≡◌, ℕ, ◌<◌, List, length}
 use Rattle.std.specs.declared.cmp.Ordering.{Ordering}
 use Rattle.sketch_req.specs.Level.{Level}
@@ -11,7 +11,7 @@ pub record Held (A : Type 0) : Type 0 where
   pub accuracy : RankAccuracy
   pub levels : List (Level A)
 
--- the fields as a whole
+-- the fields as this model
 abbrev pub held_of : {A : Type 0} → ℕ → RankAccuracy → List (Level A) → Held A
 held_of k accuracy levels = record { k = k; accuracy = accuracy; levels = levels }
 

@@ -1,4 +1,4 @@
--- What a call makes of a sketch under one word is one sketch, where items that compare equal are equal.
+-- Under one word a call makes only one sketch of a sketch, if items that compare equal are equal.
 use Rattle.std.specs.Prelude.{◌≡◌, Bool, List}
 use Rattle.std.specs.declared.cmp.Ordering.{Ordering}
 use Rattle.sketch_req.specs.Merged.{IsMergedBy}

@@ -8,12 +8,13 @@ use Rattle.sketch_req.specs.ScheduleLaws.{updates_trace}
 use Rattle.sketch_req.specs.declared.RankAccuracy.{RankAccuracy}
 use Rattle.sketch_req.specs.declared.RankAccuracy.TheVariants.{HighRank, LowRank}
 
--- a number of rising numbers
+-- a number of consecutive numbers, from `first` up
 abbrev pub rising : ℕ → ℕ → List ℕ
 rising first zero = []
 rising first (suc more) = first ∷ rising (suc first) more
 
--- the sketch of 1 to n: an item's inclusive rank under a word, the squares of its errors over all words of that many bits, and how many items lie on its accurate side
+-- the sketch of 1 to n: an item's inclusive rank under a word, the squares of its errors summed over all words of that many bits,
+-- and how many items lie on its accurate side
 abbrev pub rank_under : ℕ → RankAccuracy → ℕ → ℕ → List Bool → ℕ
 rank_under k accuracy n y word = updates_rank nat_cmp y Inclusive 0 k accuracy (rising 1 n) word
 
@@ -24,7 +25,7 @@ abbrev pub off_in : RankAccuracy → ℕ → ℕ → ℕ
 off_in accuracy n y = off_protected_end nat_cmp accuracy y Inclusive (rising 1 n)
 
 pub record RelativeRows : Type 0 where
-  -- the bound itself, met with equality and passed by one: k 4, one level and two
+  -- the bound itself, met exactly and exceeded by one: k 4, one level and two
   pub one_level : IsRelative 4 1 1 24 24
   pub one_level_over : ¬ IsRelative 4 1 1 25 24
   pub two_levels : IsRelative 4 2 1 194 48
@@ -45,7 +46,7 @@ pub record RelativeRows : Type 0 where
   pub low_yes : rank_under 4 LowRank 24 23 (true ∷ []) ≡ 22
   pub low_squares : squares_over 4 LowRank 24 23 1 ≡ 2
   pub low_off : off_in LowRank 24 23 ≡ 23
-  -- k 12, 1 to 150: the 12 lowest by one coin, the next 90 by the other side of it
+  -- k 12, 1 to 150: the 12 lowest are compacted by a coin, the next 90 by its complement
   pub twelve_compacted : updates_compacted 12 (rising 1 150) ≡ 1
   pub twelve_no : rank_under 12 HighRank 150 101 (false ∷ []) ≡ 100
   pub twelve_yes : rank_under 12 HighRank 150 101 (true ∷ []) ≡ 102

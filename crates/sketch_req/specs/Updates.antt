@@ -25,7 +25,7 @@ updates_by s items = updates_actions s.k s.accuracy (layouts_of s.levels) items
 abbrev pub coins_of_updates : {A : Type 0} → Req A → List A → ℕ
 coins_of_updates s items = draws_of (updates_by s items)
 
--- a sketch whose first update was accepted, of a copy of it by a clone of the item, and of what came of that the rest holds
+-- a copy of the sketch took in a clone of the item by an accepted update, and `Rest` holds for the resulting sketch
 pub record IsUpdatedFirst {A : Type 0} (cmp : A → A → Ordering) (s : Req A) (x : A) (word : List Bool) (Rest : Req A → Type 0) : Type 0 where
   pub copy : Req A
   pub clone : A
@@ -36,7 +36,8 @@ pub record IsUpdatedFirst {A : Type 0} (cmp : A → A → Ordering) (s : Req A) 
   pub sound : IsSound cmp after
   pub rest : Rest after
 
--- a sketch after one update after another, and so with its levels in list order: a copy of what these make of copies of it
+-- a sketch after one update after another, up to copies of the sketches and clones of the items;
+-- so this gives its levels in list order too
 abbrev pub AreUpdatedInTurn : {A : Type 0} → (A → A → Ordering) → Req A → List A → List Bool → Req A → Type 0
 AreUpdatedInTurn cmp s [] word t = IsCopy cmp s t
 AreUpdatedInTurn cmp s (x ∷ xs) word t = IsUpdatedFirst cmp s x word (λ after. AreUpdatedInTurn cmp after xs (drop (coins_of_update s x) word) t)
@@ -52,7 +53,7 @@ pub record AreUpdated {A : Type 0} (cmp : A → A → Ordering) (s : Req A) (ite
   pub least : IsLeastOf cmp (option_to_list s.least ++ items) t.least
   pub greatest : IsGreatestOf cmp (option_to_list s.greatest ++ items) t.greatest
 
--- an update is updates by a single item
+-- an update is updates by its one item
 abbrev pub OneUpdates : {A : Type 0} → (A → A → Ordering) → Type 0
 OneUpdates {A} cmp = (s : Req A) (x : A) (word : List Bool) (t : Req A) → IsSound cmp s → IsSound cmp t → IsUpdated cmp s x word t → AreUpdated cmp s (x ∷ []) word t
 
@@ -69,29 +70,30 @@ pub record IsDrawnFrom {S : Type 0} (next : S → S) (most : ℕ) (source after 
 
 -- ---- what happens to the levels
 
--- a level after items came last in turn
+-- a level after items were appended in turn
 abbrev pub appended_all : {A : Type 0} → Level A → List A → Level A
 appended_all level [] = level
 appended_all level (x ∷ xs) = appended_all (appended level x) xs
 
--- levels after items came last into level 0 in turn
+-- levels after items were appended to level 0 in turn
 abbrev pub all_appended_first : {A : Type 0} → List (Level A) → List A → List (Level A)
 all_appended_first ls [] = ls
 all_appended_first ls (x ∷ xs) = all_appended_first (appended_first ls x) xs
 
--- a level after clones of items came last
+-- a level after clones of items were appended
 pub record HasClones {A : Type 0} (cmp : A → A → Ordering) (old : Level A) (items : List A) (new : Level A) : Type 0 where
   pub clones : List A
   pub same : SameItems cmp items clones
   pub new_is : new ≡ appended_all old clones
 
--- levels after clones of items came last into level 0
+-- levels after clones of items were appended to level 0
 pub record HaveClones {A : Type 0} (cmp : A → A → Ordering) (ls : List (Level A)) (items : List A) (ns : List (Level A)) : Type 0 where
   pub clones : List A
   pub same : SameItems cmp items clones
   pub levels_are : ns ≡ all_appended_first ls clones
 
--- the weight, the layouts and the coins after it: so many items more, and as updates by them leave them; and still fewer items than a level may hold
+-- after items came in: the weight is greater by their number, the layouts and the coins are as updates by them leave them,
+-- and fewer items are retained than a level may hold
 pub record AreLeft {A S : Type 0} (next : S → S) (source after : S) (k : ℕ) (accuracy : RankAccuracy) (ls : List (Level A)) (items : List A) (ns : List (Level A)) : Type 0 where
   pub weigh : weight_of (layouts_of ns) ≡ weight_of (layouts_of ls) + length items
   pub few : retained_of (layouts_of ns) < 4294967295
@@ -99,7 +101,7 @@ pub record AreLeft {A S : Type 0} (next : S → S) (source after : S) (k : ℕ) 
   pub source_is : after ≡ after_draws next source (draws_of (updates_actions k accuracy (layouts_of ls) items))
 
 module _ {A S : Type 0} (cmp : A → A → Ordering) (bit : S → Bool) (next : S → S) where
-  -- levels into which a clone of an item came, with a walk if they were then full; and of what came of that the rest holds
+  -- a clone of an item came into the levels, with a walk if they were then full, and `Rest` holds for the result
   pub record IsTakenFirst (source : S) (k : ℕ) (accuracy : RankAccuracy) (ls : List (Level A)) (x : A) (Rest : S → List (Level A) → Type 0) : Type 0 where
     pub clone : A
     pub is_clone : cmp x clone ≡ Equal
@@ -113,7 +115,7 @@ module _ {A S : Type 0} (cmp : A → A → Ordering) (bit : S → Bool) (next : 
   AreTakenInTurn source after k accuracy ls [] ns = (ns ≡ ls) × (after ≡ source)
   AreTakenInTurn source after k accuracy ls (x ∷ xs) ns = IsTakenFirst source k accuracy ls x (λ middle levels. AreTakenInTurn middle after k accuracy levels xs ns)
 
-  -- copies of levels into which they came
+  -- copies of levels into which these clones came
   pub record AreAllTaken (source after : S) (k : ℕ) (accuracy : RankAccuracy) (ls : List (Level A)) (items : List A) (ns : List (Level A)) : Type 0 where
     pub copies : List (Level A)
     pub are_copies : AllZip (IsLevelCopy cmp) ls copies

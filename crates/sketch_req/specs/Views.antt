@@ -1,4 +1,4 @@
--- The view that a sketch itself is.
+-- A sketch seen as a view.
 use Rattle.std.specs.declared.cmp.Ordering.{Ordering}
 use Rattle.sketch_base.specs.Views.{View, expanded_view}
 use Rattle.sketch_req.specs.Actions.{bag_of}
