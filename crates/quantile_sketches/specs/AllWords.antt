@@ -1,4 +1,4 @@
--- Runs of the same commands under all words of coins: what the sketches that they lead to rank on average, and how far off.
+-- Runs of the same commands under all words of coins: how their sketches rank on average, and how far off they are.
 use Rattle.std.specs.Prelude.{◌≡◌, ℕ, ◌*◌, ◌^◌, ◌≤◌, Bool, IsTrue, List, length, Option, None, Some}
 use Rattle.sketch_base.specs.declared.common.SearchCriteria.{SearchCriteria}
 use Rattle.sketch_base.specs.Bag.{weighted_rank}
@@ -13,13 +13,14 @@ use Rattle.quantile_sketches.specs.Rules.{Kind}
 use Rattle.quantile_sketches.specs.Run.{stream_of}
 use Rattle.quantile_sketches.specs.RunSteps.{Held}
 
--- the weight that a sketch ranks an item with, as its `rank` does; 0 where there is no sketch
+-- the weight with which a sketch ranks an item, as its `rank` gives it; 0 without a sketch
 abbrev pub rank_of : {A C Shape S : Type 0} → Kind A C Shape S → A → SearchCriteria → Option S → ℕ
 rank_of kind y criteria None = 0
 rank_of kind y criteria (Some s) = weighted_rank kind.cmp (counted kind.cmp y criteria) (kind.bag s)
 
 module _ {A C Shape S : Type 0} (kind : Kind A C Shape S) (commands : List (Command A C)) where
-  -- a run of the commands under each word as long as the given one: the numbers of the commands that it refuses, and the sketches that it leads to. Under the given word these are the given sketches
+  -- a run of the commands under each word as long as the given one: the numbers of the commands that it refuses, and the sketches
+  -- that it leads to; under the given word these are the given sketches
   pub record AllRuns (word : List Bool) (slots : Slots S) : Type 0 where
     pub refused : List Bool → List ℕ
     pub held : List Bool → Held S
@@ -27,18 +28,18 @@ module _ {A C Shape S : Type 0} (kind : Kind A C Shape S) (commands : List (Comm
     pub own : held word ≡ sketch_at slots
 
   module _ (word : List Bool) (slots : Slots S) where
-    -- the ranks of a slot, whichever sketches the runs lead to, sum to the number of words times its true rank, for every query
+    -- for every query, the ranks of a slot, over all words, sum to the number of words times its true rank
     abbrev pub IsUnbiasedIn : AllRuns word slots → ℕ → Type 0
     IsUnbiasedIn runs slot = (y : A) (criteria : SearchCriteria) →
         sum_over_words (length word) (λ other. rank_of kind y criteria (runs.held other slot)) ≡
         2 ^ length word * true_rank kind.cmp y criteria (stream_of kind.rules commands slot)
 
-    -- the squares of its errors at a query, in all
+    -- the squares of a slot's errors at a query, summed over all words
     abbrev pub squares_in : AllRuns word slots → ℕ → A → SearchCriteria → ℕ
     squares_in runs slot y criteria = sum_over_words (length word) (λ other. square (distance
         (rank_of kind y criteria (runs.held other slot)) (true_rank kind.cmp y criteria (stream_of kind.rules commands slot))))
 
-    -- a slot of which the commands that a run accepts show something, under every word
+    -- under every word, the commands that the run accepts show something about the slot
     abbrev pub ShowIn : (List (Command A C) → ℕ → Bool) → AllRuns word slots → ℕ → Type 0
     ShowIn shows runs slot = (other : List Bool) → length other ≡ length word → IsTrue (shows (accepted_of (runs.refused other) commands) slot)
 
@@ -46,7 +47,7 @@ module _ {A C Shape S : Type 0} (kind : Kind A C Shape S) (commands : List (Comm
     abbrev pub AreUnbiased : Type 0
     AreUnbiased = (runs : AllRuns word slots) (slot : ℕ) → IsUnbiasedIn runs slot
 
-    -- each slot of which the accepted commands show so much is
+    -- each slot for which `ShowIn` holds is unbiased
     abbrev pub AreUnbiasedWhere : (List (Command A C) → ℕ → Bool) → Type 0
     AreUnbiasedWhere shows = (runs : AllRuns word slots) (slot : ℕ) → ShowIn shows runs slot → IsUnbiasedIn runs slot
 

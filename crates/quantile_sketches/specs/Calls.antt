@@ -8,16 +8,16 @@ use Rattle.quantile_sketches.specs.Behaviour.{Behaviour, Change}
 use Rattle.quantile_sketches.specs.Rules.{Kind}
 use Rattle.quantile_sketches.specs.RunSteps.{Refuses, IsFresh, IsCopied, IsReadBack, IsUpdated, IsWeighted, IsRedrawn, IsMerged}
 
--- where it is said beforehand that a call is refused it is refused, and where not it may want memory
+-- the call is refused if that is said up front, else it may run out of memory; both change nothing
 abbrev pub Foretells : {S Source : Type 0} → Change Source S → S → Bool → Type 0
 Foretells call s refused = (coins : _) → call s coins (Err (if refused then InvalidArgument else OutOfMemory)) s coins
 
--- a call does so, or gives an error as the rules have it and changes nothing
+-- a call succeeds, and then `does` holds; or it changes nothing and gives an error that `Refuses` allows
 abbrev pub Obeys : {S Source Shape : Type 0} → Option Shape → (S → Source → Type 0) → S → Source → Result Unit ErrorKind → S → Source → Type 0
 Obeys shape does s coins r t coins' = OnOk r (does t coins') × IfErr r (Refuses shape) × OnErr r ((t ≡ s) × (coins' ≡ coins))
 
 module _ {A C Shape S Source : Type 0} (behaviour : Behaviour S A C) (kind : Kind A C Shape S) (bit : Source → Bool) (next : Source → Source) where
-  -- this holds of a call on each sketch that keeps what every sketch keeps, by what the rules give for its shape
+  -- each call on a sound sketch obeys what the rules give for the sketch's shape
   abbrev pub Follows : Change Source S → (Shape → Option Shape) → (S → Source → S → Source → Type 0) → Type 0
   Follows call gives does = (s : S) (coins : Source) (r : Result Unit ErrorKind) (t : S) (coins' : Source) →
       kind.IsSound s → call s coins r t coins' → Obeys (gives (kind.shape s)) (does s coins) s coins r t coins'

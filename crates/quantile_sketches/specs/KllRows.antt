@@ -15,7 +15,7 @@ takes (suc more) = Update 0 more ∷ takes more
 abbrev pub updates : ℕ → List (Command ℕ ℕ)
 updates n = New 0 8 ∷ takes n
 
--- it is merged into a new one of k 20 in slot 1
+-- that sketch is merged into a new one of k 20 in slot 1
 abbrev pub merged : ℕ → List (Command ℕ ℕ)
 merged n = updates n ++ New 1 20 ∷ Merge 1 0 ∷ []
 
@@ -27,7 +27,7 @@ spread_at n = 4 * 8 * spread (trace_of kll_rules (updates n)) 0
 abbrev pub least_k : List (Command ℕ ℕ) → ℕ → Option ℕ
 least_k commands slot = option_map (λ shape. shape.min_k) ((plan_of kll_rules commands).shapes slot)
 
--- 4k times the spread, which is at most n * n: 81 and 729
+-- 4k times the spread is at most n * n, which is 81 and 729; then the least k after merges, a round trip and a reset
 pub record KllRunRows : Type 0 where
   pub nine : spread_at 9 ≡ 32
   pub twenty_seven : spread_at 27 ≡ 192

@@ -1,4 +1,4 @@
--- What a sketch with n items taken in, this bag and these extremes answers.
+-- The answers of a sketch that took n items and has this bag and these extremes.
 use Rattle.std.specs.Prelude.{◌≡◌, ◌≢◌, ◌<◌, ◌↔◌, ℕ, List, Option, Result, IsErrOf, IsSome, IfOk, IfErr, IfSome}
 use Rattle.std.specs.declared.cmp.Ordering.{Ordering}
 use Rattle.sketch_base.specs.Bag.{Bag, quantile, weighted_rank}
@@ -11,14 +11,14 @@ use Rattle.sketch_base.specs.declared.error.ErrorKind.TheVariants.{InvalidArgume
 use Rattle.quantile_sketches.specs.Behaviour.{Masses}
 
 module _ {A : Type 0} (cmp : A → A → Ordering) where
-  -- the weight that the sketch holds up to or below an item, of all its weight; none where it is empty
+  -- the weight that the sketch holds up to or below an item, out of its whole weight; none if it is empty
   abbrev pub IsRank : ℕ → Bag A → A → SearchCriteria → Option Rank → Type 0
   IsRank n bag x criteria r =
       (IsSome r ↔ (n ≢ 0))
       × IfSome r (λ w. w.weight ≡ weighted_rank cmp (counted cmp x criteria) bag)
       × IfSome r (λ w. w.total ≡ n)
 
-  -- the item that a fraction names, refused where it is no fraction, or for memory; none where the sketch is empty
+  -- the item that a fraction names, none if the sketch is empty, or out of memory; refused exactly if that isn't a fraction
   abbrev pub IsQuantile : ℕ → Bag A → (least greatest : Option A) → Rank → SearchCriteria → Result (Option A) ErrorKind → Type 0
   IsQuantile n bag least greatest fraction criteria r =
       (IsErrOf r InvalidArgument ↔ ¬ (IsFraction fraction))
@@ -26,7 +26,7 @@ module _ {A : Type 0} (cmp : A → A → Ordering) where
       × IfOk r (λ found. IsSome found ↔ (0 < n))
       × IfOk r (SameAnswer cmp (quantile cmp bag least greatest fraction.weight fraction.total criteria))
 
-  -- these weights out of n, refused where the split points do not increase, or for memory; none where the sketch is empty
+  -- these weights out of n, none if the sketch is empty, or out of memory; refused exactly if the split points don't increase
   abbrev pub AreRanks : ℕ → List A → List ℕ → Masses → Type 0
   AreRanks n points weights r =
       (IsErrOf r InvalidArgument ↔ ¬ (IsIncreasing cmp points))

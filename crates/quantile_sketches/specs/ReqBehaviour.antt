@@ -1,4 +1,4 @@
--- What a REQ sketch gives where a command calls it.
+-- What comes of the calls that a command makes on a REQ sketch.
 use Rattle.std.specs.Prelude.{◌≡◌, ◌≢◌, ◌⊎◌, ◌^◌, ◌+◌, ◌-◌, ◌<◌, ◌≤◌, ◌↔◌, ℕ, Bool, true, List, [], ◌∷◌, Option, None, Result, IsErrOf, IsOk, IfOk, IfErr, OnOk, OnErr, IsTrue}
 use Rattle.std.specs.declared.alloc.Global.{Global}
 use Rattle.std.specs.declared.vec.Vec.{Vec}
@@ -24,13 +24,13 @@ use Rattle.quantile_sketches.specs.Queried.{IsRank, IsQuantile, AreRanks}
 use Rattle.quantile_sketches.specs.ReqKind.{HasImage}
 
 module _ {A : Type 0} (cmp : A → A → Ordering) (spelling : A → Option (List ℕ)) where
-  -- a sketch of no items, which keeps what every sketch keeps, as do all that come below
+  -- a sketch of no items, which is sound, as are all sketches below
   abbrev pub IsEmptyOf : ℕ → RankAccuracy → Req A → Type 0
   IsEmptyOf k accuracy s =
       (s.k ≡ k) × (s.accuracy ≡ accuracy) × (s.n ≡ 0) × (s.levels ≡ fresh [] true 0 k accuracy ∷ [])
       × (s.least ≡ None) × (s.greatest ≡ None) × IsSound cmp s
 
-  -- an empty sketch of this k and accuracy, refused exactly for a k that is none, or for memory
+  -- an empty sketch of this k and accuracy, or out of memory; refused exactly if the k isn't legal
   abbrev pub IsMade : ℕ × RankAccuracy → Result (Req A) ErrorKind → Type 0
   IsMade config r =
       (IsErrOf r InvalidArgument ↔ ¬ (IsLegalK config.0))
@@ -41,11 +41,11 @@ module _ {A : Type 0} (cmp : A → A → Ordering) (spelling : A → Option (Lis
   abbrev pub IsCopied : Req A → Result (Req A) ErrorKind → Type 0
   IsCopied s r = IfOk r (λ t. IsCopy cmp s t × IsSound cmp t) × IfErr r (λ e. e ≡ OutOfMemory)
 
-  -- what a new sketch of the same k and accuracy is
+  -- the same as a new sketch of the same k and accuracy
   abbrev pub IsEmptied : Req A → Req A → Type 0
   IsEmptied s t = IsEmptyOf s.k s.accuracy t
 
-  -- the bytes of the sketch, which are an image of it without the coins that it keeps, refused where it has no image, or for memory
+  -- the bytes of the sketch, which are an image of it without its kept coins, or out of memory; refused only if it has no image
   abbrev pub IsImaged : Req A → Result (Vec ℕ Global) ErrorKind → Type 0
   IsImaged s r =
       IfOk r (λ v. (v.items ≡ image_text spelling s) × BeginsImage cmp spelling v.items (without_coins s) [])
@@ -53,21 +53,21 @@ module _ {A : Type 0} (cmp : A → A → Ordering) (spelling : A → Option (Lis
       × (IsErrOf r InvalidArgument → ¬ HasImage spelling s)
       × IfErr r (λ e. e ≢ InvalidData)
 
-  -- the sketch of an image that the bytes begin with, refused where there is none, or for memory
+  -- the sketch of an image that the bytes begin with, or out of memory; refused only if they begin with none
   abbrev pub IsLoaded : List ℕ → Result (Req A) ErrorKind → Type 0
   IsLoaded bytes r =
       IfOk r (λ s. ((rest : List ℕ) × BeginsImage cmp spelling bytes s rest) × IsSound cmp s)
       × IfErr r (λ e. e ≢ InvalidArgument)
       × IfErr r (λ e. e ≡ InvalidData → NoImage cmp spelling bytes)
 
-  -- another sketch is refused: the accuracies differ, or there would be too much
+  -- a merge of another sketch is refused: the accuracies differ, or too many items would be counted or retained
   abbrev pub IsUnfit : Req A → Req A → Type 0
   IsUnfit s o =
       (s.accuracy ≢ o.accuracy) ⊎ ((2 ^ 64 ≤ s.n + o.n)
       ⊎ (2 ^ 32 ≤ retained (bag_of s.levels) + retained (bag_of o.levels)))
 
   module _ {Source : Type 0} (bit : Source → Bool) (next : Source → Source) where
-    -- an item is taken in, or refused at a full weight, with all the items that a sketch may hold, or for memory
+    -- an item is taken in, or memory runs out; refused exactly if the weight or the number of retained items is at its maximum
     abbrev pub TakesIn : Req A → A → Source → Result Unit ErrorKind → Req A → Source → Type 0
     TakesIn s x coins r t rest =
         (IsErrOf r InvalidArgument ↔ ((s.n ≡ 2 ^ 64 - 1) ⊎ (retained (bag_of s.levels) ≡ 4294967295)))
@@ -81,13 +81,13 @@ module _ {A : Type 0} (cmp : A → A → Ordering) (spelling : A → Option (Lis
     abbrev pub TakesNone : Req A → Source → Result Unit ErrorKind → Req A → Source → Type 0
     TakesNone s coins r t rest = IsErrOf r InvalidArgument × (t ≡ s) × (rest ≡ coins)
 
-    -- the levels at odd states have their kept coins drawn anew
+    -- each level at an odd state has its kept coin redrawn
     abbrev pub DrawsAnew : Req A → Source → Result Unit ErrorKind → Req A → Source → Type 0
     DrawsAnew s coins r t rest =
         IsOk r × (t ≡ redrawn_sketch (bits_from bit next coins (coins_of_redraw s)) s)
         × (rest ≡ after_draws next coins (coins_of_redraw s)) × IsSound cmp t
 
-    -- another sketch is taken in, with coins drawn anew or not, or refused, or not taken in for memory
+    -- another sketch is merged in, with coins redrawn or not, or memory runs out; refused exactly if it is unfit
     abbrev pub JoinsIn : (redraws : Bool) → Req A → Req A → Source → Result Unit ErrorKind → Req A → Source → Type 0
     JoinsIn redraws o s coins r t rest =
         (IsErrOf r InvalidArgument ↔ IsUnfit s o)

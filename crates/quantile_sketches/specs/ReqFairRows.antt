@@ -10,25 +10,26 @@ use Rattle.quantile_sketches.specs.ReqPlan.{ReqCommand}
 use Rattle.quantile_sketches.specs.ReqRows.{with_trip, weight_under}
 use Rattle.quantile_sketches.specs.ReqRules.{req_rules}
 
--- `count` updates of a slot by rising items
+-- `count` updates of a slot by ascending items
 abbrev pub taking : (slot first count : ℕ) → List (ReqCommand ℕ)
 taking slot first zero = []
 taking slot first (suc more) = Update slot first ∷ taking slot (suc first) more
 
--- two sketches of k 4: one takes 1 to 27, and draws its first coin; the other takes 28 to 50, and draws none; both are merged into the one
+-- two sketches of k 4: slot `first` takes 1 to 27 and draws its first coin; slot `second` takes 28 to 50 and draws none; then
+-- slot `source` is merged into slot `into`
 abbrev pub taken_by : (first second into source : ℕ) → List (ReqCommand ℕ)
 taken_by first second into source =
     New 0 (4, HighRank) ∷ New 1 (4, HighRank) ∷ (taking first 1 27 ++ (taking second 28 23 ++ Merge into source ∷ []))
 
--- merged into the one that drew no coin, its level 0 turns a coin that was never drawn
+-- merged into the sketch that drew no coin, whose level 0 then turns a coin that was never drawn
 abbrev pub undrawn : List (ReqCommand ℕ)
 undrawn = taken_by 1 0 0 1
 
--- merged into the one that drew
+-- merged into the sketch that drew a coin
 abbrev pub drawn : List (ReqCommand ℕ)
 drawn = taken_by 0 1 0 1
 
--- the inclusive weight of 5 in slot 0, summed over both words of one coin: 10 where it is unbiased
+-- the inclusive weight of 5 in slot 0, summed over both words of one coin: 10 if it is unbiased
 abbrev pub both_weights : List (ReqCommand ℕ) → ℕ
 both_weights commands = sum_over_words 1 (λ word. weight_under commands word 0 5)
 

@@ -1,4 +1,4 @@
--- What is looked at of a REQ sketch.
+-- What is looked at in a REQ sketch.
 use Rattle.std.specs.Prelude.{◌≡◌, ℕ, ◌^◌, ◌<◌, ◌≤◌, List, length, Option}
 use Rattle.std.specs.declared.cmp.Ordering.{Ordering}
 use Rattle.sketch_base.specs.Bag.{AlikeReq}
@@ -18,7 +18,7 @@ use Rattle.quantile_sketches.specs.Rules.{Kind}
 abbrev pub req_shape : {A : Type 0} → Req A → ReqShape
 req_shape s = record { k = s.k; accuracy = s.accuracy; n = s.n; layouts = layouts_of s.levels }
 
--- what the shape of a sketch keeps, and its level lengths
+-- the invariant of a sketch's shape, and its level lengths
 pub record FitsReq (s : ReqShape) (lengths : List ℕ) : Type 0 where
   pub lengths_are : lengths ≡ counts_of s.layouts
   pub legal : IsLegalK s.k

@@ -22,7 +22,7 @@ use Rattle.quantile_sketches.specs.ReqRun.{took_no_sketch}
 use Rattle.quantile_sketches.specs.ReqUpdated.{was_only_updated}
 use Rattle.quantile_sketches.specs.Run.{stream_of}
 
--- each level that says that it is sorted is
+-- each level that counts as sorted is sorted
 abbrev pub AreSortedInOrder : {A : Type 0} → (A → A → Ordering) → Slots (Req A) → Type 0
 AreSortedInOrder cmp = EachSketch (λ slot s. AllByRecursion (λ level. IsTrue level.is_sorted → IsSorted cmp level.items) s.levels)
 
@@ -30,12 +30,12 @@ AreSortedInOrder cmp = EachSketch (λ slot s. AllByRecursion (λ level. IsTrue l
 abbrev pub HaveFewLevels : {A : Type 0} → Slots (Req A) → Type 0
 HaveFewLevels = EachSketch (λ slot s. 2 ≤ length s.levels → 2 ^ length s.levels ≤ s.n)
 
--- each such sketch retains less than the sum of its nominal capacities
+-- each sketch that took in no sketch with items retains less than the sum of its nominal capacities
 abbrev pub AreBelowNominal : {A : Type 0} → List (ReqCommand A) → Slots (Req A) → Type 0
 AreBelowNominal commands = EachSketch (λ slot s.
     IsTrue (took_no_sketch commands slot) → retained (bag_of s.levels) < nominal_sum s.k (layouts_of s.levels))
 
--- and its tail number is its k
+-- and the tail number of each such sketch is its k
 abbrev pub TailsAreK : {A : Type 0} → List (ReqCommand A) → Slots (Req A) → Type 0
 TailsAreK commands = EachSketch (λ slot s. IsTrue (took_no_sketch commands slot) → tails_of commands slot ≡ s.k)
 
@@ -45,11 +45,11 @@ IsExact {A} cmp commands slot s = (y : A) (criteria : SearchCriteria) →
     off_protected_end cmp s.accuracy y criteria (stream_of req_rules commands slot) ≤ 3 * tails_of commands slot →
     weighted_rank cmp (counted cmp y criteria) (bag_of s.levels) ≡ true_rank cmp y criteria (stream_of req_rules commands slot)
 
--- this holds of each sketch
+-- this holds for each sketch
 abbrev pub TailsAreExact : {A : Type 0} → (A → A → Ordering) → List (ReqCommand A) → Slots (Req A) → Type 0
 TailsAreExact cmp commands = EachSketch (IsExact cmp commands)
 
--- what is written of a sketch is an image of it, and each sketch that is read of that is the same but for coins, which are false
+-- what is written for a sketch is an image of it, and each sketch read from that is the same except for coins, which are false
 pub record ReadsBack {A : Type 0} (cmp : A → A → Ordering) (spelling : A → Option (List ℕ)) (s : Req A) : Type 0 where
   pub written : BeginsImage cmp spelling (image_text spelling s) (without_coins s) []
   pub read : (t : Req A) (rest : List ℕ) → BeginsImage cmp spelling (image_text spelling s) t rest → IsSameSketch cmp (without_coins s) t × (rest ≡ [])
@@ -59,14 +59,15 @@ abbrev pub AreReadBack : {A : Type 0} → (A → A → Ordering) → (A → Opti
 AreReadBack cmp spelling = EachSketch (λ slot s. HasImage spelling s → ReadsBack cmp spelling s)
 
 module _ {A : Type 0} (cmp : A → A → Ordering) (spelling : A → Option (List ℕ)) (commands : List (ReqCommand A)) (word : List Bool) (slots : Slots (Req A)) where
-  -- over the runs under all words, the errors of each sketch that was only updated are relative to how many items lie on the query's accurate side
+  -- over the runs under all words, the errors of each sketch that was only updated are relative to the number of items on the
+  -- query's accurate side
   abbrev pub AreRelative : Type 0
   AreRelative = (runs : AllRuns (req_kind cmp spelling) commands word slots) → EachSketch (λ slot s.
       ShowIn (req_kind cmp spelling) commands word slots was_only_updated runs slot → (y : A) (criteria : SearchCriteria) →
       IsRelative s.k (length s.levels - 1) (length word) (squares_in (req_kind cmp spelling) commands word slots runs slot y criteria)
       (off_protected_end cmp s.accuracy y criteria (stream_of req_rules commands slot))) slots
 
-  -- and for a k of at least 24 the bound hangs on k and that count alone
+  -- and for a k of at least 24 the bound depends on k and that count alone
   abbrev pub AreRelativeToCounts : Type 0
   AreRelativeToCounts = (runs : AllRuns (req_kind cmp spelling) commands word slots) → EachSketch (λ slot s.
       ShowIn (req_kind cmp spelling) commands word slots was_only_updated runs slot → 24 ≤ s.k → (y : A) (criteria : SearchCriteria) (levels : ℕ) →

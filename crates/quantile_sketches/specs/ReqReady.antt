@@ -1,4 +1,4 @@
--- Slots of a REQ run that stay fair by their commands alone: merged with coins drawn anew, and redrawn after a round trip.
+-- Slots of a REQ run that stay fair by the commands alone: coins are redrawn in merges, and after round trips.
 use Rattle.std.specs.Prelude.{ℕ, ◌==◌, ◌&&◌, not, Bool, true, false, IsTrue, if◌then◌else◌, List, Option}
 use Rattle.sketch_base.specs.Trace.{changed}
 use Rattle.sketch_req.specs.Schedule.{joined_layouts, are_full}
@@ -8,7 +8,8 @@ use Rattle.quantile_sketches.specs.ReqFair.{is_fair_slot}
 use Rattle.quantile_sketches.specs.ReqPlan.{ReqCommand, shape_in}
 use Rattle.quantile_sketches.specs.ReqRules.{ReqShape, req_rules}
 
--- what commands alone show of a slot. Ready: each level whose next compaction complements its kept coin has drawn that coin. Fair: each complemented coin in what got into it had been drawn
+-- What commands alone show about a slot. Ready: each level that will complement its kept coin has drawn that coin. Fair: each
+-- coin that was complemented in what got into the slot had been drawn.
 pub record Fairness : Type 0 where
   pub is_ready : Bool
   pub is_fair : Bool
@@ -21,22 +22,23 @@ new_fairness = record { is_ready = true; is_fair = true }
 abbrev pub updated_fairness : Fairness → Fairness
 updated_fairness f = record { is_ready = f.is_ready; is_fair = f.is_fair && f.is_ready }
 
--- after a round trip, and after coins were drawn anew
+-- after a round trip, and after coins were redrawn
 abbrev pub with_ready : Fairness → Bool → Fairness
 with_ready f ready = record { is_ready = ready; is_fair = f.is_fair }
 
--- whether a merge compacts levels: both sketches together are at or over the nominal capacities
+-- whether a merge compacts levels: both sketches together are at or over the sum of the nominal capacities
 abbrev pub merge_compacts : ReqShape → ReqShape → Bool
 merge_compacts s other = are_full s.k (joined_layouts s.k s.layouts other.layouts)
 
--- after a merge of a sketch that holds items: where coins are drawn anew the slot is ready and as fair as both were; else it isn't ready, and is as fair as both were only where no level is compacted
+-- after a merge of a sketch that holds items: with coins redrawn, the slot is ready, and fair if both were; else it isn't ready,
+-- and is fair if both were and no level is compacted
 abbrev pub merged_fairness : (redraws : Bool) → ReqShape → ReqShape → Fairness → Fairness → Fairness
 merged_fairness redraws s other f g = record {
   is_ready = redraws;
   is_fair = if redraws then f.is_fair && g.is_fair else not (merge_compacts s other) && (f.is_fair && g.is_fair);
 }
 
--- of all slots after a merge: that of an empty sketch changes nothing
+-- the fairness of all slots after a merge: a merge of an empty sketch changes nothing
 abbrev pub fairness_in : (redraws : Bool) → (ℕ → Option ReqShape) → (ℕ → Fairness) → (into source : ℕ) → ℕ → Fairness
 fairness_in redraws shapes fairs into source =
     let s = shape_in (shapes into) in
@@ -54,14 +56,14 @@ accepted_fairness shapes fairs (RoundTrip slot) = changed fairs slot (with_ready
 accepted_fairness shapes fairs (Redraw slot) = changed fairs slot (with_ready (fairs slot) true)
 accepted_fairness shapes fairs (MergeRedrawn into source) = fairness_in true shapes fairs into source
 
--- after any command, and after some
+-- after one command, refused or not, and after several
 abbrev pub fairness_after : {A : Type 0} → Plan ReqShape → (ℕ → Fairness) → ReqCommand A → ℕ → Fairness
 fairness_after = after_command req_rules (λ plan. accepted_fairness plan.shapes)
 
 abbrev pub fairness_from : {A : Type 0} → Plan ReqShape → (ℕ → Fairness) → List (ReqCommand A) → ℕ → Fairness
 fairness_from = after_commands req_rules (λ plan. accepted_fairness plan.shapes)
 
--- whether a slot stays fair by the commands from a run's start
+-- whether a slot stays fair, by the commands from a run's start on
 abbrev pub stays_fair : {A : Type 0} → List (ReqCommand A) → ℕ → Bool
 stays_fair commands slot = let f = fairness_from start_plan (λ s. new_fairness) commands slot in f.is_fair
 

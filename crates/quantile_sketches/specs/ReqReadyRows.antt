@@ -11,15 +11,15 @@ use Rattle.quantile_sketches.specs.ReqReady.{stays_fair}
 use Rattle.quantile_sketches.specs.ReqRows.{with_trip, weight_under}
 use Rattle.quantile_sketches.specs.ReqRules.{req_rules}
 
--- k 4, 1 to 50, with a round trip after 24, and coins drawn anew after it
+-- a sketch of k 4 that takes 1 to 50, with a round trip and then a Redraw after 24
 abbrev pub redrawn_trip : List (ReqCommand ℕ)
 redrawn_trip = New 0 (4, HighRank) ∷ (taking 0 1 24 ++ RoundTrip 0 ∷ Redraw 0 ∷ taking 0 25 26)
 
--- two sketches of k 4: slot 1 takes 1 to 27, slot 0 takes 28 to 50, and then slot 1 with coins drawn anew
+-- two sketches of k 4: slot 1 takes 1 to 27, slot 0 takes 28 to 50, and slot 1 is merged into slot 0 with coins redrawn
 abbrev pub merged_redrawn : List (ReqCommand ℕ)
 merged_redrawn = New 0 (4, HighRank) ∷ New 1 (4, HighRank) ∷ (taking 1 1 27 ++ (taking 0 28 23 ++ MergeRedrawn 0 1 ∷ []))
 
--- slot 0 is merged into a new one with coins drawn anew
+-- slot 0 is merged into a new sketch in slot 1, with coins redrawn
 abbrev pub and_merged : List (ReqCommand ℕ) → List (ReqCommand ℕ)
 and_merged commands = commands ++ New 1 (4, HighRank) ∷ MergeRedrawn 1 0 ∷ []
 
@@ -32,7 +32,7 @@ abbrev pub no_merges : List (ReqCommand ℕ)
 no_merges =
     New 0 (4, HighRank) ∷ Update 0 1 ∷ New 1 (4, HighRank) ∷ Merge 0 1 ∷ New 2 (4, LowRank) ∷ Update 2 2 ∷ Merge 0 2 ∷ Update 0 3 ∷ []
 
--- the inclusive weight of 5 in slot 0, summed over the four words of two coins: 20 where it is unbiased
+-- the inclusive weight of 5 in slot 0, summed over the four words of two coins: 20 if it is unbiased
 abbrev pub four_weights : List (ReqCommand ℕ) → ℕ
 four_weights commands = sum_over_words 2 (λ word. weight_under commands word 0 5)
 

@@ -1,4 +1,4 @@
--- Slots of a REQ run that were only updated, and that their errors are relative.
+-- Slots of a REQ run that were only updated: their errors are relative.
 use Rattle.std.specs.Prelude.{ℕ, ◌-◌, ◌≤◌, Bool, true, false, IsTrue, List, length, Option}
 use Rattle.std.specs.declared.cmp.Ordering.{Ordering}
 use Rattle.sketch_base.specs.declared.common.SearchCriteria.{SearchCriteria}
@@ -15,7 +15,8 @@ use Rattle.quantile_sketches.specs.ReqRun.{merged_in}
 use Rattle.quantile_sketches.specs.Run.{stream_of}
 use Rattle.quantile_sketches.specs.Scatter.{scatter_of}
 
--- which slots were only updated since their New or Reset, after an accepted command: a merge of a sketch that holds items ends it, and so do a round trip, which loses the kept coins, and the drawing of new ones
+-- which slots were only updated since their New or Reset, after an accepted command: a merge of a sketch that holds items ends
+-- that, and so do a round trip, which loses the kept coins, and a Redraw
 abbrev pub accepted_only_updated : {A : Type 0} → (ℕ → Option ReqShape) → (ℕ → Bool) → ReqCommand A → ℕ → Bool
 accepted_only_updated shapes only (New slot config) = changed only slot true
 accepted_only_updated shapes only (Update slot x) = only
@@ -26,7 +27,7 @@ accepted_only_updated shapes only (RoundTrip slot) = changed only slot false
 accepted_only_updated shapes only (Redraw slot) = changed only slot false
 accepted_only_updated shapes only (MergeRedrawn into source) = merged_in shapes only into source
 
--- after any command, and after some
+-- after one command, refused or not, and after several
 abbrev pub only_updated_after : {A : Type 0} → Plan ReqShape → (ℕ → Bool) → ReqCommand A → ℕ → Bool
 only_updated_after = after_command req_rules (λ plan. accepted_only_updated plan.shapes)
 
@@ -46,20 +47,21 @@ abbrev pub off_tail_at : {A : Type 0} → (A → A → Ordering) → A → Searc
 off_tail_at cmp y criteria commands slot =
     let s = shape_at commands slot in off_protected_end cmp s.accuracy y criteria (stream_of req_rules commands slot)
 
--- the squares of a slot's errors at a query, summed over the plays under all words of that many bits
+-- the squares of a slot's errors at a query, summed over the plays under all words of `bits` bits
 abbrev pub squared_errors : {A : Type 0} → (A → A → Ordering) → A → SearchCriteria → List (ReqCommand A) → (bits slot : ℕ) → ℕ
 squared_errors cmp y criteria commands bits slot = sum_over_words bits (λ word. square (distance
     (weighted_rank cmp (counted cmp y criteria) ((play cmp (trace_of req_rules commands) word start).slots slot))
     (true_rank cmp y criteria (stream_of req_rules commands slot))))
 
--- where the slot was only updated they are relative to how many items lie on the query's accurate side, whatever the other slots took
+-- if the slot was only updated, its errors are relative to the number of items on the query's accurate side, whatever the other
+-- slots took
 abbrev pub ReqRunIsRelative : {A : Type 0} → (A → A → Ordering) → Type 0
 ReqRunIsRelative {A} cmp = (y : A) (criteria : SearchCriteria) (commands : List (ReqCommand A)) (bits slot : ℕ) →
     IsTrue (was_only_updated commands slot) → coins (trace_of req_rules commands) ≤ bits →
     let s = shape_at commands slot in
     IsRelative s.k (compacted_in s) bits (squared_errors cmp y criteria commands bits slot) (off_tail_at cmp y criteria commands slot)
 
--- and for a k of at least 24 the bound hangs on k and that count alone
+-- and for a k of at least 24 the bound depends on k and that count alone
 abbrev pub ReqRunIsRelativeToCounts : {A : Type 0} → (A → A → Ordering) → Type 0
 ReqRunIsRelativeToCounts {A} cmp = (y : A) (criteria : SearchCriteria) (commands : List (ReqCommand A)) (bits slot levels : ℕ) →
     IsTrue (was_only_updated commands slot) → coins (trace_of req_rules commands) ≤ bits →
@@ -67,7 +69,7 @@ ReqRunIsRelativeToCounts {A} cmp = (y : A) (criteria : SearchCriteria) (commands
     24 ≤ s.k → Reaches s.k (off_tail_at cmp y criteria commands slot) levels →
     IsRelative s.k levels bits (squared_errors cmp y criteria commands bits slot) (off_tail_at cmp y criteria commands slot)
 
--- where the slot of an audit was only updated, the squares of how far its weights lie from the true rank are relative
+-- if the slot of an audit was only updated, the squares of its weights' distances from the true rank are relative
 abbrev pub WeightsAreRelative : {A : Type 0} → (A → A → Ordering) → A → SearchCriteria → List (ReqCommand A) → ℕ → List ℕ → ℕ → Type 0
 WeightsAreRelative cmp y criteria commands slot weights rank = IsTrue (was_only_updated commands slot) →
     let s = shape_at commands slot in

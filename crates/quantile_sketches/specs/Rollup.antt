@@ -1,4 +1,4 @@
--- Rollups: how little a slot spreads that took each coin in once, and how commands alone show that a slot did so.
+-- Rollups: a slot that took each coin in once has a small spread, and the commands alone can show that it did so.
 use Rattle.std.specs.Prelude.{◌≡◌, ℕ, Bool, true, false, ◌==◌, if◌then◌else◌, IsTrue, List, Option, Some}
 use Rattle.sketch_base.specs.Shares.{spread, took_once}
 use Rattle.sketch_base.specs.Trace.{changed}
@@ -11,12 +11,12 @@ use Rattle.quantile_sketches.specs.Outcome.{Slots, EachSketch}
 use Rattle.quantile_sketches.specs.Plan.{Plan, start_plan, count_of, after_commands, plan_of, trace_of}
 use Rattle.quantile_sketches.specs.Rules.{Rules}
 
--- the spread of each sketch that took each coin in once is little for its least k and its count, whatever merges made it
+-- each sketch that took each coin in once has a small spread for its least k and its count, whatever merges made it
 abbrev pub RollsUp : {A : Type 0} → List (Command A ℕ) → Slots (Kll A) → Type 0
 RollsUp commands = EachSketch (λ slot s.
     IsTrue (took_once (trace_of kll_rules commands) slot) → IsLittle s.min_k s.n (spread (trace_of kll_rules commands) slot))
 
--- the bound for a slot, by what is planned: its sketch's least k and count
+-- the bound for a slot, by the least k and the count of its planned shape
 abbrev pub SlotRollsUp : {A : Type 0} → List (Command A ℕ) → ℕ → Type 0
 SlotRollsUp commands slot = (shape : KllShape) →
     (plan_of kll_rules commands).shapes slot ≡ Some shape → IsTrue (took_once (trace_of kll_rules commands) slot) →
@@ -26,13 +26,14 @@ SlotRollsUp commands slot = (shape : KllShape) →
 abbrev pub RollupsSpreadLittle : Type 0 → Type 0
 RollupsSpreadLittle A = (commands : List (Command A ℕ)) (slot : ℕ) → SlotRollsUp commands slot
 
--- what a slot took since its New or Reset: updates and free slots alone, and it was merged into no slot (Free) or into some (Used); or something else too (Mixed)
+-- Free: since its New or Reset the slot took only updates and free slots, and was merged into no slot. Used: it was free, was
+-- merged into other slots, and took only updates after that. Mixed: any other slot.
 pub data Standing : Type 0 where
   Free : Standing
   Used : Standing
   Mixed : Standing
 
--- a slot that another one was merged into
+-- the standing of a slot after another one is merged into it, from both standings before
 abbrev pub joined : Standing → Standing → Standing
 joined Free Free = Free
 joined Free Used = Mixed
@@ -40,27 +41,27 @@ joined Free Mixed = Mixed
 joined Used other = Mixed
 joined Mixed other = Mixed
 
--- a slot that was merged into another one
+-- the standing of a slot after it is merged into another one
 abbrev pub used : Standing → Standing
 used Free = Used
 used Used = Used
 used Mixed = Mixed
 
--- whether it took updates and free slots alone
+-- whether a slot is free or used
 abbrev pub is_tree : Standing → Bool
 is_tree Free = true
 is_tree Used = true
 is_tree Mixed = false
 
 module _ {A C Shape : Type 0} (rules : Rules A C Shape) where
-  -- the standing of all slots after a merge: that of an empty sketch changes nothing, and one of a slot with itself mixes it
+  -- the standing of all slots after a merge: a merge of an empty sketch changes nothing, and a slot merged into itself is mixed
   abbrev pub merged_standings : (ℕ → Option Shape) → (ℕ → Standing) → (into source : ℕ) → ℕ → Standing
   merged_standings shapes stands into source =
       if count_of rules (shapes source) == 0 then stands else
       changed (changed stands source (used (stands source))) into
       (if into == source then Mixed else joined (stands into) (stands source))
 
-  -- after an accepted command; an update with a weight mixes a slot too
+  -- and after an accepted command: a slot that takes an update with a weight is mixed too
   abbrev pub accepted_standings : (ℕ → Option Shape) → (ℕ → Standing) → Command A C → ℕ → Standing
   accepted_standings shapes stands (New slot config) = changed stands slot Free
   accepted_standings shapes stands (Update slot x) = stands
@@ -71,7 +72,7 @@ module _ {A C Shape : Type 0} (rules : Rules A C Shape) where
   accepted_standings shapes stands (Redraw slot) = stands
   accepted_standings shapes stands (MergeRedrawn into source) = merged_standings shapes stands into source
 
-  -- after some commands, from a plan on
+  -- and after some commands, from a given plan on
   abbrev pub standings_from : Plan Shape → (ℕ → Standing) → List (Command A C) → ℕ → Standing
   standings_from = after_commands rules (λ plan. accepted_standings plan.shapes)
 
@@ -79,7 +80,7 @@ module _ {A C Shape : Type 0} (rules : Rules A C Shape) where
   abbrev pub standing_of : List (Command A C) → ℕ → Standing
   standing_of = standings_from start_plan (λ slot. Free)
 
--- after every list of commands, a slot that took updates and free slots alone took each coin in once
+-- after every list of commands, a slot that is free or used took each coin in once
 abbrev pub TreesTakeOnce : Type 0 → Type 0
 TreesTakeOnce A = (commands : List (Command A ℕ)) (slot : ℕ) →
     IsTrue (is_tree (standing_of kll_rules commands slot)) → IsTrue (took_once (trace_of kll_rules commands) slot)

@@ -8,30 +8,30 @@ use Rattle.quantile_sketches.specs.KllRules.{kll_rules}
 use Rattle.quantile_sketches.specs.Plan.{trace_of}
 use Rattle.quantile_sketches.specs.Rollup.{Standing, Free, Used, Mixed, standing_of}
 
--- a slot takes 1 to n in a sketch of k 8
+-- a slot holds a new sketch of k 8, which takes 1 to n
 abbrev pub takes : ℕ → ℕ → List (Command ℕ ℕ)
 takes slot n = New slot 8 ∷ map (λ x. Update slot x) (numbers 1 1 n)
 
--- slots 1 and 2 take nine each, and slot 0 both of them
+-- slots 1 and 2 take nine numbers each, and both are merged into slot 0
 abbrev pub two_hours : List (Command ℕ ℕ)
 two_hours = takes 1 9 ++ takes 2 9 ++ New 0 8 ∷ Merge 0 1 ∷ Merge 0 2 ∷ []
 
--- slot 0 takes slot 1 twice
+-- slot 1 is merged into slot 0 twice
 abbrev pub same_twice : List (Command ℕ ℕ)
 same_twice = takes 1 9 ++ New 0 8 ∷ Merge 0 1 ∷ Merge 0 1 ∷ []
 
--- the same, with nine other numbers in slot 1 when it is taken again
+-- the same, but slot 1 holds a new sketch of nine numbers at the second merge
 abbrev pub one_after_another : List (Command ℕ ℕ)
 one_after_another = takes 1 9 ++ New 0 8 ∷ Merge 0 1 ∷ takes 1 9 ++ Merge 0 1 ∷ []
 
--- slot 3 takes slot 1 too, and slot 0 takes slot 3
+-- slot 1 is merged into slot 3 too; in `diamond` slot 3 is then merged into slot 0
 abbrev pub day_and_region : List (Command ℕ ℕ)
 day_and_region = two_hours ++ New 3 8 ∷ Merge 3 1 ∷ []
 
 abbrev pub diamond : List (Command ℕ ℕ)
 diamond = day_and_region ++ Merge 0 3 ∷ []
 
--- slot 0 takes n numbers, and then itself
+-- slot 0 takes n numbers, and is then merged into itself
 abbrev pub itself : ℕ → List (Command ℕ ℕ)
 itself n = takes 0 n ++ Merge 0 0 ∷ []
 

@@ -18,7 +18,7 @@ use Rattle.quantile_sketches.specs.LineWords.{words}
 abbrev pub Known : Type 0 → Type 0
 Known C = Option (List (Command ℤ C))
 
--- after one more line
+-- what is known after one more line
 abbrev pub run_after : {C : Type 0} → Known C → Option (Request C) → Reply → Known C
 run_after run None reply = run
 run_after run (Some (Run command)) (Ok answer) = option_map (λ commands. commands ++ command ∷ []) run
@@ -27,18 +27,19 @@ run_after run (Some (Load slot)) (Ok answer) = None
 run_after run (Some (Load slot)) (Err refusal) = run
 run_after run (Some query) reply = run
 
--- the sketches and the coins are those that a run of these commands gives, from empty slots and the seed of SplitMix64 on, where each is accepted
+-- the sketches and the coins are those that a run of these commands gives, from empty slots and the seed of SplitMix64 on; the
+-- run accepts each command
 abbrev pub AreOfRun : {C Shape S : Type 0} → Kind ℤ C Shape S → ℕ → Known C → Slots S → ℕ → Type 0
 AreOfRun kind seed None slots coins = ⊤
 AreOfRun kind seed (Some commands) slots coins = AreExecuted kind coin_of next_state [] 0 commands (λ slot. None) seed (in_slot slots) coins
 
--- of each sketch in the slots this is so, by the commands
+-- each sketch in the slots keeps a promise that depends on the commands
 abbrev pub EachKeeps : {C S : Type 0} → (List (Command ℤ C) → ℕ → S → Type 0) → Known C → Slots S → ℕ → Type 0
 EachKeeps promise None slots coins = ⊤
 EachKeeps {S = S} promise (Some commands) slots coins = (slot : ℕ) (s : S) → in_slot slots slot ≡ Some s → promise commands slot s
 
 module _ {C S : Type 0} (grammar : Grammar C) (behaviour : Behaviour S ℤ C) (Holds : Known C → Slots S → ℕ → Type 0) where
-  -- lines are answered one after another, each by sketches and coins of which this holds by the run so far
+  -- lines are answered as `Serves` says; before each and at the end, `Holds` is true for the run so far, the sketches and coins
   abbrev pub AnswersWhere : Known C → Slots S → ℕ → List (List ℕ) → List ℕ → Type 0
   AnswersWhere run slots coins [] out = Holds run slots coins × (out ≡ [])
   AnswersWhere run slots coins (l ∷ ls) out =

@@ -11,20 +11,21 @@ use Rattle.quantile_sketches.specs.LineSteps.{Slots, Verdict, Reply, Answers, Ca
 use Rattle.quantile_sketches.specs.LineWords.{words}
 
 module _ {S A C Source : Type 0} (behaviour : Behaviour S A C) (bit : Source → Bool) (next : Source → Source) where
-  -- commands are carried out one after the other, from some sketches and coins on to others; some may be refused, but none because memory ran out
+  -- commands are carried out one after the other, and lead from some sketches and coins to others; some may be refused, but none
+  -- because memory ran out
   abbrev pub AreCarriedOut : List (Command A C) → Slots S → Source → Slots S → Source → Type 0
   AreCarriedOut [] slots coins slots' coins' = (slots' ≡ slots) × (coins' ≡ coins)
   AreCarriedOut (command ∷ rest) slots coins slots' coins' =
       (verdict : Verdict) × (verdict ≢ Err (Sketch OutOfMemory)) × (between : Slots S) × (left : Source)
       × CarriesOutItem behaviour bit next command slots coins verdict between left × AreCarriedOut rest between left slots' coins'
 
-  -- this makes one sketch in each slot, by the same coins
+  -- the same commands, on the same sketches under the same coins, leave the same sketches and coins
   abbrev pub CommandsMakeOne : Type 0
   CommandsMakeOne = (commands : List (Command A C)) (slots ts us : Slots S) (coins left left' : Source) →
       AreCarriedOut commands slots coins ts left → AreCarriedOut commands slots coins us left' → (ts ≡ us) × (left ≡ left')
 
 module _ {S C : Type 0} (grammar : Grammar C) (behaviour : Behaviour S ℤ C) where
-  -- what is written for lines, as `Serves` has it, where none wants memory
+  -- what is written for lines, as `Serves` says, if memory never runs out
   abbrev pub ServesAmply : Slots S → ℕ → List (List ℕ) → List ℕ → Type 0
   ServesAmply slots coins [] out = out ≡ []
   ServesAmply slots coins (l ∷ ls) out =
@@ -32,7 +33,7 @@ module _ {S C : Type 0} (grammar : Grammar C) (behaviour : Behaviour S ℤ C) wh
       × Answers behaviour (request_of grammar (words l)) (words l) slots coins reply slots' coins'
       × ServesAmply slots' coins' ls rest × (out ≡ answer_text reply ++ (10 ∷ rest))
 
-  -- it is one text
+  -- only one text is written
   abbrev pub LinesAnswerOne : Type 0
   LinesAnswerOne = (slots : Slots S) (coins : ℕ) (ls : List (List ℕ)) (out out' : List ℕ) →
       ServesAmply slots coins ls out → ServesAmply slots coins ls out' → out ≡ out'

@@ -20,31 +20,33 @@ use Rattle.quantile_sketches.specs.ReqKind.{req_kind}
 use Rattle.quantile_sketches.specs.ReqOutcome.{IsExact}
 use Rattle.quantile_sketches.specs.ReqPlan.{ReqCommand}
 
--- sketches of 64-bit integers
+-- how sketches of 64-bit integers behave
 abbrev pub kll_of_i64 : Behaviour (Kll ℤ) ℤ ℕ
 kll_of_i64 = kll int_cmp i64_spelling
 
 abbrev pub req_of_i64 : Behaviour (Req ℤ) ℤ (ℕ × RankAccuracy)
 req_of_i64 = req int_cmp i64_spelling
 
--- the answers to all its lines
+-- the answers to all lines of a text
 abbrev pub ServesFamily : (is_req : Bool) → ℕ → List ℕ → List ℕ → Type 0
 ServesFamily true seed text out = Serves req_grammar req_of_i64 (replicate SLOTS None) seed (lines text) out
 ServesFamily false seed text out = Serves kll_grammar kll_of_i64 (replicate SLOTS None) seed (lines text) out
 
--- a beginning of the answers to its first lines
+-- a beginning of the answers to a prefix of the lines
 abbrev pub BeginsFamily : (is_req : Bool) → ℕ → List ℕ → List ℕ → Type 0
 BeginsFamily true seed text sent = Begins req_grammar req_of_i64 (replicate SLOTS None) seed (lines text) sent
 BeginsFamily false seed text sent = Begins kll_grammar kll_of_i64 (replicate SLOTS None) seed (lines text) sent
 
--- the answers to all its lines, each given by the sketches of a run of the commands that were accepted before it, as long as no `load` was
+-- the answers to all lines of a text; until a `load` is accepted, each is given by the sketches of a run of the commands that
+-- were accepted before it
 abbrev pub ServesRun : (is_req : Bool) → ℕ → List ℕ → List ℕ → Type 0
 ServesRun true seed text out =
     AnswersWhere req_grammar req_of_i64 (AreOfRun (req_kind int_cmp i64_spelling) seed) (Some []) (replicate SLOTS None) seed (lines text) out
 ServesRun false seed text out =
     AnswersWhere kll_grammar kll_of_i64 (AreOfRun (kll_kind int_cmp i64_spelling) seed) (Some []) (replicate SLOTS None) seed (lines text) out
 
--- what is promised of a sketch in a slot after these commands: it weighs as much as its stream and has its extremes; KLL's is small, and REQ's is exact on its protected tail
+-- what is promised of a slot's sketch after these commands: it has the weight and the extremes of the slot's stream; a KLL sketch
+-- is small, and a REQ sketch is exact on its protected tail
 abbrev pub KllPromise : List (Command ℤ ℕ) → ℕ → Kll ℤ → Type 0
 KllPromise commands slot s =
     WeighsStream (kll_kind int_cmp i64_spelling) commands slot s × HasExtremes (kll_kind int_cmp i64_spelling) commands slot s × IsSmall s
@@ -54,7 +56,8 @@ ReqPromise commands slot s =
     WeighsStream (req_kind int_cmp i64_spelling) commands slot s × HasExtremes (req_kind int_cmp i64_spelling) commands slot s
     × IsExact int_cmp commands slot s
 
--- the answers to all its lines, each given by sketches that keep this promise for the commands that were accepted before it, as long as no `load` was
+-- the answers to all lines of a text; until a `load` is accepted, each is given by sketches that keep this promise for the
+-- commands that were accepted before it
 abbrev pub ServesAsPromised : (is_req : Bool) → ℕ → List ℕ → List ℕ → Type 0
 ServesAsPromised true seed text out = AnswersWhere req_grammar req_of_i64 (EachKeeps ReqPromise) (Some []) (replicate SLOTS None) seed (lines text) out
 ServesAsPromised false seed text out = AnswersWhere kll_grammar kll_of_i64 (EachKeeps KllPromise) (Some []) (replicate SLOTS None) seed (lines text) out
