@@ -1,44 +1,44 @@
--- What holds of each item of a list holds of each of its parts, and of each item of levels after a compaction.
+-- If P holds for each item of a list, it holds for each item of its parts; the same for levels, also after a compaction.
 use Rattle.std.proofs.Common.{◌≡◌, ℕ, zero, suc, ◌-◌, ◌%◌, ◌<◌, Bool, true, false, not, ◌&&◌, ◌==◌, if◌then◌else◌, List, [], ◌∷◌, ◌++◌, length, take, drop, map, flat_map, arith, Ordering, Equal, is_gt}
 use Rattle.std.specs.List.{AllByRecursion, AllZip}
 use Rattle.sketch_base.specs.Bag.{Bag, Taken, AllButLeftover, Lowest, Greatest, SameItems, half, sort, cut, insert_in_order, level_at, with_level, parity_up, compaction}
 
 module _ {A : Type 0} (P : A → Type 0) where
-  -- of two lists, one after the other
+  -- for each item of two lists, so for each item of one followed by the other
   pub all-append : (xs ys : List A) → AllByRecursion P xs → AllByRecursion P ys → AllByRecursion P (xs ++ ys)
   all-append [] ys h k = k
   all-append (x ∷ xs) ys h k = (h.0, all-append xs ys h.1 k)
 
-  -- and back
+  -- and the converse
   pub all-parts : (xs ys : List A) → AllByRecursion P (xs ++ ys) → AllByRecursion P xs × AllByRecursion P ys
   all-parts [] ys h = (tt, h)
   all-parts (x ∷ xs) ys h = let r = all-parts xs ys h.1 in ((h.0, r.0), r.1)
 
-  -- of a front
+  -- for each item of a prefix
   pub all-take : (n : ℕ) (xs : List A) → AllByRecursion P xs → AllByRecursion P (take n xs)
   all-take (suc n) (x ∷ xs) h = (h.0, all-take n xs h.1)
   all-take _ _ h = tt
 
-  -- of an end
+  -- for each item of a suffix
   pub all-drop : (n : ℕ) (xs : List A) → AllByRecursion P xs → AllByRecursion P (drop n xs)
   all-drop zero xs h = h
   all-drop (suc n) [] h = tt
   all-drop (suc n) (x ∷ xs) h = all-drop n xs h.1
 
-  -- of each half
+  -- for each item of a half
   pub all-half : (odd : Bool) (xs : List A) → AllByRecursion P xs → AllByRecursion P (half odd xs)
   all-half false (x ∷ xs) h = (h.0, all-half true xs h.1)
   all-half true (x ∷ xs) h = all-half false xs h.1
   all-half _ [] h = tt
 
   module _ (cmp : A → A → Ordering) where
-    -- of a list with one more item in its place
+    -- for each item of a list with one more item inserted
     pub all-insert : (x : A) (xs : List A) → P x → AllByRecursion P xs → AllByRecursion P (insert_in_order cmp x xs)
     all-insert x [] p h = (p, tt)
     all-insert x (y ∷ ys) p h =
         elim (is_gt (cmp x y)) as (λ (b : Bool). AllByRecursion P (if b then y ∷ insert_in_order cmp x ys else x ∷ y ∷ ys)) [ true ↦ (h.0, all-insert x ys p h.1) | false ↦ (p, h) ]
 
-    -- of the sorted list
+    -- for each item of the sorted list
     pub all-sort : (xs : List A) → AllByRecursion P xs → AllByRecursion P (sort cmp xs)
     all-sort [] h = tt
     all-sort (x ∷ xs) h = all-insert x (sort cmp xs) h.0 (all-sort xs h.1)
@@ -55,29 +55,29 @@ module _ {A : Type 0} (P : A → Type 0) where
     all-sorted [] h = tt
     all-sorted (x ∷ xs) h = let r = all-inserted x (sort cmp xs) h in (r.0, all-sorted xs r.1)
 
-    -- what compares equal has it too, where equal items do
+    -- P doesn't distinguish items that compare equal
     module _ (keeps : (x y : A) → cmp x y ≡ Equal → P x → P y) where
-      -- where P tells no two items apart that compare equal, of such a list
+      -- then it holds for each item of a list that compares equal place by place
       pub all-same : (xs ys : List A) → SameItems cmp xs ys → AllByRecursion P xs → AllByRecursion P ys
       all-same [] [] s h = tt
       all-same (x ∷ xs) (y ∷ ys) s h = (keeps x y s.0 h.0, all-same xs ys s.1 h.1)
       all-same _ _ s h = absurd s
 
-      -- the same of a list that is such once both are sorted
+      -- and for each item of a list that does so once both are sorted
       pub all-alike : (xs ys : List A) → SameItems cmp (sort cmp xs) (sort cmp ys) → AllByRecursion P xs → AllByRecursion P ys
       all-alike xs ys s h = all-sorted ys (all-same (sort cmp xs) (sort cmp ys) s (all-sort xs h))
 
-  -- the same holds of levels
+  -- P holds for each item of each level
   abbrev pub AllIn : List (List A) → Type 0
   AllIn = AllByRecursion (AllByRecursion P)
 
-  -- of one of the levels
+  -- if P holds in all levels, it holds in each of them
   pub all-level : (ls : List (List A)) (h : ℕ) → AllIn ls → AllByRecursion P (level_at ls h)
   all-level (l ∷ ls) zero a = a.0
   all-level (l ∷ ls) (suc h) a = all-level ls h a.1
   all-level [] _ a = tt
 
-  -- from each level to them all
+  -- and the converse
   pub all-by-place : (ls : List (List A)) → ((h : ℕ) → h < length ls → AllByRecursion P (level_at ls h)) → AllIn ls
   all-by-place [] a = tt
   all-by-place (l ∷ ls) a = (a 0 (omega arith), all-by-place ls (λ h i. a (suc h) (omega arith)))
@@ -95,7 +95,7 @@ module _ {A : Type 0} (P : A → Type 0) where
   all-cut cmp (Lowest n) b l a = let s = all-sort cmp l a in (all-drop n (sort cmp l) s, all-take n (sort cmp l) s)
   all-cut cmp (Greatest n) b l a = let m = length l - n in let s = all-sort cmp l a in (all-take m (sort cmp l) s, all-drop m (sort cmp l) s)
 
-  -- of the levels after a compaction
+  -- P holds in the levels after a compaction if it holds in those before
   pub all-compaction : (cmp : A → A → Ordering) (h : ℕ) (taken : Taken) (bit : Bool) (bag : Bag A) → AllIn bag.levels → AllIn (compaction cmp h taken bit bag).levels
   all-compaction cmp h taken bit bag a =
       let above = level_at bag.levels (suc h) in
@@ -106,24 +106,24 @@ module _ {A : Type 0} (P : A → Type 0) where
       (λ l k. all-append l up k (all-half (parity_up taken bit above) parts.1 c.1))
       (all-with_level h (λ l. parts.0) bag.levels (λ l k. c.0) a)
 
-  -- the levels of two bags that are alike
+  -- P holds in the levels of a bag if it holds in those of an alike bag, and doesn't distinguish items that compare equal
   pub all-alike-levels : (cmp : A → A → Ordering) → ((x y : A) → cmp x y ≡ Equal → P x → P y) → (ls ms : List (List A)) →
       AllZip (λ xs ys. SameItems cmp (sort cmp xs) (sort cmp ys)) ls ms → AllIn ls → AllIn ms
   all-alike-levels cmp keeps [] [] s a = tt
   all-alike-levels cmp keeps (l ∷ ls) (m ∷ ms) s a = (all-alike cmp keeps l m s.0 a.0, all-alike-levels cmp keeps ls ms s.1 a.1)
   all-alike-levels cmp keeps _ _ s a = absurd s
 
-  -- all levels one after another
+  -- P holds for each item of a concatenation if it holds in each level
   pub all-flat : {B : Type 0} (items : B → List A) (ls : List B) → AllIn (map items ls) → AllByRecursion P (flat_map items ls)
   all-flat items [] a = tt
   all-flat items (l ∷ ls) a = all-append (items l) (flat_map items ls) a.0 (all-flat items ls a.1)
 
-  -- of levels that are each the items of something
+  -- and the converse
   pub all-by-level : {B : Type 0} (items : B → List A) (ls : List B) → AllByRecursion P (flat_map items ls) → AllIn (map items ls)
   all-by-level items [] a = tt
   all-by-level items (l ∷ ls) a = let r = all-parts (items l) (flat_map items ls) a in (r.0, all-by-level items ls r.1)
 
--- what follows from P holds of each
+-- if P implies Q and holds for each item, Q holds for each item
 pub all-map : {A : Type 0} (P Q : A → Type 0) → ((x : A) → P x → Q x) → (xs : List A) → AllByRecursion P xs → AllByRecursion Q xs
 all-map P Q from [] h = tt
 all-map P Q from (x ∷ xs) h = (from x h.0, all-map P Q from xs h.1)

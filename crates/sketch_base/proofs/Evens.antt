@@ -1,4 +1,4 @@
--- What a trace gains by one level's compactions it loses over all words, where its turned coins are fair.
+-- Over all words one level's compactions gain what they lose, if the turned coins of a trace are fair.
 use Rattle.std.proofs.Common.{◌≡◌, ◌≢◌, ℕ, zero, suc, ◌+◌, ◌*◌, ◌≤◌, ◌<◌, Bool, true, false, cond, not, ◌||◌, ◌==◌, ◌⊎◌, inl, inr, List, [], ◌∷◌, refl, sym, ap, ◌∙◌, arith, if◌then◌else◌, ⊎_elim, subst, eqb-true, Ordering}
 use Rattle.std.proofs.lemmas.List.Sums.{sum_by-cons}
 use Rattle.std.proofs.lemmas.Bool.{and_parts, cases_eq, not-true, or_cases}
@@ -14,42 +14,42 @@ use Rattle.sketch_base.proofs.Gains.{gained, lost}
 use Rattle.sketch_base.proofs.MirroredWorlds.{MirroredWorlds, compacted_at, still_drawn, mirrored-snap, mirrored-put, mirrored-pull, mirrored-join, mirrored-forget, mirrored-redraw, mirrored-clear, mirrored-draw, mirrored-turn}
 
 module _ {A : Type 0} (es : List (Event A)) (slot s : ℕ) where
-  -- a number of one slot, as far as it counts in the other in the end; nothing at other levels
+  -- what c in slot s counts in the slot in the end; 0 for other levels
   abbrev counts_if : Bool → ℕ → ℕ
   counts_if here c = if here then counts_in es slot s c else 0
 
-  -- both bits of a drawn coin gain what they lose
+  -- the two bits of a drawn coin together gain what they lose
   draw_counts : (here : Bool) (u v d : ℕ) → u + v ≡ 2 * d → counts_if here u + counts_if here v ≡ counts_if here d + counts_if here d
   draw_counts here u v d e = grind (arith, counts-both es slot s u v d d)
 
-  -- so do a turned coin and its complement, and where the one slot does not get into the other nothing counts
+  -- so do a turned coin and its complement; if slot s doesn't get into the slot, nothing counts
   turn_counts : (here : Bool) (u v d d' : ℕ) → (here ≡ true → (u + v ≡ d + d') ⊎ (reaches es slot s ≡ false)) → counts_if here u + counts_if here v ≡ counts_if here d + counts_if here d'
   turn_counts here u v d d' e = grind (arith, counts-both es slot s u v d d', counts-none es slot s)
 
 module _ {A : Type 0} (cmp : A → A → Ordering) (f : A → ℕ) where
-  -- the gains of level g summed over all words, and the losses
+  -- the gains of level g, and its losses, summed over all words
   abbrev gained_over : ℕ → List (Event A) → ℕ → ℕ → World (Bag A) → ℕ
   gained_over g es n slot world = sum_over_words n (λ w. gained cmp f g es slot w world)
 
   abbrev lost_over : ℕ → List (Event A) → ℕ → ℕ → World (Bag A) → ℕ
   lost_over g es n slot world = sum_over_words n (λ w. lost cmp f g es slot w world)
 
-  -- from two worlds they are the same
+  -- from two worlds together the gains equal the losses
   abbrev pub IsEven : ℕ → List (Event A) → ℕ → ℕ → World (Bag A) → World (Bag A) → Type 0
   IsEven g es n slot world world' =
       gained_over g es n slot world + gained_over g es n slot world' ≡ lost_over g es n slot world + lost_over g es n slot world'
 
-  -- and so from all worlds that are mirrored
+  -- so it is from any two mirrored worlds
   abbrev GoesOn : ℕ → List (Event A) → ℕ → ℕ → (ℕ → ℕ → Bool) → Type 0
   GoesOn g es n slot drawn = (world world' : World (Bag A)) → MirroredWorlds cmp f g drawn world world' → IsEven g es n slot world world'
 
-  -- the same from two worlds, each after either bit
+  -- the same from four worlds together: from each of two, after either bit
   abbrev AreEven : ℕ → List (Event A) → ℕ → ℕ → (a b c d : World (Bag A)) → Type 0
   AreEven g es n slot a b c d =
       gained_over g es n slot a + gained_over g es n slot b + (gained_over g es n slot c + gained_over g es n slot d) ≡
       lost_over g es n slot a + lost_over g es n slot b + (lost_over g es n slot c + lost_over g es n slot d)
 
-  -- so from mirrored worlds that take either bit: unlike bits where level g draws, the same bits else
+  -- so it is if the four are mirrored in pairs: after unlike bits if level g draws, else after the same bit
   even-bits : (g h : ℕ) (es : List (Event A)) (n slot : ℕ) (drawn : ℕ → ℕ → Bool) (next next' : Bool → World (Bag A)) →
       ((bit bit' : Bool) → (h < g → bit ≡ bit') → (h ≡ g → bit' ≡ not bit) → MirroredWorlds cmp f g drawn (next bit) (next' bit')) →
       GoesOn g es n slot drawn → AreEven g es n slot (next false) (next true) (next' false) (next' true)
@@ -59,7 +59,7 @@ module _ {A : Type 0} (cmp : A → A → Ordering) (f : A → ℕ) where
       (λ (ne : h ≢ g). let pair = λ (bit : Bool). rest (next bit) (next' bit) (mirrored bit bit (λ lt. refl) (λ e. absurd (ne e))) in omega (arith, pair false, pair true))
       (cases_eq h g)
 
-  -- a kept coin drawn anew, if the rest is even from all worlds that are mirrored after it
+  -- a Redraw is even if the rest is even from all worlds that are mirrored after it
   even-redraw : (g h s : ℕ) (es : List (Event A)) (n slot : ℕ) (drawn : ℕ → ℕ → Bool) (world world' : World (Bag A)) →
       MirroredWorlds cmp f g drawn world world' → GoesOn g es n slot (changed drawn s (changed (drawn s) h true)) →
       IsEven g (At s (Redraw h) ∷ es) (suc n) slot world world'
@@ -77,7 +77,7 @@ module _ {A : Type 0} (cmp : A → A → Ordering) (f : A → ℕ) where
         losses (next' false) (next' true),
       )
 
-  -- a draw, if the rest is even from all worlds that are mirrored after it
+  -- a compaction by a fresh coin is even if the rest is even from all worlds that are mirrored after it
   even-draw : (g h s : ℕ) (taken : Taken) (es : List (Event A)) (n slot : ℕ) (drawn : ℕ → ℕ → Bool) (world world' : World (Bag A)) →
       is_req taken ≡ true → MirroredWorlds cmp f g drawn world world' → GoesOn g es n slot (changed drawn s (changed (drawn s) h true)) →
       IsEven g (At s (Compact h Fresh taken) ∷ es) (suc n) slot world world'
@@ -91,7 +91,7 @@ module _ {A : Type 0} (cmp : A → A → Ordering) (f : A → ℕ) where
       (even-bits g h es n slot (changed drawn s row) (λ bit. compacted_at cmp f s h taken bit world) (λ bit. compacted_at cmp f s h taken bit world')
       (λ bit bit' low here. mirrored-draw cmp f g drawn world world' m s h taken row bit bit' req low (λ e d. here e) (still_drawn (drawn s) g h)) rest)
 
-  -- a turned coin: fair, or of a slot that does not get into the asked one
+  -- so is one by a turned coin that is fair, or whose slot doesn't get into the slot asked for
   even-turn : (g h s : ℕ) (taken : Taken) (es : List (Event A)) (n slot : ℕ) (drawn : ℕ → ℕ → Bool) (world world' : World (Bag A)) →
       is_req taken ≡ true → (drawn s h || not (reaches es slot s)) ≡ true → MirroredWorlds cmp f g drawn world world' → GoesOn g es n slot drawn →
       IsEven g (At s (Compact h Turned taken) ∷ es) n slot world world'
@@ -111,7 +111,7 @@ module _ {A : Type 0} (cmp : A → A → Ordering) (f : A → ℕ) where
       (rest (compacted_at cmp f s h taken bit world) (compacted_at cmp f s h taken bit' world')
       (mirrored-turn cmp f g drawn world world' m s h taken bit bit' req (λ lt. ap not ((m.slots s).below h lt)) (λ e d. ap not (other e d))))
 
-  -- level by level, gains and losses even out over all words
+  -- from mirrored worlds the gains and losses of each level are equal over all words
   pub evens : (g : ℕ) (es : List (Event A)) (n slot : ℕ) (drawn : ℕ → ℕ → Bool) (world world' : World (Bag A)) →
       coins es ≤ n → is_fair es slot drawn ≡ true → MirroredWorlds cmp f g drawn world world' → IsEven g es n slot world world'
   evens g [] n slot drawn world world' enough fair m = refl

@@ -1,4 +1,4 @@
--- REQ is unbiased where each turned coin of what gets into a slot complements a drawn one.
+-- A REQ slot is unbiased if each turned coin of what gets into it complements a drawn one.
 use Rattle.std.proofs.Common.{◌≡◌, ℕ, zero, suc, ◌+◌, ◌*◌, ◌^◌, ◌≤◌, Bool, true, List, refl, ap, ◌∙◌, arith, Ordering}
 use Rattle.std.proofs.lemmas.Bool.{false≢true}
 use Rattle.sketch_base.specs.Bag.{weighted_rank}
@@ -15,12 +15,12 @@ use Rattle.sketch_base.proofs.Gains.{ScratchGoesOn, scratch_obeys, gained, lost,
 use Rattle.sketch_base.proofs.MirroredWorlds.{MirroredWorlds}
 use Rattle.sketch_base.proofs.Evens.{evens}
 
--- ranks that come out right where what is gained and what is lost are equal in sum over all words
+-- the ranks sum to their number times the true rank if gains and losses have the same sum over all words
 equal_sums : (w ranks losses gains t consts left right : ℕ) →
     left ≡ right → left ≡ ranks + losses → right ≡ consts + gains → consts ≡ w * t → gains ≡ losses → {m : ℕ} → t ≡ m → ranks ≡ w * m
 equal_sums w ranks losses gains t consts left right a b c d e g = omega (arith, a, b, c, d, e, ap (λ n. w * n) g)
 
--- sums over levels and words are equal where each level's are
+-- sums over levels and words are equal if those of each level are
 equal_below : (top n : ℕ) (f g : ℕ → List Bool → ℕ) → ((i : ℕ) → sum_over_words n (f i) ≡ sum_over_words n (g i)) →
     sum_over_words n (λ w. sum_below top (λ i. f i w)) ≡ sum_over_words n (λ w. sum_below top (λ i. g i w))
 equal_below zero n f g h = refl
@@ -34,7 +34,7 @@ equal_below (suc top) n f g h =
     )
 
 module _ {A : Type 0} (cmp : A → A → Ordering) (test : A → Bool) where
-  -- nothing is drawn at the start, and a world is mirrored by itself
+  -- at the start no coin was drawn, and the world mirrors itself
   at_start : (g : ℕ) → MirroredWorlds cmp (one test) g none_drawn start start
   at_start g = record { slots = λ s. record { levels = λ i le. refl; below = λ i lt. refl; turned = λ e. absurd (false≢true e) }; scratch = λ i le. refl }
 
@@ -54,6 +54,6 @@ module _ {A : Type 0} (cmp : A → A → Ordering) (test : A → Bool) where
       equal_sums (2 ^ n) _ _ _ _ _ _ _ summed (sum_over_words-add n ranks losses) (sum_over_words-add n (λ w. truth) gains) (sum_over_words-const n truth) balanced
       (true_ranks-same test trace (held test start) (λ s. 0) (held-settled test start refl) slot)
 
--- the law
+-- the law: fair traces are unbiased
 pub fair_is_unbiased : {A : Type 0} (cmp : A → A → Ordering) → FairIsUnbiased cmp
 fair_is_unbiased cmp test trace n slot obeys even fair enough = fair_unbiased cmp test trace n slot (λ word. scratch_obeys cmp test trace word start obeys even) fair enough

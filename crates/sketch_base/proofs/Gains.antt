@@ -1,4 +1,5 @@
--- What the compactions of a trace gain and lose, level by level, as far as it counts in a slot in the end: by them its rank in the end differs from its true rank.
+-- What the compactions of a trace gain and lose, level by level, as far as it counts in a slot in the end.
+-- A slot's rank differs from its true rank by these gains and losses.
 use Rattle.std.proofs.Common.{◌≡◌, ℕ, drop, suc, ◌+◌, ◌≤◌, ◌<◌, Bool, ◌==◌, ◌||◌, IsTrue, sum, List, [], ◌∷◌, refl, sym, ap, ◌∙◌, arith, if◌then◌else◌, subst, eqb-true, Ordering}
 use Rattle.std.specs.Prelude.{⊤}
 use Rattle.sketch_base.specs.Bag.{Bag, Taken}
@@ -12,7 +13,7 @@ use Rattle.sketch_base.proofs.Compactions.{sum_below, sum_below-add, sum_below-p
 use Rattle.sketch_base.proofs.Reached.{only, counts_in, counts-moved}
 
 module _ {A : Type 0} (cmp : A → A → Ordering) (f : A → ℕ) where
-  -- what the compactions of level g move along the play, given what each moves, as far as it counts in the slot in the end
+  -- the sum of the amounts that the compactions of level g move in a play, as far as they count in the slot in the end
   abbrev moved : (ℕ → ℕ → Coin → Taken → Bool → World (Bag A) → ℕ) → ℕ → List (Event A) → ℕ → List Bool → World (Bag A) → ℕ
   moved amount g [] slot word world = 0
   moved amount g (At s (Compact h coin taken) ∷ es) slot word world =
@@ -21,7 +22,7 @@ module _ {A : Type 0} (cmp : A → A → Ordering) (f : A → ℕ) where
       moved amount g es slot (if event_draws e then drop 1 word else word) (happens (act cmp) e (next_bit word) world)
   moved amount g (e ∷ es) slot word world = moved amount g es slot (if event_draws e then drop 1 word else word) (happens (act cmp) e (next_bit word) world)
 
-  -- what they gain, and what they lose
+  -- what these compactions gain, and what they lose
   abbrev pub gained : ℕ → List (Event A) → ℕ → List Bool → World (Bag A) → ℕ
   gained = moved (λ s h coin taken next world. up cmp f h taken (bit_of coin h next (world.slots s)) (world.slots s))
 
@@ -35,7 +36,7 @@ module _ {A : Type 0} where
   IsBelow top (At s (Compact h coin taken) ∷ es) = (h < top) × IsBelow top es
   IsBelow top (e ∷ es) = IsBelow top es
 
-  -- a level above all that are compacted
+  -- a level above all levels that are compacted
   abbrev pub top_of : List (Event A) → ℕ
   top_of [] = 0
   top_of (At s (Compact h coin taken) ∷ es) = suc h + top_of es
@@ -46,38 +47,38 @@ module _ {A : Type 0} where
   below-more m n (At s (Compact h coin taken) ∷ es) le b = (omega (arith, b.0, le), below-more m n es le b.1)
   below-more m n (_ ∷ es) le b = below-more m n es le b
 
-  -- no event reaches the top level
+  -- all levels that are compacted are below it
   pub below_top : (es : List (Event A)) → IsBelow (top_of es) es
   below_top [] = tt
   below_top (At s (Compact h coin taken) ∷ es) = (omega arith, below-more (top_of es) (suc h + top_of es) es (omega arith) (below_top es))
   below_top (_ ∷ es) = below_top es
 
 module _ {A : Type 0} (cmp : A → A → Ordering) (test : A → Bool) where
-  -- the scratch rule along the play: while the scratch holds an item, only events that go on with it come, and at the end it holds none
+  -- the scratch rule along a play: while the scratch holds an item, all events go on with it, and at the end it holds none
   abbrev pub ScratchGoesOn : List (Event A) → List Bool → World (Bag A) → Type 0
   ScratchGoesOn [] word world = sum (bag_lengths world.scratch) ≡ 0
   ScratchGoesOn (e ∷ es) word world =
       IsTrue (sum (bag_lengths world.scratch) == 0 || goes_on e world.target) × ScratchGoesOn es (if event_draws e then drop 1 word else word) (happens (act cmp) e (next_bit word) world)
 
-  -- the same holds where the lengths obey it and all compactions take an even number
+  -- a play obeys the scratch rule if the level lengths do and all compactions take an even number of items
   pub scratch_obeys : (es : List (Event A)) (word : List Bool) (world : World (Bag A)) → ObeysScratch es (world_lengths world) → Along TakesEven es (world_lengths world) → ScratchGoesOn es word world
   scratch_obeys [] word world obeys even = obeys
   scratch_obeys (e ∷ es) word world obeys even =
       let same = sym (lengths-happens cmp e (next_bit word) world even.0) in
       (obeys.0, scratch_obeys es _ _ (subst (λ w. ObeysScratch es w) same obeys.1) (subst (λ w. Along TakesEven es w) same even.1))
 
-  -- a slot's rank in the end, and all gains and losses of levels below top
+  -- a slot's rank in the end
   abbrev end_rank : List (Event A) → ℕ → List Bool → World (Bag A) → ℕ
   end_rank es slot word world = rank (one test) ((play cmp es word world).slots slot)
 
-  -- over all levels below one
+  -- the gains of all levels below top, and their losses
   abbrev pub all_gained : ℕ → List (Event A) → ℕ → List Bool → World (Bag A) → ℕ
   all_gained top es slot word world = sum_below top (λ g. gained cmp (one test) g es slot word world)
 
   abbrev pub all_lost : ℕ → List (Event A) → ℕ → List Bool → World (Bag A) → ℕ
   all_lost top es slot word world = sum_below top (λ g. lost cmp (one test) g es slot word world)
 
-  -- without the gains and with the losses the rank is the true rank, from these ranks
+  -- the rank in the end plus the losses is the true rank, from these ranks, plus the gains
   abbrev IsAccounted : ℕ → List (Event A) → ℕ → List Bool → World (Bag A) → (ranks : ℕ → ℕ) → Type 0
   IsAccounted top es slot word world ranks = end_rank es slot word world + all_lost top es slot word world ≡ true_ranks test es ranks slot + all_gained top es slot word world
 
@@ -85,7 +86,7 @@ module _ {A : Type 0} (cmp : A → A → Ordering) (test : A → Bool) where
       IsAccounted top es slot word world (held test world) → ((i : ℕ) → held test world i ≡ ranks i) → IsAccounted top es slot word world ranks
   from_ranks top es slot word world ranks e same = e ∙ ap (λ m. m + all_gained top es slot word world) (true_ranks-same test es (held test world) ranks same slot)
 
-  -- what a compaction takes of its slot, and what goes up
+  -- what a compaction takes from its slot, and what it sends up
   abbrev taken_down : ℕ → ℕ → Taken → World (Bag A) → ℕ
   taken_down s h taken world = down cmp (one test) h taken (world.slots s)
 
@@ -96,11 +97,11 @@ module _ {A : Type 0} (cmp : A → A → Ordering) (test : A → Bool) where
       held test (happens (act cmp) (At s (Compact h coin taken)) next world) i + only s (taken_down s h taken world) i ≡ held test world i + only s (gone_up s h coin taken next world) i
   held-moves s h coin taken next world i = grind (arith, eqb-true, compacted-moves cmp (one test) h taken (bit_of coin h next (world.slots s)) (world.slots s))
 
-  -- one level's number beside the others' sum
+  -- a number added at one level is added to the sum over the levels
   with_picked : (top h c : ℕ) (rest : ℕ → ℕ) → h < top → sum_below top (λ g. (if h == g then c else 0) + rest g) ≡ c + sum_below top rest
   with_picked top h c rest lt = sum_below-add top (λ g. if h == g then c else 0) rest ∙ ap (λ n. n + sum_below top rest) (sum_below-pick top h c lt)
 
-  -- the rank in the end, without all gains and with all losses, is the true rank
+  -- the rank in the end plus all losses is the true rank plus all gains
   pub accounted : (top : ℕ) (es : List (Event A)) (slot : ℕ) (word : List Bool) (world : World (Bag A)) →
       ScratchGoesOn es word world → IsBelow top es → IsAccounted top es slot word world (held test world)
   accounted top [] slot word world rules below = ap (λ m. m + sum_below top (λ g. 0)) (sym (held-ended test world rules slot))

@@ -1,4 +1,4 @@
--- Weighted items in order, of which equal ones are joined: the view that they make.
+-- Sorted weighted items of which equal ones are joined: the view that they make.
 use Rattle.std.proofs.Common.{◌≡◌, ℕ, zero, suc, ◌+◌, ◌-◌, ◌*◌, ◌<◌, ◌≤◌, Bool, true, false, cond, List, [], ◌∷◌, ◌++◌, length, map, replicate, reverse, sum_by, refl, sym, ap, ap₂, ◌∙◌, subst, append_assoc, append-nil, length-append, arith, if◌then◌else◌, IsSorted, IsPermutation, Ordering, Less, Equal, is_gt, is_lt}
 use Rattle.std.specs.Prelude.{⊤, Option, None, Some, IsSome}
 use Rattle.std.specs.Cmp.{IsTotalOrder}
@@ -32,9 +32,9 @@ all-by_recursion : {A : Type 0} (P : A → Type 0) (xs : List A) → All P xs �
 all-by_recursion P [] h = tt
 all-by_recursion P (x ∷ xs) h = (h 0 x (omega arith), all-by_recursion P xs (λ k d l. h (suc k) d (omega arith)))
 
--- ---- pairs in order
+-- ---- sorted pairs
 
--- weighted items in order of the items
+-- weighted items that are sorted by item have sorted items
 pub sorted-items : {A : Type 0} (cmp : A → A → Ordering) (pairs : List (A × ℕ)) → IsSortedBy (λ (a b : A × ℕ). is_lt (cmp a.0 b.0)) pairs → IsSorted cmp (map (λ (pair : A × ℕ). pair.0) pairs)
 sorted-items cmp [] up k d l u = absurd (omega arith)
 sorted-items {A} cmp (p ∷ ps) up k d l u =
@@ -44,7 +44,7 @@ sorted-items {A} cmp (p ∷ ps) up k d l u =
     let two = get_or-map item (p ∷ ps) (k + 1) p d (omega (arith, u, n)) in
     ap₂ (λ x y. is_lt (cmp x y)) two one ∙ up k p l (omega (arith, u, n))
 
--- numbers that climb from a start, each above the one before it
+-- numbers that climb from a start: each is above the one before it
 abbrev Climbs : ℕ → List ℕ → Type 0
 Climbs before [] = ⊤
 Climbs before (n ∷ ns) = (before < n) × Climbs n ns
@@ -58,11 +58,11 @@ module _ {A : Type 0} where
   abbrev pub items_in : List (A × ℕ) → List A
   items_in pairs = map (λ (pair : A × ℕ). pair.0) pairs
 
-  -- each weighs something
+  -- each weight is above 0
   abbrev pub HaveWeight : List (A × ℕ) → Type 0
   HaveWeight pairs = AllByRecursion (λ (pair : A × ℕ). 0 < pair.1) pairs
 
-  -- the sum over the items of the weight times what f says
+  -- the sum over the items of the weight times f of the item
   abbrev weigh_pairs : (A → ℕ) → List (A × ℕ) → ℕ
   weigh_pairs f pairs = sum_by (λ (pair : A × ℕ). pair.1 * f pair.0) pairs
 
@@ -78,7 +78,7 @@ module _ {A : Type 0} where
 
   -- ---- joining equal items
 
-  -- what a weight counts that is carried on to the next item
+  -- what the weight n counts if it is carried on to the next item
   abbrev carried : ℕ → (A → ℕ) → List (A × ℕ) → ℕ
   carried n f [] = 0
   carried n f (p ∷ ps) = n * f p.0
@@ -110,7 +110,7 @@ module _ {A : Type 0} (cmp : A → A → Ordering) where
   all-joined P (p ∷ ps) h =
       elim (is_below_next cmp p.0 ps) as (λ (b : Bool). AllByRecursion P (if b then p.0 ∷ joined cmp ps else joined cmp ps)) [ true ↦ (h.0, all-joined P ps h.1) | false ↦ all-joined P ps h.1 ]
 
-  -- each item is below all after it
+  -- each item is below all items after it
   abbrev AllBelow : List A → Type 0
   AllBelow [] = ⊤
   AllBelow (x ∷ xs) = AllByRecursion (λ y. cmp x y ≡ Less) xs × AllBelow xs
@@ -138,7 +138,7 @@ module _ {A : Type 0} {cmp : A → A → Ordering} (order : IsTotalOrder cmp) wh
   carried-on f respects n x [] e up = absurd (false≢true (sym e))
   carried-on f respects n x (p ∷ ps) e up = ap (λ m. n * m) (sym (respects x p.0 (equal-from_neither (cmp x p.0) e up.0)))
 
-  -- what the joined items stand for counts as the weighted items do
+  -- the list that joined items stand for has the sum of the weighted items, and of the weight carried on to them
   sum-joined : (f : A → ℕ) → ((x y : A) → cmp x y ≡ Equal → f x ≡ f y) → (low before : ℕ) (pairs : List (A × ℕ)) → low ≤ before → Ordered order (items_in pairs) →
       sum_by f (spread_over low (joined cmp pairs) (joined_weights cmp before pairs)) ≡ carried (before - low) f pairs + weigh_pairs f pairs
   sum-joined f respects low before [] le up = refl
@@ -161,7 +161,7 @@ module _ {A : Type 0} {cmp : A → A → Ordering} (order : IsTotalOrder cmp) wh
       carry : is_below_next cmp p.0 ps ≡ false → carried (before + p.1 - low) f ps ≡ (before + p.1 - low) * f p.0
       carry e = carried-on f respects (before + p.1 - low) p.0 ps e up.0
 
-  -- what follows an item that is below the next one is above it
+  -- an item that is below the next one is below all items that follow
   below-all : (x : A) (pairs : List (A × ℕ)) → is_below_next cmp x pairs ≡ true → Ordered order (items_in pairs) → AllByRecursion (λ y. cmp x y ≡ Less) (items_in pairs)
   below-all x [] e up = tt
   below-all x (p ∷ ps) e up =
@@ -190,7 +190,7 @@ module _ {A : Type 0} {cmp : A → A → Ordering} (order : IsTotalOrder cmp) wh
       distinct-copies (c - before) x (spread_over c xs cs) (omega (arith, l)) (begins-above cmp x c xs cs h.0 up.1)
       ∙ (ap (λ m. 1 + m) (distinct-spread c xs cs (omega (arith, e)) up.1 h.1) ∙ omega arith)
 
-  -- in another order they stand for the same items
+  -- permuted pairs stand for the same items
   pub copies-moved : (ps qs : List (A × ℕ)) → IsPermutation ps qs → SameItems cmp (sort cmp (copies ps)) (sort cmp (copies qs))
   copies-moved ps qs same =
       items-from_counts order (sort cmp (copies ps)) (sort cmp (copies qs)) (Ordered-sort order (copies ps)) (Ordered-sort order (copies qs))
@@ -199,7 +199,7 @@ module _ {A : Type 0} {cmp : A → A → Ordering} (order : IsTotalOrder cmp) wh
       sum_by-sort one cmp (copies ps) ∙ (sum-copies one ps ∙ (sym (sum_by-IsPermutation (λ (pair : A × ℕ). pair.1 * one pair.0) ps qs same) ∙
       sym (sum_by-sort one cmp (copies qs) ∙ sum-copies one qs))))
 
-  -- weighted items, and the same put in order
+  -- weighted items, and the same items sorted
   module _ (weighted pairs : List (A × ℕ)) (same : IsPermutation weighted pairs) (sorted : IsSorted cmp (items_in pairs)) (weights : All (λ (pair : A × ℕ). 0 < pair.1) weighted) where
     up : Ordered order (items_in pairs)
     up = Ordered-from_sorted cmp order (items_in pairs) sorted
@@ -213,7 +213,7 @@ module _ {A : Type 0} {cmp : A → A → Ordering} (order : IsTotalOrder cmp) wh
     long : length (spread_out (joined cmp pairs) (joined_weights cmp 0 pairs)) ≡ weigh_pairs (λ x. 1) pairs
     long = sym (sum-ones (spread_out (joined cmp pairs) (joined_weights cmp 0 pairs))) ∙ sum-spread (λ x. 1) (λ x y e. refl)
 
-    -- their entries
+    -- the entries are the copies of the weighted items, sorted
     pub joined-entries : SameItems cmp (sort cmp (copies weighted)) (spread_out (joined cmp pairs) (joined_weights cmp 0 pairs))
     joined-entries =
         items-from_counts order (sort cmp (copies weighted)) (spread_out (joined cmp pairs) (joined_weights cmp 0 pairs)) (Ordered-sort order (copies weighted))
@@ -223,7 +223,7 @@ module _ {A : Type 0} {cmp : A → A → Ordering} (order : IsTotalOrder cmp) wh
         sum_by-sort one cmp (copies weighted) ∙ (sum-copies one weighted ∙ (sym (sum_by-IsPermutation (λ (pair : A × ℕ). pair.1 * one pair.0) weighted pairs same) ∙
         sym (sum-spread one (λ x y e. ap (λ (b : Bool). cond b 1 0) (counted-equal order x y e z c))))))
 
-    -- as many items as there are distinct ones
+    -- the number of joined items is the number of distinct entries
     pub joined-distinct : length (joined cmp pairs) ≡ distinct cmp (spread_out (joined cmp pairs) (joined_weights cmp 0 pairs))
     joined-distinct = sym (distinct-spread 0 (joined cmp pairs) (joined_weights cmp 0 pairs) (same-length cmp 0 pairs) (climbs-joined cmp 0 0 pairs (omega arith) weigh) (below-joined pairs up))
 
@@ -231,7 +231,7 @@ module _ {A : Type 0} {cmp : A → A → Ordering} (order : IsTotalOrder cmp) wh
     there None h n l = absurd (false≢true h)
     there (Some x) h n l = l
 
-    -- and they make a view
+    -- the joined items make a view
     pub joined-view : (least greatest : Option A) → 0 < length weighted → IsSome least → IsSome greatest → IsView cmp (joined cmp pairs) (joined_weights cmp 0 pairs) least greatest
     joined-view least greatest some l g =
         let enough = long-enough pairs weigh in
@@ -250,7 +250,7 @@ module _ {A : Type 0} {cmp : A → A → Ordering} (order : IsTotalOrder cmp) wh
           greatest_there = there greatest g (length (spread_out (joined cmp pairs) (joined_weights cmp 0 pairs))) whole;
         }
 
-  -- ---- clones of what is joined
+  -- ---- clones of the joined items
 
   begins-same : (x y : A) (xs ys : List A) → cmp x y ≡ Equal → SameItems cmp xs ys → begins_equal cmp x xs ≡ begins_equal cmp y ys
   begins-same x y [] [] e s = refl
@@ -268,20 +268,20 @@ module _ {A : Type 0} {cmp : A → A → Ordering} (order : IsTotalOrder cmp) wh
     clones-spread : SameItems cmp (spread_out (joined cmp pairs) (joined_weights cmp 0 pairs)) (spread_out items cumulated)
     clones-spread = subst (λ cs. SameItems cmp (spread_out (joined cmp pairs) (joined_weights cmp 0 pairs)) (spread_out items cs)) (sym sums) (same-spread order 0 (joined cmp pairs) items (joined_weights cmp 0 pairs) same)
 
-    -- their entries
+    -- the entries are the copies of the weighted items, sorted
     pub clones-entries : SameItems cmp (sort cmp (copies pairs)) (spread_out items cumulated)
     clones-entries =
         SameItems-trans cmp order (sort cmp (copies pairs)) (spread_out (joined cmp pairs) (joined_weights cmp 0 pairs)) (spread_out items cumulated)
         (joined-entries pairs pairs (IsPermutation-refl pairs) sorted weights) clones-spread
 
-    -- as many as there are distinct ones
+    -- the number of clones is the number of distinct entries
     pub clones-distinct : length items ≡ distinct cmp (spread_out items cumulated)
     clones-distinct =
         sym (length_all_zip (λ x y. cmp x y ≡ Equal) (joined cmp pairs) items same)
         ∙ (joined-distinct pairs pairs (IsPermutation-refl pairs) sorted weights
         ∙ distinct-same (spread_out (joined cmp pairs) (joined_weights cmp 0 pairs)) (spread_out items cumulated) clones-spread)
 
-    -- and they make a view
+    -- the clones make a view
     pub clones-view : (least greatest : Option A) → 0 < length pairs → IsSome least → IsSome greatest → IsView cmp items cumulated least greatest
     clones-view least greatest some l g =
         view-of_clones order (joined cmp pairs) items (joined_weights cmp 0 pairs) cumulated least least greatest greatest
@@ -289,18 +289,18 @@ module _ {A : Type 0} {cmp : A → A → Ordering} (order : IsTotalOrder cmp) wh
 
 -- ---- the loops
 
--- the first of weighted items in order are joined, as clones, and the rest are not
+-- all sorted weighted items but `rest` are joined: xs has the clones, ws the weights up to them, `so_far` the total weight
 pub record IsJoined {A : Type 0} (cmp : A → A → Ordering) (all rest : List (A × ℕ)) (xs : List A) (ws : List ℕ) (so_far : ℕ) : Type 0 where
   pub items : SameItems cmp (joined cmp all) (xs ++ joined cmp rest)
   pub weights : ws ++ joined_weights cmp so_far rest ≡ joined_weights cmp 0 all
   pub total : so_far + sum_by (λ (pair : A × ℕ). pair.1) rest ≡ sum_by (λ (pair : A × ℕ). pair.1) all
 
 module _ {A : Type 0} {cmp : A → A → Ordering} (order : IsTotalOrder cmp) where
-  -- none is
+  -- at the start none are joined
   pub joined-none : (all : List (A × ℕ)) → IsJoined cmp all all [] [] 0
   joined-none all = record { items = SameItems-refl cmp order (joined cmp all); weights = refl; total = omega arith }
 
-  -- all are
+  -- at the end all are joined
   pub joined-whole : (all rest : List (A × ℕ)) (xs : List A) (ws : List ℕ) (total : ℕ) → rest ≡ [] → IsJoined cmp all rest xs ws total →
       SameItems cmp (joined cmp all) xs × (ws ≡ joined_weights cmp 0 all)
   joined-whole all rest xs ws total e j =
@@ -308,7 +308,7 @@ module _ {A : Type 0} {cmp : A → A → Ordering} (order : IsTotalOrder cmp) wh
       let weights : ws ++ [] ≡ joined_weights cmp 0 all = subst (λ (r : List (A × ℕ)). ws ++ joined_weights cmp total r ≡ joined_weights cmp 0 all) e j.weights in
       (rw append-nil at items, sym (append-nil ws) ∙ weights)
 
-  -- the whole weight is not passed
+  -- the total up to the next item doesn't exceed the whole weight
   pub joined-fits : (all after : List (A × ℕ)) (x : A) (w total : ℕ) (xs : List A) (ws : List ℕ) → IsJoined cmp all ((x, w) ∷ after) xs ws total →
       total + w ≤ sum_by (λ (pair : A × ℕ). pair.1) all
   joined-fits all after x w total xs ws j = omega (arith, j.total, sum_by-cons (λ (pair : A × ℕ). pair.1) (x, w) after)
@@ -317,7 +317,7 @@ module _ {A : Type 0} {cmp : A → A → Ordering} (order : IsTotalOrder cmp) wh
     sums : total + w + sum_by (λ (pair : A × ℕ). pair.1) after ≡ sum_by (λ (pair : A × ℕ). pair.1) all
     sums = omega (arith, j.total, sum_by-cons (λ (pair : A × ℕ). pair.1) (x, w) after)
 
-    -- an item that equals the next one is passed over
+    -- an item that compares equal to the next one is skipped
     pub joined-over : is_below_next cmp x after ≡ false → IsJoined cmp all after xs ws (total + w)
     joined-over e = record {
       items = subst (λ (b : Bool). SameItems cmp (joined cmp all) (xs ++ (if b then x ∷ joined cmp after else joined cmp after))) e j.items;
@@ -325,7 +325,7 @@ module _ {A : Type 0} {cmp : A → A → Ordering} (order : IsTotalOrder cmp) wh
       total = sums;
     }
 
-    -- of another one a clone is pushed
+    -- for any other item a clone is pushed
     pub joined-push : (y : A) (xs' : List A) (ws' : List ℕ) → is_below_next cmp x after ≡ true → cmp x y ≡ Equal → xs' ≡ xs ++ y ∷ [] → ws' ≡ ws ++ (total + w) ∷ [] →
         IsJoined cmp all after xs' ws' (total + w)
     joined-push y xs' ws' e same is_xs is_ws =
@@ -340,7 +340,7 @@ module _ {A : Type 0} {cmp : A → A → Ordering} (order : IsTotalOrder cmp) wh
           total = sums;
         }
 
--- one more item: the last of those in reverse order
+-- one more item is joined: the last of those in reverse order
 pub record IsNext {A : Type 0} (cmp : A → A → Ordering) (xs xs' : List A) (ws ws' : List ℕ) (before after : ℕ) (old new : List (A × ℕ)) : Type 0 where
   pub items : xs' ++ joined cmp (reverse new) ≡ xs ++ joined cmp (reverse old)
   pub weights : ws' ++ joined_weights cmp after (reverse new) ≡ ws ++ joined_weights cmp before (reverse old)
@@ -359,6 +359,6 @@ is-next {A} cmp xs xs' ws ws' before after old new x w b is_old is_after is_b is
       total = omega (arith, is_after, ap (λ (l : List (A × ℕ)). summed (reverse l)) is_old, ap summed turned, sum_by-cons (λ (pair : A × ℕ). pair.1) (x, w) (reverse new));
     }
 
--- it pushes one item at most
+-- a step pushes at most one item
 pub length-pushed : {A : Type 0} (b : Bool) (x : A) (xs ys : List A) → ys ≡ (if b then xs ++ x ∷ [] else xs) → length ys ≤ length xs + 1
 length-pushed b x xs ys e = grind (arith, length-append xs (x ∷ []))

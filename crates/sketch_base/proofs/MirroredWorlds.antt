@@ -1,4 +1,5 @@
--- Two worlds whose slots agree up to a level, with kept bits there that are each other's complement where a coin was drawn: the events that keep them so.
+-- Two worlds whose slots agree up to a level, with complementary kept bits there if a coin was drawn, and the events
+-- that keep them so.
 use Rattle.std.proofs.Common.{◌≡◌, ◌≢◌, ℕ, ◌≤◌, ◌<◌, Bool, true, false, not, ◌==◌, List, [], ◌∷◌, ◌++◌, take, drop, refl, sym, ap, ap₂, ◌∙◌, arith, if◌then◌else◌, subst, Ordering}
 use Rattle.std.proofs.lemmas.Bool.{ne_eqb, false≢true}
 use Rattle.sketch_base.specs.Bag.{Bag, Taken, empty_bag, level_at, with_level}
@@ -7,17 +8,17 @@ use Rattle.sketch_base.proofs.Changes.{changed-own}
 use Rattle.sketch_base.proofs.Compactions.{compacted}
 use Rattle.sketch_base.proofs.ComplementedBits.{Agree, agree-changed, Mirrored, mirror-kept, mirror-compact}
 
--- a coin drawn for one level leaves which others have drawn one
+-- a coin drawn for one level doesn't change whether another level drew one
 pub still_drawn : (row : ℕ → Bool) (g h : ℕ) → h ≢ g → changed row h true g ≡ true → row g ≡ true
 still_drawn row g h ne d = sym (ap (λ (b : Bool). if b then true else row g) (ne_eqb g h (λ e. ne (sym e)))) ∙ d
 
 module _ {A : Type 0} (cmp : A → A → Ordering) (f : A → ℕ) where
-  -- each slot mirrored, by whether its level g has drawn a coin; of the scratch the items alone matter
+  -- each slot is mirrored, given whether its level g drew a coin; of the scratch only the items matter
   pub record MirroredWorlds (g : ℕ) (drawn : ℕ → ℕ → Bool) (world world' : World (Bag A)) : Type 0 where
     pub slots : (s : ℕ) → Mirrored cmp f g (drawn s g) (world.slots s) (world'.slots s)
     pub scratch : Agree g world.scratch.levels world'.scratch.levels
 
-  -- the same items at the end of a level of both bags
+  -- both bags get the same items at the end of a level
   mirror-appended : (g h : ℕ) (drawn flag flag' : Bool) (front front' : List A) (bag bag' : Bag A) → (h ≤ g → front ≡ front') → Mirrored cmp f g drawn bag bag' →
       Mirrored cmp f g drawn
       (record { levels = with_level [] h (λ level. level ++ front) bag.levels; is_sorted = flag; kept = bag.kept })
@@ -28,19 +29,19 @@ module _ {A : Type 0} (cmp : A → A → Ordering) (f : A → ℕ) where
     turned = m.turned;
   }
 
-  -- a slot's bags replaced by mirrored ones, where its drawn levels change
+  -- a slot's bags are replaced by mirrored ones, and the levels that drew a coin change
   one-drawn : (g s : ℕ) (drawn : ℕ → ℕ → Bool) (row : ℕ → Bool) (slots slots' : ℕ → Bag A) (bag bag' : Bag A) → ((i : ℕ) → Mirrored cmp f g (drawn i g) (slots i) (slots' i)) →
       Mirrored cmp f g (row g) bag bag' → (i : ℕ) → Mirrored cmp f g (changed drawn s row i g) (changed slots s bag i) (changed slots' s bag' i)
   one-drawn g s drawn row slots slots' bag bag' all here i =
       elim (i == s) as (λ (b : Bool). Mirrored cmp f g ((if b then row else drawn i) g) (if b then bag else slots i) (if b then bag' else slots' i)) [ true ↦ here | false ↦ all i ]
 
-  -- and where they stay
+  -- a slot's bags are replaced by mirrored ones, and the levels that drew a coin stay the same
   one-changed : (g s : ℕ) (drawn : ℕ → ℕ → Bool) (slots slots' : ℕ → Bag A) (bag bag' : Bag A) → ((i : ℕ) → Mirrored cmp f g (drawn i g) (slots i) (slots' i)) →
       Mirrored cmp f g (drawn s g) bag bag' → (i : ℕ) → Mirrored cmp f g (drawn i g) (changed slots s bag i) (changed slots' s bag' i)
   one-changed g s drawn slots slots' bag bag' all here i =
       subst (λ (row : ℕ → Bool). Mirrored cmp f g (row g) (changed slots s bag i) (changed slots' s bag' i)) (changed-own drawn s i) (one-drawn g s drawn (drawn s) slots slots' bag bag' all here i)
 
-  -- what an action that draws nothing makes of a slot's bag
+  -- a slot's bag after an action that draws no coin
   abbrev acted : ℕ → Action A → World (Bag A) → Bag A
   acted s action world = (act cmp action false (record { bag = world.slots s; scratch = world.scratch })).bag
 
@@ -49,7 +50,7 @@ module _ {A : Type 0} (cmp : A → A → Ordering) (f : A → ℕ) where
   compacted_at s h taken bit world = record { slots = changed world.slots s (compacted cmp f h taken bit (world.slots s)); scratch = world.scratch; target = world.target }
 
 module _ {A : Type 0} (cmp : A → A → Ordering) (f : A → ℕ) (g : ℕ) (drawn : ℕ → ℕ → Bool) (world world' : World (Bag A)) (m : MirroredWorlds cmp f g drawn world world') (s : ℕ) where
-  -- each event keeps them so
+  -- each event keeps the worlds mirrored
   pub mirrored-snap : (t : ℕ) → MirroredWorlds cmp f g drawn (happens (act cmp) (Snap s t) false world) (happens (act cmp) (Snap s t) false world')
   mirrored-snap t = record { slots = m.slots; scratch = (m.slots s).levels }
 
@@ -103,7 +104,7 @@ module _ {A : Type 0} (cmp : A → A → Ordering) (f : A → ℕ) (g : ℕ) (dr
     scratch = m.scratch;
   }
 
-  -- a compaction by a coin that is drawn
+  -- so does a compaction by a drawn coin
   pub mirrored-draw : (h : ℕ) (taken : Taken) (row : ℕ → Bool) (bit bit' : Bool) → is_req taken ≡ true → (h < g → bit ≡ bit') → (h ≡ g → row g ≡ true → bit' ≡ not bit) →
       (h ≢ g → row g ≡ true → drawn s g ≡ true) →
       MirroredWorlds cmp f g (changed drawn s row) (compacted_at cmp f s h taken bit world) (compacted_at cmp f s h taken bit' world')
@@ -113,7 +114,7 @@ module _ {A : Type 0} (cmp : A → A → Ordering) (f : A → ℕ) (g : ℕ) (dr
     scratch = m.scratch;
   }
 
-  -- and by one that is turned
+  -- and so does one by a turned coin
   pub mirrored-turn : (h : ℕ) (taken : Taken) (bit bit' : Bool) → is_req taken ≡ true → (h < g → bit ≡ bit') → (h ≡ g → drawn s g ≡ true → bit' ≡ not bit) →
       MirroredWorlds cmp f g drawn (compacted_at cmp f s h taken bit world) (compacted_at cmp f s h taken bit' world')
   mirrored-turn h taken bit bit' req low here = record {

@@ -1,4 +1,4 @@
--- The least and the greatest of a list are one, up to comparing equal.
+-- The least item of a list is unique up to comparing equal, and so is the greatest.
 use Rattle.std.proofs.Common.{◌≡◌, List, [], ◌∷◌, Option, Some, None, Ordering, Equal, is_gt, inl, inr, sym, ap, ◌∙◌, subst}
 use Rattle.std.specs.List.{AllByRecursion}
 use Rattle.std.specs.Cmp.{IsTotalOrder}
@@ -13,7 +13,7 @@ module _ {A : Type 0} {cmp : A → A → Ordering} (o : IsTotalOrder cmp) where
   cmp_same : (a b c d : A) → cmp a b ≡ Equal → cmp c d ≡ Equal → cmp a c ≡ cmp b d
   cmp_same a b c d p q = o.congr a b c p ∙ alike_right o c d b q
 
-  -- items in the place of some that compare equal
+  -- items may be replaced by items that compare equal
   pub at_most_same : (a b c d : A) → cmp a b ≡ Equal → cmp c d ≡ Equal → IsAtMost cmp a c → IsAtMost cmp b d
   at_most_same a b c d p q h = ap is_gt (sym (cmp_same a b c d p q)) ∙ h
 
@@ -38,7 +38,7 @@ module _ {A : Type 0} {cmp : A → A → Ordering} (o : IsTotalOrder cmp) where
     one_extreme xs ys (Some x) None z p q = absurd (ties_same x xs [] (subst (λ (l : List A). SameItems cmp xs l) q z) p.ties)
     one_extreme xs ys (Some x) (Some y) z p q = ties x y (bound_tied y x xs p.bounds (ties_same y ys xs (SameItems-back o xs ys z) q.ties)) (bound_tied x y ys q.bounds (ties_same x xs ys z p.ties))
 
-  -- the least, and the greatest
+  -- lists that compare equal have least items that compare equal, and greatest ones
   pub one_least : (xs ys : List A) (a b : Option A) → SameItems cmp xs ys → IsLeastOf cmp xs a → IsLeastOf cmp ys b → SameAnswer cmp a b
   one_least = one_extreme (λ x y. IsAtMost cmp x y) (λ x w y t h. ap is_gt (alike_right o x w y t) ∙ h) tied_both
 

@@ -1,4 +1,4 @@
--- A front of a list that a test passes: what one item tells of its length, and its end in a part of the list.
+-- A prefix of a list whose items pass a test: what one item tells of its length, and where it ends in a part of the list.
 use Rattle.std.proofs.Common.{◌≡◌, ℕ, zero, suc, ◌+◌, ◌-◌, ◌*◌, ◌^◌, ◌<◌, ◌≤◌, Bool, true, false, List, [], ◌∷◌, length, take, drop, get_or, count_by, refl, sym, ◌∙◌, subst, arith, if◌then◌else◌, length-drop}
 use Rattle.std.specs.List.Sorted.{IsPartitionedBy}
 use Rattle.std.proofs.lemmas.Bool.{false≢true}
@@ -30,18 +30,18 @@ module _ {A : Type 0} (test : A → Bool) where
           fails zero d l m = absurd (omega arith)
           fails (suc k) d l m = r.1.1.1 k d (omega arith) (omega arith)
 
-  -- where the passing items come before the others, as many come first as pass
+  -- if the items that pass come before the others, the list is split at their number
   pub parts-count : (xs : List A) → IsPartitionedBy test xs → IsSplitAt test xs (count_by test xs)
   parts-count xs up = let r = front xs up in subst (IsSplitAt test xs) (counted-parts test xs r.0 r.1.0 r.1.1) r.1.1
 
-  -- an item that passes lies in the front, and one that fails behind it
+  -- an item that passes lies before the split, and one that fails doesn't
   pub counts-passed : (xs : List A) (i : ℕ) (d : A) → IsPartitionedBy test xs → i < length xs → test (get_or xs i d) ≡ true → i + 1 ≤ count_by test xs
   counts-passed xs i d up l h = grind (arith, (parts-count xs up).1 i d)
 
   pub counts-failed : (xs : List A) (i : ℕ) (d : A) → IsPartitionedBy test xs → i < length xs → test (get_or xs i d) ≡ false → count_by test xs ≤ i
   counts-failed xs i d up l h = grind (arith, (parts-count xs up).0 i d)
 
-  -- a count of a search by steps: the count that is sought is above it by less than a step, which ends within the list
+  -- the state of a binary search: the count sought exceeds `count` by less than `step`, and the step ends within the list
   pub record IsCountWithin (xs : List A) (count step : ℕ) : Type 0 where
     pub starts : count ≤ count_by test xs
     pub ends : count_by test xs < count + step
@@ -57,7 +57,7 @@ module _ {A : Type 0} (test : A → Bool) where
       let few = counts-failed xs (start + step - 1) d up (omega (arith, some, h.within)) is in
       record { starts = omega (arith, h.starts); ends = omega (arith, few, some); within = omega (arith, h.within) }
 
-  -- the end of the front in a part of the list
+  -- the count, from a part of the list in which the prefix ends
   pub count-of_part : (xs : List A) (s e : ℕ) → IsPartitionedBy test xs → s ≤ count_by test xs → count_by test xs ≤ e → e ≤ length xs → s + count_by test (take (e - s) (drop s xs)) ≡ count_by test xs
   count-of_part xs s e up le ge l =
       let p = parts-count xs up in
@@ -69,7 +69,7 @@ module _ {A : Type 0} (test : A → Bool) where
       ) in
       omega (arith, here)
 
--- the steps of a search by steps, of which the first ones are left out: each is half of the one before
+-- the steps of a binary search without the first ones: each is half of the one before
 pub step-doubled : (steps shift : ℕ) → 0 < shift → shift - 1 < steps → 2 ^ (steps - (steps - shift)) ≡ 2 * 2 ^ (shift - 1)
 step-doubled steps shift some more =
     let next : steps - (steps - shift) ≡ suc (shift - 1) = omega (arith, some, more) in

@@ -6,12 +6,12 @@ use Rattle.sketch_base.specs.Ranks.{true_ranks}
 use Rattle.sketch_base.specs.Fair.{reaches}
 use Rattle.sketch_base.proofs.Worlds.{true_ranks-related, true_ranks-same}
 
--- c in slot s, and nothing in the others
+-- c in slot s, and 0 in the others
 abbrev pub only : ℕ → ℕ → ℕ → ℕ
 only s c i = if i == s then c else 0
 
 module _ {A : Type 0} where
-  -- what c in slot s before the events counts in the slot in the end
+  -- what a rank of c in slot s before the events counts in the slot after them
   abbrev pub counts_in : List (Event A) → ℕ → ℕ → ℕ → ℕ
   counts_in es slot s c = true_ranks (λ x. false) es (only s c) slot
 
@@ -26,7 +26,7 @@ module _ {A : Type 0} where
   counts-unreached (At s Clear ∷ es) slot ranks none = counts-unreached es slot (changed ranks s 0) (λ i e. grind (arith, eqb-true, none))
   counts-unreached (At s _ ∷ es) slot ranks none = counts-unreached es slot ranks none
 
-  -- nothing of a slot that doesn't get there
+  -- slot s counts nothing in the slot if it doesn't get there
   pub counts-none : (es : List (Event A)) (slot s c : ℕ) → reaches es slot s ≡ false → counts_in es slot s c ≡ 0
   counts-none es slot s c misses = counts-unreached es slot (only s c) (λ i e. grind (arith, eqb-true))
 
@@ -39,11 +39,11 @@ module _ {A : Type 0} where
   counts-add : (es : List (Event A)) (slot s a b : ℕ) → counts_in es slot s a + counts_in es slot s b ≡ counts_in es slot s (a + b)
   counts-add es slot s a b = ranks-add (λ x. false) es (only s a) (only s b) slot ∙ true_ranks-same (λ x. false) es _ _ (λ i. grind arith) slot
 
-  -- equal sums count the same
+  -- ranks with equal sums count the same
   pub counts-both : (es : List (Event A)) (slot s a b c d : ℕ) → a + b ≡ c + d → counts_in es slot s a + counts_in es slot s b ≡ counts_in es slot s c + counts_in es slot s d
   counts-both es slot s a b c d e = counts-add es slot s a b ∙ (ap (λ m. counts_in es slot s m) e ∙ sym (counts-add es slot s c d))
 
-  -- true ranks that differ in one slot alone
+  -- true ranks from ranks that differ in one slot only
   pub counts-moved : (test : A → Bool) (es : List (Event A)) (a b : ℕ → ℕ) (slot s c d : ℕ) → ((i : ℕ) → a i + only s c i ≡ b i + only s d i) →
       true_ranks test es a slot + counts_in es slot s c ≡ true_ranks test es b slot + counts_in es slot s d
   counts-moved test es a b slot s c d e = ranks-add test es a (only s c) slot ∙ (true_ranks-same test es _ _ e slot ∙ sym (ranks-add test es b (only s d) slot))

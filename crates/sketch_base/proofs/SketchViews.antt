@@ -26,7 +26,7 @@ weigh-ones : {A : Type 0} (h : ℕ) (levels : List (List A)) → weigh (sum_by (
 weigh-ones h [] = refl
 weigh-ones h (l ∷ ls) = ap₂ (λ m n. 2 ^ h * m + n) (sum-ones l) (weigh-ones (suc h) ls)
 
--- the expanded list is as long as the bag weighs
+-- the length of the expanded list is the bag's weight
 pub length-expanded : {A : Type 0} (cmp : A → A → Ordering) (bag : Bag A) → length (expanded cmp bag) ≡ weight bag
 length-expanded cmp bag = sym (sum-ones (expanded cmp bag)) ∙ (sum_by-expanded (λ x. 1) cmp bag ∙ weigh-ones 0 bag.levels)
 
@@ -37,7 +37,7 @@ none-there (Some x) n h z = absurd (omega (arith, h, z))
 if-none : {A : Type 0} (b : Bool) (x y : Option A) → x ≡ None → y ≡ None → (if b then x else y) ≡ None
 if-none b x y h k = grind arith
 
--- a bag of no items has no quantiles
+-- a bag without items has no quantiles
 pub quantile-empty : {A : Type 0} (cmp : A → A → Ordering) (bag : Bag A) (n : ℕ) (least greatest : Option A) (fraction : Rank) (criteria : SearchCriteria) → weight bag ≡ n →
     IsThere least n → IsThere greatest n → n ≡ 0 →
     SameAnswer cmp (quantile_of (expanded_view cmp bag least greatest) fraction criteria) None
@@ -52,7 +52,7 @@ quantile-empty cmp bag n least greatest fraction criteria weighs l g z =
     subst (λ q. SameAnswer cmp q None) (sym empty) tt
 
 module _ {A : Type 0} {cmp : A → A → Ordering} (order : IsTotalOrder cmp) where
-  -- entries that compare equal to a bag's expanded list are a view of it
+  -- a view whose entries compare equal to a bag's expanded list is a view of the bag
   is-view_of : (bag : Bag A) (n : ℕ) (least greatest : Option A) (v : View A) → SameItems cmp (expanded cmp bag) v.entries → weight bag ≡ n → SameAnswer cmp least v.least →
       SameAnswer cmp greatest v.greatest → IsViewOf cmp bag n least greatest v
   is-view_of bag n least greatest v same weighs l g = record {
@@ -63,7 +63,7 @@ module _ {A : Type 0} {cmp : A → A → Ordering} (order : IsTotalOrder cmp) wh
     ranks = λ y criteria. sym (SameCounts-from_items order (expanded cmp bag) v.entries same y criteria);
   }
 
-  -- what was built of such entries is one
+  -- a view built from such entries is one
   pub built-view : {E : Type 0} (bag : Bag A) (n : ℕ) (least least' greatest greatest' : Option A) (r : Result (View A) E) → weight bag ≡ n → SameAnswer cmp least least' →
       SameAnswer cmp greatest greatest' →
       IfOk r (λ v. SameItems cmp (expanded cmp bag) v.entries) → IfOk r (λ v. v.least ≡ least') → IfOk r (λ v. v.greatest ≡ greatest') → IfOk r (IsViewOf cmp bag n least greatest)
@@ -85,7 +85,7 @@ module _ {A : Type 0} {cmp : A → A → Ordering} (order : IsTotalOrder cmp) wh
     many-quantiles (f ∷ fs) (x ∷ xs) k = (one-quantile f (Some x) k.0, many-quantiles fs xs k.1)
     many-quantiles _ _ k = absurd k
 
-    -- what the view answers is what the bag does
+    -- the quantiles that the view gives are the bag's
     pub quantile-result : {E : Type 0} (fraction : Rank) (r : Result (Option A) E) → IfOk r (SameAnswer cmp (quantile_of v fraction criteria)) →
         IfOk r (SameAnswer cmp (quantile_of whole fraction criteria))
     quantile-result fraction r = ok-weaker r (SameAnswer cmp (quantile_of v fraction criteria)) (SameAnswer cmp (quantile_of whole fraction criteria)) (one-quantile fraction)
@@ -96,7 +96,7 @@ module _ {A : Type 0} {cmp : A → A → Ordering} (order : IsTotalOrder cmp) wh
         ok-weaker r (FindsQuantiles cmp v criteria fractions) (FindsQuantiles cmp whole criteria fractions)
         (λ found. some-weaker found (λ xs. AreQuantiles cmp v criteria fractions xs.items) (λ xs. AreQuantiles cmp whole criteria fractions xs.items) (λ xs. many-quantiles fractions xs.items))
 
-    -- ranks by a function of the distribution's weights
+    -- so are ranks that are a function of the distribution's weights
     ranks-result : {E Z : Type 0} (f : List ℕ → List ℕ) (points : List A) (r : Result (Option (Vec Rank Z)) E) →
         IfOk r (FindsRanks (length v.entries) (f (cdf_of cmp criteria v.entries points))) → IfOk r (FindsRanks n (f (cdf_of cmp criteria (expanded cmp bag) points)))
     ranks-result f points r =

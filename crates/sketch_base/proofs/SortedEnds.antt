@@ -1,4 +1,4 @@
--- Items in order, of which the first and the last lie between two others.
+-- Sorted items of which the first and the last lie between two others.
 use Rattle.std.proofs.Common.{◌≡◌, suc, ◌-◌, ◌<◌, List, [], ◌∷◌, length, get_or, Ordering, arith, IsSorted}
 use Rattle.std.specs.Cmp.{IsTotalOrder}
 use Rattle.std.specs.List.{AllByRecursion}

@@ -23,7 +23,7 @@ loop-place-init g c =
       weights_capacity = c.in_ok-weights.ensures.capacity;
     }
 
--- the item at the place, and those behind it
+-- the invariant of the loop, with the item at the place and those after it
 module _ (g : Over) (c : After-index-entries-place g) where
   at :
       IsJoined g.T.Ord.cmp (pairs_in c.args.entries.now)
