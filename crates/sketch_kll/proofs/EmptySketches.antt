@@ -23,12 +23,12 @@ empty_sound cmp k flag h w = record {
   one_item_ties = λ h. absurd (omega arith);
 }
 
--- a sketch of no item is the empty sketch
+-- a sketch with one empty level that does not count as sorted is the empty sketch
 pub new_empty : {A : Type 0} (k k0 : ℕ) (flag : Bool) (levels : List (List A)) → k ≡ k0 → flag ≡ false → levels ≡ [] ∷ [] →
     sketch_of k k0 0 flag levels None None ≡ empty_sketch k0 false
 new_empty k k0 flag levels ek ef e = λ j. record { k = ek j; min_k = k0; n = 0; is_sorted = ef j; levels = e j; least = None; greatest = None }
 
--- so is a new one
+-- a new sketch is sound
 pub new_sound : {A : Type 0} (cmp : A → A → Ordering) (k k0 : ℕ) (flag : Bool) (levels : List (List A)) → 8 ≤ k0 → k0 < 2 ^ 16 → k ≡ k0 →
     flag ≡ false → levels ≡ [] ∷ [] → IsSound cmp (sketch_of k k0 0 flag levels None None)
 new_sound cmp k k0 flag levels h w ek ef e = subst (IsSound cmp) (sym (new_empty k k0 flag levels ek ef e)) (empty_sound cmp k0 false h w)

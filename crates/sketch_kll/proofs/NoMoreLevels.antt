@@ -9,7 +9,7 @@ use Rattle.sketch_kll.proofs.Capacities.{capacity_eight}
 use Rattle.sketch_kll.proofs.CompactedSizes.{compacted_size, alike_size}
 use Rattle.sketch_kll.proofs.FullLevels.{full_level_at, with_room_spare}
 
--- a top level that is the lowest full one weighs much: all below it lack an item at least
+-- levels weigh much if the top one is the lowest full one: each level below it lacks at least one item
 heavy_top : {A : Type 0} (k extra : ℕ) (ls : List (List A)) → 0 < length ls → total_of k 8 (length ls) + extra ≤ retained ls →
     length ls ≤ full_level k ls + 1 →
     2 ^ (length ls - 1) * (capacity_at k 8 0 + extra + (length ls - 1)) ≤ weight ls
@@ -27,7 +27,7 @@ heavy_top k extra (l ∷ m ∷ ls) h t f =
     let q : capacity_at k 8 0 + extra + (suc (suc (length ls)) - 1) ≡ capacity_at k 8 0 + (extra + 1) + (suc (length ls) - 1) = omega arith in
     rw (p, q) (omega (arith, heavy_top k (extra + 1) (m ∷ ls) (omega arith) (omega arith) (omega (arith, z))))
 
--- more levels take nothing from the total capacity
+-- more levels never lower the total capacity
 pub total_up_to : (k m n : ℕ) → m ≤ n → total_of k 8 m ≤ total_of k 8 n
 total_up_to k m zero h = let f = ap (total_of k 8) (let e : m ≡ 0 = omega arith in e) in omega (arith, f)
 total_up_to k m (suc n) h =
@@ -54,7 +54,7 @@ still_few cmp k last coin ls h few w f =
     let s = compacted_size cmp last coin (full_level k ls) ls (full_level_at k ls h f).0 in
     grind (arith, few, s.same, s.at_most, no_more_levels k ls few h w f)
 
--- a compaction below level 60 leaves some levels, and at most 61
+-- a compaction below level 60 leaves at least one level and at most 61
 pub few_compacted : {A : Type 0} (cmp : A → A → Ordering) (level : ℕ) (last coin : Bool) (ls raised ms : List (List A)) → length ls ≤ 61 →
     level < length ls → level < 60 →
     compacted cmp last coin level raised ≡ compacted cmp last coin level ls →
@@ -65,19 +65,19 @@ few_compacted cmp level last coin ls raised ms few h low e alike =
     let c = ap length e in
     (omega (arith, s.at_least, z.counts, c), grind (arith, s.same, s.at_most, z.counts, c))
 
--- a level 60 is never the lowest full one
+-- level 60 is never the lowest full one
 pub full_level_low : {A : Type 0} (k : ℕ) (ls : List (List A)) → 0 < length ls → length ls ≤ 61 → weight ls < 2 ^ 64 →
     total_of k 8 (length ls) ≤ retained ls → full_level k ls < 60
 full_level_low k ls h few w f = grind (arith, no_more_levels k ls few h w f, (full_level_at k ls h f).0)
 
--- what room for one more item leaves
+-- the levels after room was made for one more item
 pub record RoomMade {A : Type 0} (k : ℕ) (ls ms : List (List A)) : Type 0 where
   pub weighs : weight ms ≡ weight ls
   pub few : length ms ≤ 61
   pub some : 0 < length ms
   pub within : retained ms + 1 ≤ total_of k 8 (length ms)
 
--- room for an item is made so
+-- making room for an item leaves such levels
 pub room_made : {A : Type 0} (cmp : A → A → Ordering) (k : ℕ) (is_sorted coin : Bool) (ls : List (List A)) → 0 < length ls → length ls ≤ 61 →
     weight ls < 2 ^ 64 →
     retained ls ≤ total_of k 8 (length ls) → RoomMade k ls (compacted_if_full cmp k is_sorted coin ls)
@@ -99,7 +99,7 @@ retained-weight : {A : Type 0} (ls : List (List A)) → retained ls ≤ weight l
 retained-weight [] = omega arith
 retained-weight (l ∷ ls) = let h = retained-weight ls in omega (arith, h)
 
--- room for the first two items takes no level
+-- making room for the first two items adds no level
 pub one_level_left : {A : Type 0} (cmp : A → A → Ordering) (k : ℕ) (is_sorted coin : Bool) (ls : List (List A)) → length ls ≡ 1 → weight ls ≤ 1 →
     length (compacted_if_full cmp k is_sorted coin ls) ≡ 1
 one_level_left cmp k is_sorted coin ls e w =

@@ -1,4 +1,4 @@
--- Levels after items are put last into level 0.
+-- Levels after items are appended to level 0.
 use Rattle.std.proofs.Common.{◌≡◌, ℕ, ◌+◌, ◌<◌, List, [], ◌∷◌, ◌++◌, length, set, refl, sym, ap, arith, Ordering, append_assoc, append-nil, length-append}
 use Rattle.std.specs.Cmp.{IsTotalOrder}
 use Rattle.std.proofs.lemmas.Cmp.{tied_itself}
@@ -16,12 +16,12 @@ marks-put : {A : Type 0} (xs : List A) (ls : List (List A)) → 0 < length ls �
 marks-put xs [] h = absurd (omega arith)
 marks-put xs (l ∷ ls) h = ap (λ (n : ℕ). n ∷ marks ls) (omega (arith, length-append l xs))
 
--- as many more retained
+-- the number of retained items grows by the number of new items
 pub retained-put : {A : Type 0} (xs : List A) (ls : List (List A)) → retained (put_all xs ls) ≡ retained ls + length xs
 retained-put xs [] = omega arith
 retained-put xs (l ∷ ls) = omega (arith, length-append l xs)
 
--- as many more in weight
+-- the weight grows by the number of new items
 pub weight-put : {A : Type 0} (xs : List A) (ls : List (List A)) → weight (put_all xs ls) ≡ weight ls + length xs
 weight-put xs [] = omega arith
 weight-put xs (l ∷ ls) = omega (arith, length-append l xs)
@@ -31,29 +31,29 @@ pub length-put : {A : Type 0} (xs : List A) (ls : List (List A)) → 0 < length 
 length-put xs [] h = absurd (omega arith)
 length-put xs (l ∷ ls) h = refl
 
--- levels from 1 up stay as they are
+-- the levels from 1 up stay sorted
 pub UpperSorted-put : {A : Type 0} (cmp : A → A → Ordering) (xs : List A) (ls : List (List A)) → UpperSorted cmp ls → UpperSorted cmp (put_all xs ls)
 UpperSorted-put cmp xs [] u = tt
 UpperSorted-put cmp xs (l ∷ ls) u = u
 
--- items put in after an item
+-- putting all items in is putting the first in and then the others
 pub put_all-cons : {A : Type 0} (x : A) (xs : List A) (ls : List (List A)) → put_all (x ∷ xs) ls ≡ put_all xs (put x ls)
 put_all-cons x xs [] = refl
 put_all-cons x xs (l ∷ ls) = ap (λ m. m ∷ ls) (sym (append_assoc l (x ∷ []) xs))
 
--- no items put in
+-- putting no items in changes nothing
 pub put_all-none : {A : Type 0} (ls : List (List A)) → 0 < length ls → put_all [] ls ≡ ls
 put_all-none [] h = absurd (omega arith)
 put_all-none (l ∷ ls) h = ap (λ m. m ∷ ls) (append-nil l)
 
--- alike levels stay alike
+-- levels that compare equal still do once the same item is put in
 pub SameLevels-put : {A : Type 0} (cmp : A → A → Ordering) → IsTotalOrder cmp → (x : A) (ls ms : List (List A)) → SameLevels cmp ls ms →
     SameLevels cmp (put x ls) (put x ms)
 SameLevels-put cmp o x [] [] s = ((tied_itself o x, tt), tt)
 SameLevels-put cmp o x (l ∷ ls) (m ∷ ms) s = (SameItems-append cmp l m (x ∷ []) (x ∷ []) s.0 (tied_itself o x, tt), s.1)
 SameLevels-put cmp o x ls ms s = absurd s
 
--- items put last into the list, and the bound of level 0 moved
+-- items appended to the list, with the bound of level 0 moved, are appended to level 0
 pub put_flat : {A : Type 0} (xs items items' : List A) (bounds : List ℕ) (n : ℕ) → IsFlat items bounds → 0 < length (levels_in items bounds) →
     items' ≡ items ++ xs → n ≡ length items' →
     IsFlat items' (set bounds 0 n) × (levels_in items' (set bounds 0 n) ≡ put_all xs (levels_in items bounds))

@@ -1,4 +1,4 @@
--- Levels with empty ones put above the top, as a compaction of the top level and a merge need them.
+-- Levels with empty ones added above the top, as a compaction of the top level and a merge need them.
 use Rattle.std.proofs.Common.{eqb, eqb-true, ◌≡◌, ℕ, zero, suc, ◌+◌, ◌<◌, Bool, cond, List, [], ◌∷◌, ◌++◌, length, refl, sym, ap, ap₂, ◌∙◌, arith, Ordering, length-append, append-nil, replicate, inl, inr}
 use Rattle.std.proofs.lemmas.Bool.{cases_Bool, eqb-false}
 use Rattle.sketch_kll.specs.Levels.{retained, first_level, compacted, AllSorted, UpperSorted}
@@ -6,7 +6,7 @@ use Rattle.sketch_kll.specs.Stored.{AreStored}
 use Rattle.sketch_kll.specs.Flat.{flat, marks, levels_in, IsFlat}
 use Rattle.sketch_kll.proofs.Flats.{is_flat, levels_of_flat, length-bounds, length-flat}
 
--- empty levels above the top
+-- empty levels above the top add nothing to the flat list
 flat-tops : {A : Type 0} (j : ℕ) (ls : List (List A)) → flat (ls ++ replicate j []) ≡ flat ls
 flat-tops j (l ∷ ls) = ap (λ x. x ++ l) (flat-tops j ls)
 flat-tops {A} j [] = none j
@@ -26,7 +26,7 @@ marks-tops {A} j [] = none j
     none zero = refl
     none (suc j) = ap₂ (λ (x : ℕ) (y : List ℕ). x ∷ y) (retained-tops {A = A} (suc j) []) (none j)
 
--- bounds at 0 add empty levels above the top
+-- bounds of 0 add empty levels above the top
 pub levels_with_tops : {A : Type 0} (j : ℕ) (items : List A) (bounds : List ℕ) → IsFlat items bounds →
     IsFlat items (bounds ++ replicate j 0) × (levels_in items (bounds ++ replicate j 0) ≡ levels_in items bounds ++ replicate j [])
 levels_with_tops {A} j items bounds f =
@@ -35,7 +35,7 @@ levels_with_tops {A} j items bounds f =
     let g : bounds ++ replicate j 0 ≡ marks (ls ++ replicate j []) = sym (marks-tops j ls ∙ ap (λ (b : List ℕ). b ++ replicate j 0) f.bounds_are) in
     (is_flat items (bounds ++ replicate j 0) (ls ++ replicate j []) e g, levels_of_flat items (bounds ++ replicate j 0) (ls ++ replicate j []) e g)
 
--- a compaction of the top level makes the level above it, whether there is an empty one or not
+-- a compaction of the top level gives the same whether there is an empty level above it or none
 compacted-top : {A : Type 0} (cmp : A → A → Ordering) (last coin : Bool) (h : ℕ) (ls : List (List A)) → suc h ≡ length ls →
     compacted cmp last coin h (ls ++ [] ∷ []) ≡ compacted cmp last coin h ls
 compacted-top cmp last coin zero (l ∷ []) e = refl
@@ -46,17 +46,17 @@ AllSorted-append : {A : Type 0} (cmp : A → A → Ordering) (ls ms : List (List
 AllSorted-append cmp [] ms u v = v
 AllSorted-append cmp (l ∷ ls) ms u v = (u.0, AllSorted-append cmp ls ms u.1 v)
 
--- levels in order above others
+-- if sorted levels are added above others, the upper levels stay sorted
 pub UpperSorted-append : {A : Type 0} (cmp : A → A → Ordering) (ls ms : List (List A)) → 0 < length ls → UpperSorted cmp ls → AllSorted cmp ms → UpperSorted cmp (ls ++ ms)
 UpperSorted-append cmp [] ms h u v = absurd (omega arith)
 UpperSorted-append cmp (l ∷ ls) ms h u v = AllSorted-append cmp ls ms u v
 
--- empty levels are in order
+-- empty levels are sorted
 pub AllSorted-none : {A : Type 0} (cmp : A → A → Ordering) (j : ℕ) → AllSorted cmp (replicate j [])
 AllSorted-none cmp zero = tt
 AllSorted-none cmp (suc j) = ((λ k d l b. absurd (omega arith)), AllSorted-none cmp j)
 
--- bounds with a level above the one that is compacted
+-- the bounds with a level above the one that is compacted, added if there is none
 abbrev pub raised : ℕ → List ℕ → List ℕ
 raised level bounds = cond (eqb (level + 2) (length bounds)) (bounds ++ 0 ∷ []) bounds
 

@@ -14,7 +14,7 @@ use Rattle.sketch_kll.specs.Steps.{put_all}
 use Rattle.sketch_kll.proofs.PutItems.{put_flat, length-put, UpperSorted-put}
 use Rattle.sketch_kll.proofs.RaisedLevels.{raised, raised_is}
 
--- no item between two bounds is one empty level
+-- no items, between two bounds of 0, are one empty level
 pub new_levels : {A : Type 0} (items : List A) (bounds : List ℕ) → items ≡ [] → bounds ≡ 0 ∷ 0 ∷ [] →
     IsFlat items bounds × (levels_in items bounds ≡ [] ∷ [])
 new_levels items bounds e f = (is_flat items bounds ([] ∷ []) e f, levels_of_flat items bounds ([] ∷ []) e f)
@@ -47,7 +47,7 @@ pub known_total : {A : Type 0} {cmp : A → A → Ordering} {k total : ℕ} {ite
 known_total {k = k} {items = items} {bounds = bounds} stored len len_is =
     stored.total_is ∙ ap (total_of k 8) (omega (arith, length-bounds items bounds stored.flat, len_is))
 
--- levels into whose lowest one items were put are stored
+-- levels are still stored after items are appended to level 0
 pub put_stored : {A : Type 0} {cmp : A → A → Ordering} {k total len : ℕ} {items items' : List A} {bounds : List ℕ} (xs : List A) →
     AreStored cmp k items bounds total → items' ≡ items ++ xs → len ≡ length items' →
     AreStored cmp k items' (set bounds 0 len) total × (levels_in items' (set bounds 0 len) ≡ put_all xs (levels_in items bounds))
@@ -58,7 +58,7 @@ put_stored {A} {cmp} {k} {total} {len} {items} {items'} {bounds} xs stored items
     let total_is = stored.total_is ∙ ap (total_of k 8) (sym count) in
     (record { k_above = stored.k_above; flat = put.0; total_is = total_is; some = omega (arith, count, stored.some); few = omega (arith, count, stored.few); sorted = sorted }, put.1)
 
--- what a compaction leaves in the vectors is stored once the total capacity fits it
+-- what a compaction leaves in the vectors; it is stored once the total capacity is adjusted to it
 pub record CompactedStored {A : Type 0} (cmp : A → A → Ordering) (last coin : Bool) (k level : ℕ) (ls : List (List A)) (items : List A) (bounds : List ℕ) : Type 0 where
   pub flat : IsFlat items bounds
   pub few : length bounds ≤ 62
@@ -87,7 +87,7 @@ compacted_stored {A} {cmp} {k} {total} {level} {items} {items'} {bounds} {wide} 
           record { k_above = stored.k_above; flat = flat; total_is = total_is ∙ ap (total_of k 8) (omega (arith, bounds_len, len_is)); some = few.0; few = few.1; sorted = sorted };
     }
 
--- a sketch is sound with the levels that are stored as with those that they are seen as
+-- a sketch that is sound with the view of its levels is sound with the levels that are stored
 pub sound_inside : {A : Type 0} {cmp : A → A → Ordering} {inside seen : Stored A} {min_k n : ℕ} {least greatest : Option A} → inside ≡ seen →
     IsSound cmp (sketch_of seen.k min_k n seen.is_sorted seen.levels least greatest) →
     IsSound cmp (sketch_of inside.k min_k n inside.is_sorted inside.levels least greatest)

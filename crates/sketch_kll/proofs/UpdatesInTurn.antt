@@ -1,4 +1,4 @@
--- A sketch after updates by some items in turn: it keeps what every sketch keeps, and is what their actions make of it.
+-- A sketch after updates by some items in turn: it keeps the invariant of sketches, and is what their actions make of it.
 use Rattle.std.proofs.Common.{◌≡◌, ℕ, ◌+◌, ◌<◌, Bool, true, eqb, ◌&&◌, List, [], ◌∷◌, ◌++◌, length, map, Option, None, Some, refl, sym, ap, ◌∙◌, subst, arith, append-nil, Ordering}
 use Rattle.std.specs.List.{AllByRecursion}
 use Rattle.std.specs.Option.{option_to_list}
@@ -26,7 +26,7 @@ use Rattle.sketch_kll.proofs.MergedSketches.{none_at_first, ties_both}
 use Rattle.sketch_kll.proofs.UnbiasedUpdates.{alike-trans}
 
 module _ {A : Type 0} {cmp : A → A → Ordering} (o : IsTotalOrder cmp) where
-  -- items that compare equal place by place are taken alike
+  -- taking items is also taking any that compare equal to them place by place
   taken_same : {S : Type 0} (bit : S → Bool) (next : S → S) (source after : S) (k : ℕ) (flag nf : Bool) (ls : List (List A)) (xs ys : List A) (ms : List (List A)) → 0 < length ls →
       SameItems cmp xs ys → HaveTaken cmp bit next source after k flag nf ls ys ms → HaveTaken cmp bit next source after k flag nf ls xs ms
   taken_same {S} bit next source after k flag nf ls xs ys ms some s t =
@@ -117,7 +117,7 @@ module _ {A : Type 0} {cmp : A → A → Ordering} (o : IsTotalOrder cmp) where
         source_is = m.source_is;
       })
 
-  -- no item makes no change
+  -- updates by no items change nothing
   pub updates_none : (s : Kll A) (items : List A) (word : List Bool) → length items ≡ 0 → AreUpdated cmp s items word s
   updates_none s (x ∷ items) word e = absurd (omega (arith, e))
   updates_none s [] word e = record {

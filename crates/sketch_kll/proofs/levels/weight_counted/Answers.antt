@@ -20,7 +20,7 @@ loop-level-init g c =
     let e : drop (length c.args.bounds.now - 1) ls ≡ [] = drop_all (length c.args.bounds.now - 1) ls (omega (arith, n)) in
     record { within = omega (arith, n); some = omega (arith, c.requires.some_level); so_far = rw e refl }
 
--- one level more: what is counted so far, and that it fits
+-- one more level: what is counted so far, and that it is at most the weight
 counted_next : (g : _) (c : After-count_in_order-counted g) →
     (2 * c.loop-level.weight + c.count_in_order-counted.result
     ≡ counted_weight (counted g.T.Ord.cmp c.args.query.now c.args.criteria) (drop (c.loop-level.level - 1) (levels_in c.args.items.now c.args.bounds.now)))

@@ -31,7 +31,7 @@ order_level-requires g c =
     (ap (λ (y : Stored g.row.T.Denot). y.levels) c.self.view_is) c.requires.within c.add_level_above.ensures.items in
     rw c.deref.ensures.value (record { flat = up.flat; some = omega (arith, up.within); sorted = up.sorted c.self.invariant.sorted })
 
--- the levels once level 0 is in order where that is needed
+-- the levels after level 0 is sorted if it needs sorting
 ordered : (g : _) (c : After-order_level g) →
     IsOrdered g.T.Ord.cmp c.needs_sorting-needs_sorting.result c.args.level c.self.inside.items.items c.order_level.new.items.items c.add_level_above.new.bounds.items
 ordered g c =

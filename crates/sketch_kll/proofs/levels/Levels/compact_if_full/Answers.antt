@@ -10,7 +10,7 @@ use Rattle.sketch_kll.proofs.NoMoreLevels.{full_level_low}
 use Rattle.sketch_kll.proofs.levels.Levels.compact_if_full.Goals as goal
 use Rattle.sketch_kll.proofs.levels.Levels.compact_if_full.Goals.{After-as_slice-bounds}
 
--- what is asked of the slices is asked of the levels
+-- what is said about the levels in the slices is said about the levels of the view
 seen : (g : _) (c : After-as_slice-bounds g) {X : Type 0} (f : ℕ → List (List g.row.T.Denot) → X) →
     f c.self.inside.k (levels_in c.as_slice-items.result.now c.as_slice-bounds.result.now) ≡ f c.args.self.now.k c.args.self.now.levels
 seen g c f =

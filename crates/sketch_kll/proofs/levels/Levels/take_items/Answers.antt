@@ -20,7 +20,7 @@ loop-self-init g c = record {
   spare = c.requires.spare;
 }
 
--- the weight of what was taken and of what is left
+-- the weight of what was taken and of what is left is below 2^64
 light : (g : _) (c : After-compact_if_full g) → weight c.loop-self.self.levels + length c.loop-self.items.items < 2 ^ 64
 light g c =
     let t = c.loop-self.invariant.taking in
@@ -59,7 +59,7 @@ fill-requires g c =
       );
     }
 
--- how many are left after a run: fewer
+-- the number of items left after a run is lower
 record Fewer (left some n : ℕ) : Type 0 where
   is : left ≡ n
   fewer : n < some
