@@ -1,4 +1,4 @@
--- Buffers with clones, those of one turn for each level that comes in.
+-- Buffers with clones: the buffers of one turn for each level that comes in.
 use Rattle.std.proofs.Common.{◌≢◌, ◌≡◌, ℕ, ◌+◌, ◌<◌, ◌≤◌, List, [], length, get_or, set, ap, subst, arith, inl, inr, Ordering}
 use Rattle.std.proofs.lemmas.Bool.{cases_lt}
 use Rattle.sketch_base.specs.Bag.{SameItems}
@@ -10,7 +10,7 @@ use Rattle.sketch_req.specs.declared.RankAccuracy.{RankAccuracy}
 use Rattle.sketch_req.proofs.MergedLevels.{copied-few, items-there, layout-there}
 use Rattle.sketch_req.proofs.Buffers.{read-there, read-other, read-here}
 
--- what a join of level h asks for
+-- what a join of a level needs
 pub record IsReady {A : Type 0} (cmp : A → A → Ordering) (ls others : List (Level A)) (old o : Level A) (own : Space A) (promoted_space : ℕ) : Type 0 where
   pub same : SameItems cmp o.items own.clones
   pub space : length old.items + length o.items ≤ own.clones_space
@@ -18,11 +18,11 @@ pub record IsReady {A : Type 0} (cmp : A → A → Ordering) (ls others : List (
   pub few : length old.items + length o.items ≤ retained_of (layouts_of ls) + retained_of (layouts_of others)
 
 module _ {A : Type 0} (cmp : A → A → Ordering) (ls others : List (Level A)) where
-  -- clones of level h of the others in the buffers of its place
+  -- the buffers of place h have clones of level h of the others
   abbrev pub HasClones : List (Space A) → ℕ → ℕ → Type 0
   HasClones buffers promoted h = IsCloned cmp h ls others (get_or (clones_of buffers) h []) (get_or (clones_spaces buffers) h 0) promoted
 
-  -- a vector of more space serves too
+  -- a vector with more space serves too
   pub cloned-grown : (buffers : List (Space A)) (promoted more h : ℕ) → promoted ≤ more → HasClones buffers promoted h → HasClones buffers more h
   cloned-grown buffers promoted more h grows has = record { same = has.same; space = has.space; promoted = omega (arith, has.promoted, grows) }
 
@@ -31,7 +31,7 @@ module _ {A : Type 0} (cmp : A → A → Ordering) (ls others : List (Level A)) 
   cloned-other buffers h own promoted j other has =
       rw (read-other (λ b. b.clones) [] buffers h own j other, read-other (λ b. b.clones_space) 0 buffers h own j other) has
 
-  -- the buffers of one more level took clones
+  -- the buffers of one more level have taken clones
   pub cloned-more : (buffers : List (Space A)) (h : ℕ) (own : Space A) (promoted more : ℕ) → h < length buffers → promoted ≤ more →
       ((j : ℕ) → j < h → j < length others → HasClones buffers promoted j) →
       (h < length others → IsCloned cmp h ls others own.clones own.clones_space more) →

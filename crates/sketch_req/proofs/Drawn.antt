@@ -1,4 +1,4 @@
--- Walks turn drawn coins alone, where each level at an odd state has drawn one, and leave it so.
+-- If each level at an odd state has drawn a coin, walks turn only drawn coins, and leave it so.
 use Rattle.std.specs.Prelude.{⊤}
 use Rattle.std.proofs.Common.{◌≡◌, ◌≢◌, ℕ, suc, ◌/◌, ◌%◌, Bool, true, false, not, ◌==◌, if◌then◌else◌, List, ◌∷◌, ◌++◌, refl, sym, ap, ◌∙◌, inl, inr}
 use Rattle.std.proofs.lemmas.Bool.{cases_Bool, cases_eq}
@@ -20,7 +20,7 @@ use Rattle.sketch_req.proofs.WalkRules.{holds-walk}
 abbrev pub emptied : Layout → Layout
 emptied l = record l { count = 0 }
 
--- a level that is filled keeps them
+-- a level that is filled keeps both
 pub emptied-filled : (h n : ℕ) (ls : List Layout) (j : ℕ) → emptied (layout_at (with_level new_layout h (filled n) ls) j) ≡ emptied (layout_at ls j)
 emptied-filled h n ls j =
     elim (cases_eq j h) [
@@ -28,12 +28,12 @@ emptied-filled h n ls j =
       | inr other ↦ ap emptied (layout-other h j (filled n) ls other)
     ]
 
--- so does each level but the one that is compacted
+-- so does each level except the one that is compacted
 pub emptied-other : (k h : ℕ) (ls : List Layout) (j : ℕ) → j ≢ h → emptied (layout_at (compacted_at k h ls) j) ≡ emptied (layout_at ls j)
 emptied-other k h ls j other =
     emptied-filled (suc h) (taken k (layout_at ls h) / 2) (with_level new_layout h (compacted k) ls) j ∙ ap emptied (layout-other h j (compacted k) ls other)
 
--- a level that was drawn for is compacted
+-- if the compacted level has drawn a coin, each level that turns its coin has still drawn one
 drawn_compacted : (k h : ℕ) (ls : List Layout) (drawn : ℕ → Bool) → AreDrawn ls drawn → drawn h ≡ true → AreDrawn (compacted_at k h ls) drawn
 drawn_compacted k h ls drawn a e j p =
     elim (cases_eq j h) [
@@ -46,11 +46,11 @@ drawn_put ls drawn a j p = a j (ap (λ (l : Layout). turns_coin l.state) (sym (e
 
 -- ---- traces
 
--- what was drawn stays so
+-- what was drawn stays drawn
 abbrev pub Rises : (ℕ → ℕ → Bool) → (ℕ → ℕ → Bool) → Type 0
 Rises drawn more = (s h : ℕ) → drawn s h ≡ true → more s h ≡ true
 
--- one more level that was drawn for
+-- one more level has drawn a coin
 abbrev pub with_drawn : (ℕ → ℕ → Bool) → ℕ → ℕ → ℕ → ℕ → Bool
 with_drawn drawn s h = changed drawn s (changed (drawn s) h true)
 
@@ -58,7 +58,7 @@ if-true : (b c : Bool) → c ≡ true → (if b then true else c) ≡ true
 if-true true c e = refl
 if-true false c e = e
 
--- one more level of which a coin was drawn
+-- what was drawn before stays drawn
 pub rises-with : (drawn : ℕ → ℕ → Bool) (s h : ℕ) → Rises drawn (with_drawn drawn s h)
 rises-with drawn s h t j e =
     let own = changed (drawn s) h true in
@@ -67,7 +67,7 @@ rises-with drawn s h t j e =
       | inr other ↦ rw (changed-other drawn s own t other) e
     ]
 
--- a coin that was drawn is drawn
+-- that level has drawn one
 pub drawn-there : (drawn : ℕ → ℕ → Bool) (s h : ℕ) → with_drawn drawn s h s h ≡ true
 drawn-there drawn s h = ap (λ (f : ℕ → Bool). f h) (changed-there drawn s (changed (drawn s) h true)) ∙ changed-there (drawn s) h true
 
@@ -76,7 +76,8 @@ pub takes_req : (accuracy : RankAccuracy) (n : ℕ) → is_req (taken_side accur
 takes_req HighRank n = refl
 takes_req LowRank n = refl
 
--- a property of traces, from what was drawn before them, that stays when an action of an update on the slot comes in front: a compaction by a coin that it draws, or that it turns where one was drawn
+-- a property of traces, given what was drawn before them, that stays when an action of an update on the slot is put in front:
+-- a put, a compaction by a coin that it draws, or one that turns a coin that was drawn
 pub record HoldsByDrawn {A : Type 0} (s : ℕ) (Holds : List (Event A) → (ℕ → ℕ → Bool) → Type 0) : Type 0 where
   pub put : (x : A) (es : List (Event A)) (drawn : ℕ → ℕ → Bool) → Holds es drawn → Holds (At s (Put 0 x) ∷ es) drawn
   pub fresh : (h : ℕ) (taken : Taken) (es : List (Event A)) (drawn : ℕ → ℕ → Bool) → is_req taken ≡ true → Holds es (with_drawn drawn s h) → Holds (At s (Compact h Fresh taken) ∷ es) drawn
@@ -103,7 +104,7 @@ module _ {A : Type 0} (Holds : List (Event A) → (ℕ → ℕ → Bool) → Typ
             rw odd (by_drawn.turned h side events drawn (takes_req accuracy (taken k l)) there (go drawn (λ t j q. q) (drawn_compacted k h ls (drawn s) a there)))
       ]
 
-  -- a walk depends on what was drawn
+  -- it holds of a walk and what comes after
   pub by-room : (ls : List Layout) (drawn : ℕ → ℕ → Bool) → AreDrawn ls (drawn s) → Goes (layouts_if_full k ls) drawn → Holds (events_at s (actions_if_full k accuracy ls) ++ rest) drawn
   by-room ls =
       holds-walk k accuracy (λ _. ⊤) (λ _ _ _. tt)
@@ -112,7 +113,7 @@ module _ {A : Type 0} (Holds : List (Event A) → (ℕ → ℕ → Bool) → Typ
       by-compact h ls drawn (events_at s actions ++ rest) a (λ drawn' up a'. go drawn' a' (λ more up' a''. goes more (λ t j q. up' t j (up t j q)) a'')))
       (λ _ _ drawn a goes. goes drawn (λ t j q. q) a) ls tt
 
-  -- so does an update
+  -- and of an update and what comes after
   pub by-update : (ls : List Layout) (x : A) (drawn : ℕ → ℕ → Bool) → AreDrawn ls (drawn s) → Goes (update_layouts k ls) drawn → Holds (events_at s (update_actions k accuracy ls x) ++ rest) drawn
   by-update ls x drawn a go =
       by_drawn.put x (events_at s (actions_if_full k accuracy (put_layouts ls)) ++ rest) drawn (by-room (put_layouts ls) drawn (drawn_put ls (drawn s) a) go)

@@ -1,4 +1,5 @@
--- Which slots stay ready and fair along the events of commands. Ready: each level whose next compaction turns its coin has drawn one. Fair: of what is in the slot no coin was turned that complements none.
+-- Which slots stay ready and fair along the events of commands. Ready: each level whose next compaction turns its coin
+-- has drawn one. Fair: each coin that was turned for what is in the slot complements one that was drawn.
 use Rattle.std.proofs.Common.{◌≡◌, ◌≢◌, ℕ, Bool, true, false, not, ◌&&◌, ◌||◌, ◌==◌, if◌then◌else◌, List, [], ◌∷◌, ◌++◌, length, refl, sym, ap, ap₂, ◌∙◌, subst, inl, inr, eqb-true}
 use Rattle.std.proofs.lemmas.Bool.{cases_Bool, cases_eq, and_left, and_right, false≢true}
 use Rattle.sketch_base.specs.Fair.{reaches}
@@ -18,7 +19,7 @@ use Rattle.sketch_req.proofs.Walks.{own-append}
 abbrev pub AreReady : (layouts : ℕ → List Layout) (ready : ℕ → Bool) (drawn : ℕ → ℕ → Bool) → Type 0
 AreReady layouts ready drawn = (j : ℕ) → ready j ≡ true → AreDrawn (layouts j) (drawn j)
 
--- after one slot's command: the others stay as they were, and it is ready if it is said to be
+-- after a command on one slot: the others stay as they were, and this one is ready if the flag says so
 ready-after : (s : ℕ) (layouts : ℕ → List Layout) (after : List Layout) (ready : ℕ → Bool) (is_ready : Bool) (drawn more : ℕ → ℕ → Bool) → AreReady layouts ready drawn →
     ((j : ℕ) → j ≢ s → (h : ℕ) → drawn j h ≡ true → more j h ≡ true) → (is_ready ≡ true → AreDrawn after (more s)) → AreReady (changed layouts s after) (changed ready s is_ready) more
 ready-after s layouts after ready is_ready drawn more a up here j r =
@@ -27,17 +28,17 @@ ready-after s layouts after ready is_ready drawn more a up here j r =
       | inr other ↦ rw (changed-other layouts s after j other) (λ h t. up j other h (a j (rw (changed-other ready s is_ready j other) at r) h t))
     ]
 
--- where its layouts stay too
+-- the same if its layouts stay
 ready-kept : (s : ℕ) (layouts : ℕ → List Layout) (ready : ℕ → Bool) (is_ready : Bool) (drawn more : ℕ → ℕ → Bool) → AreReady layouts ready drawn →
     ((j : ℕ) → j ≢ s → (h : ℕ) → drawn j h ≡ true → more j h ≡ true) → (is_ready ≡ true → AreDrawn (layouts s) (more s)) → AreReady layouts (changed ready s is_ready) more
 ready-kept s layouts ready is_ready drawn more a up here =
     subst (λ (ls : ℕ → List Layout). AreReady ls (changed ready s is_ready) more) (changed-itself layouts s) (ready-after s layouts (layouts s) ready is_ready drawn more a up here)
 
--- where no coin of the slot is drawn any more
+-- if one slot has no drawn coin left, the others keep theirs
 none-drawn_up : (drawn : ℕ → ℕ → Bool) (s j : ℕ) → j ≢ s → (h : ℕ) → drawn j h ≡ true → changed drawn s (λ h. false) j h ≡ true
 none-drawn_up drawn s j other h d = ap (λ (f : ℕ → Bool). f h) (changed-other drawn s (λ h. false) j other) ∙ d
 
--- a flag that is false where it was
+-- flags that are false stay false if the changed one does
 lowered : (flags : ℕ → Bool) (s : ℕ) (b : Bool) (j : ℕ) → (flags s ≡ false → b ≡ false) → flags j ≡ false → changed flags s b j ≡ false
 lowered flags s b j here e =
     elim (cases_Bool (j == s)) as (λ _. changed flags s b j ≡ false) [
@@ -46,7 +47,7 @@ lowered flags s b j here e =
     ]
 
 module _ {A : Type 0} (slot : ℕ) where
-  -- what comes after is fair to the asked slot, if the ready slots are so; and no slot that is not fair gets into it
+  -- what comes after is fair to the asked slot if the slots said to be ready are; and no slot that is not fair gets into it
   pub record Stands (layouts : ℕ → List Layout) (ready fair : ℕ → Bool) (rest : List (Event A)) : Type 0 where
     pub fairs : (drawn : ℕ → ℕ → Bool) → AreReady layouts ready drawn → IsFair slot rest drawn
     pub apart : (j : ℕ) → fair j ≡ false → reaches rest slot j ≡ false
@@ -61,7 +62,7 @@ module _ {A : Type 0} (slot : ℕ) where
         | inr t ↦ t
       ]
 
-  -- flags and layouts that are the same
+  -- equal flags and layouts
   pub stands-same : (layouts layouts' : ℕ → List Layout) (ready ready' fair fair' : ℕ → Bool) (rest : List (Event A)) →
       ((j : ℕ) → layouts j ≡ layouts' j) → ((j : ℕ) → ready j ≡ ready' j) → ((j : ℕ) → fair j ≡ fair' j) → Stands layouts ready fair rest → Stands layouts' ready' fair' rest
   stands-same layouts layouts' ready ready' fair fair' rest l r f n = record {
@@ -93,7 +94,7 @@ module _ {A : Type 0} (slot : ℕ) where
     apart = n.apart;
   }
 
-  -- coins drawn anew
+  -- redrawn coins
   pub stands-redraw : (s : ℕ) (layouts : ℕ → List Layout) (ready fair : ℕ → Bool) (rest : List (Event A)) →
       Stands layouts (changed ready s true) fair rest → Stands layouts ready fair (events_at s (redraw_actions (layouts s)) ++ rest)
   stands-redraw s layouts ready fair rest n = record {
@@ -102,7 +103,7 @@ module _ {A : Type 0} (slot : ℕ) where
     apart = λ j f. reaches-own slot s j (redraw_actions (layouts s)) rest (own-redraws A 0 (layouts s)) ∙ n.apart j f;
   }
 
-  -- an update: of a slot that is not ready it may turn a coin that complements none
+  -- an update: in a slot that is not ready it may turn a coin that complements no drawn one
   pub stands-update : (k : ℕ) (accuracy : RankAccuracy) (s : ℕ) (x : A) (layouts : ℕ → List Layout) (ready fair : ℕ → Bool) (rest : List (Event A)) →
       Stands (changed layouts s (update_layouts k (layouts s))) ready (changed fair s (fair s && ready s)) rest →
       Stands layouts ready fair (events_at s (update_actions k accuracy (layouts s) x) ++ rest)
@@ -129,7 +130,7 @@ module _ {A : Type 0} (slot : ℕ) where
           reaches-own slot s j actions rest (own-update A k accuracy (layouts s) x)
           ∙ n.apart j (lowered fair s (fair s && ready s) j (λ e. and_left (fair s) (ready s) e) f)
 
-  -- a merge: neither the one slot nor the other gets in where it is not fair
+  -- a merge: neither of the two slots gets in if it is not fair
   merged-apart : (source into : ℕ) (fair : ℕ → Bool) (b : Bool) (actions : List (Action A)) (rest : List (Event A)) → AreOwn actions → (more : ℕ) →
       (fair into ≡ false → b ≡ false) → (fair source ≡ false → b ≡ false) → ((j : ℕ) → changed fair into b j ≡ false → reaches rest slot j ≡ false) →
       (j : ℕ) → fair j ≡ false → reaches (Snap source into ∷ events_at into (joins_actions more 0 ++ actions) ++ rest) slot j ≡ false
@@ -146,7 +147,7 @@ module _ {A : Type 0} (slot : ℕ) where
         | inr t ↦ and_left (j == source) (reaches rest slot into) t
       ]
 
-  -- a merge that draws coins anew
+  -- a merge that redraws coins
   pub stands-merge_redrawn : (k : ℕ) (accuracy : RankAccuracy) (source into : ℕ) (layouts : ℕ → List Layout) (ready fair : ℕ → Bool) (rest : List (Event A)) →
       Stands (changed layouts into (merge_layouts k (layouts into) (layouts source))) (changed ready into true) (changed fair into (fair into && fair source)) rest →
       Stands layouts ready fair (Snap source into ∷ events_at into (merge_redrawn_actions k accuracy (layouts into) (layouts source)) ++ rest)
@@ -161,7 +162,7 @@ module _ {A : Type 0} (slot : ℕ) where
       joined : List Layout
       joined = joined_layouts k (layouts into) (layouts source)
 
-  -- another merge: fair where it does not walk
+  -- any other merge: fair if it makes no walk
   pub stands-merge : (k : ℕ) (accuracy : RankAccuracy) (source into : ℕ) (layouts : ℕ → List Layout) (ready fair : ℕ → Bool) (rest : List (Event A)) →
       Stands (changed layouts into (merge_layouts k (layouts into) (layouts source))) (changed ready into false)
       (changed fair into (not (are_full k (joined_layouts k (layouts into) (layouts source))) && (fair into && fair source))) rest →

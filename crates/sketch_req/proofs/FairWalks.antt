@@ -1,4 +1,5 @@
--- What updates, redraws and merges give to fair traces: they turn drawn coins alone, where each level whose next compaction turns its coin has drawn one.
+-- What updates, redraws and merges add to fair traces: they turn only drawn coins, if each level whose next compaction
+-- turns its coin has drawn one.
 use Rattle.std.proofs.Common.{◌≡◌, ℕ, zero, suc, ◌+◌, Bool, true, false, not, ◌&&◌, ◌||◌, List, [], ◌∷◌, ◌++◌, length, refl, sym, ap, ap₂, ◌∙◌, arith, inl, inr}
 use Rattle.std.specs.Prelude.{⊤}
 use Rattle.std.proofs.lemmas.Bool.{cases_Bool, false≢true, or_right}
@@ -25,7 +26,7 @@ module _ (A : Type 0) where
   own-update k accuracy ls x = (refl, own-room k accuracy (put_layouts ls))
 
 module _ {A : Type 0} (slot : ℕ) where
-  -- the events are fair to the slot, from what was drawn before them
+  -- the events are fair to the slot, given what was drawn before them
   abbrev pub IsFair : List (Event A) → (ℕ → ℕ → Bool) → Type 0
   IsFair es drawn = is_fair es slot drawn ≡ true
 
@@ -51,7 +52,7 @@ module _ {A : Type 0} (slot : ℕ) where
   fair-joins s zero h actions rest drawn = refl
   fair-joins s (suc more) h actions rest drawn = fair-joins s more (suc h) actions rest drawn
 
-  -- after coins were drawn anew each level that turns its coin has drawn one, whatever was drawn before
+  -- after redraws each level that turns its coin has drawn one, whatever was drawn before
   fair-redraws : (s h : ℕ) (ls : List Layout) (actions : List (Action A)) (rest : List (Event A)) (drawn : ℕ → ℕ → Bool) →
       ((more : ℕ → ℕ → Bool) → Rises drawn more → ((j : ℕ) → turns_coin (layout_at ls j).state ≡ true → more s (h + j) ≡ true) → IsFair (events_at s actions ++ rest) more) →
       IsFair (events_at s (redraws_from h ls ++ actions) ++ rest) drawn
@@ -80,7 +81,7 @@ module _ {A : Type 0} (slot : ℕ) where
   fair-redraw s rest ls drawn go =
       rw (append-nil (redraw_actions ls)) at (fair-redrawn s ls [] rest drawn go)
 
-  -- a merge that draws coins anew, whatever was drawn before
+  -- a merge that redraws coins, whatever was drawn before
   pub fair-merge_redrawn : (k : ℕ) (accuracy : RankAccuracy) (s : ℕ) (rest : List (Event A)) (ls others : List Layout) (drawn : ℕ → ℕ → Bool) →
       GoesFair s rest (merge_layouts k ls others) drawn → IsFair (events_at s (merge_redrawn_actions k accuracy ls others) ++ rest) drawn
   fair-merge_redrawn k accuracy s rest ls others drawn go =
@@ -100,7 +101,7 @@ module _ {A : Type 0} (slot : ℕ) where
   reaches-own s i (Redraw h ∷ more) rest o = reaches-own s i more rest o.1
   reaches-own s i (other ∷ more) rest o = absurd (false≢true o.0)
 
-  -- joins change nothing of what is reached
+  -- joins don't change which slots get in
   pub reaches-joins : (s i more h : ℕ) (actions : List (Action A)) (rest : List (Event A)) →
       reaches (events_at s (joins_actions more h ++ actions) ++ rest) slot i ≡ reaches (events_at s actions ++ rest) slot i
   reaches-joins s i zero h actions rest = refl

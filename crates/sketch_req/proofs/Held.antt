@@ -22,7 +22,7 @@ pub record IsOwn {A : Type 0} (cmp : A → A → Ordering) (k : ℕ) (accuracy :
   pub accuracy_is : accuracy_of ls ≡ accuracy
   pub held : AreHeld cmp ls
 
--- levels from level 0 up have their own k and accuracy
+-- levels from level 0 up have the k and the accuracy of the sketch
 pub own-levels : {A : Type 0} (cmp : A → A → Ordering) (k : ℕ) (accuracy : RankAccuracy) (ls : List (Level A)) → 0 < length ls → AreLevels cmp k accuracy 0 ls → IsOwn cmp k accuracy ls
 own-levels cmp k accuracy [] some a = absurd (omega arith)
 own-levels cmp k accuracy (l ∷ ls) some a = record {
@@ -36,12 +36,12 @@ own-levels cmp k accuracy (l ∷ ls) some a = record {
   };
 }
 
--- an item that comes in leaves them
+-- an item that comes in leaves both as they are
 pub own-appended : {A : Type 0} (ls : List (Level A)) (x : A) → (k_of (appended_first ls x) ≡ k_of ls) × (accuracy_of (appended_first ls x) ≡ accuracy_of ls)
 own-appended [] x = (refl, refl)
 own-appended (l ∷ ls) x = (refl, refl)
 
--- the levels as they are stored, with an item that came in
+-- the levels as they are stored, after an item came in
 pub held-appended : {A : Type 0} (cmp : A → A → Ordering) (k n capacity : ℕ) (accuracy : RankAccuracy) (ls : List (Level A)) (x : A) →
     IsHeld cmp n capacity (held_of k accuracy ls) → retained_of (layouts_of ls) < 4294967295 → IsHeld cmp (n + 1) capacity (held_of k accuracy (appended_first ls x))
 held-appended {A} cmp k n capacity accuracy ls x held few = record {
@@ -51,7 +51,7 @@ held-appended {A} cmp k n capacity accuracy ls x held few = record {
   capacity_is = held.capacity_is ∙ sym (nominal-appended k ls x);
 }
 
--- the same holds after coins were drawn anew
+-- the same after coins were redrawn
 pub held-redrawn : {A : Type 0} (cmp : A → A → Ordering) (k n capacity : ℕ) (accuracy : RankAccuracy) (word : List Bool) (ls : List (Level A)) → IsHeld cmp n capacity (held_of k accuracy ls) →
     IsHeld cmp n capacity (held_of k accuracy (redrawn word ls))
 held-redrawn cmp k n capacity accuracy word ls held =
@@ -63,11 +63,11 @@ held-redrawn cmp k n capacity accuracy word ls held =
       capacity_is = held.capacity_is ∙ ap (nominal_sum k) (sym same);
     }
 
--- there are few of them
+-- there are at most 64 of them
 pub few-levels : {A : Type 0} (cmp : A → A → Ordering) (k : ℕ) (accuracy : RankAccuracy) (ls xs : List (Level A)) → AreLevels cmp k accuracy 0 ls → xs ≡ ls → length xs ≤ 64
 few-levels cmp k accuracy ls xs a same = let few = few-placed cmp k accuracy 0 ls (omega arith) a in omega (arith, few, ap length same)
 
--- levels as they are stored, with sums that were added up
+-- levels as they are stored, with the sums over them
 pub held-sums : {A : Type 0} (cmp : A → A → Ordering) (k n capacity : ℕ) (accuracy : RankAccuracy) (ls xs : List (Level A)) → 0 < length ls → AreLevels cmp k accuracy 0 ls → xs ≡ ls →
     n ≡ retained_of (layouts_of xs) → ((k : ℕ) (accuracy : RankAccuracy) → AreLevels cmp k accuracy 0 xs → capacity ≡ nominal_sum k (layouts_of xs)) →
     IsHeld cmp n capacity (held_of k accuracy ls)
@@ -81,7 +81,7 @@ held-sums {A} cmp k n capacity accuracy ls xs some a same retained told =
 pub first-levels : {A : Type 0} (cmp : A → A → Ordering) (k : ℕ) (accuracy : RankAccuracy) → IsLegalK k → AreLevels cmp k accuracy 0 (fresh [] true 0 k accuracy ∷ [])
 first-levels cmp k accuracy legal = (fresh_placed cmp k accuracy 0 legal (omega arith), tt)
 
--- there is a level after levels took others in
+-- there is at least one level after levels took others in
 pub some-taken : {A S : Type 0} {cmp : A → A → Ordering} (bit : S → Bool) (next : S → S) (source after : S) (k : ℕ) (accuracy : RankAccuracy) (redraws : Bool)
     (ls others ns : List (Level A)) → 0 < length ls →
     AreTakenIn cmp bit next source after k accuracy redraws ls others ns → 0 < length ns

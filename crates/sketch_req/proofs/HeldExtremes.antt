@@ -45,7 +45,7 @@ longer-steps k (suc more) h ls =
     let b = longer-steps k more (suc h) (step_layouts k h ls) in
     omega (arith, a, b)
 
--- a walk takes no level away
+-- a walk removes no level
 pub longer-room : (k : ℕ) (ls : List Layout) → length ls ≤ length (layouts_if_full k ls)
 longer-room k ls =
     elim (are_full k ls) as (λ b. length ls ≤ length (if b then walk_layouts k ls else ls)) [
@@ -66,7 +66,7 @@ walk-adds k (l ∷ []) some e =
     omega (arith, two)
 walk-adds k (l ∷ m ∷ ls) some e = let a = longer-steps k (length (l ∷ m ∷ ls)) 0 (l ∷ m ∷ ls) in omega (arith, a)
 
--- so one level left means no walk
+-- so if one level is left, there was no walk
 one-left : (k : ℕ) (ls : List Layout) → 0 < length ls → length (layouts_if_full k ls) ≡ 1 → are_full k ls ≡ false
 one-left k ls some one =
     elim (cases_Bool (are_full k ls)) [
@@ -105,7 +105,7 @@ module _ {A : Type 0} {cmp : A → A → Ordering} (order : IsTotalOrder cmp) wh
 
   -- ---- extremes that bound
 
-  -- an item within an extreme; where there is none, no item is
+  -- an item within an extreme; without an extreme no item is
   abbrev pub Reaches : (A → A → Type 0) → Option A → A → Type 0
   Reaches Bounds None x = ⊥
   Reaches Bounds (Some e) x = Bounds e x
@@ -120,7 +120,7 @@ module _ {A : Type 0} {cmp : A → A → Ordering} (order : IsTotalOrder cmp) wh
   abbrev pub Holds : Option A → Option A → A → Type 0
   Holds least greatest x = Reaches AtLeast least x × Reaches AtMost greatest x
 
-  -- that is kept by items that compare equal
+  -- so do items that compare equal to it
   pub holds-same : (least greatest : Option A) → Keeps (Holds least greatest)
   holds-same (Some l) (Some g) x y e h = (ap is_gt (sym (alike_right order x y l e)) ∙ h.0, ap is_gt (sym (order.congr x y g e)) ∙ h.1)
   holds-same None greatest x y e h = absurd h.0
@@ -163,7 +163,7 @@ module _ {A : Type 0} {cmp : A → A → Ordering} (order : IsTotalOrder cmp) wh
           let h = sound.ends (omega (arith, e)) in
           rw (h.least_is, h.greatest_is) h.ends.between
 
-  -- a sketch whose items do, and which has one, has both extremes
+  -- if the items of a sketch do, and some item does, the sketch has both extremes
   pub has-ends : (s : Req A) (x : A) → Holds s.least s.greatest x → AllByRecursion (Holds s.least s.greatest) (items_in s.levels) → HasEnds cmp s
   has-ends s x h all = go s.least s.greatest refl refl h all
     where
@@ -174,7 +174,7 @@ module _ {A : Type 0} {cmp : A → A → Ordering} (order : IsTotalOrder cmp) wh
 
   -- ---- extremes of lists that hold the same items
 
-  -- what follows from each item that compares equal to one follows where one does
+  -- if an item compares equal to one of some items, what follows from each such item follows
   by-tie : (Q : Type 0) (x : A) (ys : List A) → TiesWithOne cmp ys x → AllByRecursion (λ y. cmp x y ≡ Equal → Q) ys → Q
   by-tie Q x [] tie each = absurd tie
   by-tie Q x (y ∷ ys) (inl tie) each = each.0 tie
@@ -184,7 +184,7 @@ module _ {A : Type 0} {cmp : A → A → Ordering} (order : IsTotalOrder cmp) wh
   each-ties x [] = tt
   each-ties x (y ∷ ys) = (λ e. inl e, all-map _ (λ z. cmp x z ≡ Equal → TiesWithOne cmp (y ∷ ys) x) (λ z tie e. inr (tie e)) ys (each-ties x ys))
 
-  -- what holds of each item of the one holds of each of the other
+  -- what holds of each item of one list holds of each item of the other
   abbrev pub Moves : List A → List A → Type 1
   Moves xs ys = (P : A → Type 0) → Keeps P → AllByRecursion P xs → AllByRecursion P ys
 
@@ -214,18 +214,18 @@ module _ {A : Type 0} {cmp : A → A → Ordering} (order : IsTotalOrder cmp) wh
   up-same : (x : A) → Keeps (λ y. IsAtMost cmp y x)
   up-same x y z e h = ap is_gt (sym (order.congr y z x e)) ∙ h
 
-  -- the least of items is that of items alike
+  -- two such lists have the same least item
   pub least-moved : (xs ys : List A) → Moves xs ys → Moves ys xs → (x y : Option A) → SameAnswer cmp x y → IsLeastOf cmp xs x → IsLeastOf cmp ys y
   least-moved xs ys to from x y s i = extreme-tied (λ x y. IsAtMost cmp x y) from-same ys x y (λ a b c e h. up-same c a b e h) s (extreme-moved (λ x y. IsAtMost cmp x y) from-same xs ys to from x i)
 
-  -- so is the greatest
+  -- and the same greatest item
   pub greatest-moved : (xs ys : List A) → Moves xs ys → Moves ys xs → (x y : Option A) → SameAnswer cmp x y → IsGreatestOf cmp xs x → IsGreatestOf cmp ys y
   greatest-moved xs ys to from x y s i = extreme-tied (λ x y. IsAtMost cmp y x) up-same ys x y (λ a b c e h. from-same c a b e h) s (extreme-moved (λ x y. IsAtMost cmp y x) up-same xs ys to from x i)
 
   pub alike-moves : (xs ys : List A) → SameItems cmp (sort cmp xs) (sort cmp ys) → Moves xs ys
   alike-moves xs ys s P keeps a = all-alike P cmp keeps xs ys s a
 
-  -- the same holds where bags are alike
+  -- the items of alike bags are such lists
   levels-move : (ms ns : List (Level A)) → AlikeReq cmp (bag_of ms) (bag_of ns) → Moves (items_in ms) (items_in ns)
   levels-move ms ns alike P keeps a =
       let item : Level A → List A = λ level. level.items in
@@ -244,7 +244,7 @@ module _ {A : Type 0} {cmp : A → A → Ordering} (order : IsTotalOrder cmp) wh
   abbrev pub IsNew : Level A → Type 0
   IsNew level = (level.state ≡ 0) × (level.doublings ≡ 0)
 
-  -- levels of the same layouts are as new
+  -- levels with the layouts of new levels are new
   pub news : (ls ms : List (Level A)) → layouts_of ms ≡ layouts_of ls → AllByRecursion IsNew ls → AllByRecursion IsNew ms
   news [] [] e n = tt
   news (l ∷ ls) (m ∷ ms) e n =
@@ -254,20 +254,20 @@ module _ {A : Type 0} {cmp : A → A → Ordering} (order : IsTotalOrder cmp) wh
 
   module _ {S : Type 0} {bit : S → Bool} {next : S → S} {source after : S} (k : ℕ) (accuracy : RankAccuracy) (ms ns : List (Level A))
       (room : AreActed cmp bit next source after k accuracy (room_of k accuracy ms) (layouts_if_full k (layouts_of ms)) 0 ms ns) where
-    -- what items keep that compare equal holds after actions too
+    -- what holds of all items, and of items that compare equal to them, holds after actions too
     pub acted-all : (P : A → Type 0) → Keeps P → AllByRecursion P (items_in ms) → AllByRecursion P (items_in ns)
     acted-all P keeps a =
         let item : Level A → List A = λ level. level.items in
         all-flat P item ns (all-alike-levels P cmp keeps _ (map item ns) room.bag.levels (room-all P k accuracy (layouts_of ms) _ (alone (bag_of ms)) (all-by-level P item ms a)))
 
-    -- where one level is left, one stood before
+    -- if one level is left, there was one before
     pub one-before : 0 < length ms → length ns ≡ 1 → length ms ≡ 1
     one-before some one =
         let a = longer-room k (layouts_of ms) in
         let b = ap length room.layouts_are in
         omega (arith, some, one, a, b, length-layouts ms, length-layouts ns)
 
-    -- and it tells the extremes as before
+    -- and its items still determine the extremes
     pub small-acted : (n : ℕ) (least greatest : Option A) → 0 < length ms → length ns ≡ 1 → IsLeastOf cmp (items_in ms) least → IsGreatestOf cmp (items_in ms) greatest →
         (n ≤ 4 → AllByRecursion IsNew ms) → IsSmall cmp (sketch_of k accuracy n ns least greatest)
     small-acted n least greatest some one l g new =

@@ -6,7 +6,7 @@ use Rattle.sketch_base.specs.Bag.{Taken}
 use Rattle.sketch_req.specs.Level.{Level}
 use Rattle.sketch_req.specs.Moved.{AreMoved, is_moved, moves}
 
--- no compaction moves nothing
+-- without actions nothing is moved
 pub moved-none : {A : Type 0} (ls : List (Level A)) → AreMoved {A = A} [] ls ls
 moved-none ls = record { stays = λ h none e. refl; sorted = λ h none e. absurd (false≢true e) }
 
@@ -18,7 +18,7 @@ moved-append {A} (x ∷ xs) ys h = ap (λ (b : Bool). moves h x || b) (moved-app
     assoc true b c = refl
     assoc false b c = refl
 
--- some compactions after others
+-- actions after others
 pub moved-more : {A : Type 0} (xs ys : List (Action A)) (ls ms ns : List (Level A)) → AreMoved xs ls ms → AreMoved ys ms ns → AreMoved (xs ++ ys) ls ns
 moved-more {A} xs ys ls ms ns s t = record {
   stays = λ h none e.
@@ -44,7 +44,7 @@ moved-alike xs ys ls ns e m = record {
   sorted = λ h none on. m.sorted h none (sym (e h) ∙ on);
 }
 
--- a compaction into the level above
+-- a compaction into the level above moves only these two levels
 pub moved-around : {A : Type 0} (coin : Coin) (part : Taken) (below rest rest' : List (Level A)) (old new upper : Level A) → new.is_sorted ≡ true → upper.is_sorted ≡ true →
     ((i : ℕ) (none : Level A) → get_or rest' i none ≡ get_or rest (suc i) none) →
     AreMoved (Compact (length below) coin part ∷ []) (below ++ old ∷ rest) (below ++ new ∷ upper ∷ rest')

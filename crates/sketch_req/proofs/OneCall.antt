@@ -1,4 +1,4 @@
--- What a call makes of a sketch under one word is one sketch, where items that compare equal are equal.
+-- If items that compare equal are equal, a call under one word makes only one sketch of a sketch.
 use Rattle.std.proofs.Common.{◌≡◌, ℕ, zero, suc, ◌<◌, Bool, true, false, List, [], ◌∷◌, ◌++◌, length, drop, get_or, refl, sym, ap, ap₂, ◌∙◌, subst, arith, inl, inr, Ordering}
 use Rattle.std.specs.Cmp.{IsTotalOrder}
 use Rattle.std.specs.List.{AllZip}
@@ -27,7 +27,7 @@ use Rattle.sketch_req.proofs.MergedLevels.{coin-there, items-there, layout-there
 use Rattle.sketch_req.proofs.Layouts.{length-layouts}
 use Rattle.sketch_req.proofs.ListPlaces.{by-place}
 
--- a level, from its parts
+-- levels with equal parts are equal
 same-parts : {A : Type 0} (a b : Level A) → a.items ≡ b.items → a.is_sorted ≡ b.is_sorted → layout_of a ≡ layout_of b →
     a.coin ≡ b.coin → a.lg_weight ≡ b.lg_weight → a.k ≡ b.k → a.accuracy ≡ b.accuracy → a ≡ b
 same-parts {A} a b items sorted layout coin place k accuracy =
@@ -36,7 +36,7 @@ same-parts {A} a b items sorted layout coin place k accuracy =
     let whole : level_of a.items a.is_sorted a.state a.doublings a.coin a.lg_weight a.k a.accuracy ≡ level_of b.items b.is_sorted b.state b.doublings b.coin b.lg_weight b.k b.accuracy = cc in
     whole
 
--- the items of a place
+-- what holds of two lists of items pair by pair holds at each place
 zip-at : {A : Type 0} (R : List A → List A → Type 0) (xs ys : List (List A)) (h : ℕ) → h < length xs → AllZip R xs ys → R (level_at xs h) (level_at ys h)
 zip-at R [] ys h i z = absurd (omega arith)
 zip-at R (x ∷ xs) [] h i z = absurd z
@@ -44,7 +44,7 @@ zip-at R (x ∷ xs) (y ∷ ys) zero i z = z.0
 zip-at R (x ∷ xs) (y ∷ ys) (suc h) i z = zip-at R xs ys h (omega arith) z.1
 
 module _ {A : Type 0} {cmp : A → A → Ordering} (order : IsTotalOrder cmp) (tied : TiesAreEqual cmp) where
-  -- a level that was moved is told by its layout, its coin and its items in any order
+  -- a level that was moved is determined by its layout, its coin and its items in any order
   one-moved : (k : ℕ) (accuracy : RankAccuracy) (h : ℕ) (a b : Level A) → IsPlaced cmp k accuracy h a → IsPlaced cmp k accuracy h b →
       layout_of a ≡ layout_of b → a.coin ≡ b.coin → a.is_sorted ≡ true → b.is_sorted ≡ true →
       SameItems cmp (sort cmp a.items) (sort cmp b.items) → a ≡ b
@@ -52,7 +52,7 @@ module _ {A : Type 0} {cmp : A → A → Ordering} (order : IsTotalOrder cmp) (t
       same-parts a b (same-sorted order tied a.items b.items s (p.sound.in_order c) (q.sound.in_order d))
       (c ∙ sym d) layout coin (p.place_is ∙ sym q.place_is) (p.k_is ∙ sym q.k_is) (p.accuracy_is ∙ sym q.accuracy_is)
 
-  -- levels after the same compactions of the same levels
+  -- levels after the same compactions of the same levels are equal
   one-walk : (k : ℕ) (accuracy : RankAccuracy) (actions : List (Action A)) (ls ts us : List (Level A)) → AreMoved actions ls ts → AreMoved actions ls us →
       layouts_of ts ≡ layouts_of us → AlikeReq cmp (bag_of ts) (bag_of us) → AreLevels cmp k accuracy 0 ts → AreLevels cmp k accuracy 0 us → ts ≡ us
   one-walk k accuracy actions ls ts us p q layouts alike a b = by-place ts us count same
@@ -79,7 +79,7 @@ module _ {A : Type 0} {cmp : A → A → Ordering} (order : IsTotalOrder cmp) (t
               let j : h < length us = omega (arith, i, count) in
               moved h x y i j (get_or_default ts h none x i) (get_or_default us h none y j) (p.sorted h none e) (q.sorted h none e)
 
-  -- a level that another one was merged into
+  -- a merge of two levels has only one result
   one-merged : (old other a b : Level A) → IsLevelMerged cmp old other a → IsLevelMerged cmp old other b → a ≡ b
   one-merged old other a b p q =
       let same = items other.items p.none_came p.some_came q.none_came q.some_came in
@@ -100,7 +100,7 @@ module _ {A : Type 0} {cmp : A → A → Ordering} (order : IsTotalOrder cmp) (t
         | inr high ↦ a.kept high ∙ sym (b.kept high)
       ])
 
-  -- a sketch, from its parts
+  -- sketches with equal parts are equal
   same-sketch : (t u : Req A) → t.k ≡ u.k → t.accuracy ≡ u.accuracy → t.n ≡ u.n → t.levels ≡ u.levels → t.least ≡ u.least → t.greatest ≡ u.greatest → t ≡ u
   same-sketch t u k accuracy n levels least greatest =
       let whole : sketch_of t.k t.accuracy t.n t.levels t.least t.greatest ≡ sketch_of u.k u.accuracy u.n u.levels u.least u.greatest = cc in
@@ -109,7 +109,7 @@ module _ {A : Type 0} {cmp : A → A → Ordering} (order : IsTotalOrder cmp) (t
   placed-as : (k : ℕ) (accuracy : RankAccuracy) (t : Req A) → IsSound cmp t → t.k ≡ k → t.accuracy ≡ accuracy → AreLevels cmp k accuracy 0 t.levels
   placed-as k accuracy t sound a b = rw (a, b) at sound.placed
 
-  -- one sketch comes of an update
+  -- an update has only one result
   pub one-update : (s : Req A) (x : A) (word : List Bool) (t u : Req A) → IsSound cmp t → IsSound cmp u → IsUpdated cmp s x word t → IsUpdated cmp s x word u → t ≡ u
   one-update s x word t u a b p q =
       let ends = option_to_list s.least ++ x ∷ [] in
@@ -133,7 +133,7 @@ module _ {A : Type 0} {cmp : A → A → Ordering} (order : IsTotalOrder cmp) (t
       same-sketch t s c.k c.accuracy c.n (levels-same s.levels t.levels c.levels)
       (sym (same-answers order tied s.least t.least c.least)) (sym (same-answers order tied s.greatest t.greatest c.greatest))
 
-  -- one sketch comes of one update after another
+  -- updates in turn have only one result
   one-in-turn : (s : Req A) (xs : List A) (word : List Bool) (t u : Req A) → AreUpdatedInTurn cmp s xs word t → AreUpdatedInTurn cmp s xs word u → t ≡ u
   one-in-turn s [] word t u p q = copy-same s t p ∙ sym (copy-same s u q)
   one-in-turn s (x ∷ xs) word t u p q =
@@ -142,11 +142,11 @@ module _ {A : Type 0} {cmp : A → A → Ordering} (order : IsTotalOrder cmp) (t
       let same : q.after ≡ p.after = one-update s x word q.after p.after q.sound p.sound other first in
       one-in-turn p.after xs (drop (coins_of_update s x) word) t u p.rest (subst (λ (m : Req A). AreUpdatedInTurn cmp m xs (drop (coins_of_update s x) word) u) same q.rest)
 
-  -- one sketch comes of updates by a list
+  -- updates by a list have only one result
   pub one-list : (s : Req A) (items : List A) (word : List Bool) (t u : Req A) → AreUpdated cmp s items word t → AreUpdated cmp s items word u → t ≡ u
   one-list s items word t u p q = one-in-turn s items word t u p.in_turn q.in_turn
 
-  -- one sketch comes of a merge
+  -- a merge has only one result
   pub one-merge : (redraws : Bool) (s other : Req A) (word : List Bool) (t u : Req A) → IsSound cmp t → IsSound cmp u → IsMergedBy cmp redraws s other word t →
       IsMergedBy cmp redraws s other word u → t ≡ u
   one-merge redraws s other word t u a b p q =

@@ -1,4 +1,4 @@
--- A sketch of which coins are drawn anew keeps what every sketch keeps.
+-- A sketch whose coins are redrawn stays sound.
 use Rattle.std.proofs.Common.{◌≡◌, Bool, List, flat_map, sym, ap, ◌∙◌, Ordering}
 use Rattle.std.specs.Cmp.{IsTotalOrder}
 use Rattle.sketch_base.specs.Bag.{SameItems}
@@ -10,7 +10,7 @@ use Rattle.sketch_req.proofs.Copies.{sound-alike}
 use Rattle.sketch_req.proofs.Redraws.{flat-items, items-redrawn, layouts-redrawn, placed-redrawn}
 
 module _ {A : Type 0} {cmp : A → A → Ordering} (order : IsTotalOrder cmp) (word : List Bool) (s : Req A) where
-  -- a sketch keeps what it has to where coins are drawn
+  -- a sketch stays sound when coins are redrawn
   pub redrawn-sound : IsSound cmp s → IsSound cmp (redrawn_sketch word s)
   redrawn-sound sound =
       let ys = redrawn word s.levels in

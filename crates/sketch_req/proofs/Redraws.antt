@@ -1,4 +1,4 @@
--- Coins of levels that are drawn anew, level by level.
+-- Redraws of the levels' coins, level by level.
 use Rattle.std.proofs.Common.{inl, inr, ◌≡◌, ℕ, zero, suc, ◌+◌, ◌-◌, ◌<◌, ◌≤◌, Bool, true, false, cond, if◌then◌else◌, List, [], ◌∷◌, ◌++◌, length, map, flat_map, take, drop, get_or, set, refl, sym, ap, ◌∙◌, subst, arith, append_assoc, Ordering}
 use Rattle.std.specs.Cmp.{IsTotalOrder}
 use Rattle.std.proofs.lemmas.Bool.{cases_Bool}
@@ -21,12 +21,12 @@ use Rattle.sketch_req.specs.declared.RankAccuracy.{RankAccuracy}
 use Rattle.sketch_req.proofs.Bags.{AlikeLevels, levels-refl}
 use Rattle.sketch_req.proofs.Walks.{acted-start}
 
--- one level more
+-- one more level
 turning-first : {A : Type 0} (x : Level A) (rest : List (Level A)) → turning_levels (layouts_of (x ∷ rest)) ≡ cond (turns_coin x.state) 1 0 + turning_levels (layouts_of rest)
 turning-first x rest = sum_by-cons (λ (l : Layout). cond (turns_coin l.state) 1 0) (layout_of x) (layouts_of rest)
 
 module _ {A S : Type 0} (bit : S → Bool) (next : S → S) where
-  -- the levels, and the source, after the coins were drawn from the source
+  -- the levels, and the source, after coins were redrawn from the source
   abbrev pub redrawn_by : S → List (Level A) → List (Level A)
   redrawn_by source ls = redrawn (bits_from bit next source (turning_levels (layouts_of ls))) ls
 
@@ -55,7 +55,7 @@ module _ {A S : Type 0} (bit : S → Bool) (next : S → S) where
       go true = let e : 1 + turning_levels (layouts_of rest) ≡ suc (turning_levels (layouts_of rest)) = omega arith in ap (after_draws next source) e
       go false = let e : 0 + turning_levels (layouts_of rest) ≡ turning_levels (layouts_of rest) = omega arith in ap (after_draws next source) e
 
-  -- more bits than levels that take one make no difference
+  -- more bits than there are levels that take one make no difference
   pub redrawn-enough : (source : S) (n : ℕ) (ls : List (Level A)) → turning_levels (layouts_of ls) ≤ n → redrawn (bits_from bit next source n) ls ≡ redrawn_by source ls
   redrawn-enough source n [] i = refl
   redrawn-enough source n (x ∷ rest) i =
@@ -82,7 +82,7 @@ module _ {A S : Type 0} (bit : S → Bool) (next : S → S) where
 
 -- ---- what stays
 
--- coins that are drawn leave the layouts
+-- redraws leave the layouts as they are
 pub layouts-redrawn : {A : Type 0} (word : List Bool) (ls : List (Level A)) → layouts_of (redrawn word ls) ≡ layouts_of ls
 layouts-redrawn word [] = refl
 layouts-redrawn word (x ∷ rest) = ap (λ (l : List Layout). layout_of x ∷ l) (layouts-redrawn (if turns_coin x.state then drop 1 word else word) rest)
@@ -105,7 +105,7 @@ placed-redrawn cmp k accuracy h word (x ∷ rest) a =
 
 -- ---- the actions
 
--- as many coins as levels at an odd state
+-- they draw one coin for each level at an odd state
 pub redraws-draw : (A : Type 0) (h : ℕ) (ls : List Layout) → draws_of (redraws_from {A = A} h ls) ≡ turning_levels ls
 redraws-draw A h [] = refl
 redraws-draw A h (l ∷ ls) =
@@ -175,7 +175,7 @@ redraws-keep {A} cmp h word (x ∷ rest) work kept =
     ]
 
 module _ {A : Type 0} {cmp : A → A → Ordering} (order : IsTotalOrder cmp) where
-  -- the actions make of a bag what is made of the levels
+  -- the actions do to the bag what the redraws do to the levels
   pub redraws-are : (word : List Bool) (ls : List (Level A)) → AlikeReq cmp (bag_after cmp (redraw_actions (layouts_of ls)) word (bag_of ls)) (bag_of (redrawn word ls))
   redraws-are word ls =
       let r = redraws-keep cmp 0 word ls (alone (bag_of ls)) (λ i. let e : 0 + i ≡ i = omega arith in ap (coins_of ls) e) in
@@ -202,29 +202,29 @@ module _ {A : Type 0} {cmp : A → A → Ordering} (order : IsTotalOrder cmp) wh
         fewer = omega (arith, ap retained_of same);
       }
 
--- ---- drawn anew or not
+-- ---- redrawn or not
 
--- the same holds of levels whose coins were drawn or not
+-- the layouts stay, whether coins were redrawn or not
 pub layouts-ready : {A : Type 0} (redraws : Bool) (word : List Bool) (ls : List (Level A)) → layouts_of (redrawn_if redraws word ls) ≡ layouts_of ls
 layouts-ready true word ls = layouts-redrawn word ls
 layouts-ready false word ls = refl
 
--- their items
+-- so do the items
 pub items-ready : {A : Type 0} (redraws : Bool) (word : List Bool) (ls : List (Level A)) → map (λ level. level.items) (redrawn_if redraws word ls) ≡ map (λ level. level.items) ls
 items-ready true word ls = items-redrawn word ls
 items-ready false word ls = refl
 
--- their places
+-- and the places
 pub placed-ready : {A : Type 0} (cmp : A → A → Ordering) (k : ℕ) (accuracy : RankAccuracy) (redraws : Bool) (word : List Bool) (ls : List (Level A)) →
     AreLevels cmp k accuracy 0 ls → AreLevels cmp k accuracy 0 (redrawn_if redraws word ls)
 placed-ready cmp k accuracy true word ls a = placed-redrawn cmp k accuracy 0 word ls a
 placed-ready cmp k accuracy false word ls a = a
 
--- the actions of it
+-- the actions of the redraws, if there are any
 abbrev pub redraws_if : {A : Type 0} → Bool → List Layout → List (Action A)
 redraws_if redraws layouts = if redraws then redraw_actions layouts else []
 
--- what was done to them
+-- the levels after these actions
 pub acted-ready : {A S : Type 0} {cmp : A → A → Ordering} (order : IsTotalOrder cmp) (bit : S → Bool) (next : S → S) (source : S) (k : ℕ) (accuracy : RankAccuracy) (redraws : Bool)
     (ls : List (Level A)) → AreLevels cmp k accuracy 0 ls →
     AreActed cmp bit next source (after_draws next source (redraws_of redraws ls)) k accuracy (redraws_if redraws (layouts_of ls)) (layouts_of ls) 0 ls

@@ -1,4 +1,4 @@
--- Levels that take clones of items in, one after another.
+-- Levels that take in clones of items, one after another.
 use Rattle.std.proofs.Common.{◌≡◌, ℕ, suc, ◌+◌, ◌<◌, ◌≤◌, Bool, false, nat_lt, ◌&&◌, ◌==◌, List, [], ◌∷◌, ◌++◌, length, get_or, set, take, refl, sym, ap, ◌∙◌, subst, arith, append-nil, append_assoc, length-append, inl, inr, Ordering, Equal}
 use Rattle.std.specs.Cmp.{IsTotalOrder}
 use Rattle.std.proofs.lemmas.Bool.{le-ltb, lt-leb, ne_eqb, and_right}
@@ -24,7 +24,7 @@ use Rattle.sketch_req.proofs.Walks.{acted-more}
 
 -- ---- a level
 
--- a level after items came last, the parts of it
+-- a level after items were appended, by its parts
 pub appended-parts : {A : Type 0} (level : Level A) (xs : List A) → 0 < length xs →
     appended_all level xs ≡ record level { items = level.items ++ xs; is_sorted = level.is_sorted && nat_lt (length (level.items ++ xs)) 2 }
 appended-parts level [] some = absurd (omega arith)
@@ -42,7 +42,7 @@ appended-parts {A} level (x ∷ y ∷ ys) some =
     appended-parts (appended level x) (y ∷ ys) (omega arith) ∙
     rw (whole, over) (ap (λ (b : Bool). record level { items = level.items ++ x ∷ y ∷ ys; is_sorted = b }) (and_right _ false refl ∙ sym (and_right level.is_sorted false refl)))
 
--- a level of which the items and the flag say that clones came last
+-- a level whose items and flag say that clones were appended
 pub has-clones : {A : Type 0} {cmp : A → A → Ordering} (old : Level A) (items clones all : List A) (flag : Bool) → SameItems cmp items clones → 0 < length items → all ≡ old.items ++ clones →
     flag ≡ (old.is_sorted && nat_lt (length all) 2) → HasClones cmp old items (record old { items = all; is_sorted = flag })
 has-clones {A} {cmp} old items clones all flag same some whole flag_is =
@@ -53,7 +53,7 @@ has-clones {A} {cmp} old items clones all flag same some whole flag_is =
       new_is = rw (flag_is, whole) (sym (appended-parts old clones (omega (arith, n, some))));
     }
 
--- the levels, from level 0
+-- items that are appended to the levels are appended to level 0
 pub appended-first : {A : Type 0} (l : Level A) (ls : List (Level A)) (xs : List A) → all_appended_first (l ∷ ls) xs ≡ appended_all l xs ∷ ls
 appended-first l ls [] = refl
 appended-first l ls (x ∷ xs) = appended-first (appended l x) ls xs
@@ -66,7 +66,7 @@ legal-layouts cmp k accuracy h [] a = tt
 legal-layouts cmp k accuracy h (l ∷ ls) a =
     (record { few = a.0.sound.few_doublings; size = rw a.0.k_is at a.0.sound.size_at_least }, legal-layouts cmp k accuracy (suc h) ls a.1)
 
--- the nominal capacities are far from the most items that a level holds
+-- the nominal capacities add up to fewer items than a level may hold
 pub nominal-small : {A : Type 0} (cmp : A → A → Ordering) (k : ℕ) (accuracy : RankAccuracy) (ls : List (Level A)) → AreLevels cmp k accuracy 0 ls → nominal_sum k (layouts_of ls) < 4294967295
 nominal-small cmp k accuracy ls a =
     let few = few-placed cmp k accuracy 0 ls (omega arith) a in
@@ -136,7 +136,7 @@ module _ {A S : Type 0} {cmp : A → A → Ordering} (order : IsTotalOrder cmp) 
       AreTakenInTurn cmp bit next source after k accuracy ls (x ∷ []) ns
   taken-one source after ls ns x clone same walked = record { clone = clone; is_clone = same; after = after; levels = ns; walked = walked; rest = (refl, refl) }
 
-  -- items that make no walk
+  -- items that cause no walk
   pub taken-filled : (source : S) (ls : List (Level A)) (xs clones : List A) → 0 < length ls → AreLevels cmp k accuracy 0 ls → SameItems cmp xs clones →
       retained_of (layouts_of ls) + length xs < nominal_sum k (layouts_of ls) → AreTakenInTurn cmp bit next source source k accuracy ls xs (all_appended_first ls clones)
   taken-filled source ls [] [] some a same room = (refl, refl)
@@ -208,7 +208,7 @@ pub first-few : {A : Type 0} (ls : List (Level A)) (x : Level A) → 0 < length 
 first-few [] x some e = absurd (omega (arith, some))
 first-few {A} (l ∷ ls) x some e = let n = sum_by-cons (λ (y : Layout). y.count) (layout_of l) (layouts_of ls) in omega (arith, n, ap (λ (y : Level A). length y.items) e)
 
--- the levels of which level 0 took the items are all levels that took them
+-- if level 0 took the items, the levels as a whole took them
 pub first-filled : {A : Type 0} (ls : List (Level A)) (x new : Level A) (clones : List A) → 0 < length ls → x ≡ get_or ls 0 x → new ≡ appended_all x clones →
     set ls 0 new ≡ all_appended_first ls clones
 first-filled [] x new clones some e same = absurd (omega (arith, some))

@@ -13,7 +13,7 @@ use Rattle.sketch_req.proofs.ReservedWalks.{count-within, own-nothing}
 use Rattle.sketch_req.proofs.WalkSteps.{comes-up, coins-there, given-there, gives_up-there, length-taken_in, length-up, opened, placed-new, raised, stepped}
 use Rattle.sketch_req.proofs.Walks.{acted-full, acted-none, acted-start, is-full-there, step-low, walked-more}
 
--- an item set twice, and one set where it is
+-- a place that is set twice, and one that is set to what it holds
 set-twice : {A : Type 0} (xs : List A) (i : ℕ) (x y : A) → set (set xs i x) i y ≡ set xs i y
 set-twice [] i x y = refl
 set-twice (a ∷ xs) zero x y = refl
@@ -24,7 +24,7 @@ set-there [] i x l e = refl
 set-there (a ∷ xs) zero x l e = ap (λ y. y ∷ xs) e
 set-there (a ∷ xs) (suc i) x l e = ap (λ zs. a ∷ zs) (set-there xs i x (omega (arith, l)) e)
 
--- a level at a place where it belongs
+-- levels stay at their places when a level is set at its own place
 placed-set : {A : Type 0} (cmp : A → A → Ordering) (k : ℕ) (accuracy : RankAccuracy) (h n : ℕ) (ls : List (Level A)) (new : Level A) → AreLevels cmp k accuracy h ls →
     IsPlaced cmp k accuracy (h + n) new → AreLevels cmp k accuracy h (set ls n new)
 placed-set cmp k accuracy h n [] new a p = tt
@@ -36,7 +36,8 @@ module _ {A S : Type 0} {cmp : A → A → Ordering} (order : IsTotalOrder cmp) 
   abbrev pub IsWalked : ℕ → S → List (Level A) → Type 0
   IsWalked n now ls = AreWalked cmp bit next source now k accuracy (steps_actions k accuracy n 0 (layouts_of start)) (steps_layouts k n 0 (layouts_of start)) start ls
 
-  -- items that come up to the next level, if there are any; `spaces` are those of the levels' buffers, and `most` are what a vector has space for
+  -- items that come up to the next level, if there are any;
+  -- `spaces` are those of the levels' buffers, and `most` is how many items a vector has space for
   pub record IsPending (spaces : List ℕ) (most n : ℕ) (now : S) (ls : List (Level A)) (coming : List A) : Type 0 where
     pub none : coming ≡ [] → IsWalked n now ls
     pub some : 0 < length coming → (h : ℕ) → n ≡ h + 1 → (upper u : Level A) → upper ≡ get_or (raised k accuracy h ls) (h + 1) upper → IsTakenIn cmp upper coming u → IsLevel cmp u →
@@ -113,12 +114,12 @@ module _ {A S : Type 0} {cmp : A → A → Ordering} (order : IsTotalOrder cmp) 
         own = λ low. rw one (p.own some h one (omega (arith, low)) old upper);
       }
 
-  -- only above level 0 something comes up
+  -- items come up only above level 0
   pub pending-above : (spaces : List ℕ) (most n : ℕ) (now : S) (ls : List (Level A)) (coming : List A) → IsPending spaces most n now ls coming → 0 < length coming → n ≡ (n - 1) + 1
   pending-above spaces most zero now ls coming p some = absurd (omega (arith, some, ap length (p.first refl)))
   pending-above spaces most (suc n) now ls coming p some = omega arith
 
-  -- a full level is so among the others
+  -- a level that is full with what comes up is full among the others
   ready-full : (spaces : List ℕ) (n : ℕ) (now : S) (ls : List (Level A)) (old : Level A) (coming : List A) (r : IsReady spaces n now ls old coming) → nominal_of old ≤ length old.items + length coming →
       is_full k (layout_at (layouts_of r.all) n) ≡ true
   ready-full spaces n now ls old coming r full =

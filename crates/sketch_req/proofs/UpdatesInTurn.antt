@@ -1,4 +1,4 @@
--- A sketch after updates by some items in turn: what copies of what they make of copies come to.
+-- A sketch after updates by some items in turn, up to copies of the sketches and clones of the items.
 use Rattle.std.proofs.Common.{◌≡◌, ℕ, zero, suc, ◌+◌, ◌^◌, ◌<◌, ◌≤◌, Bool, List, [], ◌∷◌, ◌++◌, length, take, drop, drop-drop, Option, None, Some, refl, sym, ap, ap₂, ◌∙◌, subst, arith, append-nil, append_assoc, Ordering, Equal}
 use Rattle.std.specs.Cmp.{IsTotalOrder}
 use Rattle.std.specs.List.{AllZip}
@@ -87,7 +87,7 @@ module _ {A : Type 0} {cmp : A → A → Ordering} (order : IsTotalOrder cmp) wh
   coins-copied : (s t : Req A) (x : A) → IsCopy cmp s t → coins_of_update t x ≡ coins_of_update s x
   coins-copied s t x c = rw (c.k, c.accuracy, layouts-copied order s.levels t.levels c.levels) refl
 
-  -- of a copy at the start, and of one at the end
+  -- updates in turn that start from a copy, or that end in one
   pub in-turn-from : (s t u : Req A) (xs : List A) (word : List Bool) → IsCopy cmp s t → AreUpdatedInTurn cmp t xs word u → AreUpdatedInTurn cmp s xs word u
   in-turn-from s t u [] word c d = copy-copied s t u c d
   in-turn-from s t u (x ∷ xs) word c d = record {
@@ -160,7 +160,7 @@ module _ {A : Type 0} {cmp : A → A → Ordering} (order : IsTotalOrder cmp) wh
   coins-alike (l ∷ ls) (m ∷ ms) c (suc h) = coins-alike ls ms c.1 h
   coins-alike ls ms c h = absurd c
 
-  -- the bags of copies are alike, and so are they with a clone of an item
+  -- the bags of copies are alike, also after an item is put into one and its clone into the other
   bags-alike : (s t : Req A) → IsCopy cmp s t → AlikeReq cmp (bag_of s.levels) (bag_of t.levels)
   bags-alike s t c = record { levels = levels-alike s.levels t.levels c.levels; kept = coins-alike s.levels t.levels c.levels }
 
@@ -190,13 +190,13 @@ module _ {A : Type 0} {cmp : A → A → Ordering} (order : IsTotalOrder cmp) wh
       (put-alike s.levels d.copy.levels x d.clone (next_bit word) d.is_clone d.is_copy.levels) (alike-refl order empty_bag) in
       alike-trans order _ _ _ own theirs
 
-  -- updates' actions leave the scratch alone
+  -- the actions of updates leave the scratch alone
   own-updates : (k : ℕ) (accuracy : RankAccuracy) (ls : List Layout) (xs : List A) → AreOwn (updates_actions k accuracy ls xs)
   own-updates k accuracy ls [] = tt
   own-updates k accuracy ls (x ∷ xs) =
       own-append (update_actions k accuracy ls x) (updates_actions k accuracy (update_layouts k ls) xs) (own-update A k accuracy ls x) (own-updates k accuracy (update_layouts k ls) xs)
 
-  -- items of which others are clones have the same extremes
+  -- clones of items have the same extremes as the items
   same-answers : (a b : Option A) → SameAnswer cmp a b → SameItems cmp (option_to_list a) (option_to_list b)
   same-answers None None e = tt
   same-answers (Some a) (Some b) e = (e, tt)
@@ -236,7 +236,7 @@ module _ {A : Type 0} {cmp : A → A → Ordering} (order : IsTotalOrder cmp) wh
       subst (λ (w : Work (Bag A)). AlikeReq cmp w.bag (bag_of t.levels)) (sym (in_turn-append draws (act cmp) first more word (alone (bag_of s.levels))))
       (subst (λ (b : Bag A). AlikeReq cmp b (bag_of t.levels)) same both)
 
-  -- one update after another, and what they come to
+  -- updates one after another are updates by all items
   pub whole : (s t : Req A) (xs : List A) (word : List Bool) → AreUpdatedInTurn cmp s xs word t → AreUpdated cmp s xs word t
   whole s t [] word c = record {
     k = c.k;
@@ -287,7 +287,7 @@ module _ {A : Type 0} {cmp : A → A → Ordering} (order : IsTotalOrder cmp) wh
   pub updates_go_on : UpdatesGoOn cmp
   updates_go_on s t u items more word a b = whole s u (items ++ more) word (in-turn-append s t u items more word a.in_turn b.in_turn)
 
-  -- no updates leave the sketch
+  -- without items the sketch stays as it is
   pub updates_none : (s : Req A) (items : List A) (word : List Bool) → IsSound cmp s → length items ≡ 0 → AreUpdated cmp s items word s
   updates_none s [] word sound e = whole s s [] word (copy-itself s sound)
   updates_none s (x ∷ items) word sound e = absurd (omega (arith, e))
@@ -312,7 +312,7 @@ module _ {A : Type 0} {cmp : A → A → Ordering} (order : IsTotalOrder cmp) wh
           greatest = u.greatest;
         }
 
-    -- a sketch that has levels that took clones of items in
+    -- a sketch with levels that took in clones of items
     record IsMade (s : Req A) (xs : List A) (source : S) (ns : List (Level A)) : Type 0 where
       made : Req A
       levels_are : made.levels ≡ ns
@@ -354,7 +354,7 @@ module _ {A : Type 0} {cmp : A → A → Ordering} (order : IsTotalOrder cmp) wh
           };
         }
 
-    -- the sketch after updates by all items: it keeps what every sketch keeps, and is what they make of it; and the coins
+    -- updates by all items as a whole: the sketch is sound and is the updated one, and the coins are drawn from the source
     pub updates_sketch : (source after : S) (s : Req A) (copies ns : List (Level A)) (xs : List A) (least greatest : Option A) → IsSound cmp s → s.n + length xs < 2 ^ 64 →
         retained_of (layouts_of s.levels) < 4294967295 → AllZip (IsLevelCopy cmp) s.levels copies → AreTakenInTurn cmp bit next source after s.k s.accuracy copies xs ns →
         IsLeastOf cmp (option_to_list s.least ++ xs) least → IsGreatestOf cmp (option_to_list s.greatest ++ xs) greatest →

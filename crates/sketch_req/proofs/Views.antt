@@ -30,7 +30,7 @@ use Rattle.sketch_req.proofs.Copies.{there-alike}
 use Rattle.sketch_req.proofs.Pairs.{weigh-pairs}
 use Rattle.sketch_req.proofs.Rank.{weight_is}
 
--- what the weighted items of the levels stand for is what the levels do
+-- the weighted items stand for the same items as the levels
 copies-pairs : {A : Type 0} (cmp : A → A → Ordering) (k : ℕ) (accuracy : RankAccuracy)
     (h : ℕ) (ls : List (Level A)) → AreLevels cmp k accuracy h ls → copies (pairs_of ls) ≡ repeated h (map (λ level. level.items) ls)
 copies-pairs cmp k accuracy h [] are = refl
@@ -61,14 +61,14 @@ module _ {A : Type 0} where
   some-there None n h l = absurd (omega (arith, h, l))
   some-there (Some x) n h l = refl
 
--- the weighted items of some levels and of others behind them
+-- the weighted items of some levels and of others after them
 pub pairs-append : {A : Type 0} (ls ms : List (Level A)) → pairs_of (ls ++ ms) ≡ pairs_of ls ++ pairs_of ms
 pairs-append [] ms = refl
 pairs-append {A} (l ∷ ls) ms =
     ap (λ (ps : List (A × ℕ)). weighed (2 ^ l.lg_weight) l.items ++ ps) (pairs-append ls ms) ∙ sym (append_assoc (weighed (2 ^ l.lg_weight) l.items) (pairs_of ls) (pairs_of ms))
 
 module _ {A : Type 0} where
-  -- as many entries as weighted items
+  -- there are as many entries as weighted items
   pub entries-long : (ps : List (A × ℕ)) (xs : List (Weighted A)) → IsPermutation ps (pairs_in xs) → length xs ≡ length ps
   entries-long ps xs same = sym (length-map xs (λ (e : Weighted A). (e.item.now, e.weight))) ∙ length_permutation ps (pairs_in xs) same
 
@@ -106,7 +106,7 @@ module _ {A : Type 0} {cmp : A → A → Ordering} (order : IsTotalOrder cmp) (s
   pub weigh-n : sum_by (λ (pair : A × ℕ). pair.1) pairs ≡ s.n
   weigh-n = sum_by-IsPermutation (λ (pair : A × ℕ). pair.1) (pairs_of s.levels) pairs same ∙ (weigh-pairs cmp s.k s.accuracy s.levels sound.placed ∙ sound.weighs_n)
 
-  -- there are no more of them
+  -- there are at most n of them
   pub at-most-n : length pairs ≤ s.n
   at-most-n = omega (
     arith,
@@ -117,7 +117,7 @@ module _ {A : Type 0} {cmp : A → A → Ordering} (order : IsTotalOrder cmp) (s
   )
 
   module _ {B : Type 0} (entries : List B) (long : length entries ≡ length pairs) where
-    -- an extreme is there where one of them is
+    -- an extreme is there if there are entries
     pub extreme-there : (extreme found : Option A) → IsThere extreme s.n → SameAnswer cmp extreme found → 0 < length entries → IsSome found
     extreme-there extreme found there e l = some-there found s.n (there-alike order extreme found s.n e there) (omega (arith, l, long, at-most-n))
 

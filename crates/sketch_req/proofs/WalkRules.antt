@@ -1,4 +1,5 @@
--- What each compaction keeps holds along walks and updates: of the actions that they give, and of the moves of a query's items that these are.
+-- What each compaction keeps holds along walks and updates: of the actions that they give,
+-- and of the moves of a query's items that these actions are.
 use Rattle.std.proofs.Common.{◌≡◌, ℕ, zero, suc, ◌-◌, Bool, true, cond, if◌then◌else◌, List, [], ◌∷◌, ◌++◌, length, inl, inr}
 use Rattle.std.proofs.lemmas.Bool.{cases_Bool}
 use Rattle.std.proofs.lemmas.List.{append-nil}
@@ -15,12 +16,12 @@ move_at k h ls =
     let l = layout_at ls h in
     Compacts h (l.count - taken k l) (turns_coin l.state)
 
--- those of the steps of a walk
+-- the moves of the steps of a walk
 abbrev pub steps_moves : ℕ → ℕ → ℕ → List Layout → List Move
 steps_moves k zero h ls = []
 steps_moves k (suc more) h ls = (if is_full k (layout_at ls h) then move_at k h ls ∷ [] else []) ++ steps_moves k more (suc h) (step_layouts k h ls)
 
--- those of a walk where levels are full
+-- the moves of a walk, if the levels are full together
 abbrev pub room_moves : ℕ → List Layout → List Move
 room_moves k ls = if are_full k ls then steps_moves k (length ls) 0 ls else []
 
@@ -29,7 +30,8 @@ abbrev pub updates_moves : {A : Type 0} → ℕ → (A → Bool) → List Layout
 updates_moves k test ls [] = []
 updates_moves k test ls (x ∷ xs) = Gives (cond (test x) 1 0) ∷ (room_moves k (put_layouts ls) ++ updates_moves k test (update_layouts k ls) xs)
 
--- what holds of layouts, of the actions and the moves from there on, and of the layouts at the end, holds before a compaction if after it
+-- `Holds` is about layouts, the actions and the moves from there on, and the layouts at the end;
+-- it holds before a compaction if it holds after it
 module _ {A : Type 0} (k : ℕ) (accuracy : RankAccuracy) (Fits : List Layout → Type 0) (fits-compacted : (h : ℕ) (ls : List Layout) → Fits ls → Fits (compacted_at k h ls))
     (Holds : List Layout → List (Action A) → List Move → List Layout → Type 0)
     (compact : (h : ℕ) (ls after : List Layout) (actions : List (Action A)) (moves : List Move) → Fits ls → is_full k (layout_at ls h) ≡ true →
@@ -43,7 +45,7 @@ module _ {A : Type 0} (k : ℕ) (accuracy : RankAccuracy) (Fits : List Layout �
         | inr not_full ↦ rw not_full (holds-steps more (suc h) ls after actions moves fits (rw not_full at go))
       ]
 
-  -- along a walk where levels are full
+  -- along a walk, if the levels are full together
   pub holds-room : (ls after : List Layout) (actions : List (Action A)) (moves : List Move) → Fits ls →
       (Fits (layouts_if_full k ls) → Holds (layouts_if_full k ls) actions moves after) → Holds ls (actions_if_full k accuracy ls ++ actions) (room_moves k ls ++ moves) after
   holds-room ls after actions moves fits go =
@@ -52,11 +54,11 @@ module _ {A : Type 0} (k : ℕ) (accuracy : RankAccuracy) (Fits : List Layout �
         | inr not_full ↦ rw not_full (rw not_full at go fits)
       ]
 
-  -- where it ends
+  -- along a walk with nothing after it
   pub holds-walk : ((ls : List Layout) → Fits ls → Holds ls [] [] ls) → (ls : List Layout) → Fits ls → Holds ls (actions_if_full k accuracy ls) (room_moves k ls) (layouts_if_full k ls)
   holds-walk done ls fits = simp append-nil at (holds-room ls (layouts_if_full k ls) [] [] fits (done (layouts_if_full k ls)))
 
-  -- along updates, if it holds before an item comes where it does after it
+  -- along updates, if it holds before an item comes whenever it holds after it
   pub holds-updates : (test : A → Bool) → ((ls : List Layout) → Fits ls → Fits (put_layouts ls)) →
       ((x : A) (ls after : List Layout) (actions : List (Action A)) (moves : List Move) → Holds (put_layouts ls) actions moves after →
       Holds ls (Put 0 x ∷ actions) (Gives (cond (test x) 1 0) ∷ moves) after) → ((ls : List Layout) → Holds ls [] [] ls) →

@@ -7,7 +7,7 @@ use Rattle.sketch_req.proofs.TakenParts.{moved_behind}
 use Rattle.sketch_req.proofs.compaction.take_side.Goals.{After-move_behind}
 use Rattle.sketch_req.proofs.compaction.take_side.Goals as goal
 
--- the vector's items once the slice of them was changed
+-- the vector's items after the slice of them was changed
 changed : (g : _) (c : After-move_behind g) → take c.args.items.now.len (c.move_behind.new.items ++ drop (length c.move_behind.new.items) c.args.items.now.items)
     ≡ drop c.args.count c.args.items.now.items ++ reverse (take c.args.count c.args.items.now.items)
 changed g c =

@@ -6,7 +6,7 @@ use Rattle.sketch_base.proofs.SketchViews.{length-expanded}
 use Rattle.sketch_req.specs.Actions.{bag_of}
 use Rattle.sketch_req.proofs.sketch.ReqSketch.pmf.Goals as goal
 
--- whether points increase can be told, so that points that do not fail to increase do
+-- points that do not fail to increase do increase, since comparisons decide it
 less-told : (o : Ordering) → ¬ (¬ (o ≡ Less)) → o ≡ Less
 less-told Less h = refl
 less-told Equal h = absurd (h (λ e. absurd cc))

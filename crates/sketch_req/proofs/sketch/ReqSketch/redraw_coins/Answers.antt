@@ -1,4 +1,4 @@
--- The sketch keeps what every sketch keeps.
+-- The sketch stays sound.
 use Rattle.sketch_base.specs.Random.{bits_from}
 use Rattle.sketch_req.specs.Schedule.{layouts_of, turning_levels}
 use Rattle.sketch_req.specs.Sketch.{sketch_of}

@@ -9,7 +9,7 @@ use Rattle.sketch_req.proofs.ReadLevels.{retained_told}
 use Rattle.sketch_req.proofs.sketch.image.is_legal.Goals as goal
 use Rattle.sketch_req.proofs.sketch.image.is_legal.Goals.{then-n-eq0-via-then-n-eq0, then-n-eq0-via-else-n-eq0+then-levels-gt-MAX_ITEMS, then-n-eq0-via-else-n-eq0+else-levels-gt-MAX_ITEMS+then-is_gt}
 
--- the sum that is stored is that of the items
+-- the stored sum is the number of items
 held_retained : {A : Type 0} {k : ℕ} {accuracy : RankAccuracy} (ls : List (Level A)) {h : Held A} → held_of k accuracy ls ≡ h → retained_of (layouts_of ls) ≡ retained_in h.levels
 held_retained {A} ls e = retained_told ls ∙ ap (λ (x : Held A). retained_in x.levels) e
 

@@ -25,7 +25,7 @@ module _ (g : Over) (c : After-redraw_if g) where
   abbrev ready : List (Level g.row.T.Denot)
   ready = c.redraw_if.new.levels.items
 
-  -- coins that are drawn leave the layouts
+  -- redraws leave the layouts as they are
   same : layouts_of ready ≡ layouts_of c.join.new.levels.items
   same = ap layouts_of c.redraw_if.ensures.levels ∙ layouts-ready c.args.redraws _ c.join.new.levels.items
 

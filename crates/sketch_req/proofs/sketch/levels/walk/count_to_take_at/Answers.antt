@@ -1,4 +1,4 @@
--- The level of the place, or a fresh one, and the other of the same place.
+-- The level at a place, or a fresh one, and the other's level at the same place.
 use Rattle.std.proofs.Common.{rules, ◌≡◌, ℕ, List, get_or, Option, unwrap_or, sym, ap, ap₂, ◌∙◌, arith}
 use Rattle.std.specs.Option.{option_map}
 use Rattle.sketch_req.specs.Level.{Level}

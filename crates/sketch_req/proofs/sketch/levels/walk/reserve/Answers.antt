@@ -88,7 +88,7 @@ told g c =
       | else-level-others w ↦ record { same = λ there. absurd (omega (arith, there, w.if-level-others.false)); space = λ there. absurd (omega (arith, there, w.if-level-others.false)) }
     ]
 
--- how many items go
+-- how many items the level gives up
 of-kind : (k n : ℕ) (l : Layout) (accuracy : RankAccuracy) → n ≡ taken_if_full k l → (if sameb the_type accuracy HighRank then n else 0) ≡ given_up k accuracy l
 of-kind k n l HighRank e = e
 of-kind k n l LowRank e = refl

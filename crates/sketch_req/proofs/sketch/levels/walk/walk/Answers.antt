@@ -73,7 +73,7 @@ module _ (g : _) (c : After-index_mut-in-loop-level g) where
       sym (i.merged c.loop-level.level (omega arith))
       ∙ read-there (λ b. b.merged_space) 0 c.loop-level.buffers.items c.loop-level.level c.index_mut-in-loop-level.result.now (omega (arith, i.as_many, c.requires.fit.enough, inside)) c.index_mut-in-loop-level.ensures.value
 
-  -- the level is one of the sketch
+  -- the level has the sketch's k and accuracy
   own-told : (c.index_mut.result.now.k ≡ k_of c.args.levels.now.items) × (c.index_mut.result.now.accuracy ≡ accuracy_of c.args.levels.now.items)
   own-told =
       let placed = (opened _ _ _ _ _ c.loop-level.invariant.pending.placed within c.index_mut.ensures.value).placed in
