@@ -1,4 +1,4 @@
--- What commands make of level lengths, coins and shapes hangs on no item.
+-- What commands do to level lengths, coins and shapes depends on no item.
 use Rattle.std.proofs.Common.{◌≡◌, ℕ, zero, suc, ◌+◌, Bool, true, false, cond, not, if◌then◌else◌, List, [], ◌∷◌, ◌++◌, map, Option, None, Some, is_some, refl, ap, ◌∙◌}
 use Rattle.std.proofs.lemmas.List.{map-append}
 use Rattle.std.proofs.lemmas.List.Sums.{sum_by-cons}
@@ -31,11 +31,11 @@ bare-joins A zero level = refl
 bare-joins A (suc more) level = ap (λ (l : List (Action Unit)). Join level ∷ l) (bare-joins A more (suc level))
 
 module _ {A : Type 0} where
-  -- one list of actions behind another
+  -- one list of actions after another
   pub bare-append : (xs ys : List (Action A)) {xs' ys' : List (Action Unit)} → map bare_action xs ≡ xs' → map bare_action ys ≡ ys' → map bare_action (xs ++ ys) ≡ xs' ++ ys'
   bare-append xs ys e f = cc (map-append bare_action xs ys)
 
-  -- actions where a test holds, and where not
+  -- some actions if a test holds, and others if not
   pub bare-if : (b : Bool) (xs ys : List (Action A)) {xs' ys' : List (Action Unit)} → map bare_action xs ≡ xs' → map bare_action ys ≡ ys' →
       map bare_action (if b then xs else ys) ≡ (if b then xs' else ys')
   bare-if true xs ys e f = e
@@ -70,7 +70,7 @@ module _ {A : Type 0} where
   events-at slot [] = refl
   events-at slot (action ∷ rest) = ap (λ (l : List (Event Unit)). At slot (bare_action action) ∷ l) (events-at slot rest)
 
--- rules without items that decide as others do
+-- rules for commands without items, with the decisions of other rules
 abbrev decided : {A C Shape : Type 0} → Rules A C Shape → Rules Unit C Shape → Rules Unit C Shape
 decided rules bare_rules = record bare_rules {
   count = rules.count;
@@ -110,7 +110,7 @@ module _ {A C Shape : Type 0} {rules : Rules A C Shape} {bare_rules : Rules Unit
   actions-on None f h = refl
   actions-on (Some s) f h = h s
 
-  -- actions in a slot, where it holds a sketch
+  -- actions in a slot, if it holds a sketch
   acts-at : (slot : ℕ) (o : Option Shape) (f : Shape → List (Action A)) {g : Shape → List (Action Unit)} → ((s : Shape) → map bare_action (f s) ≡ g s) →
       map bare_event (events_at slot (actions_on o f)) ≡ events_at slot (actions_on o g)
   acts-at slot o f h = events-at slot _ ∙ ap (events_at slot) (actions-on o f h)
@@ -150,11 +150,11 @@ module _ {A C Shape : Type 0} {rules : Rules A C Shape} {bare_rules : Rules Unit
       let behind = trace_from rules (plan_after rules plan c) rest in
       cc (map-append bare_event (events_of rules plan c) behind, events-bare plan c, trace-bare (plan_after rules plan c) rest, plan-bare plan c)
 
-  -- two lists of commands that differ in their items alone
+  -- two lists of commands that differ only in their items have the same plan
   pub same-plan : (commands commands' : List (Command A C)) → map bare commands ≡ map bare commands' → plan_of rules commands ≡ plan_of rules commands'
   same-plan commands commands' e = cc (plan_from-bare start_plan commands, plan_from-bare start_plan commands')
 
-  -- commands that differ in their items alone take as many coins
+  -- and they take the same number of coins
   pub same-coins : (commands commands' : List (Command A C)) → map bare commands ≡ map bare commands' → coins (trace_of rules commands) ≡ coins (trace_of rules commands')
   same-coins commands commands' e =
       cc (coins-bare (trace_of rules commands), coins-bare (trace_of rules commands'), trace-bare start_plan commands, trace-bare start_plan commands')

@@ -1,4 +1,4 @@
--- Blocks of 16 bytes that are compared at once: the place of a byte in one.
+-- Blocks of 16 bytes that are compared at once: the index of a byte in one.
 use Rattle.std.proofs.Common.{◌≡◌, ◌≢◌, ℕ, ◌<◌, ◌%◌, ◌^◌, ◌==◌, cond, List, length, take, map, replicate, sym, ap, ◌∙◌, arith, take_all, w8, eqb}
 use Rattle.std.specs.List.{position_or_len}
 use Rattle.std.specs.Simd.Lanes.{mask_l, zip2, top}
@@ -12,7 +12,7 @@ equal_bits byte xs = mask_l (map (top 7) (zip2 (λ a b. cond (eqb a b) 255 0) xs
 bits_are : (byte : ℕ) (xs : List ℕ) → length xs ≡ 16 → equal_bits byte xs ≡ mask_l (map (λ b. b == byte) xs)
 bits_are byte xs l = bitmask_splat w8 eqb xs 16 byte l (omega arith)
 
--- where a bit is set, the lowest is the place of the byte
+-- if a bit is set, the index of the lowest one is the byte's first index
 pub place_found : (byte : ℕ) (xs : List ℕ) → length xs ≡ 16 → equal_bits byte (take 16 xs) ≢ 0 →
     count_trailing_zeros 64 (equal_bits byte (take 16 xs)) ≡ position_or_len (λ b. b == byte) xs
 place_found byte xs l some =
@@ -21,7 +21,7 @@ place_found byte xs l some =
     let set : 0 < mask_l (map (λ b. b == byte) xs) = omega (arith, bits, some) in
     ap (count_trailing_zeros 64) bits ∙ trailing_mask_l (λ b. b == byte) 64 xs (omega (arith, l)) set
 
--- where none is set, the byte isn't there
+-- if none is set, the byte isn't there
 pub place_none : (byte : ℕ) (xs : List ℕ) → length xs ≡ 16 → equal_bits byte (take 16 xs) ≡ 0 → 16 ≡ position_or_len (λ b. b == byte) xs
 place_none byte xs l none =
     let all : take 16 xs ≡ xs = take_all 16 xs (omega (arith, l)) in

@@ -1,4 +1,4 @@
--- Which errors a call may give, by what it is refused for.
+-- Which errors a call may return, by the reasons for which it is refused.
 use Rattle.std.proofs.Common.{◌≡◌, ◌⊎◌, ℕ, ◌<◌, ◌≤◌, ◌==◌, nat_lt, Bool, true, false, Result, Ok, Err, refl, inl, inr, arith, eqb-true}
 use Rattle.std.proofs.lemmas.Bool.{cases_Bool, eqb-false, ltb-true, ltb-false}
 use Rattle.std.specs.Prelude.{IsErrOf, ◌↔◌}
@@ -9,7 +9,7 @@ use Rattle.quantile_sketches.specs.Rules.{none_if}
 use Rattle.quantile_sketches.specs.RunSteps.{Refuses}
 use Rattle.quantile_sketches.proofs.SameRuns.{IsOne, IsSettled, no-err, same-err}
 
--- where the test holds the call is refused, and where not it wants memory
+-- if the test holds, the call is refused, and if not, memory ran out
 pub refuses-by : {Shape : Type 0} (b : Bool) (shape : Shape) (e : ErrorKind) → (b ≡ true → e ≡ InvalidArgument) → (b ≡ false → e ≡ OutOfMemory) → Refuses (none_if b shape) e
 refuses-by true shape e f g = inl (f refl, refl)
 refuses-by false shape e f g = inr (g refl, refl)
@@ -18,24 +18,25 @@ refuses-by false shape e f g = inr (g refl, refl)
 pub err-of : {T : Type 0} (e : ErrorKind) → IsErrOf {T = T} (Err e) InvalidArgument → e ≡ InvalidArgument
 err-of {T} e h = same-err {T = T} e InvalidArgument (Err e) refl h
 
--- an image that is refused, or wants memory
+-- an image that isn't written is refused, or memory ran out
 pub unwritten : (e : ErrorKind) (P : Type 0) → (e ≡ InvalidArgument → P) → (e ≡ InvalidData → ⊥) → ((e ≡ InvalidArgument) × P) ⊎ (e ≡ OutOfMemory)
 unwritten InvalidArgument P f d = inl (refl, f refl)
 unwritten InvalidData P f d = absurd (d refl)
 unwritten OutOfMemory P f d = inr refl
 
--- no bad data is read, and no argument refused
+-- if no data is bad and no argument is refused, memory ran out
 pub unread : (e : ErrorKind) → (e ≡ InvalidArgument → ⊥) → (e ≡ InvalidData → ⊥) → e ≡ OutOfMemory
 unread InvalidArgument a d = absurd (a refl)
 unread InvalidData a d = absurd (d refl)
 unread OutOfMemory a d = refl
 
--- an error where a call is refused exactly if P holds, and else for memory alone
+-- the error of a call that is refused exactly if P holds, and otherwise fails only for lack of memory
 pub kind-of : {P : Type 0} (e : ErrorKind) → P ⊎ (P → ⊥) → (P → e ≡ InvalidArgument) → ((P → ⊥) → e ≡ OutOfMemory) → (e ≡ OutOfMemory → ⊥) → e ≡ InvalidArgument
 kind-of e (inl p) f g n = f p
 kind-of e (inr p) f g n = absurd (n (g p))
 
--- a call that is refused exactly where a sketch is unfit for it, for memory alone where it isn't, and changes nothing then
+-- a call that is refused exactly if a sketch is unfit for it, otherwise fails only for lack of memory, and changes nothing if
+-- it fails
 pub settled-by : {S Source : Type 0} {call : Change Source S} (Unfit : S → Type 0) → ((s : S) → Unfit s ⊎ (Unfit s → ⊥)) → IsOne call →
     ((s t : S) (coins left : Source) (r : Result Unit ErrorKind) → call s coins r t left → IsErrOf r InvalidArgument ↔ Unfit s) →
     ((s t : S) (coins left : Source) (e : ErrorKind) → call s coins (Err e) t left → ((Unfit s → ⊥) → e ≡ OutOfMemory) × (t ≡ s) × (left ≡ coins)) → IsSettled call
@@ -45,19 +46,19 @@ settled-by Unfit decide one exactly stays = record {
   refuses = λ s t coins left e h n. let k = stays s t coins left e h in (kind-of e (decide s) (λ unfit. err-of {T = Unit} e ((exactly s t coins left (Err e) h).1 unfit)) k.0 n, k.1, k.2);
 }
 
--- an image that is refused for no memory
+-- an image that isn't written is refused, if memory sufficed
 pub unwritten-kind : (e : ErrorKind) → (e ≡ InvalidData → ⊥) → (e ≡ OutOfMemory → ⊥) → e ≡ InvalidArgument
 unwritten-kind InvalidArgument d m = refl
 unwritten-kind InvalidData d m = absurd (d refl)
 unwritten-kind OutOfMemory d m = absurd (m refl)
 
--- bad data that is read
+-- data that isn't read is bad, if memory sufficed
 pub unread-kind : (e : ErrorKind) → (e ≡ InvalidArgument → ⊥) → (e ≡ OutOfMemory → ⊥) → e ≡ InvalidData
 unread-kind InvalidArgument a m = absurd (a refl)
 unread-kind InvalidData a m = refl
 unread-kind OutOfMemory a m = absurd (m refl)
 
--- what is so or not
+-- two numbers are equal or not
 pub so-same : (a b : ℕ) → (a ≡ b) ⊎ (a ≡ b → ⊥)
 so-same a b =
     elim (cases_Bool (a == b)) [
@@ -73,7 +74,7 @@ so-most a b =
       | inr f ↦ inl (omega (arith, ltb-false b a f))
     ]
 
--- of two facts that hold or not, one holds or none
+-- of two facts that hold or not, at least one holds or neither does
 pub so-either : {P Q : Type 0} → P ⊎ (P → ⊥) → Q ⊎ (Q → ⊥) → (P ⊎ Q) ⊎ (P ⊎ Q → ⊥)
 so-either (inl p) q = inl (inl p)
 so-either (inr p) (inl q) = inl (inr q)
@@ -83,7 +84,7 @@ so-either {P} {Q} (inr p) (inr q) = inr none
     none (inl x) = p x
     none (inr x) = q x
 
--- a number that isn't at least another
+-- a number that isn't at least another is below it
 pub below : (a b : ℕ) → (b ≤ a → ⊥) → a < b
 below a b denied =
     elim (cases_Bool (nat_lt a b)) [

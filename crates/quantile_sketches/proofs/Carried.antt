@@ -39,19 +39,19 @@ in_slot-set slots slot o new h q = go (q == slot) refl
     go true e = get_or-set_at slots slot q new None (eqb-true q slot e) (slice_get_within slots slot o h)
     go false e = get_or-set_other slots slot q new None (eqb-false q slot e)
 
--- a slot that holds what it held
+-- a slot that is set to what it held doesn't change
 in_slot-same : {S : Type 0} (slots slots' : Slots S) (slot : ℕ) (o new : Option S) → Holds slots slot o → new ≡ o → slots' ≡ set slots slot new → AreSame (in_slot slots) (in_slot slots')
 in_slot-same slots slots' slot o new h same is q =
     cc (in_slot-set slots slot o new h q, in_slot-held slots slot o h, changed-own (in_slot slots) slot q)
 
--- a command is accepted where the rules give a shape
+-- a command is accepted if the rules give a shape
 given : {X : Type 0} (o : Option X) (x : X) → o ≡ Some x → true ≡ not (not (is_some o))
 given o x e = sym (ap (λ o. not (not (is_some o))) e)
 
 not-given : {X : Type 0} (o : Option X) → o ≡ None → false ≡ not (not (is_some o))
 not-given o e = sym (ap (λ o. not (not (is_some o))) e)
 
--- what is owed of an error but where memory runs out
+-- what must hold after an error, unless memory ran out
 abbrev Unless : ErrorKind → Type 0 → Type 0
 Unless InvalidArgument P = P
 Unless InvalidData P = P
@@ -64,14 +64,14 @@ unless-refused shape e (inr r) f = rw r.0 tt
 unless-memory : (P : Type 0) (e : ErrorKind) → e ≡ OutOfMemory → Unless e P
 unless-memory P e wanted = rw wanted tt
 
--- each sketch in the slots keeps what every sketch keeps
+-- each sketch in the slots keeps its invariant
 abbrev pub AreSoundIn : {A C Shape S : Type 0} → Kind A C Shape S → Held S → Type 0
 AreSoundIn {S = S} kind slots = (q : ℕ) (s : S) → slots q ≡ Some s → kind.IsSound s
 
 -- ---- a command
 
 module _ {A C Shape S Source : Type 0} (kind : Kind A C Shape S) (bit : Source → Bool) (next : Source → Source) where
-  -- a verdict is that of a step: it is accepted or refused, or memory is wanted and nothing is changed
+  -- a verdict is that of a step: the command is accepted or refused, or memory runs out and nothing is changed
   abbrev pub Comes : Verdict → Command A C → Held S → Source → Held S → Source → Type 0
   Comes (Ok done) command slots source slots' source' = IsExecuted kind bit next command slots source true slots' source'
   Comes (Err BadLine) command slots source slots' source' = IsExecuted kind bit next command slots source false slots' source'
@@ -87,21 +87,21 @@ module _ {A C Shape S Source : Type 0} (kind : Kind A C Shape S) (bit : Source �
       IsExecuted kind bit next command slots source false slots' source'
   no command slots source slots' source' d same stays = record { decided = d; done = λ f. absurd (false≢true f); left = λ f. (same, stays) }
 
-  -- a command that memory lets be done
+  -- a command that doesn't run out of memory is a step
   executed : (r : Verdict) (command : Command A C) (slots : Held S) (source : Source) (slots' : Held S) (source' : Source) → r ≢ Err (Sketch OutOfMemory) →
       Comes r command slots source slots' source' → IsExecuted kind bit next command slots source (is_ok r) slots' source'
   executed (Err (Sketch OutOfMemory)) command slots source slots' source' n h = absurd (n refl)
   executed (Err (Sketch e)) command slots source slots' source' n h = no command slots source slots' source' h.0 h.1 h.2
   executed r command slots source slots' source' n h = h
 
-  -- one that is not carried out leaves all as it was
+  -- a command that is not carried out changes nothing
   pub left : (e : _) (command : Command A C) (slots : Held S) (source : Source) (slots' : Held S) (source' : Source) →
       Comes (Err e) command slots source slots' source' → AreSame slots slots' × (source' ≡ source)
   left (Sketch e) command slots source slots' source' h = (h.1, h.2)
   left e command slots source slots' source' h = h.left refl
 
   module _ (command : Command A C) (slots slots' : Slots S) (source source' : Source) where
-    -- what comes of a sketch in a slot
+    -- what each outcome of a call on a slot's sketch means for the command
     record Turned (slot : ℕ) (turn : Change Source S) : Type 0 where
       absent : in_slot slots slot ≡ None → IsDecided kind command (in_slot slots) false
       done : (s t : S) → in_slot slots slot ≡ Some s → turn s source (Ok tt) t source' → Puts (in_slot slots) slot t (in_slot slots') →
@@ -126,7 +126,7 @@ module _ {A C Shape S Source : Type 0} (kind : Kind A C Shape S) (bit : Source �
 
 module _ {A C Shape S Source : Type 0} {kind : Kind A C Shape S} (lawful : IsLawful kind) (behaviour : Behaviour S A C) (bit : Source → Bool) (next : Source → Source)
     (obeys : ObeysRules behaviour kind bit next) where
-  -- a sketch took an item that compares equal
+  -- a sketch took an item that compares equal to the given one
   abbrev Took : A → S → Source → S → Source → Type 0
   Took x s source t source' = (y : A) × (kind.cmp x y ≡ Equal) × IsUpdated kind bit next s y source t source'
 
@@ -178,7 +178,7 @@ module _ {A C Shape S Source : Type 0} {kind : Kind A C Shape S} (lawful : IsLaw
         Changes (Turns turn) slot slots source r slots' source' → Goes r command
     changes command slot turn by r (o, new, held, turns, is) = turned kind bit next command slots slots' source source' slot turn by o new r held turns is
 
-    -- one that the rules decide by its sketch's shape
+    -- a command that the rules decide by the shape of its slot's sketch
     ruled : (command : Command A C) (slot : ℕ) (gives : Shape → Option Shape) →
         ((accepted : Bool) → accepted ≡ not (not (is_some (option_and_then gives (option_map kind.shape (in_slot slots slot))))) → IsDecided kind command (in_slot slots) accepted) →
         (turn : Change Source S) (does : S → S → Type 0) →
@@ -227,7 +227,7 @@ module _ {A C Shape S Source : Type 0} {kind : Kind A C Shape S} (lawful : IsLaw
         refused s t e held (inr (f, written, is, same), stays) =
             (unwritten s e held (rw (same-err e f _ refl is) (obeys.imaged s (Err f) (sound slot s held) written).1), same, stays)
 
-    -- a merge with coins drawn anew or not, by the command that asks for it
+    -- a merge with coins redrawn or not, for the command that asks for it
     module _ (redraws : Bool) (into from : ℕ) (command : Command A C)
         (decide : (accepted : Bool) → accepted ≡ not (not (is_some (shape_merged kind.rules redraws (shapes_in kind.shape (in_slot slots)) into from))) →
         IsDecided kind command (in_slot slots) accepted)
@@ -353,7 +353,7 @@ module _ {A C Shape S Source : Type 0} {kind : Kind A C Shape S} (lawful : IsLaw
     clone-executed IsClone ties command r h n =
         executed kind bit next r command (in_slot slots) source (in_slot slots') source' n (comes-clone IsClone ties command r h)
 
-    -- a command whose items compare equal to the given ones
+    -- a command whose sketch takes the item itself is a step
     pub comes-item : (command : Command A C) (r : Verdict) → CarriesOutItem behaviour bit next command slots source r slots' source' → Goes r command
     comes-item =
         comes (λ x. behaviour.taken x Source bit next) (λ x weight. behaviour.taken_weighted x weight Source bit next)

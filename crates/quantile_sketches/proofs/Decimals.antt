@@ -1,4 +1,4 @@
--- Digits that are put from the last one on.
+-- Digits that are put in place from the last one to the first.
 use Rattle.std.proofs.Common.{◌≡◌, ℕ, ℤ, pos, zero, suc, negsuc, ◌+◌, ◌-◌, ◌*◌, ◌<◌, ◌≤◌, ◌^◌, ◌/◌, ◌%◌, true, false, List, [], ◌∷◌, ◌++◌, length, drop, set, sym, ap, ◌∙◌, arith}
 use Rattle.std.proofs.Math.IntN.{nat_abs}
 use Rattle.std.proofs.lemmas.Fmt.{decimal_digit, decimal_step}
@@ -14,12 +14,12 @@ pub put_more : (text : List ℕ) (rest start : ℕ) (room : List ℕ) → 10 ≤
 put_more text rest start room h l s e =
     cc (decimal_step rest h l, append_assoc (decimal (rest / 10)) ((48 + rest % 10) ∷ []) (drop (start + 1) room), drop-set room start (48 + rest % 10) s)
 
--- the last digit to be put, which is the first
+-- the last digit to be put is the first of the text
 pub put_last : (text : List ℕ) (rest start : ℕ) (room : List ℕ) → rest < 10 → start < length room → text ≡ decimal rest ++ drop (start + 1) room →
     text ≡ drop start (set room start (48 + rest))
 put_last text rest start room h s e = cc (decimal_digit rest h, drop-set room start (48 + rest) s)
 
--- a number's text is that of its size, after a minus where it is negative
+-- a number's text is that of its absolute value, after a minus if it is negative
 negative : (z : ℤ) (n : ℕ) → lt_z z (pos 0) ≡ true → n ≡ nat_abs z → signed_decimal z ≡ 45 ∷ decimal n
 negative (pos k) n l e = absurd (grind (arith, ints))
 negative (negsuc k) n l e = ap (λ (m : ℕ). 45 ∷ decimal m) (sym e)
@@ -28,7 +28,7 @@ natural : (z : ℤ) (n : ℕ) → lt_z z (pos 0) ≡ false → n ≡ nat_abs z �
 natural (pos k) n l e = ap (λ (m : ℕ). decimal m) (sym e)
 natural (negsuc k) n l e = absurd (grind (arith, ints))
 
--- a tenth of a number of two digits or more has a digit less
+-- a tenth of a number of at least two digits has one digit fewer
 pub tenth : (n k : ℕ) → 10 ≤ n → n < 10 ^ (k + 1) → (k - 1 + 1 ≡ k) × (n / 10 < 10 ^ (k - 1 + 1))
 tenth n zero h l = absurd (omega (arith, h, l))
 tenth n (suc k) h l =

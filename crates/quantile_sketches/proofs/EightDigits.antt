@@ -9,11 +9,11 @@ use Rattle.std.proofs.lemmas.List.{get_or-take}
 use Rattle.std.proofs.lemmas.Str.{digit_value_digit}
 use Rattle.quantile_sketches.specs.LineWords.{all_digits}
 
--- the bytes less the byte of 0
+-- each byte minus the byte of the digit 0
 abbrev pub lanes : List ℕ → List ℕ
 lanes xs = zip2 (λ a b. (a + (256 - b)) % 256) xs (48 ∷ 48 ∷ 48 ∷ 48 ∷ 48 ∷ 48 ∷ 48 ∷ 48 ∷ [])
 
--- the lanes above 9
+-- the bits of the lanes above 9
 abbrev pub others : List ℕ → ℕ
 others xs = mask_l (map (top 7) (zip2 (λ a b. cond (ltb a b) 255 0) (9 ∷ 9 ∷ 9 ∷ 9 ∷ 9 ∷ 9 ∷ 9 ∷ 9 ∷ []) (lanes xs))) % 2 ^ 64
 
@@ -25,7 +25,7 @@ worth xs = fold_l (λ a b. (a + b) % 4294967296) 0 (zip2 (λ a b. (a * b) % 4294
 abbrev flag : ℕ → ℕ
 flag x = cond (ltb 9 ((x + 208) % 256)) 1 0
 
--- and 0 for a digit, whose value is its lane
+-- a byte with flag 0 is a digit, whose value is its lane
 digit : (x : ℕ) → x < 256 → flag x ≡ 0 → (is_digit x 10 ≡ true) × (digit_value x ≡ (x + 208) % 256) × (digit_value x ≤ 9)
 digit x b l = elim (cases_Bool (ltb 9 ((x + 208) % 256))) [
   | inl e ↦ absurd (let f : flag x ≡ 1 = rw e refl in omega (arith, l, f))

@@ -1,4 +1,4 @@
--- What follows of the value of a result, if there is one, from what is given of it.
+-- What follows for the value of a result, if there is one, from what is known of it.
 use Rattle.std.proofs.Common.{Result, Ok, Err, IfOk}
 
 pub all : {T E : Type 0} {P : T → Type 0} (r : Result T E) → ((x : T) → P x) → IfOk r P

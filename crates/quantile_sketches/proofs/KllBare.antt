@@ -1,4 +1,4 @@
--- KLL's actions hang on items in their Puts alone, so its level lengths hang on none.
+-- KLL's actions depend on items only in their Puts, so its level lengths depend on none.
 use Rattle.std.proofs.Common.{◌≡◌, ℕ, zero, suc, ◌-◌, ◌/◌, ◌%◌, ◌==◌, Bool, true, false, nat_lt, if◌then◌else◌, List, [], ◌∷◌, length, map, slice_index, refl, ap, ◌∙◌}
 use Rattle.sketch_base.specs.Lengths.{acts_on_lengths}
 use Rattle.sketch_base.specs.Trace.{Action, Put, Work}
@@ -9,7 +9,7 @@ use Rattle.quantile_sketches.specs.KllRules.{kll_rules}
 use Rattle.quantile_sketches.proofs.Bare.{bare_action, bare-append, bare-if, acts-bare, AreBare, bare-joins}
 
 module _ (A : Type 0) where
-  -- lengths by actions that are the same without their items
+  -- actions that are the same without their items make the same lengths
   lengths-by : (actions : List (Action A)) {actions' : List (Action Unit)} (work : Work (List ℕ)) → map bare_action actions ≡ actions' → acts_on_lengths actions work ≡ acts_on_lengths actions' work
   lengths-by actions work e = cc (acts-bare actions work)
 
@@ -53,7 +53,7 @@ module _ (A : Type 0) where
       let step = step_actions {A = A} k level lengths in
       bare-append step _ (bare-step k level lengths) (bare-walk k more (suc level) _ ∙ ap (walk_actions {A = Unit} k more (suc level)) (bag-by step _ (bare-step k level lengths)))
 
-  -- general compress, where there is need of it
+  -- general compress, if it is needed
   bare-compress : (b : Bool) (k : ℕ) {lengths lengths' : List ℕ} → lengths ≡ lengths' →
       map bare_action (if b then compress_actions {A = A} k lengths else []) ≡ (if b then compress_actions k lengths' else [])
   bare-compress b k {lengths} e = bare-if b _ _ (bare-walk k 61 0 lengths ∙ ap (compress_actions {A = Unit} k) e) refl
@@ -82,19 +82,19 @@ module _ (A : Type 0) where
       let taking = taking_actions {A = A} k work in
       bare-append taking _ (bare-taking k work) (bare-compress (nat_lt 1 (length work.scratch)) k (bag-by taking work (bare-taking k work)))
 
-  -- so level lengths are those of no item
+  -- so the level lengths after an update don't depend on the item
   pub update-lengths : (k : ℕ) (lengths : List ℕ) (x : A) → updated_lengths k lengths x ≡ updated_lengths {A = Unit} k lengths tt
   update-lengths k lengths x = bag-by (update_actions k lengths x) _ (bare-update k lengths x)
 
-  -- the lengths after a weighted update
+  -- nor do those after an update with a weight
   pub weighted-lengths : (k : ℕ) (lengths : List ℕ) (x : A) (weight : ℕ) → weighted_lengths k lengths x weight ≡ weighted_lengths {A = Unit} k lengths tt weight
   weighted-lengths k lengths x weight = bag-by (weighted_actions k lengths x weight) _ (bare-weighted k lengths x weight)
 
-  -- after a merge
+  -- the lengths after a merge depend on no item
   pub merge-lengths : (k : ℕ) (work : Work (List ℕ)) → (acts_on_lengths {A = A} (merge_actions k work) work).bag ≡ (acts_on_lengths {A = Unit} (merge_actions k work) work).bag
   merge-lengths k work = bag-by (merge_actions k work) work (bare-merge k work)
 
-  -- KLL's rules hang on no item
+  -- KLL's rules depend on no item
   pub kll-bare : AreBare {A = A} kll_rules kll_rules
   kll-bare = record {
     decide = refl;

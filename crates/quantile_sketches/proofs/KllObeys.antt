@@ -36,18 +36,18 @@ use Rattle.quantile_sketches.proofs.KllRuleLaws.{is_bad_weight, bad-weight, take
 use Rattle.quantile_sketches.proofs.CallErrors.{refuses-by, err-of, unwritten, unread}
 use Rattle.quantile_sketches.proofs.SameRuns.{no-err}
 
--- nothing is given where a test holds, and only there
+-- `none_if` gives nothing exactly if the test holds
 pub unless-none : {B : Type 0} (b : Bool) (made : B) → IsTrue b ↔ (none_if b made ≡ None)
 unless-none true made = (λ t. refl, λ none. refl)
 unless-none false made = (λ t. absurd (false≢true t), λ none. cc)
 
--- an image that is given or refused
+-- an image is given, or refused because the sketch has none, or memory runs out
 pub imaged : {H : Type 0} (r : Result (Vec ℕ Global) ErrorKind) → OnOk r H → (IsErrOf r InvalidArgument → ¬ H) → IfErr r (λ e. e ≢ InvalidData) →
     OnOk r H × IfErr r (λ e. ((e ≡ InvalidArgument) × (¬ H)) ⊎ (e ≡ OutOfMemory))
 imaged (Ok v) has denied kind = (has, tt)
 imaged {H} (Err e) has denied kind = (tt, unwritten e (¬ H) (λ is. denied (ap (λ (e : ErrorKind). let r : Result (Vec ℕ Global) ErrorKind = Err e in r) is)) kind)
 
--- what is never done
+-- a call that is always refused
 pub never : {S Source : Type 0} (Shape : Type 0) (does : S → Source → Type 0) (s : S) (coins : Source) (r : Result (Unit {0}) ErrorKind) (t : S) (coins' : Source) →
     IsErrOf r InvalidArgument × (t ≡ s) × (coins' ≡ coins) → Obeys {Shape = Shape} None does s coins r t coins'
 never Shape does s coins (Ok u) t coins' h = absurd (no-err u InvalidArgument h.0)

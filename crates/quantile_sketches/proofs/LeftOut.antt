@@ -1,4 +1,4 @@
--- The accepted commands of a run give the plan, the streams and the coins of all its commands.
+-- The accepted commands of a run give the same plan, streams and coins as all its commands.
 use Rattle.std.proofs.Common.{◌≡◌, ℕ, Bool, true, false, ◌==◌, if◌then◌else◌, List, [], ◌∷◌, ◌++◌, length, fold, Option, refl, sym, ap, ap₂, ◌∙◌, subst, arith, append_assoc, append-nil, zero-add, eqb-true}
 use Rattle.std.specs.Prelude.{Contains, ◌↔◌}
 use Rattle.std.proofs.lemmas.Map.Views.{Contains-from_any}
@@ -17,7 +17,7 @@ use Rattle.quantile_sketches.specs.Run.{accepted_streams, streams_after, stream_
 use Rattle.quantile_sketches.proofs.LegalPlans.{plan-append, after-append, trace-more, coins-more}
 use Rattle.quantile_sketches.proofs.Refusals.{without-more}
 
--- what does not change where only refused commands are left out; the trace, where a round trip has no actions
+-- what stays the same if only refused commands are left out; so does the trace if a round trip has no actions
 pub record IsLeftOut {A C Shape : Type 0} (rules : Rules A C Shape) (commands fewer : List (Command A C)) : Type 0 where
   pub plan : plan_of rules commands ≡ plan_of rules fewer
   pub streams : stream_of rules commands ≡ stream_of rules fewer
@@ -45,7 +45,7 @@ module _ {A C Shape : Type 0} (rules : Rules A C Shape) where
     trace_is = λ z. ap (λ (b : Bool). if b then [] else accepted_events rules plan command) e;
   }
 
-  -- one command more
+  -- one more command
   pub state-more : {T : Type 0} (accepted : Plan Shape → T → Command A C → T) (start : T) (done fewer : List (Command A C)) (c : Command A C) → plan_of rules done ≡ plan_of rules fewer →
       after_commands rules accepted start_plan start done ≡ after_commands rules accepted start_plan start fewer →
       after_commands rules accepted start_plan start (done ++ c ∷ []) ≡ after_commands rules accepted start_plan start (fewer ++ c ∷ [])
@@ -53,7 +53,7 @@ module _ {A C Shape : Type 0} (rules : Rules A C Shape) where
       after-append rules accepted start_plan start done c
       ∙ (ap₂ (λ (p : Plan Shape) (s : T). after_command rules accepted p s c) plan state ∙ sym (after-append rules accepted start_plan start fewer c))
 
-  -- what is left out before it is left out with it
+  -- what may be left out may still be left out after one more command
   pub left-more : (done fewer : List (Command A C)) (c : Command A C) → IsLeftOut rules done fewer → IsLeftOut rules (done ++ c ∷ []) (fewer ++ c ∷ [])
   left-more done fewer c h = record {
     plan = plan-append rules start_plan done c ∙ (ap (λ (p : Plan Shape). plan_after rules p c) h.plan ∙ sym (plan-append rules start_plan fewer c));
@@ -71,7 +71,7 @@ module _ {A C Shape : Type 0} (rules : Rules A C Shape) where
     trace = λ z. trace-more rules done c ∙ (ap (λ (t : List (Event A)). trace_of rules done ++ t) (l.trace_is z) ∙ (append-nil (trace_of rules done) ∙ h.trace z));
   }
 
--- what a round trip leaves, it leaves whether it is refused or not
+-- what a round trip leaves unchanged, it leaves unchanged whether it is refused or not
 state-trip : {T : Type 0} (b : Bool) (x y : T) → y ≡ x → ((if b then x else y) ≡ x) × ((if b then x else y) ≡ y)
 state-trip true x y e = (refl, sym e)
 state-trip false x y e = (e, refl)
@@ -82,18 +82,18 @@ taken false P h n = refl
 
 module _ {A C Shape S T : Type 0} (kind : Kind A C Shape S) (word : List Bool) (refused : List ℕ) (before : List (Command A C))
     (accepted : Plan Shape → T → Command A C → T) (trips : (plan : Plan Shape) (state : T) (slot : ℕ) → accepted plan state (RoundTrip slot) ≡ state) (state : T) where
-  -- a refused command leaves what a round trip leaves
+  -- a refused command leaves unchanged what a round trip leaves unchanged
   pub state-left : (command : Command A C) (P : Type 0) → IsRefusedExactly kind word refused before command P → P → after_command kind.rules accepted (plan_of kind.rules before) state command ≡ state
   state-left (RoundTrip slot) P h p = (state-trip (is_refused kind.rules (plan_of kind.rules before).shapes (RoundTrip slot)) state _ (trips (plan_of kind.rules before) state slot)).0
   state-left command P h p = ap (λ (b : Bool). if b then state else accepted (plan_of kind.rules before) state command) (h.0 p)
 
-  -- and an accepted one changes it
+  -- and an accepted one changes it as `accepted` does
   pub state-taken : (command : Command A C) (P : Type 0) → IsRefusedExactly kind word refused before command P → ¬ P →
       after_command kind.rules accepted (plan_of kind.rules before) state command ≡ accepted (plan_of kind.rules before) state command
   state-taken (RoundTrip slot) P h n = (state-trip (is_refused kind.rules (plan_of kind.rules before).shapes (RoundTrip slot)) state _ (trips (plan_of kind.rules before) state slot)).1
   state-taken command P h n = ap (λ (b : Bool). if b then state else accepted (plan_of kind.rules before) state command) (taken _ P h n)
 
--- what holds of commands and of fewer ones, where a refused one is left out, holds of a run's and of its accepted ones
+-- a relation that still holds if a refused command is left out holds between a run's commands and its accepted ones
 module _ {A C Shape S : Type 0} (kind : Kind A C Shape S) (word : List Bool) (commands : List (Command A C)) (refused : List ℕ) (are : AreRefused kind word commands refused)
     (R : List (Command A C) → List (Command A C) → Type 0) (more : (done fewer : List (Command A C)) (c : Command A C) → R done fewer → R (done ++ c ∷ []) (fewer ++ c ∷ []))
     (same : (done fewer : List (Command A C)) (c : Command A C) →
@@ -129,13 +129,13 @@ module _ {A C Shape S : Type 0} {kind : Kind A C Shape S} (lawful : IsLawful kin
         trace_is = λ z. ap (λ (b : Bool). if b then [] else accepted_events kind.rules plan trip) e ∙ ap (events_at slot) z;
       }
 
-  -- so does a refused command
+  -- nor does a refused command
   leaves : (word : List Bool) (refused : List ℕ) (before : List (Command A C)) (command : Command A C) (P : Type 0) → IsRefusedExactly kind word refused before command P → P →
       Leaves kind.rules (plan_of kind.rules before) command
   leaves word refused before (RoundTrip slot) P h p = leaves-trip (plan_of kind.rules before) slot
   leaves word refused before command P h p = leaves-refused kind.rules (plan_of kind.rules before) command (h.0 p)
 
-  -- one that is refused
+  -- a command that is refused may be left out
   pub left-refused : (word : List Bool) (refused : List ℕ) (done fewer : List (Command A C)) (command : Command A C) (P : Type 0) → IsRefusedExactly kind word refused done command P → P →
       IsLeftOut kind.rules done fewer → IsLeftOut kind.rules (done ++ command ∷ []) fewer
   left-refused word refused done fewer command P h p l =

@@ -1,4 +1,4 @@
--- Level lengths and coins of runs hang on no item and no bit.
+-- The level lengths and the coins of runs depend on no item and no bit.
 use Rattle.std.proofs.Common.{ℕ, List, sym, ap, ◌∙◌, Ordering}
 use Rattle.sketch_base.specs.Trace.{Event, World}
 use Rattle.quantile_sketches.specs.RuleLaws.{AreLawful}
@@ -8,7 +8,7 @@ use Rattle.quantile_sketches.specs.Run.{LengthsHangOnNoItem}
 use Rattle.quantile_sketches.proofs.Bare.{AreBare, same-plan, same-coins}
 use Rattle.quantile_sketches.proofs.LegalPlans.{run-lengths}
 
--- the lengths hang on no item
+-- the lengths and the coins depend on no item
 pub hangs-on-none : {A C Shape : Type 0} {rules : Rules A C Shape} {Meets : Event A → World (List ℕ) → Type 0} {Fits : Shape → List ℕ → Type 0} → AreLawful rules Meets Fits →
     {bare_rules : Rules Unit C Shape} → AreBare rules bare_rules → (cmp : A → A → Ordering) → LengthsHangOnNoItem rules cmp
 hangs-on-none {Shape = Shape} laws are cmp commands commands' same = (

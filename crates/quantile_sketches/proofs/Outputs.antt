@@ -23,12 +23,12 @@ appends_kept (Some xs) None w' a h k = absurd h
 appends_kept (Some xs) (Some ys) None a h k = absurd k
 appends_kept (Some xs) (Some ys) (Some zs) a h k = k ∙ h
 
--- what stays is kept
+-- what doesn't change is kept
 pub keeps_same : (c : Option (List ℕ)) → Keeps c c
 keeps_same None = tt
 keeps_same (Some xs) = refl
 
--- what is so holds of a call that is done
+-- what holds in any case holds if a call succeeds
 ok-so : {T E : Type 0} {P : Type 0} (r : Result T E) → P → OnOk r P
 ok-so (Ok done) p = p
 ok-so (Err fault) p = tt
@@ -42,7 +42,7 @@ writes-some c c' c'' bytes written count h a k b =
     let few : count ≤ length (drop written bytes) = rw rest at k in
     (omega (arith, h, few, length-drop written bytes), rw (take-add written count bytes) (appends_on c c' c'' (take written bytes) (take count (drop written bytes)) a (rw rest at b)))
 
--- some first bytes are out where a write fails
+-- if a write fails, some first bytes are out
 pub writes-stop : {T E : Type 0} (c c' c'' : Option (List ℕ)) (waiting : List ℕ) (r : Result T E) (written : ℕ) (bytes : List ℕ) →
     IsErr r → Appends c c' (take written bytes) → Keeps c' c'' → Writes r c c'' bytes waiting
 writes-stop c c' c'' waiting r written bytes fails a k = record {
@@ -57,7 +57,7 @@ writes-stop c c' c'' waiting r written bytes fails a k = record {
 pub writes-none : {T E : Type 0} (c : Option (List ℕ)) (r : Result T E) (owed waiting : List ℕ) → owed ≡ waiting → Writes r c c owed waiting
 writes-none c r owed waiting e = record { sent = []; left = owed; parts = refl; out = appends_none c; waits = ok-so r e }
 
--- all that was owed is out, but for a flush
+-- all that was owed is out, and then a flush succeeds or fails
 pub writes-flushed : {T E T' E' : Type 0} {done : T} {c c' : Option (List ℕ)} {owed : List ℕ} (c'' : Option (List ℕ)) (text : List ℕ) (r' : Result T' E') →
     text ≡ owed → Writes {T = T} {E = E} (Ok done) c c' owed [] → Keeps c' c'' → Writes r' c c'' text []
 writes-flushed {c = c} {c' = c'} c'' text r' e h k = record {
@@ -68,7 +68,7 @@ writes-flushed {c = c} {c' = c'} c'' text r' e h k = record {
   waits = ok-so r' h.waits;
 }
 
--- another call fails, with more behind
+-- another call fails, with more owed after the rest
 pub writes-early : {T E T' E' : Type 0} {r : Result T E} {c c' : Option (List ℕ)} {owed waiting : List ℕ} (text more waiting' : List ℕ) (r' : Result T' E') →
     text ≡ owed ++ more → IsErr r' → Writes r c c' owed waiting → Writes r' c c' text waiting'
 writes-early text more waiting' r' e fails h = record {
@@ -79,12 +79,12 @@ writes-early text more waiting' r' e fails h = record {
   waits = IfOk-from_err r' _ fails;
 }
 
--- what holds of a call that is done
+-- what holds if a call succeeds holds of one that did
 pub held-ok : {T E : Type 0} {P : Type 0} (r : Result T E) → IsOk r → OnOk r P → P
 held-ok (Ok u) ok p = p
 held-ok (Err x) ok p = absurd (cc)
 
--- what waits goes out, with more behind
+-- what waits goes out, with more after it
 pub writes-on : {T E T' E' : Type 0} {r : Result T E} {r' : Result T' E'} {c c' c'' : Option (List ℕ)} {owed waiting owed' waiting' : List ℕ} (text more : List ℕ) →
     text ≡ owed ++ more → Writes r c c' owed waiting → IsOk r → owed' ≡ waiting ++ more → Writes r' c' c'' owed' waiting' → Writes r' c c'' text waiting'
 writes-on {r = r} {c = c} {c' = c'} {c'' = c''} {waiting = waiting} text more e h ok f k =
@@ -102,12 +102,12 @@ pub writes-then : {T E T' E' : Type 0} {r : Result T E} {r' : Result T' E'} {c c
 writes-then w first rest text e h ok k =
     writes-on (w ++ text) rest (ap (λ (t : List ℕ). w ++ t) e ∙ sym (append_assoc w first rest)) h ok refl k
 
--- a first part fails
+-- writing a first part fails
 pub writes-fail : {T E T' E' : Type 0} {r : Result T E} {c c' : Option (List ℕ)} {waiting : List ℕ} (w first rest text waiting' : List ℕ) (r' : Result T' E') →
     text ≡ first ++ rest → IsErr r' → Writes r c c' (w ++ first) waiting → Writes r' c c' (w ++ text) waiting'
 writes-fail w first rest text waiting' r' e fails h =
     writes-early (w ++ text) rest waiting' r' (ap (λ (t : List ℕ). w ++ t) e ∙ sym (append_assoc w first rest)) fails h
 
--- the same of another call that is done
+-- the same for another call that succeeds
 pub writes-as : {T E T' E' : Type 0} {r : Result T E} {c c' : Option (List ℕ)} {owed waiting : List ℕ} (r' : Result T' E') → Writes r c c' owed waiting → IsOk r → Writes r' c c' owed waiting
 writes-as {r = r} r' h ok = record { sent = h.sent; left = h.left; parts = h.parts; out = h.out; waits = ok-so r' (held-ok r ok h.waits) }

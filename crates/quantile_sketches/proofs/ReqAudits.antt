@@ -1,4 +1,5 @@
--- What an audit of a REQ slot gives where the slot was only updated: its weights average out, and their errors are relative.
+-- What an audit of a REQ slot gives if the slot was only updated: its weights average to the true rank, and their errors are
+-- relative.
 use Rattle.std.proofs.Common.{◌≡◌, ℕ, ◌*◌, ◌^◌, Bool, true, List, length, sum, Option, Some, sym, ap, ◌∙◌, subst, arith, Ordering}
 use Rattle.std.specs.Cmp.{IsTotalOrder}
 use Rattle.sketch_base.specs.declared.common.SearchCriteria.{SearchCriteria}
@@ -30,7 +31,7 @@ module _ {A : Type 0} {cmp : A → A → Ordering} (o : IsTotalOrder cmp) (spell
   abbrev under : List Bool → ℕ
   under = rank_under req_rules cmp y criteria commands slot
 
-  -- whatever round trips of other slots are refused under a word
+  -- they are the ranks under the whole list of commands, whatever round trips are refused under a word
   weights-are : AreWeights req_rules cmp y criteria commands slot weights
   weights-are number inside =
       let (weight, there, (refused, r, e)) = are number inside in
@@ -38,11 +39,11 @@ module _ {A : Type 0} {cmp : A → A → Ordering} (o : IsTotalOrder cmp) (spell
       let left = (req-left-out o spelling word refused commands r).trace in
       there ∙ ap Some (e ∙ ap (weighted_rank cmp (counted cmp y criteria)) (bag-shed cmp commands slot only (trace_of req_rules (accepted_of refused commands)) left word))
 
-  -- the weights of an audit sum to the true rank, once for each word
+  -- the weights of an audit sum to the true rank times the number of words
   pub weights-sum : sum weights ≡ length weights * true_rank cmp y criteria (stream_of req_rules commands slot)
   weights-sum = weights-total req_rules cmp y criteria commands slot weights words weights-are (run-unbiased cmp commands slot only bits (omega arith) (counted cmp y criteria))
 
-  -- and where the slot was only updated their errors are relative
+  -- and their errors are relative
   pub weights-relative : (rank : ℕ) → rank ≡ true_rank cmp y criteria (stream_of req_rules commands slot) →
       IsRelative (shape_at commands slot).k (compacted_in (shape_at commands slot)) bits (scatter_of weights rank) (off_tail_at cmp y criteria commands slot)
   weights-relative rank is =

@@ -1,4 +1,4 @@
--- REQ's actions hang on items in their Puts alone.
+-- REQ's actions depend on items only in their Puts.
 use Rattle.std.proofs.Common.{◌≡◌, ℕ, zero, suc, Bool, if◌then◌else◌, List, [], ◌∷◌, length, map, refl, ap}
 use Rattle.sketch_base.specs.Trace.{Action, Put, Redraw, joins_actions}
 use Rattle.sketch_req.specs.Schedule.{Layout, is_full, are_full, layout_at, put_layouts, joined_layouts, step_actions, steps_actions, actions_if_full, redraws_from, redraw_actions}
@@ -22,7 +22,7 @@ module _ (A : Type 0) where
   bare-redraws h [] = refl
   bare-redraws h (layout ∷ above) = bare-append (if turns_coin layout.state then Redraw h ∷ [] else []) _ (bare-if (turns_coin layout.state) _ _ refl refl) (bare-redraws (suc h) above)
 
-  -- of either merge
+  -- the actions of either merge
   bare-merge : (redraws : Bool) (k : ℕ) (accuracy : RankAccuracy) (layouts others : List Layout) →
       map bare_action (merge_actions_by {A = A} redraws k accuracy layouts others) ≡ merge_actions_by redraws k accuracy layouts others
   bare-merge redraws k accuracy layouts others =
@@ -32,7 +32,7 @@ module _ (A : Type 0) where
       bare-if redraws _ _ (bare-append (joins_actions (length others) 0) _ joins (bare-append (redraw_actions joined) _ (bare-redraws 0 joined) room))
       (bare-append (joins_actions (length others) 0) _ joins room)
 
-  -- REQ's rules hang on no item
+  -- REQ's rules depend on no item
   pub req-bare : AreBare {A = A} req_rules req_rules
   req-bare = record {
     decide = refl;

@@ -1,4 +1,4 @@
--- Copies of a REQ sketch, and what is read of its image, as a run asks of them.
+-- Copies of a REQ sketch, and what is read from its image, are as a run requires.
 use Rattle.std.proofs.Common.{◌≡◌, ℕ, zero, suc, false, List, [], ◌∷◌, length, map, Option, refl, sym, ap, ap₂, ◌∙◌, subst, Ordering}
 use mathlib.Core.Path.{fun_ext}
 use Rattle.std.specs.Cmp.{IsTotalOrder}
@@ -20,15 +20,15 @@ use Rattle.quantile_sketches.specs.ReqKind.{req_kind}
 use Rattle.quantile_sketches.specs.ReqRules.{ReqShape}
 use Rattle.quantile_sketches.specs.RunSteps.{IsCopied, IsReadBack}
 
--- shapes by their parts
+-- a shape from its parts
 abbrev pub shape : ℕ → RankAccuracy → ℕ → List Layout → ReqShape
 shape k accuracy n layouts = record { k = k; accuracy = accuracy; n = n; layouts = layouts }
 
--- shapes with the same parts
+-- shapes with the same parts are the same
 pub same-shape : (k k' : ℕ) (a a' : RankAccuracy) (n n' : ℕ) (ls ls' : List Layout) → k ≡ k' → a ≡ a' → n ≡ n' → ls ≡ ls' → shape k a n ls ≡ shape k' a' n' ls'
 same-shape k k' a a' n n' ls ls' p q r l = λ i. shape (p i) (q i) (r i) (l i)
 
--- a level in place of another
+-- levels that are the same as others, place by place
 module _ {A : Type 0} {cmp : A → A → Ordering} (o : IsTotalOrder cmp) where
   abbrev AreSame : List (Level A) → List (Level A) → Type 0
   AreSame = AllZip (IsSameLevel cmp)
@@ -61,7 +61,7 @@ module _ {A : Type 0} {cmp : A → A → Ordering} (o : IsTotalOrder cmp) where
   copied-levels (x ∷ xs) (y ∷ ys) c = (record { items = c.0.items; rest = c.0.rest }, copied-levels xs ys c.1)
   copied-levels xs ys c = absurd c
 
-  -- what a level keeps that forgets its coin
+  -- in the bag of levels that forgot their coins all kept bits are false
   forgotten-bag : (xs : List (Level A)) → bag_of (map forgotten xs) ≡ record (bag_of xs) { kept = λ h. false }
   forgotten-bag xs = λ i. let b : Bag A = record { levels = lists xs i; is_sorted = false; kept = fun_ext (none xs) i } in b
     where

@@ -16,7 +16,7 @@ use Rattle.quantile_sketches.proofs.Streams.{run-ranks}
 use Rattle.quantile_sketches.proofs.Trips.{shed-same}
 
 module _ {A : Type 0} (cmp : A → A → Ordering) where
-  -- of every list of commands
+  -- for every list of commands
   pub run-unbiased_where_fair : RunIsUnbiasedWhere (req_rules {A = A}) cmp is_fair_slot
   run-unbiased_where_fair test commands length slot fair enough =
       let trace = trace_of req_rules commands in
@@ -24,7 +24,7 @@ module _ {A : Type 0} (cmp : A → A → Ordering) where
       fair_is_unbiased cmp test trace length slot legal.scratch (along-even (req_lawful {A = A}) trace start_lengths legal.meets) fair enough
       ∙ ap (λ n. 2 ^ length * n) (run-ranks (req_lawful {A = A}) test commands slot)
 
-  -- whatever round trips are left out
+  -- its items are the same whatever round trips are left out
   pub fair-shed : (commands : List (ReqCommand A)) (slot : ℕ) → is_fair_slot commands slot ≡ true → (fewer : List (Event A)) → Sheds (trace_of req_rules commands) fewer → (word : List Bool) →
       ((play cmp (trace_of req_rules commands) word start).slots slot).levels ≡ ((play cmp fewer word start).slots slot).levels
   fair-shed commands slot fair fewer sheds word =

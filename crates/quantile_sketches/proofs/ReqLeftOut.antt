@@ -1,4 +1,5 @@
--- The accepted commands of a REQ run give the tail numbers of all its commands, and their trace but for some round trips.
+-- The accepted commands of a REQ run give the same tail numbers as all its commands, and the same trace except for some
+-- round trips.
 use Rattle.std.proofs.Common.{◌≡◌, ℕ, ◌-◌, ◌^◌, ◌<◌, ◌≤◌, Bool, true, false, if◌then◌else◌, List, [], ◌∷◌, ◌++◌, length, Option, refl, sym, ap, ◌∙◌, subst, append-nil, Ordering}
 use Rattle.std.specs.Prelude.{Contains}
 use Rattle.std.specs.Cmp.{IsTotalOrder}
@@ -23,7 +24,7 @@ pub record IsLeftOutReq {A : Type 0} (commands fewer : List (ReqCommand A)) : Ty
   pub trace : Sheds (trace_of req_rules commands) (trace_of req_rules fewer)
 
 module _ {A : Type 0} {cmp : A → A → Ordering} (o : IsTotalOrder cmp) (spelling : A → Option (List ℕ)) (word : List Bool) (refused : List ℕ) where
-  -- a refused command gives no event, but for a round trip's Forget
+  -- a refused command gives no event, except a round trip's Forget
   sheds-left : (before : List (ReqCommand A)) (c : ReqCommand A) (P : Type 0) → IsRefusedExactly (req_kind cmp spelling) word refused before c P → P →
       Sheds (events_of req_rules (plan_of req_rules before) c) []
   sheds-left before (RoundTrip slot) P h p =
@@ -41,7 +42,7 @@ module _ {A : Type 0} {cmp : A → A → Ordering} (o : IsTotalOrder cmp) (spell
       (subst (Sheds (trace_of req_rules done ++ events_of req_rules (plan_of req_rules done) c)) e
       (sheds-append (trace_of req_rules done) (trace_of req_rules fewer) (events_of req_rules (plan_of req_rules done) c) events h.trace sheds))
 
-  -- all refused commands may be left out, for all that is known of REQ slots
+  -- all refused commands may be left out, and all that is known of REQ slots stays the same
   pub req-left-out : (commands : List (ReqCommand A)) → AreRefused (req_kind cmp spelling) word commands refused → IsLeftOutReq commands (accepted_of refused commands)
   req-left-out commands are =
       left-by (req_kind cmp spelling) word commands refused are IsLeftOutReq more same [] commands refl
@@ -69,7 +70,7 @@ module _ {A : Type 0} {cmp : A → A → Ordering} (o : IsTotalOrder cmp) (spell
             trace = sheds-more done fewer c [] _ (append-nil (trace_of req_rules fewer)) h (sheds-left done c P exact there);
           }
 
--- the same holds where commands lead to sketches
+-- if commands lead to sketches, the trace of the accepted ones lacks only round trips
 pub led-sheds : {A : Type 0} {cmp : A → A → Ordering} (o : IsTotalOrder cmp) (spelling : A → Option (List ℕ)) (commands : List (ReqCommand A)) (word : List Bool) (refused : List ℕ)
     (slots : Held (Req A)) →
     LeadTo (req_kind cmp spelling) word commands refused slots → coins (trace_of req_rules commands) ≤ length word → length word < 2 ^ 64 - 1 →

@@ -1,4 +1,5 @@
--- REQ's merges, with coins drawn anew or not, and coins drawn anew alone: their events are legal, leave tails and true ranks, and lead to the layouts' lengths.
+-- REQ's merges, with coins redrawn or not, and redraws alone: their events are legal, leave tails, don't change true ranks,
+-- and lead to the lengths of the layouts.
 use Rattle.std.proofs.Common.{◌≡◌, ℕ, suc, zero, ◌*◌, ◌≤◌, Bool, true, false, ◌&&◌, IsTrue, if◌then◌else◌, List, [], ◌∷◌, ◌++◌, length, append-nil, sum, refl, ◌∙◌}
 use Rattle.std.proofs.lemmas.Bool.{cond_both}
 use Rattle.std.specs.List.{AllByRecursion}
@@ -19,7 +20,7 @@ use Rattle.sketch_req.proofs.Unbiased.{room_compacts, joins_req, merge_req, rank
 use Rattle.sketch_req.proofs.Walks.{own-req}
 use Rattle.quantile_sketches.specs.ReqRules.{merge_actions_by}
 
--- what comes behind the joins of a merge
+-- what comes after the joins of a merge
 abbrev behind : {A : Type 0} → (redraws : Bool) → ℕ → RankAccuracy → List Layout → List (Action A)
 behind redraws k accuracy joined = if redraws then redraw_actions joined ++ actions_if_full k accuracy joined else actions_if_full k accuracy joined
 
@@ -55,7 +56,7 @@ module _ (A : Type 0) where
       (acts_on_lengths (merge_actions_by {A = A} redraws k accuracy ls others) (record { bag = counts_of ls; scratch = counts_of others })).bag ≡ counts_of (merge_layouts k ls others)
   lengths-by redraws k accuracy ls others l a = rw (merge_is ls others redraws k accuracy) (joined_lengths A k accuracy ls others _ _ (behind-leads redraws k accuracy ls others l a))
 
-  -- coins drawn anew are REQ's actions, and so are those of a merge
+  -- redraws are REQ's actions, and so are the actions of a merge
   redraw-req : (ls : List Layout) → AllByRecursion (λ action. IsTrue (is_req_action {A = A} action)) (redraw_actions ls)
   redraw-req ls = own-req (redraw_actions ls) (own-redraws A 0 ls)
 
@@ -68,7 +69,7 @@ module _ (A : Type 0) where
   merge-req false k accuracy ls others = merge_req A k accuracy ls others
 
 module _ {A : Type 0} (test : A → Bool) (s : ℕ) where
-  -- compactions, Joins and coins drawn anew leave the true ranks
+  -- compactions, Joins and Redraws leave the true ranks unchanged
   ranks-room : (k : ℕ) (accuracy : RankAccuracy) (ls : List Layout) (ranks : ℕ → ℕ) → true_ranks test (events_at s (actions_if_full k accuracy ls)) ranks ≡ ranks
   ranks-room k accuracy ls ranks = rw append-nil at (ranks-compacts test s (actions_if_full k accuracy ls) [] ranks (room_compacts A k accuracy ls))
 
@@ -97,6 +98,6 @@ module _ {A : Type 0} (test : A → Bool) (s : ℕ) where
       ranks-joins (length others) 0 _ ranks ∙ (ranks-redraws 0 joined (actions_if_full k accuracy joined) ranks ∙ ranks-room k accuracy joined ranks)
   ranks-merge false k accuracy ls others ranks = ranks-joins (length others) 0 _ ranks ∙ ranks-room k accuracy (joined_layouts k ls others) ranks
 
--- coins drawn anew lead to the same layouts
+-- Redraws lead to the same layouts
 pub redraw-leads : {A : Type 0} (k : ℕ) (accuracy : RankAccuracy) (ls : List Layout) → AreLayouts k ls → Leads {A = A} k accuracy ls (redraw_actions ls) ls
 redraw-leads {A} k accuracy ls a = rw append-nil at (leads-redraws {A = A} k accuracy 0 ls ls ls [] (leads-none k accuracy ls a))

@@ -41,16 +41,16 @@ use Rattle.quantile_sketches.proofs.ReqCopies.{same-shape, copy_is, read_is}
 use Rattle.quantile_sketches.proofs.ReqRuleLaws.{not-false, same_accuracy, legal_k, enough_room, merged_as, no_merge}
 use Rattle.quantile_sketches.proofs.SameRuns.{no-err}
 
--- a legal k may be one
+-- a legal k passes the test
 pub may-be : (k : ℕ) → IsLegalK k → may_be_k k ≡ true
 may-be k l = ap₂ (λ (b c : Bool). b && c) (ap₂ (λ (b c : Bool). b && c) (le-leb 4 k l.at_least) (le-leb k 1024 l.at_most)) (eq-eqb (k % 2) 0 l.even)
 
--- an accuracy is its own
+-- an accuracy is the same as itself
 pub same-itself : (a : RankAccuracy) → is_same a a ≡ true
 same-itself HighRank = refl
 same-itself LowRank = refl
 
--- what one sketch takes in of another
+-- the number of items that two sketches retain together
 both-retained : {A : Type 0} (s p : Req A) → retained (bag_of s.levels) + retained (bag_of p.levels) ≡ retained_of (layouts_of s.levels) + retained_of (layouts_of p.levels)
 both-retained s p = ap₂ (λ (n m : ℕ). n + m) (retained_is s.levels) (retained_is p.levels)
 
@@ -63,7 +63,7 @@ unfit s p is =
     grind (arith, nat_tests)
 
 module _ {A : Type 0} {cmp : A → A → Ordering} (o : IsTotalOrder cmp) (spelling : A → Option (List ℕ)) where
-  -- an extreme is that of itself
+  -- an item is the extreme of itself alone
   own-least : (x : Option A) → IsLeastOf cmp (option_to_list x ++ []) x
   own-least None = refl
   own-least (Some x) = record { ties = inl (tied_itself o x); bounds = (ap is_gt (tied_itself o x), tt) }
@@ -109,7 +109,7 @@ module _ {A : Type 0} {cmp : A → A → Ordering} (o : IsTotalOrder cmp) (spell
       (read_is o spelling s t (one_sketch o spelling free ties bytes.items (without_coins s) t [] h.0.0.0 w.0.1 h.0.0.1).0 h.0.1, tt)
   read-back free ties s bytes (Err e) w h = (tt, unread e h.1 (λ d. h.2 d (without_coins s) [] w.0.1))
 
-  -- where nothing is too much
+  -- two sketches whose merge the rules accept fit
   fits : (s p : Req A) → IsSound cmp s → IsSound cmp p → no_merge (req_shape s) (req_shape p) ≡ false →
       (s.accuracy ≡ p.accuracy) × (s.n + p.n < 2 ^ 64) × (retained (bag_of s.levels) + retained (bag_of p.levels) < 2 ^ 32)
   fits s p sound other is =
@@ -118,7 +118,7 @@ module _ {A : Type 0} {cmp : A → A → Ordering} (o : IsTotalOrder cmp) (spell
       let empty : p.n ≡ 0 → retained_of (layouts_of p.levels) ≡ 0 = λ none. ap (λ (q : Req A). retained_of (layouts_of q.levels)) (other.empty_at_first none) in
       (same, grind (arith, nat_tests), grind (arith, nat_tests))
 
-  -- a sketch that is refused by sound ones
+  -- sound sketches whose merge the rules accept aren't unfit
   unfit-not : (s p : Req A) → IsSound cmp s → IsSound cmp p → IsUnfit cmp spelling s p → no_merge (req_shape s) (req_shape p) ≡ false → ⊥
   unfit-not s p sound other (inl differ) is = differ (fits s p sound other is).0
   unfit-not s p sound other (inr (inl heavy)) is = omega (arith, heavy, (fits s p sound other is).1)

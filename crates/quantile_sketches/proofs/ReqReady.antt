@@ -21,11 +21,11 @@ abbrev layouts_in : (ℕ → Option ReqShape) → ℕ → List Layout
 layouts_in shapes j = (shape_in (shapes j)).layouts
 
 module _ {A : Type 0} (slot : ℕ) where
-  -- what comes after is fair to the asked slot, by what the commands before it show of all slots
+  -- the events that come after are fair to the asked slot, by what the commands before them show about all slots
   abbrev Stand : (ℕ → Option ReqShape) → (ℕ → Fairness) → List (Event A) → Type 0
   Stand shapes fairs rest = Stands slot (layouts_in shapes) (λ j. (fairs j).is_ready) (λ j. (fairs j).is_fair) rest
 
-  -- where one slot changes
+  -- if one slot changes
   at-one : (shapes : ℕ → Option ReqShape) (fairs : ℕ → Fairness) (s : ℕ) (shape : ReqShape) (f : Fairness) (rest : List (Event A)) →
       Stand (changed shapes s (Some shape)) (changed fairs s f) rest →
       Stands slot (changed (layouts_in shapes) s shape.layouts) (changed (λ j. (fairs j).is_ready) s f.is_ready) (changed (λ j. (fairs j).is_fair) s f.is_fair) rest
@@ -35,7 +35,7 @@ module _ {A : Type 0} (slot : ℕ) where
       (changed-through fairs (λ (g : Fairness). g.is_ready) s f)
       (changed-through fairs (λ (g : Fairness). g.is_fair) s f) n
 
-  -- where one slot is ready or not from now on
+  -- if one slot becomes ready, or not ready
   ready-one : (shapes : ℕ → Option ReqShape) (fairs : ℕ → Fairness) (s : ℕ) (b : Bool) (rest : List (Event A)) →
       Stand shapes (changed fairs s (with_ready (fairs s) b)) rest →
       Stands slot (layouts_in shapes) (changed (λ j. (fairs j).is_ready) s b) (λ j. (fairs j).is_fair) rest
@@ -44,7 +44,7 @@ module _ {A : Type 0} (slot : ℕ) where
       (changed-through fairs (λ (g : Fairness). g.is_ready) s (with_ready (fairs s) b))
       (λ j. changed-through fairs (λ (g : Fairness). g.is_fair) s (with_ready (fairs s) b) j ∙ changed-own (λ i. (fairs i).is_fair) s j) n
 
-  -- a merge, with coins drawn anew or not
+  -- a merge, with coins redrawn or not
   merge-stands : (redraws : Bool) (shapes : ℕ → Option ReqShape) (fairs : ℕ → Fairness) (into source : ℕ) (rest : List (Event A)) →
       Stand (req_merge_shapes shapes into source) (fairness_in redraws shapes fairs into source) rest → Stand shapes fairs (req_merge_events redraws shapes into source ++ rest)
   merge-stands redraws shapes fairs into source rest = go ((shape_in (shapes source)).n == 0)

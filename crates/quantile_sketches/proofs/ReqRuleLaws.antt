@@ -26,17 +26,17 @@ use Rattle.quantile_sketches.proofs.KllRuleLaws.{unless-there}
 use Rattle.quantile_sketches.proofs.LegalPlans.{not-none, some-one}
 use Rattle.quantile_sketches.proofs.ReqMerges.{legal-by, lengths-by, redraw-leads, ranks-redraw, ranks-merge}
 
--- accuracies that are found to be the same
+-- accuracies that are found to be the same are equal
 pub same_accuracy : (a b : RankAccuracy) → is_same a b ≡ true → a ≡ b
 same_accuracy HighRank HighRank e = refl
 same_accuracy LowRank LowRank e = refl
 same_accuracy a b e = absurd (false≢true e)
 
--- a k that may be one
+-- a k that passes the test is legal
 pub legal_k : (k : ℕ) → may_be_k k ≡ true → IsLegalK k
 legal_k k e = record { at_least = grind (arith, nat_tests); at_most = grind (arith, nat_tests); even = grind (arith, nat_tests) }
 
--- nothing is too much
+-- counts that aren't too great fit
 pub enough_room : (n retained : ℕ) → is_too_much n retained ≡ false → (n < 2 ^ 64) × (retained ≤ 4294967295)
 enough_room n retained e = grind (arith, nat_tests)
 
@@ -70,7 +70,7 @@ updated_fits s lengths h e =
       retained = let t = update_retains s.k h.legal s.layouts h.are in omega (arith, t, r.1);
     }
 
--- a sketch that took another one in
+-- the shape of a sketch that took another one in
 abbrev pub merged_as : ReqShape → ReqShape → List Layout → ReqShape
 merged_as s other layouts = record { k = s.k; accuracy = s.accuracy; n = s.n + other.n; layouts = layouts }
 
@@ -89,7 +89,7 @@ merged_fits s other lengths others h o e =
       retained = let t = merge_retains s.k h.legal s.layouts other.layouts h.are in omega (arith, t, r.1);
     }
 
--- a merge of a sketch that is not empty would be too much
+-- whether a merge of a sketch that isn't empty would be too much
 abbrev pub too_much : ReqShape → ReqShape → Bool
 too_much s other = is_too_much (s.n + other.n) (retained_of s.layouts + retained_of other.layouts)
 
@@ -103,7 +103,7 @@ not-much s other e b = ap (λ (none : Bool). not none && too_much s other) (sym 
 -- ---- legal traces
 
 module _ {A : Type 0} where
-  -- what leaves 3k leaves 0
+  -- a compaction that leaves 3k items leaves at least 0
   leaves-less : (k : ℕ → ℕ) (e : Event A) (world : World (List ℕ)) → LeavesTail k e world → MeetsReq e world
   leaves-less k (At s (Compact h coin AllButLeftover)) world f = absurd f
   leaves-less k (At s (Compact h coin taken)) world f = (f.0, f.1, omega (arith, f.2))

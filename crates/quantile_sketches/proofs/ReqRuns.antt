@@ -1,4 +1,4 @@
--- What a run on REQ sketches gives, from what every run gives.
+-- What a run on REQ sketches gives, derived from what every run gives.
 use Rattle.std.proofs.Common.{◌≡◌, ℕ, suc, ◌-◌, ◌*◌, ◌^◌, ◌<◌, ◌≤◌, Bool, true, IsTrue, List, [], ◌∷◌, ◌++◌, length, count_by, Option, Some, sym, ap, ◌∙◌, subst, arith, append-nil, Ordering, ap₂, ◌+◌, refl}
 use Rattle.std.specs.Prelude.{IsSorted}
 use Rattle.std.specs.Cmp.{IsTotalOrder}
@@ -61,26 +61,26 @@ use Rattle.quantile_sketches.proofs.Streams.{run-ranks, all-counted}
 use Rattle.quantile_sketches.proofs.Trips.{shorn, sheds-shorn}
 use Rattle.quantile_sketches.proofs.WordSums.{sum-long}
 
--- ---- of every list of commands
+-- ---- for every list of commands
 
 module _ {A : Type 0} where
   req-legal : (commands : List (ReqCommand A)) → IsLegalReq (λ s. 0) (trace_of req_rules commands)
   req-legal commands = let r = run-legal req_lawful commands in record { scratch = r.scratch; sizes = r.meets }
 
 module _ {A : Type 0} {cmp : A → A → Ordering} (o : IsTotalOrder cmp) where
-  -- each run is within a quarter of its load
+  -- in each run the error is at most a quarter of the load
   pub req-load : RunIsWithinLoad req_rules 4 cmp
   req-load y criteria commands word slot =
       let bag = (play cmp (trace_of req_rules commands) word start).slots slot in
       subst (λ (m : ℕ). 4 * distance (weighted_rank cmp (counted cmp y criteria) bag) m ≤ load bag) (run-ranks req_lawful (counted cmp y criteria) commands slot)
       (req_within_load o (λ s. 0) y criteria (trace_of req_rules commands) word slot (req-legal commands))
 
--- each item counts, at each level
+-- a test that all items pass counts each item, at each level
 weigh-any : {A : Type 0} (h : ℕ) (levels : List (List A)) → weigh (count_by (λ (x : A). true)) h levels ≡ weigh length h levels
 weigh-any h [] = refl
 weigh-any h (level ∷ above) = ap₂ (λ (m n : ℕ). 2 ^ h * m + n) (all-counted level) (weigh-any (suc h) above)
 
--- a slot weighs as much as its stream
+-- a slot's weight is the length of its stream
 pub req-weight : {A : Type 0} {cmp : A → A → Ordering} → IsTotalOrder cmp → (commands : List (ReqCommand A)) (word : List Bool) (slot : ℕ) →
     weight ((play cmp (trace_of req_rules commands) word start).slots slot) ≡ length (stream_of req_rules commands slot)
 req-weight {A} {cmp} order commands word slot =
@@ -92,20 +92,20 @@ req-weight {A} {cmp} order commands word slot =
     ∙ (weight_is order (trace_of req_rules commands) word slot legal.scratch (along-even (req_lawful {A = A}) (trace_of req_rules commands) start_lengths legal.meets)
     ∙ (run-ranks (req_lawful {A = A}) any commands slot ∙ all-counted (stream_of req_rules commands slot))))
 
--- the items of a slot that was only updated hang on no round trip
+-- the items of a slot that was only updated don't depend on round trips
 updated-shed : {A : Type 0} (cmp : A → A → Ordering) (own : List (ReqCommand A)) (slot : ℕ) → was_only_updated own slot ≡ true → (fewer : List (Event A)) →
     Sheds (trace_of req_rules own) fewer → (word : List Bool) →
     ((play cmp (trace_of req_rules own) word start).slots slot).levels ≡ ((play cmp fewer word start).slots slot).levels
 updated-shed cmp own slot only fewer sheds word = ap (λ bag. bag.levels) (sym (bag-shed cmp own slot only fewer sheds word))
 
--- ---- of a run
+-- ---- for a run
 
 in-order : {A : Type 0} (cmp : A → A → Ordering) (k : ℕ) (accuracy : RankAccuracy) (h : ℕ) (ls : List (Level A)) → AreLevels cmp k accuracy h ls →
     AllByRecursion (λ level. IsTrue level.is_sorted → IsSorted cmp level.items) ls
 in-order cmp k accuracy h [] a = tt
 in-order cmp k accuracy h (l ∷ ls) a = (a.0.sound.in_order, in-order cmp k accuracy (suc h) ls a.1)
 
--- a sketch of the planned shape that is alike to the play of the commands is exact on its tail
+-- a sketch of the planned shape that is alike to its slot's bag in the play of the commands is exact on its tail
 pub alike-exact : {A : Type 0} {cmp : A → A → Ordering} → IsTotalOrder cmp → (commands : List (ReqCommand A)) (word : List Bool) (slot : ℕ) (s : Req A) →
     (plan_of req_rules commands).shapes slot ≡ Some (req_shape s) →
     AlikeReq cmp ((play cmp (trace_of req_rules commands) word start).slots slot) (bag_of s.levels) → IsExact cmp commands slot s
@@ -115,18 +115,18 @@ alike-exact {A} {cmp} o commands word slot s shape alike y criteria few =
     sym (rank-alike o y criteria ((play cmp (trace_of req_rules commands) word start).slots slot) (bag_of s.levels) alike.levels) ∙ run-exact o y criteria commands word slot enough
 
 module _ {A : Type 0} {cmp : A → A → Ordering} (o : IsTotalOrder cmp) (spelling : A → Option (List ℕ)) (commands : List (ReqCommand A)) (slots : Slots (Req A)) where
-  -- the shape that is planned of a sketch
+  -- a sketch in a slot has the planned shape
   there : ArePlanned (req_kind cmp spelling) commands slots → (slot : ℕ) (s : Req A) → sketch_at slots slot ≡ Some s → (plan_of req_rules commands).shapes slot ≡ Some (req_shape s)
   there planned slot s held = sym (planned slot) ∙ ap (option_map req_shape) held
 
   fits : ArePlanned (req_kind cmp spelling) commands slots → (slot : ℕ) (s : Req A) → sketch_at slots slot ≡ Some s → FitsReq (req_shape s) ((plan_of req_rules commands).lengths.slots slot)
   fits planned slot s held = (steady-from req_lawful start_plan (steady-start req_lawful) commands).fits slot (req_shape s) (there planned slot s held)
 
-  -- levels are in order
+  -- levels that count as sorted are sorted
   pub run-ordered : AreSound (req_kind cmp spelling) slots → AreSortedInOrder cmp slots
   run-ordered sound slot s held = in-order cmp s.k s.accuracy 0 s.levels (sound slot s held).placed
 
-  -- they are few
+  -- sketches have few levels
   pub run-levels : ArePlanned (req_kind cmp spelling) commands slots → HaveFewLevels slots
   run-levels planned slot s held many =
       let f = fits planned slot s held in
@@ -134,13 +134,13 @@ module _ {A : Type 0} {cmp : A → A → Ordering} (o : IsTotalOrder cmp) (spell
       let l = upper_weighs (layouts_of s.levels) f.two (omega (arith, many, n)) in
       subst (λ (m : ℕ). 2 ^ m ≤ s.n) n (omega (arith, l, f.weighs))
 
-  -- few items are kept where nothing was merged
+  -- without merges of items, a sketch retains less than the sum of its nominal capacities
   pub run-small : ArePlanned (req_kind cmp spelling) commands slots → AreBelowNominal commands slots
   run-small planned slot s held alone =
       let h = subst (λ (p : Option ReqShape). retained_of (shape_in p).layouts < nominal_sum (shape_in p).k (shape_in p).layouts) (there planned slot s held) (run-below commands slot alone) in
       omega (arith, h, retained_is s.levels)
 
-  -- and tail numbers are their k
+  -- and its tail number is its k
   pub run-tails-own : ArePlanned (req_kind cmp spelling) commands slots → TailsAreK commands slots
   run-tails-own planned slot s held alone = run-own commands slot alone (req_shape s) (there planned slot s held)
 
@@ -168,7 +168,7 @@ module _ {A : Type 0} {cmp : A → A → Ordering} (o : IsTotalOrder cmp) (spell
         let enough = rw (streams, tails) at few in
         alike-exact o fewer word slot s shape (played slot s held) y criteria enough ∙ sym (ap (true_rank cmp y criteria) streams)
 
-  -- ---- over the runs under all words
+  -- ---- for the runs under all words
 
   module _ (word : List Bool) (enough : coins (trace_of req_rules commands) ≤ length word) (few : length word < 2 ^ 64 - 1) where
     abbrev Family : Type 0
@@ -195,7 +195,7 @@ module _ {A : Type 0} {cmp : A → A → Ordering} (o : IsTotalOrder cmp) (spell
           rank_of (req_kind cmp spelling) y criteria (runs.held other slot) ≡ rank_under req_rules cmp y criteria (accepted runs other) slot other
       other-rank = led-rank (req_kind_lawful o spelling) commands other (runs.refused other) (runs.held other) (runs.lead other long) own-enough own-few
 
-    -- where a slot's items hang on no round trip, under no word, its ranks are those of the plays of one list of commands
+    -- if a slot's items depend on no round trip, under any word, its ranks are those of the plays of one list of commands
     module _ (shows : List (ReqCommand A) → ℕ → Bool)
         (same : (own : List (ReqCommand A)) (slot : ℕ) → shows own slot ≡ true → (fewer : List (Event A)) → Sheds (trace_of req_rules own) fewer → (other : List Bool) →
         ((play cmp (trace_of req_rules own) other start).slots slot).levels ≡ ((play cmp fewer other start).slots slot).levels)
@@ -203,7 +203,7 @@ module _ {A : Type 0} {cmp : A → A → Ordering} (o : IsTotalOrder cmp) (spell
       abbrev without_trips : List (Event A)
       without_trips = shorn (trace_of req_rules commands)
 
-      -- by either list of accepted commands
+      -- under each such list of commands, its ranks are those of the trace without round trips
       same-rank : (y : A) (criteria : SearchCriteria) (own : List (ReqCommand A)) → shows own slot ≡ true → Sheds (trace_of req_rules commands) (trace_of req_rules own) → (other : List Bool) →
           rank_under req_rules cmp y criteria own slot other ≡ weighted_rank cmp (counted cmp y criteria) ((play cmp without_trips other start).slots slot)
       same-rank y criteria own shown sheds other =
@@ -232,7 +232,7 @@ module _ {A : Type 0} {cmp : A → A → Ordering} (o : IsTotalOrder cmp) (spell
           ∙ (law (counted cmp y criteria) (accepted runs word) (length word) slot (show word refl) accepted-enough
           ∙ ap (λ (l : List A). 2 ^ length word * true_rank cmp y criteria l) accepted-stream)
 
-      -- the squares of its errors
+      -- the squares of its errors are those of the commands accepted under the given word
       same-squares : (y : A) (criteria : SearchCriteria) →
           squared_errors cmp y criteria (accepted runs word) (length word) slot ≡ squares_in (req_kind cmp spelling) commands word slots runs slot y criteria
       same-squares y criteria =
@@ -248,21 +248,21 @@ module _ {A : Type 0} {cmp : A → A → Ordering} (o : IsTotalOrder cmp) (spell
     pub runs-fair : AreUnbiasedWhere (req_kind cmp spelling) commands word slots is_fair_slot
     runs-fair runs slot show = by-law is_fair_slot (fair-shed cmp) runs slot show (run-unbiased_where_fair cmp)
 
-    -- and those that stay fair by their commands
+    -- and so are those that stay fair by their commands
     pub runs-redrawn : AreUnbiasedWhere (req_kind cmp spelling) commands word slots stays_fair
     runs-redrawn runs slot show =
         by-law stays_fair (λ own slot stays. fair-shed cmp own slot (run-stays_fair own slot stays)) runs slot show (run-unbiased_where_redrawn cmp)
 
     module _ (planned : ArePlanned (req_kind cmp spelling) commands slots) (runs : Family) (slot : ℕ) (s : Req A) (held : sketch_at slots slot ≡ Some s)
         (show : ShowIn (req_kind cmp spelling) commands word slots was_only_updated runs slot) (y : A) (criteria : SearchCriteria) where
-      -- a sketch's shape is planned also by the commands that are accepted
+      -- the accepted commands plan the same shape for the sketch
       accepted-shape : shape_in ((plan_of req_rules (accepted runs word)).shapes slot) ≡ req_shape s
       accepted-shape = ap shape_in (ap (λ (p : Plan ReqShape). p.shapes slot) (sym (other-left-out runs word refl).plan) ∙ there planned slot s held)
 
       abbrev squares : ℕ
       squares = squares_in (req_kind cmp spelling) commands word slots runs slot y criteria
 
-      -- what is said of its shape, its stream and the squares of the plays
+      -- what holds for shape, stream and squares under the accepted commands holds for those of the run
       as-run : (P : ReqShape → List A → ℕ → Type 0) →
           P (shape_in ((plan_of req_rules (accepted runs word)).shapes slot)) (stream_of req_rules (accepted runs word) slot) (squared_errors cmp y criteria (accepted runs word) (length word) slot) →
           P (req_shape s) (stream_of req_rules commands slot) squares
@@ -271,7 +271,7 @@ module _ {A : Type 0} {cmp : A → A → Ordering} (o : IsTotalOrder cmp) (spell
           (subst (λ (l : List A). P (req_shape s) l (squared_errors cmp y criteria (accepted runs word) (length word) slot)) (accepted-stream was_only_updated (updated-shed cmp) runs slot show)
           (subst (λ (shape : ReqShape). P shape (stream_of req_rules (accepted runs word) slot) (squared_errors cmp y criteria (accepted runs word) (length word) slot)) accepted-shape is))
 
-      -- errors are relative where slots were only updated
+      -- the errors of a slot that was only updated are relative
       pub runs-relative : IsRelative s.k (length s.levels - 1) (length word) squares (off_protected_end cmp s.accuracy y criteria (stream_of req_rules commands slot))
       runs-relative =
           subst (λ (levels : ℕ). IsRelative s.k (levels - 1) (length word) squares (off_protected_end cmp s.accuracy y criteria (stream_of req_rules commands slot))) (length-layouts s.levels)
@@ -286,6 +286,6 @@ module _ {A : Type 0} {cmp : A → A → Ordering} (o : IsTotalOrder cmp) (spell
           (updates_relative_to_counts o) levels)
           great
 
-    -- for a k of at least 24, to counts alone
+    -- for a k of at least 24 they are relative to counts alone
     pub runs-relative_to_counts : ArePlanned (req_kind cmp spelling) commands slots → AreRelativeToCounts cmp spelling commands word slots
     runs-relative_to_counts planned runs slot s held show great y criteria levels = own-relative_to_counts planned runs slot s held show y criteria great levels

@@ -1,4 +1,4 @@
--- A slot that was only updated is as a fresh sketch that took its stream: so it is unbiased, and its errors are relative.
+-- A slot that was only updated is like a fresh sketch that took its stream, so it is unbiased and its errors are relative.
 use Rattle.std.proofs.Common.{◌≡◌, ℕ, suc, ◌+◌, ◌-◌, ◌*◌, ◌^◌, ◌<◌, ◌≤◌, Bool, true, false, ◌&&◌, ◌==◌, if◌then◌else◌, List, [], ◌∷◌, ◌++◌, length, replicate, count_by, Option, None, Some, IsTrue, refl, sym, ap, ap₂, ◌∙◌, subst, arith, eqb-true, append_assoc, append-nil, Ordering}
 use Rattle.std.proofs.Math.Nat.{mul-le-mul_left}
 use Rattle.std.proofs.lemmas.Bool.{false≢true}
@@ -75,7 +75,7 @@ module _ {A : Type 0} where
   abbrev AreOwn : (ℕ → Option ReqShape) → (ℕ → Bool) → List (Event A) → (ℕ → List A) → Type 0
   AreOwn shapes only trace streams = (j : ℕ) → IsOwn (shapes j) (only j) (picked j trace) (streams j)
 
-  -- where one slot changes
+  -- if one slot changes
   own-changed : (shapes : ℕ → Option ReqShape) (only : ℕ → Bool) (trace : List (Event A)) (streams : ℕ → List A) → AreOwn shapes only trace streams →
       (s : ℕ) (events : List (Event A)) (shape : Option ReqShape) (b : Bool) (stream : List A) → ((j : ℕ) → (j == s) ≡ false → picked j (trace ++ events) ≡ picked j trace) →
       IsOwn shape b (picked s (trace ++ events)) stream → AreOwn (changed shapes s shape) (changed only s b) (trace ++ events) (changed streams s stream)
@@ -87,7 +87,7 @@ module _ {A : Type 0} where
   fresh-cleared : (slot k : ℕ) (accuracy : RankAccuracy) (trace : List (Event A)) → IsFresh (new_shape k accuracy) (picked slot (trace ++ events_at slot (Clear ∷ []))) []
   fresh-cleared slot k accuracy trace = record { actions_are = picked-cleared slot trace; layouts_are = refl }
 
-  -- an item more
+  -- one more item
   fresh-updated : (slot : ℕ) (s : ReqShape) (trace : List (Event A)) (stream : List A) (x : A) → IsFresh s (picked slot trace) stream →
       IsFresh (updated_shape s) (picked slot (trace ++ events_at slot (update_actions s.k s.accuracy s.layouts x))) (stream ++ x ∷ [])
   fresh-updated slot s trace stream x f = record {
@@ -127,7 +127,7 @@ module _ {A : Type 0} where
           own-changed shapes only trace streams h into (events_merged redraws s other into source) _ false (streams into ++ streams source)
           (λ j e. picked-joined j source into trace (merge_actions_by redraws s.k s.accuracy s.layouts other.layouts) e) (λ t. absurd (false≢true t))
 
-  -- a slot that is no longer only updated, by actions that leave its stream
+  -- a slot that is no longer only updated, after actions that leave its stream unchanged
   ended-own : (shapes : ℕ → Option ReqShape) (only : ℕ → Bool) (trace : List (Event A)) (streams : ℕ → List A) → AreOwn shapes only trace streams → (slot : ℕ) (actions : List (Action A)) →
       AreOwn shapes (changed only slot false) (trace ++ events_at slot actions) streams
   ended-own shapes only trace streams h slot actions j =
@@ -192,7 +192,7 @@ module _ {A : Type 0} where
 
 -- ---- what its own bits give
 
--- what a slot's own bits give comes once for each word of the other bits
+-- if each result under a slot's own bits comes once for each word of the other bits, the errors stay relative
 more_words : (k levels others bits squares count : ℕ) → IsRelative k levels bits squares count → IsRelative k levels (others + bits) (2 ^ others * squares) count
 more_words k levels others bits squares count h =
     let u = 3 * k * k in
@@ -246,7 +246,7 @@ module _ {A : Type 0} (cmp : A → A → Ordering) (commands : List (ReqCommand 
   pub bag-shed : (fewer : List (Event A)) → Sheds trace fewer → (word : List Bool) → (play cmp fewer word start).slots slot ≡ (play cmp trace word start).slots slot
   bag-shed fewer sheds word = play-shed cmp slot trace fewer sheds plain word start
 
-  -- what is said of its bag, summed over all words, is the fresh sketch's sum, once for each word of the other bits
+  -- a number that depends on its bag, summed over all words, is the fresh sketch's sum, once for each word of the other bits
   record IsShare (bits : ℕ) (f : Bag A → ℕ) : Type 0 where
     others : ℕ
     all : bits ≡ others + draws_of updates
@@ -306,7 +306,7 @@ module _ {A : Type 0} (cmp : A → A → Ordering) (commands : List (ReqCommand 
         subst (λ (ls : List Layout). IsRelative shape.k (length ls - 1) bits (squared_errors cmp y criteria commands bits slot) count) (sym fresh.layouts_are)
         (relative-by (length (updates_layouts shape.k (new_layout ∷ []) stream) - 1) (relative y criteria slot shape.k (draws_of updates) shape.accuracy stream legal short drawn))
 
-    -- for a k of at least 24, to counts alone
+    -- for a k of at least 24 they are relative to counts alone
     pub run-relative_to_counts : UpdatesAreRelativeToCounts cmp → (levels : ℕ) → 24 ≤ shape.k → Reaches shape.k count levels →
         IsRelative shape.k levels bits (squared_errors cmp y criteria commands bits slot) count
     run-relative_to_counts relative levels great reaches =

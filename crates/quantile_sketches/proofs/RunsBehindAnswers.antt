@@ -1,4 +1,4 @@
--- Lines are answered by the sketches of a run of the commands that were accepted before them.
+-- Each line is answered by the sketches of a run of the commands that were accepted before it.
 use Rattle.std.proofs.Common.{◌≡◌, ℕ, ℤ, List, [], ◌∷◌, length, Option, None, Some, Result, Ok, Err, refl, sym, subst, zero-add, replicate}
 use Rattle.std.specs.Prelude.{⊤}
 use mathlib.Core.Path.{fun_ext}
@@ -32,11 +32,11 @@ module _ {C Shape S : Type 0} (grammar : Grammar C) {kind : Kind ℤ C Shape S} 
   OfRun None slots coins = ⊤
   OfRun (Some commands) slots coins = AreOfRun kind seed (Some commands) slots coins × Standing kind coin_of next_state seed commands (in_slot slots) coins
 
-  -- where nothing changes
+  -- if nothing changes, this still holds
   stays : (run : Known C) (slots : Slots S) (coins : ℕ) (slots' : Slots S) (coins' : ℕ) → slots' ≡ slots → coins' ≡ coins → OfRun run slots coins → OfRun run slots' coins'
   stays run slots coins slots' coins' e f h = subst (λ s. OfRun run s coins') (sym e) (subst (λ n. OfRun run slots n) (sym f) h)
 
-  -- a command of runs, carried out or not
+  -- it holds after a command of runs, carried out or not
   carried : (run : Known C) (command : Command ℤ C) (slots : Slots S) (coins : ℕ) (v : Verdict) (slots' : Slots S) (coins' : ℕ) →
       CarriesOutItem behaviour coin_of next_state command slots coins v slots' coins' → OfRun run slots coins → OfRun (run_after run (Some (Run command)) (reply_of v)) slots' coins'
   carried None command slots coins (Ok tt) slots' coins' h of = tt
@@ -71,7 +71,7 @@ module _ {C Shape S : Type 0} (grammar : Grammar C) {kind : Kind ℤ C Shape S} 
       rw is (loaded run slot (ReadsImage behaviour (image_in line)) slots coins v slots' coins' h same of)
   answered run (Some query) line slots coins r slots' coins' h of = stays run slots coins slots' coins' h.1 h.2 of
 
-  -- what holds of a run holds behind the answers
+  -- what holds for the run so far holds before each line that is answered
   module _ (Holds : Known C → Slots S → ℕ → Type 0) (by : (run : Known C) (slots : Slots S) (coins : ℕ) → OfRun run slots coins → Holds run slots coins) where
     answers-where : (run : Known C) (slots : Slots S) (coins : ℕ) (ls : List (List ℕ)) (out : List ℕ) → OfRun run slots coins → Serves grammar behaviour slots coins ls out →
         AnswersWhere grammar behaviour Holds run slots coins ls out
@@ -86,7 +86,7 @@ module _ {C Shape S : Type 0} (grammar : Grammar C) {kind : Kind ℤ C Shape S} 
         answers-where (Some []) (replicate SLOTS None) seed ls out
         ((fun_ext (λ q. in_slot-none SLOTS q), refl), standing-none lawful coin_of next_state seed (in_slot (replicate SLOTS None)) (λ q. in_slot-none SLOTS q))
 
-  -- the sketches behind the answers are those of a run
+  -- the sketches that answer are those of a run
   pub answers-rest : (ls : List (List ℕ)) (out : List ℕ) → Serves grammar behaviour (replicate SLOTS None) seed ls out →
       AnswersWhere grammar behaviour (AreOfRun kind seed) (Some []) (replicate SLOTS None) seed ls out
   answers-rest = answers-hold (AreOfRun kind seed) of-run
@@ -95,7 +95,7 @@ module _ {C Shape S : Type 0} (grammar : Grammar C) {kind : Kind ℤ C Shape S} 
       of-run None slots coins of = tt
       of-run (Some commands) slots coins of = of.0
 
-  -- and they keep what is promised of sketches in slots
+  -- and they keep every promise that the sketches of a run keep
   pub answers-keep : (promise : List (Command ℤ C) → ℕ → S → Type 0) →
       ((commands : List (Command ℤ C)) (slots : Held S) (coins : ℕ) → Standing kind coin_of next_state seed commands slots coins → (slot : ℕ) (s : S) → slots slot ≡ Some s → promise commands slot s) →
       (ls : List (List ℕ)) (out : List ℕ) → Serves grammar behaviour (replicate SLOTS None) seed ls out →

@@ -58,10 +58,10 @@ req-answers = record {
   pmfs = λ s points criteria. ranks-one int_cmp_total tied s.n points (pmf_of int_cmp criteria (expanded int_cmp (bag_in s.levels)) points);
 }
 
--- lines on KLL sketches are answered alike
+-- the same lines on KLL sketches have the same answers
 pub kll-lines : LinesAnswerOne kll_grammar kll_of_i64
 kll-lines = one-text (kll int_cmp i64_spelling) kll-answers kll_grammar
 
--- and so are lines on REQ sketches
+-- and so do lines on REQ sketches
 pub req-lines : LinesAnswerOne req_grammar req_of_i64
 req-lines = one-text (req int_cmp i64_spelling) req-answers req_grammar

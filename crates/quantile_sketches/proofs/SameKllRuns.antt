@@ -1,4 +1,4 @@
--- KLL sketches that the same commands make are the same, where items that compare equal are equal.
+-- The same commands make the same KLL sketches, if items that compare equal are equal.
 use Rattle.std.proofs.Common.{◌≡◌, ◌⊎◌, ◌<◌, ◌≤◌, ◌==◌, ◌+◌, ◌-◌, ◌^◌, Result, Err, ℕ, Bool, true, false, List, [], ◌∷◌, Option, Ok, refl, sym, ap, ap₂, ◌∙◌, arith, inl, inr, eqb-true, Ordering}
 use Rattle.std.proofs.lemmas.Bool.{cases_Bool, eqb-false, false≢true}
 use Rattle.std.specs.Cmp.{IsTotalOrder}
@@ -22,7 +22,7 @@ use Rattle.quantile_sketches.specs.SameRun.{CommandsMakeOne}
 use Rattle.quantile_sketches.proofs.CallErrors.{err-of, kind-of, settled-by, unread, unwritten-kind, so-same, so-most, so-either, below}
 use Rattle.quantile_sketches.proofs.SameRuns.{IsOne, IsSettled, MakesOne, no-err, settled-never, one-run}
 
--- a sketch, from its parts
+-- sketches with the same parts are the same
 from-parts : {A : Type 0} (s t : Kll A) → s.k ≡ t.k → s.min_k ≡ t.min_k → s.n ≡ t.n → s.is_sorted ≡ t.is_sorted → s.levels ≡ t.levels → s.least ≡ t.least → s.greatest ≡ t.greatest → s ≡ t
 from-parts {A} s t k min_k n is_sorted levels least greatest =
     ap₂ (λ (x y : ℕ). sketch_of x y s.n s.is_sorted s.levels s.least s.greatest) k min_k
@@ -57,7 +57,7 @@ module _ {A : Type 0} {cmp : A → A → Ordering} (order : IsTotalOrder cmp) (t
         from-parts t u (a.0 ∙ sym b.0) (a.1 ∙ sym b.1) (a.2 ∙ sym b.2) (ap (λ (x : Bag A). x.is_sorted) bags) (ap (λ (x : Bag A). x.levels) bags) (a.4 ∙ sym b.4) (a.5 ∙ sym b.5)
 
     module _ {Source : Type 0} (bit : Source → Bool) (next : Source → Source) where
-      -- what is never done
+      -- a call that is always refused
       never : IsSettled (DrawsNone cmp spelling bit next)
       never = settled-never (λ s t coins left r h. h)
 
@@ -97,7 +97,7 @@ module _ {A : Type 0} {cmp : A → A → Ordering} (order : IsTotalOrder cmp) (t
           settled-by (λ s. 2 ^ 64 ≤ s.n + p.n) (λ s. so-most (2 ^ 64) (s.n + p.n)) (joined-one p) (λ s t coins left r h. h.0)
           (λ s t coins left e h. (λ denied. h.1 (below (s.n + p.n) (2 ^ 64) denied), h.6.0, h.6.1))
 
-      -- each call on KLL sketches makes one sketch of a sketch
+      -- each call on a KLL sketch makes only one sketch
       pub makes-one : MakesOne (kll cmp spelling) bit next
       makes-one = record {
         made = made-one;
@@ -118,6 +118,6 @@ module _ {A : Type 0} {cmp : A → A → Ordering} (order : IsTotalOrder cmp) (t
         read_memory = λ s v e h h'. unread e h'.1 (λ d. h'.2 d s h.0.1);
       }
 
-      -- so commands make one list of sketches
+      -- so commands make only one list of sketches
       pub kll-commands-make-one : CommandsMakeOne (kll cmp spelling) bit next
       kll-commands-make-one = one-run (kll cmp spelling) bit next makes-one

@@ -31,14 +31,14 @@ use Rattle.quantile_sketches.specs.declared.command.Request.{Request}
 use Rattle.quantile_sketches.specs.declared.command.Request.TheVariants.{Run, Rank as RankOf, Quantile, Cdf, Pmf, Image as ImageOf, Load}
 use Rattle.quantile_sketches.proofs.SameRuns.{MakesOne, no-err, same-err, told, one-command}
 
--- replies that are given, and want no memory, have one text
+-- any two replies of this kind have the same text, unless memory ran out
 abbrev pub SameReplies : (Reply → Type 0) → Type 0
 SameReplies gives = (r w : Reply) → r ≢ Err (Sketch OutOfMemory) → w ≢ Err (Sketch OutOfMemory) → gives r → gives w → answer_text r ≡ answer_text w
 
 of-kind : (e f : ErrorKind) → e ≡ f → (let r : Reply = Err (Sketch e) in r) ≡ Err (Sketch f)
 of-kind e f is = ap (λ (e : ErrorKind). let r : Reply = Err (Sketch e) in r) is
 
--- a query that good arguments give one answer, and others are refused
+-- a query that has one answer for good arguments, and refuses others
 module _ {X : Type 0} (answer : X → Answer) (gives : Result X ErrorKind → Type 0) (Good : Type 0)
     (one : (x y : X) → gives (Ok x) → gives (Ok y) → answer_text (Ok (answer x)) ≡ answer_text (Ok (answer y)))
     (taken : (x : X) → gives (Ok x) → (Good → ⊥) → IsErrOf {T = X} (Ok x) InvalidArgument) (refused : (e : ErrorKind) → gives (Err e) → (Good → ⊥) → IsErrOf {T = X} (Err e) InvalidArgument)
@@ -60,7 +60,7 @@ module _ {X : Type 0} (answer : X → Answer) (gives : Result X ErrorKind → Ty
   replies-one r w n m h k = absurd h
 
 module _ {cmp : ℤ → ℤ → Ordering} (order : IsTotalOrder cmp) (tied : TiesAreEqual cmp) (n : ℕ) where
-  -- one item is named
+  -- a quantile has one answer
   pub quantile-one : (bag : Bag ℤ) (least greatest : Option ℤ) (fraction : Rank) (criteria : SearchCriteria) → SameReplies (Replies Item (IsQuantile cmp n bag least greatest fraction criteria))
   quantile-one bag least greatest fraction criteria =
       replies-one Item (IsQuantile cmp n bag least greatest fraction criteria) (IsFraction fraction)
@@ -69,7 +69,7 @@ module _ {cmp : ℤ → ℤ → Ordering} (order : IsTotalOrder cmp) (tied : Tie
       ∙ same-answers order tied (quantile cmp bag least greatest fraction.weight fraction.total criteria) y k.3))
       (λ x h. h.0.1) (λ e h. h.0.1) (λ e h good. (h.1 good).0)
 
-  -- one list of ranks is given
+  -- ranks for split points have one answer
   pub ranks-one : (points : List ℤ) (weights : List ℕ) → SameReplies (Replies Ranks (AreRanks cmp n points weights))
   ranks-one points weights = replies-one Ranks (AreRanks cmp n points weights) (IsIncreasing cmp points) one (λ x h. h.0.1) (λ e h. h.0.1) (λ e h good. (h.1 good).0)
     where
@@ -80,7 +80,7 @@ module _ {cmp : ℤ → ℤ → Ordering} (order : IsTotalOrder cmp) (tied : Tie
       one (Some v) (Some u) h k = ap ranks_text (h.3 ∙ sym k.3)
 
 module _ {C S : Type 0} (behaviour : Behaviour S ℤ C) where
-  -- what is asked of a family: its calls make one sketch, what is read once is no bad data, and queries have one answer
+  -- what is required of a family: its calls make only one sketch, what can be read isn't bad data, and queries have one answer
   pub record AnswersOne : Type 0 where
     pub calls : MakesOne behaviour coin_of next_state
     pub loads : (bytes : List ℕ) (t : S) → behaviour.loaded bytes (Ok t) → behaviour.loaded bytes (Err InvalidData) → ⊥
@@ -90,7 +90,7 @@ module _ {C S : Type 0} (behaviour : Behaviour S ℤ C) where
     pub cdfs : (s : S) (points : List ℤ) (criteria : SearchCriteria) → SameReplies (Replies Ranks (behaviour.cdf s points criteria))
     pub pmfs : (s : S) (points : List ℤ) (criteria : SearchCriteria) → SameReplies (Replies Ranks (behaviour.pmf s points criteria))
 
-  -- what a slot's sketch is asked
+  -- a question to a slot's sketch has one answer
   reads-one : (told : S → Reply → Type 0) → ((s : S) → SameReplies (told s)) → (slot : ℕ) (slots ts us : Slots S) (coins left left' : ℕ) (r w : Reply) → r ≢ Err (Sketch OutOfMemory) →
       w ≢ Err (Sketch OutOfMemory) →
       Reads told slot slots r × (ts ≡ slots) × (left ≡ coins) → Reads told slot slots w × (us ≡ slots) × (left' ≡ coins) → (answer_text r ≡ answer_text w) × (ts ≡ us) × (left ≡ left')
@@ -124,7 +124,7 @@ module _ {C S : Type 0} (behaviour : Behaviour S ℤ C) where
     shows-one s r w n m (inr (inl (f, h, e))) (inr (inr z)) = absurd (m z)
     shows-one s r w n m (inr (inr z)) k = absurd (n z)
 
-    -- what is loaded
+    -- a load puts a sketch into its slot, or the data is bad
     abbrev Loaded : List ℕ → ℕ → Slots S → Verdict → Slots S → Type 0
     Loaded bytes slot slots v ts =
         ((s : S) × (v ≡ Ok tt) × behaviour.loaded bytes (Ok s) × (ts ≡ slice_set slots slot (Some s)))
@@ -173,7 +173,7 @@ module _ {C S : Type 0} (behaviour : Behaviour S ℤ C) where
     one-answered None line slots ts us coins left left' r w n m (is, same, stays) (is', same', stays') = (ap answer_text (is ∙ sym is'), same ∙ sym same', stays ∙ sym stays')
     one-answered (Some command) line slots ts us coins left left' r w n m h k = one-executed command line slots ts us coins left left' r w n m h k
 
-    -- a text has one answer
+    -- what is written for lines is only one text
     pub one-text : (grammar : Grammar C) → LinesAnswerOne grammar behaviour
     one-text grammar slots coins [] out out' h k = h ∙ sym k
     one-text grammar slots coins (l ∷ ls) out out' (r, n, ts, left, rest, h, on, is) (w, m, us, left', rest', k, on', is') =

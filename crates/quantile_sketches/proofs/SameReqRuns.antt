@@ -1,4 +1,4 @@
--- REQ sketches that the same commands make are the same, where items that compare equal are equal.
+-- The same commands make the same REQ sketches, if items that compare equal are equal.
 use Rattle.std.proofs.Common.{◌≡◌, ◌⊎◌, ◌<◌, ◌==◌, ◌+◌, ◌-◌, ◌^◌, Result, Err, ℕ, Bool, List, [], ◌∷◌, Option, Ok, refl, sym, ap, ap₂, ◌∙◌, arith, inl, inr, eqb-true, Ordering}
 use Rattle.std.proofs.lemmas.Bool.{cases_Bool, eqb-false, false≢true}
 use Rattle.std.specs.Cmp.{IsTotalOrder}
@@ -30,7 +30,7 @@ use Rattle.quantile_sketches.proofs.ReqObeys.{may-be, same-itself}
 use Rattle.quantile_sketches.proofs.ReqRuleLaws.{legal_k, same_accuracy}
 use Rattle.quantile_sketches.proofs.SameRuns.{IsOne, IsSettled, MakesOne, no-err, settled-never, one-run}
 
--- a sketch, from its parts
+-- sketches with the same parts are the same
 from-parts : {A : Type 0} (s t : Req A) → s.k ≡ t.k → s.accuracy ≡ t.accuracy → s.n ≡ t.n → s.levels ≡ t.levels → s.least ≡ t.least → s.greatest ≡ t.greatest → s ≡ t
 from-parts {A} s t k accuracy n levels least greatest =
     ap₂ (λ (x : ℕ) (y : RankAccuracy). sketch_of x y s.n s.levels s.least s.greatest) k accuracy
@@ -81,7 +81,7 @@ module _ {A : Type 0} {cmp : A → A → Ordering} (order : IsTotalOrder cmp) (t
     so-not (inl p) = inr (λ denied. denied p)
     so-not (inr p) = inl p
 
-    -- what isn't denied
+    -- what can't be denied holds
     surely : {P : Type 0} → P ⊎ (P → ⊥) → ((P → ⊥) → ⊥) → P
     surely (inl p) denied = p
     surely (inr p) denied = absurd (denied p)
@@ -133,7 +133,7 @@ module _ {A : Type 0} {cmp : A → A → Ordering} (order : IsTotalOrder cmp) (t
                     (one-merge order tied redraws s p _ t u h.5 h'.5 (h.3 some) (h'.3 some), h.4 some ∙ sym (h'.4 some))
               ]
 
-      -- each call on REQ sketches makes one sketch of a sketch
+      -- each call on a REQ sketch makes only one sketch
       pub makes-one : MakesOne (req cmp spelling) bit next
       makes-one = record {
         made = λ config s t h h'. empty-one config.0 config.1 s t h.2 h'.2;
@@ -154,6 +154,6 @@ module _ {A : Type 0} {cmp : A → A → Ordering} (order : IsTotalOrder cmp) (t
         read_memory = λ s v e h h'. unread e h'.1 (λ d. h'.2 d (without_coins s) [] h.0.1);
       }
 
-      -- so commands make one list of sketches
+      -- so commands make only one list of sketches
       pub req-commands-make-one : CommandsMakeOne (req cmp spelling) bit next
       req-commands-make-one = one-run (req cmp spelling) bit next makes-one

@@ -1,4 +1,4 @@
--- The same commands make the same sketches, where each accepted call makes one sketch of a sketch.
+-- The same commands make the same sketches, if each accepted call makes only one sketch from a sketch.
 use Rattle.std.proofs.Common.{◌≡◌, ◌≢◌, ◌==◌, ℕ, Bool, true, false, List, [], ◌∷◌, Option, None, Some, Result, Ok, Err, slice_set, refl, sym, ap, ◌∙◌, subst, inl, inr}
 use Rattle.std.specs.Prelude.{IsErrOf}
 use Rattle.std.proofs.lemmas.Option.{same_Some}
@@ -28,16 +28,17 @@ ample e n is = n (told e OutOfMemory is)
 pub no-err : {T E : Type 0} (x : T) (e : E) → Ok x ≡ Err e → ⊥
 no-err x e same = cc
 
--- a result has one error
+-- a result has only one error
 pub same-err : {T E : Type 0} (e f : E) (r : Result T E) → r ≡ Err e → r ≡ Err f → e ≡ f
 same-err e f r one two = cc
 
 module _ {S Source : Type 0} where
-  -- an accepted call makes one sketch of a sketch, by the same coins
+  -- an accepted call, on the same sketch under the same coins, leaves the same sketch and coins
   abbrev pub IsOne : Change Source S → Type 0
   IsOne call = (s t u : S) (coins left left' : Source) → call s coins (Ok tt) t left → call s coins (Ok tt) u left' → (t ≡ u) × (left ≡ left')
 
-  -- and where it may be accepted it is refused for memory alone; if it is refused for anything else the sketch and the coins stay
+  -- and if it may be accepted, it fails only for lack of memory; if it is refused for anything else, the sketch and the coins
+  -- stay the same
   pub record IsSettled (call : Change Source S) : Type 0 where
     pub one : IsOne call
     pub clash : (s t u : S) (coins left left' : Source) (e : ErrorKind) → call s coins (Ok tt) t left → call s coins (Err e) u left' → e ≡ OutOfMemory
@@ -52,7 +53,7 @@ module _ {S Source : Type 0} where
     refuses = λ s t coins left e h n. let stays = never s t coins left (Err e) h in (same-err {T = Unit} e InvalidArgument (Err e) refl stays.0, stays.1, stays.2);
   }
 
-  -- what comes of a slot is one
+  -- what comes of a slot is always the same, unless memory runs out
   abbrev AreOne : (Option S → Source → Verdict → Option S → Source → Type 0) → Type 0
   AreOne turns = (o p q : Option S) (coins left left' : Source) (v w : Verdict) → Ample v → Ample w → turns o coins v p left → turns o coins w q left' → (v ≡ w) × (p ≡ q) × (left ≡ left')
 
@@ -82,7 +83,8 @@ module _ {S Source : Type 0} where
       (r.0, is ∙ (ap (λ (x : Option S). slice_set slots slot x) r.1 ∙ sym is'), r.2)
 
 module _ {A C S Source : Type 0} (behaviour : Behaviour S A C) (bit : Source → Bool) (next : Source → Source) where
-  -- what is asked of a family: what is made, copied, emptied or read is one sketch, and so is what an update or a merge makes; and what may be accepted is refused for memory alone
+  -- what is required of a family: what is made, copied, emptied or read is only one sketch, and so is what an update or a
+  -- merge makes; and what may be accepted fails only for lack of memory
   pub record MakesOne : Type 0 where
     pub made : (config : C) (s t : S) → behaviour.made config (Ok s) → behaviour.made config (Ok t) → s ≡ t
     pub made_clash : (config : C) (s : S) (e : ErrorKind) → behaviour.made config (Ok s) → behaviour.made config (Err e) → e ≡ OutOfMemory
@@ -183,7 +185,7 @@ module _ {A C S Source : Type 0} (behaviour : Behaviour S A C) (bit : Source →
         coins left left' v w n m h
         (subst (λ (x : Option S). Changes (Joins (λ p. behaviour.joined redraws p Source bit next) x) into slots coins w us left') same h')
 
-    -- a command makes one list of sketches
+    -- a command makes only one list of sketches
     pub one-command : (command : Command A C) (slots ts us : Slots S) (coins left left' : Source) (v w : Verdict) → Ample v → Ample w →
         CarriesOutItem behaviour bit next command slots coins v ts left → CarriesOutItem behaviour bit next command slots coins w us left' → (v ≡ w) × (ts ≡ us) × (left ≡ left')
     one-command (New slot config) slots ts us coins left left' v w n m h h' =

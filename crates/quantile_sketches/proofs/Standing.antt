@@ -17,14 +17,14 @@ use Rattle.quantile_sketches.proofs.LegalPlans.{steady-start, steady-from, plan-
 use Rattle.quantile_sketches.proofs.SlotSteps.{IsOf, Stand, Steps, stand-same, steps}
 use Rattle.quantile_sketches.proofs.Streams.{run-counts}
 
--- the first of the first
+-- the first m of the first n elements are the first m, if m is at most n
 take-front : {X : Type 0} (m n : ℕ) (xs : List X) → m ≤ n → take m (take n xs) ≡ take m xs
 take-front zero n xs h = refl
 take-front (suc m) zero xs h = absurd (omega arith)
 take-front (suc m) (suc n) [] h = refl
 take-front (suc m) (suc n) (x ∷ xs) h = ap (λ l. x ∷ l) (take-front m n xs (omega arith))
 
--- the coins are those after the commands, and the sketches stand under each word that begins with the bits that the source gave
+-- the source is past the commands' coins, and the sketches stand under each word that begins with the bits that it gave
 pub record Standing {A C Shape S Source : Type 0} (kind : Kind A C Shape S) (bit : Source → Bool) (next : Source → Source) (seed : Source) (commands : List (Command A C))
     (slots : Held S) (source : Source) : Type 0 where
   pub drawn : source ≡ after_draws next seed (coins (trace_of kind.rules commands))
@@ -46,7 +46,7 @@ module _ {A C Shape S Source : Type 0} {kind : Kind A C Shape S} (lawful : IsLaw
     };
   }
 
-  -- where nothing changes
+  -- if nothing changes, this still holds
   pub standing-same : (commands : List (Command A C)) (slots slots' : Held S) (source source' : Source) → Stands commands slots source → AreSame slots slots' → source' ≡ source →
       Stands commands slots' source'
   standing-same commands slots slots' source source' st same stays = record {
@@ -100,7 +100,7 @@ module _ {A C Shape S Source : Type 0} {kind : Kind A C Shape S} (lawful : IsLaw
       stand = stands-on;
     }
 
-  -- one command more, accepted or refused
+  -- one more command, accepted or refused
   pub standing-next : (commands : List (Command A C)) (slots : Held S) (source : Source) → Stands commands slots source → (c : Command A C) (accepted : Bool) (slots' : Held S) (source' : Source) →
       IsExecuted kind bit next c slots source accepted slots' source' → Stands (if accepted then commands ++ c ∷ [] else commands) slots' source'
   standing-next commands slots source st c true slots' source' x = standing-more commands slots source st c slots' source' x
@@ -121,20 +121,20 @@ module _ {A C Shape S Source : Type 0} {kind : Kind A C Shape S} (lawful : IsLaw
     stood : Stand kind (plan_of kind.rules commands) (stream_of kind.rules commands) (play kind.cmp (trace_of kind.rules commands) given start) slots
     stood = st.stand given (bits-take bit next seed (coins (trace_of kind.rules commands)) (coins (trace_of kind.rules commands)) (omega arith))
 
-    -- the sketch is that of the play and of its stream
+    -- the sketch is that of its slot's bag in the play, and of its stream
     pub standing-is : IsOf kind ((play kind.cmp (trace_of kind.rules commands) given start).slots slot) (stream_of kind.rules commands slot) s
     standing-is = stood.sketches slot s held
 
-    -- of the planned shape
+    -- it has the planned shape
     pub standing-shape : (plan_of kind.rules commands).shapes slot ≡ Some (kind.shape s)
     standing-shape = sym (stood.shapes slot) ∙ ap (option_map kind.shape) held
 
-    -- it weighs as much as its stream
+    -- its count and weight are the length of its stream
     pub standing-weight : WeighsStream kind commands slot s
     standing-weight =
         let n : kind.rules.count (kind.shape s) ≡ length (stream_of kind.rules commands slot) = ap (count_of kind.rules) (sym standing-shape) ∙ run-counts lawful.rules commands slot in
         (n, lawful.weighs s standing-is.sound ∙ n)
 
-    -- and has its extremes
+    -- its extremes are those of its stream
     pub standing-extremes : HasExtremes kind commands slot s
     standing-extremes = (standing-is.least, standing-is.greatest)

@@ -1,4 +1,4 @@
--- A slot that took updates and free slots alone took each coin in once, and no two free slots have a coin in common.
+-- A slot that took only updates and free slots took each coin in once, and no two free slots have a coin in common.
 use Rattle.std.proofs.Common.{◌≡◌, ℕ, Bool, true, false, ◌&&◌, ◌==◌, if◌then◌else◌, List, [], ◌∷◌, Option, Some, refl, sym, ap, ◌∙◌, subst, inl, inr, eqb-true}
 use Rattle.std.specs.Option.{option_and_then}
 use Rattle.std.proofs.lemmas.Bool.{cases_Bool, and_from, eq-eqb, ne_eqb, false≢true}
@@ -36,7 +36,7 @@ joined-free : (a b : Standing) → joined a b ≡ Free → (a ≡ Free) × (b �
 joined-free Free Free e = (refl, refl)
 joined-free a b e = cc
 
--- what two slots make that are merged is a tree where it is free alone
+-- what two merged slots make is a tree only if it is free
 joined-tree : (a b : Standing) → is_tree (joined a b) ≡ true → joined a b ≡ Free
 joined-tree Free Free e = refl
 joined-tree a b e = absurd (false≢true e)
@@ -49,7 +49,7 @@ record AreTrees (stands : ℕ → Standing) (once : ℕ → Bool) (shares : ℕ 
   taken : (j : ℕ) → is_tree (stands j) ≡ true → once j ≡ true
   apart : (i j : ℕ) → (i == j) ≡ false → stands i ≡ Free → stands j ≡ Free → AreApart shares i j
 
--- after some events, by which the slots get this standing
+-- this holds after some events that give the slots this standing
 abbrev TreesBy : {A : Type 0} → (ℕ → Standing) → (ℕ → Bool) → (ℕ → List ℕ) → List (Event A) → Type 0
 TreesBy stands once shares events = AreTrees stands (takes_once events shares once) (all_shares events shares)
 
@@ -66,7 +66,7 @@ module _ (A : Type 0) (stands : ℕ → Standing) (once : ℕ → Bool) (shares 
         (λ e h. i.apart a b ne (sym (changed-away stands s Free a e) ∙ f) (sym (changed-away stands s Free b h) ∙ g));
   }
 
-  -- a slot that is acted on, where no slot comes to be free
+  -- a slot that is acted on, if no slot becomes free
   trees-act : (stands' : ℕ → Standing) (once' : ℕ → Bool) (s : ℕ) (actions : List (Action A)) → ((j : ℕ) → is_tree (stands' j) ≡ true → once' j ≡ true) →
       ((j : ℕ) → stands' j ≡ Free → stands j ≡ Free) → AreTrees stands' once' (all_shares (events_at s actions) shares)
   trees-act stands' once' s actions taken less = record {
@@ -102,7 +102,7 @@ module _ (A : Type 0) (stands : ℕ → Standing) (once : ℕ → Bool) (shares 
     abbrev kept : Bool
     kept = once into && (once source && share_no_coin (shares into) (shares source))
 
-    -- the slots that are merged, where what they make is free
+    -- if a merge makes a free slot, its two slots are different and were free
     were_free : comes ≡ Free → ((into == source) ≡ false) × (stands into ≡ Free) × (stands source ≡ Free)
     were_free =
         elim (into == source) as (λ b. (if b then Mixed else joined (stands into) (stands source)) ≡ Free → (b ≡ false) × (stands into ≡ Free) × (stands source ≡ Free)) [
@@ -117,7 +117,7 @@ module _ (A : Type 0) (stands : ℕ → Standing) (once : ℕ → Bool) (shares 
           | false ↦ joined-tree (stands into) (stands source)
         ]
 
-    -- another slot that is free is not the source
+    -- another slot that is free isn't the source
     free-others : (j : ℕ) → others j ≡ Free → ((j == source) ≡ false) × (stands j ≡ Free)
     free-others j =
         elim (j == source) as (λ b. (if b then used (stands source) else stands j) ≡ Free → (b ≡ false) × (stands j ≡ Free)) [
@@ -130,7 +130,7 @@ module _ (A : Type 0) (stands : ℕ → Standing) (once : ℕ → Bool) (shares 
         (ap is_tree (changed-there stands source (used (stands source))) ∙ used-tree (stands source))
         (λ j e. ap is_tree (changed-away stands source (used (stands source)) j e))
 
-    -- the slot that took the other one in, and a third one
+    -- a free slot that took the other one in shares no coin with a third free one
     apart-into : comes ≡ Free → (j : ℕ) → (j == into) ≡ false → others j ≡ Free → AreApart snapped into j
     apart-into e j ne f =
         let (differ, mine, its) = were_free e in
@@ -143,7 +143,7 @@ module _ (A : Type 0) (stands : ℕ → Standing) (once : ℕ → Bool) (shares 
         ∙ (ap (λ (l : List ℕ). products (shares a) l) (changed-away shares into _ b f)
         ∙ i.apart a b ne (free-others a g).1 (free-others b h).1)
 
-    -- any two slots
+    -- no two free slots share a coin after that
     apart-after : (a b : ℕ) → (a == b) ≡ false → after a ≡ Free → after b ≡ Free → AreApart snapped a b
     apart-after a b ne f g =
         elim (cases_Bool (a == into)) [
@@ -163,7 +163,7 @@ module _ (A : Type 0) (stands : ℕ → Standing) (once : ℕ → Bool) (shares 
         here : (j : ℕ) → (j == into) ≡ true → after j ≡ comes
         here j e = ap (λ (b : Bool). if b then comes else others j) e
 
-    -- by the actions of the merge
+    -- all this holds after the actions of the merge
     trees-merge : (actions : List (Action A)) → takes_once (Snap source into ∷ events_at into actions) shares once ≡ changed once into kept →
         TreesBy after once shares (Snap source into ∷ events_at into actions)
     trees-merge actions taken = record {

@@ -20,14 +20,14 @@ module _ {A : Type 0} where
   shorn (At s Forget ∷ es) = shorn es
   shorn (e ∷ es) = e ∷ shorn es
 
-  -- where some Forgets are left out, the others may be
+  -- if some Forgets are left out, the others may be too
   pub sheds-shorn : (es es' : List (Event A)) → Sheds es es' → Sheds es' (shorn es)
   sheds-shorn _ _ none = none
   sheds-shorn _ _ (shed s es es' sheds) = sheds-shorn es es' sheds
   sheds-shorn _ _ (kept (At s Forget) es es' sheds) = shed s es' (shorn es) (sheds-shorn es es' sheds)
   sheds-shorn _ _ (kept e es es' sheds) = kept e es' (shorn es) (sheds-shorn es es' sheds)
 
-  -- bags that differ in kept bits alone, and in none that was drawn
+  -- bags that differ only in kept bits, and in none that was drawn
   pub record AreSame (drawn : ℕ → Bool) (bag bag' : Bag A) : Type 0 where
     pub levels : bag.levels ≡ bag'.levels
     pub sorted : bag.is_sorted ≡ bag'.is_sorted
@@ -42,7 +42,7 @@ module _ {A : Type 0} where
       (rw (changed-there drawn s row, changed-there slots s bag, changed-there slots' s bag') here)
       (λ i e reached. rw (changed-away drawn s row i e, changed-away slots s bag i e, changed-away slots' s bag' i e) (all i (back i e reached)))
 
-  -- levels without items
+  -- levels without items are the same if there are equally many of them
   no-items : (levels levels' : List (List A)) → map length levels ≡ map length levels' → sum (map length levels) ≡ 0 → levels ≡ levels'
   no-items [] [] e zero_sum = refl
   no-items [] (level' ∷ above') e zero_sum = cc
@@ -58,7 +58,7 @@ module _ {A : Type 0} where
       empty [] (x ∷ xs) e z = absurd (omega (arith, e))
       empty (x ∷ xs) level' e z = absurd (omega (arith, z))
 
--- one bit kept anew
+-- one kept bit changes in both bags
 kept-changed : (row bits bits' : ℕ → Bool) (h : ℕ) (bit bit' : Bool) → bit ≡ bit' → ((j : ℕ) → (j == h) ≡ false → row j ≡ true → bits j ≡ bits' j) →
     (j : ℕ) → row j ≡ true → changed bits h bit j ≡ changed bits' h bit' j
 kept-changed row bits bits' h bit bit' same others =
@@ -66,14 +66,14 @@ kept-changed row bits bits' h bit bit' same others =
     (λ drawn. rw (changed-there bits h bit, changed-there bits' h bit') same)
     (λ j e drawn. rw (changed-away bits h bit j e, changed-away bits' h bit' j e) (others j e drawn))
 
--- which others were drawn
+-- marking one level as drawn doesn't mark others
 drawn-others : (drawn : ℕ → Bool) (h j : ℕ) → (j == h) ≡ false → changed drawn h true j ≡ true → drawn j ≡ true
 drawn-others drawn h j e d = sym (ap (λ (b : Bool). if b then true else drawn j) e) ∙ d
 
 module _ {A : Type 0} (cmp : A → A → Ordering) (slot : ℕ) where
   -- ---- two worlds
 
-  -- two worlds of the same level lengths that agree so in what gets into the asked slot
+  -- two worlds of the same level lengths that agree in this sense on all that may get into the asked slot
   pub record Agree (es : List (Event A)) (drawn : ℕ → ℕ → Bool) (lengths : World (List ℕ)) (world world' : World (Bag A)) : Type 0 where
     pub lengths_are : world_lengths world ≡ lengths
     pub lengths_are' : world_lengths world' ≡ lengths
@@ -85,7 +85,7 @@ module _ {A : Type 0} (cmp : A → A → Ordering) (slot : ℕ) where
     abbrev acted : ℕ → Action A → Bool → World (Bag A) → Work (Bag A)
     acted s action bit w = act cmp action bit (record { bag = w.slots s; scratch = w.scratch })
 
-    -- where an action leaves them so
+    -- they still agree after an action on a slot that leaves its bags and the scratches in agreement
     at-slot : (s : ℕ) (action : Action A) (row : ℕ → Bool) (bit : Bool) → TakesEven (At s action) lengths → Agree (At s action ∷ es) drawn lengths world world' →
         ((i : ℕ) → (i == s) ≡ false → reaches es slot i ≡ true → reaches (At s action ∷ es) slot i ≡ true) →
         (reaches es slot s ≡ true → AreSame row (acted s action bit world).bag (acted s action bit world').bag) →
@@ -98,7 +98,7 @@ module _ {A : Type 0} (cmp : A → A → Ordering) (slot : ℕ) where
       scratch = scratch;
     }
 
-    -- an action that leaves which bits were drawn
+    -- the same for an action that doesn't change which bits were drawn
     at-own : (s : ℕ) (action : Action A) (bit : Bool) → TakesEven (At s action) lengths → Agree (At s action ∷ es) drawn lengths world world' →
         ((i : ℕ) → (i == s) ≡ false → reaches es slot i ≡ true → reaches (At s action ∷ es) slot i ≡ true) →
         (reaches es slot s ≡ true → AreSame (drawn s) (acted s action bit world).bag (acted s action bit world').bag) →
@@ -108,18 +108,18 @@ module _ {A : Type 0} (cmp : A → A → Ordering) (slot : ℕ) where
         subst (λ (d : ℕ → ℕ → Bool). Agree es d (lengths_after (At s action) lengths) (happens (act cmp) (At s action) bit world) (happens (act cmp) (At s action) bit world'))
         (changed-itself drawn s) (at-slot s action (drawn s) bit even agree back here scratch)
 
-    -- that they agree before an event makes them agree so behind it
+    -- if they agree before an event, they agree after it
     abbrev Goes : Event A → Bool → (ℕ → ℕ → Bool) → Type 0
     Goes e bit drawn' = Agree (e ∷ es) drawn lengths world world' → Agree es drawn' (lengths_after e lengths) (happens (act cmp) e bit world) (happens (act cmp) e bit world')
 
-    -- an empty scratch
+    -- empty scratches are the same
     no-scratch : {e : Event A} → Agree (e ∷ es) drawn lengths world world' → sum lengths.scratch ≡ 0 → world.scratch.levels ≡ world'.scratch.levels
     no-scratch agree empty =
         let own = ap (λ (w : World (List ℕ)). w.scratch) agree.lengths_are in
         let other = ap (λ (w : World (List ℕ)). w.scratch) agree.lengths_are' in
         no-items world.scratch.levels world'.scratch.levels (own ∙ sym other) (ap (λ (l : List ℕ). sum l) own ∙ empty)
 
-    -- the scratch of a slot that it is worked into
+    -- the scratches are the same if they are empty or are for the slot that is acted on
     own-scratch : (s : ℕ) {e : Event A} → Agree (e ∷ es) drawn lengths world world' → (reaches es slot lengths.target ≡ true → reaches (e ∷ es) slot lengths.target ≡ true) →
         (sum lengths.scratch == 0 || s == lengths.target) ≡ true → reaches es slot s ≡ true → world.scratch.levels ≡ world'.scratch.levels
     own-scratch s agree back obeys reached =
@@ -181,7 +181,7 @@ module _ {A : Type 0} (cmp : A → A → Ordering) (slot : ℕ) where
         (λ reached. record { levels = refl; sorted = refl; kept = λ h e. absurd (false≢true e) })
         (λ reached. ⊎_elim (λ empty. no-scratch agree (eqb-true (sum lengths.scratch) 0 empty)) (λ e. absurd (false≢true e)) (or_cases (sum lengths.scratch == 0) false obeys))
 
-    -- bags after compactions by the same bit
+    -- the bags still agree after compactions by the same bit
     same-compacted : (s h : ℕ) (taken : Taken) (row : ℕ → Bool) (bit bit' : Bool) → bit ≡ bit' → AreSame (drawn s) (world.slots s) (world'.slots s) →
         ((j : ℕ) → (j == h) ≡ false → row j ≡ true → drawn s j ≡ true) →
         AreSame row (record (compaction cmp h taken bit (world.slots s)) { kept = changed (world.slots s).kept h bit })
@@ -210,7 +210,7 @@ module _ {A : Type 0} (cmp : A → A → Ordering) (slot : ℕ) where
         same-compacted s h taken (drawn s) (not ((world.slots s).kept h)) (not ((world'.slots s).kept h)) (ap not (same.kept h was_drawn)) same (λ j e d. d))
         agree.scratch
 
-    -- a Forget of the one alone
+    -- a Forget in one world only
     agree-shed : (s : ℕ) (bit : Bool) → Agree (At s Forget ∷ es) drawn lengths world world' →
         Agree es (changed drawn s (λ h. false)) (lengths_after {A = A} (At s Forget) lengths) (happens (act cmp) (At s Forget) bit world) world'
     agree-shed s bit agree =

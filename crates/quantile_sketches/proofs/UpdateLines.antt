@@ -1,4 +1,4 @@
--- Lines that ask for an update and are written as most are: their words, and where they end.
+-- Lines that ask for an update in the usual form: their words, and where they end.
 use Rattle.std.proofs.Common.{◌≡◌, ℕ, ℤ, pos, neg_ℤ, suc, ◌+◌, ◌-◌, ◌<◌, ◌≤◌, ◌^◌, ◌==◌, Bool, true, false, cond, List, [], ◌∷◌, ◌++◌, length, take, drop, get_or, refl, sym, ap, ◌∙◌, arith, Some, take_all, not, length-append, length-take-le, length-drop, Option, Result, Ok, Err}
 use Rattle.std.specs.Prelude.{codes}
 use Rattle.std.specs.Result.{OkIff, result_ok}
@@ -32,7 +32,7 @@ lacks-append byte xs ys h k =
     let joined = prefix_len-append (λ b. not (b == byte)) xs ys ∙ cond-true _ _ _ (eq-eqb _ (length xs) h) in
     omega (arith, joined, k, length-append xs ys)
 
--- the place of a byte behind a text without it
+-- the index of a byte that follows a text without it
 place-behind : (byte : ℕ) (xs ys : List ℕ) → Lacks byte xs → position_or_len (λ b. b == byte) (xs ++ byte ∷ ys) ≡ length xs
 place-behind byte xs ys h =
     let joined = prefix_len-append (λ b. not (b == byte)) xs (byte ∷ ys) ∙ cond-true _ _ _ (eq-eqb _ (length xs) h) in
@@ -58,12 +58,12 @@ words-last w some none =
     ∙ ap (λ (n : ℕ). take n w ∷ words (drop n w)) none
     ∙ rw (take_all (length w) w (omega arith), drop_all (length w) w (omega arith)) refl
 
--- digits have no byte below theirs
+-- digits hold no byte below 48
 lacks-digits : (byte : ℕ) → byte < 48 → (xs : List ℕ) → all_digits xs ≡ true → Lacks byte xs
 lacks-digits byte low xs h =
     sym (digits_end byte low xs (length xs) (omega arith) (rw (take_all (length xs) xs (omega arith)) h) (λ more. absurd (omega (arith, more))))
 
--- a minus or none, and digits
+-- digits, after a minus or without one
 abbrev item_word : Bool → List ℕ → List ℕ
 item_word negative ds = cond negative (45 ∷ ds) ds
 
@@ -76,7 +76,7 @@ item-is : (negative : Bool) (ds : List ℕ) → all_digits ds ≡ true → 0 < l
 item-is true ds a some few = item_negative ds a some few
 item-is false ds a some few = item_short ds a some few
 
--- it is as much longer than its digits as any
+-- it is longer than its digits by the same number of bytes, whatever they are
 item-lengths : (negative : Bool) (xs ys : List ℕ) → (length (item_word negative xs) + length ys ≡ length (item_word negative ys) + length xs) × (length xs ≤ length (item_word negative xs))
 item-lengths true xs ys = (omega arith, omega arith)
 item-lengths false xs ys = (omega arith, omega arith)
@@ -116,7 +116,7 @@ item-within text item len end h =
     let sizes = item-lengths h.negative h.digits h.digits in
     omega (arith, h.len_is, long, sizes.1, h.begins.within)
 
--- a text that begins so
+-- a text that begins with such a line
 pub begins-with_update : (text numbers word : List ℕ) (slot slot_len len : ℕ) (item : ℤ) → text ≡ codes "update " ++ numbers → slot_len < length numbers →
     BeginsWithDigits numbers slot slot_len 32 → slot < 256 → word ≡ drop (suc slot_len) numbers → len < length word → BeginsWithItem word item len 10 →
     BeginsWithUpdate text slot item (length text - length word + len)
@@ -150,7 +150,7 @@ begins-with_update text numbers word slot slot_len len item verb within first fe
       item_is = reads;
     }
 
--- what is behind the first bytes, as a slice to the end is written
+-- what is after the first bytes, written as a slice to the end
 abbrev pub behind : ℕ → List ℕ → List ℕ
 behind n text = take (length text - n) (drop n text)
 
@@ -161,7 +161,7 @@ begins-verb (a ∷ b ∷ c ∷ d ∷ e ∷ f ∷ g ∷ rest) l ha hb hc hd he hf
     rw (to_end (a ∷ b ∷ c ∷ d ∷ e ∷ f ∷ g ∷ rest) 7, ha, hb, hc, hd, he, hf, hg) refl
 begins-verb text l ha hb hc hd he hf hg = absurd (omega arith)
 
--- the space behind the slot
+-- the space after the slot
 pub begins-behind : (numbers : List ℕ) (n : ℕ) → 1 ≤ length (behind n numbers) → (n < length numbers) × (behind 1 (behind n numbers) ≡ drop (suc n) numbers)
 begins-behind numbers n some =
     let cut = to_end numbers n in

@@ -8,7 +8,7 @@ use Rattle.quantile_sketches.specs.LineWords.{unsigned_of, item_of}
 use Rattle.quantile_sketches.specs.declared.audit.commands.Command.TheVariants.{Update}
 use Rattle.quantile_sketches.specs.declared.command.Request.TheVariants.{Run}
 
--- where the first word is a verb and the second one a slot
+-- a line whose first word is a verb and whose second word is a slot
 pub asks_by_its_verb : {C : Type 0} (grammar : Grammar C) (ws : List (List ℕ)) (verb : List ℕ) (slot : ℕ) →
     Some verb ≡ slice_get ws 0 → Some slot ≡ option_and_then parse_slot (slice_get (drop 1 ws) 0) →
     parse_asked grammar verb slot (drop 1 (drop 1 ws)) ≡ request_of grammar ws

@@ -20,7 +20,7 @@ use Rattle.quantile_sketches.proofs.ReqObeys.{req-obeys}
 use Rattle.quantile_sketches.proofs.ReqKind.{req_kind_lawful}
 use Rattle.quantile_sketches.proofs.lines.answers_rest_on_runs.Goals as goal
 
--- by the family
+-- for REQ and for KLL
 rest : (is_req : Bool) (seed : ℕ) (text out : List ℕ) → ServesFamily is_req seed text out → ServesRun is_req seed text out
 rest true seed text out =
     answers-rest req_grammar (req_kind_lawful int_cmp_total i64_spelling) (req int_cmp i64_spelling)
@@ -29,7 +29,7 @@ rest false seed text out =
     answers-rest kll_grammar (kll_kind_lawful int_cmp_total i64_spelling) (kll int_cmp i64_spelling)
     (kll-obeys int_cmp_total i64_spelling coin_of next_state i64_prefix_free i64_ties) seed (lines text) out
 
--- what is promised of the sketches
+-- the sketches keep what is promised of them
 kept : (is_req : Bool) (seed : ℕ) (text out : List ℕ) → ServesFamily is_req seed text out → ServesAsPromised is_req seed text out
 kept true seed text out =
     let lawful = req_kind_lawful int_cmp_total i64_spelling in

@@ -3,7 +3,7 @@ use Rattle.std.proofs.Common.{◌≡◌, ◌≤◌, ◌<◌, ℕ, List, [], ◌�
 use Rattle.std.specs.Prelude.{codes, string_bytes}
 use Rattle.quantile_sketches.proofs.lines.arguments.Goals as goal
 
--- a list of two
+-- a list of two elements
 two : {A : Type 0} (text : A → List ℕ) (ws : List A) (a b : A) → 2 ≤ length ws → length ws < 3 → a ≡ get_or ws 0 a → b ≡ get_or ws 1 b →
     map text ws ≡ text a ∷ text b ∷ []
 two text (x ∷ y ∷ []) a b h k e t = ap (λ z. text z ∷ text y ∷ []) (sym e) ∙ ap (λ z. text a ∷ text z ∷ []) (sym t)

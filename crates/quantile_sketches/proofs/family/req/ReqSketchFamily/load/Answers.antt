@@ -6,7 +6,7 @@ use Rattle.sketch_req.specs.Sketch.{Req}
 use Rattle.quantile_sketches.specs.ReqBehaviour.{IsLoaded}
 use Rattle.quantile_sketches.proofs.family.req.ReqSketchFamily.load.Goals as goal
 
--- an error of reading
+-- an error in reading
 bad : {A : Type 0} (cmp : A → A → Ordering) (spelling : A → Option (List ℕ)) (bytes : List ℕ) (e : ErrorKind) → (e ≡ InvalidArgument → ⊥) →
     (e ≡ InvalidData → NoImage cmp spelling bytes) → IsLoaded cmp spelling bytes (Err e)
 bad cmp spelling bytes e k r = (tt, k, r)

@@ -9,7 +9,7 @@ use Rattle.sketch_req.proofs.Rank.{retained_is}
 use Rattle.quantile_sketches.specs.ReqBehaviour.{TakesIn}
 use Rattle.quantile_sketches.proofs.family.req.ReqSketchFamily.update.Goals as goal
 
--- an update that gives an error
+-- an update that returns an error
 refused : {A Source : Type 0} (cmp : A → A → Ordering) (spelling : A → Option (List ℕ)) (bit : Source → Bool) (next : Source → Source) (s : Req A) (x : A) (coins : Source)
     (e : ErrorKind) (t : Req A) (coins' : Source) → IsSound cmp s →
     IsErrOf {T = Unit {0}} (Err e) InvalidArgument ↔ ((s.n ≡ 2 ^ 64 - 1) ⊎ (retained (bag_of s.levels) ≡ 4294967295)) →
