@@ -14,11 +14,7 @@ ghost use Rattle.sketch_base.specs.Views.{AreQuantiles, IsView, SameView, quanti
 ghost use Rattle.sketch_base.specs.Weighted.{items_of, pairs_in};
 
 use crate::common::extremes::clone_found;
-use crate::common::queries::{
-    cdf_among, check_fraction, check_fractions, check_points, entries_of, entry_at, place_of,
-    pmf_among, rank_among,
-};
-use crate::common::{Rank, SearchCriteria};
+use crate::common::{Rank, SearchCriteria, queries};
 use crate::error::Error;
 use crate::joining::{join_clones, join_equal, sort_from_greatest};
 use crate::weighted::Weighted;
@@ -147,7 +143,7 @@ impl<T: Clone + Ord> SortedView<T> {
     pub fn total_weight(&self) -> u64
         ensures { result ≡ length self.now.entries }
     {
-        entries_of(self.items.as_slice(), self.cumulated.as_slice())
+        queries::entries_of(self.items.as_slice(), self.cumulated.as_slice())
     }
 
     /// Returns the number of entries that a query counts, out of all entries, or None if there are
@@ -162,8 +158,8 @@ impl<T: Clone + Ord> SortedView<T> {
             return None;
         }
         let (items, cumulated) = (self.items.as_slice(), self.cumulated.as_slice());
-        let weight = rank_among(items, cumulated, item, criteria);
-        let total = entries_of(items, cumulated);
+        let weight = queries::rank_among(items, cumulated, item, criteria);
+        let total = queries::entries_of(items, cumulated);
         Some(Rank { weight, total })
     }
 
@@ -174,7 +170,7 @@ impl<T: Clone + Ord> SortedView<T> {
         ensures there { IfOk result (IsFoundAmong (length self.now.entries)) }
         ensures refused { IsRefusedUnless (IsFraction fraction) (length self.now.entries) result }
     {
-        check_fraction(fraction)?;
+        queries::check_fraction(fraction)?;
         Ok(clone_found(self.entry_of(fraction, criteria))?)
     }
 
@@ -190,7 +186,7 @@ impl<T: Clone + Ord> SortedView<T> {
         ensures refused { IsRefusedUnless (All IsFraction fractions.now)
             (length self.now.entries) result }
     {
-        check_fractions(fractions)?;
+        queries::check_fractions(fractions)?;
         if self.items.is_empty() {
             return Ok(None);
         }
@@ -208,13 +204,13 @@ impl<T: Clone + Ord> SortedView<T> {
         ensures refused { IsRefusedUnless (IsIncreasing T.cmp points.now)
             (length self.now.entries) result }
     {
-        check_points(points)?;
+        queries::check_points(points)?;
         if self.items.is_empty() {
             return Ok(None);
         }
         let alloc = *self.items.allocator();
         let (items, cumulated) = (self.items.as_slice(), self.cumulated.as_slice());
-        Ok(Some(cdf_among(alloc, items, cumulated, points, criteria)?))
+        Ok(Some(queries::cdf_among(alloc, items, cumulated, points, criteria)?))
     }
 
     /// Returns the numbers of entries between the split points, or None if there are no entries.
@@ -227,13 +223,13 @@ impl<T: Clone + Ord> SortedView<T> {
         ensures refused { IsRefusedUnless (IsIncreasing T.cmp points.now)
             (length self.now.entries) result }
     {
-        check_points(points)?;
+        queries::check_points(points)?;
         if self.items.is_empty() {
             return Ok(None);
         }
         let alloc = *self.items.allocator();
         let (items, cumulated) = (self.items.as_slice(), self.cumulated.as_slice());
-        Ok(Some(pmf_among(alloc, items, cumulated, points, criteria)?))
+        Ok(Some(queries::pmf_among(alloc, items, cumulated, points, criteria)?))
     }
 
     /// Returns a view of clones of the items.
@@ -262,8 +258,7 @@ impl<T: Clone + Ord> SortedView<T> {
     {
         let mut found = Vec::with_capacity(*self.items.allocator(), fractions.len())?;
         for fraction in fractions {
-            let item = self.clone_of_entry(fraction, criteria)?;
-            found.push(item)?;
+            found.push(self.clone_of_entry(fraction, criteria)?)?;
         }
         Ok(found)
     }
@@ -292,10 +287,11 @@ impl<T: Clone + Ord> SortedView<T> {
             return self.max_item.as_ref();
         }
         let (items, cumulated) = (self.items.as_slice(), self.cumulated.as_slice());
-        let entries = entries_of(items, cumulated);
+        let entries = queries::entries_of(items, cumulated);
         if entries == 0 {
             return None;
         }
-        entry_at(items, cumulated, place_of(fraction, entries, criteria))
+        let place = queries::place_of(fraction, entries, criteria);
+        queries::entry_at(items, cumulated, place)
     }
 }

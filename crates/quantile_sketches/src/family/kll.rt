@@ -69,10 +69,18 @@ impl<T: KllValue + Ord> Family for KllSketch<T> {
         Err(Error::new(ErrorKind::InvalidArgument))
     }
 
-    fn merge<B: RandomBits>(&mut self, other: &Self, redraws: bool, coins: &mut B) -> Outcome {
-        if redraws {
-            return Err(Error::new(ErrorKind::InvalidArgument));
-        }
+    type Room = ();
+
+    fn room(_alloc: Global) {}
+
+    fn merge<B: RandomBits>(
+        &mut self,
+        other: &Self,
+        redraws: bool,
+        coins: &mut B,
+        _room: &mut (),
+    ) -> Outcome {
+        ErrorKind::InvalidArgument.unless(!redraws)?;
         self.merge(other, coins)
     }
 

@@ -7,6 +7,7 @@ ghost use Rattle.quantile_sketches.specs.ReqKind.{req_kind};
 ghost use Rattle.quantile_sketches.specs.ReqRules.{ReqShape};
 
 use super::{Family, Outcome};
+use sketch_base::common::buffers::MergeRoom;
 use sketch_base::common::random::RandomBits;
 use sketch_base::common::{Rank, SearchCriteria};
 use sketch_base::error::{Error, ErrorKind};
@@ -63,12 +64,7 @@ impl<T: ReqValue + Clone + Ord> Family for ReqSketch<T> {
         Ok(self.update(item, coins)?)
     }
 
-    fn update_weighted<B: RandomBits>(
-        &mut self,
-        _item: T,
-        _weight: u64,
-        _coins: &mut B,
-    ) -> Outcome {
+    fn update_weighted<B: RandomBits>(&mut self, _: T, _: u64, _: &mut B) -> Outcome {
         Err(Error::new(ErrorKind::InvalidArgument))
     }
 
@@ -77,12 +73,20 @@ impl<T: ReqValue + Clone + Ord> Family for ReqSketch<T> {
         Ok(())
     }
 
-    fn merge<B: RandomBits>(&mut self, other: &Self, redraws: bool, coins: &mut B) -> Outcome {
-        if redraws {
-            self.merge_redrawn(other, coins)
-        } else {
-            self.merge(other, coins)
-        }
+    type Room = MergeRoom<T>;
+
+    fn room(alloc: Global) -> MergeRoom<T> {
+        MergeRoom::new(alloc)
+    }
+
+    fn merge<B: RandomBits>(
+        &mut self,
+        other: &Self,
+        redraws: bool,
+        coins: &mut B,
+        room: &mut MergeRoom<T>,
+    ) -> Outcome {
+        self.merge_in_room(other, redraws, coins, room)
     }
 
     fn rank_of(&self, item: &T, criteria: SearchCriteria) -> Option<Rank> {

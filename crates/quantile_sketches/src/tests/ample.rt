@@ -203,7 +203,7 @@ fn holds_many<S: Tried>(alloc: Global, config: S::Config) -> bool
     match fill_with::<S, SplitMix64>(alloc, config, MANY, &mut SplitMix64::new(1)) {
         Ok(mut sketch) => {
             is_whole(alloc, &sketch, 100_000)
-                && double(&mut sketch, &mut SplitMix64::new(2)).is_ok()
+                && double(alloc, &mut sketch, &mut SplitMix64::new(2)).is_ok()
                 && answers_all(alloc, &sketch)
                 && S::default_of(alloc).is_ok()
         }

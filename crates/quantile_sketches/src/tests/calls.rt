@@ -129,11 +129,15 @@ pub(super) fn filled<S: Tried>(alloc: Global, k: u16, count: u32) -> Result<S, E
 }
 
 /// Merges a copy of a sketch into it.
-pub(super) fn double<S: Tried, B: RandomBits>(sketch: &mut S, coins: &mut B) -> Result<(), Error>
+pub(super) fn double<S: Tried, B: RandomBits>(
+    alloc: Global,
+    sketch: &mut S,
+    coins: &mut B,
+) -> Result<(), Error>
     requires { S.Asks }
 {
     let copy = sketch.copy()?;
-    sketch.merge(&copy, false, coins)
+    sketch.merge(&copy, false, coins, &mut S::room(alloc))
 }
 
 fn is_ranked_alike<S: Tried>(sketch: &S, view: &View<S>, item: &S::Item) -> bool {
@@ -240,14 +244,13 @@ fn take<S: Tried>(row: Row, sketch: &mut S, item: Option<S::Item>) -> Result<(),
 }
 
 /// Makes a call that changes the sketch.
-fn change<S: Tried>(subject: &mut Subject<S>) -> Result<(), Error>
+fn change<S: Tried>(alloc: Global, subject: &mut Subject<S>) -> Result<(), Error>
     requires { S.Asks }
 {
+    let (sketch, mut coins) = (&mut subject.sketch, WordBits::new(&WORD));
     match &mut subject.given {
-        Given::Items(items) => take(subject.row, &mut subject.sketch, items.pop()),
-        Given::Other(other) => subject
-            .sketch
-            .merge(other, false, &mut WordBits::new(&WORD)),
+        Given::Items(items) => take(subject.row, sketch, items.pop()),
+        Given::Other(other) => sketch.merge(other, false, &mut coins, &mut S::room(alloc)),
         _ => bad_row(),
     }
 }
@@ -333,7 +336,7 @@ pub(super) fn answer_of<S: Tried>(
 {
     match subject.row.0 {
         Call::Update | Call::UpdateWeighted | Call::Merge => {
-            change(subject)?;
+            change(alloc, subject)?;
             Ok(Answer::Done)
         }
         Call::Default | Call::New | Call::Deserialize | Call::Run | Call::Audit => make(

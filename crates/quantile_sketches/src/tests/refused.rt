@@ -239,8 +239,9 @@ fn empties_quietly<S: Tried>(
     requires { S.Asks }
 {
     let mut coins = WordBits::new(&WORD);
+    let mut room = S::room(alloc);
     let is_told = refuse(alloc, 1);
-    let is_merged = sketch.merge(empty, false, &mut coins).is_ok();
+    let is_merged = sketch.merge(empty, false, &mut coins, &mut room).is_ok();
     sketch.reset();
     let is_nothing = answers_none(sketch, points) && views_none::<S>(view, points);
     is_told && is_merged && is_nothing && !was_refused(alloc)
@@ -300,6 +301,64 @@ fn asks_for_none<S: Tried>(alloc: Global) -> bool
 {
     match (filled::<S>(alloc, 8, 27), filled::<S>(alloc, 8, 0)) {
         (Ok(mut sketch), Ok(empty)) => are_quiet(alloc, &mut sketch, &empty),
+        _ => false,
+    }
+}
+
+/// Merges another sketch in some times, always under the same word.
+fn joins<S: Tried>(sketch: &mut S, other: &S, times: u8, room: &mut S::Room) -> bool
+    requires { S.Asks }
+{
+    for _ in 0..times {
+        if sketch
+            .merge(other, false, &mut WordBits::new(&WORD), room)
+            .is_err()
+        {
+            return false;
+        }
+    }
+    true
+}
+
+/// Makes three merges into a sketch, and the same into a copy of it in the room that they leave, the last of these with the first
+/// request refused, and once more if that had it fail: whether all are made, and both sketches are as one with a room for each
+/// merge.
+fn serves<S: Tried>(alloc: Global, first: &mut S, second: &mut S, third: &mut S, other: &S) -> bool
+    requires { S.Asks }
+{
+    let mut room = S::room(alloc);
+    let is_plain = joins(third, other, 1, &mut S::room(alloc))
+        && joins(third, other, 1, &mut S::room(alloc))
+        && joins(third, other, 1, &mut S::room(alloc));
+    let is_ready = joins(first, other, 3, &mut room) && joins(second, other, 2, &mut room);
+    let is_told = refuse(alloc, 1);
+    let is_joined = joins(second, other, 1, &mut room) || joins(second, other, 1, &mut room);
+    let is_over = refuse(alloc, SIGN);
+    is_plain
+        && is_ready
+        && is_told
+        && is_joined
+        && is_over
+        && are_alike(alloc, first, third)
+        && are_alike(alloc, second, third)
+}
+
+fn serves_again<S: Tried>(alloc: Global, k: u16, count: u32, others: u32) -> bool
+    requires { S.Asks }
+{
+    match (
+        filled::<S>(alloc, k, count),
+        filled::<S>(alloc, k, count),
+        filled::<S>(alloc, k, count),
+        filled::<S>(alloc, k, others),
+    ) {
+        (Ok(mut first), Ok(mut second), Ok(mut third), Ok(other)) => serves(
+            alloc,
+            &mut first,
+            &mut second,
+            &mut third,
+            &other,
+        ),
         _ => false,
     }
 }
@@ -417,4 +476,14 @@ fn lines(rt: HostRuntime) {
     let is_silent = refused.is_some() && !is_tried(rt.alloc());
     let is_told = is_silent || println!(rt; "Serve 0 2 0 {refused:?}").is_ok();
     assert!(rt; is_told && refused.is_some());
+}
+
+// A merge leaves room for the next one, whatever the sketches, and also if it failed.
+#[test]
+fn a_room_serves_the_next_merge(rt: HostRuntime) {
+    let alloc = rt.alloc();
+    assert!(rt;
+        serves_again::<ReqSketch<i64>>(alloc, 12, 5000, 1000)
+            && serves_again::<ReqSketch<i64>>(alloc, 4, 3000, 300)
+    );
 }

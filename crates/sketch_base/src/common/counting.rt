@@ -154,11 +154,8 @@ fn first_count<T: Ord>(items: &[T], step: usize, query: &T, criteria: SearchCrit
     ensures within { result + step ≤ length items.now + 1 }
 {
     let last = items.len() - step;
-    if counts(&items[last], query, criteria) {
-        last + 1
-    } else {
-        0
-    }
+    let is_counted = counts(&items[last], query, criteria);
+    if is_counted { last + 1 } else { 0 }
 }
 
 /// Returns whether a query counts an item.
@@ -202,10 +199,9 @@ fn count_in_part<T: Ord>(items: &[T], query: &T, criteria: SearchCriteria) -> us
     ensures { result ≡ count_by (counted T.cmp query.now criteria) items.now }
 {
     if items.len() > FEW {
-        count_in_order(items, query, criteria)
-    } else {
-        count_all(items, query, criteria)
+        return count_in_order(items, query, criteria);
     }
+    count_all(items, query, criteria)
 }
 
 /// Counts the items of a sorted slice that the query counts, given that it counts at least `known`.

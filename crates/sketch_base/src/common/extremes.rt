@@ -119,10 +119,7 @@ fn clone_if<T: Clone + Ord>(is_wanted: bool, item: &T) -> Result<Option<T>, Allo
     requires clones { (x y : T) → T.is_clone x y → T.cmp x y ≡ Equal }
     ensures { IfOk result (SameAnswer T.cmp (if is_wanted then Some item.now else None)) }
 {
-    if is_wanted {
-        return Ok(Some(item.clone()?));
-    }
-    Ok(None)
+    Ok(if is_wanted { Some(item.clone()?) } else { None })
 }
 
 /// Clones the item if it is below the least item so far.

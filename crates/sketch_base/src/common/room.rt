@@ -2,6 +2,7 @@
 ghost use Rattle.std.specs.Prelude.{◌≡◌, ◌+◌, ◌/◌, ◌<◌, ◌≤◌, max, vec_len, vec_capacity, OnOk};
 
 use std::alloc::AllocError;
+use std::mem;
 
 /// Makes room for one more item. A full vector grows by a quarter, or up to `most` items if that is
 /// less: a sketch is long-lived and soon stops growing.
@@ -49,6 +50,19 @@ pub fn reserve_more<T>(items: &mut Vec<T>, more: usize) -> Result<(), AllocError
         items.reserve_exact(more.max(len / 4))?;
     }
     Ok(())
+}
+
+/// Swaps two vectors if the first has room for over a quarter more items, but leaves its items in
+/// it. The other one is emptied, and gets room for the items if it has too little.
+pub fn move_if_loose<T: Drop>(items: &mut Vec<T>, other: &mut Vec<T>)
+    ensures { items.new.items ≡ items.old.items }
+{
+    let len = items.len();
+    other.clear();
+    if items.capacity() - len > len / 4 && reserve_more(other, len).is_ok() {
+        other.append(items).unwrap();
+        mem::swap(items, other);
+    }
 }
 
 /// Frees room beyond an eighth more items.

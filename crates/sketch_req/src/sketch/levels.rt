@@ -26,6 +26,7 @@ use crate::RankAccuracy;
 use crate::compactor::Compactor;
 use joining::join_and_walk;
 use sketch_base::common::SearchCriteria;
+use sketch_base::common::buffers::MergeRoom;
 use sketch_base::common::random::RandomBits;
 use sketch_base::error::Error;
 use std::alloc::AllocError;
@@ -219,6 +220,7 @@ impl<T: Clone + Ord> Levels<T> {
         others: &Self,
         redraws: bool,
         coins: &mut B,
+        room: &mut MergeRoom<T>,
     ) -> Result<(), AllocError>
         requires clones { (x y : T) → T.is_clone x y → T.cmp x y ≡ Equal }
         requires accuracy { self.old.accuracy ≡ others.now.accuracy }
@@ -233,7 +235,7 @@ impl<T: Clone + Ord> Levels<T> {
         ensures err { OnErr result ((self.new ≡ self.old) × (coins.new ≡ coins.old)) }
     {
         let more = others.compactors.as_slice();
-        join_and_walk(&mut self.compactors, more, redraws, coins)?;
+        join_and_walk(&mut self.compactors, more, redraws, coins, room)?;
         (self.num_retained, self.capacity) = sums(self.compactors.as_slice());
         Ok(())
     }
@@ -296,8 +298,7 @@ pub(crate) fn weight_counted<T: Clone + Ord>(
     requires { weight_of (layouts_of levels.now) < 2 ^ 64 }
     ensures { result ≡ counted_weight (counted T.cmp item.now criteria) levels.now }
 {
-    let mut weight = 0;
-    let mut level = levels.len();
+    let (mut weight, mut level) = (0, levels.len());
     while level > 0 {
         level -= 1;
         weight = levels[level].count(item, criteria) as u64 + 2 * weight;

@@ -20,10 +20,7 @@ use crate::compactor::Compactor;
 use crate::sorted_view::SortedView;
 use sketch_base::common::extremes::clone_found;
 use sketch_base::common::finding::{Ranked, find_in};
-use sketch_base::common::queries::{
-    check_fraction, check_fractions, check_points, place_of, take_differences,
-};
-use sketch_base::common::{Rank, SearchCriteria};
+use sketch_base::common::{Rank, SearchCriteria, queries};
 use sketch_base::error::Error;
 use sketch_base::weighted::{Weighted, merge_weighted, weigh_in_order};
 use std::alloc::{AllocError, Global};
@@ -91,7 +88,7 @@ impl<T: Clone + Ord> ReqSketch<T> {
         ensures there { IfOk result (IsFoundAmong self.now.n) }
         ensures refused { IsRefusedUnless (IsFraction fraction) self.now.n result }
     {
-        check_fraction(fraction)?;
+        queries::check_fraction(fraction)?;
         if let Some(item) = self.find(fraction, criteria) {
             return Ok(Some(item.clone()?));
         }
@@ -110,7 +107,7 @@ impl<T: Clone + Ord> ReqSketch<T> {
             _ if fraction.weight == 0 => self.min_item(),
             _ if fraction.weight == fraction.total => self.max_item(),
             0 => None,
-            n => self.find_at(place_of(fraction, n, criteria)),
+            n => self.find_at(queries::place_of(fraction, n, criteria)),
         }
     }
 
@@ -136,7 +133,7 @@ impl<T: Clone + Ord> ReqSketch<T> {
         ensures there { IfOk result (IsFoundAmong self.now.n) }
         ensures refused { IsRefusedUnless (All IsFraction fractions.now) self.now.n result }
     {
-        check_fractions(fractions)?;
+        queries::check_fractions(fractions)?;
         self.sorted_view()?.quantiles(fractions, criteria)
     }
 
@@ -153,7 +150,7 @@ impl<T: Clone + Ord> ReqSketch<T> {
         ensures there { IfOk result (IsFoundAmong self.now.n) }
         ensures refused { IsRefusedUnless (IsIncreasing T.cmp points.now) self.now.n result }
     {
-        check_points(points)?;
+        queries::check_points(points)?;
         if self.n == 0 {
             return Ok(None);
         }
@@ -183,7 +180,7 @@ impl<T: Clone + Ord> ReqSketch<T> {
         let Some(mut ranks) = self.cdf(points, criteria)? else {
             return Ok(None);
         };
-        take_differences(ranks.as_mut_slice());
+        queries::take_differences(ranks.as_mut_slice());
         Ok(Some(ranks))
     }
 }

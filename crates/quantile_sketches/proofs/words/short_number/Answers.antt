@@ -1,10 +1,13 @@
-use Rattle.std.proofs.Common.{◌≡◌, ◌<◌, ◌≤◌, ◌^◌, length, get_or, arith}
+use Rattle.std.proofs.Common.{◌≡◌, ◌<◌, ◌≤◌, ◌^◌, ℕ, Bool, false, true, IfSome, length, get_or, sym, ◌∙◌, refl, arith}
+use Rattle.std.specs.Bool.{then_some}
+use Rattle.std.proofs.lemmas.Bool.{eqb-true, ltb-true}
+use Rattle.quantile_sketches.specs.LineWords.{BeginsWithDigits}
 use Rattle.std.proofs.Math.Nat.{pow-le-pow_right}
 use Rattle.std.proofs.lemmas.Int.Digits.{digits_value_more}
 use Rattle.std.proofs.lemmas.Str.{digit_value_digit}
-use Rattle.quantile_sketches.proofs.ShortNumbers.{one_digit_more, all_digits_more, same_there}
+use Rattle.quantile_sketches.proofs.ShortNumbers.{one_digit_more, all_digits_more}
 use Rattle.quantile_sketches.proofs.words.short_number.Goals as goal
-use Rattle.quantile_sketches.proofs.words.short_number.Goals.{then-len-text, else-len-text}
+use Rattle.quantile_sketches.proofs.words.short_number.Goals.{After-then_some, then-len-gt0+else-len-text, then-len-gt0+then-len-text, else-len-gt0}
 
 pub overflow_mul-number : goal.overflow_mul-number
 overflow_mul-number c =
@@ -27,17 +30,26 @@ loop-len-preserved c =
       value = omega (arith, digit, c.loop-len.invariant.value, digits_value_more 10 c.args.text.now c.loop-len.len inside);
     }
 
-pub returns : goal.returns
-returns c =
-    let ends : c.loop-len.len < length c.args.text.now → get_or c.args.text.now c.loop-len.len 0 ≡ c.args.end = elim c.if-len-text.branch [
-      | then-len-text w ↦ λ h. same_there _ c.args.end c.if-len-text.value w.value-is c.if-text-len.false
-      | else-len-text w ↦ λ h. absurd (omega (arith, h, w.if-len-text))
-    ] in
+-- the number ends at the end of the text, or before the byte that ends it
+ends : (c : After-then_some) → c.if-len-gt0.is_number ≡ true → (0 < c.loop-len.len) × (c.loop-len.len < length c.args.text.now → get_or c.args.text.now c.loop-len.len 0 ≡ c.args.end)
+ends c is = elim c.if-len-gt0.branch [
+  | then-len-gt0+then-len-text w ↦ (omega (arith, w.if-len-gt0.true), λ h. absurd (omega (arith, h, w.if-len-text.true)))
+  | then-len-gt0+else-len-text w ↦ (omega (arith, w.if-len-gt0.true), λ h. eqb-true _ _ (sym w.is_number-is ∙ is))
+  | else-len-gt0 w ↦ absurd (omega (arith, ltb-true _ _ (sym w.is_number-is ∙ is), w.if-len-gt0.false))
+]
+
+found : (c : After-then_some) (b : Bool) → c.if-len-gt0.is_number ≡ b →
+    IfSome {T = ℕ × ℕ} (then_some b (c.loop-len.number, c.loop-len.len)) (λ found. BeginsWithDigits c.args.text.now found.0 found.1 c.args.end)
+found c false none = tt
+found c true is =
     let few : 10 ^ c.loop-len.len ≤ 10 ^ 18 = pow-le-pow_right (omega arith) c.loop-len.invariant.few in record {
       within = c.loop-len.invariant.within;
-      some = omega arith;
+      some = (ends c is).0;
       digits = c.loop-len.invariant.digits;
       value = c.loop-len.invariant.value;
       bound = omega (arith, c.loop-len.invariant.below, few);
-      ends = ends;
+      ends = (ends c is).1;
     }
+
+pub returns : goal.returns
+returns c = rw (c.then_some.ensures) (found c c.if-len-gt0.is_number refl)

@@ -11,7 +11,7 @@ returns c =
     let word : List ℕ = behind 1 (behind c.in_ok-slot.slot_len numbers) in
     let verb = begins-verb text (omega (arith, c.in-117.len_at_least)) (omega arith) (omega arith) (omega arith) (omega arith) (omega arith) (omega arith) (omega arith) in
     let space = begins-behind numbers c.in_ok-slot.slot_len (omega (arith, c.in-32.len_at_least)) in
-    let slot = slot-is c.in_ok-slot.slot c.in_ok-ok.field-0 c.try_from.result c.try_from.ensures c.in_ok-ok.ensures.value in
+    let slot = slot-is c.in_ok-slot.slot c.in_ok-slot-2.slot c.try_from.result c.try_from.ensures c.in_ok-slot-2.ensures.value in
     let item : BeginsWithItem word c.in_ok-item.item c.in_ok-item.len 10 = c.in_ok-item.ensures in
     let back = item_back _ _ _ _ item in
     rw (back, slot.0) (begins-with_update text numbers word c.in_ok-slot.slot c.in_ok-slot.slot_len c.in_ok-item.len c.in_ok-item.item verb space.0 c.in_ok-slot.ensures slot.1 space.1 (omega (arith, item-within _ _ _ _ item, c.if-len-word.false)) item)

@@ -10,18 +10,16 @@ ghost use Rattle.sketch_req.specs.Walk.{AreHeld, AreLevels, HaveSpace, accuracy_
 use super::walk::{add_level, give_back, reserve, walk};
 use super::{redraw_if, sums};
 use crate::compactor::Compactor;
-use sketch_base::common::buffers::Buffers;
+use sketch_base::common::buffers::{Buffers, MergeRoom};
 use sketch_base::common::random::RandomBits;
-use std::alloc::{AllocError, Global};
+use std::alloc::AllocError;
 
 /// Joins clones of the other levels' items into the levels at the same places. Missing levels are
 /// added.
 fn join_levels<T: Clone + Ord>(
     levels: &mut Vec<Compactor<T>>,
     others: &[Compactor<T>],
-    promoted: &mut Vec<T>,
-    spare: &mut Vec<T>,
-    buffers: &mut Vec<Buffers<T>>,
+    room: &mut MergeRoom<T>,
 )
     requires levels { AreHeld T.cmp levels.old.items }
     requires others { AreLevels T.cmp (k_of others.now) (accuracy_of levels.old.items) 0
@@ -30,56 +28,36 @@ fn join_levels<T: Clone + Ord>(
         + retained_of (layouts_of others.now) < 2 ^ 32 }
     requires spare { max (length levels.old.items) (length others.now)
         < vec_capacity levels.old }
-    requires empty { promoted.old.items ≡ [] }
-    requires cloned { AreCloned T.cmp levels.old.items others.now buffers.old.items
-        (vec_capacity promoted.old) }
-    requires spare_empty { spare.old.items ≡ [] }
+    requires empty { room.old.coming.items ≡ [] }
+    requires cloned { AreCloned T.cmp levels.old.items others.now room.old.rooms.items
+        (vec_capacity room.old.coming) }
+    requires nothing { room.old.up.items ≡ [] }
     ensures joined { AreJoined T.cmp (k_of levels.old.items) (accuracy_of levels.old.items)
         levels.old.items others.now levels.new.items }
     ensures count { length levels.new.items ≡ max (length levels.old.items) (length others.now) }
     ensures spare { vec_len levels.new < vec_capacity levels.new }
-    ensures merged_spaces { merged_spaces buffers.new.items ≡ merged_spaces buffers.old.items }
-    ensures empty { promoted.new.items ≡ [] }
-    ensures promoted { vec_capacity promoted.new ≡ vec_capacity promoted.old }
-    ensures spare_empty { spare.new.items ≡ [] }
-    ensures spare_capacity { vec_capacity spare.new ≡ vec_capacity spare.old }
+    ensures merged_spaces { merged_spaces room.new.rooms.items
+        ≡ merged_spaces room.old.rooms.items }
+    ensures empty { room.new.coming.items ≡ [] }
+    ensures coming { vec_capacity room.new.coming ≡ vec_capacity room.old.coming }
+    ensures nothing { room.new.up.items ≡ [] }
+    ensures up { vec_capacity room.new.up ≡ vec_capacity room.old.up }
 {
+    let MergeRoom { coming, up, rooms } = room;
     let (k, rank_accuracy) = levels[0].parameters();
     for level in 0..others.len() {
         add_level(levels, level, k, rank_accuracy);
-        levels[level].join(&others[level], promoted, spare, &mut buffers[level]);
+        levels[level].join(&others[level], coming, up, &mut rooms[level]);
     }
 }
 
-/// Joins other levels in, and returns room for a walk over all. What can fail comes first.
-fn join<T: Clone + Ord>(
-    levels: &mut Vec<Compactor<T>>,
-    others: &[Compactor<T>],
-) -> Result<(Vec<T>, Vec<T>, Vec<Buffers<T>>), AllocError>
-    requires clones { (x y : T) → T.is_clone x y → T.cmp x y ≡ Equal }
-    requires levels { AreHeld T.cmp levels.old.items }
-    requires others { AreLevels T.cmp (k_of others.now) (accuracy_of levels.old.items) 0
-        others.now }
-    requires few { retained_of (layouts_of levels.old.items)
-        + retained_of (layouts_of others.now) < 2 ^ 32 }
-    ensures joined { OnOk result (AreJoined T.cmp (k_of levels.old.items)
-        (accuracy_of levels.old.items) levels.old.items others.now levels.new.items) }
-    ensures count { OnOk result (length levels.new.items
-        ≡ max (length levels.old.items) (length others.now)) }
-    ensures spare { OnOk result (vec_len levels.new < vec_capacity levels.new) }
-    ensures empty { IfOk result (λ room. room.0.items ≡ []) }
-    ensures nothing { IfOk result (λ room. room.1.items ≡ []) }
-    ensures above { IfOk result (λ room. vec_capacity room.0 ≤ vec_capacity room.1) }
-    ensures fit { IfOk result (λ room. HaveSpace (k_of levels.old.items)
-        (accuracy_of levels.old.items) (layouts_of levels.new.items) room.2.items
-        (vec_capacity room.0)) }
-    ensures err { OnErr result (levels.new.items ≡ levels.old.items) }
+/// Moves levels with too much room back into the vectors that they had before a join.
+fn move_back<T: Clone + Ord>(levels: &mut Vec<Compactor<T>>, rooms: &mut Vec<Buffers<T>>)
+    ensures { levels.new.items ≡ levels.old.items }
 {
-    let alloc = *levels.allocator();
-    let (mut coming, mut up, mut buffers) = reserve(alloc, levels.as_slice(), others, 0)?;
-    levels.reserve_exact(others.len().saturating_sub(levels.len()) + 1)?;
-    join_levels(levels, others, &mut coming, &mut up, &mut buffers);
-    Ok((coming, up, buffers))
+    for level in 0..levels.len().min(rooms.len()) {
+        levels[level].move_if_loose(&mut rooms[level].clones);
+    }
 }
 
 /// Joins other levels in, redraws coins if `redraws` says so, and walks if the levels together are
@@ -89,6 +67,7 @@ pub(super) fn join_and_walk<T: Clone + Ord, B: RandomBits>(
     others: &[Compactor<T>],
     redraws: bool,
     coins: &mut B,
+    room: &mut MergeRoom<T>,
 ) -> Result<(), AllocError>
     requires clones { (x y : T) → T.is_clone x y → T.cmp x y ≡ Equal }
     requires levels { AreHeld T.cmp levels.old.items }
@@ -104,12 +83,15 @@ pub(super) fn join_and_walk<T: Clone + Ord, B: RandomBits>(
     ensures err { OnErr result ((levels.new.items ≡ levels.old.items)
         × (coins.new ≡ coins.old)) }
 {
-    let (mut coming, mut up, mut buffers) = join(levels, others)?;
+    reserve(levels.as_slice(), others, 0, room)?;
+    levels.reserve_exact(others.len().saturating_sub(levels.len()) + 1)?;
+    join_levels(levels, others, room);
     redraw_if(redraws, levels, coins);
     let (num_retained, capacity) = sums(levels.as_slice());
     if num_retained >= capacity {
-        walk(levels, &mut coming, &mut up, &mut buffers, coins);
+        walk(levels, room, coins);
     }
+    move_back(levels, &mut room.rooms);
     give_back(levels, 0);
     Ok(())
 }

@@ -11,11 +11,10 @@ ghost use Rattle.sketch_req.specs.Walk.{AreHeld, HaveSpace, AreWalkedOver, accur
 
 use crate::RankAccuracy;
 use crate::compactor::Compactor;
-use sketch_base::common::buffers::Buffers;
+use sketch_base::common::buffers::{Buffers, MergeRoom};
 use sketch_base::common::random::RandomBits;
 use sketch_base::error::Error;
 use std::alloc::{AllocError, Global};
-use std::mem;
 
 /// How many items a level holds; 0 if there is no such level.
 pub(super) fn count_at<T: Clone + Ord>(levels: &[Compactor<T>], level: usize) -> usize
@@ -25,23 +24,22 @@ pub(super) fn count_at<T: Clone + Ord>(levels: &[Compactor<T>], level: usize) ->
 }
 
 /// How many items a walk takes from a level, after any other level at the same place is joined in
-/// and `coming` items come up.
+/// and `coming` items come up. If the sketch lacks the level, `blank` takes its place.
 fn count_to_take_at<T: Clone + Ord>(
-    alloc: Global,
     levels: &[Compactor<T>],
     others: &[Compactor<T>],
     level: usize,
     coming: usize,
+    blank: &Compactor<T>,
 ) -> usize
     requires levels { AreHeld T.cmp levels.now }
     requires few { (layout_at (layouts_of levels.now) level).count
         + (layout_at (layouts_of others.now) level).count + coming < 2 ^ 32 }
+    requires blank { blank.now ≡ fresh [] true 0 (k_of levels.now) (accuracy_of levels.now) }
     ensures { result ≡ taken_if_full (k_of levels.now) (filled coming (layout_at (joined_layouts
         (k_of levels.now) (layouts_of levels.now) (layouts_of others.now)) level)) }
 {
-    let (k, rank_accuracy) = levels[0].parameters();
-    let fresh = Compactor::new(alloc, 0, k, rank_accuracy);
-    let own = levels.get(level).unwrap_or(&fresh);
+    let own = levels.get(level).unwrap_or(blank);
     match others.get(level) {
         Some(other) => own.count_to_take_joined(other, coming),
         None => own.count_to_take_with(coming),
@@ -49,46 +47,52 @@ fn count_to_take_at<T: Clone + Ord>(
 }
 
 /// Reserves room for all that a walk moves, if other levels are joined in first or `more` items
-/// come into level 0. Returns two empty vectors for what a level gives up, each with room for all
-/// that it holds, and buffers with clones of the others' items and with room where fewer items
-/// leave than come.
+/// come into level 0: two empty vectors for what a level gives up, each with room for all that it
+/// holds, and buffers with clones of the others' items and with room where fewer items leave than
+/// come.
 pub(super) fn reserve<T: Clone + Ord>(
-    alloc: Global,
     levels: &[Compactor<T>],
     others: &[Compactor<T>],
     more: usize,
-) -> Result<(Vec<T>, Vec<T>, Vec<Buffers<T>>), AllocError>
+    room: &mut MergeRoom<T>,
+) -> Result<(), AllocError>
     requires clones { (x y : T) → T.is_clone x y → T.cmp x y ≡ Equal }
     requires levels { AreHeld T.cmp levels.now }
     requires few { retained_of (layouts_of levels.now) + retained_of (layouts_of others.now) + more
         < 2 ^ 32 }
-    ensures empty { IfOk result (λ room. room.0.items ≡ []) }
-    ensures nothing { IfOk result (λ room. room.1.items ≡ []) }
-    ensures above { IfOk result (λ room. vec_capacity room.0 ≤ vec_capacity room.1) }
-    ensures cloned { IfOk result (λ room.
-        AreCloned T.cmp levels.now others.now room.2.items (vec_capacity room.0)) }
-    ensures fit { IfOk result (λ room. HaveSpace (k_of levels.now) (accuracy_of levels.now)
+    ensures empty { OnOk result (room.new.coming.items ≡ []) }
+    ensures nothing { OnOk result (room.new.up.items ≡ []) }
+    ensures above { OnOk result (vec_capacity room.new.coming ≤ vec_capacity room.new.up) }
+    ensures cloned { OnOk result (AreCloned T.cmp levels.now others.now room.new.rooms.items
+        (vec_capacity room.new.coming)) }
+    ensures fit { OnOk result (HaveSpace (k_of levels.now) (accuracy_of levels.now)
         (with_more more (joined_layouts (k_of levels.now) (layouts_of levels.now)
-        (layouts_of others.now))) room.2.items (vec_capacity room.0)) }
+        (layouts_of others.now))) room.new.rooms.items (vec_capacity room.new.coming)) }
 {
-    let is_high = levels[0].parameters().1 == RankAccuracy::HighRank;
+    let MergeRoom { coming, up, rooms } = room;
+    let (k, rank_accuracy) = levels[0].parameters();
+    let blank = Compactor::new(*up.allocator(), 0, k, rank_accuracy);
+    let is_high = rank_accuracy == RankAccuracy::HighRank;
     let count = levels.len().max(others.len());
-    let mut buffers = Buffers::for_levels(alloc, count)?;
-    let (mut coming, mut most) = (more, 0);
+    Buffers::for_levels(rooms, count)?;
+    let (mut came, mut most) = (more, 0);
     for level in 0..count {
-        let here = count_at(levels, level) + count_at(others, level) + coming;
-        let taken = count_to_take_at(alloc, levels, others, level, coming);
-        let own = &mut buffers[level];
+        let here = count_at(levels, level) + count_at(others, level) + came;
+        let taken = count_to_take_at(levels, others, level, came, &blank);
+        let own = &mut rooms[level];
         if level < others.len() {
             own.take_clones(others[level].items_slice(), here)?;
         }
         let going = if is_high { taken } else { 0 };
-        own.reserve(here - going, coming, going)?;
+        own.reserve(here - going, came, going)?;
         most = most.max(here);
-        coming = taken / 2;
+        came = taken / 2;
     }
-    let coming = Vec::with_capacity(alloc, most)?;
-    Ok((coming, Vec::with_capacity(alloc, most)?, buffers))
+    coming.clear();
+    up.clear();
+    coming.reserve_exact(most)?;
+    up.reserve_exact(coming.capacity())?;
+    Ok(())
 }
 
 /// Adds a level at a place if there is none. The place is at most the next one.
@@ -117,27 +121,26 @@ pub(super) fn add_level<T: Clone + Ord>(
 /// counting what comes up from the level below. A level that is added isn't compacted.
 pub(super) fn walk<T: Clone + Ord, B: RandomBits>(
     levels: &mut Vec<Compactor<T>>,
-    coming: &mut Vec<T>,
-    up: &mut Vec<T>,
-    buffers: &mut Vec<Buffers<T>>,
+    room: &mut MergeRoom<T>,
     coins: &mut B,
 )
     requires levels { AreHeld T.cmp levels.old.items }
     requires fits { weight_of (layouts_of levels.old.items) < 2 ^ 64 }
     requires few_items { retained_of (layouts_of levels.old.items) < 2 ^ 32 }
     requires spare { vec_len levels.old < vec_capacity levels.old }
-    requires empty { coming.old.items ≡ [] }
-    requires nothing { up.old.items ≡ [] }
+    requires empty { room.old.coming.items ≡ [] }
+    requires nothing { room.old.up.items ≡ [] }
     requires fit { HaveSpace (k_of levels.old.items) (accuracy_of levels.old.items)
-        (layouts_of levels.old.items) buffers.old.items (vec_capacity coming.old) }
-    requires above { vec_capacity coming.old ≤ vec_capacity up.old }
+        (layouts_of levels.old.items) room.old.rooms.items (vec_capacity room.old.coming) }
+    requires above { vec_capacity room.old.coming ≤ vec_capacity room.old.up }
     ensures acted { AreWalkedOver T.cmp B.bit B.next coins.old coins.new (k_of levels.old.items)
         (accuracy_of levels.old.items) levels.old.items levels.new.items }
 {
+    let MergeRoom { coming, up, rooms } = room;
     let count = levels.len();
     for level in 0..count {
-        levels[level].turn(coming, up, &mut buffers[level].merged, coins);
-        mem::swap(coming, up);
+        levels[level].turn(coming, up, &mut rooms[level].merged, coins);
+        std::mem::swap(coming, up);
     }
     if !coming.is_empty() {
         let (k, rank_accuracy) = levels[0].parameters();
@@ -174,9 +177,9 @@ pub(super) fn append_and_walk<T: Clone + Ord, B: RandomBits>(
     ensures memory { IfErr result (λ e. e ≡ OutOfMemory) }
 {
     levels.reserve_exact(1)?;
-    let alloc = *levels.allocator();
-    let (mut coming, mut up, mut buffers) = reserve(alloc, levels.as_slice(), &levels[..0], 1)?;
+    let mut room = MergeRoom::new(*levels.allocator());
+    reserve(levels.as_slice(), &levels[..0], 1, &mut room)?;
     levels[0].append(item)?;
-    walk(levels, &mut coming, &mut up, &mut buffers, coins);
+    walk(levels, &mut room, coins);
     Ok(())
 }

@@ -24,7 +24,7 @@ pub returns-in-RoundTrip : goal.returns-in-RoundTrip
 returns-in-RoundTrip g c =
     let all : 256 ≡ length c.self-in-RoundTrip.inside.slots.items = omega (arith, c.self-in-RoundTrip.invariant, c.self-in-RoundTrip.inside.slots.ok) in
     let held = slice_get_read _ 256 c.in-RoundTrip.slot _ all (omega arith) c.index_mut-in-RoundTrip.ensures.value in
-    rw c.in-RoundTrip.is (rw (← c.self-in-RoundTrip.view_is) (c.index_mut-in-RoundTrip.result.now, c.round_trip.new.slot, held, c.round_trip.ensures c.args.coins.now, refl))
+    rw c.in-RoundTrip.is (rw (← c.self-in-RoundTrip.view_is) (c.index_mut-in-RoundTrip.result.now, c.reread.new.slot, held, c.reread.ensures c.args.coins.now, refl))
 
 pub returns-in-Redraw : goal.returns-in-Redraw
 returns-in-Redraw g c =

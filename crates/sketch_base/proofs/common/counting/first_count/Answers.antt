@@ -4,17 +4,17 @@ use Rattle.sketch_base.proofs.Entries.{counted-parted}
 use Rattle.sketch_base.proofs.PassedFronts.{counts-passed, counts-failed}
 use Rattle.sketch_base.proofs.common.counting.first_count.Goals as goal
 
-pub returns-then-counts-clause-starts : goal.returns-then-counts-clause-starts
-returns-then-counts-clause-starts g c =
+pub returns-then-is_counted-clause-starts : goal.returns-then-is_counted-clause-starts
+returns-then-is_counted-clause-starts g c =
     let test = counted g.T.Ord.cmp c.args.query.now c.args.criteria in
     let parted = counted-parted g.met.T.Ord.total c.args.items.now c.args.query.now c.args.criteria c.requires.sorted in
     counts-passed test c.args.items.now (length c.args.items.now - c.args.step) c.index-items-last.result parted (omega (arith, c.requires.some, c.requires.within))
-    (ap test (sym c.index-items-last.is) ∙ (sym c.counts.ensures ∙ c.if-counts.true))
+    (ap test (sym c.index-items-last.is) ∙ (sym c.counts-is_counted.ensures ∙ c.if-is_counted.true))
 
-pub returns-else-counts-clause-ends : goal.returns-else-counts-clause-ends
-returns-else-counts-clause-ends g c =
+pub returns-else-is_counted-clause-ends : goal.returns-else-is_counted-clause-ends
+returns-else-is_counted-clause-ends g c =
     let test = counted g.T.Ord.cmp c.args.query.now c.args.criteria in
     let parted = counted-parted g.met.T.Ord.total c.args.items.now c.args.query.now c.args.criteria c.requires.sorted in
     let few = counts-failed test c.args.items.now (length c.args.items.now - c.args.step) c.index-items-last.result parted (omega (arith, c.requires.some, c.requires.within))
-    (ap test (sym c.index-items-last.is) ∙ (sym c.counts.ensures ∙ c.if-counts.false)) in
+    (ap test (sym c.index-items-last.is) ∙ (sym c.counts-is_counted.ensures ∙ c.if-is_counted.false)) in
     omega (arith, few, c.requires.half)

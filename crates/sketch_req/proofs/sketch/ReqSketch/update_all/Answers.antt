@@ -1,7 +1,7 @@
 -- The goals at the return are what updates by all items make of the fields.
 use Rattle.std.proofs.lemmas.Grind.{common_steps}
-use Rattle.std.proofs.Common.{◌≡◌, ◌+◌, ◌++◌, ap, arith, leb-true, length, refl, rules, subst, sym}
-use Rattle.std.proofs.lemmas.Bool.{not-true}
+use Rattle.std.proofs.Common.{◌≡◌, ◌+◌, ◌++◌, ◌<◌, ◌^◌, ◌∙◌, false, not, ap, arith, leb-true, length, refl, rules, subst, sym}
+use Rattle.std.proofs.lemmas.Bool.{false≢true}
 use Rattle.std.specs.Option.{option_to_list}
 use Rattle.sketch_base.specs.Extremes.{IsGreatestOf, IsLeastOf}
 use Rattle.sketch_base.specs.Random.{bits_from, after_draws}
@@ -11,13 +11,22 @@ use Rattle.sketch_req.specs.Updates.{AreUpdated, coins_of_updates}
 use Rattle.sketch_req.proofs.UpdatedLevels.{not-full}
 use Rattle.sketch_req.proofs.UpdatesInTurn.{updates_none, updates_sketch}
 use Rattle.sketch_req.proofs.sketch.ReqSketch.update_all.Given.{Over}
-use Rattle.sketch_req.proofs.sketch.ReqSketch.update_all.Goals.{After-set_if_some-2}
+use Rattle.sketch_req.proofs.sketch.ReqSketch.update_all.Goals.{After-set_if_some-2, then-not-is_full, else-not-is_full}
 use Rattle.sketch_req.proofs.sketch.ReqSketch.update_all.Goals as goal
 
 pub returns-then-count-eq0-clause-ok : goal.returns-then-count-eq0-clause-ok
 returns-then-count-eq0-clause-ok g c =
     let none : length c.args.items.now ≡ 0 = search rules in
     rw (← c.self.view_is) (updates_none g.met.T.Ord.total _ c.args.items.now _ c.self.invariant none)
+
+-- the sketch isn't full, and the items leave its weight below 2^64
+allowed : (g : Over) (c : After-set_if_some-2 g) → (c.is_full.result ≡ false) × (c.self.inside.n + length c.args.items.now < 2 ^ 64)
+allowed g c =
+    let told = c.in_ok-unless.ensures.ok.0 refl in
+    elim c.if-not-is_full.branch [
+      | then-not-is_full w ↦ (w.if-not-is_full.true, omega (arith, leb-true _ _ (sym w.unless-is ∙ told), c.self.invariant.n_fits))
+      | else-not-is_full w ↦ absurd (false≢true (sym (ap (λ b. not b) w.if-not-is_full.false) ∙ (sym w.unless-is ∙ told)))
+    ]
 
 -- the sketch before and after
 module _ (g : Over) (c : After-set_if_some-2 g) where
@@ -31,14 +40,15 @@ module _ (g : Over) (c : After-set_if_some-2 g) where
       × AreUpdated g.T.Ord.cmp old c.args.items.now (bits_from g.B.RandomBits.bit g.B.RandomBits.next c.args.coins.now (coins_of_updates old c.args.items.now)) new
       × (c.take_all.new.coins ≡ after_draws g.B.RandomBits.next c.args.coins.now (coins_of_updates old c.args.items.now))
   updated =
-      let known = not-full _ _ _ c.self.view_is c.self.invariant c.is_full.ensures (not-true _ (c.in_ok-unless.ensures.ok.0 refl)) in
+      let is_well = allowed g c in
+      let known = not-full _ _ _ c.self.view_is c.self.invariant c.is_full.ensures is_well.0 in
       let least = subst (IsLeastOf g.T.Ord.cmp (option_to_list old.least ++ c.args.items.now)) (sym c.set_if_some.ensures) c.in_ok-least.ensures.least in
       let greatest = subst (IsGreatestOf g.T.Ord.cmp (option_to_list old.greatest ++ c.args.items.now)) (sym c.set_if_some-2.ensures) c.in_ok-least.ensures.greatest in
       let kept = c.take_all.ensures.kept in
       let t = c.in_ok-take_all.ensures.taken in
       rw (ap (λ (h : Held g.row.T.Denot). h.k) kept, ap (λ (h : Held g.row.T.Denot). h.accuracy) kept)
       (updates_sketch g.met.T.Ord.total g.B.RandomBits.bit g.B.RandomBits.next c.args.coins.now c.take_all.new.coins old t.copies c.take_all.new.self.levels c.args.items.now _ _
-      c.self.invariant (omega (arith, leb-true _ _ (c.in_ok-unless-2.ensures.ok.0 refl), c.self.invariant.n_fits)) known.1 t.are_copies t.taken least greatest)
+      c.self.invariant is_well.1 known.1 t.are_copies t.taken least greatest)
 
 pub invariant_of-self-2 : goal.invariant_of-self-2
 invariant_of-self-2 g c = (updated g (goal.at.invariant_of-self-2 g c).After-set_if_some-2).0

@@ -25,9 +25,9 @@ loop-level-init g c =
       cloned = λ h l m. c.requires.cloned.cloned h m;
       merged_spaces = refl;
       empty = c.requires.empty;
-      promoted = refl;
-      spare_empty = c.requires.spare_empty;
-      spare_capacity = refl;
+      coming = refl;
+      nothing = c.requires.nothing;
+      up = refl;
     }
 
 -- the level was there, or was added
@@ -53,10 +53,10 @@ module _ (g : Over) (c : After-index_mut-in-loop-level g) (added : let ls = c.ar
       next-copied g.met.T.Ord.total _ _ _ _ c.requires.levels.placed _ _ _ _ legal (omega (arith, low, placed.place_is))
       c.loop-level.invariant.joined added c.index_mut.ensures.value
 
-  ready : IsReady g.T.Ord.cmp c.args.levels.now.items c.args.others.now c.index_mut.result.now other c.index_mut-in-loop-level.result.now (vec_capacity c.args.promoted.now)
+  ready : IsReady g.T.Ord.cmp c.args.levels.now.items c.args.others.now c.index_mut.result.now other c.index_mut-in-loop-level.result.now (vec_capacity c.args.room.now.coming)
   ready =
       let i = c.loop-level.invariant in
-      is-ready _ _ _ _ _ _ c.loop-level.buffers.items _ _ _ _ copied c.loop-level-test.true is (omega (arith, i.enough, c.loop-level-test.true))
+      is-ready _ _ _ _ _ _ c.loop-level.rooms.items _ _ _ _ copied c.loop-level-test.true is (omega (arith, i.enough, c.loop-level-test.true))
       c.index_mut-in-loop-level.ensures.value (i.cloned c.loop-level.level (omega arith) c.loop-level-test.true)
 
 pub add_level-requires-clause-legal : goal.add_level-requires-clause-legal
@@ -90,8 +90,8 @@ join-requires g c =
       few = omega (arith, ready.few, c.requires.few);
       space = ready.space;
       empty = c.loop-level.invariant.empty;
-      promoted = rw c.loop-level.invariant.promoted ready.promoted;
-      spare = c.loop-level.invariant.spare_empty;
+      promoted = rw c.loop-level.invariant.coming ready.promoted;
+      spare = c.loop-level.invariant.nothing;
     }
 
 pub loop-level-preserved : goal.loop-level-preserved
@@ -100,7 +100,7 @@ loop-level-preserved g c =
     let before = at.After-index_mut-in-loop-level in
     let new = added g at.After-add_level in
     let i = c.loop-level.invariant in
-    let buffers = c.loop-level.buffers.items in
+    let buffers = c.loop-level.rooms.items in
     let old = c.index_mut-in-loop-level.result.now in
     let own = c.join.new.buffers in
     let merged = λ (b : Space g.row.T.Denot). b.merged_space in
@@ -114,9 +114,9 @@ loop-level-preserved g c =
       cloned = λ h l m. cloned-other g.T.Ord.cmp _ _ buffers c.loop-level.level own _ h (omega (arith, l)) (i.cloned h (omega (arith, l)) m);
       merged_spaces = map-set_same (λ b. b.merged_space) buffers c.loop-level.level own old same ∙ i.merged_spaces;
       empty = c.join.ensures.empty;
-      promoted = c.join.ensures.promoted ∙ i.promoted;
-      spare_empty = c.join.ensures.spare;
-      spare_capacity = c.join.ensures.spare_capacity ∙ i.spare_capacity;
+      coming = c.join.ensures.promoted ∙ i.coming;
+      nothing = c.join.ensures.spare;
+      up = c.join.ensures.spare_capacity ∙ i.up;
     }
 
 pub returns-clause-joined : goal.returns-clause-joined

@@ -4,10 +4,8 @@ use Rattle.std.specs.Option.{option_map}
 use Rattle.sketch_req.specs.Level.{Level}
 use Rattle.sketch_req.specs.Schedule.{Layout, layout_of, layouts_of, layout_at, joined_layout, filled}
 use Rattle.sketch_req.specs.Walk.{k_of, accuracy_of, taken_if_full}
-use Rattle.sketch_req.specs.declared.RankAccuracy.{RankAccuracy}
 use Rattle.sketch_req.proofs.Layouts.{length-layouts}
 use Rattle.sketch_req.proofs.MergedLevels.{joined-at, joined-past, k-at, layout-there, reads}
-use Rattle.sketch_req.proofs.WalkSteps.{own-there}
 use Rattle.sketch_req.proofs.sketch.levels.walk.count_to_take_at.Given.{Over}
 use Rattle.sketch_req.proofs.sketch.levels.walk.count_to_take_at.Goals as goal
 use Rattle.sketch_req.proofs.sketch.levels.walk.count_to_take_at.Goals.{After-unwrap_or-own}
@@ -20,21 +18,19 @@ module _ (g : Over) (c : After-unwrap_or-own g) where
   abbrev own : Level g.row.T.Denot
   own = c.unwrap_or-own.result.now
 
-  own_is : own ≡ get_or c.args.levels.now c.args.level c.new-fresh.result
-  own_is = ap (λ r. r.now) c.unwrap_or-own.ensures ∙ (found (λ r. r.now) c.get.result _ ∙ c.get.ensures.lookup.4 (omega arith) c.new-fresh.result)
+  own_is : own ≡ get_or c.args.levels.now c.args.level c.args.blank.now
+  own_is = ap (λ r. r.now) c.unwrap_or-own.ensures ∙ (found (λ r. r.now) c.get.result _ ∙ c.get.ensures.lookup.4 (omega arith) c.args.blank.now)
 
   layout_is : layout_of own ≡ layout_at (layouts_of c.args.levels.now) c.args.level
   layout_is =
       let ls : List (Level g.row.T.Denot) = c.args.levels.now in
-      ap layout_of (own_is ∙ ap (λ (d : Level g.row.T.Denot). get_or ls c.args.level d) c.new-fresh.ensures.value)
-      ∙ sym (reads c.parameters-k.result.0 0 c.parameters-k.result.1 ls c.args.level).1
+      ap layout_of (own_is ∙ ap (λ (d : Level g.row.T.Denot). get_or ls c.args.level d) c.requires.blank)
+      ∙ sym (reads (k_of ls) 0 (accuracy_of ls) ls c.args.level).1
 
   k_is : own.k ≡ k_of c.args.levels.now
   k_is =
-      let told = own-there g.T.Ord.cmp _ _ 0 _ _ _ c.requires.levels.placed c.requires.levels.some c.index-levels-0.is c.parameters-k.ensures in
       ap (λ (l : Level g.row.T.Denot). l.k) own_is
-      ∙ k-at g.T.Ord.cmp _ _ 0 c.args.level c.args.levels.now c.new-fresh.result c.requires.levels.placed
-      (ap (λ (l : Level g.row.T.Denot). l.k) c.new-fresh.ensures.value ∙ ap (λ (p : ℕ × RankAccuracy). p.0) told)
+      ∙ k-at g.T.Ord.cmp _ _ 0 c.args.level c.args.levels.now c.args.blank.now c.requires.levels.placed (ap (λ (l : Level g.row.T.Denot). l.k) c.requires.blank)
 
 pub count_to_take_joined-requires : goal.count_to_take_joined-requires
 count_to_take_joined-requires g c =
@@ -55,9 +51,9 @@ returns-in-Some g c =
     ∙ ap (λ (l : Layout). taken_if_full k (filled c.args.coming l))
     (ap (joined_layout k (layout_at ls c.args.level)) (sym other) ∙ sym (joined-at k ls os c.args.level (omega (arith, within, length-layouts c.args.others.now)))))
 
-pub returns : goal.returns
-returns g c =
-    let at = (goal.at.returns g c).After-unwrap_or-own in
+pub returns-in-None : goal.returns-in-None
+returns-in-None g c =
+    let at = (goal.at.returns-in-None g c).After-unwrap_or-own in
     let ls : List Layout = layouts_of c.args.levels.now in
     let os : List Layout = layouts_of c.args.others.now in
     let k = k_of c.args.levels.now in

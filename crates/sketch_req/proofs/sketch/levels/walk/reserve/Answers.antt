@@ -1,20 +1,20 @@
 -- The loop keeps what is known of the next level's turn, and that there are clones, and room for the turns so far.
-use Rattle.std.proofs.Common.{nat_cmp, inl, inr, ◌≡◌, ℕ, suc, ◌+◌, ◌/◌, ◌<◌, ◌≤◌, Bool, if◌then◌else◌, List, [], length, length-set, refl, sym, ap, ◌∙◌, subst, arith}
+use Rattle.std.proofs.Common.{nat_cmp, true, inl, inr, ◌≡◌, ℕ, suc, ◌+◌, ◌/◌, ◌<◌, ◌≤◌, Bool, if◌then◌else◌, List, [], length, length-set, refl, sym, ap, ◌∙◌, subst, arith}
 use Rattle.std.specs.Ordering.{ord_max}
 use Rattle.std.proofs.lemmas.Bool.{cases_lt}
 use Rattle.std.proofs.lemmas.Grind.{common_steps}
 use Rattle.sketch_base.specs.Bag.{SameItems, level_at}
 use Rattle.sketch_base.specs.Buffers.{Space}
-use Rattle.sketch_req.specs.Level.{Level}
+use Rattle.sketch_req.specs.Level.{Level, fresh}
 use Rattle.sketch_req.specs.Merged.{item_lists}
-use Rattle.sketch_req.specs.Schedule.{Layout, layouts_of, layout_at, joined_layouts, filled, retained_of, steps_layouts}
+use Rattle.sketch_req.specs.Schedule.{Layout, layouts_of, layout_at, joined_layouts, filled, steps_layouts}
 use Rattle.sketch_req.specs.Walk.{accuracy_of, given_up, k_of, own_space, taken_if_full, with_more}
 use denote.Enum.Bare.{sameb}
 use Rattle.sketch_req.specs.contracts.RankAccuracy.{the_type}
 use Rattle.sketch_req.specs.declared.RankAccuracy.{RankAccuracy}
 use Rattle.sketch_req.specs.declared.RankAccuracy.TheVariants.{HighRank, LowRank}
 use Rattle.sketch_req.proofs.Buffers.{own-more, read-there}
-use Rattle.sketch_req.proofs.ClonedBuffers.{cloned-grown, cloned-more}
+use Rattle.sketch_req.proofs.ClonedBuffers.{cloned-more}
 use Rattle.sketch_req.proofs.Layouts.{length-layouts, retained-with}
 use Rattle.sketch_req.proofs.MergedLevels.{joined-count}
 use Rattle.sketch_req.proofs.ReservedWalks.{given-within, own-reserved, planned-start, planned-more, planned-carried, planned-space, length-more}
@@ -26,7 +26,7 @@ use Rattle.sketch_req.proofs.sketch.levels.walk.reserve.Goals.{After-count_at-in
 
 pub loop-level-init : goal.loop-level-init
 loop-level-init g c = record {
-  enough = omega (arith, c.in_ok-buffers.ensures, c.in_ok-buffers.buffers.ok);
+  enough = omega (arith, c.in_ok-for_levels.ensures, c.for_levels.new.buffers.ok);
   planned = planned-start _ _ _;
   cloned = λ h l. absurd (omega (arith, l));
   promoted = λ h l. absurd (omega (arith, l));
@@ -51,7 +51,7 @@ module _ (g : Over) (c : After-count_at-in-loop-level g) where
         c.count_at-in-loop-level.ensures,
       )
 
-  few : c.count_at.result + c.count_at-in-loop-level.result + c.loop-level.coming < 4294967296
+  few : c.count_at.result + c.count_at-in-loop-level.result + c.loop-level.came < 4294967296
   few =
       omega (
         arith,
@@ -69,10 +69,15 @@ pub count_to_take_at-taken-requires-clause-few : goal.count_to_take_at-taken-req
 count_to_take_at-taken-requires-clause-few g c =
     omega (arith, few g (goal.at.count_to_take_at-taken-requires-clause-few g c).After-count_at-in-loop-level, c.count_at.ensures, c.count_at-in-loop-level.ensures)
 
+pub count_to_take_at-taken-requires-clause-blank : goal.count_to_take_at-taken-requires-clause-blank
+count_to_take_at-taken-requires-clause-blank g c =
+    let told = own-there g.T.Ord.cmp _ _ 0 _ _ _ c.requires.levels.placed c.requires.levels.some c.index-levels-0.is c.parameters-k.ensures in
+    c.new-blank.ensures.value ∙ ap (λ (p : ℕ × RankAccuracy). fresh [] true 0 p.0 p.1) told
+
 -- the clones of the other level
 record Told (g : Over) (c : Joined-level-others g) : Type 0 where
   pub same : c.loop-level.level < length c.args.others.now → SameItems g.T.Ord.cmp (level_at (item_lists c.args.others.now) c.loop-level.level) c.if-level-others.own.clones
-  pub space : c.loop-level.level < length c.args.others.now → c.count_at.result + c.count_at-in-loop-level.result + c.loop-level.coming ≤ c.if-level-others.own.clones_space
+  pub space : c.loop-level.level < length c.args.others.now → c.count_at.result + c.count_at-in-loop-level.result + c.loop-level.came ≤ c.if-level-others.own.clones_space
 
 told : (g : Over) (c : Joined-level-others g) → Told g c
 told g c =
@@ -94,10 +99,10 @@ of-kind k n l HighRank e = e
 of-kind k n l LowRank e = refl
 
 going : (g : Over) (c : Joined-is_high g) →
-    c.if-is_high.going ≡ given_up (k_of c.args.levels.now) (accuracy_of c.args.levels.now) (filled c.loop-level.coming (layout_at
+    c.if-is_high.going ≡ given_up (k_of c.args.levels.now) (accuracy_of c.args.levels.now) (filled c.loop-level.came (layout_at
     (joined_layouts (k_of c.args.levels.now) (layouts_of c.args.levels.now) (layouts_of c.args.others.now)) c.loop-level.level))
 going g c =
-    let told = own-there g.T.Ord.cmp _ _ 0 _ _ _ c.requires.levels.placed c.requires.levels.some c.index-levels-0.is c.parameters.ensures in
+    let told = own-there g.T.Ord.cmp _ _ 0 _ _ _ c.requires.levels.placed c.requires.levels.some c.index-levels-0.is c.parameters-k.ensures in
     let kind = of-kind (k_of c.args.levels.now) c.count_to_take_at-taken.result _ (accuracy_of c.args.levels.now) c.count_to_take_at-taken.ensures in
     let is : c.eq-is_high.result ≡ sameb the_type (accuracy_of c.args.levels.now) HighRank = c.eq-is_high.ensures ∙ ap (λ (p : ℕ × RankAccuracy). sameb the_type p.1 HighRank) told in
     let taken : c.if-is_high.going ≡ (if c.eq-is_high.result then c.count_to_take_at-taken.result else 0) =
@@ -111,7 +116,7 @@ pub overflow_sub-here : goal.overflow_sub-here
 overflow_sub-here g c =
     let goes = going g (goal.at.overflow_sub-here g c).Joined-is_high in
     let at = (goal.at.overflow_sub-here g c).After-count_at-in-loop-level in
-    omega (arith, goes, given-within (k_of c.args.levels.now) (accuracy_of c.args.levels.now) (filled c.loop-level.coming (layout_at (both g at) c.loop-level.level)), here g at)
+    omega (arith, goes, given-within (k_of c.args.levels.now) (accuracy_of c.args.levels.now) (filled c.loop-level.came (layout_at (both g at) c.loop-level.level)), here g at)
 
 pub loop-level-preserved : goal.loop-level-preserved
 loop-level-preserved g c =
@@ -128,13 +133,13 @@ loop-level-preserved g c =
     let held = here g (goal.at.loop-level-preserved g c).After-count_at-in-loop-level in
     let own = c.reserve.new.self in
     let rest = c.reserve.ensures.rest in
-    let count = c.count_at.result + c.count_at-in-loop-level.result + c.loop-level.coming in
+    let count = c.count_at.result + c.count_at-in-loop-level.result + c.loop-level.came in
     let most = at-most-greater c.max-most.result c.loop-level.most count c.max-most.ensures in
-    let inside : at < length c.loop-level.buffers.items = omega (arith, i.enough, c.loop-level-test.true) in
+    let inside : at < length c.loop-level.rooms.items = omega (arith, i.enough, c.loop-level-test.true) in
     record {
       enough = simp length-set i.enough;
-      planned = planned-more k at c.loop-level.coming c.count_to_take_at-taken.result start both c.count_to_take_at-taken.ensures i.planned;
-      cloned = cloned-more g.T.Ord.cmp _ _ c.loop-level.buffers.items at own _ _ inside most.0 i.cloned
+      planned = planned-more k at c.loop-level.came c.count_to_take_at-taken.result start both c.count_to_take_at-taken.ensures i.planned;
+      cloned = cloned-more g.T.Ord.cmp _ _ c.loop-level.rooms.items at own _ _ inside most.0 i.cloned
           (λ there. record {
             same = subst (λ (xs : List g.row.T.Denot). SameItems g.T.Ord.cmp (level_at (item_lists c.args.others.now) at) xs) (sym (ap (λ (b : Space g.row.T.Denot). b.clones) rest)) (told.same there);
             space =
@@ -150,9 +155,9 @@ loop-level-preserved g c =
                 subst (λ (n : ℕ). (layout_at (steps_layouts k n 0 start) n).count ≤ c.max-most.result) place
                 (omega (arith, ap (λ (l : Layout). l.count) i.planned.next, held, most.1))
           ];
-      own = own-more (λ h. own_space k accuracy (taken_if_full k (layout_at (steps_layouts k h 0 start) h) / 2) (layout_at (steps_layouts k h 0 start) (suc h))) c.loop-level.buffers.items own at inside i.own
-          (planned-space k at c.loop-level.coming own.merged_space accuracy start both i.planned
-          (own-reserved k c.loop-level.coming count c.if-is_high.going own.merged_space accuracy (layout_at both at) (omega (arith, held)) goes c.in_ok-reserve.ensures.space));
+      own = own-more (λ h. own_space k accuracy (taken_if_full k (layout_at (steps_layouts k h 0 start) h) / 2) (layout_at (steps_layouts k h 0 start) (suc h))) c.loop-level.rooms.items own at inside i.own
+          (planned-space k at c.loop-level.came own.merged_space accuracy start both i.planned
+          (own-reserved k c.loop-level.came count c.if-is_high.going own.merged_space accuracy (layout_at both at) (omega (arith, held)) goes c.in_ok-reserve.ensures.space));
     }
 
 pub returns-clause-fit : goal.returns-clause-fit
@@ -165,7 +170,7 @@ returns-clause-fit g c =
     let more = length-more c.args.more (joined_layouts k (layouts_of c.args.levels.now) (layouts_of c.args.others.now)) (omega (arith, b, n, c.requires.levels.some)) in
     record {
       enough = omega (arith, n, m, b, more, c.max-count.ensures, i.enough);
-      promoted = λ h l. omega (arith, c.in_ok-coming.ensures.capacity, i.promoted h (omega (arith, l, n, m, b, more, c.max-count.ensures, c.loop-level-test.false)));
+      promoted = λ h l. omega (arith, c.in_ok-reserve_exact.ensures.ok, c.reserve_exact.ensures.len, c.clear.ensures.items, i.promoted h (omega (arith, l, n, m, b, more, c.max-count.ensures, c.loop-level-test.false)));
       own = λ h l. i.own h (omega (arith, l, n, m, b, more, c.max-count.ensures, c.loop-level-test.false));
     }
 

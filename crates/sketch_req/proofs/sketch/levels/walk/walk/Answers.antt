@@ -1,8 +1,6 @@
 -- The loop keeps what is pending after the turns so far.
-use Rattle.std.proofs.Common.{◌≡◌, ℕ, ◌+◌, ◌-◌, ◌*◌, ◌<◌, ◌==◌, Bool, true, if◌then◌else◌, eq-eqb, length-append, List, [], ◌∷◌, ◌++◌, get_or, length, length-set, set, refl, sym, ap, ap₂, ◌∙◌, subst, arith, inl, inr, vec_capacity, IsSorted}
-use Rattle.std.proofs.lemmas.Bool.{cases_lt}
+use Rattle.std.proofs.Common.{◌≡◌, ℕ, ◌+◌, ◌-◌, ◌<◌, ◌==◌, Bool, true, if◌then◌else◌, eq-eqb, length-append, List, [], ◌∷◌, ◌++◌, get_or, length, length-set, set, refl, sym, ap, ap₂, ◌∙◌, subst, arith, vec_capacity, IsSorted}
 use Rattle.std.proofs.lemmas.List.{nil_from_length}
-use Rattle.std.proofs.Math.Seq.{map-set_same}
 use Rattle.sketch_base.proofs.Sorting.{short_sorted}
 use Rattle.sketch_base.specs.Buffers.{Space, merged_spaces}
 use Rattle.sketch_req.specs.Level.{Level, fresh}
@@ -38,7 +36,7 @@ index_mut-requires-in-loop-level g c =
     omega (
       arith,
       c.loop-level-test.true,
-      c.loop-level.buffers.ok,
+      c.loop-level.rooms.ok,
       c.loop-level.invariant.as_many,
       c.requires.fit.enough,
       length-layouts levels.items,
@@ -55,7 +53,7 @@ module _ (g : _) (c : After-index_mut-in-loop-level g) where
   within = omega (arith, c.loop-level-test.true, c.loop-level.invariant.len, c.loop-level.levels.ok)
 
   abbrev spaces : List ℕ
-  spaces = merged_spaces c.args.buffers.now.items
+  spaces = merged_spaces c.args.room.now.rooms.items
 
   ready : IsReady g.met.T.Ord.total g.B.RandomBits.bit g.B.RandomBits.next c.args.coins.now (k_of c.args.levels.now.items) (accuracy_of c.args.levels.now.items) c.args.levels.now.items
       spaces c.loop-level.level c.loop-level.coins c.loop-level.levels.items c.index_mut.result.now c.loop-level.coming.items
@@ -71,7 +69,7 @@ module _ (g : _) (c : After-index_mut-in-loop-level g) where
   own-there_is =
       let i = c.loop-level.invariant in
       sym (i.merged c.loop-level.level (omega arith))
-      ∙ read-there (λ b. b.merged_space) 0 c.loop-level.buffers.items c.loop-level.level c.index_mut-in-loop-level.result.now (omega (arith, i.as_many, c.requires.fit.enough, inside)) c.index_mut-in-loop-level.ensures.value
+      ∙ read-there (λ b. b.merged_space) 0 c.loop-level.rooms.items c.loop-level.level c.index_mut-in-loop-level.result.now (omega (arith, i.as_many, c.requires.fit.enough, inside)) c.index_mut-in-loop-level.ensures.value
 
   -- the level has the sketch's k and accuracy
   own-told : (c.index_mut.result.now.k ≡ k_of c.args.levels.now.items) × (c.index_mut.result.now.accuracy ≡ accuracy_of c.args.levels.now.items)
@@ -87,8 +85,8 @@ turn-requires g c =
     record {
       sorted = i.sorted;
       few = omega (arith, r.few, c.requires.few_items);
-      space = rw ((own-told g at).0, (own-told g at).1) (omega (arith, r.own (inside g at), own-there_is g at, ap (λ (b : Space g.row.T.Denot). b.merged_space) c.behind-buffers.view_is));
-      empty = c.behind-buffers.invariant;
+      space = rw ((own-told g at).0, (own-told g at).1) (omega (arith, r.own (inside g at), own-there_is g at, ap (λ (b : Space g.row.T.Denot). b.merged_space) c.behind-rooms.view_is));
+      empty = c.behind-rooms.invariant;
       nothing = i.empty;
       above = λ _. omega (arith, ready-held g.met.T.Ord.total _ _ _ _ _ _ _ _ _ _ _ _ _ r (c.requires.fit.promoted c.loop-level.level (inside g at)), i.above);
     }
@@ -101,7 +99,7 @@ loop-level-preserved g c =
     let x = ap (λ v. v.items) c.swap.ensures.x_after in
     let next = next-pending g.met.T.Ord.total _ _ _ _ _ _ _ _ _ _ _ _ _ _ _ _ c.requires.few_items i.pending (within g at) c.index_mut.ensures.value c.requires.fits legal
     (c.requires.fit.promoted c.loop-level.level (inside g at)) (c.requires.fit.own c.loop-level.level) c.turn.ensures.turned c.turn.ensures.sound c.turn.ensures.coins in
-    let buffers = c.loop-level.buffers.items in
+    let buffers = c.loop-level.rooms.items in
     record {
       pending = rw x next;
       len = i.len;

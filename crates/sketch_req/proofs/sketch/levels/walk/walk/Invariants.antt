@@ -1,4 +1,4 @@
-use Rattle.std.proofs.Common.{◌≡◌, ℕ, ◌+◌, ◌<◌, ◌≤◌, [], length, get_or, vec_len, vec_capacity, IsSorted}
+use Rattle.std.proofs.Common.{◌≡◌, ℕ, ◌<◌, ◌≤◌, [], length, get_or, vec_len, vec_capacity, IsSorted}
 use Rattle.sketch_base.specs.Buffers.{merged_spaces}
 use Rattle.sketch_req.specs.Walk.{accuracy_of, k_of}
 use Rattle.sketch_req.proofs.Turns.{IsPending}
@@ -8,11 +8,11 @@ abbrev pub invariant-loop-level : goal.invariant-loop-level
 invariant-loop-level g l =
     let ls = l.initial.levels.items in
     record {
-      pending : IsPending g.met.T.Ord.total g.B.RandomBits.bit g.B.RandomBits.next l.initial.coins (k_of ls) (accuracy_of ls) ls (merged_spaces l.initial.buffers.items) (vec_capacity l.initial.coming) l.level l.coins l.levels.items l.coming.items;
+      pending : IsPending g.met.T.Ord.total g.B.RandomBits.bit g.B.RandomBits.next l.initial.coins (k_of ls) (accuracy_of ls) ls (merged_spaces l.initial.rooms.items) (vec_capacity l.initial.coming) l.level l.coins l.levels.items l.coming.items;
       len : vec_len l.levels ≡ l.count;
       spare : l.count < vec_capacity l.levels;
-      as_many : length l.buffers.items ≡ length l.initial.buffers.items;
-      merged : (j : ℕ) → l.level ≤ j → get_or (merged_spaces l.buffers.items) j 0 ≡ get_or (merged_spaces l.initial.buffers.items) j 0;
+      as_many : length l.rooms.items ≡ length l.initial.rooms.items;
+      merged : (j : ℕ) → l.level ≤ j → get_or (merged_spaces l.rooms.items) j 0 ≡ get_or (merged_spaces l.initial.rooms.items) j 0;
       sorted : IsSorted g.T.Ord.cmp l.coming.items;
       empty : l.up.items ≡ [];
       room : vec_capacity l.initial.coming ≤ vec_capacity l.coming;

@@ -1,6 +1,6 @@
 use Rattle.std.proofs.Common.{rules}
 use Rattle.quantile_sketches.proofs.Slots.{reads_back, stays_unread, stays_unwritten}
-use Rattle.quantile_sketches.proofs.table.round_trip.Goals as goal
+use Rattle.quantile_sketches.proofs.table.reread.Goals as goal
 
 pub returns-in_err-bytes : goal.returns-in_err-bytes
 returns-in_err-bytes g c coins =
