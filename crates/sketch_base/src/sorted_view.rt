@@ -46,7 +46,7 @@ impl<T: Clone + Ord> SortedView<T> {
     /// is kept, with the weight of them all. The extremes are those of the stream, or None if there
     /// are no items.
     pub fn new(
-        weighted: Vec<(T, u64)>,
+        mut weighted: Vec<(T, u64)>,
         min_item: Option<T>,
         max_item: Option<T>,
     ) -> Result<Self, Error>
@@ -64,7 +64,6 @@ impl<T: Clone + Ord> SortedView<T> {
         ensures none { IfErr result (λ e. 0 < length weighted.items) }
     {
         let alloc = *weighted.allocator();
-        let mut weighted = weighted;
         let count = weighted.len();
         let mut items = Vec::with_capacity(alloc, count)?;
         let mut cumulated = Vec::with_capacity(alloc, count)?;
