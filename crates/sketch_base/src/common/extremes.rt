@@ -1,6 +1,6 @@
 //! The least and the greatest of some items, tests whether items lie between two others, clones of
 //! found items, and the extremes of a stream with one more item, or with those of another stream.
-ghost use Rattle.std.specs.Prelude.{◌≡◌, ◌<◌, ◌++◌, length, IfOk, IsOk, IsTrue, IsSorted, None, Some, option_copied, if◌then◌else◌};
+ghost use Rattle.std.specs.Prelude.{◌≡◌, ◌<◌, ◌++◌, length, IfOk, IsOk, IsTrue, IsSorted, None, option_copied};
 ghost use Rattle.std.specs.List.{AllByRecursion};
 ghost use Rattle.std.specs.Option.{option_to_list};
 ghost use Rattle.std.specs.Ordering.{is_gt, is_lt};
@@ -114,21 +114,13 @@ fn is_new_greatest<T: Ord>(item: &T, greatest: &Option<T>) -> bool
     }
 }
 
-/// Clones the item if `is_wanted` is true.
-fn clone_if<T: Clone + Ord>(is_wanted: bool, item: &T) -> Result<Option<T>, AllocError>
-    requires clones { (x y : T) → T.is_clone x y → T.cmp x y ≡ Equal }
-    ensures { IfOk result (SameAnswer T.cmp (if is_wanted then Some item.now else None)) }
-{
-    Ok(if is_wanted { Some(item.clone()?) } else { None })
-}
-
 /// Clones the item if it is below the least item so far.
 pub fn clone_if_least<T: Clone + Ord>(item: &T, least: &Option<T>) -> Result<Option<T>, AllocError>
     requires clones { (x y : T) → T.is_clone x y → T.cmp x y ≡ Equal }
     ensures { IfOk result (λ new.
         Ties T.cmp (least_with T.cmp item.now least.now) (newer_or new least.now)) }
 {
-    clone_if(is_new_least(item, least), item)
+    clone_found(is_new_least(item, least).then_some(item))
 }
 
 /// Clones the item if it is above the greatest item so far.
@@ -140,7 +132,7 @@ pub fn clone_if_greatest<T: Clone + Ord>(
     ensures { IfOk result (λ new.
         Ties T.cmp (greatest_with T.cmp item.now greatest.now) (newer_or new greatest.now)) }
 {
-    clone_if(is_new_greatest(item, greatest), item)
+    clone_found(is_new_greatest(item, greatest).then_some(item))
 }
 
 /// Clones the item once for each new extreme that it is.
