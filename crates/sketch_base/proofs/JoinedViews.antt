@@ -339,26 +339,3 @@ module _ {A : Type 0} {cmp : A → A → Ordering} (order : IsTotalOrder cmp) wh
               (ap (λ (b : Bool). ws ++ (if b then (total + w) ∷ joined_weights cmp (total + w) after else joined_weights cmp (total + w) after)) (sym e) ∙ j.weights);
           total = sums;
         }
-
--- one more item is joined: the last of those in reverse order
-pub record IsNext {A : Type 0} (cmp : A → A → Ordering) (xs xs' : List A) (ws ws' : List ℕ) (before after : ℕ) (old new : List (A × ℕ)) : Type 0 where
-  pub items : xs' ++ joined cmp (reverse new) ≡ xs ++ joined cmp (reverse old)
-  pub weights : ws' ++ joined_weights cmp after (reverse new) ≡ ws ++ joined_weights cmp before (reverse old)
-  pub total : after + sum_by (λ (pair : A × ℕ). pair.1) (reverse new) ≡ before + sum_by (λ (pair : A × ℕ). pair.1) (reverse old)
-
--- one step of the joining
-pub is-next : {A : Type 0} (cmp : A → A → Ordering) (xs xs' : List A) (ws ws' : List ℕ) (before after : ℕ) (old new : List (A × ℕ)) (x : A) (w : ℕ) (b : Bool) →
-    old ≡ new ++ (x, w) ∷ [] → after ≡ before + w → b ≡ is_below_next cmp x (reverse new) → xs' ≡ (if b then xs ++ x ∷ [] else xs) → ws' ≡ (if b then ws ++ after ∷ [] else ws) →
-    IsNext cmp xs xs' ws ws' before after old new
-is-next {A} cmp xs xs' ws ws' before after old new x w b is_old is_after is_b is_xs is_ws =
-    let turned = reverse-append new ((x, w) ∷ []) in
-    let summed : List (A × ℕ) → ℕ = sum_by (λ (pair : A × ℕ). pair.1) in
-    record {
-      items = grind (arith, turned, append_assoc xs (x ∷ []) (joined cmp (reverse new)));
-      weights = grind (arith, turned, append_assoc ws (after ∷ []) (joined_weights cmp after (reverse new)));
-      total = omega (arith, is_after, ap (λ (l : List (A × ℕ)). summed (reverse l)) is_old, ap summed turned, sum_by-cons (λ (pair : A × ℕ). pair.1) (x, w) (reverse new));
-    }
-
--- a step pushes at most one item
-pub length-pushed : {A : Type 0} (b : Bool) (x : A) (xs ys : List A) → ys ≡ (if b then xs ++ x ∷ [] else xs) → length ys ≤ length xs + 1
-length-pushed b x xs ys e = grind (arith, length-append xs (x ∷ []))

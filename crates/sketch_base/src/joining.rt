@@ -1,5 +1,5 @@
 //! Sorts weighted items and joins equal ones.
-ghost use Rattle.std.specs.Prelude.{◌≡◌, ℕ, ◌+◌, ◌^◌, ◌<◌, ◌≤◌, [], ◌∷◌, ◌++◌, length, map, reverse, sum_by, IsSorted, vec_len, vec_capacity, if◌then◌else◌, OnOk, IfOk, IfErr};
+ghost use Rattle.std.specs.Prelude.{◌≡◌, ℕ, ◌+◌, ◌^◌, ◌<◌, ◌≤◌, [], ◌∷◌, ◌++◌, length, map, reverse, sum_by, IsSorted, vec_len, vec_capacity, OnOk, IfOk, IfErr};
 ghost use Rattle.std.specs.declared.cmp.Ordering.TheVariants.{Equal};
 ghost use Rattle.std.specs.List.Sorted.{IsPermutation};
 ghost use Rattle.sketch_base.specs.Bag.{SameItems};
@@ -33,29 +33,6 @@ fn is_below_last<T: Ord>(item: &T, weighted: &[(T, u64)]) -> bool
     }
 }
 
-/// Appends an item and the weight up to it if `is_wanted` is true.
-fn push_if<T: Drop>(
-    is_wanted: bool,
-    item: T,
-    weight: u64,
-    items: &mut Vec<T>,
-    weights: &mut Vec<u64>,
-)
-    requires items { vec_len items.old < vec_capacity items.old }
-    requires weights { vec_len weights.old < vec_capacity weights.old }
-    ensures items { items.new.items
-        ≡ (if is_wanted then items.old.items ++ item ∷ [] else items.old.items) }
-    ensures weights { weights.new.items
-        ≡ (if is_wanted then weights.old.items ++ weight ∷ [] else weights.old.items) }
-    ensures capacity { vec_capacity items.new ≡ vec_capacity items.old }
-    ensures weights_capacity { vec_capacity weights.new ≡ vec_capacity weights.old }
-{
-    if is_wanted {
-        items.push_reserved(item);
-        weights.push_reserved(weight);
-    }
-}
-
 /// Moves weighted items, which are in descending order, to the end of `items`, and the weights up
 /// to them to the end of `weights`. Of items that compare equal, the last one is kept.
 pub(crate) fn join_equal<T: Ord + Drop>(
@@ -75,8 +52,10 @@ pub(crate) fn join_equal<T: Ord + Drop>(
     while weighted.len() > 0 {
         let (item, weight) = weighted.take_last();
         total += weight;
-        let is_last = is_below_last(&item, weighted.as_slice());
-        push_if(is_last, item, total, items, weights);
+        if is_below_last(&item, weighted.as_slice()) {
+            items.push_reserved(item);
+            weights.push_reserved(total);
+        }
     }
 }
 
