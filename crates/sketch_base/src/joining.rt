@@ -1,27 +1,12 @@
-//! Sorts weighted items and joins equal ones.
-ghost use Rattle.std.specs.Prelude.{◌≡◌, ℕ, ◌+◌, ◌^◌, ◌<◌, ◌≤◌, [], ◌∷◌, ◌++◌, length, map, reverse, sum_by, IsSorted, vec_len, vec_capacity, OnOk, IfOk, IfErr};
+//! Joins equal weighted items.
+ghost use Rattle.std.specs.Prelude.{◌≡◌, ℕ, ◌+◌, ◌^◌, ◌<◌, ◌≤◌, [], ◌∷◌, ◌++◌, length, reverse, sum_by, vec_len, vec_capacity, IfOk, IfErr};
 ghost use Rattle.std.specs.declared.cmp.Ordering.TheVariants.{Equal};
-ghost use Rattle.std.specs.List.Sorted.{IsPermutation};
 ghost use Rattle.sketch_base.specs.Bag.{SameItems};
 ghost use Rattle.sketch_base.specs.Pairs.{is_below_next, joined, joined_weights};
 ghost use Rattle.sketch_base.specs.Weighted.{pairs_in};
 
 use crate::weighted::Weighted;
 use std::alloc::{AllocError, Global};
-
-/// Sorts weighted items by item in descending order. Runs that are already sorted, as levels are,
-/// are merged.
-pub(crate) fn sort_from_greatest<T: Ord>(weighted: &mut Vec<(T, u64)>) -> Result<(), AllocError>
-    ensures permutation { OnOk result
-        (IsPermutation weighted.old.items (reverse weighted.new.items)) }
-    ensures sorted { OnOk result
-        (IsSorted T.cmp (map (λ pair. pair.0) (reverse weighted.new.items))) }
-    ensures len { vec_len weighted.new ≡ vec_len weighted.old }
-{
-    weighted.sort_by(|a, b| a.0.cmp(&b.0))?;
-    weighted.reverse();
-    Ok(())
-}
 
 /// Returns whether an item is below the last of weighted items, or true if there is none.
 fn is_below_last<T: Ord>(item: &T, weighted: &[(T, u64)]) -> bool

@@ -16,7 +16,7 @@ ghost use Rattle.sketch_base.specs.Weighted.{items_of, pairs_in};
 use crate::common::extremes::clone_found;
 use crate::common::{Rank, SearchCriteria, queries};
 use crate::error::Error;
-use crate::joining::{join_clones, join_equal, sort_from_greatest};
+use crate::joining::{join_clones, join_equal};
 use crate::weighted::Weighted;
 use std::alloc::{AllocError, Global};
 use std::marker::Model;
@@ -70,7 +70,9 @@ impl<T: Clone + Ord> SortedView<T> {
         if count == 0 {
             return Ok(SortedView::from_cumulated(items, cumulated, None, None));
         }
-        sort_from_greatest(&mut weighted)?;
+        // Runs that are already sorted, as levels are, are merged. The greatest then comes first.
+        weighted.sort_by(|a, b| a.0.cmp(&b.0))?;
+        weighted.reverse();
         join_equal(&mut weighted, &mut items, &mut cumulated);
         Ok(SortedView::from_cumulated(items, cumulated, min_item, max_item))
     }
