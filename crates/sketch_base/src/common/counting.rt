@@ -17,31 +17,20 @@ pub fn count_all<T: Ord>(items: &[T], query: &T, criteria: SearchCriteria) -> us
     ensures { result ≡ count_by (counted T.cmp query.now criteria) items.now }
 {
     match criteria {
-        SearchCriteria::Inclusive => count_up_to(items, query),
-        SearchCriteria::Exclusive => count_below(items, query),
+        SearchCriteria::Inclusive => count_each(items, query, SearchCriteria::Inclusive),
+        SearchCriteria::Exclusive => count_each(items, query, SearchCriteria::Exclusive),
     }
 }
 
-/// Returns the number of items that are at most `query`.
-fn count_up_to<T: Ord>(items: &[T], query: &T) -> usize
-    ensures { result ≡ count_by (counted T.cmp query.now Inclusive) items.now }
+/// Counts the items, in any order, that the query counts, by looking at each. It is inlined so that
+/// it knows the criterion.
+#[inline(always)]
+fn count_each<T: Ord>(items: &[T], query: &T, criteria: SearchCriteria) -> usize
+    ensures { result ≡ count_by (counted T.cmp query.now criteria) items.now }
 {
     let mut count = 0;
     for item in items {
-        if item.cmp(query).is_le() {
-            count += 1;
-        }
-    }
-    count
-}
-
-/// Returns the number of items that are below `query`.
-fn count_below<T: Ord>(items: &[T], query: &T) -> usize
-    ensures { result ≡ count_by (counted T.cmp query.now Exclusive) items.now }
-{
-    let mut count = 0;
-    for item in items {
-        if item.cmp(query).is_lt() {
+        if counts(item, query, criteria) {
             count += 1;
         }
     }

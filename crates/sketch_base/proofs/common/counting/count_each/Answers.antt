@@ -1,6 +1,6 @@
 use Rattle.std.proofs.Common.{arith}
 use Rattle.std.proofs.lemmas.Grind.{common_steps}
-use Rattle.sketch_base.proofs.common.counting.count_up_to.Goals as goal
+use Rattle.sketch_base.proofs.common.counting.count_each.Goals as goal
 
 pub overflow_add-count : goal.overflow_add-count
 overflow_add-count g c = grind (arith, common_steps)

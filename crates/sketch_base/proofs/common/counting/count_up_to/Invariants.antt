@@ -1,7 +1,0 @@
-use Rattle.std.proofs.Common.{◌≡◌, take, count_by}
-use Rattle.sketch_base.specs.Query.{counted}
-use Rattle.sketch_base.specs.declared.common.SearchCriteria.TheVariants.{Inclusive}
-use Rattle.sketch_base.proofs.common.counting.count_up_to.Given as goal
-
-abbrev pub invariant-loop-item : goal.invariant-loop-item
-invariant-loop-item g l = l.count ≡ count_by (counted g.T.Ord.cmp l.query Inclusive) (take l.item-index l.items)
