@@ -12,16 +12,16 @@ use Rattle.sketch_kll.proofs.levels.Levels.merge_higher_levels.Goals.{After-drop
 -- what is stored in the end
 stored_in_the_end : (g : _) (c : After-drop-upper g) →
     JoinedStored g.T.Ord.cmp c.self.inside.k
-    (levels_in c.self.inside.items.items c.self.inside.bounds.items) (levels_in c.args.upper.items (drop 1 c.args.other_bounds.now)) c.reverse.new.self.items
+    (levels_in c.self.inside.items.items c.self.inside.bounds.items) (levels_in c.args.upper.items (drop 1 c.args.others.now)) c.reverse.new.self.items
     (take c.add_levels.new.bounds.len (c.add_bounds.new.bounds ++ drop (length c.add_bounds.new.bounds) c.add_levels.new.bounds.items))
     c.total_at-self-inside.result
 stored_in_the_end g c =
     let wide = c.add_levels.new.bounds in
     let back = c.merge_runs_back.ensures in
-    let added : c.add_bounds.new.bounds ≡ joined_bounds c.deref.result.now c.args.other_bounds.now =
-    c.add_bounds.ensures ∙ ap (λ (b : List ℕ). joined_bounds b c.args.other_bounds.now) (c.deref_mut.ensures.value ∙ sym c.deref.ensures.value) in
+    let added : c.add_bounds.new.bounds ≡ joined_bounds c.deref.result.now c.args.others.now =
+    c.add_bounds.ensures ∙ ap (λ (b : List ℕ). joined_bounds b c.args.others.now) (c.deref_mut.ensures.value ∙ sym c.deref.ensures.value) in
     let whole = whole_slice c.add_bounds.new.bounds wide.items wide.len (search rules) in
-    joined_stored c.args.other_bounds.now c.self.invariant c.requires.upper c.requires.some c.requires.few (c.deref.ensures.value ∙ c.add_levels.ensures.items)
+    joined_stored c.args.others.now c.self.invariant c.requires.upper c.requires.some c.requires.few (c.deref.ensures.value ∙ c.add_levels.ensures.items)
     (ap (λ v. v.items) c.take_away-items.ensures.taken)
     back.flat back.levels back.sorted c.reverse.ensures.items (whole ∙ added) c.len-num_levels.result (search rules) c.total_at-self-inside.ensures
 
@@ -29,7 +29,7 @@ pub merge_runs_back-requires : goal.merge_runs_back-requires
 merge_runs_back-requires g c =
     let x = c.self.inside in
     let taken = c.take_away-items.ensures.taken in
-    let wide = prepared c.args.other_bounds.now c.self.invariant c.requires.upper c.requires.some c.requires.few (c.deref.ensures.value ∙ c.add_levels.ensures.items)
+    let wide = prepared c.args.others.now c.self.invariant c.requires.upper c.requires.some c.requires.few (c.deref.ensures.value ∙ c.add_levels.ensures.items)
     (ap (λ v. v.items) taken) in
     let held = length-items x.items.items x.bounds.items c.self.invariant.flat ∙ ap (λ (y : Stored g.row.T.Denot). retained y.levels) c.self.view_is in
     record {
@@ -46,8 +46,8 @@ merge_runs_back-requires g c =
 pub add_bounds-requires : goal.add_bounds-requires
 add_bounds-requires g c =
     let x = c.self.inside in
-    let wide = prepared c.args.other_bounds.now c.self.invariant c.requires.upper c.requires.some c.requires.few (c.deref_mut.ensures.value ∙ c.add_levels.ensures.items) refl in
-    let within = joined_fit x.items.items c.args.upper.items c.deref_mut.result.now c.args.other_bounds.now wide.fits c.requires.upper in
+    let wide = prepared c.args.others.now c.self.invariant c.requires.upper c.requires.some c.requires.few (c.deref_mut.ensures.value ∙ c.add_levels.ensures.items) refl in
+    let within = joined_fit x.items.items c.args.upper.items c.deref_mut.result.now c.args.others.now wide.fits c.requires.upper in
     let held = length-items x.items.items x.bounds.items c.self.invariant.flat ∙ ap (λ (y : Stored g.row.T.Denot). retained y.levels) c.self.view_is in
     record {
       some = c.requires.some;
@@ -58,7 +58,7 @@ add_bounds-requires g c =
 
 pub total_at-self-inside-requires-clause-few_levels : goal.total_at-self-inside-requires-clause-few_levels
 total_at-self-inside-requires-clause-few_levels g c =
-    let wide = prepared c.args.other_bounds.now c.self.invariant c.requires.upper c.requires.some c.requires.few (c.deref_mut.ensures.value ∙ c.add_levels.ensures.items) refl in
+    let wide = prepared c.args.others.now c.self.invariant c.requires.upper c.requires.some c.requires.few (c.deref_mut.ensures.value ∙ c.add_levels.ensures.items) refl in
     let len_is : c.len-num_levels.result ≡ length c.deref_mut.result.now = search rules in
     omega (arith, len_is, wide.few)
 

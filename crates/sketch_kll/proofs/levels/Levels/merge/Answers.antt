@@ -6,8 +6,8 @@ use Rattle.sketch_kll.proofs.AlikeCompactions.{first-same}
 use Rattle.sketch_kll.proofs.LevelClones.{ClonedRuns, cloned_runs}
 use Rattle.sketch_kll.proofs.Merged.{merged_by_calls, merged_only, joined_size, joined-first}
 use Rattle.sketch_kll.proofs.MergedSketches.{merged_same}
-use Rattle.sketch_kll.proofs.levels.Levels.take_levels.Goals as goal
-use Rattle.sketch_kll.proofs.levels.Levels.take_levels.Goals.{After-as_slice-other_bounds}
+use Rattle.sketch_kll.proofs.levels.Levels.merge.Goals as goal
+use Rattle.sketch_kll.proofs.levels.Levels.merge.Goals.{After-as_slice-other_bounds}
 
 -- the clones that were made ready
 cloned : (g : _) (c : After-as_slice-other_bounds g) → ClonedRuns g.T.Ord.cmp c.args.others.now.levels c.args.incoming c.as_slice-other_bounds.result.now
@@ -20,9 +20,9 @@ take_items-requires-clause-light g c =
     let clones = cloned g (goal.at.take_items-requires-clause-light g c).After-as_slice-other_bounds in
     omega (arith, clones.weighs, c.requires.light)
 
-pub merge_higher_levels-requires : goal.merge_higher_levels-requires
-merge_higher_levels-requires g c =
-    let clones = cloned g (goal.at.merge_higher_levels-requires g c).After-as_slice-other_bounds in
+pub merge_higher_levels-old-requires : goal.merge_higher_levels-old-requires
+merge_higher_levels-old-requires g c =
+    let clones = cloned g (goal.at.merge_higher_levels-old-requires g c).After-as_slice-other_bounds in
     record {
       upper = clones.flat;
       upper_sorted = clones.sorted;
@@ -36,10 +36,10 @@ merge_higher_levels-requires g c =
 pub compress-requires : goal.compress-requires
 compress-requires g c =
     let clones = cloned g (goal.at.compress-requires g c).After-as_slice-other_bounds in
-    let higher = c.merge_higher_levels.ensures in
+    let higher = c.merge_higher_levels-old.ensures in
     let taken = c.take_items.ensures.taken in
     let levels = c.take_items.new.self.levels in
-    let merged = c.merge_higher_levels.new.self.levels in
+    let merged = c.merge_higher_levels-old.new.self.levels in
     let upper : List (List g.row.T.Denot) = levels_in c.args.incoming.upper.items (drop 1 c.as_slice-other_bounds.result.now) in
     let sizes = joined_size g.T.Ord.cmp levels upper merged taken.kept.some taken.kept.few (omega (arith, clones.upper_are, clones.few)) higher.levels in
     record {
@@ -49,19 +49,19 @@ compress-requires g c =
       spare = search rules;
     }
 
-pub returns-then-other_bounds-gt2-clause-merged : goal.returns-then-other_bounds-gt2-clause-merged
-returns-then-other_bounds-gt2-clause-merged g c =
-    let clones = cloned g (goal.at.returns-then-other_bounds-gt2-clause-merged g c).After-as_slice-other_bounds in
+pub returns-clause-merged : goal.returns-clause-merged
+returns-clause-merged g c =
+    let clones = cloned g (goal.at.returns-clause-merged g c).After-as_slice-other_bounds in
     let made = c.compress.ensures in
-    merged_same g.met.T.Ord.total g.B.RandomBits.bit g.B.RandomBits.next _ _ _ _ _ _ _ _ _ c.requires.kept.some clones.same
+    rw (c.move_to.ensures.kept.flag_is, c.move_to.ensures.kept.levels_are) (merged_same g.met.T.Ord.total g.B.RandomBits.bit g.B.RandomBits.next _ _ _ _ _ _ _ _ _ c.requires.kept.some clones.same
     (merged_by_calls g.T.Ord.cmp g.met.T.Ord.total g.B.RandomBits.bit g.B.RandomBits.next _ _ _ _ _ _ _ _ _ _ _ _ _ _ _
-    (c.merge_higher_levels.ensures.k ∙ c.take_items.ensures.k) c.merge_higher_levels.ensures.flag made.kept.flag_is
-    c.take_items.ensures.taken c.merge_higher_levels.ensures.levels c.requires.kept.some (omega (arith, clones.upper_are, c.if-other_bounds-gt2.true))
-    made.levels made.bag made.coins made.few made.below made.sorted)
+    (c.merge_higher_levels-old.ensures.k ∙ c.take_items.ensures.k) c.merge_higher_levels-old.ensures.flag made.kept.flag_is
+    c.take_items.ensures.taken c.merge_higher_levels-old.ensures.levels c.requires.kept.some (omega (arith, clones.upper_are, c.if-other_bounds-le2.false))
+    made.levels made.bag made.coins made.few made.below made.sorted))
 
-pub returns-else-other_bounds-gt2-clause-merged : goal.returns-else-other_bounds-gt2-clause-merged
-returns-else-other_bounds-gt2-clause-merged g c =
-    let clones = cloned g (goal.at.returns-else-other_bounds-gt2-clause-merged g c).After-as_slice-other_bounds in
-    merged_same g.met.T.Ord.total g.B.RandomBits.bit g.B.RandomBits.next _ _ _ _ _ _ _ _ _ c.requires.kept.some clones.same
+pub returns-then-other_bounds-le2-clause-merged : goal.returns-then-other_bounds-le2-clause-merged
+returns-then-other_bounds-le2-clause-merged g c =
+    let clones = cloned g (goal.at.returns-then-other_bounds-le2-clause-merged g c).After-as_slice-other_bounds in
+    rw (c.give_back.ensures.kept.flag_is, c.give_back.ensures.kept.levels_are) (merged_same g.met.T.Ord.total g.B.RandomBits.bit g.B.RandomBits.next _ _ _ _ _ _ _ _ _ c.requires.kept.some clones.same
     (merged_only g.T.Ord.cmp g.met.T.Ord.total g.B.RandomBits.bit g.B.RandomBits.next _ _ _ _ _ _ _ _ _
-    c.take_items.ensures.taken (omega (arith, clones.upper_are, clones.some, c.if-other_bounds-gt2.false)))
+    c.take_items.ensures.taken (omega (arith, clones.upper_are, clones.some, c.if-other_bounds-le2.true))))
