@@ -53,7 +53,7 @@ pub returns-clause-merged : goal.returns-clause-merged
 returns-clause-merged g c =
     let clones = cloned g (goal.at.returns-clause-merged g c).After-as_slice-other_bounds in
     let made = c.compress.ensures in
-    rw (c.move_to.ensures.kept.flag_is, c.move_to.ensures.kept.levels_are) (merged_same g.met.T.Ord.total g.B.RandomBits.bit g.B.RandomBits.next _ _ _ _ _ _ _ _ _ c.requires.kept.some clones.same
+    rw (c.give_back-2.ensures.kept.flag_is, c.give_back-2.ensures.kept.levels_are, c.move_to.ensures.kept.flag_is, c.move_to.ensures.kept.levels_are) (merged_same g.met.T.Ord.total g.B.RandomBits.bit g.B.RandomBits.next _ _ _ _ _ _ _ _ _ c.requires.kept.some clones.same
     (merged_by_calls g.T.Ord.cmp g.met.T.Ord.total g.B.RandomBits.bit g.B.RandomBits.next _ _ _ _ _ _ _ _ _ _ _ _ _ _ _
     (c.merge_higher_levels-old.ensures.k ∙ c.take_items.ensures.k) c.merge_higher_levels-old.ensures.flag made.kept.flag_is
     c.take_items.ensures.taken c.merge_higher_levels-old.ensures.levels c.requires.kept.some (omega (arith, clones.upper_are, c.if-other_bounds-le2.false))
