@@ -1,6 +1,6 @@
 //! The levels of a sketch in one vector, the highest first, and how updates change them.
 //! What a compaction does to a slice is in `compaction`, merges are in `levels::merging`.
-ghost use Rattle.std.specs.Prelude.{◌≡◌, ℕ, ◌+◌, ◌-◌, ◌*◌, ◌/◌, ◌^◌, ◌<◌, ◌≤◌, [], ◌∷◌, ◌++◌, length, max, IfSome, IfOk, OnOk, vec_len, vec_capacity, if◌then◌else◌, ◌==◌, drop, is_some, true, false, IsSorted, IsTrue, nat_le};
+ghost use Rattle.std.specs.Prelude.{◌≡◌, ℕ, ◌+◌, ◌-◌, ◌*◌, ◌/◌, ◌^◌, ◌<◌, ◌≤◌, [], ◌∷◌, ◌++◌, length, map, max, IfOk, OnOk, vec_len, vec_capacity, if◌then◌else◌, ◌==◌, drop, true, false, IsSorted, IsTrue, nat_le};
 ghost use Rattle.std.specs.declared.cmp.Ordering.TheVariants.{Equal};
 ghost use Rattle.std.specs.List.{between};
 ghost use Rattle.sketch_base.specs.Query.{counted};
@@ -9,7 +9,8 @@ ghost use Rattle.sketch_kll.specs.Flat.{levels_in, IsFlat};
 ghost use Rattle.sketch_kll.specs.Levels.{retained, weight as weight_in, first_level, compacted, SameLevels, UpperSorted};
 ghost use Rattle.sketch_kll.specs.Rank.{counted_weight};
 ghost use Rattle.sketch_kll.specs.Sketch.{Ties, greatest_with, least_with, newer_or};
-ghost use Rattle.sketch_kll.specs.Steps.{full_level, is_full, compacted_if_full, needs_sorting, put};
+ghost use Rattle.sketch_kll.specs.Schedule.{lowest_full};
+ghost use Rattle.sketch_kll.specs.Steps.{is_full, compacted_if_full, needs_sorting, put, put_count};
 ghost use Rattle.sketch_kll.specs.Stored.{KeepsLevels, KeepsRoom};
 
 mod compress;
@@ -110,6 +111,17 @@ impl<T: Ord + Drop> Levels<T> {
         len < self.items.capacity() && len < self.total_capacity as usize
     }
 
+    /// Returns how many more items there may be before the levels are at their total capacity.
+    #[inline(always)]
+    fn free(&self) -> usize
+        ensures room { result
+            ≡ total_of self.now.k 8 (length self.now.levels) - retained self.now.levels }
+        ensures some { 0 < length self.now.levels }
+        ensures sorted { UpperSorted T.cmp self.now.levels }
+    {
+        (self.total_capacity as usize).saturating_sub(self.items.len())
+    }
+
     /// Frees memory beyond room for an eighth more items and one more level.
     pub(crate) fn give_back(&mut self)
         ensures kept { KeepsLevels self.old self.new }
@@ -144,10 +156,24 @@ impl<T: Ord + Drop> Levels<T> {
         ensures coins { coins.new ≡ (if is_full self.old.k self.old.levels
             then B.next coins.old else coins.old) }
     {
-        let (items, bounds) = (self.items.as_slice(), self.bounds.as_slice());
-        if let Some(level) = find_level_to_compact(self.k, self.total_capacity, items, bounds) {
+        if self.free() == 0 {
+            let level = self.level_to_compact(0);
             self.compact(level, coins);
         }
+    }
+
+    /// Returns the lowest level that is at or over its capacity once `more` items are put into level
+    /// 0. The levels together are then at or over their total capacity.
+    #[inline(always)]
+    fn level_to_compact(&self, more: usize) -> usize
+        requires full { total_of self.now.k 8 (length self.now.levels)
+            ≤ retained self.now.levels + more }
+        requires light { weight_in self.now.levels + more < 2 ^ 64 }
+        ensures level { result ≡ lowest_full self.now.k (put_count more (map length self.now.levels)) }
+        ensures within { result < length self.now.levels }
+        ensures few { result < 60 }
+    {
+        find_level_to_compact(self.k, &self.items, &self.bounds, more)
     }
 
     /// Compacts one level under the next coin. If it is the top one, a level is added above it.
@@ -234,27 +260,27 @@ pub(crate) fn weight_counted<T: Ord>(
     2 * weight + count_all(level_slice(items, bounds, 0), query, criteria) as u64
 }
 
-/// Returns the lowest level at or over its capacity, if the levels are at or over their total
-/// capacity.
-fn find_level_to_compact<T>(k: u16, total: u32, items: &[T], bounds: &[usize]) -> Option<usize>
+/// Returns the lowest level that is at or over its capacity once `more` items are put into level 0.
+/// The levels together are then at or over their total capacity.
+fn find_level_to_compact<T>(k: u16, items: &[T], bounds: &[usize], more: usize) -> usize
     requires k { 8 ≤ k }
-    requires total { total ≡ total_of k 8 (length bounds.now - 1) }
     requires flat { IsFlat items.now bounds.now }
     requires some_level { 1 < length bounds.now }
     requires few_levels { length bounds.now ≤ 62 }
-    ensures full { is_some result ≡ is_full k (levels_in items.now bounds.now) }
-    ensures level { IfSome result (λ level.
-        level ≡ full_level k (levels_in items.now bounds.now)) }
-    ensures within { IfSome result (λ level. level + 1 < length bounds.now) }
+    requires fits { length items.now + more < 2 ^ 64 }
+    requires full { total_of k 8 (length bounds.now - 1) ≤ length items.now + more }
+    ensures level { result
+        ≡ lowest_full k (put_count more (map length (levels_in items.now bounds.now))) }
+    ensures within { result + 1 < length bounds.now }
 {
-    if items.len() < total as usize {
-        return None;
-    }
     let num_levels = bounds.len() - 1;
+    let mut end = items.len() + more;
     for level in 0..num_levels {
-        if is_at_capacity(k, num_levels, level, bounds[level] - bounds[level + 1]) {
-            return Some(level);
+        let start = bounds[level + 1];
+        if is_at_capacity(k, num_levels, level, end - start) {
+            return level;
         }
+        end = start;
     }
     unreachable!()
 }

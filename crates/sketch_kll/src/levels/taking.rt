@@ -1,19 +1,20 @@
 //! Levels that take items one after another.
-ghost use Rattle.std.specs.Prelude.{◌≡◌, ◌+◌, ◌<◌, ◌≤◌, ◌++◌, ◌^◌, drop, length, max, min, reverse, take, vec_len, vec_capacity, false, IfOk, OnOk};
+ghost use Rattle.std.specs.Prelude.{◌≡◌, ◌+◌, ◌<◌, ◌≤◌, ◌++◌, ◌^◌, drop, length, max, min, reverse, take, vec_len, vec_capacity, false, IsSorted, IsTrue, IfOk, OnOk};
 ghost use Rattle.std.specs.declared.cmp.Ordering.TheVariants.{Equal};
 ghost use Rattle.std.specs.Option.{option_to_list};
 ghost use Rattle.sketch_base.specs.Bag.{SameItems};
 ghost use Rattle.sketch_base.specs.Extremes.{IsGreatestOf, IsLeastOf, newer_or};
 ghost use Rattle.sketch_kll.specs.Capacity.{total_of};
-ghost use Rattle.sketch_kll.specs.Levels.{retained, weight};
+ghost use Rattle.sketch_kll.specs.Levels.{retained, weight, first_level, UpperSorted};
 ghost use Rattle.sketch_kll.specs.Steps.{put_all};
 ghost use Rattle.sketch_kll.specs.Stored.{KeepsLevels};
-ghost use Rattle.sketch_kll.specs.Take.{AreKept, HaveTaken, left_over};
+ghost use Rattle.sketch_kll.specs.Take.{AreKept, HaveSpace, HaveTaken, IsReadyAt, left_over};
 
 use super::{Levels, MAX_BOUNDS};
 use crate::capacity::{MAX_LEVELS, MINIMUM_CAPACITY, total_capacity};
 use sketch_base::common::extremes::clone_passing_extremes;
 use sketch_base::common::merging::move_back;
+use sketch_base::common::ordering::move_last;
 use sketch_base::common::random::RandomBits;
 use std::alloc::AllocError;
 
@@ -34,7 +35,8 @@ impl<T: Ord + Drop> Levels<T> {
         self.give_back();
     }
 
-    /// Takes items one after another: a run of them whenever there is room for it.
+    /// Takes items one after another. Those that there is room for count as taken, and are put into
+    /// level 0 once it is compacted, or at the end.
     pub(super) fn take_items<B: RandomBits>(&mut self, mut items: Vec<T>, coins: &mut B)
         requires kept { AreKept T.cmp self.old.k self.old.is_sorted self.old.levels }
         requires light { weight self.old.levels + length items.items < 2 ^ 64 }
@@ -48,10 +50,69 @@ impl<T: Ord + Drop> Levels<T> {
         ensures spare { 63 ≤ self.new.bounds_room }
     {
         items.reverse();
-        while !items.is_empty() {
-            self.compact_if_full(coins);
+        let mut taken = 0;
+        while taken < items.len() {
+            self.make_space(&mut items, taken, coins);
+            taken = items.len().min(self.free());
+        }
+        if taken > 0 {
             self.fill(&mut items);
         }
+    }
+
+    /// Compacts one level if the levels are full, where the last `taken` items count as put into
+    /// level 0. Those of them that the compaction takes are put there first.
+    fn make_space<B: RandomBits>(&mut self, items: &mut Vec<T>, taken: usize, coins: &mut B)
+        requires some { 0 < length self.old.levels }
+        requires within { taken ≤ length items.old.items }
+        requires light { weight self.old.levels + taken < 2 ^ 64 }
+        requires flag { taken ≡ 0 → IsTrue self.old.is_sorted
+            → IsSorted T.cmp (first_level self.old.levels) }
+        requires room { retained self.old.levels + taken ≤ self.old.items_room }
+        requires spare { length self.old.levels + 1 < self.old.bounds_room }
+        ensures k { self.new.k ≡ self.old.k }
+        ensures space { HaveSpace T.cmp B.bit B.next coins.old coins.new taken items.old.items
+            self.old items.new.items self.new }
+        ensures sorted { UpperSorted T.cmp self.new.levels }
+        ensures shorter { retained self.new.levels + length items.new.items
+            ≤ retained self.old.levels + length items.old.items }
+        ensures room { self.old.items_room ≤ self.new.items_room }
+        ensures bounds_room { self.old.bounds_room ≤ self.new.bounds_room }
+    {
+        if taken >= self.free() {
+            let level = self.level_to_compact(taken);
+            self.put_body(level, items, taken);
+            self.compact(level, coins);
+        }
+    }
+
+    /// Puts those of the last `taken` items into level 0 that its compaction takes: all of them, or
+    /// all but one. Before a compaction of another level it puts none.
+    fn put_body(&mut self, level: usize, items: &mut Vec<T>, taken: usize)
+        requires some { 0 < length self.old.levels }
+        requires within { taken ≤ length items.old.items }
+        requires flag { taken ≡ 0 → IsTrue self.old.is_sorted
+            → IsSorted T.cmp (first_level self.old.levels) }
+        requires room { retained self.old.levels + taken ≤ self.old.items_room }
+        ensures k { self.new.k ≡ self.old.k }
+        ensures counts { length self.new.levels ≡ length self.old.levels }
+        ensures flag { IsTrue self.new.is_sorted → level ≡ 0
+            → IsSorted T.cmp (first_level self.new.levels) }
+        ensures ready { IsReadyAt T.cmp level taken items.old.items self.old items.new.items
+            self.new }
+        ensures whole { retained self.new.levels + length items.new.items
+            ≡ retained self.old.levels + length items.old.items }
+        ensures room { self.new.items_room ≡ self.old.items_room }
+        ensures bounds_room { self.new.bounds_room ≡ self.old.bounds_room }
+    {
+        if level > 0 || taken == 0 {
+            return;
+        }
+        let len = self.items.len() - self.bounds[1];
+        let count = taken - (len + taken) % 2;
+        let is_sorted = move_last(items, count, &mut self.items);
+        self.bounds[0] = self.items.len();
+        self.is_level_zero_sorted = is_sorted && len == 0;
     }
 
     /// Appends as many items to level 0 as the total capacity has room for, last item first.
@@ -68,8 +129,7 @@ impl<T: Ord + Drop> Levels<T> {
         ensures room { self.new.items_room ≡ self.old.items_room }
         ensures bounds_room { self.new.bounds_room ≡ self.old.bounds_room }
     {
-        let free = (self.total_capacity as usize).saturating_sub(self.items.len());
-        let keep = items.len().saturating_sub(free);
+        let keep = items.len().saturating_sub(self.free());
         move_back(items, keep, &mut self.items);
         self.bounds[0] = self.items.len();
         self.is_level_zero_sorted = false;

@@ -1,118 +1,184 @@
-use Rattle.std.proofs.lemmas.Grind.{common_steps}
-use Rattle.std.proofs.Common.{◌≡◌, ℕ, ◌+◌, ◌^◌, ◌<◌, List, length, reverse, drop, cond, ap, ◌∙◌, arith, refl, rules, length-append, length-drop, length-take-le}
+use Rattle.std.proofs.Common.{◌≡◌, ℕ, ◌+◌, ◌-◌, ◌≤◌, ◌&&◌, ◌==◌, Bool, List, length, reverse, take, drop, refl, sym, ap, ◌∙◌, subst, arith, length-append, length-drop, length-take-le}
+use Rattle.std.proofs.lemmas.Bool.{and_right, ne_eqb}
 use Rattle.std.proofs.lemmas.List.{length-reverse}
 use Rattle.sketch_kll.specs.Capacity.{total_of}
-use Rattle.sketch_kll.specs.Levels.{retained, weight, SameLevels}
-use Rattle.sketch_kll.specs.Steps.{is_full, compacted_if_full}
-use Rattle.sketch_kll.specs.Take.{left_over}
-use Rattle.sketch_kll.proofs.PutItems.{retained-put}
-use Rattle.sketch_kll.proofs.Takes.{RoomBelow, room_below, taking_from, taking_from_run}
+use Rattle.sketch_kll.specs.Levels.{retained}
+use Rattle.sketch_kll.specs.Steps.{put_all}
+use Rattle.sketch_kll.specs.Take.{HaveTaken, left_over, with_last}
+use Rattle.sketch_kll.proofs.NoMoreLevels.{total_up_to}
+use Rattle.sketch_kll.proofs.PutItems.{length-put, retained-put, weight-put}
+use Rattle.sketch_kll.proofs.TakenLevels.{GoesOn, flag_alone, length-last, taking_ends, taking_goes_on, taking_starts}
+use Rattle.sketch_kll.proofs.Takes.{taken_all, taking_from}
 use Rattle.sketch_kll.proofs.levels.Levels.take_items.Goals as goal
-use Rattle.sketch_kll.proofs.levels.Levels.take_items.Goals.{After-compact_if_full, After-fill}
+use Rattle.sketch_kll.proofs.levels.Levels.take_items.Goals.{After-len, After-min-taken}
 
-pub loop-self-init : goal.loop-self-init
-loop-self-init g c = record {
+pub loop-taken-init : goal.loop-taken-init
+loop-taken-init g c = record {
   k = refl;
-  taking = taking_from g.T.Ord.cmp g.met.T.Ord.total g.B.RandomBits.bit g.B.RandomBits.next c.args.coins.now c.args.self.now.k c.args.self.now.is_sorted c.args.self.now.levels c.args.items.items _
-      c.requires.kept c.reverse.ensures.items;
+  some = c.requires.kept.some;
+  within = omega arith;
+  taking = taking_starts g.T.Ord.cmp g.B.RandomBits.bit g.B.RandomBits.next c.args.coins.now c.args.coins.now c.args.self.now.k c.args.self.now.is_sorted c.args.self.now.is_sorted c.args.self.now.levels
+      c.args.items.items c.reverse.new.self.items c.args.self.now.levels
+      (taking_from g.T.Ord.cmp g.met.T.Ord.total g.B.RandomBits.bit g.B.RandomBits.next c.args.coins.now c.args.self.now.k c.args.self.now.is_sorted c.args.self.now.levels c.args.items.items _
+      c.requires.kept c.reverse.ensures.items)
+      c.requires.kept.some;
   len = omega (arith, c.reverse.ensures.len, c.args.items.ok, c.reverse.new.self.ok);
   room = omega arith;
   spare = c.requires.spare;
 }
 
--- the weight of what was taken and of what is left is below 2^64
-light : (g : _) (c : After-compact_if_full g) → weight c.loop-self.self.levels + length c.loop-self.items.items < 2 ^ 64
-light g c =
-    let t = c.loop-self.invariant.taking in
-    omega (arith, t.taking.taken.weighs, c.requires.light, ap length t.split, length-append t.done (reverse c.loop-self.items.items), length-reverse c.loop-self.items.items)
+-- the items that count as put into level 0
+abbrev put : (g : _) (c : After-len g) → List g.row.T.Denot
+put g c = reverse (drop (length c.loop-taken.items.items - c.loop-taken.taken) c.loop-taken.items.items)
 
-alike : (g : _) (c : After-compact_if_full g) → SameLevels g.T.Ord.cmp
-    (compacted_if_full g.T.Ord.cmp c.args.self.now.k c.loop-self.self.is_sorted (g.B.RandomBits.bit c.loop-self.coins) c.loop-self.self.levels) c.compact_if_full.new.self.levels
-alike g c = rw (← c.loop-self.invariant.k) c.compact_if_full.ensures.levels
+-- what the levels hold with them
+held : (g : _) (c : After-len g) → retained (put_all (put g c) c.loop-taken.self.levels) ≡ retained c.loop-taken.self.levels + c.loop-taken.taken
+held g c = retained-put (put g c) c.loop-taken.self.levels ∙ ap (λ (n : ℕ). retained c.loop-taken.self.levels + n) (length-last c.loop-taken.items.items c.loop-taken.taken c.loop-taken.invariant.within)
 
-room : (g : _) (c : After-compact_if_full g) → RoomBelow c.args.self.now.k c.compact_if_full.new.self.levels
-room g c =
-    room_below g.T.Ord.cmp c.args.self.now.k c.loop-self.self.is_sorted (g.B.RandomBits.bit c.loop-self.coins) c.loop-self.self.levels c.compact_if_full.new.self.levels
-    c.loop-self.invariant.taking.taking.taken.kept (omega (arith, light g c)) (alike g c)
+count : (g : _) (c : After-len g) → length (put_all (put g c) c.loop-taken.self.levels) ≡ length c.loop-taken.self.levels
+count g c = length-put (put g c) c.loop-taken.self.levels c.loop-taken.invariant.some
 
-k_is : (g : _) (c : After-compact_if_full g) → c.compact_if_full.new.self.k ≡ c.args.self.now.k
-k_is g c = c.compact_if_full.ensures.kept.k_is ∙ c.loop-self.invariant.k
+pub make_space-requires : goal.make_space-requires
+make_space-requires g c =
+    let before = (goal.at.make_space-requires g c).After-len in
+    let i = c.loop-taken.invariant in
+    let t = i.taking in
+    let kept = t.taking.taken.kept in
+    let rest : List g.row.T.Denot = take (length c.loop-taken.items.items - c.loop-taken.taken) c.loop-taken.items.items in
+    let total = ap (total_of c.args.self.now.k 8) (count g before) in
+    record {
+      some = i.some;
+      within = i.within;
+      light = omega (
+        arith,
+        t.taking.taken.weighs,
+        c.requires.light,
+        ap length t.split,
+        length-append t.done (reverse rest),
+        length-reverse rest,
+        weight-put (put g before) c.loop-taken.self.levels,
+        length-last c.loop-taken.items.items c.loop-taken.taken i.within,
+      );
+      flag = flag_alone g.T.Ord.cmp c.loop-taken.self.is_sorted c.loop-taken.taken c.loop-taken.items.items c.loop-taken.self.levels i.some kept.flag_holds;
+      room = omega (
+        arith,
+        held g before,
+        kept.within,
+        total,
+        kept.few,
+        count g before,
+        total_up_to c.args.self.now.k (length c.loop-taken.self.levels) 61 (omega (arith, kept.few, count g before)),
+        i.len,
+        i.within,
+        i.room,
+        c.requires.room,
+        c.args.items.ok,
+      );
+      spare = omega (arith, kept.few, count g before, i.spare);
+    }
+
+-- taking goes on
+more : (g : _) (c : After-min-taken g) →
+    GoesOn g.T.Ord.cmp g.B.RandomBits.bit g.B.RandomBits.next c.args.coins.now c.make_space.new.coins c.args.self.now.k c.args.self.now.is_sorted c.args.self.now.levels c.args.items.items
+    c.make_space.new.items.items c.min-taken.result c.make_space.new.self (length c.loop-taken.items.items - c.loop-taken.taken)
+more g c =
+    let i = c.loop-taken.invariant in
+    taking_goes_on g.T.Ord.cmp g.met.T.Ord.total g.B.RandomBits.bit g.B.RandomBits.next c.args.coins.now c.loop-taken.coins c.make_space.new.coins c.args.self.now.k c.args.self.now.is_sorted
+    c.args.self.now.levels c.args.items.items c.loop-taken.items.items c.make_space.new.items.items c.loop-taken.taken c.min-taken.result c.free.result c.loop-taken.self c.make_space.new.self
+    i.taking c.requires.light (omega (arith, c.loop-taken-test.true, c.len.ensures, c.loop-taken.items.ok)) i.k (c.make_space.ensures.k ∙ i.k) c.free.ensures.some c.make_space.ensures.sorted
+    c.make_space.ensures.space c.free.ensures.room (omega (arith, c.min-taken.ensures, c.len-in-loop-taken.ensures, c.make_space.new.items.ok))
+
+pub loop-taken-smaller : goal.loop-taken-smaller
+loop-taken-smaller g c = (more g (goal.at.loop-taken-smaller g c).After-min-taken).fewer
+
+pub loop-taken-preserved : goal.loop-taken-preserved
+loop-taken-preserved g c =
+    let i = c.loop-taken.invariant in
+    let on = more g (goal.at.loop-taken-preserved g c).After-min-taken in
+    record {
+      k = c.make_space.ensures.k ∙ i.k;
+      some = c.free.ensures.some;
+      within = on.within;
+      taking = on.taking;
+      len = omega (arith, i.len, c.make_space.ensures.shorter);
+      room = omega (arith, i.room, c.make_space.ensures.room);
+      spare = omega (arith, i.spare, c.make_space.ensures.bounds_room);
+    }
+
+-- all items count as taken
+all_taken : (g : _) (c : After-len g) → length c.loop-taken.items.items ≤ c.loop-taken.taken →
+    HaveTaken g.T.Ord.cmp g.B.RandomBits.bit g.B.RandomBits.next c.args.coins.now c.loop-taken.coins c.args.self.now.k c.args.self.now.is_sorted
+    (c.loop-taken.self.is_sorted && c.loop-taken.taken == 0) c.args.self.now.levels c.args.items.items (with_last c.loop-taken.taken c.loop-taken.items.items c.loop-taken.self.levels)
+all_taken g c h =
+    let rest : List g.row.T.Denot = take (length c.loop-taken.items.items - c.loop-taken.taken) c.loop-taken.items.items in
+    taken_all g.T.Ord.cmp g.B.RandomBits.bit g.B.RandomBits.next c.args.coins.now c.loop-taken.coins c.args.self.now.k c.args.self.now.is_sorted (c.loop-taken.self.is_sorted && c.loop-taken.taken == 0)
+    c.args.self.now.levels c.args.items.items rest (with_last c.loop-taken.taken c.loop-taken.items.items c.loop-taken.self.levels) c.loop-taken.invariant.taking
+    (omega (arith, h, length-take-le (length c.loop-taken.items.items - c.loop-taken.taken) c.loop-taken.items.items (omega arith)))
+
+-- and there is room for them
+room_for_all : (g : _) (c : After-len g) → retained c.loop-taken.self.levels + c.loop-taken.taken ≤ total_of c.loop-taken.self.k 8 (length c.loop-taken.self.levels)
+room_for_all g c =
+    let i = c.loop-taken.invariant in
+    omega (arith, held g c, i.taking.taking.taken.kept.within, ap (total_of c.args.self.now.k 8) (count g c), ap (λ (k : ℕ). total_of k 8 (length c.loop-taken.self.levels)) i.k)
 
 pub fill-requires : goal.fill-requires
 fill-requires g c =
-    let i = c.loop-self.invariant in
-    let after = (goal.at.fill-requires g c).After-compact_if_full in
-    let r = room g after in
+    let before = (goal.at.fill-requires g c).After-len in
+    let i = c.loop-taken.invariant in
+    let kept = i.taking.taking.taken.kept in
     record {
       room = omega (
         arith,
-        r.below,
-        r.at_most,
-        ap (λ k. total_of k 8 (length c.compact_if_full.new.self.levels)) (k_is g after),
+        room_for_all g before,
+        c.loop-taken-test.false,
+        c.len.ensures,
+        c.loop-taken.items.ok,
+        i.within,
         i.len,
         i.room,
-        c.compact_if_full.ensures.kept.items_room,
-        c.compact_if_full.ensures.shorter,
         c.requires.room,
-        c.loop-self.items.ok,
         c.args.items.ok,
+        count g before,
+        kept.few,
+        ap (λ (k : ℕ). total_of k 8 (length c.loop-taken.self.levels)) i.k,
+        total_up_to c.args.self.now.k (length c.loop-taken.self.levels) 61 (omega (arith, kept.few, count g before)),
       );
     }
 
--- the number of items left after a run is lower
-record Fewer (left some n : ℕ) : Type 0 where
-  is : left ≡ n
-  fewer : n < some
+pub returns-then-taken-gt0-clause-taken : goal.returns-then-taken-gt0-clause-taken
+returns-then-taken-gt0-clause-taken g c =
+    let before = (goal.at.returns-then-taken-gt0-clause-taken g c).After-len in
+    let i = c.loop-taken.invariant in
+    let items : List g.row.T.Denot = c.loop-taken.items.items in
+    let none : length items ≤ c.loop-taken.taken = omega (arith, c.loop-taken-test.false, c.len.ensures, c.loop-taken.items.ok) in
+    let over : left_over c.loop-taken.self items ≡ length items - c.loop-taken.taken = omega (arith, none, i.within, room_for_all g before) in
+    let levels : with_last c.loop-taken.taken items c.loop-taken.self.levels ≡ c.fill.new.self.levels =
+    ap (λ (n : ℕ). put_all (reverse (drop n items)) c.loop-taken.self.levels) (sym over) ∙ sym c.fill.ensures.levels in
+    let flag : (c.loop-taken.self.is_sorted && c.loop-taken.taken == 0) ≡ c.fill.new.self.is_sorted =
+    and_right c.loop-taken.self.is_sorted (c.loop-taken.taken == 0) (ne_eqb c.loop-taken.taken 0 (omega (arith, c.if-taken-gt0.true))) ∙ sym c.fill.ensures.flag in
+    subst (λ (now : Bool). HaveTaken g.T.Ord.cmp g.B.RandomBits.bit g.B.RandomBits.next c.args.coins.now c.loop-taken.coins c.args.self.now.k c.args.self.now.is_sorted now c.args.self.now.levels
+    c.args.items.items c.fill.new.self.levels) flag
+    (subst (λ (ms : List (List g.row.T.Denot)). HaveTaken g.T.Ord.cmp g.B.RandomBits.bit g.B.RandomBits.next c.args.coins.now c.loop-taken.coins c.args.self.now.k c.args.self.now.is_sorted
+    (c.loop-taken.self.is_sorted && c.loop-taken.taken == 0) c.args.self.now.levels c.args.items.items ms) levels (all_taken g before none))
 
-left : (g : _) (c : After-fill g) → Fewer (length c.fill.new.items.items) (length c.loop-self.items.items) (left_over c.compact_if_full.new.self c.loop-self.items.items)
-left g c =
-    let after = (goal.at.loop-self-smaller g c).After-compact_if_full in
-    let r = room g after in
-    let some : 0 < length c.loop-self.items.items = search rules in
-    let k = ap (λ k. total_of k 8 (length c.compact_if_full.new.self.levels)) (k_is g after) in
-    let fewer : left_over c.compact_if_full.new.self c.loop-self.items.items < length c.loop-self.items.items = omega (arith, r.below, k, some) in
-    record { is = ap length c.fill.ensures.items ∙ length-take-le _ _ (omega (arith, fewer)); fewer = fewer }
-
-pub loop-self-smaller : goal.loop-self-smaller
-loop-self-smaller g c = let l = left g c in omega (arith, l.is, l.fewer)
-
-pub loop-self-preserved : goal.loop-self-preserved
-loop-self-preserved g c =
-    let i = c.loop-self.invariant in
-    let after = (goal.at.loop-self-preserved g c).After-compact_if_full in
-    let filled = (goal.at.loop-self-preserved g c).After-fill in
-    let r = room g after in
-    let l = left g filled in
-    let s = c.args.self.now in
-    let n : ℕ = left_over c.compact_if_full.new.self c.loop-self.items.items in
-    let run : List g.row.T.Denot = reverse (drop n c.loop-self.items.items) in
-    let k = ap (λ k. total_of k 8 (length c.compact_if_full.new.self.levels)) (k_is g after) in
-    let coins : c.compact_if_full.new.coins ≡ cond (is_full s.k c.loop-self.self.levels) (g.B.RandomBits.next c.loop-self.coins) c.loop-self.coins =
-    c.compact_if_full.ensures.coins ∙ ap (λ k. cond (is_full k c.loop-self.self.levels) (g.B.RandomBits.next c.loop-self.coins) c.loop-self.coins) i.k in
-    let more = taking_from_run g.T.Ord.cmp g.met.T.Ord.total g.B.RandomBits.bit g.B.RandomBits.next c.args.coins.now c.loop-self.coins c.compact_if_full.new.coins s.k s.is_sorted
-    c.loop-self.self.is_sorted
-    s.levels c.args.items.items c.loop-self.items.items c.loop-self.self.levels c.compact_if_full.new.self.levels c.fill.new.self.levels n i.taking c.requires.light (alike g after)
-    c.compact_if_full.ensures.sorted c.fill.ensures.levels coins l.fewer (omega (arith, r.below, k)) in
-    record {
-      k = c.fill.ensures.k ∙ k_is g after;
-      taking = rw (c.fill.ensures.flag, c.fill.ensures.items) more;
-      len = omega (
-        arith,
-        i.len,
-        l.is,
-        l.fewer,
-        c.compact_if_full.ensures.shorter,
-        ap retained c.fill.ensures.levels,
-        retained-put run c.compact_if_full.new.self.levels,
-        length-reverse (drop n c.loop-self.items.items),
-        length-drop n c.loop-self.items.items,
-      );
-      room = omega (arith, i.room, c.compact_if_full.ensures.kept.items_room, c.fill.ensures.room);
-      spare = omega (arith, i.spare, c.compact_if_full.ensures.kept.bounds_room, c.fill.ensures.bounds_room);
-    }
-
-pub compact_if_full-requires-clause-light : goal.compact_if_full-requires-clause-light
-compact_if_full-requires-clause-light g c = grind (arith, common_steps)
+pub returns-then-taken-gt0-clause-len : goal.returns-then-taken-gt0-clause-len
+returns-then-taken-gt0-clause-len g c =
+    let i = c.loop-taken.invariant in
+    let n : ℕ = left_over c.loop-taken.self c.loop-taken.items.items in
+    omega (
+      arith,
+      i.len,
+      ap retained c.fill.ensures.levels,
+      retained-put (reverse (drop n c.loop-taken.items.items)) c.loop-taken.self.levels,
+      length-reverse (drop n c.loop-taken.items.items),
+      length-drop n c.loop-taken.items.items,
+      c.args.items.ok,
+    )
 
 pub returns-clause-taken : goal.returns-clause-taken
-returns-clause-taken g c = grind (arith, common_steps)
+returns-clause-taken g c =
+    let before = (goal.at.returns-clause-taken g c).After-len in
+    let i = c.loop-taken.invariant in
+    let none : length c.loop-taken.items.items ≤ c.loop-taken.taken = omega (arith, c.loop-taken-test.false, c.len.ensures, c.loop-taken.items.ok) in
+    taking_ends g.T.Ord.cmp g.B.RandomBits.bit g.B.RandomBits.next c.args.coins.now c.loop-taken.coins c.args.self.now.k c.args.self.now.is_sorted c.loop-taken.self.is_sorted c.args.self.now.levels
+    c.args.items.items c.loop-taken.items.items c.loop-taken.taken c.loop-taken.self.levels (all_taken g before none) (omega (arith, c.if-taken-gt0.false)) i.some

@@ -1,0 +1,65 @@
+use Rattle.std.proofs.Common.{◌≡◌, ℕ, ◌+◌, ◌-◌, Bool, true, false, ◌&&◌, ◌==◌, cond, List, length, map, drop, reverse, refl, sym, ap, ◌∙◌, arith, le-leb}
+use Rattle.std.proofs.lemmas.Bool.{lt-leb}
+use Rattle.sketch_kll.specs.Capacity.{total_of}
+use Rattle.sketch_kll.specs.Levels.{retained, compacted, SameLevels}
+use Rattle.sketch_kll.specs.Schedule.{lowest_full}
+use Rattle.sketch_kll.specs.Steps.{is_full, full_level, needs_sorting, put_all, put_count}
+use Rattle.sketch_kll.proofs.CompressWalks.{SameLevels-trans}
+use Rattle.sketch_kll.proofs.Flats.{SameLevels-refl}
+use Rattle.sketch_kll.proofs.FullLevels.{full_level_with, with_room_full, with_room_spare}
+use Rattle.sketch_kll.proofs.PutItems.{length-put, retained-put}
+use Rattle.sketch_kll.proofs.TakenLevels.{length-last, SameLevels-put_all}
+use Rattle.sketch_kll.proofs.levels.Levels.make_space.Goals as goal
+use Rattle.sketch_kll.proofs.levels.Levels.make_space.Goals.{After-free}
+
+-- the items that count as put into level 0
+abbrev put : (g : _) (c : After-free g) → List g.row.T.Denot
+put g c = reverse (drop (length c.args.items.now.items - c.args.taken) c.args.items.now.items)
+
+-- how much the levels hold with them, and may hold
+held : (g : _) (c : After-free g) → retained (put_all (put g c) c.args.self.now.levels) ≡ retained c.args.self.now.levels + c.args.taken
+held g c = retained-put (put g c) c.args.self.now.levels ∙ ap (λ (n : ℕ). retained c.args.self.now.levels + n) (length-last c.args.items.now.items c.args.taken c.requires.within)
+
+total : (g : _) (c : After-free g) → total_of c.args.self.now.k 8 (length (put_all (put g c) c.args.self.now.levels)) ≡ total_of c.args.self.now.k 8 (length c.args.self.now.levels)
+total g c = ap (total_of c.args.self.now.k 8) (length-put (put g c) c.args.self.now.levels c.requires.some)
+
+pub returns-then-taken-free-clause-space : goal.returns-then-taken-free-clause-space
+returns-then-taken-free-clause-space g c =
+    let before = (goal.at.returns-then-taken-free-clause-space g c).After-free in
+    let s = c.args.self.now in
+    let new : List g.row.T.Denot = put g before in
+    let n : length new ≡ c.args.taken = length-last c.args.items.now.items c.args.taken c.requires.within in
+    let ready = c.put_body.ensures.ready in
+    let rest : List g.row.T.Denot = c.put_body.new.items.items in
+    let level : ℕ = c.level_to_compact-level.result in
+    let flag : Bool = s.is_sorted && c.args.taken == 0 in
+    let coin : Bool = g.B.RandomBits.bit c.args.coins.now in
+    let cmp = g.T.Ord.cmp in
+    let full : true ≡ is_full s.k (put_all new s.levels) = sym (le-leb (total_of s.k 8 (length (put_all new s.levels))) (retained (put_all new s.levels))
+    (omega (arith, held g before, total g before, c.free.ensures.room, c.if-taken-free.true))) in
+    let lowest : level ≡ full_level s.k (put_all new s.levels) =
+    c.level_to_compact-level.ensures.level ∙ (ap (λ (m : ℕ). lowest_full s.k (put_count m (map length s.levels))) (sym n) ∙ full_level_with s.k new s.levels) in
+    let mid : List (List g.row.T.Denot) = compacted cmp (needs_sorting c.put_body.new.self.is_sorted level) coin level c.put_body.new.self.levels in
+    let last : List g.row.T.Denot = reverse (drop (length rest - ready.left) rest) in
+    let end : SameLevels cmp (put_all last mid) (put_all last c.compact.new.self.levels) = SameLevels-put_all cmp g.met.T.Ord.total last mid c.compact.new.self.levels c.compact.ensures.levels in
+    record {
+      left = ready.left;
+      are_left = ready.are_left;
+      same = rw (with_room_full cmp s.k level flag coin (needs_sorting flag level) (put_all new s.levels) full lowest refl) (SameLevels-trans cmp g.met.T.Ord.total _ _ _ (ready.same coin) end);
+      source_is = c.compact.ensures.coins ∙ ap (λ (b : Bool). cond b (g.B.RandomBits.next c.args.coins.now) c.args.coins.now) full;
+    }
+
+pub returns-else-taken-free-clause-space : goal.returns-else-taken-free-clause-space
+returns-else-taken-free-clause-space g c =
+    let before = (goal.at.returns-else-taken-free-clause-space g c).After-free in
+    let s = c.args.self.now in
+    let new : List g.row.T.Denot = put g before in
+    let full : false ≡ is_full s.k (put_all new s.levels) = sym (lt-leb (total_of s.k 8 (length (put_all new s.levels))) (retained (put_all new s.levels))
+    (omega (arith, held g before, total g before, c.free.ensures.room, c.if-taken-free.false))) in
+    record {
+      left = c.args.taken;
+      are_left = record { within = c.requires.within; untaken = refl };
+      same = rw (with_room_spare g.T.Ord.cmp s.k (s.is_sorted && c.args.taken == 0) (g.B.RandomBits.bit c.args.coins.now) (put_all new s.levels) full)
+          (SameLevels-refl g.T.Ord.cmp g.met.T.Ord.total (put_all new s.levels));
+      source_is = ap (λ (b : Bool). cond b (g.B.RandomBits.next c.args.coins.now) c.args.coins.now) full;
+    }
