@@ -10,7 +10,7 @@ use Rattle.sketch_kll.proofs.levels.Levels.merge.Goals as goal
 use Rattle.sketch_kll.proofs.levels.Levels.merge.Goals.{After-as_slice-other_bounds}
 
 -- the clones that were made ready
-cloned : (g : _) (c : After-as_slice-other_bounds g) → ClonedRuns g.T.Ord.cmp c.args.others.now.levels c.args.incoming c.as_slice-other_bounds.result.now
+cloned : (g : _) (c : After-as_slice-other_bounds g) → ClonedRuns g.T.Ord.cmp c.args.others.now.levels c.args.parts c.as_slice-other_bounds.result.now
 cloned g c =
     let own = ap (λ (y : Stored g.row.T.Denot). y.levels) c.others.view_is in
     cloned_runs g.met.T.Ord.total c.others.invariant own c.as_slice-other_bounds.ensures.value c.requires.clones
@@ -40,7 +40,7 @@ compress-requires g c =
     let taken = c.take_items.ensures.taken in
     let levels = c.take_items.new.self.levels in
     let merged = c.merge_higher_levels-old.new.self.levels in
-    let upper : List (List g.row.T.Denot) = levels_in c.args.incoming.upper.items (drop 1 c.as_slice-other_bounds.result.now) in
+    let upper : List (List g.row.T.Denot) = levels_in c.args.parts.upper.items (drop 1 c.as_slice-other_bounds.result.now) in
     let sizes = joined_size g.T.Ord.cmp levels upper merged taken.kept.some taken.kept.few (omega (arith, clones.upper_are, clones.few)) higher.levels in
     record {
       light = omega (arith, sizes.weighs, taken.weighs, clones.weighs, c.requires.light);

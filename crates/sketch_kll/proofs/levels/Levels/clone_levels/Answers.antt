@@ -1,7 +1,7 @@
 use Rattle.std.proofs.Common.{arith, rules}
 use Rattle.sketch_kll.proofs.Flats.{bound_within}
 use Rattle.sketch_kll.proofs.LevelClones.{same_clones, cloned}
-use Rattle.sketch_kll.proofs.levels.merging.clone_levels.Goals as goal
+use Rattle.sketch_kll.proofs.levels.Levels.clone_levels.Goals as goal
 
 pub split_off-requires : goal.split_off-requires
 split_off-requires g c =

@@ -1,6 +1,6 @@
 use Rattle.std.proofs.Common.{◌<◌, ◌^◌, arith, rules}
 use Rattle.sketch_kll.proofs.Readings.{item_holds}
-use Rattle.sketch_kll.proofs.sketch.image.sketch_of_item.Goals as goal
+use Rattle.sketch_kll.proofs.sketch.KllSketch.sketch_of_item.Goals as goal
 
 pub invariant_of-levels : goal.invariant_of-levels
 invariant_of-levels g c =
