@@ -207,19 +207,6 @@ full_level_at k ls h t =
     let due = lowest_full_due k (map length ls) (omega (arith, h, length-lengths ls)) (rw (length-lengths ls, sum-lengths ls) t) in
     rw (length-lengths ls, lowest_full_is k ls, length-at ls (full_level k ls)) at due
 
--- whether the levels are full depends on the numbers of items and bounds
-pub full_by_lengths : {A : Type 0} (items : List A) (bounds : List ℕ) → IsFlat items bounds → (k n : ℕ) → n ≡ total_of k 8 (length bounds - 1) →
-    (length items < n → false ≡ is_full k (levels_in items bounds)) ×
-    (n ≤ length items → (true ≡ is_full k (levels_in items bounds)) × (total_of k 8 (length (levels_in items bounds)) ≤ retained (levels_in items bounds)))
-full_by_lengths {A} items bounds f k n e =
-    let m : length bounds - 1 ≡ length (levels_in items bounds) = let h = length-bounds items bounds f in omega (arith, h) in
-    let t : n ≡ total_of k 8 (length (levels_in items bounds)) = e ∙ ap (total_of k 8) m in
-    let r = length-items items bounds f in (
-      λ h. sym (lt-leb (total_of k 8 (length (levels_in items bounds))) (retained (levels_in items bounds)) (omega (arith, t, r, h))),
-      λ h. let g : total_of k 8 (length (levels_in items bounds)) ≤ retained (levels_in items bounds) = omega (arith, t, r, h) in
-          (sym (le-leb (total_of k 8 (length (levels_in items bounds))) (retained (levels_in items bounds)) g), g),
-    )
-
 -- room for an item in full levels is made by a compaction
 pub with_room_full : {A : Type 0} (cmp : A → A → Ordering) (k level : ℕ) (is_sorted coin last : Bool) (ls : List (List A)) →
     true ≡ is_full k ls → level ≡ full_level k ls → last ≡ needs_sorting is_sorted level → compacted_if_full cmp k is_sorted coin ls ≡ compacted cmp last coin level ls

@@ -216,18 +216,21 @@ taking_goes_on {A} cmp o bit next source after final k flag ls all items rest ta
 none_taken : {A : Type 0} (items : List A) (ls : List (List A)) → 0 < length ls → with_last 0 items ls ≡ ls
 none_taken items ls h = rw (nothing_behind items) (put_all-none ls h)
 
+-- and level 0 is sorted if they say so
 pub flag_alone : {A : Type 0} (cmp : A → A → Ordering) (flag : Bool) (taken : ℕ) (items : List A) (ls : List (List A)) → 0 < length ls →
     (IsTrue (flag && taken == 0) → IsSorted cmp (first_level (with_last taken items ls))) → taken ≡ 0 → IsTrue flag → IsSorted cmp (first_level ls)
 flag_alone cmp flag taken items ls h holds e t =
     subst (λ (ms : List (List _)). IsSorted cmp (first_level ms)) (none_taken items ls h) (rw (e, and-true flag) at holds t)
 
-pub taking_starts : {A S : Type 0} (cmp : A → A → Ordering) (bit : S → Bool) (next : S → S) (source after : S) (k : ℕ) (flag now : Bool) (ls : List (List A)) (all items : List A) (ms : List (List A)) →
+-- taking starts with none
+pub taking_starts : {A S : Type 0} (cmp : A → A → Ordering) (bit : S → Bool) (next : S → S) (source after : S) (k : ℕ) (flag now : Bool) (ls ms : List (List A)) (all items : List A) →
     TakingFrom cmp bit next source after k flag now ls all items ms → 0 < length ms →
     TakingFrom cmp bit next source after k flag (now && 0 == 0) ls all (take (length items - 0) items) (with_last 0 items ms)
-taking_starts cmp bit next source after k flag now ls all items ms t h =
+taking_starts cmp bit next source after k flag now ls ms all items t h =
     let whole : take (length items - 0) items ≡ items = take_all (length items - 0) items (omega arith) in
     rw (and-true now, whole, none_taken items ms h) t
 
+-- and it may end with none
 pub taking_ends : {A S : Type 0} (cmp : A → A → Ordering) (bit : S → Bool) (next : S → S) (source after : S) (k : ℕ) (flag now : Bool) (ls : List (List A)) (all items : List A) (taken : ℕ) (ms : List (List A)) →
     HaveTaken cmp bit next source after k flag (now && taken == 0) ls all (with_last taken items ms) → taken ≡ 0 → 0 < length ms → HaveTaken cmp bit next source after k flag now ls all ms
 taking_ends cmp bit next source after k flag now ls all items taken ms t e h = rw (e, and-true now, none_taken items ms h) at t

@@ -169,7 +169,8 @@ impl<T: Ord + Drop> Levels<T> {
         requires full { total_of self.now.k 8 (length self.now.levels)
             ≤ retained self.now.levels + more }
         requires light { weight_in self.now.levels + more < 2 ^ 64 }
-        ensures level { result ≡ lowest_full self.now.k (put_count more (map length self.now.levels)) }
+        ensures level { result
+            ≡ lowest_full self.now.k (put_count more (map length self.now.levels)) }
         ensures within { result < length self.now.levels }
         ensures few { result < 60 }
     {

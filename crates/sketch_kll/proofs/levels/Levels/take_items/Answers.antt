@@ -18,7 +18,7 @@ loop-taken-init g c = record {
   some = c.requires.kept.some;
   within = omega arith;
   taking = taking_starts g.T.Ord.cmp g.B.RandomBits.bit g.B.RandomBits.next c.args.coins.now c.args.coins.now c.args.self.now.k c.args.self.now.is_sorted c.args.self.now.is_sorted c.args.self.now.levels
-      c.args.items.items c.reverse.new.self.items c.args.self.now.levels
+      c.args.self.now.levels c.args.items.items c.reverse.new.self.items
       (taking_from g.T.Ord.cmp g.met.T.Ord.total g.B.RandomBits.bit g.B.RandomBits.next c.args.coins.now c.args.self.now.k c.args.self.now.is_sorted c.args.self.now.levels c.args.items.items _
       c.requires.kept c.reverse.ensures.items)
       c.requires.kept.some;
