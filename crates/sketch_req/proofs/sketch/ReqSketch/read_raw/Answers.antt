@@ -1,4 +1,5 @@
 use Rattle.std.proofs.Common.{◌≡◌, ◌∙◌, ◌∷◌, [], rules, ◌≤◌, sym, ap, subst, arith, length, List, Bool, IsSorted}
+use Rattle.std.proofs.lemmas.Grind.{common_steps}
 use Rattle.std.specs.Prelude.{IsTrue, ◌↔◌}
 use Rattle.sketch_req.specs.Level.{Level, fresh}
 use Rattle.std.proofs.lemmas.Result.{IfOk-weaker}
@@ -52,3 +53,6 @@ returns-clause-found g c =
       levels_are = t.0 ∙ ap (λ (l : Level g.row.T.Denot). l ∷ []) rest;
       told = t.1;
     }) c.from_level.ensures.told
+
+pub returns-clause-refused : goal.returns-clause-refused
+returns-clause-refused g c = grind (arith, common_steps)
