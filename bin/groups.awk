@@ -8,6 +8,7 @@ BEGIN {
     if (joint == "") joint = " "
     else FS = joint == " " ? "[ ]" : joint == "\\" || joint == "^" ? "\\" joint : joint == "|" || joint == "." ? "[" joint "]" : joint
     if (reads_images) FS = "\t"
+    may_quote = joint == "," || joint == ";"
     zeros = sprintf("%0" decimals + 1 "d", 0); zeros = substr(zeros, 2)
     safe = 18 - decimals
     # (with images, one slot of each process is kept to load them into)
@@ -71,7 +72,7 @@ function file_name(   it) {
 
 # This line's file, number and text.
 function line_told(   it) {
-    it = $0
+    it = quoted_at == NR ? quoted : $0
     if (length(it) > 200) it = substr(it, 1, 200) ".."
     return file_name() ", line " FNR ": " it
 }
@@ -107,10 +108,9 @@ function say(key, line,   p) {
 
 !reads_images {
     if (substr($0, length($0)) == "\r") $0 = substr($0, 1, length($0) - 1)
-    if (FNR == 1) {
-        if (substr($0, 1, 3) == "\357\273\277") $0 = substr($0, 4)
-        if (has_header) { find_fields(); next }
-    }
+    if (FNR == 1 && substr($0, 1, 3) == "\357\273\277") $0 = substr($0, 4)
+    if (may_quote && index($0, "\"") && !unquote()) next
+    if (has_header && FNR == 1) { find_fields(); next }
     x = $item
     if (x ~ /^-?[0-9]+$/ && length(x) <= safe) x = x zeros
     else if (x ~ /^-?[0-9]+\.[0-9]+$/ && (dot = index(x, ".")) <= safe && length(x) - dot <= decimals)
@@ -136,6 +136,28 @@ function say(key, line,   p) {
     }
     taken++
     if (is_watched && NR >= watch_at) watch()
+}
+
+# Takes fields out of their quotes, as in CSV: a separator within quotes is part of the field, and two quotes stand for one. A line
+# whose quotes aren't closed is counted, and left out.
+function unquote(   rest, cells, i, at, it) {
+    quoted = $0
+    quoted_at = NR
+    for (rest = $0 joint; rest != ""; rest = substr(rest, at + 1)) {
+        for (it = ""; substr(rest, 1, 1) == "\""; rest = substr(rest, at + 2)) {
+            at = index(substr(rest, 2), "\"")
+            if (!at) {
+                if (!open++) first_open = line_told()
+                if (has_header && FNR == 1) dies("the header of " file_name() " has a quote that isn't closed")
+                return 0
+            }
+            it = it substr(rest, 2, at - 1) (substr(rest, at + 2, 1) == "\"" ? "\"" : "")
+        }
+        at = index(rest, joint)
+        cell[++cells] = it substr(rest, 1, at - 1)
+    }
+    for (i = 1; i <= NF; i++) $i = i <= cells ? cell[i] : ""
+    return 1
 }
 
 # A number in any other form, such as '+1', '.5', '1e3' or ' 7 ', as digits with the point moved by 'decimals'. The result is empty
@@ -272,11 +294,12 @@ END {
     if (!reads_images && answered != taken) dies("the program has " answered " numbers, and not the " taken " it was given")
     fflush("")
     # (the script goes by this file, not by awk's own status)
-    print (bad && ENVIRON["ignore"] == "" || beyond || bad_images ? 1 : 0), count > (work "/end")
+    print (bad && ENVIRON["ignore"] == "" || open || beyond || bad_images ? 1 : 0), count > (work "/end")
 }
 
 function tell_left_out() {
     if (bad) tell(bad, "without a number", "left out; the first", first_bad)
+    if (open) tell(open, "with a quote that isn't closed", "left out; the first", first_open)
     if (beyond) tell(beyond, "with a number out of range", "left out; the first", first_beyond)
     if (finer) tell(finer, "with more than " decimals " decimals", "rounded; the first", first_finer)
 }
