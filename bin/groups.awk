@@ -2,8 +2,10 @@
 # rows of percentiles or images come out. The options come from the environment, whose values awk doesn't change.
 
 BEGIN {
-    groups = ENVIRON["groups"]; value = ENVIRON["value"]; decimals = ENVIRON["decimals"] + 0; work = ENVIRON["work"]
-    reads_images = ENVIRON["reads"] == "images"; has_header = ENVIRON["header"] != ""
+    groups = ENVIRON["groups"]; value = ENVIRON["value"]; work = ENVIRON["work"]
+    # (with images, the decimals of the lines that don't say theirs, or empty)
+    decimals = ENVIRON["decimals"] == "" ? "" : ENVIRON["decimals"] + 0
+    reads_images = ENVIRON["reads"] == "images"; asks_images = ENVIRON["asks"] == "images"; has_header = ENVIRON["header"] != ""
     joint = ENVIRON["separator"]
     if (joint == "") joint = " "
     else FS = joint == " " ? "[ ]" : joint == "\\" || joint == "^" ? "\\" joint : joint == "|" || joint == "." ? "[" joint "]" : joint
@@ -205,18 +207,22 @@ function next_of(digits,   i, nines) {
 
 # --- images ---
 
+# A REQ image is read whatever follows it. So a line that was cut and runs into the next one is known by its number of fields.
 reads_images {
     if (substr($0, length($0)) == "\r") $0 = substr($0, 1, length($0) - 1)
-    hold(substr($0, 1, index($0, "\t") - 1), substr($0, index($0, "\t") + 1))
+    if (NF == 2) hold($1, $2, decimals)
+    else if (NF == 3 && $3 ~ /^[0-9]$/) hold($1, $2, $3 + 0)
+    else refuse(NF > 1 ? $1 : "", "is no image")
     if (is_watched && NR >= watch_at) watch()
 }
 
 # Images are held until the program has said whether each is valid. Only then do they go into the sketch of their key.
-function hold(key, image,   kind) {
+function hold(key, image, decimals,   kind) {
     kind = tolower(substr(image, 5, 2))
     kind = kind == "0f" ? "kll" : kind == "11" ? "req" : ""
-    if (kind == "" || index($0, "\t") == 0 || image !~ /^[0-9A-Fa-f]+$/) { refuse(key, "is no image"); return }
-    held_key[held] = key; held_image[held] = image; held_kind[held] = kind; held_line[held] = file_name() ", line " FNR
+    if (kind == "" || image !~ /^[0-9A-Fa-f]+$/) { refuse(key, "is no image"); return }
+    held_key[held] = key; held_image[held] = image; held_decimals[held] = decimals
+    held_kind[held] = kind; held_line[held] = file_name() ", line " FNR
     print "load 0 " image | judge_of(kind)
     held_bytes += length(image)
     if (++held == 1000 || held_bytes > 4000000) release()
@@ -247,28 +253,40 @@ function release(   i, verdict, kind, file, judge) {
         if ((getline verdict < file) <= 0) dies("the program ended as it read images")
         if (verdict == "error: invalid data" || verdict == "error: bad line") tell_refused(held_line[i], held_key[i], "is no image")
         else if (verdict != "ok") dies("the program answered '" verdict "' as it read images")
-        else join(held_line[i], held_key[i], held_image[i], held_kind[i])
+        else join(held_line[i], held_key[i], held_image[i], held_decimals[i], held_kind[i])
     }
     for (kind in judge) close(work "/verdicts." kind)
     held = held_bytes = 0
 }
 
 # Puts an image, which the program has read, into the sketch of its key. Nothing else does.
-function join(line, key, image, kind,   sort_of) {
+function join(line, key, image, decimals, kind,   sort_of, why) {
     # (a REQ sketch's flag 8 says which end it is exact at)
     sort_of = kind == "req" ? kind index("89abcdef", tolower(substr(image, 8, 1))) > 0 : kind
-    if (!(key in process)) {
+    why = misfit(key, sort_of, decimals)
+    if (why != "") tell_refused(line, key, why)
+    else if (!(key in process)) {
         begin(key, kind)
         kept[key] = sort_of
+        decimals_of[key] = decimals
         say(key, "load " slot[key] " " image)
         # (an image holds no coins: those that its levels are to use are drawn first)
         if (kind == "req") say(key, "redraw " slot[key])
-    } else if (kept[key] != sort_of)
-        tell_refused(line, key, "is of another kind of sketch than those before")
-    else {
+    } else {
         say(key, "load " scratch " " image)
         say(key, (kind == "req" ? "mergeu " : "merge ") slot[key] " " scratch)
     }
+}
+
+# Why an image can't go into the sketch of its key; empty if it can.
+function misfit(key, sort_of, decimals) {
+    if (decimals == "" && !asks_images) return "doesn't say its decimals: give them with -d"
+    if (!(key in process)) return ""
+    if (kept[key] != sort_of) return "is of another kind of sketch than those before"
+    if (decimals == decimals_of[key]) return ""
+    if (decimals == "") return "doesn't say its decimals, and those before do"
+    if (decimals_of[key] == "") return "says its decimals, and those before don't"
+    return "has " decimals " decimal" (decimals == 1 ? "" : "s") ", and those before have " decimals_of[key]
 }
 
 # --- answers ---
@@ -278,7 +296,6 @@ END {
     if (reads_images && held) release()
     if (is_shown) printf "\r\033[K" > "/dev/stderr"
     tell_left_out()
-    asks_images = ENVIRON["asks"] == "images"
     many = split(ENVIRON["points"], point, ",")
     for (g = 0; g < count; g++) put_questions(key_of[g])
     for (p = 0; p < processes; p++) close(pipe_of[p])
@@ -287,8 +304,9 @@ END {
         p = process[key]
         number = numbers_of(answer(p))
         answered += number
-        if (asks_images) print escaped(key) "\t" answer(p)
-        else print number percentiles_of(p) "\t" (reads_images ? unescaped(key) : key)
+        places = reads_images ? decimals_of[key] : decimals
+        if (asks_images) print escaped(key) "\t" answer(p) (places == "" ? "" : "\t" places)
+        else print number percentiles_of(p, places) "\t" (reads_images ? unescaped(key) : key)
         if (!--unasked[p]) check_end(p)
     }
     if (!reads_images && answered != taken) dies("the program has " answered " numbers, and not the " taken " it was given")
@@ -344,24 +362,24 @@ function numbers_of(rank) {
     return substr(rank, index(rank, "/") + 1)
 }
 
-function percentiles_of(p,   row, i, it) {
+function percentiles_of(p, decimals,   row, i, it) {
     for (i = 1; i <= many + 1; i++) {
         it = answer(p)
         if (it != "none" && it !~ /^-?[0-9]+$/) dies("the program answered '" it "' in place of a number")
-        row = row "\t" (it == "none" ? "-" : pointed(it))
+        row = row "\t" (it == "none" ? "-" : pointed(it, decimals))
     }
     return row
 }
 
 # 12345 as 12.345, where there are three decimals
-function pointed(it,   sign) {
+function pointed(it, decimals,   sign) {
     if (!decimals) return it
     if (substr(it, 1, 1) == "-") { sign = "-"; it = substr(it, 2) }
     for (; length(it) <= decimals;) it = "0" it
     return sign substr(it, 1, length(it) - decimals) "." substr(it, length(it) - decimals + 1)
 }
 
-# (a key in a line 'KEY<tab>IMAGE' has no tab)
+# (a key in a line 'KEY<tab>IMAGE<tab>DECIMALS' has no tab)
 function escaped(key,   i, c, it) {
     if (reads_images || key !~ /[\t\\]/) return key
     for (i = 1; i <= length(key); i++) { c = substr(key, i, 1); it = it (c == "\t" ? "\\t" : c == "\\" ? "\\\\" : c) }

@@ -1,6 +1,7 @@
 # The options of percentiles, summarize and combine, and the part of their run that they share. It is sourced after common.sh.
 tab=$(printf '\t')
-groups='' value=1 separator='' header='' decimals=3 points=50,90,99,99.9 family=req k='' format=table ignore='' seed='' reads=numbers
+groups='' value=1 separator='' header='' decimals=3 has_decimals='' points=50,90,99,99.9 family=req k='' format=table ignore='' seed=''
+reads=numbers
 
 # wrong TEXT: ends the script because of wrong arguments
 wrong() { dies 2 "$1; see $name -h"; }
@@ -34,7 +35,7 @@ read_options() {
             v) value=$OPTARG ;;
             t) separator=$OPTARG ;;
             H) header=yes ;;
-            d) decimals=$OPTARG ;;
+            d) decimals=$OPTARG has_decimals=yes ;;
             p) points=$OPTARG ;;
             f) family=$OPTARG ;;
             k) k=$OPTARG ;;
@@ -52,6 +53,8 @@ read_options() {
     [ "$reads" = numbers ] || [ -z "$of_lines" ] || wrong "with -I there are no lines of numbers, which$of_lines would be about"
     check_fields
     check_rest
+    # (images say their own decimals; -d is for those that don't)
+    [ "$reads" = numbers ] || [ -n "$has_decimals" ] || decimals=''
 }
 
 check_fields() {
