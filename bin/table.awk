@@ -28,15 +28,21 @@ BEGIN {
 }
 
 END {
-    for (r = 1; r <= NR; r++) for (i = 2; i <= columns; i++) cell[r, i] = trimmed(cell[r, i])
+    for (r = 1; r <= NR; r++) for (i = 2; i <= columns; i++) cell[r, i] = even(cell[r, i])
     if (format == "json") print_json()
     else if (format == "table") print_table()
     else print_lines()
 }
 
-function trimmed(it,   dot) {
+# The number with 'most' decimals. (Groups read from images may have more or fewer.)
+function even(it,   dot) {
+    if (it == "-") return it
     dot = index(it, ".")
-    return dot ? substr(it, 1, most ? dot + most : dot - 1) : it
+    if (!dot) dot = length(it) + 1
+    if (!most) return substr(it, 1, dot - 1)
+    if (dot > length(it)) it = it "."
+    for (; length(it) < dot + most;) it = it "0"
+    return substr(it, 1, dot + most)
 }
 
 # How many columns a text takes: continuation bytes of UTF-8 take none.
