@@ -323,7 +323,7 @@ function tell_left_out() {
 }
 
 function tell(times, what, done, first) {
-    printf "%s: %d line%s %s %s %s: %s\n", ENVIRON["name"], times, times == 1 ? "" : "s", what, times == 1 ? "is" : "are", done, first > "/dev/stderr"
+    printf "%s: %d line%s %s %s %s: %s\n", ENVIRON["name"], times, (times == 1 ? "" : "s"), what, (times == 1 ? "is" : "are"), done, first > "/dev/stderr"
 }
 
 function put_questions(key,   s, i) {

@@ -135,7 +135,7 @@ function print_json(   r, i, line) {
     }
     print "]"
     if (spoilt) {
-        printf "%s: %d group%s UTF-8: in json, U+FFFD stands for each byte that isn't\n", ENVIRON["name"], spoilt, spoilt == 1 ? " isn't" : "s aren't" > "/dev/stderr"
+        printf "%s: %d group%s UTF-8: in json, U+FFFD stands for each byte that isn't\n", ENVIRON["name"], spoilt, (spoilt == 1 ? " isn't" : "s aren't") > "/dev/stderr"
         exit 1
     }
 }
