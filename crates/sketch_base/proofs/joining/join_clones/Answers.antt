@@ -9,6 +9,7 @@ use Rattle.sketch_base.proofs.WeightedItems.{pairs-at, tail-whole}
 use Rattle.sketch_base.proofs.joining.join_clones.Given.{Over}
 use Rattle.sketch_base.proofs.joining.join_clones.Goals.{After-index-entries-place, then-is_below_first+in_ok-clone, else-is_below_first}
 use Rattle.sketch_base.proofs.joining.join_clones.Goals as goal
+use Rattle.sketch_base.proofs.joining.join_clones.Goals.at as past
 
 pub loop-place-init : goal.loop-place-init
 loop-place-init g c =
@@ -40,7 +41,7 @@ loop-place-preserved g c =
     let i = c.loop-place.invariant in
     let e = c.index-entries-place.result in
     let after : List (g.row.T.Denot × ℕ) = pairs_in (drop (c.loop-place.place + 1) c.args.entries.now) in
-    let j = at g (goal.at.loop-place-preserved g c).After-index-entries-place in
+    let j = at g (past.loop-place-preserved g c).After-index-entries-place in
     let below : c.is_below_first.result ≡ is_below_next g.T.Ord.cmp e.item.now after =
     c.is_below_first.ensures ∙ ap (λ (es : List (Weighted g.row.T.Denot)). is_below_next g.T.Ord.cmp e.item.now (pairs_in es)) (tail-whole (c.loop-place.place + 1) _ c.args.entries.now refl) in
     elim c.if-is_below_first.branch [

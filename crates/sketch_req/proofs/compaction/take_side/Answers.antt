@@ -6,6 +6,7 @@ use Rattle.sketch_base.proofs.MovedHalves.{half_reverse}
 use Rattle.sketch_req.proofs.TakenParts.{moved_behind}
 use Rattle.sketch_req.proofs.compaction.take_side.Goals.{After-move_behind}
 use Rattle.sketch_req.proofs.compaction.take_side.Goals as goal
+use Rattle.sketch_req.proofs.compaction.take_side.Goals.at as past
 
 -- the vector's items after the slice of them was changed
 changed : (g : _) (c : After-move_behind g) → take c.args.items.now.len (c.move_behind.new.items ++ drop (length c.move_behind.new.items) c.args.items.now.items)
@@ -17,14 +18,14 @@ changed g c =
 pub returns-in-HighRank-clause-kept : goal.returns-in-HighRank-clause-kept
 returns-in-HighRank-clause-kept g c =
     let xs : List g.row.T.Denot = c.args.items.now.items in
-    let turned = changed g (goal.at.returns-in-HighRank-clause-kept g c).After-move_behind in
+    let turned = changed g (past.returns-in-HighRank-clause-kept g c).After-move_behind in
     let parts = moved_behind c.args.count (c.len.result - c.args.count) xs _ (ap (λ (m : ℕ). m - c.args.count) (c.len.ensures ∙ c.args.items.now.ok.0)) turned in
     rw c.in-HighRank.is (c.move_half.ensures.kept ∙ parts.0)
 
 pub returns-in-HighRank-clause-moved : goal.returns-in-HighRank-clause-moved
 returns-in-HighRank-clause-moved g c =
     let xs : List g.row.T.Denot = c.args.items.now.items in
-    let turned = changed g (goal.at.returns-in-HighRank-clause-moved g c).After-move_behind in
+    let turned = changed g (past.returns-in-HighRank-clause-moved g c).After-move_behind in
     let parts = moved_behind c.args.count (c.len.result - c.args.count) xs _ (ap (λ (m : ℕ). m - c.args.count) (c.len.ensures ∙ c.args.items.now.ok.0)) turned in
     let out : reverse (half (not c.args.odd) (reverse (take c.args.count xs))) ≡ c.move_half.new.out.items =
     ap reverse (sym (ap (half (not c.args.odd)) parts.1) ∙ c.move_half.ensures.moved) ∙ reverse-reverse c.move_half.new.out.items in

@@ -6,6 +6,7 @@ use Rattle.sketch_base.proofs.WeightedItems.{items-in_pairs, length-pairs_in}
 use Rattle.sketch_base.proofs.sorted_view.SortedView.from_weighted.Given.{Over}
 use Rattle.sketch_base.proofs.sorted_view.SortedView.from_weighted.Goals.{In_ok-items}
 use Rattle.sketch_base.proofs.sorted_view.SortedView.from_weighted.Goals as goal
+use Rattle.sketch_base.proofs.sorted_view.SortedView.from_weighted.Goals.at as past
 
 sorted : (g : Over) (c : In_ok-items g) → IsSorted g.T.Ord.cmp (map (λ (pair : g.row.T.Denot × ℕ). pair.0) (pairs_in c.args.entries.now))
 sorted g c = rw (items-in_pairs c.args.entries.now) c.requires.sorted
@@ -13,18 +14,18 @@ sorted g c = rw (items-in_pairs c.args.entries.now) c.requires.sorted
 pub from_cumulated-requires-2 : goal.from_cumulated-requires-2
 from_cumulated-requires-2 g c =
     let some : 0 < length c.args.entries.now = grind (arith, common_steps) in
-    clones-view g.met.T.Ord.total (pairs_in c.args.entries.now) (sorted g (goal.at.from_cumulated-requires-2 g c).In_ok-items) c.requires.weights
+    clones-view g.met.T.Ord.total (pairs_in c.args.entries.now) (sorted g (past.from_cumulated-requires-2 g c).In_ok-items) c.requires.weights
     c.in_ok-items.items.items c.in_ok-items.cumulated.items c.in_ok-items.ensures.items c.in_ok-items.ensures.weights c.args.min_item c.args.max_item
     (omega (arith, some, length-pairs_in c.args.entries.now)) (c.requires.least some) (c.requires.greatest some)
 
 pub returns-clause-entries : goal.returns-clause-entries
 returns-clause-entries g c =
-    rw c.from_cumulated-2.ensures (clones-entries g.met.T.Ord.total (pairs_in c.args.entries.now) (sorted g (goal.at.returns-clause-entries g c).In_ok-items) c.requires.weights
+    rw c.from_cumulated-2.ensures (clones-entries g.met.T.Ord.total (pairs_in c.args.entries.now) (sorted g (past.returns-clause-entries g c).In_ok-items) c.requires.weights
     c.in_ok-items.items.items c.in_ok-items.cumulated.items c.in_ok-items.ensures.items c.in_ok-items.ensures.weights)
 
 pub returns-clause-joined : goal.returns-clause-joined
 returns-clause-joined g c =
-    rw c.from_cumulated-2.ensures (clones-distinct g.met.T.Ord.total (pairs_in c.args.entries.now) (sorted g (goal.at.returns-clause-joined g c).In_ok-items) c.requires.weights
+    rw c.from_cumulated-2.ensures (clones-distinct g.met.T.Ord.total (pairs_in c.args.entries.now) (sorted g (past.returns-clause-joined g c).In_ok-items) c.requires.weights
     c.in_ok-items.items.items c.in_ok-items.cumulated.items c.in_ok-items.ensures.items c.in_ok-items.ensures.weights)
 
 pub from_cumulated-requires : goal.from_cumulated-requires

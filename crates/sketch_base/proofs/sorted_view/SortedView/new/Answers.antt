@@ -7,6 +7,7 @@ use Rattle.sketch_base.proofs.JoinedViews.{joined-distinct, joined-entries, join
 use Rattle.sketch_base.proofs.sorted_view.SortedView.new.Given.{Over}
 use Rattle.sketch_base.proofs.sorted_view.SortedView.new.Goals.{After-reverse}
 use Rattle.sketch_base.proofs.sorted_view.SortedView.new.Goals as goal
+use Rattle.sketch_base.proofs.sorted_view.SortedView.new.Goals.at as past
 
 -- the weighted items as they are joined, from the last to the first
 module _ (g : Over) (c : After-reverse g) where
@@ -21,24 +22,24 @@ module _ (g : Over) (c : After-reverse g) where
 
 pub join_equal-requires-clause-fits : goal.join_equal-requires-clause-fits
 join_equal-requires-clause-fits g c =
-    let m = moved g (goal.at.join_equal-requires-clause-fits g c).After-reverse in
+    let m = moved g (past.join_equal-requires-clause-fits g c).After-reverse in
     omega (arith, sum_by-IsPermutation (λ (pair : g.row.T.Denot × ℕ). pair.1) c.args.weighted.items _ m, c.requires.fits)
 
 pub from_cumulated-requires-2 : goal.from_cumulated-requires-2
 from_cumulated-requires-2 g c =
-    let after = (goal.at.from_cumulated-requires-2 g c).After-reverse in
+    let after = (past.from_cumulated-requires-2 g c).After-reverse in
     let some : 0 < length c.args.weighted.items = omega (arith, c.args.weighted.ok) in
     rw (c.join_equal.ensures.items, c.join_equal.ensures.weights)
     (joined-view g.met.T.Ord.total _ _ (moved g after) (sorted g after) c.requires.weights c.args.min_item c.args.max_item some (c.requires.least some) (c.requires.greatest some))
 
 pub returns-clause-entries : goal.returns-clause-entries
 returns-clause-entries g c =
-    let after = (goal.at.returns-clause-entries g c).After-reverse in
+    let after = (past.returns-clause-entries g c).After-reverse in
     rw (c.from_cumulated-2.ensures, c.join_equal.ensures.items, c.join_equal.ensures.weights) (joined-entries g.met.T.Ord.total _ _ (moved g after) (sorted g after) c.requires.weights)
 
 pub returns-clause-joined : goal.returns-clause-joined
 returns-clause-joined g c =
-    let after = (goal.at.returns-clause-joined g c).After-reverse in
+    let after = (past.returns-clause-joined g c).After-reverse in
     rw (c.from_cumulated-2.ensures, c.join_equal.ensures.items, c.join_equal.ensures.weights) (joined-distinct g.met.T.Ord.total _ _ (moved g after) (sorted g after) c.requires.weights)
 
 pub from_cumulated-requires : goal.from_cumulated-requires

@@ -11,6 +11,7 @@ use Rattle.sketch_kll.proofs.RaisedLevels.{raised_is}
 use Rattle.sketch_kll.proofs.StoredLevels.{CompactedStored, known_total, compacted_stored}
 use Rattle.sketch_kll.proofs.JoinedLevels.{whole_slice}
 use Rattle.sketch_kll.proofs.levels.Levels.compact.Goals as goal
+use Rattle.sketch_kll.proofs.levels.Levels.compact.Goals.at as past
 use Rattle.sketch_kll.proofs.levels.Levels.compact.Goals.{After-order_level, After-truncate}
 
 pub add_level_above-requires-clause-spare : goal.add_level_above-requires-clause-spare
@@ -48,7 +49,7 @@ pub compact_level-count-requires : goal.compact_level-count-requires
 compact_level-count-requires g c =
     let up = raised_is c.needs_sorting-needs_sorting.result c.random_bit-coin.result c.self.invariant
     (ap (λ (y : Stored g.row.T.Denot). y.levels) c.self.view_is) c.requires.within c.add_level_above.ensures.items in
-    let order = ordered g (goal.at.compact_level-count-requires g c).After-order_level in
+    let order = ordered g (past.compact_level-count-requires g c).After-order_level in
     rw (c.deref_mut.ensures.value, c.deref_mut-2.ensures.value) (record { flat = order.flat; within = up.within; sorted = order.sorted; body = order.body })
 
 pub total_at-self-inside-requires-clause-total : goal.total_at-self-inside-requires-clause-total
@@ -87,20 +88,20 @@ left g c order =
 
 pub total_at-self-inside-requires-clause-few_levels : goal.total_at-self-inside-requires-clause-few_levels
 total_at-self-inside-requires-clause-few_levels g c =
-    let after = (goal.at.total_at-self-inside-requires-clause-few_levels g c).After-truncate in
-    omega (arith, (left g after (ordered g (goal.at.total_at-self-inside-requires-clause-few_levels g c).After-order_level)).few, bounds_len g after)
+    let after = (past.total_at-self-inside-requires-clause-few_levels g c).After-truncate in
+    omega (arith, (left g after (ordered g (past.total_at-self-inside-requires-clause-few_levels g c).After-order_level)).few, bounds_len g after)
 
 pub invariant_of-self : goal.invariant_of-self
 invariant_of-self g c =
-    let after = (goal.at.invariant_of-self g c).After-truncate in
-    (left g after (ordered g (goal.at.invariant_of-self g c).After-order_level)).stored _ c.len-num_levels.result (c.len-num_levels.ensures ∙ sym (bounds_len g after)) c.total_at-self-inside.ensures
+    let after = (past.invariant_of-self g c).After-truncate in
+    (left g after (ordered g (past.invariant_of-self g c).After-order_level)).stored _ c.len-num_levels.result (c.len-num_levels.ensures ∙ sym (bounds_len g after)) c.total_at-self-inside.ensures
 
 pub returns : goal.returns
 returns g c =
-    let left = left g (goal.at.returns g c).After-truncate (ordered g (goal.at.returns g c).After-order_level) in
+    let left = left g (past.returns g c).After-truncate (ordered g (past.returns g c).After-order_level) in
     let needs = c.needs_sorting-needs_sorting.ensures ∙ ap (λ (y : Stored g.row.T.Denot). needs_sorting y.is_sorted c.args.level) c.self.view_is in
     let before = length-items c.self.inside.items.items c.self.inside.bounds.items c.self.invariant.flat in
-    let after = length-items c.truncate.new.self.items (shifted_bounds g (goal.at.returns g c).After-truncate) left.flat in
+    let after = length-items c.truncate.new.self.items (shifted_bounds g (past.returns g c).After-truncate) left.flat in
     let held = ap (λ (y : Stored g.row.T.Denot). retained y.levels) c.self.view_is in
     record {
       kept = search rules;

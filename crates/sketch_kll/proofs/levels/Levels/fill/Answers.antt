@@ -8,6 +8,7 @@ use Rattle.sketch_kll.proofs.Flats.{length-items}
 use Rattle.sketch_kll.specs.Stored.{AreStored}
 use Rattle.sketch_kll.proofs.StoredLevels.{put_stored}
 use Rattle.sketch_kll.proofs.levels.Levels.fill.Goals as goal
+use Rattle.sketch_kll.proofs.levels.Levels.fill.Goals.at as past
 use Rattle.sketch_kll.proofs.levels.Levels.fill.Goals.{After-saturating_sub-keep, After-len-2}
 
 kept_back : (g : _) (c : After-saturating_sub-keep g) → c.saturating_sub-keep.result ≡ left_over c.args.self.now c.args.items.now.items
@@ -36,13 +37,13 @@ filled : (g : _) (c : After-len-2 g) →
 filled g c = put_stored (reverse (drop c.saturating_sub-keep.result c.args.items.now.items)) c.self.invariant c.move_back.ensures.to (search rules)
 
 pub invariant_of-self : goal.invariant_of-self
-invariant_of-self g c = (filled g (goal.at.invariant_of-self g c).After-len-2).0
+invariant_of-self g c = (filled g (past.invariant_of-self g c).After-len-2).0
 
 pub returns-clause-levels : goal.returns-clause-levels
 returns-clause-levels g c =
-    let r = filled g (goal.at.returns-clause-levels g c).After-len-2 in
-    let k = kept_back g (goal.at.returns-clause-levels g c).After-saturating_sub-keep in
+    let r = filled g (past.returns-clause-levels g c).After-len-2 in
+    let k = kept_back g (past.returns-clause-levels g c).After-saturating_sub-keep in
     rw (← k, ← c.self.view_is) r.1
 
 pub returns-clause-items : goal.returns-clause-items
-returns-clause-items g c = rw (← kept_back g (goal.at.returns-clause-items g c).After-saturating_sub-keep) c.move_back.ensures.from
+returns-clause-items g c = rw (← kept_back g (past.returns-clause-items g c).After-saturating_sub-keep) c.move_back.ensures.from

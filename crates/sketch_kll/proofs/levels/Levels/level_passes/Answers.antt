@@ -7,6 +7,7 @@ use Rattle.sketch_kll.specs.Stored.{Stored}
 use Rattle.sketch_kll.proofs.Flats.{bound_falls_to, length-bounds}
 use Rattle.sketch_kll.proofs.CompressWalks.{passes_is}
 use Rattle.sketch_kll.proofs.levels.Levels.level_passes.Goals as goal
+use Rattle.sketch_kll.proofs.levels.Levels.level_passes.Goals.at as past
 use Rattle.sketch_kll.proofs.levels.Levels.level_passes.Goals.{After-as_slice-bounds}
 
 within : (g : _) (c : After-as_slice-bounds g) → c.args.level + 1 < length c.as_slice-bounds.result.now
@@ -20,14 +21,14 @@ is_at_capacity-requires g c =
     record {
       k = c.self.invariant.k_above;
       few_levels = omega (arith, n, c.self.invariant.few, ap length c.as_slice-bounds.ensures.value);
-      within = omega (arith, within g (goal.at.is_at_capacity-requires g c).After-as_slice-bounds);
+      within = omega (arith, within g (past.is_at_capacity-requires g c).After-as_slice-bounds);
     }
 
 pub bounds-bounds-level : goal.bounds-bounds-level
-bounds-bounds-level g c = omega (arith, within g (goal.at.bounds-bounds-level g c).After-as_slice-bounds)
+bounds-bounds-level g c = omega (arith, within g (past.bounds-bounds-level g c).After-as_slice-bounds)
 
 pub bounds-bounds-level-2 : goal.bounds-bounds-level-2
-bounds-bounds-level-2 g c = omega (arith, within g (goal.at.bounds-bounds-level-2 g c).After-as_slice-bounds)
+bounds-bounds-level-2 g c = omega (arith, within g (past.bounds-bounds-level-2 g c).After-as_slice-bounds)
 
 pub overflow_sub-bounds : goal.overflow_sub-bounds
 overflow_sub-bounds g c =

@@ -8,6 +8,7 @@ use Rattle.sketch_kll.specs.Stored.{Stored}
 use Rattle.sketch_kll.proofs.Flats.{length-bounds, length-items}
 use Rattle.sketch_kll.proofs.NoMoreLevels.{lowest_full_low, retained-weight}
 use Rattle.sketch_kll.proofs.levels.Levels.level_to_compact.Goals as goal
+use Rattle.sketch_kll.proofs.levels.Levels.level_to_compact.Goals.at as past
 use Rattle.sketch_kll.proofs.levels.Levels.level_to_compact.Goals.{After-deref-2, After-find_level_to_compact}
 
 -- what is said about the levels in the slices is said about the levels of the view
@@ -36,7 +37,7 @@ find_level_to_compact-requires g c =
 
 pub returns : goal.returns
 returns g c =
-    let sliced = (goal.at.returns g c).After-deref-2 in
+    let sliced = (past.returns g c).After-deref-2 in
     let x = c.self.inside in
     let n = ap length c.deref-2.ensures.value ∙ length-bounds x.items.items x.bounds.items c.self.invariant.flat in
     let m = ap (λ (y : Stored g.row.T.Denot). length y.levels) c.self.view_is in

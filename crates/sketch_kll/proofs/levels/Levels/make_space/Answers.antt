@@ -10,6 +10,7 @@ use Rattle.sketch_kll.proofs.FullLevels.{full_level_with, with_room_full, with_r
 use Rattle.sketch_kll.proofs.PutItems.{length-put, retained-put}
 use Rattle.sketch_kll.proofs.TakenLevels.{length-last, SameLevels-put_all}
 use Rattle.sketch_kll.proofs.levels.Levels.make_space.Goals as goal
+use Rattle.sketch_kll.proofs.levels.Levels.make_space.Goals.at as past
 use Rattle.sketch_kll.proofs.levels.Levels.make_space.Goals.{After-free}
 
 -- the items that count as put into level 0
@@ -25,7 +26,7 @@ total g c = ap (total_of c.args.self.now.k 8) (length-put (put g c) c.args.self.
 
 pub returns-then-taken-free-clause-space : goal.returns-then-taken-free-clause-space
 returns-then-taken-free-clause-space g c =
-    let before = (goal.at.returns-then-taken-free-clause-space g c).After-free in
+    let before = (past.returns-then-taken-free-clause-space g c).After-free in
     let s = c.args.self.now in
     let new : List g.row.T.Denot = put g before in
     let n : length new ≡ c.args.taken = length-last c.args.items.now.items c.args.taken c.requires.within in
@@ -51,7 +52,7 @@ returns-then-taken-free-clause-space g c =
 
 pub returns-else-taken-free-clause-space : goal.returns-else-taken-free-clause-space
 returns-else-taken-free-clause-space g c =
-    let before = (goal.at.returns-else-taken-free-clause-space g c).After-free in
+    let before = (past.returns-else-taken-free-clause-space g c).After-free in
     let s = c.args.self.now in
     let new : List g.row.T.Denot = put g before in
     let full : false ≡ is_full s.k (put_all new s.levels) = sym (lt-leb (total_of s.k 8 (length (put_all new s.levels))) (retained (put_all new s.levels))

@@ -7,6 +7,7 @@ use Rattle.sketch_kll.proofs.LevelClones.{ClonedRuns, cloned_runs}
 use Rattle.sketch_kll.proofs.Merged.{merged_by_calls, merged_only, joined_size, joined-first}
 use Rattle.sketch_kll.proofs.MergedSketches.{merged_same}
 use Rattle.sketch_kll.proofs.levels.Levels.merge.Goals as goal
+use Rattle.sketch_kll.proofs.levels.Levels.merge.Goals.at as past
 use Rattle.sketch_kll.proofs.levels.Levels.merge.Goals.{After-as_slice-other_bounds}
 
 -- the clones that were made ready
@@ -17,12 +18,12 @@ cloned g c =
 
 pub take_items-requires-clause-light : goal.take_items-requires-clause-light
 take_items-requires-clause-light g c =
-    let clones = cloned g (goal.at.take_items-requires-clause-light g c).After-as_slice-other_bounds in
+    let clones = cloned g (past.take_items-requires-clause-light g c).After-as_slice-other_bounds in
     omega (arith, clones.weighs, c.requires.light)
 
 pub merge_higher_levels-old-requires : goal.merge_higher_levels-old-requires
 merge_higher_levels-old-requires g c =
-    let clones = cloned g (goal.at.merge_higher_levels-old-requires g c).After-as_slice-other_bounds in
+    let clones = cloned g (past.merge_higher_levels-old-requires g c).After-as_slice-other_bounds in
     record {
       upper = clones.flat;
       upper_sorted = clones.sorted;
@@ -35,7 +36,7 @@ merge_higher_levels-old-requires g c =
 
 pub compress-requires : goal.compress-requires
 compress-requires g c =
-    let clones = cloned g (goal.at.compress-requires g c).After-as_slice-other_bounds in
+    let clones = cloned g (past.compress-requires g c).After-as_slice-other_bounds in
     let higher = c.merge_higher_levels-old.ensures in
     let taken = c.take_items.ensures.taken in
     let levels = c.take_items.new.self.levels in
@@ -51,7 +52,7 @@ compress-requires g c =
 
 pub returns-clause-merged : goal.returns-clause-merged
 returns-clause-merged g c =
-    let clones = cloned g (goal.at.returns-clause-merged g c).After-as_slice-other_bounds in
+    let clones = cloned g (past.returns-clause-merged g c).After-as_slice-other_bounds in
     let made = c.compress.ensures in
     rw (c.give_back-2.ensures.kept.flag_is, c.give_back-2.ensures.kept.levels_are, c.move_to.ensures.kept.flag_is, c.move_to.ensures.kept.levels_are) (merged_same g.met.T.Ord.total g.B.RandomBits.bit g.B.RandomBits.next _ _ _ _ _ _ _ _ _ c.requires.kept.some clones.same
     (merged_by_calls g.T.Ord.cmp g.met.T.Ord.total g.B.RandomBits.bit g.B.RandomBits.next _ _ _ _ _ _ _ _ _ _ _ _ _ _ _
@@ -61,7 +62,7 @@ returns-clause-merged g c =
 
 pub returns-then-other_bounds-le2-clause-merged : goal.returns-then-other_bounds-le2-clause-merged
 returns-then-other_bounds-le2-clause-merged g c =
-    let clones = cloned g (goal.at.returns-then-other_bounds-le2-clause-merged g c).After-as_slice-other_bounds in
+    let clones = cloned g (past.returns-then-other_bounds-le2-clause-merged g c).After-as_slice-other_bounds in
     rw (c.give_back.ensures.kept.flag_is, c.give_back.ensures.kept.levels_are) (merged_same g.met.T.Ord.total g.B.RandomBits.bit g.B.RandomBits.next _ _ _ _ _ _ _ _ _ c.requires.kept.some clones.same
     (merged_only g.T.Ord.cmp g.met.T.Ord.total g.B.RandomBits.bit g.B.RandomBits.next _ _ _ _ _ _ _ _ _
     c.take_items.ensures.taken (omega (arith, clones.upper_are, clones.some, c.if-other_bounds-le2.true))))

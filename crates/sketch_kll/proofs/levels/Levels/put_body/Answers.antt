@@ -10,6 +10,7 @@ use Rattle.sketch_kll.proofs.PutItems.{length-put, retained-put}
 use Rattle.sketch_kll.proofs.StoredLevels.{put_stored}
 use Rattle.sketch_kll.proofs.TakenLevels.{ready_as_is, ready_lowest, sorted_put}
 use Rattle.sketch_kll.proofs.levels.Levels.put_body.Goals as goal
+use Rattle.sketch_kll.proofs.levels.Levels.put_body.Goals.at as past
 use Rattle.sketch_kll.proofs.levels.Levels.put_body.Goals.{After-index, After-len-2, then-is_sorted, else-is_sorted}
 
 pub returns-then-level-gt0-clause-ready : goal.returns-then-level-gt0-clause-ready
@@ -39,7 +40,7 @@ lowest g c =
     )
 
 pub overflow_sub-len : goal.overflow_sub-len
-overflow_sub-len g c = omega (arith, lowest g (goal.at.overflow_sub-len g c).After-index)
+overflow_sub-len g c = omega (arith, lowest g (past.overflow_sub-len g c).After-index)
 
 pub move_last-is_sorted-requires-clause-room : goal.move_last-is_sorted-requires-clause-room
 move_last-is_sorted-requires-clause-room g c =
@@ -65,7 +66,7 @@ placed g c =
     (omega (arith, c.len-2.ensures, c.move_last-is_sorted.new.to.ok))
 
 pub invariant_of-self : goal.invariant_of-self
-invariant_of-self g c = (placed g (goal.at.invariant_of-self g c).After-len-2).0
+invariant_of-self g c = (placed g (past.invariant_of-self g c).After-len-2).0
 
 -- how many they are
 count_is : (g : _) (c : After-len-2 g) → length (drop (length c.self.inside.items.items) c.move_last-is_sorted.new.to.items) ≡ c.args.taken - (c.len.result - c.index.result.now + c.args.taken) % 2
@@ -74,13 +75,13 @@ count_is g c = omega (arith, length-drop (length c.self.inside.items.items) c.mo
 pub returns-clause-counts : goal.returns-clause-counts
 returns-clause-counts g c =
     let x = c.self.inside in
-    let p = placed g (goal.at.returns-clause-counts g c).After-len-2 in
+    let p = placed g (past.returns-clause-counts g c).After-len-2 in
     ap length p.1 ∙ (length-put (drop (length x.items.items) c.move_last-is_sorted.new.to.items) (levels_in x.items.items x.bounds.items) c.self.invariant.some ∙ ap (λ (y : Stored g.row.T.Denot). length y.levels) c.self.view_is)
 
 pub returns-clause-whole : goal.returns-clause-whole
 returns-clause-whole g c =
     let x = c.self.inside in
-    let after = (goal.at.returns-clause-whole g c).After-len-2 in
+    let after = (past.returns-clause-whole g c).After-len-2 in
     let p = placed g after in
     omega (
       arith,
@@ -96,8 +97,8 @@ returns-clause-whole g c =
 pub returns-clause-flag : goal.returns-clause-flag
 returns-clause-flag g c = λ told zero.
     let x = c.self.inside in
-    let p = placed g (goal.at.returns-clause-flag g c).After-len-2 in
-    let low = lowest g (goal.at.returns-clause-flag g c).After-index in
+    let p = placed g (past.returns-clause-flag g c).After-len-2 in
+    let low = lowest g (past.returns-clause-flag g c).After-index in
     let seen = ap (λ (y : Stored g.row.T.Denot). length (first_level y.levels)) c.self.view_is in
     elim c.if-is_sorted.branch [
       | then-is_sorted w ↦
@@ -110,9 +111,9 @@ returns-clause-flag g c = λ told zero.
 pub returns-clause-ready : goal.returns-clause-ready
 returns-clause-ready g c =
     let x = c.self.inside in
-    let after = (goal.at.returns-clause-ready g c).After-len-2 in
+    let after = (past.returns-clause-ready g c).After-len-2 in
     let p = placed g after in
-    let low = lowest g (goal.at.returns-clause-ready g c).After-index in
+    let low = lowest g (past.returns-clause-ready g c).After-index in
     let put : List g.row.T.Denot = drop (length x.items.items) c.move_last-is_sorted.new.to.items in
     ready_lowest g.T.Ord.cmp g.met.T.Ord.total c.args.level c.args.taken ((c.len.result - c.index.result.now + c.args.taken) % 2) c.args.items.now.items _ put c.args.self.now _
     (omega (arith, c.if-level-gt0.false)) (omega (arith, c.if-taken-eq0.false)) (omega (arith, c.if-taken-eq0.false)) (omega arith) c.requires.within c.requires.some

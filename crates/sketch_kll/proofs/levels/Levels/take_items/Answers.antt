@@ -10,6 +10,7 @@ use Rattle.sketch_kll.proofs.PutItems.{length-put, retained-put, weight-put}
 use Rattle.sketch_kll.proofs.TakenLevels.{GoesOn, flag_alone, length-last, taking_ends, taking_goes_on, taking_starts}
 use Rattle.sketch_kll.proofs.Takes.{taken_all, taking_from}
 use Rattle.sketch_kll.proofs.levels.Levels.take_items.Goals as goal
+use Rattle.sketch_kll.proofs.levels.Levels.take_items.Goals.at as past
 use Rattle.sketch_kll.proofs.levels.Levels.take_items.Goals.{After-len, After-min-taken}
 
 pub loop-taken-init : goal.loop-taken-init
@@ -40,7 +41,7 @@ count g c = length-put (put g c) c.loop-taken.self.levels c.loop-taken.invariant
 
 pub make_space-requires : goal.make_space-requires
 make_space-requires g c =
-    let before = (goal.at.make_space-requires g c).After-len in
+    let before = (past.make_space-requires g c).After-len in
     let i = c.loop-taken.invariant in
     let t = i.taking in
     let kept = t.taking.taken.kept in
@@ -89,12 +90,12 @@ more g c =
     c.make_space.ensures.space c.free.ensures.room (omega (arith, c.min-taken.ensures, c.len-in-loop-taken.ensures, c.make_space.new.items.ok))
 
 pub loop-taken-smaller : goal.loop-taken-smaller
-loop-taken-smaller g c = (more g (goal.at.loop-taken-smaller g c).After-min-taken).fewer
+loop-taken-smaller g c = (more g (past.loop-taken-smaller g c).After-min-taken).fewer
 
 pub loop-taken-preserved : goal.loop-taken-preserved
 loop-taken-preserved g c =
     let i = c.loop-taken.invariant in
-    let on = more g (goal.at.loop-taken-preserved g c).After-min-taken in
+    let on = more g (past.loop-taken-preserved g c).After-min-taken in
     record {
       k = c.make_space.ensures.k ∙ i.k;
       some = c.free.ensures.some;
@@ -123,7 +124,7 @@ room_for_all g c =
 
 pub fill-requires : goal.fill-requires
 fill-requires g c =
-    let before = (goal.at.fill-requires g c).After-len in
+    let before = (past.fill-requires g c).After-len in
     let i = c.loop-taken.invariant in
     let kept = i.taking.taking.taken.kept in
     record {
@@ -147,7 +148,7 @@ fill-requires g c =
 
 pub returns-then-taken-gt0-clause-taken : goal.returns-then-taken-gt0-clause-taken
 returns-then-taken-gt0-clause-taken g c =
-    let before = (goal.at.returns-then-taken-gt0-clause-taken g c).After-len in
+    let before = (past.returns-then-taken-gt0-clause-taken g c).After-len in
     let i = c.loop-taken.invariant in
     let items : List g.row.T.Denot = c.loop-taken.items.items in
     let none : length items ≤ c.loop-taken.taken = omega (arith, c.loop-taken-test.false, c.len.ensures, c.loop-taken.items.ok) in
@@ -177,7 +178,7 @@ returns-then-taken-gt0-clause-len g c =
 
 pub returns-clause-taken : goal.returns-clause-taken
 returns-clause-taken g c =
-    let before = (goal.at.returns-clause-taken g c).After-len in
+    let before = (past.returns-clause-taken g c).After-len in
     let i = c.loop-taken.invariant in
     let none : length c.loop-taken.items.items ≤ c.loop-taken.taken = omega (arith, c.loop-taken-test.false, c.len.ensures, c.loop-taken.items.ok) in
     taking_ends g.T.Ord.cmp g.B.RandomBits.bit g.B.RandomBits.next c.args.coins.now c.loop-taken.coins c.args.self.now.k c.args.self.now.is_sorted c.loop-taken.self.is_sorted c.args.self.now.levels

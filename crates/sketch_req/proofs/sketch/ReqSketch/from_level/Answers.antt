@@ -6,6 +6,7 @@ use Rattle.sketch_req.proofs.Sounds.{IsRebuilt, rebuilt}
 use Rattle.sketch_req.proofs.sketch.ReqSketch.from_level.Given.{Over}
 use Rattle.sketch_req.proofs.sketch.ReqSketch.from_level.Goals.{After-new-levels}
 use Rattle.sketch_req.proofs.sketch.ReqSketch.from_level.Goals as goal
+use Rattle.sketch_req.proofs.sketch.ReqSketch.from_level.Goals.at as past
 
 -- the sketch of the level
 module _ (g : Over) (c : After-new-levels g) where
@@ -32,7 +33,7 @@ from_levels-requires g c =
 
 pub returns-clause-told : goal.returns-clause-told
 returns-clause-told g c =
-    let before = (goal.at.returns-clause-told g c).After-new-levels in
+    let before = (past.returns-clause-told g c).After-new-levels in
     let m = made g before in
     let told : IsTold g.T.Ord.cmp c.args.header.now (sketch g before) =
     record { k_is = refl; accuracy_is = refl; n_is = m.n_is; least_is = m.least_is; greatest_is = m.greatest_is } in

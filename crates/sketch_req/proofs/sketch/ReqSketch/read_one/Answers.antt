@@ -10,6 +10,7 @@ use Rattle.sketch_req.proofs.OneText.{same_levels, same_numbers}
 use Rattle.sketch_req.proofs.sketch.ReqSketch.read_one.Given.{Over}
 use Rattle.sketch_req.proofs.sketch.ReqSketch.read_one.Goals.{In_ok-level}
 use Rattle.sketch_req.proofs.sketch.ReqSketch.read_one.Goals as goal
+use Rattle.sketch_req.proofs.sketch.ReqSketch.read_one.Goals.at as past
 
 -- the level that was read, at its place
 read : (g : Over) (c : In_ok-level g) →
@@ -33,7 +34,7 @@ returns-in_err-level-clause-refused g c =
 pub returns-in_err-unless-2-clause-refused : goal.returns-in_err-unless-2-clause-refused
 returns-in_err-unless-2-clause-refused g c =
     let p = err_from_is_err_and c.from_residual-in_err-unless-2.result c.from_residual-in_err-unless-2.ensures.1 in
-    let level = read g (goal.at.returns-in_err-unless-2-clause-refused g c).In_ok-level in
+    let level = read g (past.returns-in_err-unless-2-clause-refused g c).In_ok-level in
     let xs : List (Level g.row.T.Denot) = c.in_ok-level.level ∷ [] in
     rw (p.1, p.2) (λ k s rest b.
     let same = same_levels _ _ g.met.T.ReqValue.is_prefix_free _ c.requires.head.legal_k _ xs _ _ _ (sym b.one_level)
@@ -45,7 +46,7 @@ returns-in_err-unless-2-clause-refused g c =
 
 pub from_level-requires : goal.from_level-requires
 from_level-requires g c =
-    let level = read g (goal.at.from_level-requires g c).In_ok-level in
+    let level = read g (past.from_level-requires g c).In_ok-level in
     let many = ltb-true _ _ (c.in_ok-unless-2.ensures.ok.0 refl) in
     record {
       legal = c.requires.head.legal_k;
@@ -59,7 +60,7 @@ pub returns-clause-found : goal.returns-clause-found
 returns-clause-found g c =
     let rest = c.deserialize.new.input in
     let place = first_place c.args.header.now in
-    let level = read g (goal.at.returns-clause-found g c).In_ok-level in
+    let level = read g (past.returns-clause-found g c).In_ok-level in
     let many = ltb-true _ _ (c.in_ok-unless-2.ensures.ok.0 refl) in
     IfOk-weaker c.from_level.result _ _ (λ s t.
     let its = ap length (alone _ c.in_ok-level.level t.0).items in

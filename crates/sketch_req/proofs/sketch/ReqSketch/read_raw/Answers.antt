@@ -10,6 +10,7 @@ use Rattle.sketch_req.proofs.Sounds.{fresh_placed}
 use Rattle.sketch_req.proofs.sketch.ReqSketch.read_raw.Given.{Over}
 use Rattle.sketch_req.proofs.sketch.ReqSketch.read_raw.Goals.{After-raw_items_compactor-level}
 use Rattle.sketch_req.proofs.sketch.ReqSketch.read_raw.Goals as goal
+use Rattle.sketch_req.proofs.sketch.ReqSketch.read_raw.Goals.at as past
 
 -- the level that was made is a fresh one of the items
 fresh_level : (g : Over) (c : After-raw_items_compactor-level g) → let level = c.raw_items_compactor-level.result in
@@ -22,7 +23,7 @@ fresh_level g c =
 pub from_level-requires : goal.from_level-requires
 from_level-requires g c =
     let h = c.args.header.now in
-    let rest = fresh_level g (goal.at.from_level-requires g c).After-raw_items_compactor-level in
+    let rest = fresh_level g (past.from_level-requires g c).After-raw_items_compactor-level in
     let many = c.in_ok-items.ensures.found.as_many in
     let some : 1 ≤ h.second = search rules in
     let few : h.second ≤ 4 = search rules in
@@ -40,7 +41,7 @@ pub returns-clause-found : goal.returns-clause-found
 returns-clause-found g c =
     let xs : List g.row.T.Denot = c.in_ok-items.items.items in
     let made = c.raw_items_compactor-level in
-    let rest = fresh_level g (goal.at.returns-clause-found g c).After-raw_items_compactor-level in
+    let rest = fresh_level g (past.returns-clause-found g c).After-raw_items_compactor-level in
     IfOk-weaker c.from_level.result _ _ (λ s t. record {
       one_level = search rules;
       some_items = search rules;

@@ -10,6 +10,7 @@ use Rattle.sketch_req.proofs.Views.{all-weigh, at-most-n, entries-view, extreme-
 use Rattle.sketch_req.proofs.sketch.ReqSketch.sorted_view.Given.{Over}
 use Rattle.sketch_req.proofs.sketch.ReqSketch.sorted_view.Goals.{In_ok-entries}
 use Rattle.sketch_req.proofs.sketch.ReqSketch.sorted_view.Goals as goal
+use Rattle.sketch_req.proofs.sketch.ReqSketch.sorted_view.Goals.at as past
 
 -- the entries, and what they are entries of
 module _ (g : Over) (c : In_ok-entries g) where
@@ -29,31 +30,31 @@ module _ (g : Over) (c : In_ok-entries g) where
 
 pub from_weighted-requires-clause-weights : goal.from_weighted-requires-clause-weights
 from_weighted-requires-clause-weights g c =
-    let before = (goal.at.from_weighted-requires-clause-weights g c).In_ok-entries in
+    let before = (past.from_weighted-requires-clause-weights g c).In_ok-entries in
     let all = all-weigh g.met.T.Ord.total (sketch g before) (pairs_in c.in_ok-entries.entries.items) c.self.invariant (moved g before) in
     rw c.as_slice.ensures.value all
 
 pub from_weighted-requires-clause-fits : goal.from_weighted-requires-clause-fits
 from_weighted-requires-clause-fits g c =
-    let before = (goal.at.from_weighted-requires-clause-fits g c).In_ok-entries in
+    let before = (past.from_weighted-requires-clause-fits g c).In_ok-entries in
     let small : c.self.inside.n < 2 ^ 64 = c.self.invariant.n_fits in
     rw c.as_slice.ensures.value (omega (arith, small, weigh-n g.met.T.Ord.total (sketch g before) (pairs_in c.in_ok-entries.entries.items) c.self.invariant (moved g before)))
 
 pub from_weighted-requires-clause-least : goal.from_weighted-requires-clause-least
 from_weighted-requires-clause-least g c =
-    let before = (goal.at.from_weighted-requires-clause-least g c).In_ok-entries in
+    let before = (past.from_weighted-requires-clause-least g c).In_ok-entries in
     rw c.as_slice.ensures.value (extreme-there g.met.T.Ord.total (sketch g before) (pairs_in c.in_ok-entries.entries.items) c.self.invariant (moved g before)
     c.in_ok-entries.entries.items (sym (length-pairs_in c.in_ok-entries.entries.items)) c.self.inside.min_item c.in_ok-least.least c.self.invariant.least_there (least g before))
 
 pub from_weighted-requires-clause-greatest : goal.from_weighted-requires-clause-greatest
 from_weighted-requires-clause-greatest g c =
-    let before = (goal.at.from_weighted-requires-clause-greatest g c).In_ok-entries in
+    let before = (past.from_weighted-requires-clause-greatest g c).In_ok-entries in
     rw c.as_slice.ensures.value (extreme-there g.met.T.Ord.total (sketch g before) (pairs_in c.in_ok-entries.entries.items) c.self.invariant (moved g before)
     c.in_ok-entries.entries.items (sym (length-pairs_in c.in_ok-entries.entries.items)) c.self.inside.max_item c.in_ok-greatest.greatest c.self.invariant.greatest_there (greatest g before))
 
 pub returns-clause-view : goal.returns-clause-view
 returns-clause-view g c =
-    let before = (goal.at.returns-clause-view g c).In_ok-entries in
+    let before = (past.returns-clause-view g c).In_ok-entries in
     let entries = c.in_ok-entries.entries.items in
     rw (← c.self.view_is) (entries-view g.met.T.Ord.total (sketch g before) (pairs_in entries) c.self.invariant (moved g before) entries (sym (length-pairs_in entries))
     c.in_ok-least.least c.in_ok-greatest.greatest _ (least g before) (greatest g before) (rw c.as_slice.ensures.value at c.from_weighted.ensures.entries)
@@ -61,7 +62,7 @@ returns-clause-view g c =
 
 pub returns-clause-some : goal.returns-clause-some
 returns-clause-some g c =
-    let before = (goal.at.returns-clause-some g c).In_ok-entries in
+    let before = (past.returns-clause-some g c).In_ok-entries in
     let entries = c.in_ok-entries.entries.items in
     let most = at-most-n g.met.T.Ord.total (sketch g before) (pairs_in entries) c.self.invariant (moved g before) in
     IfErr-weaker c.from_weighted.result (λ e. 0 < length c.as_slice.result.now) (λ e. c.args.self.now.n ≢ 0)

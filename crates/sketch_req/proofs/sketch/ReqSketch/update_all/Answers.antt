@@ -13,6 +13,7 @@ use Rattle.sketch_req.proofs.UpdatesInTurn.{updates_none, updates_sketch}
 use Rattle.sketch_req.proofs.sketch.ReqSketch.update_all.Given.{Over}
 use Rattle.sketch_req.proofs.sketch.ReqSketch.update_all.Goals.{After-set_if_some-2, then-not-is_full, else-not-is_full}
 use Rattle.sketch_req.proofs.sketch.ReqSketch.update_all.Goals as goal
+use Rattle.sketch_req.proofs.sketch.ReqSketch.update_all.Goals.at as past
 
 pub returns-then-count-eq0-clause-ok : goal.returns-then-count-eq0-clause-ok
 returns-then-count-eq0-clause-ok g c =
@@ -51,16 +52,16 @@ module _ (g : Over) (c : After-set_if_some-2 g) where
       c.self.invariant is_well.1 known.1 t.are_copies t.taken least greatest)
 
 pub invariant_of-self-2 : goal.invariant_of-self-2
-invariant_of-self-2 g c = (updated g (goal.at.invariant_of-self-2 g c).After-set_if_some-2).0
+invariant_of-self-2 g c = (updated g (past.invariant_of-self-2 g c).After-set_if_some-2).0
 
 pub returns-clause-sound : goal.returns-clause-sound
-returns-clause-sound g c = (updated g (goal.at.returns-clause-sound g c).After-set_if_some-2).0
+returns-clause-sound g c = (updated g (past.returns-clause-sound g c).After-set_if_some-2).0
 
 pub returns-clause-ok : goal.returns-clause-ok
-returns-clause-ok g c = rw (← c.self.view_is) (updated g (goal.at.returns-clause-ok g c).After-set_if_some-2).1
+returns-clause-ok g c = rw (← c.self.view_is) (updated g (past.returns-clause-ok g c).After-set_if_some-2).1
 
 pub returns-clause-coins : goal.returns-clause-coins
-returns-clause-coins g c = rw (← c.self.view_is) (updated g (goal.at.returns-clause-coins g c).After-set_if_some-2).2
+returns-clause-coins g c = rw (← c.self.view_is) (updated g (past.returns-clause-coins g c).After-set_if_some-2).2
 
 pub returns-then-count-eq0-clause-coins : goal.returns-then-count-eq0-clause-coins
 returns-then-count-eq0-clause-coins g c = grind (arith, common_steps)

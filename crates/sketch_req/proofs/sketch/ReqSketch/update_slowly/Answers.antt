@@ -8,6 +8,7 @@ use Rattle.sketch_req.proofs.UpdatedLevels.{not-full, updated_sketch}
 use Rattle.sketch_req.proofs.sketch.ReqSketch.update_slowly.Given.{Over}
 use Rattle.sketch_req.proofs.sketch.ReqSketch.update_slowly.Goals.{After-set_if_some-2}
 use Rattle.sketch_req.proofs.sketch.ReqSketch.update_slowly.Goals as goal
+use Rattle.sketch_req.proofs.sketch.ReqSketch.update_slowly.Goals.at as past
 
 -- the sketch before and after
 module _ (g : Over) (c : After-set_if_some-2 g) where
@@ -35,13 +36,13 @@ take_last-requires g c =
     record { clones = c.requires.clones; fits = omega (arith, known.0, c.self.invariant.weighs_n); few = known.1 }
 
 pub invariant_of-self-2 : goal.invariant_of-self-2
-invariant_of-self-2 g c = (updated g (goal.at.invariant_of-self-2 g c).After-set_if_some-2).0
+invariant_of-self-2 g c = (updated g (past.invariant_of-self-2 g c).After-set_if_some-2).0
 
 pub returns-clause-sound : goal.returns-clause-sound
-returns-clause-sound g c = (updated g (goal.at.returns-clause-sound g c).After-set_if_some-2).0
+returns-clause-sound g c = (updated g (past.returns-clause-sound g c).After-set_if_some-2).0
 
 pub returns-clause-ok : goal.returns-clause-ok
-returns-clause-ok g c = rw (← c.self.view_is) (updated g (goal.at.returns-clause-ok g c).After-set_if_some-2).1
+returns-clause-ok g c = rw (← c.self.view_is) (updated g (past.returns-clause-ok g c).After-set_if_some-2).1
 
 pub returns-clause-coins : goal.returns-clause-coins
-returns-clause-coins g c = rw (← c.self.view_is) (updated g (goal.at.returns-clause-coins g c).After-set_if_some-2).2
+returns-clause-coins g c = rw (← c.self.view_is) (updated g (past.returns-clause-coins g c).After-set_if_some-2).2

@@ -8,6 +8,7 @@ use Rattle.sketch_req.proofs.TakenInTurn.{first-few, first-filled, held-filled, 
 use Rattle.sketch_req.proofs.sketch.levels.Levels.fill.Goals.{In_ok-append_clones}
 use Rattle.sketch_req.proofs.sketch.levels.Levels.fill.Given.{Over}
 use Rattle.sketch_req.proofs.sketch.levels.Levels.fill.Goals as goal
+use Rattle.sketch_req.proofs.sketch.levels.Levels.fill.Goals.at as past
 
 pub append_clones-requires-clause-few : goal.append_clones-requires-clause-few
 append_clones-requires-clause-few g c =
@@ -33,12 +34,12 @@ invariant_of-self-2 g c =
     let own : retained_of (layouts_of s.compactors.items) + length c.args.items.now < nominal_sum s.k (layouts_of s.compactors.items) = rw (← c.self.view_is) at room in
     let small = nominal-small g.T.Ord.cmp _ _ _ c.self.invariant.placed in
     let n = length_all_zip (λ x y. g.T.Ord.cmp x y ≡ Equal) c.args.items.now h.clones h.same in
-    rw (filled g (goal.at.invariant_of-self-2 g c).In_ok-append_clones, n) (held-filled g.T.Ord.cmp _ _ _ _ s.compactors.items h.clones c.self.invariant (omega (arith, own, small, n)))
+    rw (filled g (past.invariant_of-self-2 g c).In_ok-append_clones, n) (held-filled g.T.Ord.cmp _ _ _ _ s.compactors.items h.clones c.self.invariant (omega (arith, own, small, n)))
 
 pub returns-clause-filled : goal.returns-clause-filled
 returns-clause-filled g c =
     let h = c.in_ok-append_clones.ensures.ok in
-    rw (← c.self.view_is) (record { clones = h.clones; same = h.same; levels_are = filled g (goal.at.returns-clause-filled g c).In_ok-append_clones })
+    rw (← c.self.view_is) (record { clones = h.clones; same = h.same; levels_are = filled g (past.returns-clause-filled g c).In_ok-append_clones })
 
 pub invariant_of-self : goal.invariant_of-self
 invariant_of-self g c = grind (arith, common_steps)

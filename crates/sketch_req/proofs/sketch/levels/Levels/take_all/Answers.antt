@@ -14,6 +14,7 @@ use Rattle.sketch_req.proofs.WalkCapacities.{retained-weight}
 use Rattle.sketch_req.proofs.sketch.levels.Levels.take_all.Given.{Over}
 use Rattle.sketch_req.proofs.sketch.levels.Levels.take_all.Goals.{After-new-copy}
 use Rattle.sketch_req.proofs.sketch.levels.Levels.take_all.Goals as goal
+use Rattle.sketch_req.proofs.sketch.levels.Levels.take_all.Goals.at as past
 
 pub overflow_add-self-inside : goal.overflow_add-self-inside
 overflow_add-self-inside g c =
@@ -50,18 +51,18 @@ copied g c =
 
 pub take_in_turn-requires-clause-fits : goal.take_in_turn-requires-clause-fits
 take_in_turn-requires-clause-fits g c =
-    let same = copied g (goal.at.take_in_turn-requires-clause-fits g c).After-new-copy in
+    let same = copied g (past.take_in_turn-requires-clause-fits g c).After-new-copy in
     omega (arith, c.requires.fits, ap weight_of same)
 
 pub take_in_turn-requires-clause-few : goal.take_in_turn-requires-clause-few
 take_in_turn-requires-clause-few g c =
-    let same = copied g (goal.at.take_in_turn-requires-clause-few g c).After-new-copy in
+    let same = copied g (past.take_in_turn-requires-clause-few g c).After-new-copy in
     omega (arith, c.requires.few, ap retained_of same)
 
 pub returns-in_err-take_in_turn-clause-drawn : goal.returns-in_err-take_in_turn-clause-drawn
 returns-in_err-take_in_turn-clause-drawn g c =
     let s = c.args.self.now in
-    let same = copied g (goal.at.returns-in_err-take_in_turn-clause-drawn g c).After-new-copy in
+    let same = copied g (past.returns-in_err-take_in_turn-clause-drawn g c).After-new-copy in
     let k : c.new-copy.result.k ≡ s.k = ap (λ (h : Held g.row.T.Denot). h.k) c.new-copy.ensures ∙ ap (λ (h : Held g.row.T.Denot). h.k) c.self.view_is in
     let accuracy = ap (λ (h : Held g.row.T.Denot). h.accuracy) c.new-copy.ensures ∙ ap (λ (h : Held g.row.T.Denot). h.accuracy) c.self.view_is in
     let theirs = c.in_err-take_in_turn.ensures.drawn in

@@ -9,6 +9,7 @@ use Rattle.sketch_req.proofs.UpdatedLevels.{acted-spare, acted-walk, nominal-app
 use Rattle.sketch_req.proofs.sketch.levels.Levels.take_last.Given.{Over}
 use Rattle.sketch_req.proofs.sketch.levels.Levels.take_last.Goals.{In_ok-append_and_walk}
 use Rattle.sketch_req.proofs.sketch.levels.Levels.take_last.Goals as goal
+use Rattle.sketch_req.proofs.sketch.levels.Levels.take_last.Goals.at as past
 
 -- the levels after the walk
 walked : (g : Over) (c : In_ok-append_and_walk g) → let s = c.self.inside in
@@ -21,7 +22,7 @@ walked g c =
 
 pub sums-requires : goal.sums-requires
 sums-requires g c =
-    let walked = walked g (goal.at.sums-requires g c).In_ok-append_and_walk in
+    let walked = walked g (past.sums-requires g c).In_ok-append_and_walk in
     record { few = few-levels g.T.Ord.cmp _ _ _ _ walked.acted.placed (c.as_slice.ensures.value ∙ c.give_back.ensures) }
 
 pub returns-clause-acted : goal.returns-clause-acted
@@ -31,7 +32,7 @@ returns-clause-acted g c =
     let same = nominal-appended s.k s.compactors.items c.args.item in
     let full : are_full s.k (layouts_of (appended_first s.compactors.items c.args.item)) ≡ true =
     le-leb _ _ (omega (arith, more, same, c.self.invariant.retained_is, c.self.invariant.capacity_is, c.if-self.false)) in
-    rw (c.give_back.ensures, ← c.self.view_is) (acted-walk _ _ _ _ _ _ _ _ full (walked g (goal.at.returns-clause-acted g c).In_ok-append_and_walk))
+    rw (c.give_back.ensures, ← c.self.view_is) (acted-walk _ _ _ _ _ _ _ _ full (walked g (past.returns-clause-acted g c).In_ok-append_and_walk))
 
 pub returns-then-self-clause-acted : goal.returns-then-self-clause-acted
 returns-then-self-clause-acted g c =

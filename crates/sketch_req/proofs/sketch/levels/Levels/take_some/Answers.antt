@@ -6,6 +6,7 @@ use Rattle.sketch_req.proofs.TakenInTurn.{are-kept, first-item, taken-filled, ta
 use Rattle.sketch_req.proofs.sketch.levels.Levels.take_some.Goals.{In_ok-fill, In_ok-take_last}
 use Rattle.sketch_req.proofs.sketch.levels.Levels.take_some.Given.{Over}
 use Rattle.sketch_req.proofs.sketch.levels.Levels.take_some.Goals as goal
+use Rattle.sketch_req.proofs.sketch.levels.Levels.take_some.Goals.at as past
 
 -- the part
 part : (g : Over) (c : In_ok-fill g) → let s = c.self.inside in
@@ -22,13 +23,13 @@ part g c =
     (omega (arith, few, c.saturating_sub-room.ensures, c.min-count.ensures, c.if-room-eq0.false, c.self.invariant.retained_is, c.self.invariant.capacity_is)))
 
 pub returns-clause-taken : goal.returns-clause-taken
-returns-clause-taken g c = rw (← c.self.view_is) (part g (goal.at.returns-clause-taken g c).In_ok-fill)
+returns-clause-taken g c = rw (← c.self.view_is) (part g (past.returns-clause-taken g c).In_ok-fill)
 
 pub returns-clause-left : goal.returns-clause-left
 returns-clause-left g c =
     let few = c.requires.few in
     rw (← c.self.view_is) ((are-kept g.met.T.Ord.total g.B.RandomBits.bit g.B.RandomBits.next _ _ _ _ _ _ _ c.self.invariant.some c.self.invariant.placed (rw (← c.self.view_is) at few)
-    (part g (goal.at.returns-clause-left g c).In_ok-fill)).left)
+    (part g (past.returns-clause-left g c).In_ok-fill)).left)
 
 -- one of them
 one : (g : Over) (c : In_ok-take_last g) → let s = c.self.inside in
@@ -45,4 +46,4 @@ pub returns-then-room-eq0-clause-left : goal.returns-then-room-eq0-clause-left
 returns-then-room-eq0-clause-left g c =
     let few = c.requires.few in
     rw (← c.self.view_is) ((are-kept g.met.T.Ord.total g.B.RandomBits.bit g.B.RandomBits.next _ _ _ _ _ _ _ c.self.invariant.some c.self.invariant.placed (rw (← c.self.view_is) at few)
-    (one g (goal.at.returns-then-room-eq0-clause-left g c).In_ok-take_last)).left)
+    (one g (past.returns-then-room-eq0-clause-left g c).In_ok-take_last)).left)

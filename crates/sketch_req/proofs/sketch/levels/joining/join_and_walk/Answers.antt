@@ -17,6 +17,7 @@ use Rattle.sketch_req.proofs.Redraws.{layouts-ready, placed-ready}
 use Rattle.sketch_req.proofs.sketch.levels.joining.join_and_walk.Given.{Over}
 use Rattle.sketch_req.proofs.sketch.levels.joining.join_and_walk.Goals.{After-redraw_if, After-sums-num_retained}
 use Rattle.sketch_req.proofs.sketch.levels.joining.join_and_walk.Goals as goal
+use Rattle.sketch_req.proofs.sketch.levels.joining.join_and_walk.Goals.at as past
 use Rattle.sketch_req.proofs.sketch.levels.joining.join_and_walk.Goals.{then-num_retained-capacity, else-num_retained-capacity}
 
 pub join_levels-requires-clause-spare : goal.join_levels-requires-clause-spare
@@ -70,12 +71,12 @@ summed g c held =
 
 pub sums-num_retained-requires : goal.sums-num_retained-requires
 sums-num_retained-requires g c =
-    let before = (goal.at.sums-num_retained-requires g c).After-redraw_if in
+    let before = (past.sums-num_retained-requires g c).After-redraw_if in
     record { few = few-levels g.T.Ord.cmp _ _ _ _ (own g before).held.placed c.as_slice-2.ensures.value }
 
 pub walk-requires : goal.walk-requires
 walk-requires g c =
-    let before = (goal.at.walk-requires g c).After-redraw_if in
+    let before = (past.walk-requires g c).After-redraw_if in
     let levels = c.args.levels.now.items in
     let both = weight-joined (k_of levels) (layouts_of levels) (layouts_of c.args.others.now) in
     let all = retained-joined (k_of levels) (layouts_of levels) (layouts_of c.args.others.now) in
@@ -101,8 +102,8 @@ walk-requires g c =
 
 pub returns-clause-taken_in : goal.returns-clause-taken_in
 returns-clause-taken_in g c =
-    let before = (goal.at.returns-clause-taken_in g c).After-redraw_if in
-    let h = summed g (goal.at.returns-clause-taken_in g c).After-sums-num_retained (own g before).held in
+    let before = (past.returns-clause-taken_in g c).After-redraw_if in
+    let h = summed g (past.returns-clause-taken_in g c).After-sums-num_retained (own g before).held in
     let ls : List (Level g.row.T.Denot) = c.redraw_if.new.levels.items in
     let acted : AreWalkedIfFull g.T.Ord.cmp g.B.RandomBits.bit g.B.RandomBits.next c.redraw_if.new.coins c.if-num_retained-capacity.coins (k_of ls) (accuracy_of ls) ls
     c.if-num_retained-capacity.levels.items =

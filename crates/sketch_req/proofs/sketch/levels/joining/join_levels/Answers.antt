@@ -15,6 +15,7 @@ use Rattle.sketch_req.proofs.Sounds.{few-placed}
 use Rattle.sketch_req.proofs.sketch.levels.joining.join_levels.Given.{Over}
 use Rattle.sketch_req.proofs.sketch.levels.joining.join_levels.Goals.{After-add_level, After-index_mut-in-loop-level}
 use Rattle.sketch_req.proofs.sketch.levels.joining.join_levels.Goals as goal
+use Rattle.sketch_req.proofs.sketch.levels.joining.join_levels.Goals.at as past
 
 pub loop-level-init : goal.loop-level-init
 loop-level-init g c =
@@ -74,11 +75,11 @@ add_level-requires-clause-spare g c =
     λ e. omega (arith, e, c.loop-level.invariant.spare, c.loop-level-test.true, c.loop-level.levels.ok)
 
 pub index_mut-requires : goal.index_mut-requires
-index_mut-requires g c = omega (arith, (added g (goal.at.index_mut-requires g c).After-add_level).len, c.add_level.new.levels.ok)
+index_mut-requires g c = omega (arith, (added g (past.index_mut-requires g c).After-add_level).len, c.add_level.new.levels.ok)
 
 pub join-requires : goal.join-requires
 join-requires g c =
-    let at = goal.at.join-requires g c in
+    let at = past.join-requires g c in
     let before = at.After-index_mut-in-loop-level in
     let new = added g at.After-add_level in
     let other = c.index-others-level.result in
@@ -96,7 +97,7 @@ join-requires g c =
 
 pub loop-level-preserved : goal.loop-level-preserved
 loop-level-preserved g c =
-    let at = goal.at.loop-level-preserved g c in
+    let at = past.loop-level-preserved g c in
     let before = at.After-index_mut-in-loop-level in
     let new = added g at.After-add_level in
     let i = c.loop-level.invariant in

@@ -8,6 +8,7 @@ use Rattle.sketch_req.proofs.Layouts.{length-layouts}
 use Rattle.sketch_req.proofs.MergedLevels.{joined-at, joined-past, k-at, layout-there, reads}
 use Rattle.sketch_req.proofs.sketch.levels.walk.count_to_take_at.Given.{Over}
 use Rattle.sketch_req.proofs.sketch.levels.walk.count_to_take_at.Goals as goal
+use Rattle.sketch_req.proofs.sketch.levels.walk.count_to_take_at.Goals.at as past
 use Rattle.sketch_req.proofs.sketch.levels.walk.count_to_take_at.Goals.{After-unwrap_or-own}
 
 -- what is found, or else another one
@@ -34,13 +35,13 @@ module _ (g : Over) (c : After-unwrap_or-own g) where
 
 pub count_to_take_joined-requires : goal.count_to_take_joined-requires
 count_to_take_joined-requires g c =
-    let at = (goal.at.count_to_take_joined-requires g c).After-unwrap_or-own in
+    let at = (past.count_to_take_joined-requires g c).After-unwrap_or-own in
     let other = layout-there c.args.others.now c.args.level c.in-Some.other.now c.in-Some.ensures.lookup.3.0 c.in-Some.ensures.lookup.1 in
     omega (arith, c.requires.few, ap (λ (l : Layout). l.count) (layout_is g at), ap (λ (l : Layout). l.count) other)
 
 pub returns-in-Some : goal.returns-in-Some
 returns-in-Some g c =
-    let at = (goal.at.returns-in-Some g c).After-unwrap_or-own in
+    let at = (past.returns-in-Some g c).After-unwrap_or-own in
     let ls : List Layout = layouts_of c.args.levels.now in
     let os : List Layout = layouts_of c.args.others.now in
     let k = k_of c.args.levels.now in
@@ -53,7 +54,7 @@ returns-in-Some g c =
 
 pub returns-in-None : goal.returns-in-None
 returns-in-None g c =
-    let at = (goal.at.returns-in-None g c).After-unwrap_or-own in
+    let at = (past.returns-in-None g c).After-unwrap_or-own in
     let ls : List Layout = layouts_of c.args.levels.now in
     let os : List Layout = layouts_of c.args.others.now in
     let k = k_of c.args.levels.now in

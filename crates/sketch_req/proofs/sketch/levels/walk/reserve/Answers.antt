@@ -22,6 +22,7 @@ use Rattle.sketch_req.proofs.WalkCapacities.{length-joined, retained-joined}
 use Rattle.sketch_req.proofs.WalkSteps.{own-there}
 use Rattle.sketch_req.proofs.sketch.levels.walk.reserve.Given.{Over}
 use Rattle.sketch_req.proofs.sketch.levels.walk.reserve.Goals as goal
+use Rattle.sketch_req.proofs.sketch.levels.walk.reserve.Goals.at as past
 use Rattle.sketch_req.proofs.sketch.levels.walk.reserve.Goals.{After-count_at-in-loop-level, Joined-level-others, Joined-is_high, then-level-others+in_ok-take_clones, else-level-others, then-is_high, else-is_high}
 
 pub loop-level-init : goal.loop-level-init
@@ -63,11 +64,11 @@ module _ (g : Over) (c : After-count_at-in-loop-level g) where
       )
 
 pub overflow_add-here-in-loop-level : goal.overflow_add-here-in-loop-level
-overflow_add-here-in-loop-level g c = let f = few g (goal.at.overflow_add-here-in-loop-level g c).After-count_at-in-loop-level in grind (arith, common_steps)
+overflow_add-here-in-loop-level g c = let f = few g (past.overflow_add-here-in-loop-level g c).After-count_at-in-loop-level in grind (arith, common_steps)
 
 pub count_to_take_at-taken-requires-clause-few : goal.count_to_take_at-taken-requires-clause-few
 count_to_take_at-taken-requires-clause-few g c =
-    omega (arith, few g (goal.at.count_to_take_at-taken-requires-clause-few g c).After-count_at-in-loop-level, c.count_at.ensures, c.count_at-in-loop-level.ensures)
+    omega (arith, few g (past.count_to_take_at-taken-requires-clause-few g c).After-count_at-in-loop-level, c.count_at.ensures, c.count_at-in-loop-level.ensures)
 
 pub count_to_take_at-taken-requires-clause-blank : goal.count_to_take_at-taken-requires-clause-blank
 count_to_take_at-taken-requires-clause-blank g c =
@@ -114,8 +115,8 @@ going g c =
 
 pub overflow_sub-here : goal.overflow_sub-here
 overflow_sub-here g c =
-    let goes = going g (goal.at.overflow_sub-here g c).Joined-is_high in
-    let at = (goal.at.overflow_sub-here g c).After-count_at-in-loop-level in
+    let goes = going g (past.overflow_sub-here g c).Joined-is_high in
+    let at = (past.overflow_sub-here g c).After-count_at-in-loop-level in
     omega (arith, goes, given-within (k_of c.args.levels.now) (accuracy_of c.args.levels.now) (filled c.loop-level.came (layout_at (both g at) c.loop-level.level)), here g at)
 
 pub loop-level-preserved : goal.loop-level-preserved
@@ -128,9 +129,9 @@ loop-level-preserved g c =
     let os : List Layout = layouts_of c.args.others.now in
     let both : List Layout = joined_layouts k ls os in
     let start : List Layout = with_more c.args.more both in
-    let told = told g (goal.at.loop-level-preserved g c).Joined-level-others in
-    let goes = going g (goal.at.loop-level-preserved g c).Joined-is_high in
-    let held = here g (goal.at.loop-level-preserved g c).After-count_at-in-loop-level in
+    let told = told g (past.loop-level-preserved g c).Joined-level-others in
+    let goes = going g (past.loop-level-preserved g c).Joined-is_high in
+    let held = here g (past.loop-level-preserved g c).After-count_at-in-loop-level in
     let own = c.reserve.new.self in
     let rest = c.reserve.ensures.rest in
     let count = c.count_at.result + c.count_at-in-loop-level.result + c.loop-level.came in

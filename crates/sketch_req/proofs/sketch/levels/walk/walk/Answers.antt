@@ -16,6 +16,7 @@ use Rattle.sketch_req.proofs.WalkSteps.{opened, own-there, raised}
 use Rattle.sketch_req.proofs.Turns.{IsReady, is-ready, next-pending, pending-above, pending-start, ready-held}
 use Rattle.sketch_req.proofs.sketch.levels.walk.walk.Goals.{After-index_mut-in-loop-level, After-parameters-k, After-add_level}
 use Rattle.sketch_req.proofs.sketch.levels.walk.walk.Goals as goal
+use Rattle.sketch_req.proofs.sketch.levels.walk.walk.Goals.at as past
 
 pub loop-level-init : goal.loop-level-init
 loop-level-init g c = record {
@@ -80,7 +81,7 @@ module _ (g : _) (c : After-index_mut-in-loop-level g) where
 pub turn-requires : goal.turn-requires
 turn-requires g c =
     let i = c.loop-level.invariant in
-    let at = (goal.at.turn-requires g c).After-index_mut-in-loop-level in
+    let at = (past.turn-requires g c).After-index_mut-in-loop-level in
     let r = ready g at in
     record {
       sorted = i.sorted;
@@ -94,7 +95,7 @@ turn-requires g c =
 pub loop-level-preserved : goal.loop-level-preserved
 loop-level-preserved g c =
     let i = c.loop-level.invariant in
-    let at = (goal.at.loop-level-preserved g c).After-index_mut-in-loop-level in
+    let at = (past.loop-level-preserved g c).After-index_mut-in-loop-level in
     let legal = (own-levels g.T.Ord.cmp _ _ _ c.requires.levels.some c.requires.levels.placed).legal in
     let x = ap (λ v. v.items) c.swap.ensures.x_after in
     let next = next-pending g.met.T.Ord.total _ _ _ _ _ _ _ _ _ _ _ _ _ _ _ _ c.requires.few_items i.pending (within g at) c.index_mut.ensures.value c.requires.fits legal
@@ -137,7 +138,7 @@ module _ (g : _) (c : After-parameters-k g) where
 
 pub add_level-requires : goal.add_level-requires
 add_level-requires g c =
-    let at = goal.at.add_level-requires g c in
+    let at = past.add_level-requires g c in
     let before = at.After-parameters-k in
     record {
       legal = subst IsLegalK (sym (ap (λ (p : ℕ × RankAccuracy). p.0) (own g before))) (own-levels g.T.Ord.cmp _ _ _ c.requires.levels.some c.requires.levels.placed).legal;
@@ -163,13 +164,13 @@ module _ (g : _) (c : After-add_level g) (own : c.parameters-k.result ≡ (k_of 
 
 pub index_mut-requires-then-not-is_empty : goal.index_mut-requires-then-not-is_empty
 index_mut-requires-then-not-is_empty g c =
-    let at = goal.at.index_mut-requires-then-not-is_empty g c in
+    let at = past.index_mut-requires-then-not-is_empty g c in
     let before = at.After-parameters-k in
     omega (arith, longer g at.After-add_level (own g before) (ends g before), c.add_level.new.levels.ok)
 
 pub absorb-requires : goal.absorb-requires
 absorb-requires g c =
-    let at = goal.at.absorb-requires g c in
+    let at = past.absorb-requires g c in
     let before = at.After-parameters-k in
     let i = c.loop-level.invariant in
     let space = λ (b : Space g.row.T.Denot). b.merged_space in
@@ -192,7 +193,7 @@ absorb-requires g c =
 
 pub returns-then-not-is_empty : goal.returns-then-not-is_empty
 returns-then-not-is_empty g c =
-    let at = goal.at.returns-then-not-is_empty g c in
+    let at = past.returns-then-not-is_empty g c in
     let before = at.After-parameters-k in
     let i = c.loop-level.invariant in
     let ends = ends g before in
