@@ -1,4 +1,5 @@
-use Rattle.std.proofs.Common.{None, replicate}
+use Rattle.std.proofs.Common.{None, replicate, arith}
+use Rattle.std.proofs.lemmas.Grind.{common_steps}
 use Rattle.quantile_sketches.specs.declared.table.TheConstants.{SLOTS}
 use Rattle.quantile_sketches.proofs.FirstLine.{nothing_ahead}
 use Rattle.quantile_sketches.proofs.LineRuns.{begins-unread}
@@ -11,3 +12,9 @@ returns-in-Err-Input-clause-broken_off g c =
     let known =
     nothing_ahead (λ (r : MutBor g.row.R.Denot). g.R.Read.remaining r.now) c.in_ok-input.input _ c.in_ok-input.ensures.inner c.in_ok-input.ensures.empty c.in_ok-input.ensures.capacity in
     rw (← known) (begins-unread g.S.Config.Config.grammar g.S.Family.behaviour (replicate SLOTS None) c.args.seed _ _ _ told)
+
+pub returns-in-Ok-clause-served : goal.returns-in-Ok-clause-served
+returns-in-Ok-clause-served g c = grind (arith, common_steps)
+
+pub returns-clause-broken_off : goal.returns-clause-broken_off
+returns-clause-broken_off g c = grind (arith, common_steps)

@@ -1,4 +1,5 @@
-use Rattle.std.proofs.Common.{rules}
+use Rattle.std.proofs.Common.{rules, arith}
+use Rattle.std.proofs.lemmas.Grind.{common_steps}
 use Rattle.sketch_base.specs.declared.error.ErrorKind.TheVariants.{InvalidArgument, OutOfMemory}
 use Rattle.quantile_sketches.proofs.Slots.{refused_early}
 use Rattle.quantile_sketches.proofs.table.update_weighted.Goals as goal
@@ -14,3 +15,12 @@ returns-in_err-clone g c =
     refused_early g.S.Family.behaviour (g.S.Item.Clone.is_clone c.args.item.now) (λ x. g.S.Family.behaviour.taken_weighted x c.args.weight g.row.B.Denot g.B.RandomBits.bit g.B.RandomBits.next)
     c.args.slot.now c.in_ok-sketch.sketch.now c.refuses_weight.result c.from_residual-in_err-clone.result c.args.coins.now (search rules) c.refuses_weight.ensures
     OutOfMemory (search rules) (search rules)
+
+pub part_some-slot : goal.part_some-slot
+part_some-slot g c = grind (arith, common_steps)
+
+pub part_none-slot : goal.part_none-slot
+part_none-slot g c = grind (arith, common_steps)
+
+pub returns : goal.returns
+returns g c = grind (arith, common_steps)

@@ -1,4 +1,5 @@
 use Rattle.std.proofs.Common.{◌≡◌, length, drop, arith}
+use Rattle.std.proofs.lemmas.Grind.{common_steps}
 use Rattle.std.proofs.lemmas.List.{take_at}
 use Rattle.std.proofs.lemmas.Str.{IsUtf8-from_ascii}
 use Rattle.hex.specs.Hex.{lower_digits}
@@ -12,3 +13,6 @@ unwrap-requires c =
     let len : length c.write_pairs.new.digits ≡ c.in_ok-digits.digits.len = omega arith in
     let text = IsUtf8-from_ascii _ (rw (← c.write_pairs.ensures) at ascii) in
     c.from_utf8.ensures.succeeds (rw (take_at c.write_pairs.new.digits (drop (length c.write_pairs.new.digits) c.in_ok-digits.digits.items) c.in_ok-digits.digits.len len) text)
+
+pub returns-clause-text : goal.returns-clause-text
+returns-clause-text c = grind (arith, common_steps)

@@ -1,4 +1,5 @@
-use Rattle.std.proofs.Common.{◌∙◌, cond, pos, neg_ℤ, ap, refl, sym}
+use Rattle.std.proofs.Common.{◌∙◌, cond, pos, neg_ℤ, ap, refl, sym, arith}
+use Rattle.std.proofs.lemmas.Grind.{common_steps}
 use Rattle.quantile_sketches.proofs.ShortNumbers.{size_is, size_below_zero}
 use Rattle.quantile_sketches.proofs.words.short_item.Goals as goal
 use Rattle.quantile_sketches.proofs.words.short_item.Goals.{then-negative, else-negative}
@@ -19,3 +20,6 @@ returns c =
       ];
       len_is = refl;
     }
+
+pub overflow_sub-result : goal.overflow_sub-result
+overflow_sub-result c = grind (arith, common_steps)

@@ -1,4 +1,5 @@
 use Rattle.std.proofs.Common.{List, ℕ, arith}
+use Rattle.std.proofs.lemmas.Grind.{common_steps}
 use Rattle.quantile_sketches.specs.LineWords.{BeginsWithItem}
 use Rattle.quantile_sketches.proofs.ShortNumbers.{item_back}
 use Rattle.quantile_sketches.proofs.UpdateLines.{begins-with_update, begins-verb, begins-behind, behind, item-within, slot-is}
@@ -15,3 +16,24 @@ returns c =
     let item : BeginsWithItem word c.in_ok-item.item c.in_ok-item.len 10 = c.in_ok-item.ensures in
     let back = item_back _ _ _ _ item in
     rw (back, slot.0) (begins-with_update text numbers word c.in_ok-slot.slot c.in_ok-slot.slot_len c.in_ok-item.len c.in_ok-item.item verb space.0 c.in_ok-slot.ensures slot.1 space.1 (omega (arith, item-within _ _ _ _ item, c.if-len-word.false)) item)
+
+pub returns-in_err-slot : goal.returns-in_err-slot
+returns-in_err-slot c = grind (arith, common_steps)
+
+pub slice_bounds-word-count : goal.slice_bounds-word-count
+slice_bounds-word-count c = grind (arith, common_steps)
+
+pub slice_bounds-word-start : goal.slice_bounds-word-start
+slice_bounds-word-start c = grind (arith, common_steps)
+
+pub returns-in_err-item : goal.returns-in_err-item
+returns-in_err-item c = grind (arith, common_steps)
+
+pub returns-in_err-slot-2 : goal.returns-in_err-slot-2
+returns-in_err-slot-2 c = grind (arith, common_steps)
+
+pub overflow_sub-result : goal.overflow_sub-result
+overflow_sub-result c = grind (arith, common_steps)
+
+pub overflow_add-result : goal.overflow_add-result
+overflow_add-result c = grind (arith, common_steps)

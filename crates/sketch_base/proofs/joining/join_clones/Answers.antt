@@ -1,4 +1,5 @@
 use Rattle.std.proofs.Common.{◌≡◌, ℕ, ◌+◌, [], ◌∷◌, List, length, drop, ap, sym, ◌∙◌, refl, arith, rules}
+use Rattle.std.proofs.lemmas.Grind.{common_steps}
 use Rattle.std.proofs.lemmas.List.{drop_all}
 use Rattle.std.specs.Prelude.{vec_capacity, vec_len}
 use Rattle.sketch_base.specs.Pairs.{is_below_next}
@@ -72,3 +73,9 @@ returns g c =
     let none : pairs_in (drop c.loop-place.place c.args.entries.now) ≡ [] = ap (λ (es : List (Weighted g.row.T.Denot)). pairs_in es) (drop_all c.loop-place.place c.args.entries.now c.loop-place-test.false) in
     let whole = joined-whole g.met.T.Ord.total _ _ _ _ _ none c.loop-place.invariant.joined in
     record { items = whole.0; weights = whole.1; some = tt }
+
+pub push_reserved-requires : goal.push_reserved-requires
+push_reserved-requires g c = grind (arith, common_steps)
+
+pub push_reserved-requires-then-is_below_first : goal.push_reserved-requires-then-is_below_first
+push_reserved-requires-then-is_below_first g c = grind (arith, common_steps)

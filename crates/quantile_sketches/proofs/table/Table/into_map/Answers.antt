@@ -7,3 +7,6 @@ loop-slot-preserved g c = grind (arith, common_steps)
 
 pub returns : goal.returns
 returns g c = grind (arith, common_steps)
+
+pub loop-slot-init : goal.loop-slot-init
+loop-slot-init g c = grind (arith, common_steps)

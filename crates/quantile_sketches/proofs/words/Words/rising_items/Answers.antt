@@ -4,3 +4,6 @@ use Rattle.quantile_sketches.proofs.words.Words.rising_items.Goals as goal
 
 pub loop-item-preserved : goal.loop-item-preserved
 loop-item-preserved c = grind (arith, common_steps)
+
+pub loop-item-smaller : goal.loop-item-smaller
+loop-item-smaller c = grind (arith, common_steps)

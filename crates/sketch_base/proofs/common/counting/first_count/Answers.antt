@@ -1,4 +1,5 @@
 use Rattle.std.proofs.Common.{◌-◌, length, ap, sym, ◌∙◌, arith}
+use Rattle.std.proofs.lemmas.Grind.{common_steps}
 use Rattle.sketch_base.specs.Query.{counted}
 use Rattle.sketch_base.proofs.Entries.{counted-parted}
 use Rattle.sketch_base.proofs.PassedFronts.{counts-passed, counts-failed}
@@ -18,3 +19,6 @@ returns-else-is_counted-clause-ends g c =
     let few = counts-failed test c.args.items.now (length c.args.items.now - c.args.step) c.index-items-last.result parted (omega (arith, c.requires.some, c.requires.within))
     (ap test (sym c.index-items-last.is) ∙ (sym c.counts-is_counted.ensures ∙ c.if-is_counted.false)) in
     omega (arith, few, c.requires.half)
+
+pub returns-then-is_counted-clause-ends : goal.returns-then-is_counted-clause-ends
+returns-then-is_counted-clause-ends g c = grind (arith, common_steps)

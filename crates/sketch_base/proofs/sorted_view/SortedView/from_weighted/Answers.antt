@@ -36,3 +36,15 @@ returns-then-is_empty-clause-entries g c = grind (arith, common_steps)
 
 pub returns-then-is_empty-clause-joined : goal.returns-then-is_empty-clause-joined
 returns-then-is_empty-clause-joined g c = grind (arith, common_steps)
+
+pub returns-then-is_empty-clause-least : goal.returns-then-is_empty-clause-least
+returns-then-is_empty-clause-least g c = grind (arith, common_steps)
+
+pub returns-then-is_empty-clause-greatest : goal.returns-then-is_empty-clause-greatest
+returns-then-is_empty-clause-greatest g c = grind (arith, common_steps)
+
+pub returns-clause-least : goal.returns-clause-least
+returns-clause-least g c = grind (arith, common_steps)
+
+pub returns-clause-greatest : goal.returns-clause-greatest
+returns-clause-greatest g c = grind (arith, common_steps)

@@ -56,3 +56,9 @@ returns-then-count-eq0-clause-least g c = grind (arith, common_steps)
 
 pub returns-then-count-eq0-clause-greatest : goal.returns-then-count-eq0-clause-greatest
 returns-then-count-eq0-clause-greatest g c = grind (arith, common_steps)
+
+pub returns-clause-least : goal.returns-clause-least
+returns-clause-least g c = grind (arith, common_steps)
+
+pub returns-clause-greatest : goal.returns-clause-greatest
+returns-clause-greatest g c = grind (arith, common_steps)

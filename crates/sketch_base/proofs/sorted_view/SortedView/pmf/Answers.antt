@@ -4,3 +4,9 @@ use Rattle.sketch_base.proofs.sorted_view.SortedView.pmf.Goals as goal
 
 pub returns-then-is_empty-clause-there : goal.returns-then-is_empty-clause-there
 returns-then-is_empty-clause-there g c = grind (arith, common_steps)
+
+pub pmf_among-requires-clause-cumulated : goal.pmf_among-requires-clause-cumulated
+pmf_among-requires-clause-cumulated g c = grind (arith, common_steps)
+
+pub returns-clause-sums : goal.returns-clause-sums
+returns-clause-sums g c = grind (arith, common_steps)

@@ -1,4 +1,5 @@
 use Rattle.std.proofs.Common.{ap, ap₂, arith}
+use Rattle.std.proofs.lemmas.Grind.{common_steps}
 use Rattle.std.proofs.lemmas.Result.{IfOk-weaker}
 use Rattle.sketch_base.proofs.Items.{SameItems-clones}
 use Rattle.sketch_kll.specs.Flat.{levels_in}
@@ -18,3 +19,15 @@ returns-clause-room g c =
     let same = ap retained (ap₂ levels_in c.reserve_taken.ensures.items c.reserve_taken.ensures.bounds) in
     let n = length-items c.self.inside.items.items c.self.inside.bounds.items c.self.invariant.flat in
     IfOk-weaker c.to_vec.result _ _ (λ v len. omega (arith, same, n, len, c.in_ok-reserve_taken.ensures.room, c.total_capacity-most.ensures.value)) c.to_vec.ensures.len
+
+pub invariant_of-self : goal.invariant_of-self
+invariant_of-self g c = grind (arith, common_steps)
+
+pub invariant_of-self-2 : goal.invariant_of-self-2
+invariant_of-self-2 g c = grind (arith, common_steps)
+
+pub returns-clause-kept : goal.returns-clause-kept
+returns-clause-kept g c = grind (arith, common_steps)
+
+pub returns-clause-spare : goal.returns-clause-spare
+returns-clause-spare g c = grind (arith, common_steps)

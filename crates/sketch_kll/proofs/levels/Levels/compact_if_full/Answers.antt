@@ -1,4 +1,5 @@
 use Rattle.std.proofs.Common.{◌≡◌, [], length, arith, sym, ap, ◌∙◌, true, false, le-leb, ◌<◌, refl}
+use Rattle.std.proofs.lemmas.Grind.{common_steps}
 use Rattle.std.proofs.lemmas.Bool.{lt-leb}
 use Rattle.sketch_kll.specs.Capacity.{total_of}
 use Rattle.sketch_kll.specs.Levels.{retained}
@@ -30,3 +31,6 @@ returns-else-free-eq0-clause-levels g c =
     let full : false ≡ is_full s.k s.levels = sym (lt-leb (total_of s.k 8 (length s.levels)) (retained s.levels) (omega (arith, c.free.ensures.room, c.if-free-eq0.false))) in
     rw (with_room_spare g.T.Ord.cmp s.k s.is_sorted (g.B.RandomBits.bit c.args.coins.now) s.levels full)
     (SameLevels-refl g.T.Ord.cmp g.met.T.Ord.total s.levels)
+
+pub returns-else-free-eq0-clause-coins : goal.returns-else-free-eq0-clause-coins
+returns-else-free-eq0-clause-coins g c = grind (arith, common_steps)

@@ -1,4 +1,5 @@
 use Rattle.std.proofs.Common.{◌≡◌, ℕ, Bool, List, ◌+◌, ◌<◌, ◌≤◌, ◌⊎◌, inl, inr, suc, length, arith, ap, ◌∙◌, refl}
+use Rattle.std.proofs.lemmas.Grind.{common_steps}
 use Rattle.std.proofs.lemmas.Bool.{cases_eq, leb-true}
 use Rattle.sketch_kll.specs.Capacity.{total_of}
 use Rattle.sketch_kll.specs.Levels.{retained, SameLevels, UpperSorted}
@@ -104,3 +105,9 @@ returns g c =
       few = c.loop-self-test.ensures.few;
       sorted = c.loop-self-test.ensures.sorted;
     }
+
+pub compress_level-requires-clause-within : goal.compress_level-requires-clause-within
+compress_level-requires-clause-within g c = grind (arith, common_steps)
+
+pub loop-self-smaller : goal.loop-self-smaller
+loop-self-smaller g c = grind (arith, common_steps)

@@ -1,4 +1,5 @@
-use Rattle.std.proofs.Common.{◌≡◌, true, rules}
+use Rattle.std.proofs.Common.{◌≡◌, true, rules, arith}
+use Rattle.std.proofs.lemmas.Grind.{common_steps}
 use Rattle.sketch_kll.specs.Compress.{passes}
 use Rattle.sketch_kll.proofs.Flats.{SameLevels-refl}
 use Rattle.sketch_kll.proofs.CompressWalks.{stepped_passed}
@@ -9,3 +10,9 @@ returns-else-not-level_passes-clause-levels g c =
     let x = c.args.self.now in
     let p : true ≡ passes x.k x.levels c.args.level = search rules in
     rw (stepped_passed g.T.Ord.cmp x.k x.is_sorted (g.B.RandomBits.bit c.args.coins.now) c.args.level x.levels p) (SameLevels-refl g.T.Ord.cmp g.met.T.Ord.total x.levels)
+
+pub returns-then-not-level_passes-clause-coins : goal.returns-then-not-level_passes-clause-coins
+returns-then-not-level_passes-clause-coins g c = grind (arith, common_steps)
+
+pub returns-else-not-level_passes-clause-coins : goal.returns-else-not-level_passes-clause-coins
+returns-else-not-level_passes-clause-coins g c = grind (arith, common_steps)

@@ -1,4 +1,5 @@
 use Rattle.std.proofs.Common.{◌≡◌, reverse, set, drop, arith, ap, ◌∙◌, rules}
+use Rattle.std.proofs.lemmas.Grind.{common_steps}
 use Rattle.sketch_kll.specs.Flat.{levels_in}
 use Rattle.sketch_kll.specs.Levels.{retained}
 use Rattle.sketch_kll.specs.Steps.{put_all}
@@ -47,3 +48,15 @@ returns-clause-levels g c =
 
 pub returns-clause-items : goal.returns-clause-items
 returns-clause-items g c = rw (← kept_back g (past.returns-clause-items g c).After-saturating_sub-keep) c.move_back.ensures.from
+
+pub index_mut-requires : goal.index_mut-requires
+index_mut-requires g c = grind (arith, common_steps)
+
+pub returns-clause-k : goal.returns-clause-k
+returns-clause-k g c = grind (arith, common_steps)
+
+pub returns-clause-room : goal.returns-clause-room
+returns-clause-room g c = grind (arith, common_steps)
+
+pub returns-clause-bounds_room : goal.returns-clause-bounds_room
+returns-clause-bounds_room g c = grind (arith, common_steps)

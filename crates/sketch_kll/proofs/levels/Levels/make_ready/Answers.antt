@@ -1,4 +1,5 @@
 use Rattle.std.proofs.Common.{length, ap, ap₂, arith}
+use Rattle.std.proofs.lemmas.Grind.{common_steps}
 use Rattle.sketch_kll.specs.Flat.{levels_in}
 use Rattle.sketch_kll.specs.Levels.{retained}
 use Rattle.sketch_kll.proofs.Flats.{length-bounds, length-items}
@@ -24,3 +25,15 @@ returns-clause-ready g c =
       merged_room = omega (arith, same, n, len, c.len.ensures, made.merged);
       merged_empty = made.empty;
     }
+
+pub invariant_of-self : goal.invariant_of-self
+invariant_of-self g c = grind (arith, common_steps)
+
+pub invariant_of-self-2 : goal.invariant_of-self-2
+invariant_of-self-2 g c = grind (arith, common_steps)
+
+pub returns-clause-kept : goal.returns-clause-kept
+returns-clause-kept g c = grind (arith, common_steps)
+
+pub returns-clause-clones : goal.returns-clause-clones
+returns-clause-clones g c = grind (arith, common_steps)

@@ -1,4 +1,5 @@
 use Rattle.std.proofs.Common.{List, Bool, IsTrue, drop, ap, subst, arith, rules, ◌∙◌}
+use Rattle.std.proofs.lemmas.Grind.{common_steps}
 use Rattle.sketch_kll.specs.Flat.{levels_in}
 use Rattle.sketch_kll.specs.Join.{joined}
 use Rattle.sketch_kll.specs.Stored.{Stored}
@@ -66,3 +67,6 @@ returns-then-other_bounds-le2-clause-merged g c =
     rw (c.give_back.ensures.kept.flag_is, c.give_back.ensures.kept.levels_are) (merged_same g.met.T.Ord.total g.B.RandomBits.bit g.B.RandomBits.next _ _ _ _ _ _ _ _ _ c.requires.kept.some clones.same
     (merged_only g.T.Ord.cmp g.met.T.Ord.total g.B.RandomBits.bit g.B.RandomBits.next _ _ _ _ _ _ _ _ _
     c.take_items.ensures.taken (omega (arith, clones.upper_are, clones.some, c.if-other_bounds-le2.true))))
+
+pub take_items-requires-clause-room : goal.take_items-requires-clause-room
+take_items-requires-clause-room g c = grind (arith, common_steps)

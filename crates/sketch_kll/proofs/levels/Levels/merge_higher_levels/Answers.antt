@@ -1,4 +1,5 @@
 use Rattle.std.proofs.Common.{◌≡◌, ◌++◌, ℕ, List, take, drop, length, vec_len, refl, sym, ap, ◌∙◌, arith, rules}
+use Rattle.std.proofs.lemmas.Grind.{common_steps}
 use Rattle.sketch_kll.specs.Flat.{levels_in}
 use Rattle.sketch_kll.specs.Join.{joined_bounds}
 use Rattle.sketch_kll.specs.Levels.{retained}
@@ -70,3 +71,18 @@ invariant_of-self g c = (stored_in_the_end g c).stored
 
 pub returns-clause-levels : goal.returns-clause-levels
 returns-clause-levels g c = rw (← c.self.view_is) (stored_in_the_end g c).same
+
+pub overflow_sub-num_levels : goal.overflow_sub-num_levels
+overflow_sub-num_levels g c = grind (arith, common_steps)
+
+pub total_at-self-inside-requires-clause-k : goal.total_at-self-inside-requires-clause-k
+total_at-self-inside-requires-clause-k g c = grind (arith, common_steps)
+
+pub returns-clause-k : goal.returns-clause-k
+returns-clause-k g c = grind (arith, common_steps)
+
+pub returns-clause-flag : goal.returns-clause-flag
+returns-clause-flag g c = grind (arith, common_steps)
+
+pub returns-clause-spare : goal.returns-clause-spare
+returns-clause-spare g c = grind (arith, common_steps)

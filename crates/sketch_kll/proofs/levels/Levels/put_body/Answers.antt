@@ -1,6 +1,6 @@
 use Rattle.std.proofs.Common.{◌≡◌, ℕ, ◌+◌, ◌-◌, ◌%◌, List, ◌++◌, length, drop, set, refl, sym, ap, ◌∙◌, arith, take-append-drop, length-drop, length-take-le, eqb-true}
 use Rattle.std.proofs.lemmas.Bool.{false≢true}
-use Rattle.std.proofs.lemmas.Grind.{get_or_default_zero}
+use Rattle.std.proofs.lemmas.Grind.{get_or_default_zero, common_steps}
 use Rattle.sketch_kll.specs.Flat.{levels_in}
 use Rattle.sketch_kll.specs.Levels.{retained, first_level}
 use Rattle.sketch_kll.specs.Steps.{put_all}
@@ -118,3 +118,15 @@ returns-clause-ready g c =
     ready_lowest g.T.Ord.cmp g.met.T.Ord.total c.args.level c.args.taken ((c.len.result - c.index.result.now + c.args.taken) % 2) c.args.items.now.items _ put c.args.self.now _
     (omega (arith, c.if-level-gt0.false)) (omega (arith, c.if-taken-eq0.false)) (omega (arith, c.if-taken-eq0.false)) (omega arith) c.requires.within c.requires.some
     (p.1 ∙ ap (λ (y : Stored g.row.T.Denot). put_all put y.levels) c.self.view_is) c.move_last-is_sorted.ensures.moved (omega (arith, low, count_is g after)) c.move_last-is_sorted.ensures.left
+
+pub index_mut-requires : goal.index_mut-requires
+index_mut-requires g c = grind (arith, common_steps)
+
+pub returns-clause-k : goal.returns-clause-k
+returns-clause-k g c = grind (arith, common_steps)
+
+pub returns-clause-room : goal.returns-clause-room
+returns-clause-room g c = grind (arith, common_steps)
+
+pub returns-clause-bounds_room : goal.returns-clause-bounds_room
+returns-clause-bounds_room g c = grind (arith, common_steps)

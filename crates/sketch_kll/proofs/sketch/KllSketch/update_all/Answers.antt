@@ -37,3 +37,24 @@ invariant_of-self-2 g c = (returns g c).sound
 
 pub returns-then-is_empty-clause-coins : goal.returns-then-is_empty-clause-coins
 returns-then-is_empty-clause-coins g c = grind (arith, common_steps)
+
+pub returns-then-count-self-clause-empty : goal.returns-then-count-self-clause-empty
+returns-then-count-self-clause-empty g c = grind (arith, common_steps)
+
+pub returns-then-count-self-clause-sound : goal.returns-then-count-self-clause-sound
+returns-then-count-self-clause-sound g c = grind (arith, common_steps)
+
+pub returns-then-is_empty-clause-sound : goal.returns-then-is_empty-clause-sound
+returns-then-is_empty-clause-sound g c = grind (arith, common_steps)
+
+pub invariant_of-self : goal.invariant_of-self
+invariant_of-self g c = grind (arith, common_steps)
+
+pub take_all-requires-clause-kept : goal.take_all-requires-clause-kept
+take_all-requires-clause-kept g c = grind (arith, common_steps)
+
+pub take_all-requires-clause-room : goal.take_all-requires-clause-room
+take_all-requires-clause-room g c = grind (arith, common_steps)
+
+pub take_all-requires-clause-spare : goal.take_all-requires-clause-spare
+take_all-requires-clause-spare g c = grind (arith, common_steps)

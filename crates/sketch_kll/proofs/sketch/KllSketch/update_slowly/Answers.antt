@@ -1,5 +1,6 @@
 -- The goals at the return are what an update makes of the fields.
 use Rattle.std.proofs.Common.{◌<◌, ◌^◌, arith, rules, ap, ◌∙◌}
+use Rattle.std.proofs.lemmas.Grind.{common_steps}
 use Rattle.sketch_kll.specs.Levels.{weight}
 use Rattle.sketch_kll.proofs.UpdatesGoOn.{updated_fields}
 use Rattle.sketch_kll.proofs.sketch.KllSketch.update_slowly.Goals as goal
@@ -30,3 +31,12 @@ returns g c =
 
 pub invariant_of-self-2 : goal.invariant_of-self-2
 invariant_of-self-2 g c = (returns g c).sound
+
+pub invariant_of-self : goal.invariant_of-self
+invariant_of-self g c = grind (arith, common_steps)
+
+pub invariant_of-self-in_err-least : goal.invariant_of-self-in_err-least
+invariant_of-self-in_err-least g c = grind (arith, common_steps)
+
+pub overflow_add-self : goal.overflow_add-self
+overflow_add-self g c = grind (arith, common_steps)

@@ -36,3 +36,6 @@ returns-in_err-write_u16_le-clause-err g c = grind (arith, common_steps)
 
 pub returns-clause-err : goal.returns-clause-err
 returns-clause-err g c = grind (arith, common_steps)
+
+pub returns-in_err-write_u64_le-clause-err : goal.returns-in_err-write_u64_le-clause-err
+returns-in_err-write_u64_le-clause-err g c = grind (arith, common_steps)

@@ -15,3 +15,27 @@ loop-self-preserved g c =
 
 pub returns-in_err-level-clause-steps : goal.returns-in_err-level-clause-steps
 returns-in_err-level-clause-steps g c = grind (arith, common_steps)
+
+pub returns-in_err-level-clause-goes : goal.returns-in_err-level-clause-goes
+returns-in_err-level-clause-goes g c = grind (arith, common_steps)
+
+pub loop-self-smaller : goal.loop-self-smaller
+loop-self-smaller g c = grind (arith, common_steps)
+
+pub returns-in_err-item-clause-steps : goal.returns-in_err-item-clause-steps
+returns-in_err-item-clause-steps g c = grind (arith, common_steps)
+
+pub returns-in_err-item-clause-goes : goal.returns-in_err-item-clause-goes
+returns-in_err-item-clause-goes g c = grind (arith, common_steps)
+
+pub overflow_sub-self : goal.overflow_sub-self
+overflow_sub-self g c = grind (arith, common_steps)
+
+pub invariant_of-self-2 : goal.invariant_of-self-2
+invariant_of-self-2 g c = grind (arith, common_steps)
+
+pub returns-clause-steps : goal.returns-clause-steps
+returns-clause-steps g c = grind (arith, common_steps)
+
+pub returns-clause-goes : goal.returns-clause-goes
+returns-clause-goes g c = grind (arith, common_steps)

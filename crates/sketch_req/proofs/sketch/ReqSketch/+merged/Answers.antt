@@ -1,4 +1,5 @@
 use Rattle.std.proofs.Common.{◌+◌, ◌<◌, ◌^◌, ◌++◌, length, ap, arith, rules, IsPermutation}
+use Rattle.std.proofs.lemmas.Grind.{common_steps}
 use Rattle.sketch_base.specs.Weighted.{pairs_in}
 use Rattle.std.proofs.lemmas.Result.{IfErr-weaker}
 use Rattle.sketch_base.proofs.Results.{ok-weaker}
@@ -47,3 +48,12 @@ returns-clause-some g t c =
     c.in_ok-lower.ensures.moved c.in_ok-upper.ensures.moved in
     IfErr-weaker c.merge_weighted.result (λ e. 0 < length c.as_slice.result.now + length c.as_slice-2.result.now) (λ e. 0 < length (pairs_of c.args.levels.now))
     (λ e some. omega (arith, some, long, ap length c.as_slice.ensures.value, ap length c.as_slice-2.ensures.value)) c.merge_weighted.ensures.some
+
+pub returns-then-levels-eq1-clause-some : goal.returns-then-levels-eq1-clause-some
+returns-then-levels-eq1-clause-some g c = grind (arith, common_steps)
+
+pub merge_weighted-requires-clause-first : goal.merge_weighted-requires-clause-first
+merge_weighted-requires-clause-first g c = grind (arith, common_steps)
+
+pub merge_weighted-requires-clause-second : goal.merge_weighted-requires-clause-second
+merge_weighted-requires-clause-second g c = grind (arith, common_steps)

@@ -10,3 +10,9 @@ returns-in-Raw-clause-spelled g c = grind (arith, common_steps)
 
 pub returns-in-Several-clause-size : goal.returns-in-Several-clause-size
 returns-in-Several-clause-size g c = grind (arith, common_steps)
+
+pub returns-in-Several-clause-spelled : goal.returns-in-Several-clause-spelled
+returns-in-Several-clause-spelled g c = grind (arith, common_steps)
+
+pub returns-in-Several-clause-fits : goal.returns-in-Several-clause-fits
+returns-in-Several-clause-fits g c = grind (arith, common_steps)

@@ -1,4 +1,5 @@
 use Rattle.std.proofs.Common.{ℕ, ◌≡◌, ◌++◌, [], ◌∷◌, length, map, rules, arith, ap, sym, ◌∙◌}
+use Rattle.std.proofs.lemmas.Grind.{common_steps}
 use Rattle.sketch_base.specs.Bag.{expanded}
 use Rattle.sketch_base.specs.Query.{true_rank}
 use Rattle.sketch_base.specs.Queries.{ranks_of}
@@ -28,3 +29,9 @@ pub returns-clause-rises : goal.returns-clause-rises
 returns-clause-rises g c =
     let entries = expanded g.T.Ord.cmp (bag_of c.args.self.now.levels) in
     ranks-rise g.met.T.Ord.total c.args.criteria entries c.args.points.now _ _ c.in_ok-check_points.ensures.good (returns-clause-found g c)
+
+pub returns-clause-there : goal.returns-clause-there
+returns-clause-there g c = grind (arith, common_steps)
+
+pub returns-clause-refused : goal.returns-clause-refused
+returns-clause-refused g c = grind (arith, common_steps)

@@ -1,4 +1,5 @@
-use Rattle.std.proofs.Common.{◌≡◌, ◌∙◌, refl, sym, ap, subst, List, Some}
+use Rattle.std.proofs.Common.{◌≡◌, ◌∙◌, refl, sym, ap, subst, List, Some, arith}
+use Rattle.std.proofs.lemmas.Grind.{common_steps}
 use Rattle.sketch_base.specs.Extremes.{IsExtreme, IsAtMost}
 use Rattle.sketch_req.specs.Sketch.{Req, sketch_of}
 use Rattle.sketch_req.specs.Image.{accuracy_in, IsTold}
@@ -41,3 +42,6 @@ returns-clause-told g c =
     let read : c.from_levels.result ≡ sketch g before =
     rw (c.new-levels.ensures, c.rank_accuracy.ensures) at value in
     (ap (λ (s : Req g.row.T.Denot). s.levels) read ∙ c.in_ok-vec.ensures.items, subst (IsTold g.T.Ord.cmp c.args.header.now) (sym read) told)
+
+pub new-levels-requires-clause-levels : goal.new-levels-requires-clause-levels
+new-levels-requires-clause-levels g c = grind (arith, common_steps)

@@ -1,3 +1,5 @@
+use Rattle.std.proofs.Common.{arith}
+use Rattle.std.proofs.lemmas.Grind.{common_steps}
 use Rattle.sketch_base.proofs.SketchViews.{quantiles-result}
 use Rattle.sketch_req.specs.Actions.{bag_of}
 use Rattle.sketch_req.proofs.sketch.ReqSketch.quantiles.Goals as goal
@@ -7,3 +9,9 @@ returns-clause-found g c =
     let s = c.args.self.now in
     quantiles-result g.met.T.Ord.total (bag_of s.levels) s.n s.least s.greatest c.in_ok-sorted_view.field-0 c.in_ok-sorted_view.ensures.view c.args.criteria c.args.fractions.now
     c.quantiles-2.result c.quantiles-2.ensures.found
+
+pub returns-clause-there : goal.returns-clause-there
+returns-clause-there g c = grind (arith, common_steps)
+
+pub returns-clause-refused : goal.returns-clause-refused
+returns-clause-refused g c = grind (arith, common_steps)

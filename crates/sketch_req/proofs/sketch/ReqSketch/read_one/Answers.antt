@@ -1,4 +1,5 @@
 use Rattle.std.proofs.Common.{◌≡◌, ◌∷◌, [], refl, sym, ap, ap₂, subst, arith, length, List, Bool, true, false}
+use Rattle.std.proofs.lemmas.Grind.{common_steps}
 use Rattle.std.proofs.lemmas.Result.{err_from_is_err_and, IfOk-weaker}
 use Rattle.std.proofs.lemmas.Bool.{ltb-true, lt-ltb, eqb-true}
 use Rattle.sketch_req.specs.Level.{Level}
@@ -72,3 +73,6 @@ returns-clause-found g c =
       many_items = omega (arith, its, c.num_items.ensures, many);
       told = t.1;
     }) c.from_level.ensures.told
+
+pub returns-clause-kind : goal.returns-clause-kind
+returns-clause-kind g c = grind (arith, common_steps)

@@ -57,3 +57,12 @@ returns-clause-found g c =
 
 pub returns-clause-refused : goal.returns-clause-refused
 returns-clause-refused g c = grind (arith, common_steps)
+
+pub returns-in_err-items-clause-refused : goal.returns-in_err-items-clause-refused
+returns-in_err-items-clause-refused g c = grind (arith, common_steps)
+
+pub raw_items_compactor-level-requires-clause-few : goal.raw_items_compactor-level-requires-clause-few
+raw_items_compactor-level-requires-clause-few g c = grind (arith, common_steps)
+
+pub returns-clause-kind : goal.returns-clause-kind
+returns-clause-kind g c = grind (arith, common_steps)

@@ -1,4 +1,5 @@
-use Rattle.std.proofs.Common.{rules, ◌∷◌, [], true, ℕ, Ordering, None}
+use Rattle.std.proofs.Common.{rules, ◌∷◌, [], true, ℕ, Ordering, None, arith}
+use Rattle.std.proofs.lemmas.Grind.{common_steps}
 use Rattle.sketch_req.specs.Level.{fresh}
 use Rattle.sketch_req.specs.Sections.{IsLegalK}
 use Rattle.sketch_req.specs.Sketch.{IsSound, sketch_of}
@@ -15,3 +16,6 @@ invariant_of-self g c = rw c.clear.ensures (sound-first g.T.Ord.cmp _ _ c.self.i
 
 pub returns-clause-sound : goal.returns-clause-sound
 returns-clause-sound g c = invariant_of-self g c
+
+pub returns-clause-empty : goal.returns-clause-empty
+returns-clause-empty g c = grind (arith, common_steps)

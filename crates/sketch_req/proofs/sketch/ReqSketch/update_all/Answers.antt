@@ -68,3 +68,24 @@ returns-then-count-eq0-clause-coins g c = grind (arith, common_steps)
 
 pub take_all-requires-clause-few : goal.take_all-requires-clause-few
 take_all-requires-clause-few g c = grind (arith, common_steps)
+
+pub returns-then-count-eq0-clause-sound : goal.returns-then-count-eq0-clause-sound
+returns-then-count-eq0-clause-sound g c = grind (arith, common_steps)
+
+pub take_all-requires-clause-fits : goal.take_all-requires-clause-fits
+take_all-requires-clause-fits g c = grind (arith, common_steps)
+
+pub invariant_of-self : goal.invariant_of-self
+invariant_of-self g c = grind (arith, common_steps)
+
+pub overflow_add-self : goal.overflow_add-self
+overflow_add-self g c = grind (arith, common_steps)
+
+pub returns-clause-empty : goal.returns-clause-empty
+returns-clause-empty g c = grind (arith, common_steps)
+
+pub returns-clause-full : goal.returns-clause-full
+returns-clause-full g c = grind (arith, common_steps)
+
+pub returns-clause-refused : goal.returns-clause-refused
+returns-clause-refused g c = grind (arith, common_steps)

@@ -1,5 +1,6 @@
 -- The goals at the return are what a step of the model says of the fields.
 use Rattle.std.proofs.Common.{◌≡◌, ◌+◌, ap, arith, refl, sym, subst}
+use Rattle.std.proofs.lemmas.Grind.{common_steps}
 use Rattle.std.proofs.lemmas.Bool.{not-true}
 use Rattle.sketch_base.specs.Random.{bits_from, after_draws}
 use Rattle.sketch_req.specs.Held.{Held}
@@ -46,3 +47,12 @@ returns-clause-ok g c = rw (← c.self.view_is) (updated g (past.returns-clause-
 
 pub returns-clause-coins : goal.returns-clause-coins
 returns-clause-coins g c = rw (← c.self.view_is) (updated g (past.returns-clause-coins g c).After-set_if_some-2).2
+
+pub invariant_of-self : goal.invariant_of-self
+invariant_of-self g c = grind (arith, common_steps)
+
+pub overflow_add-self : goal.overflow_add-self
+overflow_add-self g c = grind (arith, common_steps)
+
+pub returns-clause-full : goal.returns-clause-full
+returns-clause-full g c = grind (arith, common_steps)

@@ -1,4 +1,5 @@
 use Rattle.std.proofs.Common.{rules, ◌≡◌, ◌∙◌, ℕ, List, sym, ap, arith, true, false, is_gt}
+use Rattle.std.proofs.lemmas.Grind.{common_steps}
 use Rattle.std.specs.Prelude.{IsTrue}
 use Rattle.sketch_req.specs.Held.{Held, held_of}
 use Rattle.sketch_req.specs.Imaged.{retained_in}
@@ -35,3 +36,9 @@ returns-then-eq-clause-yes g c = λ t. record {
         c.deref-then-eq.ensures.value ∙ ap (λ (x : Held g.row.T.Denot). x.levels) c.levels.view_is in let h = c.are_all_between.ensures.yes t in rw e at h;
   };
 }
+
+pub returns-then-n-eq0-clause-yes : goal.returns-then-n-eq0-clause-yes
+returns-then-n-eq0-clause-yes g c = grind (arith, common_steps)
+
+pub returns-else-eq-clause-yes : goal.returns-else-eq-clause-yes
+returns-else-eq-clause-yes g c = grind (arith, common_steps)

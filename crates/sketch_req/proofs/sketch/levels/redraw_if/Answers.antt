@@ -28,3 +28,9 @@ returns-clause-levels g c = grind (arith, common_steps)
 
 pub returns-clause-coins : goal.returns-clause-coins
 returns-clause-coins g c = grind (arith, common_steps)
+
+pub returns-then-not-redraws-clause-levels : goal.returns-then-not-redraws-clause-levels
+returns-then-not-redraws-clause-levels g c = grind (arith, common_steps)
+
+pub returns-then-not-redraws-clause-coins : goal.returns-then-not-redraws-clause-coins
+returns-then-not-redraws-clause-coins g c = grind (arith, common_steps)

@@ -27,3 +27,6 @@ loop-level-preserved g c =
 
 pub returns-clause-retained : goal.returns-clause-retained
 returns-clause-retained g c = grind (arith, common_steps)
+
+pub returns-clause-capacity : goal.returns-clause-capacity
+returns-clause-capacity g c = grind (arith, common_steps)

@@ -1,4 +1,5 @@
 use Rattle.std.proofs.Common.{arith}
+use Rattle.std.proofs.lemmas.Grind.{common_steps}
 use Rattle.sketch_base.specs.Query.{counted}
 use Rattle.sketch_req.proofs.Rank.{more_weight}
 use Rattle.sketch_req.proofs.sketch.levels.weight_counted.Goals as goal
@@ -20,3 +21,6 @@ loop-level-preserved g c =
     let m = more_weight (counted g.T.Ord.cmp c.args.item.now c.args.criteria) _ _ _ _ _ c.loop-level-test.true c.loop-level.invariant.within
     c.loop-level.invariant.so_far c.index-levels-level.is c.count.ensures in
     record { within = omega (arith, c.loop-level.invariant.within); so_far = omega (arith, m.0) }
+
+pub loop-level-init : goal.loop-level-init
+loop-level-init g c = grind (arith, common_steps)

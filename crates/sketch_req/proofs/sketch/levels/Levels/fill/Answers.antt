@@ -46,3 +46,6 @@ invariant_of-self g c = grind (arith, common_steps)
 
 pub returns-in_err-append_clones-clause-err : goal.returns-in_err-append_clones-clause-err
 returns-in_err-append_clones-clause-err g c = grind (arith, common_steps)
+
+pub returns-clause-kept : goal.returns-clause-kept
+returns-clause-kept g c = grind (arith, common_steps)

@@ -1,5 +1,6 @@
 -- The levels themselves take the items at once, or a copy takes them in turn.
 use Rattle.std.proofs.Common.{◌≡◌, ◌∙◌, arith, ap, rules}
+use Rattle.std.proofs.lemmas.Grind.{common_steps}
 use Rattle.std.proofs.lemmas.List.Elements.{length_all_zip}
 use Rattle.sketch_base.specs.Trace.{draws_of}
 use Rattle.sketch_req.specs.Copy.{IsLevelCopy}
@@ -69,3 +70,9 @@ returns-in_err-take_in_turn-clause-drawn g c =
     let drawn : IsDrawnFrom g.B.RandomBits.next (draws_of (updates_actions s.k s.accuracy (layouts_of s.levels) c.args.items.now)) c.args.coins.now c.take_in_turn.new.coins =
     rw (k, accuracy, same) at theirs in
     search rules
+
+pub returns-clause-kept : goal.returns-clause-kept
+returns-clause-kept g c = grind (arith, common_steps)
+
+pub returns-clause-taken : goal.returns-clause-taken
+returns-clause-taken g c = grind (arith, common_steps)

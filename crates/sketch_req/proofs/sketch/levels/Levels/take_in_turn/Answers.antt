@@ -49,3 +49,6 @@ loop-taken-preserved g c =
 
 pub returns-clause-taken : goal.returns-clause-taken
 returns-clause-taken g c = grind (arith, common_steps)
+
+pub loop-taken-init : goal.loop-taken-init
+loop-taken-init g c = grind (arith, common_steps)

@@ -1,5 +1,6 @@
 -- A part of the items, or one of them with its walk.
 use Rattle.std.proofs.Common.{◌≡◌, Equal, arith, take}
+use Rattle.std.proofs.lemmas.Grind.{common_steps}
 use Rattle.std.proofs.lemmas.List.{length-take}
 use Rattle.sketch_req.specs.Updates.{AreTakenInTurn}
 use Rattle.sketch_req.proofs.TakenInTurn.{are-kept, first-item, taken-filled, taken-one}
@@ -47,3 +48,9 @@ returns-then-room-eq0-clause-left g c =
     let few = c.requires.few in
     rw (← c.self.view_is) ((are-kept g.met.T.Ord.total g.B.RandomBits.bit g.B.RandomBits.next _ _ _ _ _ _ _ c.self.invariant.some c.self.invariant.placed (rw (← c.self.view_is) at few)
     (one g (past.returns-then-room-eq0-clause-left g c).In_ok-take_last)).left)
+
+pub returns-then-room-eq0-clause-taken : goal.returns-then-room-eq0-clause-taken
+returns-then-room-eq0-clause-taken g c = grind (arith, common_steps)
+
+pub fill-requires-clause-room : goal.fill-requires-clause-room
+fill-requires-clause-room g c = grind (arith, common_steps)

@@ -1,5 +1,6 @@
 -- The levels before the walk have the layouts of the joined ones.
 use Rattle.std.proofs.Common.{◌≡◌, false, true, List, length, max, vec_capacity, sym, ap, ◌∙◌, subst, arith, le-leb}
+use Rattle.std.proofs.lemmas.Grind.{common_steps}
 use Rattle.std.proofs.lemmas.Bool.{lt-leb}
 use Rattle.sketch_req.specs.Held.{IsHeld, held_of}
 use Rattle.sketch_req.specs.Level.{Level}
@@ -123,3 +124,15 @@ returns-clause-taken_in g c =
       ready_are = c.redraw_if.ensures.levels;
       acted = rw ((own g before).k_is, (own g before).accuracy_is, c.redraw_if.ensures.coins) at acted;
     })
+
+pub reserve-requires-clause-levels : goal.reserve-requires-clause-levels
+reserve-requires-clause-levels g c = grind (arith, common_steps)
+
+pub join_levels-requires-clause-levels : goal.join_levels-requires-clause-levels
+join_levels-requires-clause-levels g c = grind (arith, common_steps)
+
+pub join_levels-requires-clause-others : goal.join_levels-requires-clause-others
+join_levels-requires-clause-others g c = grind (arith, common_steps)
+
+pub join_levels-requires-clause-few : goal.join_levels-requires-clause-few
+join_levels-requires-clause-few g c = grind (arith, common_steps)

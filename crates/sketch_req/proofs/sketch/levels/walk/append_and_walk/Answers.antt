@@ -25,3 +25,12 @@ walk-requires-clause-few_items g c = grind (arith, common_steps)
 
 pub walk-requires-clause-fit : goal.walk-requires-clause-fit
 walk-requires-clause-fit g c = grind (arith, common_steps)
+
+pub reserve-requires-clause-levels : goal.reserve-requires-clause-levels
+reserve-requires-clause-levels g c = grind (arith, common_steps)
+
+pub reserve-requires-clause-few : goal.reserve-requires-clause-few
+reserve-requires-clause-few g c = grind (arith, common_steps)
+
+pub index_mut-requires : goal.index_mut-requires
+index_mut-requires g c = grind (arith, common_steps)

@@ -177,3 +177,15 @@ returns-clause-fit g c =
 
 pub overflow_add-here : goal.overflow_add-here
 overflow_add-here g c = grind (arith, common_steps)
+
+pub bounds-others-level : goal.bounds-others-level
+bounds-others-level g c = grind (arith, common_steps)
+
+pub returns-clause-empty : goal.returns-clause-empty
+returns-clause-empty g c = grind (arith, common_steps)
+
+pub returns-clause-nothing : goal.returns-clause-nothing
+returns-clause-nothing g c = grind (arith, common_steps)
+
+pub returns-clause-above : goal.returns-clause-above
+returns-clause-above g c = grind (arith, common_steps)

@@ -1,0 +1,24 @@
+use Rattle.std.proofs.Common.{arith}
+use Rattle.std.proofs.lemmas.Grind.{common_steps}
+use Rattle.quantile_sketches.proofs.command.Request.parse_asked.Goals as goal
+
+pub returns-then-is-3 : goal.returns-then-is-3
+returns-then-is-3 c = grind (arith, common_steps)
+
+pub returns-then-is-4 : goal.returns-then-is-4
+returns-then-is-4 c = grind (arith, common_steps)
+
+pub returns-then-is-5 : goal.returns-then-is-5
+returns-then-is-5 c = grind (arith, common_steps)
+
+pub returns-then-is-6 : goal.returns-then-is-6
+returns-then-is-6 c = grind (arith, common_steps)
+
+pub returns-then-is-7 : goal.returns-then-is-7
+returns-then-is-7 c = grind (arith, common_steps)
+
+pub returns-then-is-8 : goal.returns-then-is-8
+returns-then-is-8 c = grind (arith, common_steps)
+
+pub returns-else-is-8 : goal.returns-else-is-8
+returns-else-is-8 c = grind (arith, common_steps)

@@ -1,0 +1,9 @@
+use Rattle.std.proofs.Common.{arith}
+use Rattle.std.proofs.lemmas.Grind.{common_steps}
+use Rattle.quantile_sketches.proofs.command.Request.parse_update_weighted.Goals as goal
+
+pub returns-in_err-item : goal.returns-in_err-item
+returns-in_err-item c = grind (arith, common_steps)
+
+pub returns-in_err-weight : goal.returns-in_err-weight
+returns-in_err-weight c = grind (arith, common_steps)

@@ -1,0 +1,6 @@
+use Rattle.std.proofs.Common.{arith}
+use Rattle.std.proofs.lemmas.Grind.{common_steps}
+use Rattle.quantile_sketches.proofs.table.reset.Goals as goal
+
+pub part_some-slot : goal.part_some-slot
+part_some-slot c = grind (arith, common_steps)
