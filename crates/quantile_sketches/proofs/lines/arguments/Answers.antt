@@ -27,3 +27,6 @@ returns-in-kll c = grind (arith, common_steps)
 
 pub returns-in-req : goal.returns-in-req
 returns-in-req c = grind (arith, common_steps)
+
+pub returns-in_default-2 : goal.returns-in_default-2
+returns-in_default-2 c = grind (arith, common_steps)

@@ -1,4 +1,5 @@
-use Rattle.std.proofs.Common.{[], Err, refl}
+use Rattle.std.proofs.Common.{[], Err, refl, arith}
+use Rattle.std.proofs.lemmas.Grind.{common_steps}
 use Rattle.quantile_sketches.proofs.Outputs.{keeps_same, writes-some, writes-stop}
 use Rattle.quantile_sketches.proofs.output.write_bytes.Goals as goal
 
@@ -15,3 +16,6 @@ loop-preserved g c =
 
 pub returns-in_err-written : goal.returns-in_err-written
 returns-in_err-written g c = writes-stop _ _ _ [] c.from_residual.result c.loop.written c.args.bytes.now c.from_residual.ensures.0 c.loop.invariant.out c.in_err-written.ensures.err
+
+pub returns-then-written-bytes : goal.returns-then-written-bytes
+returns-then-written-bytes g c = grind (arith, common_steps)

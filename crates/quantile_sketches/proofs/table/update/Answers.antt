@@ -19,3 +19,6 @@ part_some-slot g c = grind (arith, common_steps)
 
 pub returns : goal.returns
 returns g c = grind (arith, common_steps)
+
+pub part_none-slot : goal.part_none-slot
+part_none-slot g c = grind (arith, common_steps)

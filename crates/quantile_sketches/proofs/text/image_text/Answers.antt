@@ -16,3 +16,6 @@ unwrap-requires c =
 
 pub returns-clause-text : goal.returns-clause-text
 returns-clause-text c = grind (arith, common_steps)
+
+pub write_pairs-requires : goal.write_pairs-requires
+write_pairs-requires c = grind (arith, common_steps)

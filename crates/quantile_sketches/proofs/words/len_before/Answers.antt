@@ -1,4 +1,5 @@
 use Rattle.std.proofs.Common.{◌≡◌, ◌+◌, ◌-◌, ◌==◌, ◌≤◌, length, take, drop, arith, length-take-le, length-drop}
+use Rattle.std.proofs.lemmas.Grind.{common_steps}
 use Rattle.std.specs.List.{position_or_len}
 use Rattle.quantile_sketches.proofs.LineParts.{place_behind_block, place_in_block}
 use Rattle.quantile_sketches.proofs.words.len_before.Goals as goal
@@ -25,3 +26,6 @@ returns-then-place-lt-BLOCK c =
       value = omega (arith, place, there);
       within = omega (arith, fits, c.if-place-lt-BLOCK.true);
     }
+
+pub returns-clause-value : goal.returns-clause-value
+returns-clause-value c = grind (arith, common_steps)

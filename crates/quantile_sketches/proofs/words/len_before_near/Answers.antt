@@ -4,3 +4,9 @@ use Rattle.quantile_sketches.proofs.words.len_before_near.Goals as goal
 
 pub loop-i-preserved : goal.loop-i-preserved
 loop-i-preserved c = grind (arith, common_steps)
+
+pub returns-clause-value : goal.returns-clause-value
+returns-clause-value c = grind (arith, common_steps)
+
+pub returns-then-text-i-clause-value : goal.returns-then-text-i-clause-value
+returns-then-text-i-clause-value c = grind (arith, common_steps)

@@ -23,3 +23,6 @@ returns c =
 
 pub overflow_sub-result : goal.overflow_sub-result
 overflow_sub-result c = grind (arith, common_steps)
+
+pub returns-in_err-number : goal.returns-in_err-number
+returns-in_err-number c = grind (arith, common_steps)

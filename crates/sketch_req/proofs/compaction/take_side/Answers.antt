@@ -40,3 +40,9 @@ move_half-requires-clause-even g c = grind (arith, common_steps)
 
 pub move_half-requires-clause-room : goal.move_half-requires-clause-room
 move_half-requires-clause-room g c = grind (arith, common_steps)
+
+pub returns-in-LowRank-clause-moved : goal.returns-in-LowRank-clause-moved
+returns-in-LowRank-clause-moved g c = grind (arith, common_steps)
+
+pub returns-in-LowRank-clause-kept : goal.returns-in-LowRank-clause-kept
+returns-in-LowRank-clause-kept g c = grind (arith, common_steps)

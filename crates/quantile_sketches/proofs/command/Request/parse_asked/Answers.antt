@@ -22,3 +22,9 @@ returns-then-is-8 c = grind (arith, common_steps)
 
 pub returns-else-is-8 : goal.returns-else-is-8
 returns-else-is-8 c = grind (arith, common_steps)
+
+pub returns-then-is-2 : goal.returns-then-is-2
+returns-then-is-2 c = grind (arith, common_steps)
+
+pub returns-then-is : goal.returns-then-is
+returns-then-is c = grind (arith, common_steps)

@@ -4,3 +4,6 @@ use Rattle.quantile_sketches.proofs.command.Request.parse_cdf.Goals as goal
 
 pub returns : goal.returns
 returns c = grind (arith, common_steps)
+
+pub returns-in_err-criteria : goal.returns-in_err-criteria
+returns-in_err-criteria c = grind (arith, common_steps)

@@ -4,3 +4,6 @@ use Rattle.quantile_sketches.proofs.command.Request.parse_load.Goals as goal
 
 pub returns : goal.returns
 returns c = grind (arith, common_steps)
+
+pub returns-in_err-then_some : goal.returns-in_err-then_some
+returns-in_err-then_some c = grind (arith, common_steps)

@@ -4,3 +4,9 @@ use Rattle.quantile_sketches.proofs.command.Request.parse_merge_redrawn.Goals as
 
 pub returns : goal.returns
 returns c = grind (arith, common_steps)
+
+pub returns-in_err-source : goal.returns-in_err-source
+returns-in_err-source c = grind (arith, common_steps)
+
+pub returns-in_err-then_some : goal.returns-in_err-then_some
+returns-in_err-then_some c = grind (arith, common_steps)

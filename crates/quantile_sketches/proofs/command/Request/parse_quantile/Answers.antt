@@ -10,3 +10,6 @@ returns-in_err-criteria c = grind (arith, common_steps)
 
 pub returns : goal.returns
 returns c = grind (arith, common_steps)
+
+pub returns-in_err-weight : goal.returns-in_err-weight
+returns-in_err-weight c = grind (arith, common_steps)

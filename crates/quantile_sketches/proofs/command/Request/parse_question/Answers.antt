@@ -16,3 +16,9 @@ returns-then-is-6 c = grind (arith, common_steps)
 
 pub returns-else-is-6 : goal.returns-else-is-6
 returns-else-is-6 c = grind (arith, common_steps)
+
+pub returns-then-is-2 : goal.returns-then-is-2
+returns-then-is-2 c = grind (arith, common_steps)
+
+pub returns-then-is : goal.returns-then-is
+returns-then-is c = grind (arith, common_steps)

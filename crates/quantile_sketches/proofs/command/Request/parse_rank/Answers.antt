@@ -7,3 +7,6 @@ returns-in_err-criteria c = grind (arith, common_steps)
 
 pub returns : goal.returns
 returns c = grind (arith, common_steps)
+
+pub returns-in_err-item : goal.returns-in_err-item
+returns-in_err-item c = grind (arith, common_steps)

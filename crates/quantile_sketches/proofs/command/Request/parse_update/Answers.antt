@@ -4,3 +4,6 @@ use Rattle.quantile_sketches.proofs.command.Request.parse_update.Goals as goal
 
 pub returns : goal.returns
 returns c = grind (arith, common_steps)
+
+pub returns-in_err-item : goal.returns-in_err-item
+returns-in_err-item c = grind (arith, common_steps)

@@ -1,4 +1,5 @@
-use Rattle.std.proofs.Common.{◌≡◌, None, Some, refl, sym, ap, ◌∙◌}
+use Rattle.std.proofs.Common.{◌≡◌, None, Some, refl, sym, ap, ◌∙◌, arith}
+use Rattle.std.proofs.lemmas.Grind.{common_steps}
 use Rattle.quantile_sketches.specs.Command.{request_of}
 use Rattle.quantile_sketches.specs.LineWords.{words}
 use Rattle.quantile_sketches.specs.declared.command.Request.TheVariants.{Run}
@@ -15,3 +16,6 @@ returns-in-None g c =
     let it : request_of g.S.Config.Config.grammar (words c.args.line.now) ≡ None =
     ap (request_of g.S.Config.Config.grammar) (sym c.new-words.ensures) ∙ (sym c.parse.ensures ∙ c.in-None.is) in
     rw it (refl, refl, refl)
+
+pub returns-in-Some : goal.returns-in-Some
+returns-in-Some g c = grind (arith, common_steps)

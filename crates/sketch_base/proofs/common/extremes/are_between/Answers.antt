@@ -10,3 +10,6 @@ loop-item-preserved g c = grind (arith, common_steps)
 
 pub returns-clause-yes : goal.returns-clause-yes
 returns-clause-yes g c = grind (arith, common_steps)
+
+pub returns-then-is_gt-clause-yes : goal.returns-then-is_gt-clause-yes
+returns-then-is_gt-clause-yes g c = grind (arith, common_steps)

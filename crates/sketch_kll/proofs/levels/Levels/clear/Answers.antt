@@ -1,4 +1,5 @@
 use Rattle.std.proofs.Common.{◌≡◌, ℕ, ◌≤◌, List, [], ◌∷◌, length, set, take, arith, refl, ap, ◌∙◌}
+use Rattle.std.proofs.lemmas.Grind.{common_steps}
 use Rattle.sketch_kll.proofs.Flats.{length-bounds}
 use Rattle.sketch_kll.proofs.StoredLevels.{empty_stored, new_levels}
 use Rattle.sketch_kll.proofs.levels.Levels.clear.Goals as goal
@@ -24,3 +25,6 @@ returns-clause-levels g c =
     let n = length-bounds c.self.inside.items.items c.self.inside.bounds.items c.self.invariant.flat in
     let bounds = ap (λ (x : List ℕ). set (set x 0 0) 1 0) c.truncate.ensures.items ∙ two_bounds c.self.inside.bounds.items (omega (arith, n, c.self.invariant.some)) in
     (new_levels c.clear.new.self.items _ c.clear.ensures.items bounds).1
+
+pub returns-clause-k : goal.returns-clause-k
+returns-clause-k g c = grind (arith, common_steps)

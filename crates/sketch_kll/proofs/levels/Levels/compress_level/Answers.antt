@@ -16,3 +16,6 @@ returns-then-not-level_passes-clause-coins g c = grind (arith, common_steps)
 
 pub returns-else-not-level_passes-clause-coins : goal.returns-else-not-level_passes-clause-coins
 returns-else-not-level_passes-clause-coins g c = grind (arith, common_steps)
+
+pub returns-then-not-level_passes-clause-levels : goal.returns-then-not-level_passes-clause-levels
+returns-then-not-level_passes-clause-levels g c = grind (arith, common_steps)

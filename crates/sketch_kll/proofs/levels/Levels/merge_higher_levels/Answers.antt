@@ -86,3 +86,6 @@ returns-clause-flag g c = grind (arith, common_steps)
 
 pub returns-clause-spare : goal.returns-clause-spare
 returns-clause-spare g c = grind (arith, common_steps)
+
+pub add_levels-requires : goal.add_levels-requires
+add_levels-requires g c = grind (arith, common_steps)

@@ -4,3 +4,6 @@ use Rattle.sketch_kll.proofs.levels.Levels.prepare_all.Goals as goal
 
 pub returns-clause-room : goal.returns-clause-room
 returns-clause-room c = grind (arith, common_steps)
+
+pub returns-clause-spare : goal.returns-clause-spare
+returns-clause-spare c = grind (arith, common_steps)

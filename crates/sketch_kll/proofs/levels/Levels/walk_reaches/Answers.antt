@@ -1,4 +1,5 @@
 use Rattle.std.proofs.Common.{inl, inr, length, ap, arith}
+use Rattle.std.proofs.lemmas.Grind.{common_steps}
 use Rattle.std.proofs.lemmas.Bool.{leb-true, leb-false, le-leb}
 use Rattle.sketch_kll.specs.Stored.{Stored}
 use Rattle.sketch_kll.proofs.Flats.{length-bounds, length-items}
@@ -23,3 +24,12 @@ pub returns-else-level-len-clause-over : goal.returns-else-level-len-clause-over
 returns-else-level-len-clause-over g c = λ _.
     let n = length-bounds c.self.inside.items.items c.self.inside.bounds.items c.self.invariant.flat in
     inl (omega (arith, n, ap (λ (y : Stored g.row.T.Denot). length y.levels) c.self.view_is, c.if-level-len.false, c.len.ensures, c.self.inside.bounds.ok))
+
+pub returns-else-level-len-clause-within : goal.returns-else-level-len-clause-within
+returns-else-level-len-clause-within g c = grind (arith, common_steps)
+
+pub returns-then-level-len-clause-sorted : goal.returns-then-level-len-clause-sorted
+returns-then-level-len-clause-sorted g c = grind (arith, common_steps)
+
+pub returns-else-level-len-clause-sorted : goal.returns-else-level-len-clause-sorted
+returns-else-level-len-clause-sorted g c = grind (arith, common_steps)

@@ -58,3 +58,6 @@ take_all-requires-clause-room g c = grind (arith, common_steps)
 
 pub take_all-requires-clause-spare : goal.take_all-requires-clause-spare
 take_all-requires-clause-spare g c = grind (arith, common_steps)
+
+pub prepare_all-requires-clause-some : goal.prepare_all-requires-clause-some
+prepare_all-requires-clause-some g c = grind (arith, common_steps)

@@ -16,3 +16,6 @@ returns-in-Several-clause-spelled g c = grind (arith, common_steps)
 
 pub returns-in-Several-clause-fits : goal.returns-in-Several-clause-fits
 returns-in-Several-clause-fits g c = grind (arith, common_steps)
+
+pub overflow_add-result-in-Several-2 : goal.overflow_add-result-in-Several-2
+overflow_add-result-in-Several-2 g c = grind (arith, common_steps)

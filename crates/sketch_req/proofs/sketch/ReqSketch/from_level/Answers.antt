@@ -45,3 +45,6 @@ returns-clause-told g c =
 
 pub new-levels-requires-clause-levels : goal.new-levels-requires-clause-levels
 new-levels-requires-clause-levels g c = grind (arith, common_steps)
+
+pub same-level : goal.same-level
+same-level g c = grind (arith, common_steps)

@@ -89,3 +89,6 @@ returns-clause-full g c = grind (arith, common_steps)
 
 pub returns-clause-refused : goal.returns-clause-refused
 returns-clause-refused g c = grind (arith, common_steps)
+
+pub returns-then-count-eq0-clause-full : goal.returns-then-count-eq0-clause-full
+returns-then-count-eq0-clause-full g c = grind (arith, common_steps)

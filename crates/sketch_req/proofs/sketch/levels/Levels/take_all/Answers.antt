@@ -76,3 +76,6 @@ returns-clause-kept g c = grind (arith, common_steps)
 
 pub returns-clause-taken : goal.returns-clause-taken
 returns-clause-taken g c = grind (arith, common_steps)
+
+pub fill-requires-clause-room : goal.fill-requires-clause-room
+fill-requires-clause-room g c = grind (arith, common_steps)

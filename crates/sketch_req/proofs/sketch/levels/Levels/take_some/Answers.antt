@@ -54,3 +54,6 @@ returns-then-room-eq0-clause-taken g c = grind (arith, common_steps)
 
 pub fill-requires-clause-room : goal.fill-requires-clause-room
 fill-requires-clause-room g c = grind (arith, common_steps)
+
+pub slice_bounds-fill-end : goal.slice_bounds-fill-end
+slice_bounds-fill-end g c = grind (arith, common_steps)

@@ -1,0 +1,6 @@
+use Rattle.std.proofs.Common.{arith}
+use Rattle.std.proofs.lemmas.Grind.{common_steps}
+use Rattle.quantile_sketches.proofs.words.parse_unsigned.Goals as goal
+
+pub returns-in-43 : goal.returns-in-43
+returns-in-43 c = grind (arith, common_steps)
