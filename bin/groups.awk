@@ -207,7 +207,8 @@ function next_of(digits,   i, nines) {
 
 # --- images ---
 
-# A REQ image is read whatever follows it. So a line that was cut and runs into the next one is known by its number of fields.
+# The program reads a REQ image whatever follows it. So a line that runs into the next one is known by its number of fields, or by the
+# length of its image.
 reads_images {
     if (substr($0, length($0)) == "\r") $0 = substr($0, 1, length($0) - 1)
     if (NF == 2) hold($1, $2, decimals)
@@ -220,13 +221,33 @@ reads_images {
 function hold(key, image, decimals,   kind) {
     kind = tolower(substr(image, 5, 2))
     kind = kind == "0f" ? "kll" : kind == "11" ? "req" : ""
-    if (kind == "" || image !~ /^[0-9A-Fa-f]+$/) { refuse(key, "is no image"); return }
+    if (kind == "" || image !~ /^[0-9A-Fa-f]+$/ || kind == "req" && length(image) != length_of_req(image)) { refuse(key, "is no image"); return }
     held_key[held] = key; held_image[held] = image; held_decimals[held] = decimals
     held_kind[held] = kind; held_line[held] = file_name() ", line " FNR
     print "load 0 " image | judge_of(kind)
     held_bytes += length(image)
     if (++held == 1000 || held_bytes > 4000000) release()
 }
+
+# How many digits a REQ image has by its own numbers: 2 for each byte of its header, and of its items or levels.
+function length_of_req(image,   flags, levels, at) {
+    flags = number_of(substr(image, 7, 2))
+    levels = number_of(substr(image, 13, 2))
+    at = 16
+    if (int(flags / 4) % 2) return at
+    if (int(flags / 16) % 2) return at + 16 * number_of(substr(image, 15, 2))
+    if (levels > 1) at += 48
+    for (; levels > 0 && at < length(image); levels--) at += 40 + 16 * number_of(substr(image, at + 33, 8))
+    return at
+}
+
+# The number that these hex digits spell, the lowest byte first.
+function number_of(digits,   i, n) {
+    for (i = length(digits) - 1; i > 0; i -= 2) n = 256 * n + 16 * digit(substr(digits, i, 1)) + digit(substr(digits, i + 1, 1))
+    return n + 0
+}
+
+function digit(it) { return index("123456789abcdef", tolower(it)) }
 
 function refuse(key, why,   where) {
     where = file_name() ", line " FNR
