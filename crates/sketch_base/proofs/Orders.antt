@@ -1,6 +1,7 @@
 -- How two items compare, and what this tells of the reverse comparison.
-use Rattle.std.proofs.Common.{◌≡◌, true, false, refl, sym, ap, ◌∙◌, Ordering, Less, Equal, Greater, is_gt, is_lt, is_le}
-use Rattle.std.specs.Ordering.{ordering_reverse}
+use Rattle.std.proofs.Common.{◌≡◌, true, false, refl, sym, ap, ◌∙◌, Option, Some, Ordering, Less, Equal, Greater, is_gt, is_lt, is_le}
+use Rattle.std.specs.Cmp.{IsTotalOrder}
+use Rattle.std.specs.Ordering.{ordering_reverse, is_some_and, partial_le}
 use Rattle.std.proofs.lemmas.Bool.{false≢true}
 
 -- the tests of an ordering tell which one it is
@@ -46,3 +47,10 @@ not_gt_lt o _ e h = ap is_lt e
 pub gt_not_gt : (o p : Ordering) → o ≡ ordering_reverse p → is_gt o ≡ true → is_gt p ≡ false
 gt_not_gt o Greater e h = absurd (false≢true (sym (ap is_gt e) ∙ h))
 gt_not_gt o _ e h = refl
+
+-- if an item is found to be at most another, the two are sorted
+pub found-in_order : {A : Type 0} {cmp : A → A → Ordering} → IsTotalOrder cmp → (found : A → A → Option Ordering) → ((x y : A) → found x y ≡ Some (cmp x y)) → (x y : A) →
+    partial_le found x y ≡ true → is_lt (cmp y x) ≡ false
+found-in_order {A} {cmp} o found same x y e =
+    let le : is_le (cmp x y) ≡ true = sym (ap (λ m. is_some_and is_le m) (same x y)) ∙ e in
+    not_gt_lt (cmp y x) (cmp x y) (o.antisymm y x) (le_not_gt (cmp x y) le)
