@@ -1,4 +1,4 @@
-use Rattle.std.proofs.Common.{◌≡◌, ℕ, ◌+◌, [], ◌∷◌, List, length, drop, ap, sym, ◌∙◌, refl, arith, rules}
+use Rattle.std.proofs.Common.{◌≡◌, ℕ, ◌+◌, [], ◌∷◌, List, length, drop, ap, sym, ◌∙◌, refl, arith}
 use Rattle.std.proofs.lemmas.Grind.{common_steps}
 use Rattle.std.proofs.lemmas.List.{drop_all}
 use Rattle.std.specs.Prelude.{vec_capacity, vec_len}
@@ -47,7 +47,7 @@ loop-place-preserved g c =
     c.is_below_first.ensures ∙ ap (λ (es : List (Weighted g.row.T.Denot)). is_below_next g.T.Ord.cmp e.item.now (pairs_in es)) (tail-whole (c.loop-place.place + 1) _ c.args.entries.now refl) in
     elim c.if-is_below_first.branch [
       | then-is_below_first+in_ok-clone w ↦
-          let same = c.requires.clones e.item.now w.in_ok-clone.field-0 (search rules) in
+          let same = c.requires.clones e.item.now w.in_ok-clone.field-0 w.in_ok-clone.ensures.cases in
           let pushed = joined-push g.met.T.Ord.total _ after e.item.now e.weight c.loop-place.total _ _ j w.in_ok-clone.field-0 _ _ (sym below ∙ w.if-is_below_first.true) same
           w.push_reserved.ensures.items w.push_reserved-then-is_below_first.ensures.items in
           record {
