@@ -79,3 +79,24 @@ push_reserved-requires g c = grind (arith, common_steps)
 
 pub push_reserved-requires-then-is_below_first : goal.push_reserved-requires-then-is_below_first
 push_reserved-requires-then-is_below_first g c = grind (arith, common_steps)
+
+pub bounds-entries-place : goal.bounds-entries-place
+bounds-entries-place g c = grind arith
+
+pub slice_bounds-is_below_first-count : goal.slice_bounds-is_below_first-count
+slice_bounds-is_below_first-count g c = grind arith
+
+pub returns-in_err-weights-clause-some : goal.returns-in_err-weights-clause-some
+returns-in_err-weights-clause-some g c = grind arith
+
+pub offset_bounds-entries-place : goal.offset_bounds-entries-place
+offset_bounds-entries-place g c = grind arith
+
+pub slice_bounds-is_below_first-start : goal.slice_bounds-is_below_first-start
+slice_bounds-is_below_first-start g c = grind arith
+
+pub overflow_add-place : goal.overflow_add-place
+overflow_add-place g c = grind arith
+
+pub offset_bounds-entries-place-in-loop-place : goal.offset_bounds-entries-place-in-loop-place
+offset_bounds-entries-place-in-loop-place g c = grind arith

@@ -7,3 +7,6 @@ returns-in_default-clause-short c = grind (arith, common_steps)
 
 pub returns-clause-ok : goal.returns-clause-ok
 returns-clause-ok c = grind (arith, common_steps)
+
+pub bounds-first-0 : goal.bounds-first-0
+bounds-first-0 c = grind arith

@@ -9,3 +9,15 @@ halve-count-requires-clause-ends g c =
 pub halve-count-requires-clause-within : goal.halve-count-requires-clause-within
 halve-count-requires-clause-within g c =
     omega (arith, step-doubled c.args.steps c.loop-shift.shift c.loop-shift-test.true c.if-shift-steps.true, c.loop-shift.invariant.1.within)
+
+pub loop-shift-init : goal.loop-shift-init
+loop-shift-init g c = grind arith
+
+pub loop-shift-preserved-then-shift-steps : goal.loop-shift-preserved-then-shift-steps
+loop-shift-preserved-then-shift-steps g c = grind arith
+
+pub returns : goal.returns
+returns g c = grind arith
+
+pub loop-shift-preserved : goal.loop-shift-preserved
+loop-shift-preserved g c = grind arith

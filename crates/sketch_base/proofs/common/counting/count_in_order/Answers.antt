@@ -15,3 +15,9 @@ returns-in-Inclusive-clause-within g c = grind (arith, common_steps)
 
 pub returns-in-Exclusive-clause-within : goal.returns-in-Exclusive-clause-within
 returns-in-Exclusive-clause-within g c = grind (arith, common_steps)
+
+pub returns-in-Exclusive-clause-count : goal.returns-in-Exclusive-clause-count
+returns-in-Exclusive-clause-count g c = grind arith
+
+pub returns-in-Inclusive-clause-count : goal.returns-in-Inclusive-clause-count
+returns-in-Inclusive-clause-count g c = grind arith

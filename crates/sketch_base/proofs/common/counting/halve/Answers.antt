@@ -1,4 +1,4 @@
-use Rattle.std.proofs.Common.{◌+◌, ◌-◌, ◌^◌, ap, sym, ◌∙◌, slice_index_or}
+use Rattle.std.proofs.Common.{◌+◌, ◌-◌, ◌^◌, ap, sym, ◌∙◌, slice_index_or, arith}
 use Rattle.std.proofs.lemmas.Nat.{pow_pos}
 use Rattle.sketch_base.specs.Query.{counted}
 use Rattle.sketch_base.proofs.Entries.{counted-parted}
@@ -15,3 +15,6 @@ returns g c =
     (ap (λ s. test (slice_index_or c.args.items.now (c.args.known + s - 1) c.index-items-known.result)) (sym c.power_if.ensures)
     ∙ (ap test (sym c.index-items-known.is) ∙ sym c.counts-is_counted.ensures)) in
     rw c.power_if-2.ensures (record { starts = step.starts; ends = step.ends; within = step.within })
+
+pub overflow_add-result : goal.overflow_add-result
+overflow_add-result g c = grind arith

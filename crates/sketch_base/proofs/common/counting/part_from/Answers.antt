@@ -33,3 +33,6 @@ returns-clause-ends g c =
 
 pub loop-step-init : goal.loop-step-init
 loop-step-init g c = grind (arith, common_steps)
+
+pub loop-step-smaller : goal.loop-step-smaller
+loop-step-smaller g c = grind arith

@@ -20,3 +20,12 @@ returns-then-not-is_gt-clause-no g c = grind (arith, common_steps)
 
 pub returns-else-not-is_gt-clause-no : goal.returns-else-not-is_gt-clause-no
 returns-else-not-is_gt-clause-no g c = grind (arith, common_steps)
+
+pub returns-else-not-is_gt-clause-yes : goal.returns-else-not-is_gt-clause-yes
+returns-else-not-is_gt-clause-yes g c = grind arith
+
+pub bounds-items-count : goal.bounds-items-count
+bounds-items-count g c = grind arith
+
+pub overflow_sub-count : goal.overflow_sub-count
+overflow_sub-count g c = grind arith

@@ -1,6 +1,8 @@
 use Rattle.std.proofs.Common.{arith}
-use Rattle.std.proofs.lemmas.Grind.{common_steps}
 use Rattle.sketch_base.proofs.common.extremes.clone_if_greater.Goals as goal
 
 pub returns-in-Some : goal.returns-in-Some
-returns-in-Some g c = grind (arith, common_steps)
+returns-in-Some g c = grind arith
+
+pub returns-in-None : goal.returns-in-None
+returns-in-None g c = grind arith

@@ -10,3 +10,9 @@ cdf_among-requires-clause-cumulated g c = grind (arith, common_steps)
 
 pub returns-clause-rises : goal.returns-clause-rises
 returns-clause-rises g c = grind (arith, common_steps)
+
+pub cdf_among-requires-clause-sorted : goal.cdf_among-requires-clause-sorted
+cdf_among-requires-clause-sorted g c = grind arith
+
+pub returns-clause-refused : goal.returns-clause-refused
+returns-clause-refused g c = grind arith

@@ -44,7 +44,7 @@ pub returns-then-is_empty-clause-greatest : goal.returns-then-is_empty-clause-gr
 returns-then-is_empty-clause-greatest g c = grind (arith, common_steps)
 
 pub returns-clause-least : goal.returns-clause-least
-returns-clause-least g c = grind (arith, common_steps)
+returns-clause-least g c = grind arith
 
 pub returns-clause-greatest : goal.returns-clause-greatest
-returns-clause-greatest g c = grind (arith, common_steps)
+returns-clause-greatest g c = grind arith

@@ -43,7 +43,7 @@ returns-clause-joined g c =
     rw (c.from_cumulated-2.ensures, c.join_equal.ensures.items, c.join_equal.ensures.weights) (joined-distinct g.met.T.Ord.total _ _ (moved g after) (sorted g after) c.requires.weights)
 
 pub from_cumulated-requires : goal.from_cumulated-requires
-from_cumulated-requires g c = grind (arith, common_steps)
+from_cumulated-requires g c = grind arith
 
 pub returns-then-count-eq0-clause-entries : goal.returns-then-count-eq0-clause-entries
 returns-then-count-eq0-clause-entries g c = grind (arith, common_steps)
@@ -58,7 +58,22 @@ pub returns-then-count-eq0-clause-greatest : goal.returns-then-count-eq0-clause-
 returns-then-count-eq0-clause-greatest g c = grind (arith, common_steps)
 
 pub returns-clause-least : goal.returns-clause-least
-returns-clause-least g c = grind (arith, common_steps)
+returns-clause-least g c = grind arith
 
 pub returns-clause-greatest : goal.returns-clause-greatest
-returns-clause-greatest g c = grind (arith, common_steps)
+returns-clause-greatest g c = grind arith
+
+pub returns-in_err-cumulated-clause-none : goal.returns-in_err-cumulated-clause-none
+returns-in_err-cumulated-clause-none g c = grind arith
+
+pub join_equal-requires-clause-weights_room : goal.join_equal-requires-clause-weights_room
+join_equal-requires-clause-weights_room g c = grind arith
+
+pub join_equal-requires-clause-weights : goal.join_equal-requires-clause-weights
+join_equal-requires-clause-weights g c = grind arith
+
+pub join_equal-requires-clause-room : goal.join_equal-requires-clause-room
+join_equal-requires-clause-room g c = grind arith
+
+pub join_equal-requires-clause-items : goal.join_equal-requires-clause-items
+join_equal-requires-clause-items g c = grind arith

@@ -10,3 +10,12 @@ pmf_among-requires-clause-cumulated g c = grind (arith, common_steps)
 
 pub returns-clause-sums : goal.returns-clause-sums
 returns-clause-sums g c = grind (arith, common_steps)
+
+pub returns-clause-found : goal.returns-clause-found
+returns-clause-found g c = grind arith
+
+pub returns-clause-refused : goal.returns-clause-refused
+returns-clause-refused g c = grind arith
+
+pub pmf_among-requires-clause-sorted : goal.pmf_among-requires-clause-sorted
+pmf_among-requires-clause-sorted g c = grind arith

@@ -4,3 +4,6 @@ use Rattle.sketch_base.proofs.common.buffers.Buffers.for_levels.Goals as goal
 
 pub loop-buffers-smaller : goal.loop-buffers-smaller
 loop-buffers-smaller g c = grind (arith, common_steps)
+
+pub returns : goal.returns
+returns g c = grind arith

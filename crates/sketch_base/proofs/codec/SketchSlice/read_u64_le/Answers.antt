@@ -1,0 +1,11 @@
+use Rattle.std.proofs.Common.{arith}
+use Rattle.sketch_base.proofs.codec.SketchSlice.read_u64_le.Goals as goal
+
+pub split_at-requires : goal.split_at-requires
+split_at-requires c = grind arith
+
+pub bounds-front-7 : goal.bounds-front-7
+bounds-front-7 c = grind arith
+
+pub returns-clause-ok : goal.returns-clause-ok
+returns-clause-ok c = grind arith
