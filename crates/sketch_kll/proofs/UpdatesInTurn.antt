@@ -117,6 +117,11 @@ module _ {A : Type 0} {cmp : A → A → Ordering} (o : IsTotalOrder cmp) where
         source_is = m.source_is;
       })
 
+  -- the same, of the sketch as callers see it
+  pub updates_seen : {S : Type 0} {bit : S → Bool} {next : S → S} {source after : S} {s s' t : Kll A} {items : List A} → s ≡ s' →
+      UpdatesFields bit next source after s items t → UpdatesFields bit next source after s' items t
+  updates_seen e m = rw (← e) m
+
   -- updates by no items change nothing
   pub updates_none : (s : Kll A) (items : List A) (word : List Bool) → length items ≡ 0 → AreUpdated cmp s items word s
   updates_none s (x ∷ items) word e = absurd (omega (arith, e))
