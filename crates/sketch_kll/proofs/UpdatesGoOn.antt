@@ -61,6 +61,11 @@ module _ {A : Type 0} {cmp : A → A → Ordering} (o : IsTotalOrder cmp) where
         source_is = made.source_is ∙ ap (after_draws next source) coins;
       })
 
+  -- the same, of the sketch as callers see it
+  pub updated_seen : {S : Type 0} {bit : S → Bool} {next : S → S} {source after : S} {s s' t : Kll A} {x : A} → s ≡ s' →
+      UpdatedFields bit next source after s x t → UpdatedFields bit next source after s' x t
+  updated_seen e m = rw (← e) m
+
   -- updates by some items and then by more are updates by all
   pub updates_go_on : UpdatesGoOn cmp
   updates_go_on s t u items more word some a b =

@@ -1,8 +1,8 @@
 -- The goals at the return are what an update makes of the fields.
-use Rattle.std.proofs.Common.{◌<◌, ◌^◌, arith, rules, ap, ◌∙◌}
+use Rattle.std.proofs.Common.{◌<◌, ◌^◌, arith, ap, ◌∙◌}
 use Rattle.std.proofs.lemmas.Grind.{common_steps}
 use Rattle.sketch_kll.specs.Levels.{weight}
-use Rattle.sketch_kll.proofs.UpdatesGoOn.{updated_fields}
+use Rattle.sketch_kll.proofs.UpdatesGoOn.{updated_fields, updated_seen}
 use Rattle.sketch_kll.proofs.sketch.KllSketch.update_slowly.Goals as goal
 
 pub compact_if_full-requires-clause-light : goal.compact_if_full-requires-clause-light
@@ -19,13 +19,13 @@ returns g c =
     let kept = c.reserve_next.ensures.kept in
     let room = c.compact_if_full.ensures in
     let last = c.give_back_much.ensures.kept in
-    let fields = updated_fields g.met.T.Ord.total g.B.RandomBits.bit g.B.RandomBits.next c.args.item _ c.self.invariant small kept.k_is kept.flag_is kept.levels_are room.levels room.sorted
-    (last.k_is ∙ (c.push.ensures.k ∙ room.kept.k_is)) (last.flag_is ∙ c.push.ensures.flag) room.coins (last.levels_are ∙ c.push.ensures.levels) c.in_ok-least.ensures.least c.set_if_some.ensures c.in_ok-least.ensures.greatest c.set_if_some-2.ensures in
+    let fields = updated_seen g.met.T.Ord.total c.self.view_is (updated_fields g.met.T.Ord.total g.B.RandomBits.bit g.B.RandomBits.next c.args.item _ c.self.invariant small kept.k_is kept.flag_is kept.levels_are room.levels room.sorted
+    (last.k_is ∙ (c.push.ensures.k ∙ room.kept.k_is)) (last.flag_is ∙ c.push.ensures.flag) room.coins (last.levels_are ∙ c.push.ensures.levels) c.in_ok-least.ensures.least c.set_if_some.ensures c.in_ok-least.ensures.greatest c.set_if_some-2.ensures) in
     record {
-      ok = rw (← c.self.view_is) fields.updated_is;
-      coins = rw (← c.self.view_is) fields.source_is;
-      err = search rules;
-      memory = search rules;
+      ok = fields.updated_is;
+      coins = fields.source_is;
+      err = tt;
+      memory = tt;
       sound = fields.sound;
     }
 
