@@ -1,21 +1,27 @@
-use Rattle.std.proofs.Common.{◌<◌, ◌^◌, arith, rules}
+use Rattle.std.proofs.Common.{◌++◌, ◌∷◌, [], ◌∙◌, Some, ap}
+use Rattle.sketch_kll.specs.Flat.{levels_in}
+use Rattle.sketch_kll.specs.Image.{IsItemSketch}
+use Rattle.sketch_kll.specs.Sketch.{IsSound, sketch_of}
+use Rattle.sketch_kll.specs.Stored.{AreStored}
 use Rattle.sketch_kll.proofs.Readings.{item_holds}
 use Rattle.sketch_kll.proofs.sketch.KllSketch.sketch_of_item.Goals as goal
+use Rattle.sketch_kll.proofs.sketch.KllSketch.sketch_of_item.Goals.{After-total_capacity}
+
+-- the fields as they are made
+made : (g : _) (c : After-total_capacity g) →
+    let t = sketch_of c.args.k c.args.k 1 c.args.is_sorted (levels_in c.push.new.self.items c.in_ok-bounds.bounds.items) (Some c.in_ok-least.least) (Some c.in_ok-greatest.greatest) in
+    AreStored g.T.Ord.cmp c.args.k c.push.new.self.items c.in_ok-bounds.bounds.items c.total_capacity.result
+    × IsSound g.T.Ord.cmp t × IsItemSketch g.T.Ord.cmp c.args.k c.args.is_sorted c.args.item t
+made g c =
+    item_holds g.met.T.Ord.total c.args.k c.args.is_sorted c.push.new.self.items c.in_ok-bounds.bounds.items c.total_capacity.result c.args.item c.in_ok-least.least c.in_ok-greatest.greatest
+    c.requires.k c.ranges.k.fits (c.in_ok-push.ensures.items ∙ ap (λ xs. xs ++ (c.args.item ∷ [])) c.new-items.ensures.items) c.in_ok-bounds.ensures.items c.total_capacity.ensures.value
+    (c.requires.clones _ _ c.in_ok-least.ensures.cases) (c.requires.clones _ _ c.in_ok-greatest.ensures.cases)
 
 pub invariant_of-levels : goal.invariant_of-levels
-invariant_of-levels g c =
-    (item_holds g.met.T.Ord.total c.args.k c.args.is_sorted c.push.new.self.items c.in_ok-bounds.bounds.items c.total_capacity.result c.args.item c.in_ok-least.least c.in_ok-greatest.greatest
-    c.requires.k (let fits : c.args.k < 2 ^ 16 = omega arith in fits) (search rules) (search rules) c.total_capacity.ensures.value
-    (c.requires.clones _ _ c.in_ok-least.ensures.cases) (c.requires.clones _ _ c.in_ok-greatest.ensures.cases)).0
+invariant_of-levels g c = (made g c).0
 
 pub invariant_of-result : goal.invariant_of-result
-invariant_of-result g c =
-    (item_holds g.met.T.Ord.total c.args.k c.args.is_sorted c.push.new.self.items c.in_ok-bounds.bounds.items c.total_capacity.result c.args.item c.in_ok-least.least c.in_ok-greatest.greatest
-    c.requires.k (let fits : c.args.k < 2 ^ 16 = omega arith in fits) (search rules) (search rules) c.total_capacity.ensures.value
-    (c.requires.clones _ _ c.in_ok-least.ensures.cases) (c.requires.clones _ _ c.in_ok-greatest.ensures.cases)).1
+invariant_of-result g c = (made g c).1
 
 pub returns : goal.returns
-returns g c =
-    (item_holds g.met.T.Ord.total c.args.k c.args.is_sorted c.push.new.self.items c.in_ok-bounds.bounds.items c.total_capacity.result c.args.item c.in_ok-least.least c.in_ok-greatest.greatest
-    c.requires.k (let fits : c.args.k < 2 ^ 16 = omega arith in fits) (search rules) (search rules) c.total_capacity.ensures.value
-    (c.requires.clones _ _ c.in_ok-least.ensures.cases) (c.requires.clones _ _ c.in_ok-greatest.ensures.cases)).2
+returns g c = (made g c).2
