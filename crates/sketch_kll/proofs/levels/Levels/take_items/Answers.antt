@@ -1,4 +1,4 @@
-use Rattle.std.proofs.Common.{◌≡◌, ℕ, ◌+◌, ◌-◌, ◌≤◌, ◌&&◌, ◌==◌, Bool, List, length, reverse, take, drop, refl, sym, ap, ◌∙◌, subst, arith, length-append, length-drop, length-take-le}
+use Rattle.std.proofs.Common.{◌≡◌, ℕ, ◌+◌, ◌-◌, ◌^◌, ◌<◌, ◌≤◌, min, max, ◌&&◌, ◌==◌, Bool, List, length, reverse, take, drop, refl, sym, ap, ◌∙◌, subst, arith, length-append, length-drop, length-take-le}
 use Rattle.std.proofs.lemmas.Bool.{and_right, ne_eqb}
 use Rattle.std.proofs.lemmas.List.{length-reverse}
 use Rattle.sketch_kll.specs.Capacity.{total_of}
@@ -39,44 +39,50 @@ held g c = retained-put (put g c) c.loop-taken.self.levels ∙ ap (λ (n : ℕ).
 count : (g : _) (c : After-len g) → length (put_all (put g c) c.loop-taken.self.levels) ≡ length c.loop-taken.self.levels
 count g c = length-put (put g c) c.loop-taken.self.levels c.loop-taken.invariant.some
 
-pub make_space-requires : goal.make_space-requires
-make_space-requires g c =
-    let before = (past.make_space-requires g c).After-len in
+light_of : (now before d r : ℕ) {w put taken all : ℕ} → w ≡ before + d → w ≡ now + put → put ≡ taken → all ≡ d + r → before + all < 2 ^ 64 → now + taken < 2 ^ 64
+light_of now before d r e f g h light = omega arith
+
+room_of : (now before : ℕ) {h taken len cap most all v room later : ℕ} → h ≡ now + taken → h ≤ cap → cap ≤ most → taken ≤ len → now + len ≤ before + all → v ≡ all →
+    min (before + v) most ≤ room → room ≤ later → now + taken ≤ later
+room_of now before held within few part len v room later = omega arith
+
+room_there : (g : _) (c : After-len g) → retained c.loop-taken.self.levels + c.loop-taken.taken ≤ c.loop-taken.self.items_room
+room_there g c =
+    let i = c.loop-taken.invariant in
+    let kept = i.taking.taking.taken.kept in
+    room_of _ _ (held g c) kept.within (total_up_to c.args.self.now.k _ 61 kept.few) i.within i.len c.args.items.ok.0 c.requires.room i.room
+
+spare_of : {m n spare : ℕ} → m ≤ 61 → m ≡ n → 63 ≤ spare → n + 1 < spare
+spare_of few count spare = omega arith
+
+pub make_space-requires-clause-some : goal.make_space-requires-clause-some
+make_space-requires-clause-some g c = c.loop-taken.invariant.some
+
+pub make_space-requires-clause-within : goal.make_space-requires-clause-within
+make_space-requires-clause-within g c = c.loop-taken.invariant.within
+
+pub make_space-requires-clause-light : goal.make_space-requires-clause-light
+make_space-requires-clause-light g c =
+    let before = (past.make_space-requires-clause-light g c).After-len in
     let i = c.loop-taken.invariant in
     let t = i.taking in
-    let kept = t.taking.taken.kept in
-    let rest : List g.row.T.Denot = take (length c.loop-taken.items.items - c.loop-taken.taken) c.loop-taken.items.items in
-    let total = ap (total_of c.args.self.now.k 8) (count g before) in
-    record {
-      some = i.some;
-      within = i.within;
-      light = omega (
-        arith,
-        t.taking.taken.weighs,
-        c.requires.light,
-        ap length t.split,
-        length-append t.done (reverse rest),
-        length-reverse rest,
-        weight-put (put g before) c.loop-taken.self.levels,
-        length-last c.loop-taken.items.items c.loop-taken.taken i.within,
-      );
-      flag = flag_alone g.T.Ord.cmp c.loop-taken.self.is_sorted c.loop-taken.taken c.loop-taken.items.items c.loop-taken.self.levels i.some kept.flag_holds;
-      room = omega (
-        arith,
-        held g before,
-        kept.within,
-        total,
-        kept.few,
-        count g before,
-        total_up_to c.args.self.now.k (length c.loop-taken.self.levels) 61 (omega (arith, kept.few, count g before)),
-        i.len,
-        i.within,
-        i.room,
-        c.requires.room,
-        c.args.items.ok,
-      );
-      spare = omega (arith, kept.few, count g before, i.spare);
-    }
+    light_of _ _ _ _ t.taking.taken.weighs (weight-put (put g before) c.loop-taken.self.levels) (length-last c.loop-taken.items.items c.loop-taken.taken i.within)
+    (sym (ap length t.split) ∙ length-append t.done _) c.requires.light
+
+pub make_space-requires-clause-flag : goal.make_space-requires-clause-flag
+make_space-requires-clause-flag g c =
+    let i = c.loop-taken.invariant in
+    flag_alone g.T.Ord.cmp c.loop-taken.self.is_sorted c.loop-taken.taken c.loop-taken.items.items c.loop-taken.self.levels i.some i.taking.taking.taken.kept.flag_holds
+
+pub make_space-requires-clause-room : goal.make_space-requires-clause-room
+make_space-requires-clause-room g c =
+    room_there g (past.make_space-requires-clause-room g c).After-len
+
+pub make_space-requires-clause-spare : goal.make_space-requires-clause-spare
+make_space-requires-clause-spare g c =
+    let before = (past.make_space-requires-clause-spare g c).After-len in
+    let i = c.loop-taken.invariant in
+    spare_of i.taking.taking.taken.kept.few (count g before) i.spare
 
 -- taking goes on
 more : (g : _) (c : After-min-taken g) →
@@ -122,29 +128,11 @@ room_for_all g c =
     let i = c.loop-taken.invariant in
     omega (arith, held g c, i.taking.taking.taken.kept.within, ap (total_of c.args.self.now.k 8) (count g c), ap (λ (k : ℕ). total_of k 8 (length c.loop-taken.self.levels)) i.k)
 
+fill_of : (now cap : ℕ) {v len taken room : ℕ} → len ≤ taken → len ≡ v → now + taken ≤ room → min (now + v) (max now cap) ≤ room
+fill_of now cap few v room = omega arith
+
 pub fill-requires : goal.fill-requires
-fill-requires g c =
-    let before = (past.fill-requires g c).After-len in
-    let i = c.loop-taken.invariant in
-    let kept = i.taking.taking.taken.kept in
-    record {
-      room = omega (
-        arith,
-        room_for_all g before,
-        c.loop-taken-test.false,
-        c.len.ensures,
-        c.loop-taken.items.ok,
-        i.within,
-        i.len,
-        i.room,
-        c.requires.room,
-        c.args.items.ok,
-        count g before,
-        kept.few,
-        ap (λ (k : ℕ). total_of k 8 (length c.loop-taken.self.levels)) i.k,
-        total_up_to c.args.self.now.k (length c.loop-taken.self.levels) 61 (omega (arith, kept.few, count g before)),
-      );
-    }
+fill-requires g c = record { room = fill_of _ _ c.loop-taken-test.false c.len.ensures (room_there g (past.fill-requires g c).After-len) }
 
 pub returns-then-taken-gt0-clause-taken : goal.returns-then-taken-gt0-clause-taken
 returns-then-taken-gt0-clause-taken g c =
