@@ -1,4 +1,4 @@
-use Rattle.std.proofs.Common.{ap, ap₂, arith}
+use Rattle.std.proofs.Common.{◌≡◌, ◌+◌, ◌≤◌, ℕ, min, ap, ap₂, arith}
 use Rattle.std.proofs.lemmas.Grind.{common_steps}
 use Rattle.std.proofs.lemmas.Result.{IfOk-weaker}
 use Rattle.sketch_base.proofs.Items.{SameItems-clones}
@@ -14,11 +14,14 @@ reserve_taken-requires g c =
 pub returns-clause-clones : goal.returns-clause-clones
 returns-clause-clones g c = IfOk-weaker c.to_vec.result _ _ (λ v same. SameItems-clones g.T.Ord.cmp g.T.Clone.is_clone c.requires.clones _ _ same) c.to_vec.ensures.ok
 
+room_of : {a r r0 v l most t room : ℕ} → min (a + l) most ≤ room → a ≡ r0 → r ≡ r0 → v ≡ l → most ≡ t → min (r + v) t ≤ room
+room_of room n same len is = omega arith
+
 pub returns-clause-room : goal.returns-clause-room
 returns-clause-room g c =
     let same = ap retained (ap₂ levels_in c.reserve_taken.ensures.items c.reserve_taken.ensures.bounds) in
     let n = length-items c.self.inside.items.items c.self.inside.bounds.items c.self.invariant.flat in
-    IfOk-weaker c.to_vec.result _ _ (λ v len. omega (arith, same, n, len, c.in_ok-reserve_taken.ensures.room, c.total_capacity-most.ensures.value)) c.to_vec.ensures.len
+    IfOk-weaker c.to_vec.result _ _ (λ v len. room_of c.in_ok-reserve_taken.ensures.room n same len c.total_capacity-most.ensures.value) c.to_vec.ensures.len
 
 pub invariant_of-self : goal.invariant_of-self
 invariant_of-self g c = grind (arith, common_steps)
