@@ -1,5 +1,5 @@
-use Rattle.std.proofs.Common.{◌≡◌, ◌-◌, ap₂, ℕ, List, ◌++◌, take, drop, IsSorted, length, rules, arith, sym, ap, subst, ◌∙◌, true}
-use Rattle.sketch_kll.specs.Levels.{retained, first_level}
+use Rattle.std.proofs.Common.{◌≡◌, ◌+◌, ◌-◌, ◌<◌, ◌≤◌, ap₂, ℕ, Bool, List, Ordering, ◌++◌, take, drop, IsSorted, length, arith, sym, ap, subst, ◌∙◌, true}
+use Rattle.sketch_kll.specs.Levels.{retained, compacted, first_level, SameLevels}
 use Rattle.sketch_kll.specs.Flat.{levels_in}
 use Rattle.sketch_kll.specs.Ordered.{IsOrdered}
 use Rattle.sketch_kll.specs.Steps.{needs_sorting}
@@ -45,15 +45,30 @@ ordered g c =
     (λ e. known_sorted g.T.Ord.cmp c.args.self.now.is_sorted c.args.level (levels_in c.self.inside.items.items c.add_level_above.new.bounds.items)
     (up.sorted c.self.invariant.sorted) (λ t z. subst (λ (y : List g.row.T.Denot). IsSorted g.T.Ord.cmp y) (sym first) (c.requires.flag t z)) (sym needs ∙ e))
 
-pub compact_level-count-requires : goal.compact_level-count-requires
-compact_level-count-requires g c =
+ordered_in : {A : Type 0} {cmp : A → A → Ordering} {needs : Bool} {level : ℕ} {items xs xs' : List A} {bounds bounds' : List ℕ} → xs' ≡ xs → bounds' ≡ bounds →
+    IsOrdered cmp needs level items xs bounds → IsOrdered cmp needs level items xs' bounds'
+ordered_in e f order = rw (e, f) order
+
+pub compact_level-count-requires-clause-flat : goal.compact_level-count-requires-clause-flat
+compact_level-count-requires-clause-flat g c =
+    (ordered_in c.deref_mut.ensures.value c.deref_mut-2.ensures.value (ordered g (past.compact_level-count-requires-clause-flat g c).After-order_level)).flat
+
+pub compact_level-count-requires-clause-within : goal.compact_level-count-requires-clause-within
+compact_level-count-requires-clause-within g c =
     let up = raised_is c.needs_sorting-needs_sorting.result c.random_bit-coin.result c.self.invariant
     (ap (λ (y : Stored g.row.T.Denot). y.levels) c.self.view_is) c.requires.within c.add_level_above.ensures.items in
-    let order = ordered g (past.compact_level-count-requires g c).After-order_level in
-    rw (c.deref_mut.ensures.value, c.deref_mut-2.ensures.value) (record { flat = order.flat; within = up.within; sorted = order.sorted; body = order.body })
+    rw c.deref_mut-2.ensures.value up.within
+
+pub compact_level-count-requires-clause-sorted : goal.compact_level-count-requires-clause-sorted
+compact_level-count-requires-clause-sorted g c =
+    (ordered_in c.deref_mut.ensures.value c.deref_mut-2.ensures.value (ordered g (past.compact_level-count-requires-clause-sorted g c).After-order_level)).sorted
+
+pub compact_level-count-requires-clause-body : goal.compact_level-count-requires-clause-body
+compact_level-count-requires-clause-body g c =
+    (ordered_in c.deref_mut.ensures.value c.deref_mut-2.ensures.value (ordered g (past.compact_level-count-requires-clause-body g c).After-order_level)).body
 
 pub total_at-self-inside-requires-clause-total : goal.total_at-self-inside-requires-clause-total
-total_at-self-inside-requires-clause-total g c = known_total c.self.invariant c.len-known.result (search rules)
+total_at-self-inside-requires-clause-total g c = known_total c.self.invariant c.len-known.result (c.len-known.ensures ∙ c.self.inside.bounds.ok.0)
 
 -- the bounds after the compaction
 abbrev shifted_bounds : (g : _) (c : After-truncate g) → List ℕ
@@ -68,6 +83,9 @@ bounds_are g c =
 
 bounds_len : (g : _) (c : After-truncate g) → length (shifted_bounds g c) ≡ c.add_level_above.new.bounds.len
 bounds_len g c = ap length (bounds_are g c) ∙ (c.compact_level-count.auto.bounds ∙ c.deref_mut-2.ensures.len)
+
+some_of : (level : ℕ) {len n : ℕ} → len ≡ n → level + 2 < n → 1 ≤ len
+some_of level is within = omega arith
 
 -- what the compaction leaves in the vectors
 left : (g : _) (c : After-truncate g) →
@@ -86,15 +104,31 @@ left g c order =
     (rw (cut, all) made.flat)
     (SameLevels-trans g.T.Ord.cmp g.met.T.Ord.total _ _ _ (order.same c.random_bit-coin.result) (rw (cut, all, ← before) made.alike)) (λ _. rw (cut, all) made.sorted)
 
+few_of : {len n : ℕ} → len ≡ n → n ≤ 62 → len - 1 ≤ 61
+few_of is few = omega arith
+
 pub total_at-self-inside-requires-clause-few_levels : goal.total_at-self-inside-requires-clause-few_levels
 total_at-self-inside-requires-clause-few_levels g c =
     let after = (past.total_at-self-inside-requires-clause-few_levels g c).After-truncate in
-    omega (arith, (left g after (ordered g (past.total_at-self-inside-requires-clause-few_levels g c).After-order_level)).few, bounds_len g after)
+    few_of (c.len-num_levels.ensures ∙ sym (bounds_len g after)) (left g after (ordered g (past.total_at-self-inside-requires-clause-few_levels g c).After-order_level)).few
 
 pub invariant_of-self : goal.invariant_of-self
 invariant_of-self g c =
     let after = (past.invariant_of-self g c).After-truncate in
     (left g after (ordered g (past.invariant_of-self g c).After-order_level)).stored _ c.len-num_levels.result (c.len-num_levels.ensures ∙ sym (bounds_len g after)) c.total_at-self-inside.ensures
+
+same_room : {own now ordered cut : ℕ} → own ≡ now → ordered ≡ own → cut ≡ ordered → now ≤ cut
+same_room p q r = omega arith
+
+more_room : {own now more : ℕ} → own ≡ now → own ≤ more → now ≤ more
+more_room p more = omega arith
+
+shorter_of : (cut : ℕ) {n left len all now : ℕ} → n ≡ left → len ≡ n → len + cut ≡ all → all ≡ now → left ≤ now
+shorter_of cut p q r s = omega arith
+
+compacted_with : {A : Type 0} (cmp : A → A → Ordering) (level : ℕ) (ls ms : List (List A)) {needs needs' coin coin' : Bool} → needs ≡ needs' → coin ≡ coin' →
+    SameLevels cmp (compacted cmp needs coin level ls) ms → SameLevels cmp (compacted cmp needs' coin' level ls) ms
+compacted_with cmp level ls ms e f same = rw (← e, ← f) same
 
 pub returns : goal.returns
 returns g c =
@@ -104,9 +138,23 @@ returns g c =
     let after = length-items c.truncate.new.self.items (shifted_bounds g (past.returns g c).After-truncate) left.flat in
     let held = ap (λ (y : Stored g.row.T.Denot). retained y.levels) c.self.view_is in
     record {
-      kept = search rules;
-      levels = rw (← c.random_bit-coin.ensures.value, ← needs) left.same;
+      kept = record {
+        k_is = ap (λ (y : Stored g.row.T.Denot). y.k) c.self.view_is;
+        flag_is = ap (λ (y : Stored g.row.T.Denot). y.is_sorted) c.self.view_is;
+        items_room = same_room (ap (λ (y : Stored g.row.T.Denot). y.items_room) c.self.view_is) c.order_level.ensures.capacity c.truncate.ensures.capacity;
+        bounds_room = more_room (ap (λ (y : Stored g.row.T.Denot). y.bounds_room) c.self.view_is) c.add_level_above.ensures.capacity;
+      };
+      levels = compacted_with g.T.Ord.cmp c.args.level _ _ needs c.random_bit-coin.ensures.value left.same;
       sorted = left.sorted;
-      shorter = omega (arith, before, after, held, c.truncate.ensures.len, c.self.inside.items.ok, c.truncate.new.self.ok, c.len.ensures);
-      coins = search rules;
+      shorter = shorter_of _ after c.truncate.new.self.ok.0 c.truncate.ensures.len (c.order_level.new.items.ok.0 ∙ c.order_level.ensures.len ∙ before ∙ held);
+      coins = c.random_bit-coin.ensures.after;
     }
+
+pub total_at-self-inside-requires-clause-k : goal.total_at-self-inside-requires-clause-k
+total_at-self-inside-requires-clause-k g c = c.self.invariant.k_above
+
+pub overflow_sub-num_levels : goal.overflow_sub-num_levels
+overflow_sub-num_levels g c =
+    let up = raised_is c.needs_sorting-needs_sorting.result true c.self.invariant
+    (ap (λ (y : Stored g.row.T.Denot). y.levels) c.self.view_is) c.requires.within c.add_level_above.ensures.items in
+    some_of _ (c.len-num_levels.ensures ∙ c.add_level_above.new.bounds.ok.0) up.within
