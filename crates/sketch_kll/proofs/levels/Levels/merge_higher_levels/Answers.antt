@@ -1,4 +1,4 @@
-use Rattle.std.proofs.Common.{◌≡◌, ◌++◌, ℕ, List, take, drop, length, vec_len, refl, sym, ap, ◌∙◌, arith, rules}
+use Rattle.std.proofs.Common.{◌≡◌, ◌+◌, ◌-◌, ◌≤◌, ◌++◌, ℕ, List, take, drop, length, vec_len, refl, sym, ap, ◌∙◌, arith}
 use Rattle.std.proofs.lemmas.Grind.{common_steps}
 use Rattle.sketch_kll.specs.Flat.{levels_in}
 use Rattle.sketch_kll.specs.Join.{joined_bounds}
@@ -21,28 +21,50 @@ stored_in_the_end g c =
     let back = c.merge_runs_back.ensures in
     let added : c.add_bounds.new.bounds ≡ joined_bounds c.deref.result.now c.args.others.now =
     c.add_bounds.ensures ∙ ap (λ (b : List ℕ). joined_bounds b c.args.others.now) (c.deref_mut.ensures.value ∙ sym c.deref.ensures.value) in
-    let whole = whole_slice c.add_bounds.new.bounds wide.items wide.len (search rules) in
+    let len_is = c.add_bounds.auto.bounds ∙ c.deref_mut.ensures.len in
+    let whole = whole_slice c.add_bounds.new.bounds wide.items wide.len len_is in
     joined_stored c.args.others.now c.self.invariant c.requires.upper c.requires.some c.requires.few (c.deref.ensures.value ∙ c.add_levels.ensures.items)
     (ap (λ v. v.items) c.take_away-items.ensures.taken)
-    back.flat back.levels back.sorted c.reverse.ensures.items (whole ∙ added) c.len-num_levels.result (search rules) c.total_at-self-inside.ensures
+    back.flat back.levels back.sorted c.reverse.ensures.items (whole ∙ added) c.len-num_levels.result (c.len-num_levels.ensures ∙ sym (ap length whole ∙ len_is)) c.total_at-self-inside.ensures
 
-pub merge_runs_back-requires : goal.merge_runs_back-requires
-merge_runs_back-requires g c =
-    let x = c.self.inside in
-    let taken = c.take_away-items.ensures.taken in
+pub merge_runs_back-requires-clause-flat : goal.merge_runs_back-requires-clause-flat
+merge_runs_back-requires-clause-flat g c =
     let wide = prepared c.args.others.now c.self.invariant c.requires.upper c.requires.some c.requires.few (c.deref.ensures.value ∙ c.add_levels.ensures.items)
-    (ap (λ v. v.items) taken) in
-    let held = length-items x.items.items x.bounds.items c.self.invariant.flat ∙ ap (λ (y : Stored g.row.T.Denot). retained y.levels) c.self.view_is in
-    record {
-      flat = wide.fits;
-      sorted = wide.sorted;
-      upper = c.requires.upper;
-      upper_sorted = c.requires.upper_sorted;
-      some = c.requires.some;
-      fewer = wide.fewer;
-      empty = c.requires.empty;
-      room = omega (arith, held, ap (λ v. vec_len v) taken, c.requires.room, x.items.ok);
-    }
+    (ap (λ v. v.items) c.take_away-items.ensures.taken) in
+    wide.fits
+
+pub merge_runs_back-requires-clause-sorted : goal.merge_runs_back-requires-clause-sorted
+merge_runs_back-requires-clause-sorted g c =
+    let wide = prepared c.args.others.now c.self.invariant c.requires.upper c.requires.some c.requires.few (c.deref.ensures.value ∙ c.add_levels.ensures.items)
+    (ap (λ v. v.items) c.take_away-items.ensures.taken) in
+    wide.sorted
+
+pub merge_runs_back-requires-clause-upper : goal.merge_runs_back-requires-clause-upper
+merge_runs_back-requires-clause-upper g c = c.requires.upper
+
+pub merge_runs_back-requires-clause-upper_sorted : goal.merge_runs_back-requires-clause-upper_sorted
+merge_runs_back-requires-clause-upper_sorted g c = c.requires.upper_sorted
+
+pub merge_runs_back-requires-clause-some : goal.merge_runs_back-requires-clause-some
+merge_runs_back-requires-clause-some g c = c.requires.some
+
+pub merge_runs_back-requires-clause-fewer : goal.merge_runs_back-requires-clause-fewer
+merge_runs_back-requires-clause-fewer g c =
+    let wide = prepared c.args.others.now c.self.invariant c.requires.upper c.requires.some c.requires.few (c.deref.ensures.value ∙ c.add_levels.ensures.items)
+    (ap (λ v. v.items) c.take_away-items.ensures.taken) in
+    wide.fewer
+
+pub merge_runs_back-requires-clause-empty : goal.merge_runs_back-requires-clause-empty
+merge_runs_back-requires-clause-empty g c = c.requires.empty
+
+room_of : (u : ℕ) {v w l r room : ℕ} → v ≡ w → w ≡ l → l ≡ r → r + u ≤ room → v + u ≤ room
+room_of u p q r room = omega arith
+
+pub merge_runs_back-requires-clause-room : goal.merge_runs_back-requires-clause-room
+merge_runs_back-requires-clause-room g c =
+    let x = c.self.inside in
+    room_of _ (ap (λ v. vec_len v) c.take_away-items.ensures.taken) x.items.ok.0
+    (length-items x.items.items x.bounds.items c.self.invariant.flat ∙ ap (λ (y : Stored g.row.T.Denot). retained y.levels) c.self.view_is) c.requires.room
 
 pub add_bounds-requires : goal.add_bounds-requires
 add_bounds-requires g c =
@@ -57,14 +79,16 @@ add_bounds-requires g c =
       fits = λ j above. omega (arith, within.1 j above, c.requires.room, held, c.args.upper.ok, c.args.merged.ok, c.args.merged.small);
     }
 
+few_of : {len n : ℕ} → len ≡ n → n ≤ 62 → len - 1 ≤ 61
+few_of is few = omega arith
+
 pub total_at-self-inside-requires-clause-few_levels : goal.total_at-self-inside-requires-clause-few_levels
 total_at-self-inside-requires-clause-few_levels g c =
     let wide = prepared c.args.others.now c.self.invariant c.requires.upper c.requires.some c.requires.few (c.deref_mut.ensures.value ∙ c.add_levels.ensures.items) refl in
-    let len_is : c.len-num_levels.result ≡ length c.deref_mut.result.now = search rules in
-    omega (arith, len_is, wide.few)
+    few_of (c.len-num_levels.ensures ∙ sym c.deref_mut.ensures.len) wide.few
 
 pub total_at-self-inside-requires-clause-total : goal.total_at-self-inside-requires-clause-total
-total_at-self-inside-requires-clause-total g c = known_total c.self.invariant c.len-known.result (search rules)
+total_at-self-inside-requires-clause-total g c = known_total c.self.invariant c.len-known.result (c.len-known.ensures ∙ c.self.inside.bounds.ok.0)
 
 pub invariant_of-self : goal.invariant_of-self
 invariant_of-self g c = (stored_in_the_end g c).stored
@@ -76,7 +100,7 @@ pub overflow_sub-num_levels : goal.overflow_sub-num_levels
 overflow_sub-num_levels g c = grind (arith, common_steps)
 
 pub total_at-self-inside-requires-clause-k : goal.total_at-self-inside-requires-clause-k
-total_at-self-inside-requires-clause-k g c = grind (arith, common_steps)
+total_at-self-inside-requires-clause-k g c = c.self.invariant.k_above
 
 pub returns-clause-k : goal.returns-clause-k
 returns-clause-k g c = grind (arith, common_steps)
