@@ -1,4 +1,4 @@
-use Rattle.std.proofs.Common.{◌≡◌, ℕ, ◌-◌, List, rules, length, map, arith, ap, ap₂, ◌∙◌}
+use Rattle.std.proofs.Common.{◌≡◌, ℕ, ◌+◌, ◌-◌, ◌^◌, ◌<◌, ◌≤◌, List, length, map, arith, ap, ap₂, ◌∙◌}
 use Rattle.sketch_kll.specs.Capacity.{total_of}
 use Rattle.sketch_kll.specs.Flat.{levels_in}
 use Rattle.sketch_kll.specs.Levels.{retained}
@@ -18,22 +18,49 @@ seen g c f =
     ap₂ (λ items bounds. f c.self.inside.k (levels_in items bounds)) c.deref.ensures.value c.deref-2.ensures.value
     ∙ ap (λ (y : Stored g.row.T.Denot). f y.k y.levels) c.self.view_is
 
-pub find_level_to_compact-requires : goal.find_level_to_compact-requires
-find_level_to_compact-requires g c =
+pub find_level_to_compact-requires-clause-k : goal.find_level_to_compact-requires-clause-k
+find_level_to_compact-requires-clause-k g c = c.self.invariant.k_above
+
+pub find_level_to_compact-requires-clause-flat : goal.find_level_to_compact-requires-clause-flat
+find_level_to_compact-requires-clause-flat g c = rw (c.deref.ensures.value, c.deref-2.ensures.value) c.self.invariant.flat
+
+some_of : {n l : ℕ} → n ≡ l + 1 → 0 < l → 1 < n
+some_of n some = omega arith
+
+few_of : {n l : ℕ} → n ≡ l + 1 → l ≤ 61 → n ≤ 62
+few_of n few = omega arith
+
+fits_of : (more : ℕ) {items now all w : ℕ} → items ≡ now → now ≡ all → all ≤ w → w + more < 2 ^ 64 → items + more < 2 ^ 64
+fits_of more p q below light = omega arith
+
+count_of : {n : ℕ} (l : ℕ) → n ≡ l + 1 → n - 1 ≡ l
+count_of l n = omega arith
+
+full_of : (more : ℕ) {t total items now all : ℕ} → t ≡ total → items ≡ now → now ≡ all → total ≤ all + more → t ≤ items + more
+full_of more e p q full = omega arith
+
+pub find_level_to_compact-requires-clause-some_level : goal.find_level_to_compact-requires-clause-some_level
+find_level_to_compact-requires-clause-some_level g c =
     let x = c.self.inside in
-    let n = ap length c.deref-2.ensures.value ∙ length-bounds x.items.items x.bounds.items c.self.invariant.flat in
-    let items = ap length c.deref.ensures.value ∙ length-items x.items.items x.bounds.items c.self.invariant.flat in
-    let held = ap (λ (y : Stored g.row.T.Denot). retained y.levels) c.self.view_is in
-    let count : length c.deref-2.result.now - 1 ≡ length (levels_in x.items.items x.bounds.items) = omega (arith, n) in
-    let total = ap (total_of x.k 8) count ∙ ap (λ (y : Stored g.row.T.Denot). total_of y.k 8 (length y.levels)) c.self.view_is in
-    record {
-      k = c.self.invariant.k_above;
-      flat = search rules;
-      some_level = omega (arith, n, c.self.invariant.some);
-      few_levels = omega (arith, n, c.self.invariant.few);
-      fits = omega (arith, items, held, c.requires.light, retained-weight c.args.self.now.levels);
-      full = omega (arith, items, held, total, c.requires.full);
-    }
+    some_of (ap length c.deref-2.ensures.value ∙ length-bounds x.items.items x.bounds.items c.self.invariant.flat) c.self.invariant.some
+
+pub find_level_to_compact-requires-clause-few_levels : goal.find_level_to_compact-requires-clause-few_levels
+find_level_to_compact-requires-clause-few_levels g c =
+    let x = c.self.inside in
+    few_of (ap length c.deref-2.ensures.value ∙ length-bounds x.items.items x.bounds.items c.self.invariant.flat) c.self.invariant.few
+
+pub find_level_to_compact-requires-clause-fits : goal.find_level_to_compact-requires-clause-fits
+find_level_to_compact-requires-clause-fits g c =
+    let x = c.self.inside in
+    fits_of _ (ap length c.deref.ensures.value ∙ length-items x.items.items x.bounds.items c.self.invariant.flat)
+    (ap (λ (y : Stored g.row.T.Denot). retained y.levels) c.self.view_is) (retained-weight c.args.self.now.levels) c.requires.light
+
+pub find_level_to_compact-requires-clause-full : goal.find_level_to_compact-requires-clause-full
+find_level_to_compact-requires-clause-full g c =
+    let x = c.self.inside in
+    let count = count_of _ (ap length c.deref-2.ensures.value ∙ length-bounds x.items.items x.bounds.items c.self.invariant.flat) in
+    full_of _ (ap (total_of x.k 8) count ∙ ap (λ (y : Stored g.row.T.Denot). total_of y.k 8 (length y.levels)) c.self.view_is)
+    (ap length c.deref.ensures.value ∙ length-items x.items.items x.bounds.items c.self.invariant.flat) (ap (λ (y : Stored g.row.T.Denot). retained y.levels) c.self.view_is) c.requires.full
 
 pub returns : goal.returns
 returns g c =
