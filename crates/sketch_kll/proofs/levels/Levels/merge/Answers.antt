@@ -1,4 +1,4 @@
-use Rattle.std.proofs.Common.{List, Bool, IsTrue, drop, ap, subst, arith, rules, ◌∙◌}
+use Rattle.std.proofs.Common.{◌≡◌, ◌+◌, ◌*◌, ◌^◌, ◌<◌, ◌≤◌, ℕ, List, Bool, IsTrue, drop, ap, subst, arith, ◌∙◌}
 use Rattle.std.proofs.lemmas.Grind.{common_steps}
 use Rattle.sketch_kll.specs.Flat.{levels_in}
 use Rattle.sketch_kll.specs.Join.{joined}
@@ -22,34 +22,55 @@ take_items-requires-clause-light g c =
     let clones = cloned g (past.take_items-requires-clause-light g c).After-as_slice-other_bounds in
     omega (arith, clones.weighs, c.requires.light)
 
-pub merge_higher_levels-old-requires : goal.merge_higher_levels-old-requires
-merge_higher_levels-old-requires g c =
-    let clones = cloned g (past.merge_higher_levels-old-requires g c).After-as_slice-other_bounds in
-    record {
-      upper = clones.flat;
-      upper_sorted = clones.sorted;
-      some = clones.some;
-      few = clones.few;
-      empty = search rules;
-      room = search rules;
-      spare = search rules;
-    }
+pub merge_higher_levels-old-requires-clause-upper : goal.merge_higher_levels-old-requires-clause-upper
+merge_higher_levels-old-requires-clause-upper g c = (cloned g (past.merge_higher_levels-old-requires-clause-upper g c).After-as_slice-other_bounds).flat
 
-pub compress-requires : goal.compress-requires
-compress-requires g c =
-    let clones = cloned g (past.compress-requires g c).After-as_slice-other_bounds in
-    let higher = c.merge_higher_levels-old.ensures in
+pub merge_higher_levels-old-requires-clause-upper_sorted : goal.merge_higher_levels-old-requires-clause-upper_sorted
+merge_higher_levels-old-requires-clause-upper_sorted g c = (cloned g (past.merge_higher_levels-old-requires-clause-upper_sorted g c).After-as_slice-other_bounds).sorted
+
+pub merge_higher_levels-old-requires-clause-some : goal.merge_higher_levels-old-requires-clause-some
+merge_higher_levels-old-requires-clause-some g c = (cloned g (past.merge_higher_levels-old-requires-clause-some g c).After-as_slice-other_bounds).some
+
+pub merge_higher_levels-old-requires-clause-few : goal.merge_higher_levels-old-requires-clause-few
+merge_higher_levels-old-requires-clause-few g c = (cloned g (past.merge_higher_levels-old-requires-clause-few g c).After-as_slice-other_bounds).few
+
+pub merge_higher_levels-old-requires-clause-empty : goal.merge_higher_levels-old-requires-clause-empty
+merge_higher_levels-old-requires-clause-empty g c = c.requires.ready.merged_empty
+
+room_of : (low upper old : ℕ) {now room : ℕ} → now ≤ old + low → old + low + upper ≤ room → now + upper ≤ room
+room_of low upper old len room = omega arith
+
+pub merge_higher_levels-old-requires-clause-room : goal.merge_higher_levels-old-requires-clause-room
+merge_higher_levels-old-requires-clause-room g c = room_of _ _ _ c.take_items.ensures.len c.requires.ready.merged_room
+
+pub merge_higher_levels-old-requires-clause-spare : goal.merge_higher_levels-old-requires-clause-spare
+merge_higher_levels-old-requires-clause-spare g c = c.take_items.ensures.spare
+
+few_of : (levels : ℕ) {runs : ℕ} → levels + 2 ≡ runs → runs ≤ 62 → levels ≤ 60
+few_of levels are few = omega arith
+
+light_of : (low upper old : ℕ) {merged levels others : ℕ} → merged ≡ levels + 2 * upper → levels ≡ old + low → low + 2 * upper ≡ others → old + others < 2 ^ 64 → merged < 2 ^ 64
+light_of low upper old p q r light = omega arith
+
+pub compress-requires-clause-light : goal.compress-requires-clause-light
+compress-requires-clause-light g c =
+    let clones = cloned g (past.compress-requires-clause-light g c).After-as_slice-other_bounds in
     let taken = c.take_items.ensures.taken in
-    let levels = c.take_items.new.self.levels in
-    let merged = c.merge_higher_levels-old.new.self.levels in
     let upper : List (List g.row.T.Denot) = levels_in c.args.parts.upper.items (drop 1 c.as_slice-other_bounds.result.now) in
-    let sizes = joined_size g.T.Ord.cmp levels upper merged taken.kept.some taken.kept.few (omega (arith, clones.upper_are, clones.few)) higher.levels in
-    record {
-      light = omega (arith, sizes.weighs, taken.weighs, clones.weighs, c.requires.light);
-      flag = λ h. first-same g.T.Ord.cmp g.met.T.Ord.total (joined g.T.Ord.cmp levels upper) merged higher.levels
-          (joined-first g.T.Ord.cmp g.met.T.Ord.total levels upper (taken.kept.flag_holds (subst (λ (f : Bool). IsTrue f) higher.flag h)));
-      spare = search rules;
-    }
+    let sizes = joined_size g.T.Ord.cmp c.take_items.new.self.levels upper c.merge_higher_levels-old.new.self.levels taken.kept.some taken.kept.few (few_of _ clones.upper_are clones.few)
+    c.merge_higher_levels-old.ensures.levels in
+    light_of _ _ _ sizes.weighs taken.weighs clones.weighs c.requires.light
+
+pub compress-requires-clause-flag : goal.compress-requires-clause-flag
+compress-requires-clause-flag g c =
+    let higher = c.merge_higher_levels-old.ensures in
+    let levels = c.take_items.new.self.levels in
+    let upper : List (List g.row.T.Denot) = levels_in c.args.parts.upper.items (drop 1 c.as_slice-other_bounds.result.now) in
+    λ h. first-same g.T.Ord.cmp g.met.T.Ord.total (joined g.T.Ord.cmp levels upper) c.merge_higher_levels-old.new.self.levels higher.levels
+    (joined-first g.T.Ord.cmp g.met.T.Ord.total levels upper (c.take_items.ensures.taken.kept.flag_holds (subst (λ (f : Bool). IsTrue f) higher.flag h)))
+
+pub compress-requires-clause-spare : goal.compress-requires-clause-spare
+compress-requires-clause-spare g c = c.merge_higher_levels-old.ensures.spare
 
 pub returns-clause-merged : goal.returns-clause-merged
 returns-clause-merged g c =
