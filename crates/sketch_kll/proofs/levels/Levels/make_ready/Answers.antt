@@ -1,4 +1,4 @@
-use Rattle.std.proofs.Common.{length, ap, ap₂, arith}
+use Rattle.std.proofs.Common.{◌≡◌, ◌+◌, ◌≤◌, ℕ, length, ap, ap₂, arith}
 use Rattle.std.proofs.lemmas.Grind.{common_steps}
 use Rattle.sketch_kll.specs.Flat.{levels_in}
 use Rattle.sketch_kll.specs.Levels.{retained}
@@ -13,16 +13,21 @@ pub reserve_merged-requires : goal.reserve_merged-requires
 reserve_merged-requires g c =
     record { few = omega (arith, length-bounds c.self.inside.items.items c.self.inside.bounds.items c.self.invariant.flat, c.self.invariant.few) }
 
+room_of : {items count now own low room : ℕ} → items + count ≤ room → now ≡ own → items ≡ own → count ≡ low → now + low ≤ room
+room_of room now items low = omega arith
+
+merged_of : (low upper : ℕ) {items count now own all room : ℕ} → items + count ≤ room → now ≡ own → items ≡ own → count ≡ all → low + upper ≡ all → now + low + upper ≤ room
+merged_of low upper room now items count both = omega arith
+
 pub returns-clause-ready : goal.returns-clause-ready
 returns-clause-ready g c =
     let made = c.in_ok-merged.ensures in
     let same = ap retained (ap₂ levels_in c.reserve_merged.ensures.items c.reserve_merged.ensures.bounds) in
     let n = length-items c.self.inside.items.items c.self.inside.bounds.items c.self.invariant.flat in
-    let len = c.in_ok-low.ensures.len in
     record {
-      items_room = omega (arith, same, n, len, c.len.ensures, made.room);
+      items_room = room_of made.room same n c.len.ensures;
       bounds_room = made.spare;
-      merged_room = omega (arith, same, n, len, c.len.ensures, made.merged);
+      merged_room = merged_of _ _ made.merged same n c.len-count.ensures c.in_ok-low.ensures.len;
       merged_empty = made.empty;
     }
 
