@@ -1,4 +1,4 @@
-use Rattle.std.proofs.Common.{◌≡◌, ℕ, Bool, List, ◌+◌, ◌<◌, ◌≤◌, ◌⊎◌, inl, inr, suc, length, arith, ap, ◌∙◌, refl}
+use Rattle.std.proofs.Common.{◌≡◌, ℕ, Bool, List, ◌+◌, ◌<◌, ◌≤◌, ◌⊎◌, inl, inr, suc, ◌^◌, length, arith, ap, sym, subst, ◌∙◌, refl}
 use Rattle.std.proofs.lemmas.Grind.{common_steps}
 use Rattle.std.proofs.lemmas.Bool.{cases_eq, leb-true}
 use Rattle.sketch_kll.specs.Capacity.{total_of}
@@ -29,7 +29,7 @@ compress_level-requires-clause-few g c =
     let within = c.loop-self-test.ensures.within refl in
     let few = c.loop-self-test.ensures.few in
     let full = leb-true _ _ (c.loop-self-test.ensures.full refl) in
-    let above : 8 ≤ c.args.self.now.k = omega (arith, ap (λ (y : Stored g.row.T.Denot). y.k) c.self.view_is, c.self.invariant.k_above) in
+    let above = subst (λ (n : ℕ). 8 ≤ n) (ap (λ (y : Stored g.row.T.Denot). y.k) c.self.view_is) c.self.invariant.k_above in
     elim (cases_eq c.loop-self.level 60) [
       | inl e ↦ absurd (no_62nd_level c.args.self.now.k c.loop-self.level x.levels above e (omega (arith, within, e, few))
           (omega (arith, full, ap (λ (k : ℕ). total_of k 8 (length x.levels)) i.kept.k_is)) i.weighs i.behind)
@@ -45,6 +45,21 @@ pub compress_level-requires-clause-spare : goal.compress_level-requires-clause-s
 compress_level-requires-clause-spare g c =
     omega (arith, c.loop-self-test.ensures.few, c.loop-self.invariant.kept.bounds_room, c.requires.spare)
 
+more_room : {before now after : ℕ} → before ≤ now → now ≤ after → before ≤ after
+more_room now after = omega arith
+
+not_first : (level : ℕ) → level + 1 ≡ 0 → ⊥
+not_first level first = omega arith
+
+few_of : {level n : ℕ} → level < n → n ≤ 61 → level < 61
+few_of lt few = omega arith
+
+next_few : {level n : ℕ} → level < n → n ≤ 61 → level + 1 ≤ 61
+next_few lt few = omega arith
+
+one_on : (level : ℕ) → level + 1 ≡ suc level
+one_on level = omega arith
+
 pub loop-self-preserved : goal.loop-self-preserved
 loop-self-preserved g c =
     let x = c.loop-self.self in
@@ -57,26 +72,26 @@ loop-self-preserved g c =
     let ms : List (List g.row.T.Denot) = y.levels in
     let t = c.loop-self-test.ensures.within refl in
     let few = c.loop-self-test.ensures.few in
-    let above : 8 ≤ k = omega (arith, ap (λ (y : Stored g.row.T.Denot). y.k) c.self.view_is, c.self.invariant.k_above) in
+    let above = subst (λ (n : ℕ). 8 ≤ n) (ap (λ (y : Stored g.row.T.Denot). y.k) c.self.view_is) c.self.invariant.k_above in
     let b : Bool = g.B.RandomBits.bit c.loop-self.coins in
     let levels : SameLevels g.T.Ord.cmp (stepped g.T.Ord.cmp k flag b c.loop-self.level ls) ms = rw (← i.kept.k_is, ← i.kept.flag_is) e.levels in
     let source : c.compress_level.new.coins ≡ stepped_source g.B.RandomBits.next k c.loop-self.level c.loop-self.coins ls = rw (← i.kept.k_is) e.coins in
     let s : WalkStep k c.loop-self.level ls ms = walk_step g.T.Ord.cmp k c.loop-self.level flag b ls ms above t few i.weighs i.behind levels in
     let w = walk_more g.T.Ord.cmp g.met.T.Ord.total g.B.RandomBits.bit g.B.RandomBits.next k flag c.loop-self.level c.loop-self.coins c.compress_level.new.coins _ ls ms _
-    (omega (arith, t, few)) source levels i.levels i.source in
-    let one : c.loop-self.level + 1 ≡ suc c.loop-self.level = omega arith in
+    (few_of t few) source levels i.levels i.source in
+    let one = one_on c.loop-self.level in
     record {
       kept = record {
         k_is = e.kept.k_is ∙ i.kept.k_is;
         flag_is = e.kept.flag_is ∙ i.kept.flag_is;
-        items_room = omega (arith, e.kept.items_room, i.kept.items_room);
-        bounds_room = omega (arith, e.kept.bounds_room, i.kept.bounds_room);
+        items_room = more_room i.kept.items_room e.kept.items_room;
+        bounds_room = more_room i.kept.bounds_room e.kept.bounds_room;
       };
-      start = λ z. absurd (omega (arith, z));
-      level_few = omega (arith, t, few);
-      weighs = omega (arith, s.weighs, i.weighs);
+      start = λ z. absurd (not_first c.loop-self.level z);
+      level_few = next_few t few;
+      weighs = subst (λ (n : ℕ). n < 2 ^ 64) (sym s.weighs) i.weighs;
       behind = rw one s.behind;
-      below = λ h. s.below (omega (arith, h));
+      below = λ h. s.below (subst (λ (n : ℕ). length ms ≤ n) one h);
       levels = w.0;
       source = w.1;
     }
