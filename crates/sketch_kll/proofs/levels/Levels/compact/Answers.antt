@@ -61,7 +61,8 @@ compact_level-count-requires-clause-within g c =
 
 pub compact_level-count-requires-clause-sorted : goal.compact_level-count-requires-clause-sorted
 compact_level-count-requires-clause-sorted g c =
-    (ordered_in c.deref_mut.ensures.value c.deref_mut-2.ensures.value (ordered g (past.compact_level-count-requires-clause-sorted g c).After-order_level)).sorted
+    let order = ordered g (past.compact_level-count-requires-clause-sorted g c).After-order_level in
+    (ordered_in c.deref_mut.ensures.value c.deref_mut-2.ensures.value order).sorted
 
 pub compact_level-count-requires-clause-body : goal.compact_level-count-requires-clause-body
 compact_level-count-requires-clause-body g c =
@@ -110,7 +111,8 @@ few_of is few = omega arith
 pub total_at-self-inside-requires-clause-few_levels : goal.total_at-self-inside-requires-clause-few_levels
 total_at-self-inside-requires-clause-few_levels g c =
     let after = (past.total_at-self-inside-requires-clause-few_levels g c).After-truncate in
-    few_of (c.len-num_levels.ensures ∙ sym (bounds_len g after)) (left g after (ordered g (past.total_at-self-inside-requires-clause-few_levels g c).After-order_level)).few
+    let order = ordered g (past.total_at-self-inside-requires-clause-few_levels g c).After-order_level in
+    few_of (c.len-num_levels.ensures ∙ sym (bounds_len g after)) (left g after order).few
 
 pub invariant_of-self : goal.invariant_of-self
 invariant_of-self g c =

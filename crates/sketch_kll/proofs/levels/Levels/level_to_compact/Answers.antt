@@ -60,7 +60,8 @@ find_level_to_compact-requires-clause-full g c =
     let x = c.self.inside in
     let count = count_of _ (ap length c.deref-2.ensures.value ∙ length-bounds x.items.items x.bounds.items c.self.invariant.flat) in
     full_of _ (ap (total_of x.k 8) count ∙ ap (λ (y : Stored g.row.T.Denot). total_of y.k 8 (length y.levels)) c.self.view_is)
-    (ap length c.deref.ensures.value ∙ length-items x.items.items x.bounds.items c.self.invariant.flat) (ap (λ (y : Stored g.row.T.Denot). retained y.levels) c.self.view_is) c.requires.full
+    (ap length c.deref.ensures.value ∙ length-items x.items.items x.bounds.items c.self.invariant.flat)
+    (ap (λ (y : Stored g.row.T.Denot). retained y.levels) c.self.view_is) c.requires.full
 
 pub returns : goal.returns
 returns g c =

@@ -16,7 +16,8 @@ reserve_merged-requires g c =
 room_of : {items count now own low room : ℕ} → items + count ≤ room → now ≡ own → items ≡ own → count ≡ low → now + low ≤ room
 room_of room now items low = omega arith
 
-merged_of : (low upper : ℕ) {items count now own all room : ℕ} → items + count ≤ room → now ≡ own → items ≡ own → count ≡ all → low + upper ≡ all → now + low + upper ≤ room
+merged_of : (low upper : ℕ) {items count now own all room : ℕ} → items + count ≤ room → now ≡ own → items ≡ own → count ≡ all → low + upper ≡ all →
+    now + low + upper ≤ room
 merged_of low upper room now items count both = omega arith
 
 pub returns-clause-ready : goal.returns-clause-ready

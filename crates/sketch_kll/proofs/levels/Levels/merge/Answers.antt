@@ -26,7 +26,8 @@ pub merge_higher_levels-old-requires-clause-upper : goal.merge_higher_levels-old
 merge_higher_levels-old-requires-clause-upper g c = (cloned g (past.merge_higher_levels-old-requires-clause-upper g c).After-as_slice-other_bounds).flat
 
 pub merge_higher_levels-old-requires-clause-upper_sorted : goal.merge_higher_levels-old-requires-clause-upper_sorted
-merge_higher_levels-old-requires-clause-upper_sorted g c = (cloned g (past.merge_higher_levels-old-requires-clause-upper_sorted g c).After-as_slice-other_bounds).sorted
+merge_higher_levels-old-requires-clause-upper_sorted g c =
+    (cloned g (past.merge_higher_levels-old-requires-clause-upper_sorted g c).After-as_slice-other_bounds).sorted
 
 pub merge_higher_levels-old-requires-clause-some : goal.merge_higher_levels-old-requires-clause-some
 merge_higher_levels-old-requires-clause-some g c = (cloned g (past.merge_higher_levels-old-requires-clause-some g c).After-as_slice-other_bounds).some
@@ -49,7 +50,8 @@ merge_higher_levels-old-requires-clause-spare g c = c.take_items.ensures.spare
 few_of : (levels : ℕ) {runs : ℕ} → levels + 2 ≡ runs → runs ≤ 62 → levels ≤ 60
 few_of levels are few = omega arith
 
-light_of : (low upper old : ℕ) {merged levels others : ℕ} → merged ≡ levels + 2 * upper → levels ≡ old + low → low + 2 * upper ≡ others → old + others < 2 ^ 64 → merged < 2 ^ 64
+light_of : (low upper old : ℕ) {merged levels others : ℕ} → merged ≡ levels + 2 * upper → levels ≡ old + low → low + 2 * upper ≡ others →
+    old + others < 2 ^ 64 → merged < 2 ^ 64
 light_of low upper old p q r light = omega arith
 
 pub compress-requires-clause-light : goal.compress-requires-clause-light
@@ -57,7 +59,8 @@ compress-requires-clause-light g c =
     let clones = cloned g (past.compress-requires-clause-light g c).After-as_slice-other_bounds in
     let taken = c.take_items.ensures.taken in
     let upper : List (List g.row.T.Denot) = levels_in c.args.parts.upper.items (drop 1 c.as_slice-other_bounds.result.now) in
-    let sizes = joined_size g.T.Ord.cmp c.take_items.new.self.levels upper c.merge_higher_levels-old.new.self.levels taken.kept.some taken.kept.few (few_of _ clones.upper_are clones.few)
+    let sizes = joined_size g.T.Ord.cmp c.take_items.new.self.levels upper c.merge_higher_levels-old.new.self.levels taken.kept.some taken.kept.few
+    (few_of _ clones.upper_are clones.few)
     c.merge_higher_levels-old.ensures.levels in
     light_of _ _ _ sizes.weighs taken.weighs clones.weighs c.requires.light
 

@@ -25,7 +25,8 @@ stored_in_the_end g c =
     let whole = whole_slice c.add_bounds.new.bounds wide.items wide.len len_is in
     joined_stored c.args.others.now c.self.invariant c.requires.upper c.requires.some c.requires.few (c.deref.ensures.value ∙ c.add_levels.ensures.items)
     (ap (λ v. v.items) c.take_away-items.ensures.taken)
-    back.flat back.levels back.sorted c.reverse.ensures.items (whole ∙ added) c.len-num_levels.result (c.len-num_levels.ensures ∙ sym (ap length whole ∙ len_is)) c.total_at-self-inside.ensures
+    back.flat back.levels back.sorted c.reverse.ensures.items (whole ∙ added) c.len-num_levels.result (c.len-num_levels.ensures ∙ sym
+    (ap length whole ∙ len_is)) c.total_at-self-inside.ensures
 
 pub merge_runs_back-requires-clause-flat : goal.merge_runs_back-requires-clause-flat
 merge_runs_back-requires-clause-flat g c =

@@ -39,10 +39,12 @@ held g c = retained-put (put g c) c.loop-taken.self.levels ∙ ap (λ (n : ℕ).
 count : (g : _) (c : After-len g) → length (put_all (put g c) c.loop-taken.self.levels) ≡ length c.loop-taken.self.levels
 count g c = length-put (put g c) c.loop-taken.self.levels c.loop-taken.invariant.some
 
-light_of : (now before d r : ℕ) {w put taken all : ℕ} → w ≡ before + d → w ≡ now + put → put ≡ taken → all ≡ d + r → before + all < 2 ^ 64 → now + taken < 2 ^ 64
+light_of : (now before d r : ℕ) {w put taken all : ℕ} → w ≡ before + d → w ≡ now + put → put ≡ taken → all ≡ d + r → before + all < 2 ^ 64 →
+    now + taken < 2 ^ 64
 light_of now before d r e f g h light = omega arith
 
-room_of : (now before : ℕ) {h taken len cap most all v room later : ℕ} → h ≡ now + taken → h ≤ cap → cap ≤ most → taken ≤ len → now + len ≤ before + all → v ≡ all →
+room_of : (now before : ℕ) {h taken len cap most all v room later : ℕ} → h ≡ now + taken → h ≤ cap → cap ≤ most → taken ≤ len → now + len ≤ before + all →
+    v ≡ all →
     min (before + v) most ≤ room → room ≤ later → now + taken ≤ later
 room_of now before held within few part len v room later = omega arith
 
@@ -66,13 +68,15 @@ make_space-requires-clause-light g c =
     let before = (past.make_space-requires-clause-light g c).After-len in
     let i = c.loop-taken.invariant in
     let t = i.taking in
-    light_of _ _ _ _ t.taking.taken.weighs (weight-put (put g before) c.loop-taken.self.levels) (length-last c.loop-taken.items.items c.loop-taken.taken i.within)
+    light_of _ _ _ _ t.taking.taken.weighs (weight-put (put g before) c.loop-taken.self.levels) (length-last c.loop-taken.items.items c.loop-taken.taken
+    i.within)
     (sym (ap length t.split) ∙ length-append t.done _) c.requires.light
 
 pub make_space-requires-clause-flag : goal.make_space-requires-clause-flag
 make_space-requires-clause-flag g c =
     let i = c.loop-taken.invariant in
-    flag_alone g.T.Ord.cmp c.loop-taken.self.is_sorted c.loop-taken.taken c.loop-taken.items.items c.loop-taken.self.levels i.some i.taking.taking.taken.kept.flag_holds
+    flag_alone g.T.Ord.cmp c.loop-taken.self.is_sorted c.loop-taken.taken c.loop-taken.items.items c.loop-taken.self.levels i.some
+    i.taking.taking.taken.kept.flag_holds
 
 pub make_space-requires-clause-room : goal.make_space-requires-clause-room
 make_space-requires-clause-room g c =

@@ -37,35 +37,41 @@ loop-level-init g c =
 
 pub merge_from_back-requires-clause-left : goal.merge_from_back-requires-clause-left
 merge_from_back-requires-clause-left g c =
-    let r = next_runs c.loop-level.level c.args.other_bounds.now c.requires.flat c.requires.upper c.requires.sorted c.requires.upper_sorted c.loop-level.invariant.within
+    let r = next_runs c.loop-level.level c.args.other_bounds.now c.requires.flat c.requires.upper c.requires.sorted c.requires.upper_sorted
+    c.loop-level.invariant.within
     c.loop-level.invariant.joining in
     r.left_at.within
 
 pub merge_from_back-requires-clause-right : goal.merge_from_back-requires-clause-right
 merge_from_back-requires-clause-right g c =
-    let r = next_runs c.loop-level.level c.args.other_bounds.now c.requires.flat c.requires.upper c.requires.sorted c.requires.upper_sorted c.loop-level.invariant.within
+    let r = next_runs c.loop-level.level c.args.other_bounds.now c.requires.flat c.requires.upper c.requires.sorted c.requires.upper_sorted
+    c.loop-level.invariant.within
     c.loop-level.invariant.joining in
     r.right_at.within
 
 pub merge_from_back-requires-clause-left_sorted : goal.merge_from_back-requires-clause-left_sorted
 merge_from_back-requires-clause-left_sorted g c =
-    let r = next_runs c.loop-level.level c.args.other_bounds.now c.requires.flat c.requires.upper c.requires.sorted c.requires.upper_sorted c.loop-level.invariant.within
+    let r = next_runs c.loop-level.level c.args.other_bounds.now c.requires.flat c.requires.upper c.requires.sorted c.requires.upper_sorted
+    c.loop-level.invariant.within
     c.loop-level.invariant.joining in
     r.left_sorted
 
 pub merge_from_back-requires-clause-right_sorted : goal.merge_from_back-requires-clause-right_sorted
 merge_from_back-requires-clause-right_sorted g c =
-    let r = next_runs c.loop-level.level c.args.other_bounds.now c.requires.flat c.requires.upper c.requires.sorted c.requires.upper_sorted c.loop-level.invariant.within
+    let r = next_runs c.loop-level.level c.args.other_bounds.now c.requires.flat c.requires.upper c.requires.sorted c.requires.upper_sorted
+    c.loop-level.invariant.within
     c.loop-level.invariant.joining in
     r.right_sorted
 
-room_of : (to left right keep right_keep own upper : ℕ) {vto vleft vright vown vupper room room1 : ℕ} → to + left + right ≡ own + upper → vto ≡ to → vleft ≡ left → vright ≡ right →
+room_of : (to left right keep right_keep own upper : ℕ) {vto vleft vright vown vupper room room1 : ℕ} → to + left + right ≡ own + upper → vto ≡ to →
+    vleft ≡ left → vright ≡ right →
     vown ≡ own → vupper ≡ upper → vown + vupper ≤ room → room1 ≡ room → vto + (vleft - keep) + (vright - right_keep) ≤ room1
 room_of to left right keep right_keep own upper count v w x y z room same = omega arith
 
 pub merge_from_back-requires-clause-room : goal.merge_from_back-requires-clause-room
 merge_from_back-requires-clause-room g c =
-    room_of _ _ _ _ _ _ _ c.loop-level.invariant.count c.loop-level.merged.ok.0 c.loop-level.items.ok.0 c.loop-level.upper.ok.0 c.args.items.now.ok.0 c.args.upper.now.ok.0 c.requires.room
+    room_of _ _ _ _ _ _ _ c.loop-level.invariant.count c.loop-level.merged.ok.0 c.loop-level.items.ok.0 c.loop-level.upper.ok.0 c.args.items.now.ok.0
+    c.args.upper.now.ok.0 c.requires.room
     c.loop-level.invariant.capacity
 
 lower_of : (ls : ℕ) {level runs bounds : ℕ} → level < runs - 1 → bounds ≡ ls + 1 → runs ≤ bounds → 1 ≤ level → suc (level - 1) < ls
@@ -75,13 +81,24 @@ upper_of : (us runs : ℕ) {level uppers : ℕ} → level < runs - 1 → uppers 
 upper_of us runs lt n m some = omega arith
 
 -- what is moved back is in both no more and no less
-moved_count : {A : Type 0} (keep : ℕ) (from to : List A) {from' to' : List A} → from' ≡ take keep from → to' ≡ to ++ reverse (drop keep from) → keep ≤ length from →
+moved_count : {A : Type 0} (keep : ℕ) (from to : List A) {from' to' : List A} → from' ≡ take keep from → to' ≡ to ++ reverse (drop keep from) →
+    keep ≤ length from →
     length to' + length from' ≡ length to + length from
 moved_count keep from to e f within =
-    omega (arith, ap length e, length-take-le keep from within, ap length f, length-append to (reverse (drop keep from)), length-reverse (drop keep from), length-drop keep from)
+    omega (
+      arith,
+      ap length e,
+      length-take-le keep from within,
+      ap length f,
+      length-append to (reverse (drop keep from)),
+      length-reverse (drop keep from),
+      length-drop keep from,
+    )
 
-count_of : (to left right keep to1 left1 to2 left2 : ℕ) {all vto vleft vright vto1 vleft1 right1 : ℕ} → to + left + right ≡ all → vleft1 + vto1 ≡ vleft + vto + (vright - keep) →
-    vleft ≡ left → vto ≡ to → vright ≡ right → vleft1 ≡ left1 → vto1 ≡ to1 → right1 ≡ keep → keep ≤ right → to2 + left2 ≡ to1 + left1 → to2 + left2 + right1 ≡ all
+count_of : (to left right keep to1 left1 to2 left2 : ℕ) {all vto vleft vright vto1 vleft1 right1 : ℕ} → to + left + right ≡ all →
+    vleft1 + vto1 ≡ vleft + vto + (vright - keep) →
+    vleft ≡ left → vto ≡ to → vright ≡ right → vleft1 ≡ left1 → vto1 ≡ to1 → right1 ≡ keep → keep ≤ right → to2 + left2 ≡ to1 + left1 →
+    to2 + left2 + right1 ≡ all
 count_of to left right keep to1 left1 to2 left2 count whole v w x y z kept within moved = omega arith
 
 within_of : (level : ℕ) → 1 ≤ level + 1
@@ -110,10 +127,13 @@ loop-level-preserved g c =
     record {
       within = within_of c.loop-level.level;
       count = count_of _ _ _ _ _ _ _ _ i.count e.whole c.loop-level.items.ok.0 c.loop-level.merged.ok.0 c.loop-level.upper.ok.0 c.merge_from_back.new.left.ok.0
-          c.merge_from_back.new.to.ok.0 (ap length e.right ∙ length-take-le kr c.loop-level.upper.items r.right_at.within) r.right_at.within (moved_count kl left to f.from f.to e.left_within);
+          c.merge_from_back.new.to.ok.0 (ap length e.right ∙ length-take-le kr c.loop-level.upper.items r.right_at.within) r.right_at.within
+          (moved_count kl left to f.from f.to e.left_within);
       capacity = f.to_capacity ∙ (e.to_capacity ∙ i.capacity);
-      joining = subst (λ (j : ℕ). AreJoining g.T.Ord.cmp j ls us moved.from.items c.merge_from_back.new.right.items moved.to.items) (one_of c.loop-level.level i.within)
-          (joining_more g.met.T.Ord.total (lower_of _ c.loop-level-test.true n c.requires.fewer i.within) (upper_of _ _ c.loop-level-test.true m d i.within) (f.from ∙ (e.left ∙ r.left_at.rest)) (e.right ∙ r.right_at.rest)
+      joining = subst (λ (j : ℕ). AreJoining g.T.Ord.cmp j ls us moved.from.items c.merge_from_back.new.right.items moved.to.items)
+          (one_of c.loop-level.level i.within)
+          (joining_more g.met.T.Ord.total (lower_of _ c.loop-level-test.true n c.requires.fewer i.within) (upper_of _ _ c.loop-level-test.true m d i.within)
+          (f.from ∙ (e.left ∙ r.left_at.rest)) (e.right ∙ r.right_at.rest)
           (moved_run c.loop-level.merged.items to moved.to.items rest e.to f.to) r.left_at.run r.right_at.run e.moved e.sorted i.joining);
     }
 

@@ -9,12 +9,15 @@ use Rattle.sketch_kll.proofs.sketch.KllSketch.sketch_of_item.Goals.{After-total_
 
 -- the fields as they are made
 made : (g : _) (c : After-total_capacity g) →
-    let t = sketch_of c.args.k c.args.k 1 c.args.is_sorted (levels_in c.push.new.self.items c.in_ok-bounds.bounds.items) (Some c.in_ok-least.least) (Some c.in_ok-greatest.greatest) in
+    let t = sketch_of c.args.k c.args.k 1 c.args.is_sorted (levels_in c.push.new.self.items c.in_ok-bounds.bounds.items) (Some c.in_ok-least.least)
+    (Some c.in_ok-greatest.greatest) in
     AreStored g.T.Ord.cmp c.args.k c.push.new.self.items c.in_ok-bounds.bounds.items c.total_capacity.result
     × IsSound g.T.Ord.cmp t × IsItemSketch g.T.Ord.cmp c.args.k c.args.is_sorted c.args.item t
 made g c =
-    item_holds g.met.T.Ord.total c.args.k c.args.is_sorted c.push.new.self.items c.in_ok-bounds.bounds.items c.total_capacity.result c.args.item c.in_ok-least.least c.in_ok-greatest.greatest
-    c.requires.k c.ranges.k.fits (c.in_ok-push.ensures.items ∙ ap (λ xs. xs ++ (c.args.item ∷ [])) c.new-items.ensures.items) c.in_ok-bounds.ensures.items c.total_capacity.ensures.value
+    item_holds g.met.T.Ord.total c.args.k c.args.is_sorted c.push.new.self.items c.in_ok-bounds.bounds.items c.total_capacity.result c.args.item
+    c.in_ok-least.least c.in_ok-greatest.greatest
+    c.requires.k c.ranges.k.fits (c.in_ok-push.ensures.items ∙ ap (λ xs. xs ++ (c.args.item ∷ [])) c.new-items.ensures.items) c.in_ok-bounds.ensures.items
+    c.total_capacity.ensures.value
     (c.requires.clones _ _ c.in_ok-least.ensures.cases) (c.requires.clones _ _ c.in_ok-greatest.ensures.cases)
 
 pub invariant_of-levels : goal.invariant_of-levels

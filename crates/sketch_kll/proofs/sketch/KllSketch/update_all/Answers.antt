@@ -41,8 +41,9 @@ returns g c =
     let ready = c.prepare_all.ensures.kept in
     let some = some_of _ c.is_empty.ensures c.if-is_empty.false in
     let fields = updates_seen g.met.T.Ord.total c.self.view_is (updates_fields g.met.T.Ord.total g.B.RandomBits.bit g.B.RandomBits.next c.self.invariant some
-        c.in_ok-clones.ensures.clones ready.k_is ready.flag_is ready.levels_are c.take_all.ensures.k c.take_all.ensures.taken c.in_ok-clones.ensures.least c.set_if_some.ensures
-        c.in_ok-clones.ensures.greatest c.set_if_some-2.ensures) in
+    c.in_ok-clones.ensures.clones ready.k_is ready.flag_is ready.levels_are c.take_all.ensures.k c.take_all.ensures.taken c.in_ok-clones.ensures.least
+    c.set_if_some.ensures
+    c.in_ok-clones.ensures.greatest c.set_if_some-2.ensures) in
     record {
       empty = λ e. absurd (none_not some e);
       ok = fields.updated_are;

@@ -19,8 +19,10 @@ returns g c =
     let kept = c.reserve_next.ensures.kept in
     let room = c.compact_if_full.ensures in
     let last = c.give_back_much.ensures.kept in
-    let fields = updated_seen g.met.T.Ord.total c.self.view_is (updated_fields g.met.T.Ord.total g.B.RandomBits.bit g.B.RandomBits.next c.args.item _ c.self.invariant small kept.k_is kept.flag_is kept.levels_are room.levels room.sorted
-    (last.k_is ∙ (c.push.ensures.k ∙ room.kept.k_is)) (last.flag_is ∙ c.push.ensures.flag) room.coins (last.levels_are ∙ c.push.ensures.levels) c.in_ok-least.ensures.least c.set_if_some.ensures c.in_ok-least.ensures.greatest c.set_if_some-2.ensures) in
+    let fields = updated_seen g.met.T.Ord.total c.self.view_is (updated_fields g.met.T.Ord.total g.B.RandomBits.bit g.B.RandomBits.next c.args.item _
+    c.self.invariant small kept.k_is kept.flag_is kept.levels_are room.levels room.sorted
+    (last.k_is ∙ (c.push.ensures.k ∙ room.kept.k_is)) (last.flag_is ∙ c.push.ensures.flag) room.coins (last.levels_are ∙ c.push.ensures.levels)
+    c.in_ok-least.ensures.least c.set_if_some.ensures c.in_ok-least.ensures.greatest c.set_if_some-2.ensures) in
     record {
       ok = fields.updated_is;
       coins = fields.source_is;
