@@ -1,4 +1,4 @@
-use Rattle.std.proofs.Common.{◌≡◌, ◌+◌, ◌-◌, ◌≤◌, ◌++◌, ℕ, List, take, drop, length, vec_len, refl, sym, ap, ◌∙◌, arith}
+use Rattle.std.proofs.Common.{◌≡◌, ◌+◌, ◌-◌, ◌^◌, ◌<◌, ◌≤◌, ◌++◌, ℕ, List, take, drop, length, vec_len, refl, sym, ap, ◌∙◌, arith}
 use Rattle.std.proofs.lemmas.Grind.{common_steps}
 use Rattle.sketch_kll.specs.Flat.{levels_in}
 use Rattle.sketch_kll.specs.Join.{joined_bounds}
@@ -67,6 +67,9 @@ merge_runs_back-requires-clause-room g c =
     room_of _ (ap (λ v. vec_len v) c.take_away-items.ensures.taken) x.items.ok.0
     (length-items x.items.items x.bounds.items c.self.invariant.flat ∙ ap (λ (y : Stored g.row.T.Denot). retained y.levels) c.self.view_is) c.requires.room
 
+fits_of : {both items upper held len room : ℕ} → both ≤ items + upper → items ≡ held → len ≡ upper → held + len ≤ room → room < 2 ^ 63 → both < 2 ^ 64
+fits_of both held len room small = omega arith
+
 pub add_bounds-requires : goal.add_bounds-requires
 add_bounds-requires g c =
     let x = c.self.inside in
@@ -76,8 +79,8 @@ add_bounds-requires g c =
     record {
       some = c.requires.some;
       fewer = wide.fewer;
-      zero = omega (arith, within.0, c.requires.room, held, c.args.upper.ok, c.args.merged.ok, c.args.merged.small);
-      fits = λ j above. omega (arith, within.1 j above, c.requires.room, held, c.args.upper.ok, c.args.merged.ok, c.args.merged.small);
+      zero = fits_of within.0 held c.args.upper.ok.0 c.requires.room c.args.merged.small;
+      fits = λ j above. fits_of (within.1 j above) held c.args.upper.ok.0 c.requires.room c.args.merged.small;
     }
 
 few_of : {len n : ℕ} → len ≡ n → n ≤ 62 → len - 1 ≤ 61
