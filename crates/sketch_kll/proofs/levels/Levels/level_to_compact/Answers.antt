@@ -9,7 +9,7 @@ use Rattle.sketch_kll.proofs.Flats.{length-bounds, length-items}
 use Rattle.sketch_kll.proofs.NoMoreLevels.{lowest_full_low, retained-weight}
 use Rattle.sketch_kll.proofs.levels.Levels.level_to_compact.Goals as goal
 use Rattle.sketch_kll.proofs.levels.Levels.level_to_compact.Goals.at as past
-use Rattle.sketch_kll.proofs.levels.Levels.level_to_compact.Goals.{After-deref-2, After-find_level_to_compact}
+use Rattle.sketch_kll.proofs.levels.Levels.level_to_compact.Goals.{After-deref-2}
 
 -- what is said about the levels in the slices is said about the levels of the view
 seen : (g : _) (c : After-deref-2 g) {X : Type 0} (f : ℕ → List (List g.row.T.Denot) → X) →
