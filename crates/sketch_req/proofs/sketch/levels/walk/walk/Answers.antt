@@ -1,9 +1,9 @@
 -- The loop keeps what is pending after the turns so far.
-use Rattle.std.proofs.Common.{◌≡◌, ℕ, ◌+◌, ◌-◌, ◌<◌, ◌==◌, Bool, true, if◌then◌else◌, eq-eqb, length-append, List, [], ◌∷◌, ◌++◌, get_or, length, length-set, set, refl, sym, ap, ap₂, ◌∙◌, subst, arith, vec_capacity, IsSorted}
+use Rattle.std.proofs.Common.{◌≡◌, ◌≢◌, ℕ, ◌+◌, ◌-◌, ◌<◌, ◌≤◌, ◌==◌, Bool, true, if◌then◌else◌, eq-eqb, length-append, List, [], ◌∷◌, ◌++◌, get_or, length, length-set, set, refl, sym, ap, ap₂, ◌∙◌, subst, arith, lt_of_le_of_lt, vec_capacity, IsSorted}
 use Rattle.std.proofs.lemmas.List.{nil_from_length}
 use Rattle.sketch_base.proofs.Sorting.{short_sorted}
 use Rattle.sketch_base.specs.Buffers.{Space, merged_spaces}
-use Rattle.sketch_req.specs.Level.{Level, fresh}
+use Rattle.sketch_req.specs.Level.{Level, IsTurned, fresh}
 use Rattle.sketch_req.specs.Schedule.{layouts_of, steps_actions, steps_layouts}
 use Rattle.sketch_req.specs.Sections.{IsLegalK}
 use Rattle.sketch_req.specs.Walk.{AreWalked, accuracy_of, k_of}
@@ -30,23 +30,6 @@ loop-level-init g c = record {
   room = omega arith;
   above = c.requires.above;
 }
-
-pub index_mut-requires-in-loop-level : goal.index_mut-requires-in-loop-level
-index_mut-requires-in-loop-level g c =
-    let levels = c.args.levels.now in
-    omega (
-      arith,
-      c.loop-level-test.true,
-      c.loop-level.rooms.ok,
-      c.loop-level.invariant.as_many,
-      c.requires.fit.enough,
-      length-layouts levels.items,
-      c.len-count.ensures,
-      levels.ok,
-    )
-
-pub index_mut-requires : goal.index_mut-requires
-index_mut-requires g c = omega (arith, c.loop-level-test.true, c.loop-level.invariant.len)
 
 -- a turn
 module _ (g : _) (c : After-index_mut-in-loop-level g) where
@@ -78,44 +61,57 @@ module _ (g : _) (c : After-index_mut-in-loop-level g) where
       let placed = (opened _ _ _ _ _ c.loop-level.invariant.pending.placed within c.index_mut.ensures.value).placed in
       (placed.k_is, placed.accuracy_is)
 
-pub turn-requires : goal.turn-requires
-turn-requires g c =
-    let i = c.loop-level.invariant in
-    let at = (past.turn-requires g c).After-index_mut-in-loop-level in
-    let r = ready g at in
-    record {
-      sorted = i.sorted;
-      few = omega (arith, r.few, c.requires.few_items);
-      space = rw ((own-told g at).0, (own-told g at).1) (omega (arith, r.own (inside g at), own-there_is g at, ap (λ (b : Space g.row.T.Denot). b.merged_space) c.behind-rooms.view_is));
-      empty = c.behind-rooms.invariant;
-      nothing = i.empty;
-      above = λ _. omega (arith, ready-held g.met.T.Ord.total _ _ _ _ _ _ _ _ _ _ _ _ _ r (c.requires.fit.promoted c.loop-level.level (inside g at)), i.above);
-    }
+pub turn-requires-clause-sorted : goal.turn-requires-clause-sorted
+turn-requires-clause-sorted g c = c.loop-level.invariant.sorted
+
+pub turn-requires-clause-few : goal.turn-requires-clause-few
+turn-requires-clause-few g c =
+    omega (arith, (ready g (past.turn-requires-clause-few g c).After-index_mut-in-loop-level).few, c.requires.few_items)
+
+pub turn-requires-clause-space : goal.turn-requires-clause-space
+turn-requires-clause-space g c =
+    let at = (past.turn-requires-clause-space g c).After-index_mut-in-loop-level in
+    rw ((own-told g at).0, (own-told g at).1)
+    (omega (arith, (ready g at).own (inside g at), own-there_is g at, ap (λ (b : Space g.row.T.Denot). b.merged_space) c.behind-rooms.view_is))
+
+pub turn-requires-clause-empty : goal.turn-requires-clause-empty
+turn-requires-clause-empty g c = c.behind-rooms.invariant
+
+pub turn-requires-clause-nothing : goal.turn-requires-clause-nothing
+turn-requires-clause-nothing g c = c.loop-level.invariant.empty
+
+pub turn-requires-clause-above : goal.turn-requires-clause-above
+turn-requires-clause-above g c =
+    let at = (past.turn-requires-clause-above g c).After-index_mut-in-loop-level in
+    let held = ready-held g.met.T.Ord.total _ _ _ _ _ _ _ _ _ _ _ _ _ (ready g at) (c.requires.fit.promoted c.loop-level.level (inside g at)) in
+    λ _. omega (arith, held, c.loop-level.invariant.above)
+
+-- a number above another one
+above : (n j : ℕ) → n + 1 ≤ j → (j ≢ n) × (n ≤ j)
+above n j low = (λ e. absurd (omega (arith, e, low)), omega arith)
 
 pub loop-level-preserved : goal.loop-level-preserved
 loop-level-preserved g c =
-    let i = c.loop-level.invariant in
     let at = (past.loop-level-preserved g c).After-index_mut-in-loop-level in
     let legal = (own-levels g.T.Ord.cmp _ _ _ c.requires.levels.some c.requires.levels.placed).legal in
     let x = ap (λ v. v.items) c.swap.ensures.x_after in
-    let next = next-pending g.met.T.Ord.total _ _ _ _ _ _ _ _ _ _ _ _ _ _ _ _ c.requires.few_items i.pending (within g at) c.index_mut.ensures.value c.requires.fits legal
-    (c.requires.fit.promoted c.loop-level.level (inside g at)) (c.requires.fit.own c.loop-level.level) c.turn.ensures.turned c.turn.ensures.sound c.turn.ensures.coins in
+    let turned =
+    subst (λ (up : List g.row.T.Denot). IsTurned g.T.Ord.cmp c.index_mut.result.now c.loop-level.coming.items (g.B.RandomBits.bit c.loop-level.coins) up c.turn.new.self)
+    (sym x) c.turn.ensures.turned in
+    let i = c.loop-level.invariant in
     let buffers = c.loop-level.rooms.items in
     record {
-      pending = rw x next;
+      pending = next-pending g.met.T.Ord.total _ _ _ _ _ _ _ _ _ _ _ _ _ _ _ _ c.requires.few_items i.pending (within g at) c.index_mut.ensures.value c.requires.fits legal
+          (c.requires.fit.promoted c.loop-level.level (inside g at)) (c.requires.fit.own c.loop-level.level) turned c.turn.ensures.sound c.turn.ensures.coins;
       len = i.len;
       spare = i.spare;
       as_many = simp length-set i.as_many;
-      merged = λ j low. read-other (λ (b : Space g.row.T.Denot). b.merged_space) 0 buffers c.loop-level.level _ j (omega (arith, low)) ∙ i.merged j (omega (arith, low));
-      sorted = rw x c.turn.ensures.sorted;
+      merged = λ j low. read-other (λ (b : Space g.row.T.Denot). b.merged_space) 0 buffers c.loop-level.level _ j (above _ j low).0 ∙ i.merged j (above _ j low).1;
+      sorted = subst (IsSorted g.T.Ord.cmp) (sym x) c.turn.ensures.sorted;
       empty = ap (λ v. v.items) c.swap.ensures.y_after ∙ c.turn.ensures.coming;
-      room = omega (arith, i.above, c.turn.ensures.up_capacity, ap (λ v. vec_capacity v) c.swap.ensures.x_after);
-      above = omega (arith, i.room, c.turn.ensures.coming_capacity, ap (λ v. vec_capacity v) c.swap.ensures.y_after);
+      room = rw (ap (λ v. vec_capacity v) c.swap.ensures.x_after ∙ c.turn.ensures.up_capacity) i.above;
+      above = rw (ap (λ v. vec_capacity v) c.swap.ensures.y_after ∙ c.turn.ensures.coming_capacity) i.room;
     }
-
-pub index-requires : goal.index-requires
-index-requires g c =
-    omega (arith, c.loop-level.invariant.len, c.len-count.ensures, c.requires.levels.some, c.args.levels.now.ok)
 
 -- the highest level gave up items
 module _ (g : _) (c : After-parameters-k g) where
@@ -136,15 +132,27 @@ module _ (g : _) (c : After-parameters-k g) where
       own-there g.T.Ord.cmp _ _ _ _ _ _ c.loop-level.invariant.pending.placed
       (omega (arith, c.loop-level.invariant.len, c.len-count.ensures, c.requires.levels.some, c.args.levels.now.ok, c.loop-level.levels.ok)) c.index.ensures c.parameters-k.ensures
 
-pub add_level-requires : goal.add_level-requires
-add_level-requires g c =
-    let at = past.add_level-requires g c in
-    let before = at.After-parameters-k in
-    record {
-      legal = subst IsLegalK (sym (ap (λ (p : ℕ × RankAccuracy). p.0) (own g before))) (own-levels g.T.Ord.cmp _ _ _ c.requires.levels.some c.requires.levels.placed).legal;
-      few = omega (arith, ends g before, c.loop-level.invariant.pending.low (some g before), pending-above g.met.T.Ord.total _ _ _ _ _ _ _ _ _ _ _ _ c.loop-level.invariant.pending (some g before));
-      spare = λ _. omega (arith, c.loop-level.invariant.spare, c.loop-level.invariant.len);
-    }
+pub add_level-requires-clause-legal : goal.add_level-requires-clause-legal
+add_level-requires-clause-legal g c =
+    let before = (past.add_level-requires-clause-legal g c).After-parameters-k in
+    subst IsLegalK (sym (ap (λ (p : ℕ × RankAccuracy). p.0) (own g before)))
+    (own-levels g.T.Ord.cmp _ _ _ c.requires.levels.some c.requires.levels.placed).legal
+
+pub add_level-requires-clause-few : goal.add_level-requires-clause-few
+add_level-requires-clause-few g c =
+    let before = (past.add_level-requires-clause-few g c).After-parameters-k in
+    let above = pending-above g.met.T.Ord.total _ _ _ _ _ _ _ _ _ _ _ _ c.loop-level.invariant.pending (some g before) in
+    omega (arith, ends g before, c.loop-level.invariant.pending.low (some g before), above)
+
+pub add_level-requires-clause-spare : goal.add_level-requires-clause-spare
+add_level-requires-clause-spare g c = λ _. omega (arith, c.loop-level.invariant.spare, c.loop-level.invariant.len)
+
+-- the level that was added is empty
+none : (g : _) (c : After-add_level g) (upper : Level g.row.T.Denot) → upper ≡ get_or c.add_level.new.levels.items c.len-count.result upper → length upper.items ≡ 0
+none g c upper e =
+    let same : c.len-count.result ≡ length c.loop-level.levels.items = omega (arith, c.loop-level.invariant.len, c.loop-level.levels.ok) in
+    let added = is-added _ _ _ _ (omega (arith, same)) c.add_level.ensures.items in
+    ap (λ (l : Level g.row.T.Denot). length l.items) (e ∙ added.new upper (sym same))
 
 -- with the level that was added
 module _ (g : _) (c : After-add_level g) (own : c.parameters-k.result ≡ (k_of c.args.levels.now.items, accuracy_of c.args.levels.now.items)) (ends : c.len-count.result ≡ (c.loop-level.level - 1) + 1) where
@@ -168,28 +176,28 @@ index_mut-requires-then-not-is_empty g c =
     let before = at.After-parameters-k in
     omega (arith, longer g at.After-add_level (own g before) (ends g before), c.add_level.new.levels.ok)
 
-pub absorb-requires : goal.absorb-requires
-absorb-requires g c =
-    let at = past.absorb-requires g c in
+pub absorb-requires-clause-sorted : goal.absorb-requires-clause-sorted
+absorb-requires-clause-sorted g c = c.loop-level.invariant.sorted
+
+pub absorb-requires-clause-empty : goal.absorb-requires-clause-empty
+absorb-requires-clause-empty g c = c.loop-level.invariant.empty
+
+pub absorb-requires-clause-capacity : goal.absorb-requires-clause-capacity
+absorb-requires-clause-capacity g c =
+    let none = none g (past.absorb-requires-clause-capacity g c).After-add_level c.index_mut-then-not-is_empty.result.now c.index_mut-then-not-is_empty.ensures.value in
+    omega (arith, none, c.loop-level.invariant.pending.short, c.loop-level.invariant.above)
+
+pub absorb-requires-clause-few : goal.absorb-requires-clause-few
+absorb-requires-clause-few g c =
+    let at = past.absorb-requires-clause-few g c in
     let before = at.After-parameters-k in
-    let i = c.loop-level.invariant in
-    let space = λ (b : Space g.row.T.Denot). b.merged_space in
     let ends = ends g before in
     let all = added g at.After-add_level (own g before) ends in
     let upper = c.index_mut-then-not-is_empty.result.now in
-    let above = pending-above g.met.T.Ord.total _ _ _ _ _ _ _ _ _ _ _ _ i.pending (some g before) in
-    let few = i.pending.few (some g before) (c.loop-level.level - 1) above upper
+    let above = pending-above g.met.T.Ord.total _ _ _ _ _ _ _ _ _ _ _ _ c.loop-level.invariant.pending (some g before) in
+    let few = c.loop-level.invariant.pending.few (some g before) (c.loop-level.level - 1) above upper
     (c.index_mut-then-not-is_empty.ensures.value ∙ ap₂ (λ (ls : List (Level g.row.T.Denot)) (n : ℕ). get_or ls n upper) all ends) in
-    let last : Level g.row.T.Denot = fresh [] true c.len-count.result c.parameters-k.result.0 c.parameters-k.result.1 in
-    let same : c.len-count.result ≡ length c.loop-level.levels.items = omega (arith, i.len, c.loop-level.levels.ok) in
-    let new : upper ≡ last = c.index_mut-then-not-is_empty.ensures.value
-    ∙ (is-added c.len-count.result last c.loop-level.levels.items c.add_level.new.levels.items (omega (arith, same)) c.add_level.ensures.items).new upper (sym same) in
-    record {
-      sorted = i.sorted;
-      empty = i.empty;
-      capacity = omega (arith, ap (λ (l : Level g.row.T.Denot). length l.items) new, i.pending.short, i.above);
-      few = omega (arith, few, c.requires.few_items);
-    }
+    lt_of_le_of_lt few c.requires.few_items
 
 pub returns-then-not-is_empty : goal.returns-then-not-is_empty
 returns-then-not-is_empty g c =
