@@ -77,23 +77,42 @@ add_level-requires-clause-spare g c =
 pub index_mut-requires : goal.index_mut-requires
 index_mut-requires g c = omega (arith, (added g (past.index_mut-requires g c).After-add_level).len, c.add_level.new.levels.ok)
 
-pub join-requires : goal.join-requires
-join-requires g c =
-    let at = past.join-requires g c in
+pub join-requires-clause-weight : goal.join-requires-clause-weight
+join-requires-clause-weight g c =
+    let at = past.join-requires-clause-weight g c in
     let before = at.After-index_mut-in-loop-level in
     let new = added g at.After-add_level in
     let other = c.index-others-level.result in
     let is = c.index-others-level.is in
-    let ready = ready g before new other is in
-    record {
-      weight = (copied g before new other is).placed.place_is ∙ sym (placed g before new other is).place_is;
-      clones = ready.same;
-      few = omega (arith, ready.few, c.requires.few);
-      space = ready.space;
-      empty = c.loop-level.invariant.empty;
-      promoted = rw c.loop-level.invariant.coming ready.promoted;
-      spare = c.loop-level.invariant.nothing;
-    }
+    (copied g before new other is).placed.place_is ∙ sym (placed g before new other is).place_is
+
+pub join-requires-clause-clones : goal.join-requires-clause-clones
+join-requires-clause-clones g c =
+    let at = past.join-requires-clause-clones g c in
+    (ready g at.After-index_mut-in-loop-level (added g at.After-add_level) c.index-others-level.result c.index-others-level.is).same
+
+pub join-requires-clause-few : goal.join-requires-clause-few
+join-requires-clause-few g c =
+    let at = past.join-requires-clause-few g c in
+    let ready = ready g at.After-index_mut-in-loop-level (added g at.After-add_level) c.index-others-level.result c.index-others-level.is in
+    omega (arith, ready.few, c.requires.few)
+
+pub join-requires-clause-space : goal.join-requires-clause-space
+join-requires-clause-space g c =
+    let at = past.join-requires-clause-space g c in
+    (ready g at.After-index_mut-in-loop-level (added g at.After-add_level) c.index-others-level.result c.index-others-level.is).space
+
+pub join-requires-clause-empty : goal.join-requires-clause-empty
+join-requires-clause-empty g c = c.loop-level.invariant.empty
+
+pub join-requires-clause-promoted : goal.join-requires-clause-promoted
+join-requires-clause-promoted g c =
+    let at = past.join-requires-clause-promoted g c in
+    let ready = ready g at.After-index_mut-in-loop-level (added g at.After-add_level) c.index-others-level.result c.index-others-level.is in
+    rw c.loop-level.invariant.coming ready.promoted
+
+pub join-requires-clause-spare : goal.join-requires-clause-spare
+join-requires-clause-spare g c = c.loop-level.invariant.nothing
 
 pub loop-level-preserved : goal.loop-level-preserved
 loop-level-preserved g c =
