@@ -75,31 +75,49 @@ sums-num_retained-requires g c =
     let before = (past.sums-num_retained-requires g c).After-redraw_if in
     record { few = few-levels g.T.Ord.cmp _ _ _ _ (own g before).held.placed c.as_slice-2.ensures.value }
 
-pub walk-requires : goal.walk-requires
-walk-requires g c =
-    let before = (past.walk-requires g c).After-redraw_if in
+pub walk-requires-clause-levels : goal.walk-requires-clause-levels
+walk-requires-clause-levels g c = (own g (past.walk-requires-clause-levels g c).After-redraw_if).held
+
+pub walk-requires-clause-fits : goal.walk-requires-clause-fits
+walk-requires-clause-fits g c =
+    let before = (past.walk-requires-clause-fits g c).After-redraw_if in
     let levels = c.args.levels.now.items in
     let both = weight-joined (k_of levels) (layouts_of levels) (layouts_of c.args.others.now) in
+    omega (arith, ap weight_of (joined g before), both, c.requires.fits)
+
+pub walk-requires-clause-few_items : goal.walk-requires-clause-few_items
+walk-requires-clause-few_items g c =
+    let before = (past.walk-requires-clause-few_items g c).After-redraw_if in
+    let levels = c.args.levels.now.items in
     let all = retained-joined (k_of levels) (layouts_of levels) (layouts_of c.args.others.now) in
-    let n = count g before in
-    record {
-      levels = (own g before).held;
-      fits = omega (arith, ap weight_of (joined g before), both, c.requires.fits);
-      few_items = omega (arith, ap retained_of (joined g before), all, c.requires.few);
-      spare = omega (arith, n, c.join_levels.ensures.spare, c.redraw_if.ensures.room, c.redraw_if.new.levels.ok, c.join_levels.new.levels.ok);
-      empty = c.join_levels.ensures.empty;
-      nothing = c.join_levels.ensures.nothing;
-      above = omega (arith, c.in_ok-reserve.ensures.above, c.join_levels.ensures.coming, c.join_levels.ensures.up);
-      fit =
-          let k = (own g before).k_is in
-          let accuracy = (own g before).accuracy_is in
-          let reserved = rw c.as_slice.ensures.value at c.in_ok-reserve.ensures.fit in
-          let both : List Layout = joined_layouts (k_of levels) (layouts_of levels) (layouts_of c.args.others.now) in
-          let more : with_more 0 both ≡ both =
-          more-none both (omega (arith, length-joined (k_of levels) (layouts_of levels) (layouts_of c.args.others.now), length-layouts levels, c.requires.levels.some)) in
-          rw (k, accuracy) (space-kept _ _ _ _ _ (vec_capacity c.reserve.new.room.coming) (vec_capacity c.join_levels.new.room.coming)
-          c.join_levels.ensures.merged_spaces (omega (arith, c.join_levels.ensures.coming)) (rw (joined g before) (rw more at reserved)));
-    }
+    omega (arith, ap retained_of (joined g before), all, c.requires.few)
+
+pub walk-requires-clause-spare : goal.walk-requires-clause-spare
+walk-requires-clause-spare g c =
+    let n = count g (past.walk-requires-clause-spare g c).After-redraw_if in
+    omega (arith, n, c.join_levels.ensures.spare, c.redraw_if.ensures.room, c.redraw_if.new.levels.ok, c.join_levels.new.levels.ok)
+
+pub walk-requires-clause-empty : goal.walk-requires-clause-empty
+walk-requires-clause-empty g c = c.join_levels.ensures.empty
+
+pub walk-requires-clause-nothing : goal.walk-requires-clause-nothing
+walk-requires-clause-nothing g c = c.join_levels.ensures.nothing
+
+pub walk-requires-clause-above : goal.walk-requires-clause-above
+walk-requires-clause-above g c = omega (arith, c.in_ok-reserve.ensures.above, c.join_levels.ensures.coming, c.join_levels.ensures.up)
+
+pub walk-requires-clause-fit : goal.walk-requires-clause-fit
+walk-requires-clause-fit g c =
+    let before = (past.walk-requires-clause-fit g c).After-redraw_if in
+    let levels = c.args.levels.now.items in
+    let k = (own g before).k_is in
+    let accuracy = (own g before).accuracy_is in
+    let reserved = rw c.as_slice.ensures.value at c.in_ok-reserve.ensures.fit in
+    let both : List Layout = joined_layouts (k_of levels) (layouts_of levels) (layouts_of c.args.others.now) in
+    let count = length-joined (k_of levels) (layouts_of levels) (layouts_of c.args.others.now) in
+    let more : with_more 0 both ≡ both = more-none both (omega (arith, count, length-layouts levels, c.requires.levels.some)) in
+    rw (k, accuracy) (space-kept _ _ _ _ _ (vec_capacity c.reserve.new.room.coming) (vec_capacity c.join_levels.new.room.coming)
+    c.join_levels.ensures.merged_spaces (omega (arith, c.join_levels.ensures.coming)) (rw (joined g before) (rw more at reserved)))
 
 pub returns-clause-taken_in : goal.returns-clause-taken_in
 returns-clause-taken_in g c =
