@@ -1,7 +1,7 @@
 use Rattle.std.proofs.Common.{◌≡◌, ◌∷◌, [], refl, sym, ap, ap₂, subst, arith, length, List, Bool, true, false}
 use Rattle.std.proofs.lemmas.Grind.{common_steps}
 use Rattle.std.proofs.lemmas.Result.{err_from_is_err_and, IfOk-weaker}
-use Rattle.std.proofs.lemmas.Bool.{ltb-true, lt-ltb, eqb-true}
+use Rattle.std.proofs.lemmas.Bool.{false≢true, ltb-true, lt-ltb, eqb-true}
 use Rattle.sketch_req.specs.Level.{Level}
 use Rattle.sketch_req.specs.LevelImage.{Place, place_at, BeginsLevel, BeginsLevels}
 use Rattle.sketch_req.specs.Image.{first_place}
@@ -43,19 +43,25 @@ returns-in_err-unless-2-clause-refused g c =
     let n = same_numbers g.T.ReqValue.spelling xs s.levels same.0 in
     let its = ap length (alone xs c.in_ok-level.level refl).items in
     let z : false ≡ true = c.in_err-unless-2.ensures.ok.1 (lt-ltb _ _ (omega (arith, n.items, its, b.many_items, c.num_items.ensures))) in
-    absurd cc)
+    absurd (false≢true z))
 
-pub from_level-requires : goal.from_level-requires
-from_level-requires g c =
-    let level = read g (past.from_level-requires g c).In_ok-level in
-    let many = ltb-true _ _ (c.in_ok-unless-2.ensures.ok.0 refl) in
-    record {
-      legal = c.requires.head.legal_k;
-      clones = c.requires.clones;
-      placed = imaged_at _ (first_place c.args.header.now) _ c.requires.head.legal_k (omega arith) (λ above. absurd (omega (arith, above))) level.imaged;
-      some = omega (arith, c.num_items.ensures, many);
-      fresh = λ few. absurd (omega (arith, few, c.num_items.ensures, many));
-    }
+pub from_level-requires-clause-clones : goal.from_level-requires-clause-clones
+from_level-requires-clause-clones g c = c.requires.clones
+
+pub from_level-requires-clause-legal : goal.from_level-requires-clause-legal
+from_level-requires-clause-legal g c = c.requires.head.legal_k
+
+pub from_level-requires-clause-placed : goal.from_level-requires-clause-placed
+from_level-requires-clause-placed g c =
+    let level = read g (past.from_level-requires-clause-placed g c).In_ok-level in
+    imaged_at _ (first_place c.args.header.now) _ c.requires.head.legal_k (omega arith) (λ above. absurd (omega (arith, above))) level.imaged
+
+pub from_level-requires-clause-some : goal.from_level-requires-clause-some
+from_level-requires-clause-some g c = omega (arith, c.num_items.ensures, ltb-true _ _ (c.in_ok-unless-2.ensures.ok.0 refl))
+
+pub from_level-requires-clause-fresh : goal.from_level-requires-clause-fresh
+from_level-requires-clause-fresh g c =
+    λ few. absurd (omega (arith, few, c.num_items.ensures, ltb-true _ _ (c.in_ok-unless-2.ensures.ok.0 refl)))
 
 pub returns-clause-found : goal.returns-clause-found
 returns-clause-found g c =

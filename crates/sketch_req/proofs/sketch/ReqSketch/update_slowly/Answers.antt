@@ -31,10 +31,17 @@ module _ (g : Over) (c : After-set_if_some-2 g) where
       (updated_sketch g.met.T.Ord.total g.B.RandomBits.bit g.B.RandomBits.next c.args.coins.now c.take_last.new.coins old c.args.item _ _ _
       c.self.invariant known.0 known.1 c.in_ok-take_last.ensures.acted least greatest)
 
-pub take_last-requires : goal.take_last-requires
-take_last-requires g c =
+pub take_last-requires-clause-clones : goal.take_last-requires-clause-clones
+take_last-requires-clause-clones g c = c.requires.clones
+
+pub take_last-requires-clause-fits : goal.take_last-requires-clause-fits
+take_last-requires-clause-fits g c =
     let known = not-full _ _ _ c.self.view_is c.self.invariant c.is_full.ensures (not-true _ (c.in_ok-unless.ensures.ok.0 refl)) in
-    record { clones = c.requires.clones; fits = omega (arith, known.0, c.self.invariant.weighs_n); few = known.1 }
+    omega (arith, known.0, c.self.invariant.weighs_n)
+
+pub take_last-requires-clause-few : goal.take_last-requires-clause-few
+take_last-requires-clause-few g c =
+    (not-full _ _ _ c.self.view_is c.self.invariant c.is_full.ensures (not-true _ (c.in_ok-unless.ensures.ok.0 refl))).1
 
 pub invariant_of-self-2 : goal.invariant_of-self-2
 invariant_of-self-2 g c = (updated g (past.invariant_of-self-2 g c).After-set_if_some-2).0
