@@ -1,5 +1,5 @@
 -- The loop keeps what is known of the next level's turn, and that there are clones, and room for the turns so far.
-use Rattle.std.proofs.Common.{nat_cmp, true, inl, inr, ◌≡◌, ℕ, suc, ◌+◌, ◌/◌, ◌<◌, ◌≤◌, Bool, if◌then◌else◌, List, [], length, length-set, refl, sym, ap, ◌∙◌, subst, arith}
+use Rattle.std.proofs.Common.{nat_cmp, true, inl, inr, ◌≡◌, ℕ, suc, ◌+◌, ◌/◌, ◌<◌, ◌≤◌, Bool, if◌then◌else◌, List, [], length, length-set, refl, sym, ap, ◌∙◌, subst, arith, le_trans}
 use Rattle.std.specs.Ordering.{ord_max}
 use Rattle.std.proofs.lemmas.Bool.{cases_lt}
 use Rattle.std.proofs.lemmas.Grind.{common_steps}
@@ -14,7 +14,7 @@ use Rattle.sketch_req.specs.contracts.RankAccuracy.{the_type}
 use Rattle.sketch_req.specs.declared.RankAccuracy.{RankAccuracy}
 use Rattle.sketch_req.specs.declared.RankAccuracy.TheVariants.{HighRank, LowRank}
 use Rattle.sketch_req.proofs.Buffers.{own-more, read-there}
-use Rattle.sketch_req.proofs.ClonedBuffers.{cloned-more}
+use Rattle.sketch_req.proofs.ClonedBuffers.{cloned-grown, cloned-more}
 use Rattle.sketch_req.proofs.Layouts.{length-layouts, retained-with}
 use Rattle.sketch_req.proofs.MergedLevels.{joined-count}
 use Rattle.sketch_req.proofs.ReservedWalks.{given-within, own-reserved, planned-start, planned-more, planned-carried, planned-space, length-more}
@@ -161,6 +161,15 @@ loop-level-preserved g c =
           (own-reserved k c.loop-level.came count c.if-is_high.going own.merged_space accuracy (layout_at both at) (omega (arith, held)) goes c.in_ok-reserve.ensures.space));
     }
 
+pub returns-clause-cloned : goal.returns-clause-cloned
+returns-clause-cloned g c =
+    let all : length c.args.others.now ≤ c.max-count.result = omega (arith, c.max-count.ensures) in
+    record {
+      enough = le_trans all c.loop-level.invariant.enough;
+      cloned = λ h l. cloned-grown g.T.Ord.cmp _ _ _ _ _ _ (omega (arith, c.in_ok-reserve_exact.ensures.ok))
+          (c.loop-level.invariant.cloned h (omega (arith, l, all, c.loop-level-test.false)) l);
+    }
+
 pub returns-clause-fit : goal.returns-clause-fit
 returns-clause-fit g c =
     let k = k_of c.args.levels.now in
@@ -176,7 +185,7 @@ returns-clause-fit g c =
     }
 
 pub overflow_add-here : goal.overflow_add-here
-overflow_add-here g c = grind (arith, common_steps)
+overflow_add-here g c = let f = few g c in grind (arith, common_steps)
 
 pub bounds-others-level : goal.bounds-others-level
 bounds-others-level g c = grind (arith, common_steps)
