@@ -1,14 +1,14 @@
-use Rattle.std.proofs.Common.{arith}
 use Rattle.std.proofs.lemmas.Grind.{common_steps}
-use Rattle.std.proofs.Common.{rules, ◌≡◌, ◌∷◌, ◌∙◌, sym, ap, length}
+use Rattle.std.proofs.lemmas.Bool.{eqb-true}
+use Rattle.std.proofs.Common.{arith, ◌≡◌, ◌∷◌, ◌∙◌, sym, ap, length}
 use Rattle.sketch_req.proofs.Pairs.{next-level}
 use Rattle.sketch_req.proofs.iter.ReqSketchIteratorIterator.next.Goals as goal
 
 pub loop-self-preserved : goal.loop-self-preserved
 loop-self-preserved g c =
     let i = c.loop-self.self-inside in
-    let none : length i.items.now ≡ 0 = search rules in
-    let there : i.levels.now ≡ c.in_ok-level.level.now ∷ c.in_ok-level.above.now = search rules in
+    let none : length i.items.now ≡ 0 = eqb-true _ 0 (sym c.is_empty.ensures ∙ c.loop-self-test.true) in
+    let there : i.levels.now ≡ c.in_ok-level.level.now ∷ c.in_ok-level.above.now = c.in_ok-level.ensures.cases.0 in
     let same = next-level i.levels.now c.in_ok-level.above.now c.in_ok-level.level.now i.items.now c.items_slice-self-inside.result.now i.weight c.weight-self-inside.result none
     there c.items_slice-self-inside.ensures.value c.weight-self-inside.ensures in
     record { same = same ∙ c.loop-self.invariant.same; left = c.loop-self.invariant.left ∙ ap length (sym same) }
