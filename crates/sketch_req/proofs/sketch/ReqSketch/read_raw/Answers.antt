@@ -50,7 +50,8 @@ from_level-requires-clause-placed g c =
     let h = c.args.header.now in
     let few = (numbers g at.After-read_items).2 in
     subst (λ (l : Level g.row.T.Denot). IsPlaced g.T.Ord.cmp h.k (accuracy_in h.flags) 0 l) (sym (fresh_level g at.After-raw_items_compactor-level))
-    (fresh_placed _ _ _ _ _ c.requires.head.legal_k (omega (arith, c.in_ok-items.ensures.found.as_many, few)) (λ t. (c.raw_items_compactor-level.ensures.sorted.0 t).1))
+    (fresh_placed _ _ _ _ _ c.requires.head.legal_k (omega (arith, c.in_ok-items.ensures.found.as_many, few))
+    (λ t. (c.raw_items_compactor-level.ensures.sorted.0 t).1))
 
 pub from_level-requires-clause-some : goal.from_level-requires-clause-some
 from_level-requires-clause-some g c =

@@ -21,7 +21,8 @@ put g c =
     first-set _ _ c.index_mut.result.now _ _ c.reserve_exact.ensures.items c.requires.levels.some c.index_mut.ensures.value c.in_ok-append.ensures.ok
 
 -- levels stay held if an item is appended to the first
-held-first : {A : Type 0} (cmp : A → A → Ordering) (ls : List (Level A)) (x : A) → AreHeld cmp ls → retained_of (layouts_of ls) < 4294967295 → AreHeld cmp (appended_first ls x)
+held-first : {A : Type 0} (cmp : A → A → Ordering) (ls : List (Level A)) (x : A) → AreHeld cmp ls → retained_of (layouts_of ls) < 4294967295 →
+    AreHeld cmp (appended_first ls x)
 held-first cmp ls x held few =
     let own = own-appended ls x in
     record { some = omega (arith, held.some, length-appended ls x); placed = rw (own.0, own.1) (placed-appended cmp _ _ ls x held.placed few) }

@@ -96,17 +96,19 @@ loop-level-preserved g c =
     let legal = (own-levels g.T.Ord.cmp _ _ _ c.requires.levels.some c.requires.levels.placed).legal in
     let x = ap (λ v. v.items) c.swap.ensures.x_after in
     let turned =
-    subst (λ (up : List g.row.T.Denot). IsTurned g.T.Ord.cmp c.index_mut.result.now c.loop-level.coming.items (g.B.RandomBits.bit c.loop-level.coins) up c.turn.new.self)
-    (sym x) c.turn.ensures.turned in
+    subst (λ (up : List g.row.T.Denot). let coin = g.B.RandomBits.bit c.loop-level.coins in
+    IsTurned g.T.Ord.cmp c.index_mut.result.now c.loop-level.coming.items coin up c.turn.new.self) (sym x) c.turn.ensures.turned in
     let i = c.loop-level.invariant in
     let buffers = c.loop-level.rooms.items in
     record {
-      pending = next-pending g.met.T.Ord.total _ _ _ _ _ _ _ _ _ _ _ _ _ _ _ _ c.requires.few_items i.pending (within g at) c.index_mut.ensures.value c.requires.fits legal
-          (c.requires.fit.promoted c.loop-level.level (inside g at)) (c.requires.fit.own c.loop-level.level) turned c.turn.ensures.sound c.turn.ensures.coins;
+      pending = next-pending g.met.T.Ord.total _ _ _ _ _ _ _ _ _ _ _ _ _ _ _ _ c.requires.few_items i.pending (within g at) c.index_mut.ensures.value
+          c.requires.fits legal (c.requires.fit.promoted c.loop-level.level (inside g at)) (c.requires.fit.own c.loop-level.level) turned
+          c.turn.ensures.sound c.turn.ensures.coins;
       len = i.len;
       spare = i.spare;
       as_many = simp length-set i.as_many;
-      merged = λ j low. read-other (λ (b : Space g.row.T.Denot). b.merged_space) 0 buffers c.loop-level.level _ j (above _ j low).0 ∙ i.merged j (above _ j low).1;
+      merged = λ j low. read-other (λ (b : Space g.row.T.Denot). b.merged_space) 0 buffers c.loop-level.level _ j (above _ j low).0
+          ∙ i.merged j (above _ j low).1;
       sorted = subst (IsSorted g.T.Ord.cmp) (sym x) c.turn.ensures.sorted;
       empty = ap (λ v. v.items) c.swap.ensures.y_after ∙ c.turn.ensures.coming;
       room = rw (ap (λ v. vec_capacity v) c.swap.ensures.x_after ∙ c.turn.ensures.up_capacity) i.above;
@@ -148,7 +150,8 @@ pub add_level-requires-clause-spare : goal.add_level-requires-clause-spare
 add_level-requires-clause-spare g c = λ _. omega (arith, c.loop-level.invariant.spare, c.loop-level.invariant.len)
 
 -- the level that was added is empty
-none : (g : _) (c : After-add_level g) (upper : Level g.row.T.Denot) → upper ≡ get_or c.add_level.new.levels.items c.len-count.result upper → length upper.items ≡ 0
+none : (g : _) (c : After-add_level g) (upper : Level g.row.T.Denot) → upper ≡ get_or c.add_level.new.levels.items c.len-count.result upper →
+    length upper.items ≡ 0
 none g c upper e =
     let same : c.len-count.result ≡ length c.loop-level.levels.items = omega (arith, c.loop-level.invariant.len, c.loop-level.levels.ok) in
     let added = is-added _ _ _ _ (omega (arith, same)) c.add_level.ensures.items in
@@ -184,7 +187,7 @@ absorb-requires-clause-empty g c = c.loop-level.invariant.empty
 
 pub absorb-requires-clause-capacity : goal.absorb-requires-clause-capacity
 absorb-requires-clause-capacity g c =
-    let none = none g (past.absorb-requires-clause-capacity g c).After-add_level c.index_mut-then-not-is_empty.result.now c.index_mut-then-not-is_empty.ensures.value in
+    let none = none g (past.absorb-requires-clause-capacity g c).After-add_level _ c.index_mut-then-not-is_empty.ensures.value in
     omega (arith, none, c.loop-level.invariant.pending.short, c.loop-level.invariant.above)
 
 pub absorb-requires-clause-few : goal.absorb-requires-clause-few
