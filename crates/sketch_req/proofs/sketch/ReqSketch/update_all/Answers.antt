@@ -11,7 +11,7 @@ use Rattle.sketch_req.specs.Updates.{AreUpdated, coins_of_updates}
 use Rattle.sketch_req.proofs.UpdatedLevels.{not-full}
 use Rattle.sketch_req.proofs.UpdatesInTurn.{updates_none, updates_sketch}
 use Rattle.sketch_req.proofs.sketch.ReqSketch.update_all.Given.{Over}
-use Rattle.sketch_req.proofs.sketch.ReqSketch.update_all.Goals.{After-set_if_some-2, then-not-is_full, else-not-is_full}
+use Rattle.sketch_req.proofs.sketch.ReqSketch.update_all.Goals.{In_ok-unless, After-set_if_some-2, then-not-is_full, else-not-is_full}
 use Rattle.sketch_req.proofs.sketch.ReqSketch.update_all.Goals as goal
 use Rattle.sketch_req.proofs.sketch.ReqSketch.update_all.Goals.at as past
 
@@ -21,7 +21,7 @@ returns-then-count-eq0-clause-ok g c =
     rw (← c.self.view_is) (updates_none g.met.T.Ord.total _ c.args.items.now _ c.self.invariant none)
 
 -- the sketch isn't full, and the items leave its weight below 2^64
-allowed : (g : Over) (c : After-set_if_some-2 g) → (c.is_full.result ≡ false) × (c.self.inside.n + length c.args.items.now < 2 ^ 64)
+allowed : (g : Over) (c : In_ok-unless g) → (c.is_full.result ≡ false) × (c.self.inside.n + length c.args.items.now < 2 ^ 64)
 allowed g c =
     let told = c.in_ok-unless.ensures.ok.0 refl in
     elim c.if-not-is_full.branch [
@@ -37,11 +37,11 @@ module _ (g : Over) (c : After-set_if_some-2 g) where
   abbrev new : Req g.row.T.Denot
   new = sketch_of c.take_all.new.self.k c.take_all.new.self.accuracy (old.n + length c.args.items.now) c.take_all.new.self.levels c.set_if_some.new.place c.set_if_some-2.new.place
 
-  updated : IsSound g.T.Ord.cmp new
+  updated : (c.is_full.result ≡ false) × (c.self.inside.n + length c.args.items.now < 2 ^ 64) →
+      IsSound g.T.Ord.cmp new
       × AreUpdated g.T.Ord.cmp old c.args.items.now (bits_from g.B.RandomBits.bit g.B.RandomBits.next c.args.coins.now (coins_of_updates old c.args.items.now)) new
       × (c.take_all.new.coins ≡ after_draws g.B.RandomBits.next c.args.coins.now (coins_of_updates old c.args.items.now))
-  updated =
-      let is_well = allowed g c in
+  updated is_well =
       let known = not-full _ _ _ c.self.view_is c.self.invariant c.is_full.ensures is_well.0 in
       let least = subst (IsLeastOf g.T.Ord.cmp (option_to_list old.least ++ c.args.items.now)) (sym c.set_if_some.ensures) c.in_ok-least.ensures.least in
       let greatest = subst (IsGreatestOf g.T.Ord.cmp (option_to_list old.greatest ++ c.args.items.now)) (sym c.set_if_some-2.ensures) c.in_ok-least.ensures.greatest in
@@ -52,28 +52,30 @@ module _ (g : Over) (c : After-set_if_some-2 g) where
       c.self.invariant is_well.1 known.1 t.are_copies t.taken least greatest)
 
 pub invariant_of-self-2 : goal.invariant_of-self-2
-invariant_of-self-2 g c = (updated g (past.invariant_of-self-2 g c).After-set_if_some-2).0
+invariant_of-self-2 g c = (updated g (past.invariant_of-self-2 g c).After-set_if_some-2 (allowed g (past.invariant_of-self-2 g c).In_ok-unless)).0
 
 pub returns-clause-sound : goal.returns-clause-sound
-returns-clause-sound g c = (updated g (past.returns-clause-sound g c).After-set_if_some-2).0
+returns-clause-sound g c = (updated g (past.returns-clause-sound g c).After-set_if_some-2 (allowed g (past.returns-clause-sound g c).In_ok-unless)).0
 
 pub returns-clause-ok : goal.returns-clause-ok
-returns-clause-ok g c = rw (← c.self.view_is) (updated g (past.returns-clause-ok g c).After-set_if_some-2).1
+returns-clause-ok g c = rw (← c.self.view_is) (updated g (past.returns-clause-ok g c).After-set_if_some-2 (allowed g (past.returns-clause-ok g c).In_ok-unless)).1
 
 pub returns-clause-coins : goal.returns-clause-coins
-returns-clause-coins g c = rw (← c.self.view_is) (updated g (past.returns-clause-coins g c).After-set_if_some-2).2
+returns-clause-coins g c = rw (← c.self.view_is) (updated g (past.returns-clause-coins g c).After-set_if_some-2 (allowed g (past.returns-clause-coins g c).In_ok-unless)).2
 
 pub returns-then-count-eq0-clause-coins : goal.returns-then-count-eq0-clause-coins
 returns-then-count-eq0-clause-coins g c = grind (arith, common_steps)
 
 pub take_all-requires-clause-few : goal.take_all-requires-clause-few
-take_all-requires-clause-few g c = grind (arith, common_steps)
+take_all-requires-clause-few g c =
+    (not-full _ _ _ c.self.view_is c.self.invariant c.is_full.ensures (allowed g (past.take_all-requires-clause-few g c).In_ok-unless).0).1
 
 pub returns-then-count-eq0-clause-sound : goal.returns-then-count-eq0-clause-sound
 returns-then-count-eq0-clause-sound g c = grind (arith, common_steps)
 
 pub take_all-requires-clause-fits : goal.take_all-requires-clause-fits
-take_all-requires-clause-fits g c = grind (arith, common_steps)
+take_all-requires-clause-fits g c =
+    omega (arith, (allowed g (past.take_all-requires-clause-fits g c).In_ok-unless).1, c.self.invariant.weighs_n)
 
 pub invariant_of-self : goal.invariant_of-self
 invariant_of-self g c = grind (arith, common_steps)
