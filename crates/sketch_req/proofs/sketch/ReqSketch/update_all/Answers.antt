@@ -81,7 +81,7 @@ pub invariant_of-self : goal.invariant_of-self
 invariant_of-self g c = grind (arith, common_steps)
 
 pub overflow_add-self : goal.overflow_add-self
-overflow_add-self g c = grind (arith, common_steps)
+overflow_add-self g c = let fits = (allowed g (past.overflow_add-self g c).In_ok-unless).1 in grind (arith, common_steps)
 
 pub returns-clause-empty : goal.returns-clause-empty
 returns-clause-empty g c = grind (arith, common_steps)
