@@ -1,12 +1,16 @@
-use Rattle.std.proofs.Common.{arith}
+use Rattle.std.proofs.Common.{◌≡◌, None, replicate, le_antisymm, ap, ◌∙◌, arith}
 use Rattle.std.proofs.lemmas.Grind.{common_steps}
+use Rattle.std.proofs.lemmas.Result.{IfOk-from_err}
+use Rattle.quantile_sketches.specs.declared.table.TheConstants.{SLOTS}
 use Rattle.quantile_sketches.proofs.table.Table.new.Goals as goal
 
 pub returns-in_err-push : goal.returns-in_err-push
-returns-in_err-push g c = grind (arith, common_steps)
+returns-in_err-push g c = IfOk-from_err c.from_residual-in_err-push.result _ c.from_residual-in_err-push.ensures.0
 
 pub loop-i-preserved : goal.loop-i-preserved
 loop-i-preserved g c = grind (arith, common_steps)
 
 pub returns : goal.returns
-returns g c = grind (arith, common_steps)
+returns g c =
+    let all : c.loop-i._i ≡ SLOTS = le_antisymm c.loop-i.auto._i-end c.loop-i-test.false in
+    c.loop-i.invariant.1 ∙ ap (λ n. replicate n None) all
