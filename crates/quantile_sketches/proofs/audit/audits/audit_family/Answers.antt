@@ -1,18 +1,57 @@
-use Rattle.std.proofs.Common.{arith}
-use Rattle.std.proofs.lemmas.Grind.{common_steps}
+use Rattle.std.proofs.Common.{◌≡◌, ◌^◌, ℕ, List, inl, sym, ap, ◌∙◌, subst}
+use Rattle.std.proofs.lemmas.Result.{IfOk-from_err}
+use Rattle.quantile_sketches.specs.Refused.{AreRefused}
+use Rattle.quantile_sketches.proofs.CallErrors.{IfErr-from_err_and}
 use Rattle.quantile_sketches.proofs.audit.audits.audit_family.Goals as goal
 
-pub weights_under_all-requires-clause-coins : goal.weights_under_all-requires-clause-coins
-weights_under_all-requires-clause-coins g c = c.in_ok-first.ensures.coins
+pub returns-in_err-weights_under_all : goal.returns-in_err-weights_under_all
+returns-in_err-weights_under_all g c =
+    let (fails, is) = c.from_residual-in_err-weights_under_all.ensures in
+    record {
+      enough = IfOk-from_err _ _ fails;
+      errors = IfErr-from_err_and c.from_residual-in_err-weights_under_all.result _ is (λ e same. inl (same ∙ c.in_err-weights_under_all.ensures.memory));
+      coins = IfOk-from_err _ _ fails;
+      words = IfOk-from_err _ _ fails;
+      weights = IfOk-from_err _ _ fails;
+      true_rank = IfOk-from_err _ _ fails;
+    }
 
-pub returns-clause-coins : goal.returns-clause-coins
-returns-clause-coins g c = c.in_ok-first.ensures.coins
+pub returns-in_err-first : goal.returns-in_err-first
+returns-in_err-first g c =
+    let (fails, is) = c.from_residual.ensures in
+    record {
+      enough = IfOk-from_err _ _ fails;
+      errors = IfErr-from_err_and c.from_residual.result _ is (λ e (same : e ≡ c.in_err-first.field-0.0). rw same c.in_err-first.ensures.errors);
+      coins = IfOk-from_err _ _ fails;
+      words = IfOk-from_err _ _ fails;
+      weights = IfOk-from_err _ _ fails;
+      true_rank = IfOk-from_err _ _ fails;
+    }
 
-pub returns-clause-weights : goal.returns-clause-weights
-returns-clause-weights g c = c.in_ok-weights_under_all.ensures.weights
+pub run_family-requires : goal.run_family-requires
+run_family-requires g c = record { asks = c.requires.asks; lawful = c.requires.lawful }
 
-pub true_rank-requires-clause-refused : goal.true_rank-requires-clause-refused
-true_rank-requires-clause-refused g c = grind (arith, common_steps)
+pub weights_under_all-requires : goal.weights_under_all-requires
+weights_under_all-requires g c =
+    record {
+      asks = c.requires.asks;
+      lawful = c.requires.lawful;
+      coins = c.in_ok-first.ensures.coins;
+      few = rw c.in_ok-first.ensures.coins c.in_ok-first.ensures.enough;
+    }
 
-pub returns-clause-words : goal.returns-clause-words
-returns-clause-words g c = grind (arith, common_steps)
+pub true_rank-requires : goal.true_rank-requires
+true_rank-requires g c =
+    let kept = subst (λ (l : List ℕ). AreRefused g.S.Family.kind _ c.args.commands.now l) (sym c.as_slice.ensures.value) c.in_ok-first.ensures.refused in
+    record { lawful = c.requires.lawful; refused = (_, kept) }
+
+pub returns : goal.returns
+returns g c =
+    record {
+      enough = c.in_ok-first.ensures.enough;
+      errors = tt;
+      coins = c.in_ok-first.ensures.coins;
+      words = c.in_ok-weights_under_all.ensures.words ∙ ap (λ n. 2 ^ n) c.in_ok-first.ensures.coins;
+      weights = c.in_ok-weights_under_all.ensures.weights;
+      true_rank = c.true_rank.ensures;
+    }
