@@ -1,5 +1,5 @@
 -- Lines that ask for an update in the usual form: their words, and where they end.
-use Rattle.std.proofs.Common.{◌≡◌, ℕ, ℤ, pos, neg_ℤ, suc, ◌+◌, ◌-◌, ◌<◌, ◌≤◌, ◌^◌, ◌==◌, Bool, true, false, cond, List, [], ◌∷◌, ◌++◌, length, take, drop, get_or, refl, sym, ap, ◌∙◌, arith, Some, take_all, not, length-append, length-take-le, length-drop, Option, Result, Ok, Err}
+use Rattle.std.proofs.Common.{Fits, ◌≡◌, ◌≢◌, ℕ, ℤ, pos, neg_ℤ, suc, ◌+◌, ◌-◌, ◌<◌, ◌≤◌, ◌^◌, ◌==◌, Bool, true, false, cond, List, [], ◌∷◌, ◌++◌, length, take, drop, get_or, refl, sym, ap, ◌∙◌, arith, Some, take_all, not, length-append, length-take-le, length-drop, Option, Result, Ok, Err}
 use Rattle.std.specs.Prelude.{codes}
 use Rattle.std.specs.Result.{OkIff, result_ok}
 use Rattle.std.specs.List.{position_or_len}
@@ -150,9 +150,27 @@ begins-with_update text numbers word slot slot_len len item verb within first fe
       item_is = reads;
     }
 
+-- the same, for an equal slot and an equal item
+pub begins-same : (text : List ℕ) (slot slot' len : ℕ) (item item' : ℤ) → slot' ≡ slot → item' ≡ item → BeginsWithUpdate text slot item len →
+    BeginsWithUpdate text slot' item' len
+begins-same text slot slot' len item item' same_slot same_item h = rw (same_slot, same_item) h
+
+-- the place behind some bytes of a text's end
+pub place-fits : (text word : List ℕ) (len : ℕ) → len ≤ length word → length word ≤ length text → length text < 2 ^ 64 →
+    Fits w64 (length text - length word + len)
+place-fits text word len inside end few = record { fits = omega arith }
+
+-- a part that isn't the whole is shorter
+pub shorter : (part whole : ℕ) → part ≤ whole → part ≢ whole → part < whole
+shorter part whole most differ = omega arith
+
 -- what is after the first bytes, written as a slice to the end
 abbrev pub behind : ℕ → List ℕ → List ℕ
 behind n text = take (length text - n) (drop n text)
+
+-- which is no longer than the text
+pub behind-shorter : (n : ℕ) (text : List ℕ) → length (behind n text) ≤ length text
+behind-shorter n text = omega (arith, ap length (to_end text n), length-drop n text)
 
 -- the bytes that the line begins with
 pub begins-verb : (text : List ℕ) → 7 ≤ length text → get_or text 0 0 ≡ 117 → get_or text 1 0 ≡ 112 → get_or text 2 0 ≡ 100 → get_or text 3 0 ≡ 97 → get_or text 4 0 ≡ 116 →
