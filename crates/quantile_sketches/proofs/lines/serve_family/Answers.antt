@@ -1,10 +1,14 @@
-use Rattle.std.proofs.Common.{None, replicate, arith}
+use Rattle.std.proofs.Common.{None, Ok, Err, Result, OnErr, replicate, arith}
 use Rattle.std.proofs.lemmas.Grind.{common_steps}
 use Rattle.quantile_sketches.specs.declared.table.TheConstants.{SLOTS}
 use Rattle.quantile_sketches.proofs.FirstLine.{nothing_ahead}
-use Rattle.quantile_sketches.proofs.LineRuns.{begins-unread}
+use Rattle.quantile_sketches.proofs.LineRuns.{begins-unread, begins-unstarted}
 use denote.MutBor.{MutBor}
 use Rattle.quantile_sketches.proofs.lines.serve_family.Goals as goal
+
+OnErr-from : {T E P : Type 0} (r : Result T E) → P → OnErr r P
+OnErr-from (Ok x) p = tt
+OnErr-from (Err e) p = p
 
 pub returns-in-Err-Input-clause-broken_off : goal.returns-in-Err-Input-clause-broken_off
 returns-in-Err-Input-clause-broken_off g c =
@@ -18,3 +22,8 @@ returns-in-Ok-clause-served g c = grind (arith, common_steps)
 
 pub returns-clause-broken_off : goal.returns-clause-broken_off
 returns-clause-broken_off g c = grind (arith, common_steps)
+
+pub returns-in_err-input-clause-broken_off : goal.returns-in_err-input-clause-broken_off
+returns-in_err-input-clause-broken_off g c =
+    OnErr-from _ (begins-unstarted g.S.Config.Config.grammar g.S.Family.behaviour (replicate SLOTS None) c.args.seed (g.R.Read.remaining c.args.input.now)
+    (g.W.Write.contents c.args.output.now))
