@@ -1,4 +1,4 @@
-use Rattle.std.proofs.Common.{◌≡◌, ◌^◌, ℕ, List, inl, sym, ap, ◌∙◌, subst}
+use Rattle.std.proofs.Common.{◌≡◌, ◌≤◌, ◌^◌, ℕ, List, inl, sym, ap, ◌∙◌, subst}
 use Rattle.std.proofs.lemmas.Result.{IfOk-from_err}
 use Rattle.quantile_sketches.specs.Refused.{AreRefused}
 use Rattle.quantile_sketches.proofs.CallErrors.{IfErr-from_err_and}
@@ -28,23 +28,6 @@ returns-in_err-first g c =
       true_rank = IfOk-from_err _ _ fails;
     }
 
-pub run_family-requires : goal.run_family-requires
-run_family-requires g c = record { asks = c.requires.asks; lawful = c.requires.lawful }
-
-pub weights_under_all-requires : goal.weights_under_all-requires
-weights_under_all-requires g c =
-    record {
-      asks = c.requires.asks;
-      lawful = c.requires.lawful;
-      coins = c.in_ok-first.ensures.coins;
-      few = rw c.in_ok-first.ensures.coins c.in_ok-first.ensures.enough;
-    }
-
-pub true_rank-requires : goal.true_rank-requires
-true_rank-requires g c =
-    let kept = subst (λ (l : List ℕ). AreRefused g.S.Family.kind _ c.args.commands.now l) (sym c.as_slice.ensures.value) c.in_ok-first.ensures.refused in
-    record { lawful = c.requires.lawful; refused = (_, kept) }
-
 pub returns : goal.returns
 returns g c =
     record {
@@ -55,3 +38,13 @@ returns g c =
       weights = c.in_ok-weights_under_all.ensures.weights;
       true_rank = c.true_rank.ensures;
     }
+
+pub weights_under_all-requires-clause-coins : goal.weights_under_all-requires-clause-coins
+weights_under_all-requires-clause-coins g c = c.in_ok-first.ensures.coins
+
+pub weights_under_all-requires-clause-few : goal.weights_under_all-requires-clause-few
+weights_under_all-requires-clause-few g c = subst (λ (n : ℕ). n ≤ 16) (sym c.in_ok-first.ensures.coins) c.in_ok-first.ensures.enough
+
+pub true_rank-requires-clause-refused : goal.true_rank-requires-clause-refused
+true_rank-requires-clause-refused g c =
+    (_, subst (λ (l : List ℕ). AreRefused g.S.Family.kind _ c.args.commands.now l) (sym c.as_slice.ensures.value) c.in_ok-first.ensures.refused)
