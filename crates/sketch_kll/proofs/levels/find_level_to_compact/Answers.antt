@@ -40,3 +40,6 @@ unreachable-requires g c =
     let n = length-bounds c.args.items.now c.args.bounds.now c.requires.flat in
     sought_never c.args.k c.args.more c.args.items.now c.args.bounds.now c.requires.flat (omega (arith, n, c.requires.some_level)) c.loop-level.level c.loop-level.end
     c.loop-level.invariant (omega (arith, n, c.loop-level-test.false))
+
+pub returns-then-is_at_capacity-clause-within : goal.returns-then-is_at_capacity-clause-within
+returns-then-is_at_capacity-clause-within g c = grind arith

@@ -4,3 +4,6 @@ use Rattle.sketch_kll.proofs.image.arranging.reverse_run.Goals as goal
 
 pub returns : goal.returns
 returns c = grind (arith, common_steps)
+
+pub offset_bounds-items-start : goal.offset_bounds-items-start
+offset_bounds-items-start c = grind arith

@@ -33,4 +33,7 @@ pub returns-clause-kept : goal.returns-clause-kept
 returns-clause-kept g c = grind (arith, common_steps)
 
 pub returns-clause-spare : goal.returns-clause-spare
-returns-clause-spare g c = grind (arith, common_steps)
+returns-clause-spare g c = grind arith
+
+pub overflow_cast-most : goal.overflow_cast-most
+overflow_cast-most g c = grind arith

@@ -160,3 +160,6 @@ overflow_sub-num_levels g c =
     let up = raised_is c.needs_sorting-needs_sorting.result true c.self.invariant
     (ap (λ (y : Stored g.row.T.Denot). y.levels) c.self.view_is) c.requires.within c.add_level_above.ensures.items in
     some_of _ (c.len-num_levels.ensures ∙ c.add_level_above.new.bounds.ok.0) up.within
+
+pub overflow_sub-known : goal.overflow_sub-known
+overflow_sub-known g c = grind arith

@@ -34,3 +34,6 @@ returns-else-free-eq0-clause-levels g c =
 
 pub returns-else-free-eq0-clause-coins : goal.returns-else-free-eq0-clause-coins
 returns-else-free-eq0-clause-coins g c = grind (arith, common_steps)
+
+pub compact-requires-clause-within : goal.compact-requires-clause-within
+compact-requires-clause-within g c = grind arith

@@ -125,4 +125,7 @@ pub compress_level-requires-clause-within : goal.compress_level-requires-clause-
 compress_level-requires-clause-within g c = grind (arith, common_steps)
 
 pub loop-self-smaller : goal.loop-self-smaller
-loop-self-smaller g c = grind (arith, common_steps)
+loop-self-smaller g c = grind arith
+
+pub overflow_add-level : goal.overflow_add-level
+overflow_add-level g c = grind arith

@@ -1,4 +1,4 @@
-use Rattle.std.proofs.Common.{◌≡◌, reverse, set, drop, arith, ap, ◌∙◌, rules}
+use Rattle.std.proofs.Common.{◌≡◌, reverse, set, drop, arith, ap, ◌∙◌}
 use Rattle.std.proofs.lemmas.Grind.{common_steps}
 use Rattle.sketch_kll.specs.Flat.{levels_in}
 use Rattle.sketch_kll.specs.Levels.{retained}
@@ -35,7 +35,7 @@ filled : (g : _) (c : After-len-2 g) →
     AreStored g.T.Ord.cmp c.self.inside.k c.move_back.new.to.items (set c.self.inside.bounds.items 0 c.len-2.result) c.self.inside.total_capacity
     × (levels_in c.move_back.new.to.items (set c.self.inside.bounds.items 0 c.len-2.result)
     ≡ put_all (reverse (drop c.saturating_sub-keep.result c.args.items.now.items)) (levels_in c.self.inside.items.items c.self.inside.bounds.items))
-filled g c = put_stored (reverse (drop c.saturating_sub-keep.result c.args.items.now.items)) c.self.invariant c.move_back.ensures.to (search rules)
+filled g c = put_stored (reverse (drop c.saturating_sub-keep.result c.args.items.now.items)) c.self.invariant c.move_back.ensures.to (grind (arith, common_steps))
 
 pub invariant_of-self : goal.invariant_of-self
 invariant_of-self g c = (filled g (past.invariant_of-self g c).After-len-2).0
@@ -50,7 +50,7 @@ pub returns-clause-items : goal.returns-clause-items
 returns-clause-items g c = rw (← kept_back g (past.returns-clause-items g c).After-saturating_sub-keep) c.move_back.ensures.from
 
 pub index_mut-requires : goal.index_mut-requires
-index_mut-requires g c = grind (arith, common_steps)
+index_mut-requires g c = grind arith
 
 pub returns-clause-k : goal.returns-clause-k
 returns-clause-k g c = grind (arith, common_steps)

@@ -18,3 +18,9 @@ returns-clause-room g c =
       ap (λ (y : Stored g.row.T.Denot). retained y.levels) c.self.view_is,
       ap (λ (y : Stored g.row.T.Denot). total_of y.k 8 (length y.levels)) c.self.view_is,
     )
+
+pub returns-clause-some : goal.returns-clause-some
+returns-clause-some g c = grind arith
+
+pub returns-clause-sorted : goal.returns-clause-sorted
+returns-clause-sorted g c = grind arith

@@ -35,3 +35,6 @@ returns-then-len-capacity-clause-below g c = λ e.
       c.len-len.ensures,
       ltb-true c.len-len.result c.self.inside.total_capacity e,
     ))
+
+pub returns-else-len-capacity-clause-room : goal.returns-else-len-capacity-clause-room
+returns-else-len-capacity-clause-room g c = grind arith

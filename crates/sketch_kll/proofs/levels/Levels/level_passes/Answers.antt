@@ -43,3 +43,12 @@ returns g c =
     let w : get_or x.bounds.items c.args.level 0 - get_or x.bounds.items (c.args.level + 1) 0 ≡ length (first_level (drop c.args.level (levels_in x.items.items x.bounds.items))) = omega (arith, f) in
     let p = passes_is x.k c.args.level (levels_in x.items.items x.bounds.items) (subst (λ (y : Stored g.row.T.Denot). is_full y.k y.levels ≡ true) (sym c.self.view_is) c.requires.full) in
     rw (← c.self.view_is, c.is_at_capacity.ensures, c.as_slice-bounds.ensures.value) (ap₂ (λ cap i. not (nat_le cap i)) (ap (capacity_at x.k 8) m) w ∙ sym p)
+
+pub offset_bounds-bounds-level-2 : goal.offset_bounds-bounds-level-2
+offset_bounds-bounds-level-2 g c = grind arith
+
+pub overflow_add-level : goal.overflow_add-level
+overflow_add-level g c = grind arith
+
+pub offset_bounds-bounds-level : goal.offset_bounds-bounds-level
+offset_bounds-bounds-level g c = grind arith

@@ -42,4 +42,10 @@ pub returns-clause-kept : goal.returns-clause-kept
 returns-clause-kept g c = grind (arith, common_steps)
 
 pub returns-clause-clones : goal.returns-clause-clones
-returns-clause-clones g c = grind (arith, common_steps)
+returns-clause-clones g c = grind arith
+
+pub clone_levels-requires-clause-flat : goal.clone_levels-requires-clause-flat
+clone_levels-requires-clause-flat g c = grind arith
+
+pub returns-in_err-merged-clause-kept : goal.returns-in_err-merged-clause-kept
+returns-in_err-merged-clause-kept g c = grind arith

@@ -64,3 +64,9 @@ returns-else-taken-free-clause-space g c =
           (SameLevels-refl g.T.Ord.cmp g.met.T.Ord.total (put_all new s.levels));
       source_is = ap (λ (b : Bool). cond b (g.B.RandomBits.next c.args.coins.now) c.args.coins.now) full;
     }
+
+pub put_body-requires-clause-some : goal.put_body-requires-clause-some
+put_body-requires-clause-some g c = grind arith
+
+pub compact-requires-clause-within : goal.compact-requires-clause-within
+compact-requires-clause-within g c = grind arith

@@ -117,3 +117,6 @@ returns-clause-spare g c = grind (arith, common_steps)
 
 pub add_levels-requires : goal.add_levels-requires
 add_levels-requires g c = grind (arith, common_steps)
+
+pub overflow_sub-known : goal.overflow_sub-known
+overflow_sub-known g c = grind arith

@@ -1,4 +1,5 @@
 use Rattle.std.proofs.Common.{◌≡◌, ℕ, ◌+◌, ◌-◌, ◌%◌, List, ◌++◌, length, drop, set, refl, sym, ap, ◌∙◌, arith, take-append-drop, length-drop, length-take-le, eqb-true}
+use Rattle.std.proofs.lemmas.Grind.{common_steps}
 use Rattle.std.proofs.lemmas.Bool.{false≢true}
 use Rattle.std.proofs.lemmas.Grind.{get_or_default_zero, common_steps}
 use Rattle.sketch_kll.specs.Flat.{levels_in}
@@ -120,7 +121,7 @@ returns-clause-ready g c =
     (p.1 ∙ ap (λ (y : Stored g.row.T.Denot). put_all put y.levels) c.self.view_is) c.move_last-is_sorted.ensures.moved (omega (arith, low, count_is g after)) c.move_last-is_sorted.ensures.left
 
 pub index_mut-requires : goal.index_mut-requires
-index_mut-requires g c = grind (arith, common_steps)
+index_mut-requires g c = grind arith
 
 pub returns-clause-k : goal.returns-clause-k
 returns-clause-k g c = grind (arith, common_steps)
@@ -130,3 +131,9 @@ returns-clause-room g c = grind (arith, common_steps)
 
 pub returns-clause-bounds_room : goal.returns-clause-bounds_room
 returns-clause-bounds_room g c = grind (arith, common_steps)
+
+pub move_last-is_sorted-requires-clause-within : goal.move_last-is_sorted-requires-clause-within
+move_last-is_sorted-requires-clause-within g c = grind arith
+
+pub overflow_sub-count : goal.overflow_sub-count
+overflow_sub-count g c = grind arith

@@ -7,3 +7,12 @@ take_items-requires-clause-room c = grind (arith, common_steps)
 
 pub returns-clause-taken : goal.returns-clause-taken
 returns-clause-taken c = grind (arith, common_steps)
+
+pub take_items-requires-clause-light : goal.take_items-requires-clause-light
+take_items-requires-clause-light c = grind arith
+
+pub take_items-requires-clause-spare : goal.take_items-requires-clause-spare
+take_items-requires-clause-spare c = grind arith
+
+pub returns-clause-k : goal.returns-clause-k
+returns-clause-k c = grind arith

@@ -175,3 +175,18 @@ returns-clause-taken g c =
     let none : length c.loop-taken.items.items ≤ c.loop-taken.taken = omega (arith, c.loop-taken-test.false, c.len.ensures, c.loop-taken.items.ok) in
     taking_ends g.T.Ord.cmp g.B.RandomBits.bit g.B.RandomBits.next c.args.coins.now c.loop-taken.coins c.args.self.now.k c.args.self.now.is_sorted c.loop-taken.self.is_sorted c.args.self.now.levels
     c.args.items.items c.loop-taken.items.items c.loop-taken.taken c.loop-taken.self.levels (all_taken g before none) (omega (arith, c.if-taken-gt0.false)) i.some
+
+pub returns-clause-len : goal.returns-clause-len
+returns-clause-len g c = grind arith
+
+pub returns-clause-k : goal.returns-clause-k
+returns-clause-k g c = grind arith
+
+pub returns-then-taken-gt0-clause-spare : goal.returns-then-taken-gt0-clause-spare
+returns-then-taken-gt0-clause-spare g c = grind arith
+
+pub returns-clause-spare : goal.returns-clause-spare
+returns-clause-spare g c = grind arith
+
+pub returns-then-taken-gt0-clause-k : goal.returns-then-taken-gt0-clause-k
+returns-then-taken-gt0-clause-k g c = grind arith

@@ -33,3 +33,9 @@ returns-then-level-len-clause-sorted g c = grind (arith, common_steps)
 
 pub returns-else-level-len-clause-sorted : goal.returns-else-level-len-clause-sorted
 returns-else-level-len-clause-sorted g c = grind (arith, common_steps)
+
+pub returns-else-level-len-clause-few : goal.returns-else-level-len-clause-few
+returns-else-level-len-clause-few g c = grind arith
+
+pub returns-then-level-len-clause-few : goal.returns-then-level-len-clause-few
+returns-then-level-len-clause-few g c = grind arith

@@ -22,3 +22,6 @@ bounds-bounds-level-in-loop-level c = grind (arith, common_steps)
 
 pub bounds-bounds-level : goal.bounds-bounds-level
 bounds-bounds-level c = grind (arith, common_steps)
+
+pub overflow_add-bounds-in-loop-level : goal.overflow_add-bounds-in-loop-level
+overflow_add-bounds-in-loop-level c = grind arith

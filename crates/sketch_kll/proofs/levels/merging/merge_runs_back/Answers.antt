@@ -147,3 +147,12 @@ returns g c =
     (omega (arith, n, m, d, c.requires.fewer, c.requires.some)) c.requires.sorted c.requires.flat.bounds_are (sym c.requires.upper.bounds_are)
     (ap reverse c.move_back-2.ensures.to ∙ reverse_back c.loop-level.merged.items c.loop-level.items.items) i.joining in
     record { flat = r.fits; levels = r.same; sorted = r.sorted }
+
+pub move_back-requires-clause-room : goal.move_back-requires-clause-room
+move_back-requires-clause-room g c = grind arith
+
+pub move_back-requires-2-clause-room : goal.move_back-requires-2-clause-room
+move_back-requires-2-clause-room g c = grind arith
+
+pub move_back-requires-in-loop-level-clause-within : goal.move_back-requires-in-loop-level-clause-within
+move_back-requires-in-loop-level-clause-within g c = grind arith

@@ -9,4 +9,4 @@ pub returns-clause-spare : goal.returns-clause-spare
 returns-clause-spare c = grind (arith, common_steps)
 
 pub returns-clause-merged : goal.returns-clause-merged
-returns-clause-merged c = grind (arith, common_steps)
+returns-clause-merged c = grind arith

@@ -1,4 +1,4 @@
-use Rattle.std.proofs.Common.{◌++◌, ◌∷◌, [], ◌∙◌, Some, ap}
+use Rattle.std.proofs.Common.{◌++◌, ◌∷◌, [], ◌∙◌, Some, ap, arith}
 use Rattle.sketch_kll.specs.Flat.{levels_in}
 use Rattle.sketch_kll.specs.Image.{IsItemSketch}
 use Rattle.sketch_kll.specs.Sketch.{IsSound, sketch_of}
@@ -28,3 +28,6 @@ invariant_of-result g c = (made g c).1
 
 pub returns : goal.returns
 returns g c = (made g c).2
+
+pub total_capacity-requires-clause-minimum : goal.total_capacity-requires-clause-minimum
+total_capacity-requires-clause-minimum g c = grind arith

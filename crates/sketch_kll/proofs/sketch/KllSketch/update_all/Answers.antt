@@ -1,6 +1,6 @@
 -- The goals at the return are what updates by all items make of the fields.
 use Rattle.std.proofs.lemmas.Grind.{common_steps}
-use Rattle.std.proofs.Common.{◌≡◌, ◌<◌, ◌≤◌, ◌^◌, ◌+◌, ◌-◌, ◌∙◌, ℕ, zero, suc, Bool, false, eqb, List, [], length, ap, sym, arith, rules}
+use Rattle.std.proofs.Common.{◌≡◌, ◌<◌, ◌≤◌, ◌^◌, ◌+◌, ◌-◌, ◌∙◌, ℕ, zero, suc, Bool, false, eqb, List, [], length, ap, sym, arith}
 use Rattle.std.proofs.lemmas.Bool.{true≢false}
 use Rattle.sketch_kll.specs.Levels.{weight}
 use Rattle.sketch_kll.specs.Sketch.{Kll}
@@ -11,7 +11,7 @@ use Rattle.sketch_kll.proofs.sketch.KllSketch.update_all.Goals as goal
 
 pub returns-then-is_empty-clause-ok : goal.returns-then-is_empty-clause-ok
 returns-then-is_empty-clause-ok g c =
-    let none : length c.args.items.now ≡ 0 = search rules in
+    let none : length c.args.items.now ≡ 0 = grind (arith, common_steps) in
     updates_none g.met.T.Ord.total c.args.self.now c.args.items.now _ none
 
 some_of : (n : ℕ) {is_none : Bool} → is_none ≡ eqb n 0 → is_none ≡ false → 0 < n
@@ -73,7 +73,7 @@ pub invariant_of-self : goal.invariant_of-self
 invariant_of-self g c = grind (arith, common_steps)
 
 pub take_all-requires-clause-kept : goal.take_all-requires-clause-kept
-take_all-requires-clause-kept g c = grind (arith, common_steps)
+take_all-requires-clause-kept g c = grind arith
 
 pub take_all-requires-clause-room : goal.take_all-requires-clause-room
 take_all-requires-clause-room g c = grind (arith, common_steps)
@@ -86,3 +86,9 @@ prepare_all-requires-clause-some g c = grind (arith, common_steps)
 
 pub overflow_add-self : goal.overflow_add-self
 overflow_add-self g c = record { fits = sum_of _ c.if-count-self.false (some_of _ c.is_empty.ensures c.if-is_empty.false) }
+
+pub returns-then-count-self-clause-err : goal.returns-then-count-self-clause-err
+returns-then-count-self-clause-err g c = grind arith
+
+pub returns-then-is_empty-clause-empty : goal.returns-then-is_empty-clause-empty
+returns-then-is_empty-clause-empty g c = grind arith

@@ -41,4 +41,4 @@ pub invariant_of-self-in_err-least : goal.invariant_of-self-in_err-least
 invariant_of-self-in_err-least g c = grind (arith, common_steps)
 
 pub overflow_add-self : goal.overflow_add-self
-overflow_add-self g c = grind (arith, common_steps)
+overflow_add-self g c = grind arith
