@@ -3,14 +3,14 @@ use Rattle.std.proofs.Common.{◌≡◌, ℕ, zero, suc, ◌+◌, ◌-◌, ◌/�
 use Rattle.std.specs.Cmp.{IsTotalOrder}
 use Rattle.std.proofs.lemmas.Bool.{lt-leb, ne_eqb}
 use Rattle.std.proofs.lemmas.List.{get_or-set_same}
-use Rattle.sketch_req.specs.Level.{Level, IsLevel, IsCompacted, IsTakenIn, IsTurned, coin_of, draws_coin, is_full_with, nominal_of, taken_count, with_coming, fresh}
+use Rattle.sketch_req.specs.Level.{Level, IsLevel, IsCompacted, IsTakenIn, IsTurned, coin_of, draws_coin, is_full_with, nominal_of, with_coming, fresh}
 use Rattle.sketch_req.specs.Schedule.{Layout, layout_of, layouts_of, layout_at, is_full, taken, retained_of, steps_actions, steps_layouts, weight_of}
 use Rattle.sketch_req.specs.Sections.{IsLegalK}
 use Rattle.sketch_req.specs.Walk.{AreLevels, AreWalked, IsPlaced, own_space, taken_if_full}
 use Rattle.sketch_req.specs.declared.RankAccuracy.{RankAccuracy}
 use Rattle.sketch_req.proofs.Comings.{coin-coming, coming-sound, coming-taken, length-coming, nominal-coming}
 use Rattle.sketch_req.proofs.ReservedWalks.{count-within, own-nothing}
-use Rattle.sketch_req.proofs.WalkSteps.{comes-up, coins-there, given-there, gives_up-there, length-taken_in, length-up, opened, placed-new, raised, stepped}
+use Rattle.sketch_req.proofs.WalkSteps.{comes-up, coins-there, gives_up-there, length-taken_in, length-up, opened, placed-new, raised, stepped}
 use Rattle.sketch_req.proofs.Walks.{acted-full, acted-none, acted-start, is-full-there, step-low, walked-more}
 
 -- a place that is set twice, and one that is set to what it holds

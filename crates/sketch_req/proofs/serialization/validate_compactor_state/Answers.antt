@@ -4,3 +4,6 @@ use Rattle.sketch_req.proofs.serialization.validate_compactor_state.Goals as goa
 
 pub returns-clause-ok : goal.returns-clause-ok
 returns-clause-ok c = grind (arith, common_steps)
+
+pub section_size-requires-clause-legal : goal.section_size-requires-clause-legal
+section_size-requires-clause-legal c = grind arith

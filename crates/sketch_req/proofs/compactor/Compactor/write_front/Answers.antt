@@ -39,3 +39,6 @@ returns-clause-err g c = grind (arith, common_steps)
 
 pub returns-in_err-write_u64_le-clause-err : goal.returns-in_err-write_u64_le-clause-err
 returns-in_err-write_u64_le-clause-err g c = grind (arith, common_steps)
+
+pub returns-in_err-write_u32_le-clause-err : goal.returns-in_err-write_u32_le-clause-err
+returns-in_err-write_u32_le-clause-err g c = grind arith

@@ -1,4 +1,4 @@
-use Rattle.std.proofs.Common.{◌+◌, ◌<◌, ◌^◌, ◌++◌, length, ap, arith, rules, IsPermutation}
+use Rattle.std.proofs.Common.{◌+◌, ◌<◌, ◌^◌, ◌++◌, length, ap, arith, IsPermutation}
 use Rattle.std.proofs.lemmas.Grind.{common_steps}
 use Rattle.sketch_base.specs.Weighted.{pairs_in}
 use Rattle.std.proofs.lemmas.Result.{IfErr-weaker}
@@ -13,7 +13,7 @@ merged-requires g t c =
     let few : length (pairs_of c.split_at.result.0.now) < 2 ^ 64 = omega (arith, long, c.requires.few) in
     let some : 0 < length c.split_at.result.0.now = omega (arith, c.split_at.ensures.front_len, c.if-levels-eq1.false, c.requires.some) in
     let smaller : length c.split_at.result.0.now < length c.args.levels.now = omega (arith, c.split_at.ensures.front_len, c.requires.some) in
-    search rules
+    grind (arith, common_steps)
 
 pub merged-requires-2 : goal.merged-requires-2
 merged-requires-2 g t c =
@@ -21,19 +21,19 @@ merged-requires-2 g t c =
     let few : length (pairs_of c.split_at.result.1.now) < 2 ^ 64 = omega (arith, long, c.requires.few) in
     let some : 0 < length c.split_at.result.1.now = omega (arith, c.split_at.ensures.back_len, c.requires.some) in
     let smaller : length c.split_at.result.1.now < length c.args.levels.now = omega (arith, c.split_at.ensures.back_len, c.if-levels-eq1.false, c.requires.some) in
-    search rules
+    grind (arith, common_steps)
 
 pub returns-in_err-lower-clause-some : goal.returns-in_err-lower-clause-some
 returns-in_err-lower-clause-some g t c =
     let long = parts-long _ c.args.levels.now c.split_at.result.0.now c.split_at.result.1.now c.split_at.ensures.front c.split_at.ensures.back in
     let some : 0 < length (pairs_of c.args.levels.now) = omega (arith, long, c.in_err-lower.ensures.some) in
-    search rules
+    grind (arith, common_steps)
 
 pub returns-in_err-upper-clause-some : goal.returns-in_err-upper-clause-some
 returns-in_err-upper-clause-some g t c =
     let long = parts-long _ c.args.levels.now c.split_at.result.0.now c.split_at.result.1.now c.split_at.ensures.front c.split_at.ensures.back in
     let some : 0 < length (pairs_of c.args.levels.now) = omega (arith, long, c.in_err-upper.ensures.some) in
-    search rules
+    grind (arith, common_steps)
 
 pub returns-clause-moved : goal.returns-clause-moved
 returns-clause-moved g t c =
@@ -53,7 +53,10 @@ pub returns-then-levels-eq1-clause-some : goal.returns-then-levels-eq1-clause-so
 returns-then-levels-eq1-clause-some g c = grind (arith, common_steps)
 
 pub merge_weighted-requires-clause-first : goal.merge_weighted-requires-clause-first
-merge_weighted-requires-clause-first g c = grind (arith, common_steps)
+merge_weighted-requires-clause-first g c = grind arith
 
 pub merge_weighted-requires-clause-second : goal.merge_weighted-requires-clause-second
-merge_weighted-requires-clause-second g c = grind (arith, common_steps)
+merge_weighted-requires-clause-second g c = grind arith
+
+pub merge_weighted-requires-clause-few : goal.merge_weighted-requires-clause-few
+merge_weighted-requires-clause-few g c = grind arith

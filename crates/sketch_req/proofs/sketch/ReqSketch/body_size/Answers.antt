@@ -19,3 +19,24 @@ returns-in-Several-clause-fits g c = grind (arith, common_steps)
 
 pub overflow_add-result-in-Several-2 : goal.overflow_add-result-in-Several-2
 overflow_add-result-in-Several-2 g c = grind (arith, common_steps)
+
+pub returns-in-One-clause-size : goal.returns-in-One-clause-size
+returns-in-One-clause-size g c = grind arith
+
+pub levels_size-requires : goal.levels_size-requires
+levels_size-requires g c = grind arith
+
+pub returns-in-One-clause-fits : goal.returns-in-One-clause-fits
+returns-in-One-clause-fits g c = grind arith
+
+pub returns-in-One-clause-spelled : goal.returns-in-One-clause-spelled
+returns-in-One-clause-spelled g c = grind arith
+
+pub returns-in-Empty-clause-size : goal.returns-in-Empty-clause-size
+returns-in-Empty-clause-size g c = grind arith
+
+pub returns-in-Empty-clause-spelled : goal.returns-in-Empty-clause-spelled
+returns-in-Empty-clause-spelled g c = grind arith
+
+pub levels_size-requires-in-Several : goal.levels_size-requires-in-Several
+levels_size-requires-in-Several g c = grind arith

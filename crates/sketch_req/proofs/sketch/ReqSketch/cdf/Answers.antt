@@ -1,4 +1,4 @@
-use Rattle.std.proofs.Common.{ℕ, ◌≡◌, ◌++◌, [], ◌∷◌, length, map, rules, arith, ap, sym, ◌∙◌}
+use Rattle.std.proofs.Common.{ℕ, ◌≡◌, ◌++◌, [], ◌∷◌, length, map, arith, ap, sym, ◌∙◌}
 use Rattle.std.proofs.lemmas.Grind.{common_steps}
 use Rattle.sketch_base.specs.Bag.{expanded}
 use Rattle.sketch_base.specs.Query.{true_rank}
@@ -22,7 +22,7 @@ returns-clause-found g c =
     let entries = expanded cmp (bag_of s.levels) in
     let rank : g.row.T.Denot → ℕ = λ y. true_rank cmp y c.args.criteria entries in
     let whole : length entries ≡ s.n = length-expanded cmp (bag_of s.levels) ∙ (sym c.n-total.ensures.weight ∙ c.n-total.ensures.value) in
-    ranks-last rank s.n c.args.points.now c.loop-point.point-index _ c.push-2.new.self.items (omega arith) c.loop-point.invariant (search rules)
+    ranks-last rank s.n c.args.points.now c.loop-point.point-index _ c.push-2.new.self.items (omega arith) c.loop-point.invariant (grind (arith, common_steps))
     ∙ ap (λ (m : ℕ). ranks_of s.n (map rank c.args.points.now ++ m ∷ [])) (sym whole)
 
 pub returns-clause-rises : goal.returns-clause-rises
@@ -34,4 +34,10 @@ pub returns-clause-there : goal.returns-clause-there
 returns-clause-there g c = grind (arith, common_steps)
 
 pub returns-clause-refused : goal.returns-clause-refused
-returns-clause-refused g c = grind (arith, common_steps)
+returns-clause-refused g c = grind arith
+
+pub loop-point-init : goal.loop-point-init
+loop-point-init g c = grind arith
+
+pub offset_bounds-points-point-index : goal.offset_bounds-points-point-index
+offset_bounds-points-point-index g c = grind arith

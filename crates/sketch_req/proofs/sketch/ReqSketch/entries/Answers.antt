@@ -10,3 +10,9 @@ merged-requires-clause-few g c =
     let held = ap (λ (h : Held g.row.T.Denot). length (pairs_of h.levels)) c.levels.view_is in
     let all = ap (λ (ls : List (Level g.row.T.Denot)). length (pairs_of ls)) c.as_slice.ensures.value in
     omega (arith, held, all, c.self.invariant.few_items, length-pairs c.levels.inside.compactors.items, length-pairs c.self.inside.levels.levels)
+
+pub returns-clause-some : goal.returns-clause-some
+returns-clause-some g c = grind arith
+
+pub returns-clause-moved : goal.returns-clause-moved
+returns-clause-moved g c = grind arith

@@ -1,4 +1,4 @@
-use Rattle.std.proofs.Common.{◌≡◌, length, false, rules, sym, subst, ◌∙◌, arith}
+use Rattle.std.proofs.Common.{◌≡◌, length, false, sym, subst, ◌∙◌, arith}
 use Rattle.std.proofs.lemmas.Grind.{common_steps}
 use Rattle.std.specs.Prelude.{Option, Some, IfSome, ◌==◌}
 use Rattle.sketch_base.specs.Bag.{expanded}
@@ -14,13 +14,13 @@ returns-in_default-3-clause-same g c =
     let f = c.args.fraction in
     let entries = expanded g.T.Ord.cmp (bag_of s.levels) in
     let whole : length entries ≡ c.n.result = length-expanded g.T.Ord.cmp (bag_of s.levels) ∙ sym c.n.ensures.weight in
-    let some : (f.weight == 0) ≡ false = search rules in
-    let part : (f.weight == f.total) ≡ false = search rules in
+    let some : (f.weight == 0) ≡ false = grind (arith, common_steps) in
+    let part : (f.weight == f.total) ≡ false = grind (arith, common_steps) in
     subst (λ (q : Option g.row.T.Denot). IfSome c.find_at.result (λ x. SameAnswer g.T.Ord.cmp q (Some x.now)))
     (quantile-at entries s.least s.greatest f.weight f.total c.n.result c.place_of.result c.args.criteria some part whole c.place_of.ensures.place) c.find_at.ensures
 
 pub returns-then-fraction-eq0-clause-same : goal.returns-then-fraction-eq0-clause-same
-returns-then-fraction-eq0-clause-same g c = grind (arith, common_steps)
+returns-then-fraction-eq0-clause-same g c = grind arith
 
 pub returns-then-fraction-clause-same : goal.returns-then-fraction-clause-same
-returns-then-fraction-clause-same g c = grind (arith, common_steps)
+returns-then-fraction-clause-same g c = grind arith

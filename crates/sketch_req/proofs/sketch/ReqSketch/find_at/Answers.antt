@@ -1,6 +1,5 @@
 use Rattle.std.proofs.Common.{arith}
-use Rattle.std.proofs.lemmas.Grind.{common_steps}
 use Rattle.sketch_req.proofs.sketch.ReqSketch.find_at.Goals as goal
 
 pub returns : goal.returns
-returns g c = grind (arith, common_steps)
+returns g c = grind arith

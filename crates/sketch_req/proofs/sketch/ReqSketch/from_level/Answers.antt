@@ -44,7 +44,10 @@ returns-clause-told g c =
     (ap (λ (s : Req g.row.T.Denot). s.levels) read ∙ c.in_ok-vec.ensures.items, subst (IsTold g.T.Ord.cmp c.args.header.now) (sym read) told)
 
 pub new-levels-requires-clause-levels : goal.new-levels-requires-clause-levels
-new-levels-requires-clause-levels g c = grind (arith, common_steps)
+new-levels-requires-clause-levels g c = grind arith
 
 pub same-level : goal.same-level
 same-level g c = grind (arith, common_steps)
+
+pub new-levels-requires-clause-some : goal.new-levels-requires-clause-some
+new-levels-requires-clause-some g c = grind arith

@@ -1,4 +1,4 @@
-use Rattle.std.proofs.Common.{◌≡◌, List, length, sym, ◌∙◌, Ordering, Less, Equal, Greater, refl}
+use Rattle.std.proofs.Common.{◌≡◌, List, length, sym, ◌∙◌, Ordering, Less, Equal, Greater, refl, arith}
 use Rattle.sketch_base.specs.Bag.{expanded}
 use Rattle.sketch_base.specs.Queries.{IsIncreasing, cdf_of}
 use Rattle.sketch_base.proofs.Distributions.{differences-left, ranks-sum}
@@ -31,3 +31,15 @@ returns-clause-sums g c =
     let there = rw c.in-Some.is at c.in_ok-ranks.ensures in
     ranks-sum g.met.T.Ord.total c.args.criteria entries c.args.points.now s.n _ (increasing-told g.T.Ord.cmp c.args.points.now (λ no. let e = there.refused.0.1 no in absurd cc))
     (returns-clause-found g c) ∙ whole
+
+pub returns-clause-refused : goal.returns-clause-refused
+returns-clause-refused g c = grind arith
+
+pub take_differences-requires : goal.take_differences-requires
+take_differences-requires g c = grind arith
+
+pub returns-in_default-clause-refused : goal.returns-in_default-clause-refused
+returns-in_default-clause-refused g c = grind arith
+
+pub returns-clause-there : goal.returns-clause-there
+returns-clause-there g c = grind arith

@@ -11,7 +11,7 @@ returns-clause-found g c =
     c.quantile-2.result c.quantile-2.ensures.found
 
 pub returns-in-Some-clause-found : goal.returns-in-Some-clause-found
-returns-in-Some-clause-found g c = grind (arith, common_steps)
+returns-in-Some-clause-found g c = grind arith
 
 pub returns-in-Some-clause-refused : goal.returns-in-Some-clause-refused
 returns-in-Some-clause-refused g c = grind (arith, common_steps)
@@ -21,3 +21,6 @@ returns-clause-there g c = grind (arith, common_steps)
 
 pub returns-clause-refused : goal.returns-clause-refused
 returns-clause-refused g c = grind (arith, common_steps)
+
+pub returns-in-Some-clause-there : goal.returns-in-Some-clause-there
+returns-in-Some-clause-there g c = grind arith

@@ -82,3 +82,12 @@ returns-clause-found g c =
 
 pub returns-clause-kind : goal.returns-clause-kind
 returns-clause-kind g c = grind (arith, common_steps)
+
+pub returns-clause-refused : goal.returns-clause-refused
+returns-clause-refused g c = grind arith
+
+pub same-level : goal.same-level
+same-level g c = grind arith
+
+pub overflow_cast-num_items : goal.overflow_cast-num_items
+overflow_cast-num_items g c = grind arith

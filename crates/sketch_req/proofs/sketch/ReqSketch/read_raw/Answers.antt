@@ -84,10 +84,10 @@ returns-clause-found g c =
     }) c.from_level.ensures.told
 
 pub returns-clause-refused : goal.returns-clause-refused
-returns-clause-refused g c = grind (arith, common_steps)
+returns-clause-refused g c = grind arith
 
 pub returns-in_err-items-clause-refused : goal.returns-in_err-items-clause-refused
-returns-in_err-items-clause-refused g c = grind (arith, common_steps)
+returns-in_err-items-clause-refused g c = grind arith
 
 pub raw_items_compactor-level-requires-clause-few : goal.raw_items_compactor-level-requires-clause-few
 raw_items_compactor-level-requires-clause-few g c = grind (arith, common_steps)

@@ -68,3 +68,12 @@ returns-clause-some g c =
     IfErr-weaker c.from_weighted.result (λ e. 0 < length c.as_slice.result.now) (λ e. c.args.self.now.n ≢ 0)
     (λ e some none.
     absurd (omega (arith, some, none, most, length-pairs_in entries, ap length c.as_slice.ensures.value, ap (λ (t : Req g.row.T.Denot). t.n) c.self.view_is))) c.from_weighted.ensures.none
+
+pub returns-clause-joined : goal.returns-clause-joined
+returns-clause-joined g c = grind arith
+
+pub from_weighted-requires-clause-sorted : goal.from_weighted-requires-clause-sorted
+from_weighted-requires-clause-sorted g c = grind arith
+
+pub returns-clause-memory : goal.returns-clause-memory
+returns-clause-memory g c = grind arith

@@ -87,10 +87,40 @@ pub returns-clause-empty : goal.returns-clause-empty
 returns-clause-empty g c = grind (arith, common_steps)
 
 pub returns-clause-full : goal.returns-clause-full
-returns-clause-full g c = grind (arith, common_steps)
+returns-clause-full g c = grind arith
 
 pub returns-clause-refused : goal.returns-clause-refused
 returns-clause-refused g c = grind (arith, common_steps)
 
 pub returns-then-count-eq0-clause-full : goal.returns-then-count-eq0-clause-full
 returns-then-count-eq0-clause-full g c = grind (arith, common_steps)
+
+pub returns-in_err-unless-clause-memory : goal.returns-in_err-unless-clause-memory
+returns-in_err-unless-clause-memory g c = grind arith
+
+pub returns-in_err-take_all-clause-refused : goal.returns-in_err-take_all-clause-refused
+returns-in_err-take_all-clause-refused g c = grind arith
+
+pub returns-in_err-take_all-clause-sound : goal.returns-in_err-take_all-clause-sound
+returns-in_err-take_all-clause-sound g c = grind arith
+
+pub returns-clause-err : goal.returns-clause-err
+returns-clause-err g c = grind arith
+
+pub returns-in_err-take_all-clause-empty : goal.returns-in_err-take_all-clause-empty
+returns-in_err-take_all-clause-empty g c = grind arith
+
+pub returns-then-count-eq0-clause-empty : goal.returns-then-count-eq0-clause-empty
+returns-then-count-eq0-clause-empty g c = grind arith
+
+pub returns-clause-memory : goal.returns-clause-memory
+returns-clause-memory g c = grind arith
+
+pub same-self-in_err-least : goal.same-self-in_err-least
+same-self-in_err-least g c = grind arith
+
+pub returns-clause-drawn : goal.returns-clause-drawn
+returns-clause-drawn g c = grind arith
+
+pub returns-in_err-take_all-clause-full : goal.returns-in_err-take_all-clause-full
+returns-in_err-take_all-clause-full g c = grind arith

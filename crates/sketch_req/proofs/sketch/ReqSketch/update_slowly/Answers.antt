@@ -59,7 +59,28 @@ pub invariant_of-self : goal.invariant_of-self
 invariant_of-self g c = grind (arith, common_steps)
 
 pub overflow_add-self : goal.overflow_add-self
-overflow_add-self g c = grind (arith, common_steps)
+overflow_add-self g c = grind arith
 
 pub returns-clause-full : goal.returns-clause-full
-returns-clause-full g c = grind (arith, common_steps)
+returns-clause-full g c = grind arith
+
+pub returns-in_err-take_last-clause-err : goal.returns-in_err-take_last-clause-err
+returns-in_err-take_last-clause-err g c = grind arith
+
+pub same-self-in_err-least : goal.same-self-in_err-least
+same-self-in_err-least g c = grind arith
+
+pub returns-in_err-take_last-clause-full : goal.returns-in_err-take_last-clause-full
+returns-in_err-take_last-clause-full g c = grind arith
+
+pub returns-clause-memory : goal.returns-clause-memory
+returns-clause-memory g c = grind arith
+
+pub returns-in_err-take_last-clause-sound : goal.returns-in_err-take_last-clause-sound
+returns-in_err-take_last-clause-sound g c = grind arith
+
+pub returns-in_err-least-clause-full : goal.returns-in_err-least-clause-full
+returns-in_err-least-clause-full g c = grind arith
+
+pub returns-clause-err : goal.returns-clause-err
+returns-clause-err g c = grind arith

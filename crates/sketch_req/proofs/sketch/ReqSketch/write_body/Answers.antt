@@ -7,3 +7,9 @@ returns-in-Raw-clause-ok g c = grind (arith, common_steps)
 
 pub returns-in_ok-write_option-in-Several-2-clause-ok : goal.returns-in_ok-write_option-in-Several-2-clause-ok
 returns-in_ok-write_option-in-Several-2-clause-ok g c = grind (arith, common_steps)
+
+pub returns-in_ok-write_option-in-Several-2-clause-memory : goal.returns-in_ok-write_option-in-Several-2-clause-memory
+returns-in_ok-write_option-in-Several-2-clause-memory g c = grind arith
+
+pub returns-in-One-clause-ok : goal.returns-in-One-clause-ok
+returns-in-One-clause-ok g c = grind arith

@@ -1,4 +1,4 @@
-use Rattle.std.proofs.Common.{rules, ◌≡◌, ◌∙◌, ℕ, List, sym, ap, arith, true, false, is_gt}
+use Rattle.std.proofs.Common.{◌≡◌, ◌∙◌, ℕ, List, sym, ap, arith, true, false, is_gt}
 use Rattle.std.proofs.lemmas.Grind.{common_steps}
 use Rattle.std.specs.Prelude.{IsTrue}
 use Rattle.sketch_req.specs.Held.{Held, held_of}
@@ -28,7 +28,7 @@ pub returns-then-eq-clause-yes : goal.returns-then-eq-clause-yes
 returns-then-eq-clause-yes g c = λ t. record {
   some_weight = omega (arith, c.if-n-eq0.false);
   n_fits = omega (arith, c.ranges.n.fits);
-  weighs_n = search rules;
+  weighs_n = grind (arith, common_steps);
   few_items = omega (arith, held_retained c.levels.inside.compactors.items c.levels.view_is, c.levels.invariant.retained_is, c.if-levels-gt-MAX_ITEMS.false);
   ends = record {
     in_order = ap is_gt (sym c.cmp.ensures) ∙ sym c.is_gt.ensures ∙ c.if-is_gt.false;

@@ -1,5 +1,5 @@
 -- The levels themselves take the items at once, or a copy takes them in turn.
-use Rattle.std.proofs.Common.{◌≡◌, ◌∙◌, arith, ap, rules}
+use Rattle.std.proofs.Common.{◌≡◌, ◌∙◌, arith, ap}
 use Rattle.std.proofs.lemmas.Grind.{common_steps}
 use Rattle.std.proofs.lemmas.List.Elements.{length_all_zip}
 use Rattle.sketch_base.specs.Trace.{draws_of}
@@ -69,13 +69,31 @@ returns-in_err-take_in_turn-clause-drawn g c =
     let theirs = c.in_err-take_in_turn.ensures.drawn in
     let drawn : IsDrawnFrom g.B.RandomBits.next (draws_of (updates_actions s.k s.accuracy (layouts_of s.levels) c.args.items.now)) c.args.coins.now c.take_in_turn.new.coins =
     rw (k, accuracy, same) at theirs in
-    search rules
+    grind (arith, common_steps)
 
 pub returns-clause-kept : goal.returns-clause-kept
-returns-clause-kept g c = grind (arith, common_steps)
+returns-clause-kept g c = grind arith
 
 pub returns-clause-taken : goal.returns-clause-taken
 returns-clause-taken g c = grind (arith, common_steps)
 
 pub fill-requires-clause-room : goal.fill-requires-clause-room
 fill-requires-clause-room g c = grind (arith, common_steps)
+
+pub invariant_of-self : goal.invariant_of-self
+invariant_of-self g c = grind arith
+
+pub fill-requires-clause-some : goal.fill-requires-clause-some
+fill-requires-clause-some g c = grind arith
+
+pub returns-clause-drawn : goal.returns-clause-drawn
+returns-clause-drawn g c = grind arith
+
+pub same-self-in_err-take_in_turn : goal.same-self-in_err-take_in_turn
+same-self-in_err-take_in_turn g c = grind arith
+
+pub returns-clause-err : goal.returns-clause-err
+returns-clause-err g c = grind arith
+
+pub returns-clause-memory : goal.returns-clause-memory
+returns-clause-memory g c = grind arith

@@ -1,6 +1,6 @@
 -- The loop takes one part of the items after another.
 use Rattle.std.proofs.lemmas.Grind.{common_steps}
-use Rattle.std.proofs.Common.{◌≡◌, ◌≤◌, ◌∙◌, List, ℕ, arith, length, take, drop, ap, subst, rules, take-add, take_all, length-drop, ◌-◌}
+use Rattle.std.proofs.Common.{◌≡◌, ◌≤◌, ◌∙◌, List, ℕ, arith, length, take, drop, ap, subst, take-add, take_all, length-drop, ◌-◌}
 use Rattle.std.proofs.lemmas.List.{take-append-drop}
 use Rattle.sketch_base.specs.Trace.{draws_of}
 use Rattle.sketch_req.specs.Held.{Held}
@@ -24,7 +24,7 @@ returns-in_err-taken-clause-drawn g c =
       few = few;
       after_is = c.in_err-taken.ensures.err ∙ c.loop-taken.invariant.left.source_is;
     } in
-    search rules
+    grind (arith, common_steps)
 
 pub loop-taken-preserved : goal.loop-taken-preserved
 loop-taken-preserved g c =
@@ -40,7 +40,7 @@ loop-taken-preserved g c =
     let left = rw (k, accuracy, rest) at e.left in
     record {
       within = omega (arith, i.within, e.within, length-drop c.loop-taken.taken items);
-      kept = c.take_some.ensures.kept ∙ rw (k, accuracy) search rules;
+      kept = c.take_some.ensures.kept ∙ rw (k, accuracy) grind (arith, common_steps);
       so_far = rw (take-add c.loop-taken.taken c.in_ok-taken.field-0 items)
           (taken-append g.met.T.Ord.total g.B.RandomBits.bit g.B.RandomBits.next s.k s.accuracy _ _ _ s.levels c.loop-taken.self.levels _ (take c.loop-taken.taken items) _ i.so_far taken);
       left = rw (take-add c.loop-taken.taken c.in_ok-taken.field-0 items)
@@ -52,3 +52,9 @@ returns-clause-taken g c = grind (arith, common_steps)
 
 pub loop-taken-init : goal.loop-taken-init
 loop-taken-init g c = grind (arith, common_steps)
+
+pub loop-taken-smaller : goal.loop-taken-smaller
+loop-taken-smaller g c = grind arith
+
+pub overflow_add-taken : goal.overflow_add-taken
+overflow_add-taken g c = grind arith

@@ -57,3 +57,21 @@ invariant_of-self g c = grind (arith, common_steps)
 
 pub returns-clause-kept : goal.returns-clause-kept
 returns-clause-kept g c = grind (arith, common_steps)
+
+pub overflow_add-self-inside : goal.overflow_add-self-inside
+overflow_add-self-inside g c = grind arith
+
+pub append_and_walk-requires-clause-levels : goal.append_and_walk-requires-clause-levels
+append_and_walk-requires-clause-levels g c = grind arith
+
+pub append_and_walk-requires-clause-few : goal.append_and_walk-requires-clause-few
+append_and_walk-requires-clause-few g c = grind arith
+
+pub append_and_walk-requires-clause-fits : goal.append_and_walk-requires-clause-fits
+append_and_walk-requires-clause-fits g c = grind arith
+
+pub put-requires : goal.put-requires
+put-requires g c = grind arith
+
+pub overflow_sub-max : goal.overflow_sub-max
+overflow_sub-max g c = grind arith

@@ -50,10 +50,22 @@ returns-then-room-eq0-clause-left g c =
     (one g (past.returns-then-room-eq0-clause-left g c).In_ok-take_last)).left)
 
 pub returns-then-room-eq0-clause-taken : goal.returns-then-room-eq0-clause-taken
-returns-then-room-eq0-clause-taken g c = grind (arith, common_steps)
+returns-then-room-eq0-clause-taken g c = grind arith
 
 pub fill-requires-clause-room : goal.fill-requires-clause-room
 fill-requires-clause-room g c = grind (arith, common_steps)
 
 pub slice_bounds-fill-end : goal.slice_bounds-fill-end
 slice_bounds-fill-end g c = grind (arith, common_steps)
+
+pub overflow_add-self-inside : goal.overflow_add-self-inside
+overflow_add-self-inside g c = grind arith
+
+pub returns-then-room-eq0-clause-kept : goal.returns-then-room-eq0-clause-kept
+returns-then-room-eq0-clause-kept g c = grind arith
+
+pub fill-requires-clause-some : goal.fill-requires-clause-some
+fill-requires-clause-some g c = grind arith
+
+pub returns-then-room-eq0-clause-within : goal.returns-then-room-eq0-clause-within
+returns-then-room-eq0-clause-within g c = grind arith

@@ -154,3 +154,12 @@ join_levels-requires-clause-others g c = grind (arith, common_steps)
 
 pub join_levels-requires-clause-few : goal.join_levels-requires-clause-few
 join_levels-requires-clause-few g c = grind (arith, common_steps)
+
+pub join_levels-requires-clause-nothing : goal.join_levels-requires-clause-nothing
+join_levels-requires-clause-nothing g c = grind arith
+
+pub reserve-requires-clause-few : goal.reserve-requires-clause-few
+reserve-requires-clause-few g c = grind arith
+
+pub join_levels-requires-clause-empty : goal.join_levels-requires-clause-empty
+join_levels-requires-clause-empty g c = grind arith

@@ -150,3 +150,9 @@ pub returns-clause-spare : goal.returns-clause-spare
 returns-clause-spare g c =
     let i = c.loop-level.invariant in
     omega (arith, i.joined.len, i.spare, c.loop-level.levels.ok)
+
+pub offset_bounds-others-level : goal.offset_bounds-others-level
+offset_bounds-others-level g c = grind arith
+
+pub bounds-others-level : goal.bounds-others-level
+bounds-others-level g c = grind arith

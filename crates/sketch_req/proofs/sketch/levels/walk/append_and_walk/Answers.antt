@@ -57,3 +57,24 @@ reserve-requires-clause-few g c = grind (arith, common_steps)
 
 pub index_mut-requires : goal.index_mut-requires
 index_mut-requires g c = grind (arith, common_steps)
+
+pub returns-clause-err : goal.returns-clause-err
+returns-clause-err g c = grind arith
+
+pub walk-requires-clause-nothing : goal.walk-requires-clause-nothing
+walk-requires-clause-nothing g c = grind arith
+
+pub walk-requires-clause-above : goal.walk-requires-clause-above
+walk-requires-clause-above g c = grind arith
+
+pub walk-requires-clause-spare : goal.walk-requires-clause-spare
+walk-requires-clause-spare g c = grind arith
+
+pub returns-clause-memory : goal.returns-clause-memory
+returns-clause-memory g c = grind arith
+
+pub walk-requires-clause-empty : goal.walk-requires-clause-empty
+walk-requires-clause-empty g c = grind arith
+
+pub returns-in_err-append-clause-err : goal.returns-in_err-append-clause-err
+returns-in_err-append-clause-err g c = grind arith

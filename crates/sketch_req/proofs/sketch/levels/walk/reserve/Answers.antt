@@ -198,3 +198,6 @@ returns-clause-nothing g c = grind (arith, common_steps)
 
 pub returns-clause-above : goal.returns-clause-above
 returns-clause-above g c = grind (arith, common_steps)
+
+pub new-blank-requires-clause-legal : goal.new-blank-requires-clause-legal
+new-blank-requires-clause-legal g c = grind arith

@@ -238,3 +238,6 @@ returns-else-not-is_empty g c =
           (steps_actions (k_of ls) (accuracy_of ls) n 0 layouts) (steps_layouts (k_of ls) n 0 layouts) ls c.loop-level.levels.items)
           all (c.loop-level.invariant.pending.none none);
     }
+
+pub invariant_of-behind-rooms : goal.invariant_of-behind-rooms
+invariant_of-behind-rooms g c = grind arith
