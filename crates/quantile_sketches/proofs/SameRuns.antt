@@ -10,7 +10,7 @@ use Rattle.quantile_sketches.specs.Behaviour.{Behaviour, Change}
 use Rattle.quantile_sketches.specs.declared.answer.Refusal.TheVariants.{Sketch}
 use Rattle.quantile_sketches.specs.declared.audit.commands.Command.{Command}
 use Rattle.quantile_sketches.specs.declared.audit.commands.Command.TheVariants.{New, Update, UpdateWeighted, Merge, Reset, RoundTrip, Redraw, MergeRedrawn}
-use Rattle.quantile_sketches.specs.SameRun.{AreCarriedOut, CommandsMakeOne}
+use Rattle.quantile_sketches.specs.SameRun.{CommandsMakeOne}
 use Rattle.quantile_sketches.specs.LineSteps.{Slots, Verdict, Turns, Joins, Changes, Makes, Empties, RoundTrips, JoinsCopy, Merges, CarriesOutItem}
 
 -- memory does not run out

@@ -18,7 +18,7 @@ pub returns-in-Ok-Done : goal.returns-in-Ok-Done
 returns-in-Ok-Done g c = grind (arith, common_steps)
 
 pub returns-in-Ok : goal.returns-in-Ok
-returns-in-Ok g c = grind (arith, common_steps)
+returns-in-Ok g c = grind arith
 
 pub returns-in-Ok-Item-Some : goal.returns-in-Ok-Item-Some
-returns-in-Ok-Item-Some g c = grind (arith, common_steps)
+returns-in-Ok-Item-Some g c = grind arith

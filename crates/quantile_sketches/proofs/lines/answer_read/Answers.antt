@@ -19,3 +19,6 @@ pub returns-in_err-read_until : goal.returns-in_err-read_until
 returns-in_err-read_until g c =
     let fails = c.from_residual.ensures.0 in
     record { answered = IfOk-from_err c.from_residual.result _ fails; end = IfOk-from_err c.from_residual.result _ fails }
+
+pub returns-then-branch-eq0-clause-end : goal.returns-then-branch-eq0-clause-end
+returns-then-branch-eq0-clause-end g c = grind arith

@@ -30,3 +30,9 @@ returns-in-req c = grind (arith, common_steps)
 
 pub returns-in_default-2 : goal.returns-in_default-2
 returns-in_default-2 c = grind (arith, common_steps)
+
+pub bounds-words-1 : goal.bounds-words-1
+bounds-words-1 c = grind arith
+
+pub bounds-words-0 : goal.bounds-words-0
+bounds-words-0 c = grind arith

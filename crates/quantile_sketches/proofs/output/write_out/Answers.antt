@@ -1,4 +1,4 @@
-use Rattle.std.proofs.Common.{[], sym, ◌∙◌}
+use Rattle.std.proofs.Common.{[], sym, ◌∙◌, arith}
 use Rattle.std.proofs.lemmas.List.{append-nil}
 use Rattle.quantile_sketches.proofs.Outputs.{writes-early, writes-flushed}
 use Rattle.quantile_sketches.proofs.output.write_out.Goals as goal
@@ -10,3 +10,6 @@ returns-in_err-write_bytes-clause-written g c =
 pub returns-clause-written : goal.returns-clause-written
 returns-clause-written g c =
     writes-flushed _ c.args.waiting.now.items c.flush.result (sym c.as_slice.ensures.value) c.in_ok-write_bytes.ensures c.flush.ensures.bytes
+
+pub returns-clause-nothing_waits : goal.returns-clause-nothing_waits
+returns-clause-nothing_waits g c = grind arith

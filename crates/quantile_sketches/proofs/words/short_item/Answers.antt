@@ -26,3 +26,6 @@ overflow_sub-result c = grind (arith, common_steps)
 
 pub returns-in_err-number : goal.returns-in_err-number
 returns-in_err-number c = grind (arith, common_steps)
+
+pub overflow_sub-item : goal.overflow_sub-item
+overflow_sub-item c = grind arith

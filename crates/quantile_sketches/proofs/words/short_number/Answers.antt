@@ -53,3 +53,18 @@ found c true is =
 
 pub returns : goal.returns
 returns c = rw (c.then_some.ensures) (found c c.if-len-gt0.is_number refl)
+
+pub bounds-text-len-in-loop-len : goal.bounds-text-len-in-loop-len
+bounds-text-len-in-loop-len c = grind arith
+
+pub overflow_cast-number : goal.overflow_cast-number
+overflow_cast-number c = grind arith
+
+pub loop-len-smaller : goal.loop-len-smaller
+loop-len-smaller c = grind arith
+
+pub overflow_sub-number : goal.overflow_sub-number
+overflow_sub-number c = grind arith
+
+pub overflow_add-len : goal.overflow_add-len
+overflow_add-len c = grind arith

@@ -44,3 +44,42 @@ overflow_add-result c =
     let few : length c.args.text.now < 2 ^ 64 = omega arith in
     place-fits c.args.text.now _ c.in_ok-item.len (item-within _ _ _ _ c.in_ok-item.ensures)
     (le_trans (behind-shorter 1 _) (le_trans (behind-shorter c.in_ok-slot.slot_len _) (behind-shorter 7 c.args.text.now))) few
+
+pub slice_bounds-numbers-count : goal.slice_bounds-numbers-count
+slice_bounds-numbers-count c = grind arith
+
+pub bounds-text-2 : goal.bounds-text-2
+bounds-text-2 c = grind arith
+
+pub slice_bounds-numbers-start : goal.slice_bounds-numbers-start
+slice_bounds-numbers-start c = grind arith
+
+pub slice_bounds-t-41-start : goal.slice_bounds-t-41-start
+slice_bounds-t-41-start c = grind arith
+
+pub bounds-text-1 : goal.bounds-text-1
+bounds-text-1 c = grind arith
+
+pub short_number-requires : goal.short_number-requires
+short_number-requires c = grind arith
+
+pub bounds-text-5 : goal.bounds-text-5
+bounds-text-5 c = grind arith
+
+pub bounds-text-3 : goal.bounds-text-3
+bounds-text-3 c = grind arith
+
+pub bounds-text-0 : goal.bounds-text-0
+bounds-text-0 c = grind arith
+
+pub bounds-text-4 : goal.bounds-text-4
+bounds-text-4 c = grind arith
+
+pub slice_bounds-t-40-count : goal.slice_bounds-t-40-count
+slice_bounds-t-40-count c = grind arith
+
+pub bounds-0 : goal.bounds-0
+bounds-0 c = grind arith
+
+pub bounds-text-6 : goal.bounds-text-6
+bounds-text-6 c = grind arith

@@ -1,4 +1,4 @@
-use Rattle.std.proofs.Common.{◌≡◌, ◌≤◌, ◌^◌, ℕ, List, inl, sym, ap, ◌∙◌, subst}
+use Rattle.std.proofs.Common.{◌≡◌, ◌≤◌, ◌^◌, ℕ, List, inl, sym, ap, ◌∙◌, subst, arith}
 use Rattle.std.proofs.lemmas.Result.{IfOk-from_err}
 use Rattle.quantile_sketches.specs.Refused.{AreRefused}
 use Rattle.quantile_sketches.proofs.CallErrors.{IfErr-from_err_and}
@@ -48,3 +48,12 @@ weights_under_all-requires-clause-few g c = subst (λ (n : ℕ). n ≤ 16) (sym 
 pub true_rank-requires-clause-refused : goal.true_rank-requires-clause-refused
 true_rank-requires-clause-refused g c =
     (_, subst (λ (l : List ℕ). AreRefused g.S.Family.kind _ c.args.commands.now l) (sym c.as_slice.ensures.value) c.in_ok-first.ensures.refused)
+
+pub true_rank-requires-clause-lawful : goal.true_rank-requires-clause-lawful
+true_rank-requires-clause-lawful g c = grind arith
+
+pub weights_under_all-requires-clause-asks : goal.weights_under_all-requires-clause-asks
+weights_under_all-requires-clause-asks g c = grind arith
+
+pub weights_under_all-requires-clause-lawful : goal.weights_under_all-requires-clause-lawful
+weights_under_all-requires-clause-lawful g c = grind arith

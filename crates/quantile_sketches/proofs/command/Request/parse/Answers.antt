@@ -8,3 +8,6 @@ returns g c = search (rules, asks_by_its_verb)
 
 pub returns-in_err-slot : goal.returns-in_err-slot
 returns-in_err-slot g c = grind (arith, common_steps)
+
+pub returns-in_err-verb : goal.returns-in_err-verb
+returns-in_err-verb g c = grind arith

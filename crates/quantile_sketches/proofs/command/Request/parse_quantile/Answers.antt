@@ -9,7 +9,7 @@ pub returns-in_err-criteria : goal.returns-in_err-criteria
 returns-in_err-criteria c = grind (arith, common_steps)
 
 pub returns : goal.returns
-returns c = grind (arith, common_steps)
+returns c = grind arith
 
 pub returns-in_err-weight : goal.returns-in_err-weight
 returns-in_err-weight c = grind (arith, common_steps)

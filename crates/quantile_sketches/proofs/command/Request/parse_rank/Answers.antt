@@ -6,7 +6,7 @@ pub returns-in_err-criteria : goal.returns-in_err-criteria
 returns-in_err-criteria c = grind (arith, common_steps)
 
 pub returns : goal.returns
-returns c = grind (arith, common_steps)
+returns c = grind arith
 
 pub returns-in_err-item : goal.returns-in_err-item
 returns-in_err-item c = grind (arith, common_steps)

@@ -3,7 +3,7 @@ use Rattle.std.proofs.lemmas.Grind.{common_steps}
 use Rattle.quantile_sketches.proofs.command.Request.parse_update.Goals as goal
 
 pub returns : goal.returns
-returns c = grind (arith, common_steps)
+returns c = grind arith
 
 pub returns-in_err-item : goal.returns-in_err-item
 returns-in_err-item c = grind (arith, common_steps)

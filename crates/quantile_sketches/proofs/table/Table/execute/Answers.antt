@@ -55,3 +55,6 @@ pub returns-in-MergeRedrawn : goal.returns-in-MergeRedrawn
 returns-in-MergeRedrawn g c =
     carried_out g.S.Family.behaviour g.B.RandomBits.bit g.B.RandomBits.next g.S.Item.Clone.is_clone c.args.command.now _ c.args.self.now c.args.coins.now
     c.merge-in-MergeRedrawn.result c.merge-in-MergeRedrawn.new.self c.merge-in-MergeRedrawn.new.coins c.in-MergeRedrawn.is c.merge-in-MergeRedrawn.ensures
+
+pub returns-in-New : goal.returns-in-New
+returns-in-New g c = grind arith

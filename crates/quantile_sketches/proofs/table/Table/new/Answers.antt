@@ -14,3 +14,9 @@ pub returns : goal.returns
 returns g c =
     let all : c.loop-i._i ≡ SLOTS = le_antisymm c.loop-i.auto._i-end c.loop-i-test.false in
     c.loop-i.invariant.1 ∙ ap (λ n. replicate n None) all
+
+pub loop-i-init : goal.loop-i-init
+loop-i-init g c = grind arith
+
+pub invariant_of-result : goal.invariant_of-result
+invariant_of-result g c = grind arith

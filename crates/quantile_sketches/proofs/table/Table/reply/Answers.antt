@@ -37,3 +37,9 @@ returns-in_ok-sketch-in-Pmf g c = grind (arith, common_steps)
 
 pub returns-in_ok-sketch-in-Image : goal.returns-in_ok-sketch-in-Image
 returns-in_ok-sketch-in-Image g c = grind (arith, common_steps)
+
+pub overflow_cast-slot : goal.overflow_cast-slot
+overflow_cast-slot g c = grind arith
+
+pub invariant_of-self : goal.invariant_of-self
+invariant_of-self g c = grind arith

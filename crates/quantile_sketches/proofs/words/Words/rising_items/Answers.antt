@@ -7,3 +7,6 @@ loop-item-preserved c = grind (arith, common_steps)
 
 pub loop-item-smaller : goal.loop-item-smaller
 loop-item-smaller c = grind (arith, common_steps)
+
+pub returns-clause-rise : goal.returns-clause-rise
+returns-clause-rise c = grind arith

@@ -1,6 +1,5 @@
 use Rattle.std.proofs.Common.{arith}
-use Rattle.std.proofs.lemmas.Grind.{common_steps}
 use Rattle.quantile_sketches.proofs.family.req.ReqSketchFamily.merge.Goals as goal
 
 pub returns : goal.returns
-returns c = grind (arith, common_steps)
+returns c = grind arith

@@ -25,3 +25,6 @@ returns-in_err-update g c =
     let e : c.from_residual.result ≡ Err c.in_err-update.field-0.0 = search rules in
     subst (λ (r : Result (Unit {0}) ErrorKind). TakesIn g.T.Ord.cmp g.T.ReqValue.spelling g.B.RandomBits.bit g.B.RandomBits.next c.args.self.now c.args.item c.args.coins.now r
     c.update.new.self c.update.new.coins) (sym e) h
+
+pub returns : goal.returns
+returns g c = grind arith

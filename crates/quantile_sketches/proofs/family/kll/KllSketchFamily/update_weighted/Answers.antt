@@ -1,0 +1,5 @@
+use Rattle.std.proofs.Common.{arith}
+use Rattle.quantile_sketches.proofs.family.kll.KllSketchFamily.update_weighted.Goals as goal
+
+pub returns : goal.returns
+returns c = grind arith
