@@ -1,28 +1,21 @@
-use Rattle.std.proofs.Common.{refl, arith}
-use Rattle.std.proofs.lemmas.Grind.{common_steps}
+use Rattle.std.proofs.Common.{refl}
 use Rattle.quantile_sketches.specs.declared.answer.Refusal.TheVariants.{Sketch}
-use Rattle.quantile_sketches.proofs.Slots.{borrowed_mut, error_is, copy_joins, copy_stays, copy_fails}
+use Rattle.quantile_sketches.proofs.Slots.{error_is, copy_joins, copy_stays, copy_fails}
 use Rattle.quantile_sketches.proofs.table.merge_copy.Goals as goal
-
-pub part_some-slot : goal.part_some-slot
-part_some-slot c = grind (arith, common_steps)
-
-pub part_none-slot : goal.part_none-slot
-part_none-slot c = grind (arith, common_steps)
 
 pub returns : goal.returns
 returns g c =
-    copy_joins g.S.Family.behaviour g.B.RandomBits.bit g.B.RandomBits.next c.args.redraws c.refuses.result c.args.slot.now c.in_ok-sketch.sketch.now
+    copy_joins g.S.Family.behaviour g.B.RandomBits.bit g.B.RandomBits.next c.args.redraws c.refuses.result c.args.slot.now c.in-Some.sketch
     c.args.coins.now
-    (borrowed_mut c.args.slot.now c.as_mut.result c.in_ok-sketch.sketch c.as_mut.ensures.value c.in_ok-sketch.ensures.value) c.refuses.ensures
+    c.in-Some.is c.refuses.ensures
     (c.in_ok-unless.ensures.ok.0 refl)
     c.in_ok-copy.copy _ c.merge.new.coins c.in_ok-copy.ensures c.in_ok-merge.ensures
 
 pub returns-in_err-merge : goal.returns-in_err-merge
 returns-in_err-merge g c =
-    copy_stays g.S.Family.behaviour g.B.RandomBits.bit g.B.RandomBits.next c.args.redraws c.refuses.result c.args.slot.now c.in_ok-sketch.sketch.now
+    copy_stays g.S.Family.behaviour g.B.RandomBits.bit g.B.RandomBits.next c.args.redraws c.refuses.result c.args.slot.now c.in-Some.sketch
     c.args.coins.now
-    (borrowed_mut c.args.slot.now c.as_mut.result c.in_ok-sketch.sketch c.as_mut.ensures.value c.in_ok-sketch.ensures.value) c.refuses.ensures
+    c.in-Some.is c.refuses.ensures
     (c.in_ok-unless.ensures.ok.0 refl)
     c.in_ok-copy.copy c.merge.new.self c.merge.new.coins c.in_err-merge.field-0.0 c.from_residual-in_err-merge.result c.in_ok-copy.ensures
     c.in_err-merge.ensures
@@ -30,9 +23,9 @@ returns-in_err-merge g c =
 
 pub returns-in_err-copy : goal.returns-in_err-copy
 returns-in_err-copy g c =
-    copy_fails g.S.Family.behaviour g.B.RandomBits.bit g.B.RandomBits.next c.args.redraws c.refuses.result c.args.slot.now c.in_ok-sketch.sketch.now
+    copy_fails g.S.Family.behaviour g.B.RandomBits.bit g.B.RandomBits.next c.args.redraws c.refuses.result c.args.slot.now c.in-Some.sketch
     c.args.coins.now
-    (borrowed_mut c.args.slot.now c.as_mut.result c.in_ok-sketch.sketch c.as_mut.ensures.value c.in_ok-sketch.ensures.value) c.refuses.ensures
+    c.in-Some.is c.refuses.ensures
     (c.in_ok-unless.ensures.ok.0 refl)
     c.in_err-copy.field-0.0 c.from_residual-in_err-copy.result c.in_err-copy.ensures
     (error_is c.from_residual-in_err-copy.result (Sketch c.in_err-copy.field-0.0) c.from_residual-in_err-copy.ensures.1)

@@ -1,47 +1,40 @@
-use Rattle.std.proofs.Common.{Err, refl, ap, ◌∙◌, arith}
-use Rattle.std.proofs.lemmas.Grind.{common_steps}
+use Rattle.std.proofs.Common.{Err, refl, ap, ◌∙◌}
 use Rattle.sketch_base.specs.declared.error.ErrorKind.TheVariants.{InvalidArgument, OutOfMemory}
 use Rattle.quantile_sketches.specs.declared.answer.Refusal.TheVariants.{Sketch}
-use Rattle.quantile_sketches.proofs.Slots.{refused_early, borrowed_mut, error_is, refused_for, fails_for, clone_taken, clone_refused}
+use Rattle.quantile_sketches.proofs.Slots.{refused_early, error_is, refused_for, fails_for, clone_taken, clone_refused}
 use Rattle.quantile_sketches.proofs.table.update_weighted.Goals as goal
 
 pub returns-in_err-unless : goal.returns-in_err-unless
 returns-in_err-unless g c =
     refused_early g.S.Family.behaviour (g.S.Item.Clone.is_clone c.args.item.now) (λ x. g.S.Family.behaviour.taken_weighted x c.args.weight g.row.B.Denot g.B.RandomBits.bit g.B.RandomBits.next)
-    c.args.slot.now c.in_ok-sketch.sketch.now c.refuses_weight.result c.from_residual-in_err-unless.result c.args.coins.now
-    (borrowed_mut c.args.slot.now c.as_mut.result c.in_ok-sketch.sketch c.as_mut.ensures.value c.in_ok-sketch.ensures.value)
+    c.args.slot.now c.in-Some.sketch c.refuses_weight.result c.from_residual.result c.args.coins.now
+    c.in-Some.is
     c.refuses_weight.ensures InvalidArgument (refused_for c.refuses_weight.result c.in_err-unless.ensures.ok.1)
-    (error_is c.from_residual-in_err-unless.result (Sketch c.in_err-unless.field-0.0) c.from_residual-in_err-unless.ensures.1
+    (error_is c.from_residual.result (Sketch c.in_err-unless.field-0.0) c.from_residual.ensures.1
     ∙ ap (λ e. Err (Sketch e)) c.in_err-unless.ensures.err)
 
 pub returns-in_err-clone : goal.returns-in_err-clone
 returns-in_err-clone g c =
     refused_early g.S.Family.behaviour (g.S.Item.Clone.is_clone c.args.item.now) (λ x. g.S.Family.behaviour.taken_weighted x c.args.weight g.row.B.Denot g.B.RandomBits.bit g.B.RandomBits.next)
-    c.args.slot.now c.in_ok-sketch.sketch.now c.refuses_weight.result c.from_residual-in_err-clone.result c.args.coins.now
-    (borrowed_mut c.args.slot.now c.as_mut.result c.in_ok-sketch.sketch c.as_mut.ensures.value c.in_ok-sketch.ensures.value)
+    c.args.slot.now c.in-Some.sketch c.refuses_weight.result c.from_residual-in_err-clone.result c.args.coins.now
+    c.in-Some.is
     c.refuses_weight.ensures OutOfMemory (fails_for c.refuses_weight.result (c.in_ok-unless.ensures.ok.0 refl))
     (error_is c.from_residual-in_err-clone.result (Sketch OutOfMemory) c.from_residual-in_err-clone.ensures.1)
-
-pub part_some-slot : goal.part_some-slot
-part_some-slot g c = grind (arith, common_steps)
-
-pub part_none-slot : goal.part_none-slot
-part_none-slot g c = grind (arith, common_steps)
 
 pub returns : goal.returns
 returns g c =
     clone_taken g.S.Family.behaviour (g.S.Item.Clone.is_clone c.args.item.now)
     (λ x. g.S.Family.behaviour.taken_weighted x c.args.weight g.row.B.Denot g.B.RandomBits.bit g.B.RandomBits.next)
-    c.args.slot.now c.in_ok-sketch.sketch.now _ c.in_ok-clone.field-0 c.args.coins.now c.update_weighted.new.coins
-    (borrowed_mut c.args.slot.now c.as_mut.result c.in_ok-sketch.sketch c.as_mut.ensures.value c.in_ok-sketch.ensures.value)
+    c.args.slot.now c.in-Some.sketch _ c.in_ok-clone.field-0 c.args.coins.now c.update_weighted.new.coins
+    c.in-Some.is
     c.in_ok-clone.ensures.cases c.in_ok-update_weighted.ensures
 
 pub returns-in_err-update_weighted : goal.returns-in_err-update_weighted
 returns-in_err-update_weighted g c =
     clone_refused g.S.Family.behaviour (g.S.Item.Clone.is_clone c.args.item.now)
     (λ x. g.S.Family.behaviour.taken_weighted x c.args.weight g.row.B.Denot g.B.RandomBits.bit g.B.RandomBits.next)
-    c.args.slot.now c.in_ok-sketch.sketch.now _ c.in_ok-clone.field-0 c.in_err-update_weighted.field-0.0 c.from_residual-in_err-update_weighted.result
+    c.args.slot.now c.in-Some.sketch _ c.in_ok-clone.field-0 c.in_err-update_weighted.field-0.0 c.from_residual-in_err-update_weighted.result
     c.args.coins.now c.update_weighted.new.coins
-    (borrowed_mut c.args.slot.now c.as_mut.result c.in_ok-sketch.sketch c.as_mut.ensures.value c.in_ok-sketch.ensures.value)
+    c.in-Some.is
     c.in_ok-clone.ensures.cases (error_is c.from_residual-in_err-update_weighted.result (Sketch c.in_err-update_weighted.field-0.0)
     c.from_residual-in_err-update_weighted.ensures.1) c.in_err-update_weighted.ensures
