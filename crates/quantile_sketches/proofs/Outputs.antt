@@ -29,7 +29,7 @@ keeps_same None = tt
 keeps_same (Some xs) = refl
 
 -- what holds in any case holds if a call succeeds
-ok-so : {T E : Type 0} {P : Type 0} (r : Result T E) → P → OnOk r P
+pub ok-so : {T E : Type 0} {P : Type 0} (r : Result T E) → P → OnOk r P
 ok-so (Ok done) p = p
 ok-so (Err fault) p = tt
 

@@ -32,7 +32,7 @@ impl<T: KllValue + Ord> Family for KllSketch<T> {
     fn obeys_rules<B: RandomBits>() {}
 
     fn create(alloc: Global, k: u16) -> Result<Self, Error> {
-        Ok(KllSketch::new(alloc, k)?)
+        KllSketch::new(alloc, k)
     }
 
     fn copy(&self) -> Result<Self, Error> {
@@ -58,11 +58,11 @@ impl<T: KllValue + Ord> Family for KllSketch<T> {
     fn update<B: RandomBits>(&mut self, item: T, coins: &mut B) -> Outcome {
         // Read so that the proof knows the invariant.
         let _n = self.n();
-        Ok(self.update(item, coins)?)
+        self.update(item, coins)
     }
 
     fn update_weighted<B: RandomBits>(&mut self, item: T, weight: u64, coins: &mut B) -> Outcome {
-        Ok(self.update_weighted(item, weight, coins)?)
+        self.update_weighted(item, weight, coins)
     }
 
     fn redraw<B: RandomBits>(&mut self, _coins: &mut B) -> Outcome {
@@ -105,6 +105,6 @@ impl<T: KllValue + Ord> Family for KllSketch<T> {
     }
 
     fn load(alloc: Global, bytes: &[u8]) -> Result<Self, Error> {
-        Ok(KllSketch::deserialize(alloc, bytes)?)
+        KllSketch::deserialize(alloc, bytes)
     }
 }

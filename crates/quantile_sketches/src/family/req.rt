@@ -35,7 +35,7 @@ impl<T: ReqValue + Clone + Ord> Family for ReqSketch<T> {
     fn obeys_rules<B: RandomBits>() {}
 
     fn create(alloc: Global, config: (u16, RankAccuracy)) -> Result<Self, Error> {
-        Ok(ReqSketch::new(alloc, config.0, config.1)?)
+        ReqSketch::new(alloc, config.0, config.1)
     }
 
     fn copy(&self) -> Result<Self, Error> {
@@ -61,7 +61,7 @@ impl<T: ReqValue + Clone + Ord> Family for ReqSketch<T> {
     fn update<B: RandomBits>(&mut self, item: T, coins: &mut B) -> Outcome {
         // Read so that the proof knows the invariant.
         let _n = self.n();
-        Ok(self.update(item, coins)?)
+        self.update(item, coins)
     }
 
     fn update_weighted<B: RandomBits>(&mut self, _: T, _: u64, _: &mut B) -> Outcome {
@@ -110,6 +110,6 @@ impl<T: ReqValue + Clone + Ord> Family for ReqSketch<T> {
     }
 
     fn load(alloc: Global, bytes: &[u8]) -> Result<Self, Error> {
-        Ok(ReqSketch::deserialize(alloc, bytes)?)
+        ReqSketch::deserialize(alloc, bytes)
     }
 }
