@@ -1,5 +1,5 @@
 -- Sorted weighted items of which equal ones are joined: the view that they make.
-use Rattle.std.proofs.Common.{◌≡◌, ℕ, zero, suc, ◌+◌, ◌-◌, ◌*◌, ◌<◌, ◌≤◌, Bool, true, false, cond, List, [], ◌∷◌, ◌++◌, length, map, replicate, sum_by, refl, sym, ap, ap₂, ◌∙◌, subst, append_assoc, append-nil, arith, if◌then◌else◌, IsSorted, IsPermutation, Ordering, Less, Equal, is_gt, is_lt}
+use Rattle.std.proofs.Common.{◌≡◌, ℕ, zero, suc, ◌+◌, ◌-◌, ◌*◌, ◌<◌, ◌≤◌, Bool, true, false, cond, List, [], ◌∷◌, ◌++◌, length, map, replicate, sum_by, refl, sym, ap, ap₂, ◌∙◌, subst, append_assoc, append-nil, arith, if◌then◌else◌, IsSorted, IsPermutation, Ordering, Less, Equal, is_gt, is_lt, length-append}
 use Rattle.std.specs.Prelude.{⊤, Option, None, Some, IsSome}
 use Rattle.std.specs.Cmp.{IsTotalOrder}
 use Rattle.std.specs.List.{All, AllByRecursion}
@@ -297,8 +297,12 @@ pub record IsJoined {A : Type 0} (cmp : A → A → Ordering) (all rest : List (
 
 module _ {A : Type 0} {cmp : A → A → Ordering} (order : IsTotalOrder cmp) where
   -- at the start none are joined
-  pub joined-none : (all : List (A × ℕ)) → IsJoined cmp all all [] [] 0
-  joined-none all = record { items = SameItems-refl cmp order (joined cmp all); weights = refl; total = omega arith }
+  pub joined-none : (all : List (A × ℕ)) (xs : List A) (ws : List ℕ) → xs ≡ [] → ws ≡ [] → IsJoined cmp all all xs ws 0
+  joined-none all xs ws e f = record {
+    items = subst (λ (ys : List A). SameItems cmp (joined cmp all) (ys ++ joined cmp all)) (sym e) (SameItems-refl cmp order (joined cmp all));
+    weights = ap (λ (vs : List ℕ). vs ++ joined_weights cmp 0 all) f;
+    total = omega arith;
+  }
 
   -- at the end all are joined
   pub joined-whole : (all rest : List (A × ℕ)) (xs : List A) (ws : List ℕ) (total : ℕ) → rest ≡ [] → IsJoined cmp all rest xs ws total →
@@ -318,12 +322,16 @@ module _ {A : Type 0} {cmp : A → A → Ordering} (order : IsTotalOrder cmp) wh
     sums = omega (arith, j.total, sum_by-cons (λ (pair : A × ℕ). pair.1) (x, w) after)
 
     -- an item that compares equal to the next one is skipped
-    pub joined-over : is_below_next cmp x after ≡ false → IsJoined cmp all after xs ws (total + w)
-    joined-over e = record {
-      items = subst (λ (b : Bool). SameItems cmp (joined cmp all) (xs ++ (if b then x ∷ joined cmp after else joined cmp after))) e j.items;
-      weights = ap (λ (b : Bool). ws ++ (if b then (total + w) ∷ joined_weights cmp (total + w) after else joined_weights cmp (total + w) after)) (sym e) ∙ j.weights;
-      total = sums;
-    }
+    pub joined-over : (xs' : List A) (ws' : List ℕ) → is_below_next cmp x after ≡ false → xs' ≡ xs → ws' ≡ ws → IsJoined cmp all after xs' ws' (total + w)
+    joined-over xs' ws' e is_xs is_ws =
+        let items : SameItems cmp (joined cmp all) (xs ++ joined cmp after) =
+        subst (λ (b : Bool). SameItems cmp (joined cmp all) (xs ++ (if b then x ∷ joined cmp after else joined cmp after))) e j.items in
+        record {
+          items = subst (λ (ys : List A). SameItems cmp (joined cmp all) (ys ++ joined cmp after)) (sym is_xs) items;
+          weights = ap (λ (vs : List ℕ). vs ++ joined_weights cmp (total + w) after) is_ws
+              ∙ (ap (λ (b : Bool). ws ++ (if b then (total + w) ∷ joined_weights cmp (total + w) after else joined_weights cmp (total + w) after)) (sym e) ∙ j.weights);
+          total = sums;
+        }
 
     -- for any other item a clone is pushed
     pub joined-push : (y : A) (xs' : List A) (ws' : List ℕ) → is_below_next cmp x after ≡ true → cmp x y ≡ Equal → xs' ≡ xs ++ y ∷ [] → ws' ≡ ws ++ (total + w) ∷ [] →
@@ -339,3 +347,26 @@ module _ {A : Type 0} {cmp : A → A → Ordering} (order : IsTotalOrder cmp) wh
               (ap (λ (b : Bool). ws ++ (if b then (total + w) ∷ joined_weights cmp (total + w) after else joined_weights cmp (total + w) after)) (sym e) ∙ j.weights);
           total = sums;
         }
+
+-- the lengths of what was pushed so far don't exceed the number of entries that were seen
+pub pushed-within : {A : Type 0} (xs ys : List A) (x : A) (n : ℕ) → length xs ≤ n → ys ≡ xs ++ x ∷ [] → length ys ≤ n + 1
+pushed-within xs ys x n h e = omega (arith, h, ap length e, length-append xs (x ∷ []))
+
+pub none-within : {A : Type 0} (xs : List A) → xs ≡ [] → length xs ≤ 0
+none-within xs e = omega (arith, ap length e)
+
+pub same-within : {A : Type 0} (xs ys : List A) (n : ℕ) → length xs ≤ n → ys ≡ xs → length ys ≤ n + 1
+same-within xs ys n h e = omega (arith, h, ap length e)
+
+pub still-holds : (n a b : ℕ) → n ≤ a → b ≡ a → n ≤ b
+still-holds n a b h e = omega arith
+
+pub some-after : (n k : ℕ) → k < n → 0 < n
+some-after n k h = omega arith
+
+pub next-within : (n k : ℕ) → k < n → k + 1 ≤ n
+next-within n k h = omega arith
+
+pub some-unless_none : (n : ℕ) → (n ≡ 0 → false ≡ true) → 0 < n
+some-unless_none zero h = absurd (false≢true (h refl))
+some-unless_none (suc n) h = omega arith
