@@ -1,7 +1,10 @@
-use Rattle.std.proofs.Common.{◌<◌, ℕ, length, map, arith, IsSorted}
-use Rattle.std.proofs.lemmas.Grind.{common_steps}
+use Rattle.std.proofs.Common.{◌∙◌, ℕ, length, map, ap, refl, arith, IsSorted}
+use Rattle.std.proofs.lemmas.Result.{IfOk-from_err, MatchResult-from_err}
+use Rattle.sketch_base.specs.Pairs.{joined_weights}
 use Rattle.sketch_base.specs.Weighted.{pairs_in}
+use Rattle.sketch_base.proofs.BuiltViews.{built, built-empty, empty-view, error-is, none-joined, some-pairs}
 use Rattle.sketch_base.proofs.JoinedViews.{clones-distinct, clones-entries, clones-view}
+use Rattle.sketch_base.proofs.MovedCounts.{emptied, some-unless_empty}
 use Rattle.sketch_base.proofs.WeightedItems.{items-in_pairs, length-pairs_in}
 use Rattle.sketch_base.proofs.sorted_view.SortedView.from_weighted.Given.{Over}
 use Rattle.sketch_base.proofs.sorted_view.SortedView.from_weighted.Goals.{In_ok-items}
@@ -13,38 +16,44 @@ sorted g c = rw (items-in_pairs c.args.entries.now) c.requires.sorted
 
 pub from_cumulated-requires-2 : goal.from_cumulated-requires-2
 from_cumulated-requires-2 g c =
-    let some : 0 < length c.args.entries.now = grind (arith, common_steps) in
+    let some = some-unless_empty _ _ c.args.entries.now c.is_empty.ensures c.if-is_empty.false refl in
     clones-view g.met.T.Ord.total (pairs_in c.args.entries.now) (sorted g (past.from_cumulated-requires-2 g c).In_ok-items) c.requires.weights
     c.in_ok-items.items.items c.in_ok-items.cumulated.items c.in_ok-items.ensures.items c.in_ok-items.ensures.weights c.args.min_item c.args.max_item
-    (omega (arith, some, length-pairs_in c.args.entries.now)) (c.requires.least some) (c.requires.greatest some)
-
-pub returns-clause-entries : goal.returns-clause-entries
-returns-clause-entries g c =
-    rw c.from_cumulated-2.ensures (clones-entries g.met.T.Ord.total (pairs_in c.args.entries.now) (sorted g (past.returns-clause-entries g c).In_ok-items) c.requires.weights
-    c.in_ok-items.items.items c.in_ok-items.cumulated.items c.in_ok-items.ensures.items c.in_ok-items.ensures.weights)
-
-pub returns-clause-joined : goal.returns-clause-joined
-returns-clause-joined g c =
-    rw c.from_cumulated-2.ensures (clones-distinct g.met.T.Ord.total (pairs_in c.args.entries.now) (sorted g (past.returns-clause-joined g c).In_ok-items) c.requires.weights
-    c.in_ok-items.items.items c.in_ok-items.cumulated.items c.in_ok-items.ensures.items c.in_ok-items.ensures.weights)
+    (some-pairs _ _ some (length-pairs_in c.args.entries.now)) (c.requires.least some) (c.requires.greatest some)
 
 pub from_cumulated-requires : goal.from_cumulated-requires
-from_cumulated-requires g c = grind (arith, common_steps)
+from_cumulated-requires g c =
+    let no_pairs = ap pairs_in (emptied _ _ c.args.entries.now c.is_empty.ensures c.if-is_empty.true refl) in
+    empty-view g.T.Ord.cmp _ _ (none-joined g.T.Ord.cmp _ _ no_pairs c.in_ok-items.ensures.items) (c.in_ok-items.ensures.weights ∙ ap (joined_weights g.T.Ord.cmp 0) no_pairs)
 
-pub returns-then-is_empty-clause-entries : goal.returns-then-is_empty-clause-entries
-returns-then-is_empty-clause-entries g c = grind (arith, common_steps)
+pub returns : goal.returns
+returns g c =
+    let entries = c.in_ok-items.ensures.items in
+    let weights = c.in_ok-items.ensures.weights in
+    let up = sorted g (past.returns g c).In_ok-items in
+    let b = built g.T.Ord.cmp (pairs_in c.args.entries.now) c.args.entries.now c.args.min_item c.args.max_item _ _ _ c.from_cumulated-2.ensures
+    (clones-entries g.met.T.Ord.total (pairs_in c.args.entries.now) up c.requires.weights _ _ entries weights)
+    (clones-distinct g.met.T.Ord.total (pairs_in c.args.entries.now) up c.requires.weights _ _ entries weights)
+    (some-unless_empty _ _ c.args.entries.now c.is_empty.ensures c.if-is_empty.false refl) in
+    record { entries = b.entries; joined = b.joined_is; least = b.least_is; greatest = b.greatest_is; memory = tt; none = tt }
 
-pub returns-then-is_empty-clause-joined : goal.returns-then-is_empty-clause-joined
-returns-then-is_empty-clause-joined g c = grind (arith, common_steps)
+pub returns-then-is_empty : goal.returns-then-is_empty
+returns-then-is_empty g c =
+    let none = emptied _ _ c.args.entries.now c.is_empty.ensures c.if-is_empty.true refl in
+    let no_pairs = ap pairs_in none in
+    let b = built-empty g.T.Ord.cmp (pairs_in c.args.entries.now) c.args.entries.now c.args.min_item c.args.max_item _ _ _ c.from_cumulated.ensures
+    (none-joined g.T.Ord.cmp _ _ no_pairs c.in_ok-items.ensures.items) (c.in_ok-items.ensures.weights ∙ ap (joined_weights g.T.Ord.cmp 0) no_pairs) no_pairs none in
+    record { entries = b.entries; joined = b.joined_is; least = b.least_is; greatest = b.greatest_is; memory = tt; none = tt }
 
-pub returns-then-is_empty-clause-least : goal.returns-then-is_empty-clause-least
-returns-then-is_empty-clause-least g c = grind (arith, common_steps)
-
-pub returns-then-is_empty-clause-greatest : goal.returns-then-is_empty-clause-greatest
-returns-then-is_empty-clause-greatest g c = grind (arith, common_steps)
-
-pub returns-clause-least : goal.returns-clause-least
-returns-clause-least g c = grind arith
-
-pub returns-clause-greatest : goal.returns-clause-greatest
-returns-clause-greatest g c = grind arith
+pub returns-in_err-items : goal.returns-in_err-items
+returns-in_err-items g c =
+    let r = c.from_residual.result in
+    let err = c.from_residual.ensures.0 in
+    record {
+      entries = IfOk-from_err r _ err;
+      joined = IfOk-from_err r _ err;
+      least = IfOk-from_err r _ err;
+      greatest = IfOk-from_err r _ err;
+      memory = error-is r _ c.from_residual.ensures.1;
+      none = MatchResult-from_err r _ _ err (λ e. c.in_err-items.ensures.some);
+    }

@@ -1,9 +1,11 @@
-use Rattle.std.proofs.Common.{◌<◌, ℕ, length, map, reverse, arith, IsSorted, IsPermutation, is_lt, rules, of_calls}
+use Rattle.std.proofs.Common.{◌∙◌, ℕ, length, map, reverse, sym, arith, IsSorted, IsPermutation, is_lt, rules, of_calls}
 use Rattle.std.proofs.lemmas.Fn.{always_returns_same}
-use Rattle.std.proofs.lemmas.List.{reverse-reverse}
+use Rattle.std.proofs.lemmas.List.{nil_from_length, reverse-reverse}
 use Rattle.std.proofs.lemmas.List.Sorted.{ranks_by, sum_by-IsPermutation}
-use Rattle.std.proofs.lemmas.Grind.{common_steps}
-use Rattle.sketch_base.proofs.JoinedViews.{joined-distinct, joined-entries, joined-view, sorted-items}
+use Rattle.std.proofs.lemmas.Result.{IfOk-from_err, MatchResult-from_err}
+use Rattle.sketch_base.proofs.BuiltViews.{built-empty, built-joined, empty-view, error-is}
+use Rattle.sketch_base.proofs.JoinedViews.{joined-view, some-unless_none, sorted-items}
+use Rattle.sketch_base.proofs.MovedCounts.{some-unless_zero}
 use Rattle.sketch_base.proofs.sorted_view.SortedView.new.Given.{Over}
 use Rattle.sketch_base.proofs.sorted_view.SortedView.new.Goals.{After-reverse}
 use Rattle.sketch_base.proofs.sorted_view.SortedView.new.Goals as goal
@@ -28,52 +30,75 @@ join_equal-requires-clause-fits g c =
 pub from_cumulated-requires-2 : goal.from_cumulated-requires-2
 from_cumulated-requires-2 g c =
     let after = (past.from_cumulated-requires-2 g c).After-reverse in
-    let some : 0 < length c.args.weighted.items = omega (arith, c.args.weighted.ok) in
+    let some = some-unless_zero _ _ _ c.if-count-eq0.false c.len-count.ensures c.args.weighted.ok.0 in
     rw (c.join_equal.ensures.items, c.join_equal.ensures.weights)
     (joined-view g.met.T.Ord.total _ _ (moved g after) (sorted g after) c.requires.weights c.args.min_item c.args.max_item some (c.requires.least some) (c.requires.greatest some))
 
-pub returns-clause-entries : goal.returns-clause-entries
-returns-clause-entries g c =
-    let after = (past.returns-clause-entries g c).After-reverse in
-    rw (c.from_cumulated-2.ensures, c.join_equal.ensures.items, c.join_equal.ensures.weights) (joined-entries g.met.T.Ord.total _ _ (moved g after) (sorted g after) c.requires.weights)
-
-pub returns-clause-joined : goal.returns-clause-joined
-returns-clause-joined g c =
-    let after = (past.returns-clause-joined g c).After-reverse in
-    rw (c.from_cumulated-2.ensures, c.join_equal.ensures.items, c.join_equal.ensures.weights) (joined-distinct g.met.T.Ord.total _ _ (moved g after) (sorted g after) c.requires.weights)
-
 pub from_cumulated-requires : goal.from_cumulated-requires
-from_cumulated-requires g c = grind arith
+from_cumulated-requires g c = empty-view g.T.Ord.cmp _ _ c.in_ok-items.ensures.items c.in_ok-cumulated.ensures.items
 
-pub returns-then-count-eq0-clause-entries : goal.returns-then-count-eq0-clause-entries
-returns-then-count-eq0-clause-entries g c = grind (arith, common_steps)
+pub returns : goal.returns
+returns g c =
+    let after = (past.returns g c).After-reverse in
+    let some = some-unless_zero _ _ _ c.if-count-eq0.false c.len-count.ensures c.args.weighted.ok.0 in
+    let b = built-joined g.met.T.Ord.total _ _ (moved g after) (sorted g after) c.requires.weights c.args.weighted.items c.args.min_item c.args.max_item _ _ _ c.from_cumulated-2.ensures
+    c.join_equal.ensures.items c.join_equal.ensures.weights some in
+    record { entries = b.entries; joined = b.joined_is; least = b.least_is; greatest = b.greatest_is; memory = tt; none = tt }
 
-pub returns-then-count-eq0-clause-joined : goal.returns-then-count-eq0-clause-joined
-returns-then-count-eq0-clause-joined g c = grind (arith, common_steps)
+pub returns-then-count-eq0 : goal.returns-then-count-eq0
+returns-then-count-eq0 g c =
+    let none = nil_from_length c.args.weighted.items (sym c.args.weighted.ok.0 ∙ (sym c.len-count.ensures ∙ c.if-count-eq0.true)) in
+    let b = built-empty g.T.Ord.cmp c.args.weighted.items c.args.weighted.items c.args.min_item c.args.max_item _ _ _ c.from_cumulated.ensures c.in_ok-items.ensures.items
+    c.in_ok-cumulated.ensures.items none none in
+    record { entries = b.entries; joined = b.joined_is; least = b.least_is; greatest = b.greatest_is; memory = tt; none = tt }
 
-pub returns-then-count-eq0-clause-least : goal.returns-then-count-eq0-clause-least
-returns-then-count-eq0-clause-least g c = grind (arith, common_steps)
+pub returns-in_err-items : goal.returns-in_err-items
+returns-in_err-items g c =
+    let r = c.from_residual.result in
+    let err = c.from_residual.ensures.0 in
+    record {
+      entries = IfOk-from_err r _ err;
+      joined = IfOk-from_err r _ err;
+      least = IfOk-from_err r _ err;
+      greatest = IfOk-from_err r _ err;
+      memory = error-is r _ c.from_residual.ensures.1;
+      none = MatchResult-from_err r _ _ err (λ e. some-unless_none _ (λ z. c.in_err-items.ensures.succeeds (c.len-count.ensures ∙ (c.args.weighted.ok.0 ∙ z))));
+    }
 
-pub returns-then-count-eq0-clause-greatest : goal.returns-then-count-eq0-clause-greatest
-returns-then-count-eq0-clause-greatest g c = grind (arith, common_steps)
+pub returns-in_err-cumulated : goal.returns-in_err-cumulated
+returns-in_err-cumulated g c =
+    let r = c.from_residual-in_err-cumulated.result in
+    let err = c.from_residual-in_err-cumulated.ensures.0 in
+    record {
+      entries = IfOk-from_err r _ err;
+      joined = IfOk-from_err r _ err;
+      least = IfOk-from_err r _ err;
+      greatest = IfOk-from_err r _ err;
+      memory = error-is r _ c.from_residual-in_err-cumulated.ensures.1;
+      none = MatchResult-from_err r _ _ err (λ e. some-unless_none _ (λ z. c.in_err-cumulated.ensures.succeeds (c.len-count.ensures ∙ (c.args.weighted.ok.0 ∙ z))));
+    }
 
-pub returns-clause-least : goal.returns-clause-least
-returns-clause-least g c = grind arith
+pub returns-in_err-sort_by : goal.returns-in_err-sort_by
+returns-in_err-sort_by g c =
+    let r = c.from_residual-in_err-sort_by.result in
+    let err = c.from_residual-in_err-sort_by.ensures.0 in
+    record {
+      entries = IfOk-from_err r _ err;
+      joined = IfOk-from_err r _ err;
+      least = IfOk-from_err r _ err;
+      greatest = IfOk-from_err r _ err;
+      memory = error-is r _ c.from_residual-in_err-sort_by.ensures.1;
+      none = MatchResult-from_err r _ _ err (λ e. some-unless_zero _ _ _ c.if-count-eq0.false c.len-count.ensures c.args.weighted.ok.0);
+    }
 
-pub returns-clause-greatest : goal.returns-clause-greatest
-returns-clause-greatest g c = grind arith
-
-pub returns-in_err-cumulated-clause-none : goal.returns-in_err-cumulated-clause-none
-returns-in_err-cumulated-clause-none g c = grind arith
-
-pub join_equal-requires-clause-weights_room : goal.join_equal-requires-clause-weights_room
-join_equal-requires-clause-weights_room g c = grind arith
+pub join_equal-requires-clause-items : goal.join_equal-requires-clause-items
+join_equal-requires-clause-items g c = c.in_ok-items.ensures.items
 
 pub join_equal-requires-clause-weights : goal.join_equal-requires-clause-weights
-join_equal-requires-clause-weights g c = grind arith
+join_equal-requires-clause-weights g c = c.in_ok-cumulated.ensures.items
 
 pub join_equal-requires-clause-room : goal.join_equal-requires-clause-room
 join_equal-requires-clause-room g c = grind arith
 
-pub join_equal-requires-clause-items : goal.join_equal-requires-clause-items
-join_equal-requires-clause-items g c = grind arith
+pub join_equal-requires-clause-weights_room : goal.join_equal-requires-clause-weights_room
+join_equal-requires-clause-weights_room g c = grind arith
