@@ -1,6 +1,11 @@
-use Rattle.std.proofs.Common.{arith}
-use Rattle.std.proofs.lemmas.Grind.{common_steps}
+use Rattle.std.proofs.Common.{subst}
+use Rattle.std.proofs.lemmas.List.{get_or_default}
+use Rattle.std.proofs.lemmas.List.Elements.{AllWithin-more}
+use Rattle.sketch_base.specs.Queries.{IsFraction}
 use Rattle.sketch_base.proofs.common.queries.check_fractions.Goals as goal
 
 pub loop-fraction-preserved : goal.loop-fraction-preserved
-loop-fraction-preserved c = grind (arith, common_steps)
+loop-fraction-preserved c =
+    let xs = c.args.fractions.now in
+    let i = c.loop-fraction.fraction-index in
+    AllWithin-more IsFraction xs 0 i c.loop-fraction.invariant (λ d. subst IsFraction (get_or_default xs i _ d c.loop-fraction-test.true) c.in_ok-check_fraction.ensures.good)
