@@ -1,18 +1,14 @@
-use Rattle.std.proofs.Common.{arith}
-use Rattle.std.proofs.lemmas.Grind.{common_steps}
 use Rattle.sketch_base.proofs.sorted_view.SortedView.cdf.Goals as goal
 
-pub returns-then-is_empty-clause-there : goal.returns-then-is_empty-clause-there
-returns-then-is_empty-clause-there g c = grind (arith, common_steps)
+pub returns : goal.returns
+returns g c = ?
 
-pub cdf_among-requires-clause-cumulated : goal.cdf_among-requires-clause-cumulated
-cdf_among-requires-clause-cumulated g c = grind (arith, common_steps)
+pub returns-in_err-cdf_among : goal.returns-in_err-cdf_among
+returns-in_err-cdf_among g c = ?
 
-pub returns-clause-rises : goal.returns-clause-rises
-returns-clause-rises g c = grind (arith, common_steps)
+pub returns-then-is_empty : goal.returns-then-is_empty
+returns-then-is_empty g c = ?
 
-pub cdf_among-requires-clause-sorted : goal.cdf_among-requires-clause-sorted
-cdf_among-requires-clause-sorted g c = grind arith
+pub returns-in_err-check_points : goal.returns-in_err-check_points
+returns-in_err-check_points g c = ?
 
-pub returns-clause-refused : goal.returns-clause-refused
-returns-clause-refused g c = grind arith
