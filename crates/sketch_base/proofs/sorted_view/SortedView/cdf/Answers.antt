@@ -1,14 +1,57 @@
+use Rattle.std.proofs.Common.{refl, sym, length, arith}
+use Rattle.std.proofs.lemmas.Bool.{false≢true}
+use Rattle.std.proofs.lemmas.Grind.{common_steps}
+use Rattle.std.proofs.lemmas.Result.{IfOk-from_err}
+use Rattle.sketch_base.specs.Queries.{IsIncreasing}
+use Rattle.sketch_base.proofs.ViewAnswers.{entries-there, no-entries, refused-argument, refused-memory, refused-nothing}
 use Rattle.sketch_base.proofs.sorted_view.SortedView.cdf.Goals as goal
 
 pub returns : goal.returns
-returns g c = ?
-
-pub returns-in_err-cdf_among : goal.returns-in_err-cdf_among
-returns-in_err-cdf_among g c = ?
+returns g c =
+    let some = entries-there _ _ _ _ _ (sym c.self.view_is) c.is_empty.result _ c.is_empty.ensures c.self.inside.items.ok.0 c.if-is_empty.false c.self.invariant.each_counts in
+    record {
+      found = rw (sym c.self.view_is) (rw (c.as_slice-items.ensures.value, c.as_slice-cumulated.ensures.value) at c.in_ok-cdf_among.ensures.ranks);
+      rises = c.in_ok-cdf_among.ensures.rises;
+      there = (λ t. some, λ t. refl);
+      refused = refused-nothing (IsIncreasing g.T.Ord.cmp c.args.points.now) (length c.args.self.now.entries) _ c.in_ok-check_points.ensures.good;
+    }
 
 pub returns-then-is_empty : goal.returns-then-is_empty
-returns-then-is_empty g c = ?
+returns-then-is_empty g c = record {
+  found = tt;
+  rises = tt;
+  there = (λ t. absurd (false≢true t), no-entries _ _ _ _ _ (sym c.self.view_is) c.is_empty.result _ c.is_empty.ensures c.self.inside.items.ok.0 c.if-is_empty.true);
+  refused = refused-nothing (IsIncreasing g.T.Ord.cmp c.args.points.now) (length c.args.self.now.entries) _ c.in_ok-check_points.ensures.good;
+}
+
+pub returns-in_err-cdf_among : goal.returns-in_err-cdf_among
+returns-in_err-cdf_among g c =
+    let r = c.from_residual-in_err-cdf_among.result in
+    let err = c.from_residual-in_err-cdf_among.ensures.0 in
+    let some = entries-there _ _ _ _ _ (sym c.self.view_is) c.is_empty.result _ c.is_empty.ensures c.self.inside.items.ok.0 c.if-is_empty.false c.self.invariant.each_counts in
+    record {
+      found = IfOk-from_err r _ err;
+      rises = IfOk-from_err r _ err;
+      there = IfOk-from_err r _ err;
+      refused = refused-memory (IsIncreasing g.T.Ord.cmp c.args.points.now) (length c.args.self.now.entries) r c.from_residual-in_err-cdf_among.ensures.1 c.in_ok-check_points.ensures.good some;
+    }
 
 pub returns-in_err-check_points : goal.returns-in_err-check_points
-returns-in_err-check_points g c = ?
+returns-in_err-check_points g c =
+    let r = c.from_residual.result in
+    let err = c.from_residual.ensures.0 in
+    record {
+      found = IfOk-from_err r _ err;
+      rises = IfOk-from_err r _ err;
+      there = IfOk-from_err r _ err;
+      refused = refused-argument (IsIncreasing g.T.Ord.cmp c.args.points.now) (length c.args.self.now.entries) r _ c.from_residual.ensures.1 c.in_err-check_points.ensures.kind c.in_err-check_points.ensures.bad;
+    }
 
+pub cdf_among-requires-clause-increasing : goal.cdf_among-requires-clause-increasing
+cdf_among-requires-clause-increasing g c = c.in_ok-check_points.ensures.good
+
+pub cdf_among-requires-clause-cumulated : goal.cdf_among-requires-clause-cumulated
+cdf_among-requires-clause-cumulated g c = grind (arith, common_steps)
+
+pub cdf_among-requires-clause-sorted : goal.cdf_among-requires-clause-sorted
+cdf_among-requires-clause-sorted g c = grind arith

@@ -1,0 +1,44 @@
+-- What the calls on a view answer: what they refuse, and whether they find anything.
+use Rattle.std.proofs.Common.{◌≡◌, ℕ, ◌<◌, ◌≤◌, Bool, true, false, nat_eq, List, [], length, sym, ap, ◌∙◌, arith, Result, Ok, Err}
+use Rattle.std.specs.Prelude.{Option, IsErrAnd, is_err}
+use Rattle.std.proofs.lemmas.Bool.{false≢true}
+use Rattle.sketch_base.specs.declared.error.ErrorKind.{ErrorKind}
+use Rattle.sketch_base.specs.declared.error.ErrorKind.TheVariants.{InvalidArgument, OutOfMemory}
+use Rattle.sketch_base.specs.Answered.{IsRefusedUnless}
+use Rattle.sketch_base.specs.Queries.{spread_out}
+use Rattle.sketch_base.specs.Views.{View, view_of}
+use Rattle.sketch_base.proofs.MovedCounts.{emptied, some-unless_empty}
+
+abbrev is_argument : {V : Type 0} → Result V ErrorKind → Bool
+is_argument (Err InvalidArgument) = true
+is_argument _ = false
+
+module _ {V : Type 0} (IsFit : Type 0) (n : ℕ) where
+  -- arguments that aren't fit are refused
+  pub refused-argument : (r : Result V ErrorKind) (e : ErrorKind) → IsErrAnd r (λ x. x ≡ e) → e ≡ InvalidArgument → (IsFit → ⊥) → IsRefusedUnless IsFit n r
+  refused-argument (Ok x) e h is unfit = absurd h
+  refused-argument (Err x) e h is unfit = ((λ k. unfit, λ k. ap (λ (y : ErrorKind). Err y) (h ∙ is)), λ fit. absurd (unfit fit))
+
+  -- for others memory may be refused
+  pub refused-memory : (r : Result V ErrorKind) → IsErrAnd r (λ x. x ≡ OutOfMemory) → IsFit → 0 < n → IsRefusedUnless IsFit n r
+  refused-memory (Ok x) h fit some = absurd h
+  refused-memory (Err x) h fit some =
+      let refused : Result V ErrorKind = Err x in
+      let memory : is_argument refused ≡ false = ap (λ (y : ErrorKind). let r : Result V ErrorKind = Err y in is_argument r) h in
+      ((λ k. absurd (false≢true (sym memory ∙ ap is_argument k)), λ unfit. absurd (unfit fit)), λ k. (h, some))
+
+  pub refused-nothing : (x : V) → IsFit → (let r : Result V ErrorKind = Ok x in IsRefusedUnless IsFit n r)
+  refused-nothing x fit = ((λ k. absurd (false≢true (ap is_err k)), λ unfit. absurd (unfit fit)), tt)
+
+-- a view of some items has entries, and one of no items has none
+module _ {A : Type 0} (v : View A) (xs : List A) (cumulated : List ℕ) (least greatest : Option A) (is : v ≡ view_of xs cumulated least greatest) (b : Bool) (k : ℕ) (empty : b ≡ nat_eq k 0) (len : k ≡ length xs) where
+  pub entries-there : b ≡ false → length xs ≤ length (spread_out xs cumulated) → 0 < length v.entries
+  entries-there e fits =
+      let some = some-unless_empty b k xs empty e len in
+      let same : length v.entries ≡ length (spread_out xs cumulated) = ap (λ (w : View A). length w.entries) is in
+      omega (arith, some, fits, same)
+
+  pub no-entries : b ≡ true → 0 < length v.entries → false ≡ true
+  no-entries e some =
+      let none : length v.entries ≡ 0 = ap (λ (w : View A). length w.entries) is ∙ ap (λ (ys : List A). length (spread_out ys cumulated)) (emptied b k xs empty e len) in
+      absurd (omega (arith, some, none))
