@@ -1,5 +1,5 @@
 -- What the calls on a view answer: what they refuse, and whether they find anything.
-use Rattle.std.proofs.Common.{◌≡◌, ℕ, ◌<◌, ◌≤◌, Bool, true, false, nat_eq, List, [], length, sym, ap, ◌∙◌, arith, Result, Ok, Err}
+use Rattle.std.proofs.Common.{◌≡◌, ℕ, ◌<◌, ◌≤◌, Bool, true, false, nat_eq, List, [], length, sym, ap, ◌∙◌, subst, arith, Result, Ok, Err}
 use Rattle.std.specs.Prelude.{Option, IsErrAnd, is_err}
 use Rattle.std.proofs.lemmas.Bool.{false≢true}
 use Rattle.sketch_base.specs.declared.error.ErrorKind.{ErrorKind}
@@ -42,3 +42,9 @@ module _ {A : Type 0} (v : View A) (xs : List A) (cumulated : List ℕ) (least g
   no-entries e some =
       let none : length v.entries ≡ 0 = ap (λ (w : View A). length w.entries) is ∙ ap (λ (ys : List A). length (spread_out ys cumulated)) (emptied b k xs empty e len) in
       absurd (omega (arith, some, none))
+
+-- what holds of the entries that a view's items stand for holds of the view's entries
+pub at-entries : {A : Type 0} (P : List A → Type 0) (v : View A) (ys xs : List A) (ns cumulated : List ℕ) (least greatest : Option A) → v ≡ view_of xs cumulated least greatest → ys ≡ xs → ns ≡ cumulated →
+    P (spread_out ys ns) → P v.entries
+at-entries {A} P v ys xs ns cumulated least greatest is e f h =
+    subst (λ (w : View A). P w.entries) (sym is) (subst (λ (zs : List A). P (spread_out zs cumulated)) e (subst (λ (ms : List ℕ). P (spread_out ys ms)) f h))

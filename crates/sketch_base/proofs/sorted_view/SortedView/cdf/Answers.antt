@@ -1,16 +1,17 @@
-use Rattle.std.proofs.Common.{refl, sym, length, arith}
+use Rattle.std.proofs.Common.{◌≡◌, List, refl, sym, length, arith}
 use Rattle.std.proofs.lemmas.Bool.{false≢true}
 use Rattle.std.proofs.lemmas.Grind.{common_steps}
 use Rattle.std.proofs.lemmas.Result.{IfOk-from_err}
-use Rattle.sketch_base.specs.Queries.{IsIncreasing}
-use Rattle.sketch_base.proofs.ViewAnswers.{entries-there, no-entries, refused-argument, refused-memory, refused-nothing}
+use Rattle.sketch_base.specs.Queries.{IsIncreasing, cdf_of, ranks_of}
+use Rattle.sketch_base.proofs.ViewAnswers.{at-entries, entries-there, no-entries, refused-argument, refused-memory, refused-nothing}
 use Rattle.sketch_base.proofs.sorted_view.SortedView.cdf.Goals as goal
 
 pub returns : goal.returns
 returns g c =
     let some = entries-there _ _ _ _ _ (sym c.self.view_is) c.is_empty.result _ c.is_empty.ensures c.self.inside.items.ok.0 c.if-is_empty.false c.self.invariant.each_counts in
     record {
-      found = rw (sym c.self.view_is) (rw (c.as_slice-items.ensures.value, c.as_slice-cumulated.ensures.value) at c.in_ok-cdf_among.ensures.ranks);
+      found = at-entries (λ (es : List g.row.T.Denot). c.in_ok-cdf_among.field-0.items ≡ ranks_of (length es) (cdf_of g.T.Ord.cmp c.args.criteria es c.args.points.now)) _ _ _ _ _ _ _ (sym c.self.view_is) c.as_slice-items.ensures.value c.as_slice-cumulated.ensures.value
+          c.in_ok-cdf_among.ensures.ranks;
       rises = c.in_ok-cdf_among.ensures.rises;
       there = (λ t. some, λ t. refl);
       refused = refused-nothing (IsIncreasing g.T.Ord.cmp c.args.points.now) (length c.args.self.now.entries) _ c.in_ok-check_points.ensures.good;
