@@ -1,5 +1,5 @@
 -- What the calls that build a view give: the view of joined items, that of no items, or an error.
-use Rattle.std.proofs.Common.{◌≡◌, ℕ, ◌<◌, List, [], ◌∷◌, length, map, refl, sym, ap, ap₂, ◌∙◌, subst, arith, Ordering, IsPermutation, IsSorted, Result, Ok, Err}
+use Rattle.std.proofs.Common.{◌≡◌, ℕ, ◌<◌, List, [], ◌∷◌, length, map, refl, sym, ap₂, ◌∙◌, subst, arith, Ordering, IsPermutation, IsSorted, Result, Ok, Err}
 use Rattle.std.specs.Prelude.{Option, None, IfErr, IsErrAnd}
 use Rattle.std.specs.Cmp.{IsTotalOrder}
 use Rattle.std.specs.List.{All}
@@ -21,8 +21,10 @@ extreme-there : {A B : Type 0} (ws : List B) (extreme : Option A) → 0 < length
 extreme-there [] extreme h = absurd (omega (arith, h))
 extreme-there (w ∷ ws) extreme h = refl
 
-module _ {A B : Type 0} (cmp : A → A → Ordering) (pairs : List (A × ℕ)) (ws : List B) (least greatest : Option A) (v : View A) (xs : List A) (cumulated : List ℕ) where
-  pub built : v ≡ view_of xs cumulated least greatest → SameItems cmp (sort cmp (copies pairs)) (spread_out xs cumulated) → length xs ≡ distinct cmp (spread_out xs cumulated) → 0 < length ws →
+module _ {A B : Type 0} (cmp : A → A → Ordering) (pairs : List (A × ℕ)) (ws : List B) (least greatest : Option A) (v : View A) (xs : List A)
+    (cumulated : List ℕ) where
+  pub built : v ≡ view_of xs cumulated least greatest → SameItems cmp (sort cmp (copies pairs)) (spread_out xs cumulated) →
+      length xs ≡ distinct cmp (spread_out xs cumulated) → 0 < length ws →
       IsBuilt cmp pairs ws least greatest v
   built is entries counts some = subst (λ (u : View A). IsBuilt cmp pairs ws least greatest u) (sym is) (record {
     entries = entries;
@@ -47,11 +49,14 @@ empty-view {A} cmp xs cumulated e f =
     subst (λ (ys : List A). IsView cmp ys cumulated None None) (sym e) (subst (λ (ns : List ℕ). IsView cmp nothing ns None None) (sym f) start)
 
 -- the items that were joined
-pub built-joined : {A B : Type 0} {cmp : A → A → Ordering} → IsTotalOrder cmp → (weighted pairs : List (A × ℕ)) → IsPermutation weighted pairs → IsSorted cmp (map (λ (pair : A × ℕ). pair.0) pairs) →
-    All (λ (pair : A × ℕ). 0 < pair.1) weighted → (ws : List B) (least greatest : Option A) (v : View A) (xs : List A) (cumulated : List ℕ) → v ≡ view_of xs cumulated least greatest →
+pub built-joined : {A B : Type 0} {cmp : A → A → Ordering} → IsTotalOrder cmp → (weighted pairs : List (A × ℕ)) → IsPermutation weighted pairs →
+    IsSorted cmp (map (λ (pair : A × ℕ). pair.0) pairs) →
+    All (λ (pair : A × ℕ). 0 < pair.1) weighted → (ws : List B) (least greatest : Option A) (v : View A) (xs : List A) (cumulated : List ℕ) →
+    v ≡ view_of xs cumulated least greatest →
     xs ≡ joined cmp pairs → cumulated ≡ joined_weights cmp 0 pairs → 0 < length ws → IsBuilt cmp weighted ws least greatest v
 built-joined {A} {B} {cmp} order weighted pairs same sorted weights ws least greatest v xs cumulated is is_joined is_weights some =
-    built cmp weighted ws least greatest v (joined cmp pairs) (joined_weights cmp 0 pairs) (is ∙ ap₂ (λ (ys : List A) (ns : List ℕ). view_of ys ns least greatest) is_joined is_weights)
+    built cmp weighted ws least greatest v (joined cmp pairs) (joined_weights cmp 0 pairs)
+    (is ∙ ap₂ (λ (ys : List A) (ns : List ℕ). view_of ys ns least greatest) is_joined is_weights)
     (joined-entries order weighted pairs same sorted weights) (joined-distinct order weighted pairs same sorted weights) some
 
 -- none are joined if there are none

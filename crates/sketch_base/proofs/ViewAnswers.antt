@@ -1,5 +1,5 @@
 -- What the calls on a view answer: what they refuse, and whether they find anything.
-use Rattle.std.proofs.Common.{◌≡◌, ℕ, ◌<◌, ◌≤◌, Bool, true, false, nat_eq, List, [], length, sym, ap, ◌∙◌, subst, arith, Result, Ok, Err}
+use Rattle.std.proofs.Common.{◌≡◌, ℕ, ◌<◌, ◌≤◌, Bool, true, false, nat_eq, List, length, sym, ap, ◌∙◌, subst, arith, Result, Ok, Err}
 use Rattle.std.specs.Prelude.{Option, IsErrAnd, is_err}
 use Rattle.std.proofs.lemmas.Bool.{false≢true}
 use Rattle.sketch_base.specs.declared.error.ErrorKind.{ErrorKind}
@@ -31,7 +31,8 @@ module _ {V : Type 0} (IsFit : Type 0) (n : ℕ) where
   refused-nothing x fit = ((λ k. absurd (false≢true (ap is_err k)), λ unfit. absurd (unfit fit)), tt)
 
 -- a view of some items has entries, and one of no items has none
-module _ {A : Type 0} (v : View A) (xs : List A) (cumulated : List ℕ) (least greatest : Option A) (is : v ≡ view_of xs cumulated least greatest) (b : Bool) (k : ℕ) (empty : b ≡ nat_eq k 0) (len : k ≡ length xs) where
+module _ {A : Type 0} (v : View A) (xs : List A) (cumulated : List ℕ) (least greatest : Option A) (is : v ≡ view_of xs cumulated least greatest) (b : Bool)
+    (k : ℕ) (empty : b ≡ nat_eq k 0) (len : k ≡ length xs) where
   pub entries-there : b ≡ false → length xs ≤ length (spread_out xs cumulated) → 0 < length v.entries
   entries-there e fits =
       let some = some-unless_empty b k xs empty e len in
@@ -40,11 +41,13 @@ module _ {A : Type 0} (v : View A) (xs : List A) (cumulated : List ℕ) (least g
 
   pub no-entries : b ≡ true → 0 < length v.entries → false ≡ true
   no-entries e some =
-      let none : length v.entries ≡ 0 = ap (λ (w : View A). length w.entries) is ∙ ap (λ (ys : List A). length (spread_out ys cumulated)) (emptied b k xs empty e len) in
+      let none : length v.entries ≡ 0 = ap (λ (w : View A). length w.entries) is ∙ ap (λ (ys : List A). length (spread_out ys cumulated))
+      (emptied b k xs empty e len) in
       absurd (omega (arith, some, none))
 
 -- what holds of the entries that a view's items stand for holds of the view's entries
-pub at-entries : {A : Type 0} (P : List A → Type 0) (v : View A) (ys xs : List A) (ns cumulated : List ℕ) (least greatest : Option A) → v ≡ view_of xs cumulated least greatest → ys ≡ xs → ns ≡ cumulated →
+pub at-entries : {A : Type 0} (P : List A → Type 0) (v : View A) (ys xs : List A) (ns cumulated : List ℕ) (least greatest : Option A) →
+    v ≡ view_of xs cumulated least greatest → ys ≡ xs → ns ≡ cumulated →
     P (spread_out ys ns) → P v.entries
 at-entries {A} P v ys xs ns cumulated least greatest is e f h =
     subst (λ (w : View A). P w.entries) (sym is) (subst (λ (zs : List A). P (spread_out zs cumulated)) e (subst (λ (ms : List ℕ). P (spread_out ys ms)) f h))

@@ -1,8 +1,7 @@
-use Rattle.std.proofs.Common.{◌≡◌, ℕ, ◌+◌, [], ◌∷◌, List, length, drop, ap, sym, ◌∙◌, refl, arith}
-use Rattle.std.proofs.lemmas.Grind.{common_steps}
+use Rattle.std.proofs.Common.{◌≡◌, ℕ, ◌+◌, [], ◌∷◌, List, drop, ap, sym, ◌∙◌, refl, arith}
 use Rattle.std.proofs.lemmas.List.{drop_all}
 use Rattle.std.proofs.lemmas.Result.{IfOk-from_err, MatchResult-from_err}
-use Rattle.std.specs.Prelude.{vec_capacity, vec_len}
+use Rattle.std.specs.Prelude.{vec_capacity}
 use Rattle.sketch_base.specs.Pairs.{is_below_next}
 use Rattle.sketch_base.specs.declared.weighted.Weighted.{Weighted}
 use Rattle.sketch_base.specs.Weighted.{pairs_in}
@@ -44,14 +43,17 @@ loop-place-preserved g c =
     let after : List (g.row.T.Denot × ℕ) = pairs_in (drop (c.loop-place.place + 1) c.args.entries.now) in
     let j = at g (past.loop-place-preserved g c).After-index-entries-place in
     let below : is_below_next g.T.Ord.cmp e.item.now after ≡ c.is_below_first.result =
-    sym (c.is_below_first.ensures ∙ ap (λ (es : List (Weighted g.row.T.Denot)). is_below_next g.T.Ord.cmp e.item.now (pairs_in es)) (tail-whole (c.loop-place.place + 1) _ c.args.entries.now refl)) in
+    sym
+    (c.is_below_first.ensures ∙ ap (λ (es : List (Weighted g.row.T.Denot)). is_below_next g.T.Ord.cmp e.item.now (pairs_in es))
+    (tail-whole (c.loop-place.place + 1) _ c.args.entries.now refl)) in
     elim c.if-is_below_first.branch [
       | then-is_below_first+in_ok-clone w ↦
           let same = c.requires.clones e.item.now w.in_ok-clone.field-0 w.in_ok-clone.ensures.cases in
           let items_is = ap (λ v. v.items) w.items-is ∙ w.push_reserved.ensures.items in
           let weights_is = ap (λ v. v.items) w.weights-is ∙ w.push_reserved-then-is_below_first.ensures.items in
           record {
-            joined = joined-push g.met.T.Ord.total _ after e.item.now e.weight c.loop-place.total _ _ j w.in_ok-clone.field-0 _ _ (below ∙ w.if-is_below_first.true) same items_is weights_is;
+            joined = joined-push g.met.T.Ord.total _ after e.item.now e.weight c.loop-place.total _ _ j w.in_ok-clone.field-0 _ _
+                (below ∙ w.if-is_below_first.true) same items_is weights_is;
             room = pushed-within _ _ _ _ i.room items_is;
             weights_room = pushed-within _ _ _ _ i.weights_room weights_is;
             capacity = still-holds _ _ _ i.capacity (ap vec_capacity w.items-is ∙ w.push_reserved.ensures.capacity);
@@ -61,7 +63,8 @@ loop-place-preserved g c =
           let items_is = ap (λ v. v.items) w.items-is in
           let weights_is = ap (λ v. v.items) w.weights-is in
           record {
-            joined = joined-over g.met.T.Ord.total _ after e.item.now e.weight c.loop-place.total _ _ j _ _ (below ∙ w.if-is_below_first.false) items_is weights_is;
+            joined = joined-over g.met.T.Ord.total _ after e.item.now e.weight c.loop-place.total _ _ j _ _ (below ∙ w.if-is_below_first.false) items_is
+                weights_is;
             room = same-within _ _ _ i.room items_is;
             weights_room = same-within _ _ _ i.weights_room weights_is;
             capacity = still-holds _ _ _ i.capacity (ap vec_capacity w.items-is);

@@ -8,4 +8,5 @@ pub loop-fraction-preserved : goal.loop-fraction-preserved
 loop-fraction-preserved c =
     let xs = c.args.fractions.now in
     let i = c.loop-fraction.fraction-index in
-    AllWithin-more IsFraction xs 0 i c.loop-fraction.invariant (λ d. subst IsFraction (get_or_default xs i _ d c.loop-fraction-test.true) c.in_ok-check_fraction.ensures.good)
+    AllWithin-more IsFraction xs 0 i c.loop-fraction.invariant
+    (λ d. subst IsFraction (get_or_default xs i _ d c.loop-fraction-test.true) c.in_ok-check_fraction.ensures.good)

@@ -8,9 +8,12 @@ use Rattle.sketch_base.proofs.sorted_view.SortedView.cdf.Goals as goal
 
 pub returns : goal.returns
 returns g c =
-    let some = entries-there _ _ _ _ _ (sym c.self.view_is) c.is_empty.result _ c.is_empty.ensures c.self.inside.items.ok.0 c.if-is_empty.false c.self.invariant.each_counts in
+    let some = entries-there _ _ _ _ _ (sym c.self.view_is) c.is_empty.result _ c.is_empty.ensures c.self.inside.items.ok.0 c.if-is_empty.false
+    c.self.invariant.each_counts in
     record {
-      found = at-entries (λ (es : List g.row.T.Denot). c.in_ok-cdf_among.field-0.items ≡ ranks_of (length es) (cdf_of g.T.Ord.cmp c.args.criteria es c.args.points.now)) _ _ _ _ _ _ _ (sym c.self.view_is) c.as_slice-items.ensures.value c.as_slice-cumulated.ensures.value
+      found = at-entries
+          (λ (es : List g.row.T.Denot). c.in_ok-cdf_among.field-0.items ≡ ranks_of (length es) (cdf_of g.T.Ord.cmp c.args.criteria es c.args.points.now)) _ _ _
+          _ _ _ _ (sym c.self.view_is) c.as_slice-items.ensures.value c.as_slice-cumulated.ensures.value
           c.in_ok-cdf_among.ensures.ranks;
       rises = c.in_ok-cdf_among.ensures.rises;
       there = (λ t. some, λ t. refl);
@@ -29,12 +32,14 @@ pub returns-in_err-cdf_among : goal.returns-in_err-cdf_among
 returns-in_err-cdf_among g c =
     let r = c.from_residual-in_err-cdf_among.result in
     let err = c.from_residual-in_err-cdf_among.ensures.0 in
-    let some = entries-there _ _ _ _ _ (sym c.self.view_is) c.is_empty.result _ c.is_empty.ensures c.self.inside.items.ok.0 c.if-is_empty.false c.self.invariant.each_counts in
+    let some = entries-there _ _ _ _ _ (sym c.self.view_is) c.is_empty.result _ c.is_empty.ensures c.self.inside.items.ok.0 c.if-is_empty.false
+    c.self.invariant.each_counts in
     record {
       found = IfOk-from_err r _ err;
       rises = IfOk-from_err r _ err;
       there = IfOk-from_err r _ err;
-      refused = refused-memory (IsIncreasing g.T.Ord.cmp c.args.points.now) (length c.args.self.now.entries) r c.from_residual-in_err-cdf_among.ensures.1 c.in_ok-check_points.ensures.good some;
+      refused = refused-memory (IsIncreasing g.T.Ord.cmp c.args.points.now) (length c.args.self.now.entries) r c.from_residual-in_err-cdf_among.ensures.1
+          c.in_ok-check_points.ensures.good some;
     }
 
 pub returns-in_err-check_points : goal.returns-in_err-check_points
@@ -45,7 +50,8 @@ returns-in_err-check_points g c =
       found = IfOk-from_err r _ err;
       rises = IfOk-from_err r _ err;
       there = IfOk-from_err r _ err;
-      refused = refused-argument (IsIncreasing g.T.Ord.cmp c.args.points.now) (length c.args.self.now.entries) r _ c.from_residual.ensures.1 c.in_err-check_points.ensures.kind c.in_err-check_points.ensures.bad;
+      refused = refused-argument (IsIncreasing g.T.Ord.cmp c.args.points.now) (length c.args.self.now.entries) r _ c.from_residual.ensures.1
+          c.in_err-check_points.ensures.kind c.in_err-check_points.ensures.bad;
     }
 
 pub cdf_among-requires-clause-increasing : goal.cdf_among-requires-clause-increasing

@@ -1,4 +1,4 @@
-use Rattle.std.proofs.Common.{◌∙◌, ℕ, length, map, ap, refl, arith, IsSorted}
+use Rattle.std.proofs.Common.{◌∙◌, ℕ, map, ap, refl, IsSorted}
 use Rattle.std.proofs.lemmas.Result.{IfOk-from_err, MatchResult-from_err}
 use Rattle.sketch_base.specs.Pairs.{joined_weights}
 use Rattle.sketch_base.specs.Weighted.{pairs_in}
@@ -24,7 +24,8 @@ from_cumulated-requires-2 g c =
 pub from_cumulated-requires : goal.from_cumulated-requires
 from_cumulated-requires g c =
     let no_pairs = ap pairs_in (emptied _ _ c.args.entries.now c.is_empty.ensures c.if-is_empty.true refl) in
-    empty-view g.T.Ord.cmp _ _ (none-joined g.T.Ord.cmp _ _ no_pairs c.in_ok-items.ensures.items) (c.in_ok-items.ensures.weights ∙ ap (joined_weights g.T.Ord.cmp 0) no_pairs)
+    empty-view g.T.Ord.cmp _ _ (none-joined g.T.Ord.cmp _ _ no_pairs c.in_ok-items.ensures.items)
+    (c.in_ok-items.ensures.weights ∙ ap (joined_weights g.T.Ord.cmp 0) no_pairs)
 
 pub returns : goal.returns
 returns g c =
@@ -42,7 +43,8 @@ returns-then-is_empty g c =
     let none = emptied _ _ c.args.entries.now c.is_empty.ensures c.if-is_empty.true refl in
     let no_pairs = ap pairs_in none in
     let b = built-empty g.T.Ord.cmp (pairs_in c.args.entries.now) c.args.entries.now c.args.min_item c.args.max_item _ _ _ c.from_cumulated.ensures
-    (none-joined g.T.Ord.cmp _ _ no_pairs c.in_ok-items.ensures.items) (c.in_ok-items.ensures.weights ∙ ap (joined_weights g.T.Ord.cmp 0) no_pairs) no_pairs none in
+    (none-joined g.T.Ord.cmp _ _ no_pairs c.in_ok-items.ensures.items) (c.in_ok-items.ensures.weights ∙ ap (joined_weights g.T.Ord.cmp 0) no_pairs) no_pairs
+    none in
     record { entries = b.entries; joined = b.joined_is; least = b.least_is; greatest = b.greatest_is; memory = tt; none = tt }
 
 pub returns-in_err-items : goal.returns-in_err-items

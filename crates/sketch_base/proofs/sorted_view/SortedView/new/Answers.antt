@@ -1,4 +1,4 @@
-use Rattle.std.proofs.Common.{◌∙◌, ℕ, length, map, reverse, sym, arith, IsSorted, IsPermutation, is_lt, rules, of_calls}
+use Rattle.std.proofs.Common.{◌∙◌, ℕ, map, reverse, sym, arith, IsSorted, IsPermutation, is_lt, rules, of_calls}
 use Rattle.std.proofs.lemmas.Fn.{always_returns_same}
 use Rattle.std.proofs.lemmas.List.{nil_from_length, reverse-reverse}
 use Rattle.std.proofs.lemmas.List.Sorted.{ranks_by, sum_by-IsPermutation}
@@ -41,14 +41,16 @@ pub returns : goal.returns
 returns g c =
     let after = (past.returns g c).After-reverse in
     let some = some-unless_zero _ _ _ c.if-count-eq0.false c.len-count.ensures c.args.weighted.ok.0 in
-    let b = built-joined g.met.T.Ord.total _ _ (moved g after) (sorted g after) c.requires.weights c.args.weighted.items c.args.min_item c.args.max_item _ _ _ c.from_cumulated-2.ensures
+    let b = built-joined g.met.T.Ord.total _ _ (moved g after) (sorted g after) c.requires.weights c.args.weighted.items c.args.min_item c.args.max_item _ _ _
+    c.from_cumulated-2.ensures
     c.join_equal.ensures.items c.join_equal.ensures.weights some in
     record { entries = b.entries; joined = b.joined_is; least = b.least_is; greatest = b.greatest_is; memory = tt; none = tt }
 
 pub returns-then-count-eq0 : goal.returns-then-count-eq0
 returns-then-count-eq0 g c =
     let none = nil_from_length c.args.weighted.items (sym c.args.weighted.ok.0 ∙ (sym c.len-count.ensures ∙ c.if-count-eq0.true)) in
-    let b = built-empty g.T.Ord.cmp c.args.weighted.items c.args.weighted.items c.args.min_item c.args.max_item _ _ _ c.from_cumulated.ensures c.in_ok-items.ensures.items
+    let b = built-empty g.T.Ord.cmp c.args.weighted.items c.args.weighted.items c.args.min_item c.args.max_item _ _ _ c.from_cumulated.ensures
+    c.in_ok-items.ensures.items
     c.in_ok-cumulated.ensures.items none none in
     record { entries = b.entries; joined = b.joined_is; least = b.least_is; greatest = b.greatest_is; memory = tt; none = tt }
 
@@ -75,7 +77,8 @@ returns-in_err-cumulated g c =
       least = IfOk-from_err r _ err;
       greatest = IfOk-from_err r _ err;
       memory = error-is r _ c.from_residual-in_err-cumulated.ensures.1;
-      none = MatchResult-from_err r _ _ err (λ e. some-unless_none _ (λ z. c.in_err-cumulated.ensures.succeeds (c.len-count.ensures ∙ (c.args.weighted.ok.0 ∙ z))));
+      none = MatchResult-from_err r _ _ err
+          (λ e. some-unless_none _ (λ z. c.in_err-cumulated.ensures.succeeds (c.len-count.ensures ∙ (c.args.weighted.ok.0 ∙ z))));
     }
 
 pub returns-in_err-sort_by : goal.returns-in_err-sort_by

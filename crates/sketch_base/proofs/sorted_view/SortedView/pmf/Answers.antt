@@ -9,11 +9,15 @@ use Rattle.sketch_base.proofs.sorted_view.SortedView.pmf.Goals as goal
 
 pub returns : goal.returns
 returns g c =
-    let some = entries-there _ _ _ _ _ (sym c.self.view_is) c.is_empty.result _ c.is_empty.ensures c.self.inside.items.ok.0 c.if-is_empty.false c.self.invariant.each_counts in
+    let some = entries-there _ _ _ _ _ (sym c.self.view_is) c.is_empty.result _ c.is_empty.ensures c.self.inside.items.ok.0 c.if-is_empty.false
+    c.self.invariant.each_counts in
     record {
-      found = at-entries (λ (es : List g.row.T.Denot). c.in_ok-pmf_among.field-0.items ≡ ranks_of (length es) (pmf_of g.T.Ord.cmp c.args.criteria es c.args.points.now)) _ _ _ _ _ _ _ (sym c.self.view_is) c.as_slice-items.ensures.value c.as_slice-cumulated.ensures.value
+      found = at-entries
+          (λ (es : List g.row.T.Denot). c.in_ok-pmf_among.field-0.items ≡ ranks_of (length es) (pmf_of g.T.Ord.cmp c.args.criteria es c.args.points.now)) _ _ _
+          _ _ _ _ (sym c.self.view_is) c.as_slice-items.ensures.value c.as_slice-cumulated.ensures.value
           c.in_ok-pmf_among.ensures.ranks;
-      sums = at-entries (λ (es : List g.row.T.Denot). sum_by (λ (r : Rank). r.weight) c.in_ok-pmf_among.field-0.items ≡ length es) _ _ _ _ _ _ _ (sym c.self.view_is) c.as_slice-items.ensures.value c.as_slice-cumulated.ensures.value
+      sums = at-entries (λ (es : List g.row.T.Denot). sum_by (λ (r : Rank). r.weight) c.in_ok-pmf_among.field-0.items ≡ length es) _ _ _ _ _ _ _
+          (sym c.self.view_is) c.as_slice-items.ensures.value c.as_slice-cumulated.ensures.value
           c.in_ok-pmf_among.ensures.sums;
       there = (λ t. some, λ t. refl);
       refused = refused-nothing (IsIncreasing g.T.Ord.cmp c.args.points.now) (length c.args.self.now.entries) _ c.in_ok-check_points.ensures.good;
@@ -31,12 +35,14 @@ pub returns-in_err-pmf_among : goal.returns-in_err-pmf_among
 returns-in_err-pmf_among g c =
     let r = c.from_residual-in_err-pmf_among.result in
     let err = c.from_residual-in_err-pmf_among.ensures.0 in
-    let some = entries-there _ _ _ _ _ (sym c.self.view_is) c.is_empty.result _ c.is_empty.ensures c.self.inside.items.ok.0 c.if-is_empty.false c.self.invariant.each_counts in
+    let some = entries-there _ _ _ _ _ (sym c.self.view_is) c.is_empty.result _ c.is_empty.ensures c.self.inside.items.ok.0 c.if-is_empty.false
+    c.self.invariant.each_counts in
     record {
       found = IfOk-from_err r _ err;
       sums = IfOk-from_err r _ err;
       there = IfOk-from_err r _ err;
-      refused = refused-memory (IsIncreasing g.T.Ord.cmp c.args.points.now) (length c.args.self.now.entries) r c.from_residual-in_err-pmf_among.ensures.1 c.in_ok-check_points.ensures.good some;
+      refused = refused-memory (IsIncreasing g.T.Ord.cmp c.args.points.now) (length c.args.self.now.entries) r c.from_residual-in_err-pmf_among.ensures.1
+          c.in_ok-check_points.ensures.good some;
     }
 
 pub returns-in_err-check_points : goal.returns-in_err-check_points
@@ -47,7 +53,8 @@ returns-in_err-check_points g c =
       found = IfOk-from_err r _ err;
       sums = IfOk-from_err r _ err;
       there = IfOk-from_err r _ err;
-      refused = refused-argument (IsIncreasing g.T.Ord.cmp c.args.points.now) (length c.args.self.now.entries) r _ c.from_residual.ensures.1 c.in_err-check_points.ensures.kind c.in_err-check_points.ensures.bad;
+      refused = refused-argument (IsIncreasing g.T.Ord.cmp c.args.points.now) (length c.args.self.now.entries) r _ c.from_residual.ensures.1
+          c.in_err-check_points.ensures.kind c.in_err-check_points.ensures.bad;
     }
 
 pub pmf_among-requires-clause-increasing : goal.pmf_among-requires-clause-increasing

@@ -13,7 +13,8 @@ returns-in_err-check_fractions g c =
     record {
       found = IfOk-from_err r _ err;
       there = IfOk-from_err r _ err;
-      refused = refused-argument (All IsFraction c.args.fractions.now) (length c.args.self.now.entries) r _ c.from_residual.ensures.1 c.in_err-check_fractions.ensures.kind
+      refused = refused-argument (All IsFraction c.args.fractions.now) (length c.args.self.now.entries) r _ c.from_residual.ensures.1
+          c.in_err-check_fractions.ensures.kind
           c.in_err-check_fractions.ensures.bad;
     }
 
@@ -21,11 +22,13 @@ pub returns-in_err-entries_of_all : goal.returns-in_err-entries_of_all
 returns-in_err-entries_of_all g c =
     let r = c.from_residual-in_err-entries_of_all.result in
     let err = c.from_residual-in_err-entries_of_all.ensures.0 in
-    let some = entries-there _ _ _ _ _ (sym c.self.view_is) c.is_empty.result _ c.is_empty.ensures c.self.inside.items.ok.0 c.if-is_empty.false c.self.invariant.each_counts in
+    let some = entries-there _ _ _ _ _ (sym c.self.view_is) c.is_empty.result _ c.is_empty.ensures c.self.inside.items.ok.0 c.if-is_empty.false
+    c.self.invariant.each_counts in
     record {
       found = IfOk-from_err r _ err;
       there = IfOk-from_err r _ err;
-      refused = refused-memory (All IsFraction c.args.fractions.now) (length c.args.self.now.entries) r c.from_residual-in_err-entries_of_all.ensures.1 c.in_ok-check_fractions.ensures.good some;
+      refused = refused-memory (All IsFraction c.args.fractions.now) (length c.args.self.now.entries) r c.from_residual-in_err-entries_of_all.ensures.1
+          c.in_ok-check_fractions.ensures.good some;
     }
 
 pub returns-then-is_empty-clause-there : goal.returns-then-is_empty-clause-there
