@@ -1,8 +1,12 @@
 use Rattle.std.proofs.Common.{◌≡◌, ◌∙◌, refl, sym, ap, subst, List, Some, arith}
 use Rattle.std.proofs.lemmas.Grind.{common_steps}
+use Rattle.sketch_base.specs.declared.error.ErrorKind.TheVariants.{OutOfMemory}
 use Rattle.sketch_base.specs.Extremes.{IsExtreme, IsAtMost}
-use Rattle.sketch_req.specs.Sketch.{Req, sketch_of}
+use Rattle.sketch_req.specs.Sketch.{Req, IsSound, sketch_of}
 use Rattle.sketch_req.specs.Image.{accuracy_in, IsTold}
+use Rattle.sketch_req.specs.Held.{held_of}
+use Rattle.sketch_req.specs.declared.RankAccuracy.{RankAccuracy}
+use Rattle.sketch_req.proofs.Refusals.{returned, no_found, with_error, same_sketch}
 use Rattle.sketch_req.proofs.Sounds.{IsRebuilt, rebuilt}
 use Rattle.sketch_req.proofs.sketch.ReqSketch.from_level.Given.{Over}
 use Rattle.sketch_req.proofs.sketch.ReqSketch.from_level.Goals.{After-new-levels}
@@ -28,20 +32,42 @@ module _ (g : Over) (c : After-new-levels g) where
       c.requires.legal c.requires.placed c.num_items-n.ensures c.requires.some c.requires.fresh
       low (c.requires.clones _ _ c.in_ok-least.ensures.cases) high (c.requires.clones _ _ c.in_ok-greatest.ensures.cases)
 
+  same : sketch_of c.new-levels.result.k c.new-levels.result.accuracy c.num_items-n.result c.new-levels.result.levels (Some c.in_ok-least.least) (Some c.in_ok-greatest.greatest) ≡ sketch
+  same =
+      same_sketch c.num_items-n.result (Some c.in_ok-least.least) (Some c.in_ok-greatest.greatest)
+      (c.new-levels.ensures ∙ ap (λ (a : RankAccuracy). held_of c.args.header.now.k a c.in_ok-vec.field-0.items) c.rank_accuracy.ensures)
+
+pub returns-in_err-least : goal.returns-in_err-least
+returns-in_err-least g c =
+    let e = returned c.from_residual.result OutOfMemory c.from_residual.ensures.1 in
+    record { told = no_found _ e; memory = with_error _ e refl }
+
+pub returns-in_err-greatest : goal.returns-in_err-greatest
+returns-in_err-greatest g c =
+    let e = returned c.from_residual-in_err-greatest.result OutOfMemory c.from_residual-in_err-greatest.ensures.1 in
+    record { told = no_found _ e; memory = with_error _ e refl }
+
+pub returns-in_err-vec : goal.returns-in_err-vec
+returns-in_err-vec g c =
+    let e = returned c.from_residual-in_err-vec.result OutOfMemory c.from_residual-in_err-vec.ensures.1 in
+    record { told = no_found _ e; memory = with_error _ e refl }
+
 pub from_levels-requires : goal.from_levels-requires
 from_levels-requires g c =
-    rw (c.new-levels.ensures, c.rank_accuracy.ensures) (made g c).sound
+    let before = (past.from_levels-requires g c).After-new-levels in
+    subst (IsSound g.T.Ord.cmp) (sym (same g before)) (made g before).sound
 
-pub returns-clause-told : goal.returns-clause-told
-returns-clause-told g c =
-    let before = (past.returns-clause-told g c).After-new-levels in
+pub returns : goal.returns
+returns g c =
+    let before = (past.returns g c).After-new-levels in
     let m = made g before in
     let told : IsTold g.T.Ord.cmp c.args.header.now (sketch g before) =
     record { k_is = refl; accuracy_is = refl; n_is = m.n_is; least_is = m.least_is; greatest_is = m.greatest_is } in
-    let value = c.from_levels.ensures in
-    let read : c.from_levels.result ≡ sketch g before =
-    rw (c.new-levels.ensures, c.rank_accuracy.ensures) at value in
-    (ap (λ (s : Req g.row.T.Denot). s.levels) read ∙ c.in_ok-vec.ensures.items, subst (IsTold g.T.Ord.cmp c.args.header.now) (sym read) told)
+    let read : c.from_levels.result ≡ sketch g before = c.from_levels.ensures ∙ same g before in
+    record {
+      told = (ap (λ (s : Req g.row.T.Denot). s.levels) read ∙ c.in_ok-vec.ensures.items, subst (IsTold g.T.Ord.cmp c.args.header.now) (sym read) told);
+      memory = tt;
+    }
 
 pub new-levels-requires-clause-levels : goal.new-levels-requires-clause-levels
 new-levels-requires-clause-levels g c = grind arith

@@ -1,6 +1,5 @@
-use Rattle.std.proofs.Common.{◌≡◌, ◌∷◌, [], refl, sym, ap, ap₂, subst, arith, length, List, Bool, true, false}
-use Rattle.std.proofs.lemmas.Grind.{common_steps}
-use Rattle.std.proofs.lemmas.Result.{err_from_is_err_and, IfOk-weaker}
+use Rattle.std.proofs.Common.{◌≡◌, ◌∷◌, [], refl, sym, ap, ap₂, subst, arith, length, List, Bool, Err, ◌∙◌, eq-eqb}
+use Rattle.std.proofs.lemmas.Result.{IfOk-weaker}
 use Rattle.std.proofs.lemmas.Bool.{false≢true, ltb-true, lt-ltb, eqb-true}
 use Rattle.sketch_req.specs.Level.{Level}
 use Rattle.sketch_req.specs.LevelImage.{Place, place_at, BeginsLevel, BeginsLevels}
@@ -8,6 +7,7 @@ use Rattle.sketch_req.specs.Image.{first_place}
 use Rattle.sketch_req.specs.declared.RankAccuracy.{RankAccuracy}
 use Rattle.sketch_req.proofs.Sounds.{one_of, alone, imaged_at}
 use Rattle.sketch_req.proofs.OneText.{same_levels, same_numbers}
+use Rattle.sketch_req.proofs.Refusals.{returned, no_found, with_error, data_not_argument, five_some, over_four, many_counted, no_refusal_of, memory_alone}
 use Rattle.sketch_req.proofs.sketch.ReqSketch.read_one.Given.{Over}
 use Rattle.sketch_req.proofs.sketch.ReqSketch.read_one.Goals.{In_ok-level}
 use Rattle.sketch_req.proofs.sketch.ReqSketch.read_one.Goals as goal
@@ -21,29 +21,48 @@ read g c =
     (ap₂ (λ (a : RankAccuracy) (z : Bool). place_at c.args.header.now.k a 0 z) c.rank_accuracy-accuracy.ensures c.has_flag-sorted.ensures)
     c.in_ok-level.ensures.found
 
-pub returns-in_err-level-clause-refused : goal.returns-in_err-level-clause-refused
-returns-in_err-level-clause-refused g c =
-    let p = err_from_is_err_and c.from_residual-in_err-level.result c.from_residual-in_err-level.ensures.1 in
+pub returns-in_err-unless : goal.returns-in_err-unless
+returns-in_err-unless g c =
+    let told = c.in_err-unless.ensures in
+    let e = returned c.from_residual.result _ c.from_residual.ensures.1 ∙ ap Err told.err in
+    record {
+      found = no_found _ e;
+      refused = with_error _ e (λ k s rest b. false≢true (told.ok.1 (eq-eqb _ _ b.none_raw)));
+      kind = with_error _ e data_not_argument;
+    }
+
+pub returns-in_err-level : goal.returns-in_err-level
+returns-in_err-level g c =
+    let told = c.in_err-level.ensures in
+    let e = returned c.from_residual-in_err-level.result _ c.from_residual-in_err-level.ensures.1 in
     let f = g.T.ReqValue.spelling in
     let text = c.args.text.now in
     let place = ap₂ (λ (a : RankAccuracy) (z : Bool). place_at c.args.header.now.k a 0 z) c.rank_accuracy-accuracy.ensures c.has_flag-sorted.ensures in
-    rw (p.1, p.2) (λ k s rest b.
-    let one = one_of s.levels b.one_level in
-    let all = subst (λ (ls : List (Level g.row.T.Denot)). BeginsLevels g.T.Ord.cmp f (first_place c.args.header.now) text ls rest) one.1 b.levels in
-    c.in_err-level.ensures.refused k one.0 all.0 (subst (λ (q : Place). BeginsLevel g.T.Ord.cmp f q text one.0 all.0) (sym place) all.1))
+    record {
+      found = no_found _ e;
+      refused = with_error _ e (λ k s rest b.
+          let one = one_of s.levels b.one_level in
+          let all = subst (λ (ls : List (Level g.row.T.Denot)). BeginsLevels g.T.Ord.cmp f (first_place c.args.header.now) text ls rest) one.1 b.levels in
+          told.refused k one.0 all.0 (subst (λ (q : Place). BeginsLevel g.T.Ord.cmp f q text one.0 all.0) (sym place) all.1));
+      kind = with_error _ e told.kind;
+    }
 
-pub returns-in_err-unless-2-clause-refused : goal.returns-in_err-unless-2-clause-refused
-returns-in_err-unless-2-clause-refused g c =
-    let p = err_from_is_err_and c.from_residual-in_err-unless-2.result c.from_residual-in_err-unless-2.ensures.1 in
-    let level = read g (past.returns-in_err-unless-2-clause-refused g c).In_ok-level in
+pub returns-in_err-unless-2 : goal.returns-in_err-unless-2
+returns-in_err-unless-2 g c =
+    let told = c.in_err-unless-2.ensures in
+    let e = returned c.from_residual-in_err-unless-2.result _ c.from_residual-in_err-unless-2.ensures.1 ∙ ap Err told.err in
+    let level = read g (past.returns-in_err-unless-2 g c).In_ok-level in
     let xs : List (Level g.row.T.Denot) = c.in_ok-level.level ∷ [] in
-    rw (p.1, p.2) (λ k s rest b.
-    let same = same_levels _ _ g.met.T.ReqValue.is_prefix_free _ c.requires.head.legal_k _ xs _ _ _ (sym b.one_level)
-    (c.deserialize.new.input, level, refl) b.levels in
-    let n = same_numbers g.T.ReqValue.spelling xs s.levels same.0 in
-    let its = ap length (alone xs c.in_ok-level.level refl).items in
-    let z : false ≡ true = c.in_err-unless-2.ensures.ok.1 (lt-ltb _ _ (omega (arith, n.items, its, b.many_items, c.num_items.ensures))) in
-    absurd (false≢true z))
+    record {
+      found = no_found _ e;
+      refused = with_error _ e (λ k s rest b.
+          let same = same_levels _ _ g.met.T.ReqValue.is_prefix_free _ c.requires.head.legal_k _ xs _ _ _ (sym b.one_level)
+          (c.deserialize.new.input, level, refl) b.levels in
+          let n = same_numbers g.T.ReqValue.spelling xs s.levels same.0 in
+          let its = ap length (alone xs c.in_ok-level.level refl).items in
+          false≢true (told.ok.1 (lt-ltb _ _ (omega (arith, n.items, its, b.many_items, c.num_items.ensures)))));
+      kind = with_error _ e data_not_argument;
+    }
 
 pub from_level-requires-clause-clones : goal.from_level-requires-clause-clones
 from_level-requires-clause-clones g c = c.requires.clones
@@ -57,34 +76,30 @@ from_level-requires-clause-placed g c =
     imaged_at _ (first_place c.args.header.now) _ c.requires.head.legal_k (omega arith) (λ above. absurd (omega (arith, above))) level.imaged
 
 pub from_level-requires-clause-some : goal.from_level-requires-clause-some
-from_level-requires-clause-some g c = omega (arith, c.num_items.ensures, ltb-true _ _ (c.in_ok-unless-2.ensures.ok.0 refl))
+from_level-requires-clause-some g c = five_some c.num_items.ensures (ltb-true _ _ (c.in_ok-unless-2.ensures.ok.0 refl))
 
 pub from_level-requires-clause-fresh : goal.from_level-requires-clause-fresh
 from_level-requires-clause-fresh g c =
-    λ few. absurd (omega (arith, few, c.num_items.ensures, ltb-true _ _ (c.in_ok-unless-2.ensures.ok.0 refl)))
+    λ few. absurd (over_four c.num_items.ensures (ltb-true _ _ (c.in_ok-unless-2.ensures.ok.0 refl)) few)
 
-pub returns-clause-found : goal.returns-clause-found
-returns-clause-found g c =
+pub returns : goal.returns
+returns g c =
     let rest = c.deserialize.new.input in
     let place = first_place c.args.header.now in
-    let level = read g (past.returns-clause-found g c).In_ok-level in
+    let level = read g (past.returns g c).In_ok-level in
     let many = ltb-true _ _ (c.in_ok-unless-2.ensures.ok.0 refl) in
-    IfOk-weaker c.from_level.result _ _ (λ s t.
-    let its = ap length (alone _ c.in_ok-level.level t.0).items in
     record {
-      none_raw = eqb-true _ _ (c.in_ok-unless.ensures.ok.0 refl);
-      one_level = ap length t.0;
-      levels = subst (λ (ls : List (Level g.row.T.Denot)). BeginsLevels g.T.Ord.cmp g.T.ReqValue.spelling place c.args.text.now ls rest)
-          (sym t.0) (rest, level, refl);
-      many_items = omega (arith, its, c.num_items.ensures, many);
-      told = t.1;
-    }) c.from_level.ensures.told
-
-pub returns-clause-kind : goal.returns-clause-kind
-returns-clause-kind g c = grind (arith, common_steps)
-
-pub returns-clause-refused : goal.returns-clause-refused
-returns-clause-refused g c = grind arith
+      found = IfOk-weaker c.from_level.result _ _ (λ s t. record {
+        none_raw = eqb-true _ _ (c.in_ok-unless.ensures.ok.0 refl);
+        one_level = ap length t.0;
+        levels = subst (λ (ls : List (Level g.row.T.Denot)). BeginsLevels g.T.Ord.cmp g.T.ReqValue.spelling place c.args.text.now ls rest)
+            (sym t.0) (rest, level, refl);
+        many_items = many_counted (ap length (alone _ c.in_ok-level.level t.0).items) c.num_items.ensures many;
+        told = t.1;
+      }) c.from_level.ensures.told;
+      refused = no_refusal_of _ c.from_level.result c.from_level.ensures.memory;
+      kind = memory_alone c.from_level.result c.from_level.ensures.memory;
+    }
 
 pub same-level : goal.same-level
 same-level g c = grind arith

@@ -1,12 +1,12 @@
-use Rattle.std.proofs.Common.{◌≡◌, ◌∙◌, ◌∷◌, [], ◌≤◌, refl, inl, inr, sym, ap, subst, arith, length, List, Bool, IsSorted}
-use Rattle.std.proofs.lemmas.Bool.{eqb-true, leb-true, ltb-true}
-use Rattle.std.proofs.lemmas.Grind.{common_steps}
+use Rattle.std.proofs.Common.{◌≡◌, ◌∙◌, ◌∷◌, [], ◌≤◌, refl, inl, inr, sym, ap, subst, arith, length, List, Bool, Err, IsSorted, le-leb}
+use Rattle.std.proofs.lemmas.Bool.{eqb-true, false≢true, leb-true, ltb-true}
 use Rattle.std.specs.Prelude.{IsTrue, ◌↔◌}
 use Rattle.sketch_req.specs.Level.{Level, fresh}
 use Rattle.std.proofs.lemmas.Result.{IfOk-weaker}
 use Rattle.sketch_req.specs.Image.{accuracy_in}
 use Rattle.sketch_req.specs.Walk.{IsPlaced}
 use Rattle.sketch_req.specs.declared.RankAccuracy.{RankAccuracy}
+use Rattle.sketch_req.proofs.Refusals.{returned, no_found, with_error, data_not_argument, none_counted, few_counted, no_refusal_of, memory_alone}
 use Rattle.sketch_req.proofs.Sounds.{fresh_placed}
 use Rattle.sketch_req.proofs.sketch.ReqSketch.read_raw.Given.{Over}
 use Rattle.sketch_req.proofs.sketch.ReqSketch.read_raw.Goals.{then-count-gt0, else-count-gt0, then-header-eq1, else-header-eq1, After-read_items, After-raw_items_compactor-level}
@@ -31,7 +31,7 @@ numbers g c =
           elim c.if-header-eq1.branch [
             | then-header-eq1 v ↦
                 elim w.if-count-gt0.either [
-                  | inl low ↦ absurd (omega (arith, low.1, ltb-true 0 c.args.header.now.second (cc holds)))
+                  | inl low ↦ absurd (none_counted low.1 (ltb-true 0 c.args.header.now.second (cc holds)))
                   | inr none ↦ absurd (none v.if-header-eq1.true)
                 ]
             | else-header-eq1 v ↦ absurd (v.if-header-eq1.false (eqb-true c.args.header.now.first 1 (cc holds)))
@@ -64,33 +64,56 @@ from_level-requires-clause-fresh g c =
     let rest = fresh_level g (past.from_level-requires-clause-fresh g c).After-raw_items_compactor-level in
     λ _. (ap (λ (l : Level g.row.T.Denot). l.state) rest, ap (λ (l : Level g.row.T.Denot). l.doublings) rest)
 
-pub returns-clause-found : goal.returns-clause-found
-returns-clause-found g c =
+pub returns-in_err-unless : goal.returns-in_err-unless
+returns-in_err-unless g c =
+    let told = c.in_err-unless.ensures in
+    let e = returned c.from_residual.result _ c.from_residual.ensures.1 ∙ ap Err told.err in
+    record {
+      found = no_found _ e;
+      refused = with_error _ e (λ k s rest b.
+          elim c.if-count-gt0.branch [
+            | then-count-gt0 w ↦ false≢true (told.ok.1 (w.unless-is ∙ le-leb _ _ b.few_items))
+            | else-count-gt0 w ↦ elim w.if-count-gt0.either [ inl low ↦ none_counted low.1 b.some_items | inr none ↦ none b.one_level ]
+          ]);
+      kind = with_error _ e data_not_argument;
+    }
+
+pub returns-in_err-items : goal.returns-in_err-items
+returns-in_err-items g c =
+    let told = c.in_err-items.ensures in
+    let e = returned c.from_residual-in_err-items.result _ c.from_residual-in_err-items.ensures.1 in
+    record {
+      found = no_found _ e;
+      refused = with_error _ e (λ k s rest b. told.refused k b.items rest b.as_many b.begins);
+      kind = with_error _ e told.kind;
+    }
+
+pub returns : goal.returns
+returns g c =
     let xs : List g.row.T.Denot = c.in_ok-items.items.items in
     let made = c.raw_items_compactor-level in
-    let rest = fresh_level g (past.returns-clause-found g c).After-raw_items_compactor-level in
-    let numbers = numbers g (past.returns-clause-found g c).After-read_items in
-    IfOk-weaker c.from_level.result _ _ (λ s t. record {
-      one_level = numbers.0;
-      some_items = numbers.1;
-      few_items = numbers.2;
-      items = xs;
-      begins = c.in_ok-items.ensures.found.begins;
-      as_many = c.in_ok-items.ensures.found.as_many;
-      is_sorted = made.result.is_sorted;
-      sorted = subst (λ (z : Bool). IsTrue made.result.is_sorted ↔ (IsTrue z × IsSorted g.T.Ord.cmp xs)) c.has_flag-sorted.ensures made.ensures.sorted;
-      levels_are = t.0 ∙ ap (λ (l : Level g.row.T.Denot). l ∷ []) rest;
-      told = t.1;
-    }) c.from_level.ensures.told
-
-pub returns-clause-refused : goal.returns-clause-refused
-returns-clause-refused g c = grind arith
-
-pub returns-in_err-items-clause-refused : goal.returns-in_err-items-clause-refused
-returns-in_err-items-clause-refused g c = grind arith
+    let rest = fresh_level g (past.returns g c).After-raw_items_compactor-level in
+    let numbers = numbers g (past.returns g c).After-read_items in
+    record {
+      found = IfOk-weaker c.from_level.result _ _ (λ s t. record {
+          one_level = numbers.0;
+          some_items = numbers.1;
+          few_items = numbers.2;
+          items = xs;
+          begins = c.in_ok-items.ensures.found.begins;
+          as_many = c.in_ok-items.ensures.found.as_many;
+          is_sorted = made.result.is_sorted;
+          sorted = subst (λ (z : Bool). IsTrue made.result.is_sorted ↔ (IsTrue z × IsSorted g.T.Ord.cmp xs)) c.has_flag-sorted.ensures made.ensures.sorted;
+          levels_are = t.0 ∙ ap (λ (l : Level g.row.T.Denot). l ∷ []) rest;
+          told = t.1;
+        }) c.from_level.ensures.told;
+      refused = no_refusal_of _ c.from_level.result c.from_level.ensures.memory;
+      kind = memory_alone c.from_level.result c.from_level.ensures.memory;
+    }
 
 pub raw_items_compactor-level-requires-clause-few : goal.raw_items_compactor-level-requires-clause-few
-raw_items_compactor-level-requires-clause-few g c = grind (arith, common_steps)
+raw_items_compactor-level-requires-clause-few g c =
+    few_counted c.in_ok-items.ensures.found.as_many (numbers g (past.raw_items_compactor-level-requires-clause-few g c).After-read_items).2
 
-pub returns-clause-kind : goal.returns-clause-kind
-returns-clause-kind g c = grind (arith, common_steps)
+pub raw_items_compactor-level-requires-clause-legal : goal.raw_items_compactor-level-requires-clause-legal
+raw_items_compactor-level-requires-clause-legal g c = c.requires.head.legal_k

@@ -1,126 +1,138 @@
 -- The goals at the return are what updates by all items make of the fields.
-use Rattle.std.proofs.lemmas.Grind.{common_steps}
-use Rattle.std.proofs.Common.{◌≡◌, ◌+◌, ◌++◌, ◌<◌, ◌^◌, ◌∙◌, false, not, ap, arith, leb-true, length, refl, rules, subst, sym}
+use Rattle.std.proofs.Common.{◌≡◌, ◌+◌, ◌<◌, ◌≤◌, ◌⊎◌, ◌^◌, ◌∙◌, Err, false, inl, not, ap, arith, length, refl, subst, sym}
 use Rattle.std.proofs.lemmas.Bool.{false≢true}
-use Rattle.std.specs.Option.{option_to_list}
-use Rattle.sketch_base.specs.Extremes.{IsGreatestOf, IsLeastOf}
+use Rattle.std.proofs.lemmas.Grind.{common_steps}
+use Rattle.sketch_base.specs.Bag.{retained}
 use Rattle.sketch_base.specs.Random.{bits_from, after_draws}
-use Rattle.sketch_req.specs.Held.{Held}
-use Rattle.sketch_req.specs.Sketch.{Req, IsSound, sketch_of}
-use Rattle.sketch_req.specs.Updates.{AreUpdated, coins_of_updates}
+use Rattle.sketch_base.specs.declared.error.ErrorKind.TheVariants.{InvalidArgument, OutOfMemory}
+use Rattle.sketch_req.specs.Actions.{bag_of}
+use Rattle.sketch_req.specs.Sketch.{Req, IsSound}
+use Rattle.sketch_req.specs.Updates.{IsDrawnFrom, coins_of_updates}
+use Rattle.sketch_req.proofs.MadeSketches.{none_taken, updates_make}
+use Rattle.sketch_req.proofs.Refusals.{returned, no_value, with_error, no_memory, no_refusal, accepted, accepted_alone, refused_as, same_sketch, none_drawn, items_fit, none_fit, not_both, weight_fits, too_heavy, light_still}
 use Rattle.sketch_req.proofs.UpdatedLevels.{not-full}
-use Rattle.sketch_req.proofs.UpdatesInTurn.{updates_none, updates_sketch}
+use Rattle.sketch_req.proofs.UpdatesInTurn.{updates_none}
 use Rattle.sketch_req.proofs.sketch.ReqSketch.update_all.Given.{Over}
-use Rattle.sketch_req.proofs.sketch.ReqSketch.update_all.Goals.{In_ok-unless, After-set_if_some-2, then-not-is_full, else-not-is_full}
+use Rattle.sketch_req.proofs.sketch.ReqSketch.update_all.Goals.{In_ok-unless, then-not-is_full, else-not-is_full}
 use Rattle.sketch_req.proofs.sketch.ReqSketch.update_all.Goals as goal
 use Rattle.sketch_req.proofs.sketch.ReqSketch.update_all.Goals.at as past
-
-pub returns-then-count-eq0-clause-ok : goal.returns-then-count-eq0-clause-ok
-returns-then-count-eq0-clause-ok g c =
-    let none : length c.args.items.now ≡ 0 = search rules in
-    rw (← c.self.view_is) (updates_none g.met.T.Ord.total _ c.args.items.now _ c.self.invariant none)
 
 -- the sketch isn't full, and the items leave its weight below 2^64
 allowed : (g : Over) (c : In_ok-unless g) → (c.is_full.result ≡ false) × (c.self.inside.n + length c.args.items.now < 2 ^ 64)
 allowed g c =
     let told = c.in_ok-unless.ensures.ok.0 refl in
     elim c.if-not-is_full.branch [
-      | then-not-is_full w ↦ (w.if-not-is_full.true, omega (arith, leb-true _ _ (sym w.unless-is ∙ told), c.self.invariant.n_fits))
+      | then-not-is_full w ↦ (w.if-not-is_full.true, weight_fits _ w.unless-is told c.self.invariant.n_fits)
       | else-not-is_full w ↦ absurd (false≢true (sym (ap (λ b. not b) w.if-not-is_full.false) ∙ (sym w.unless-is ∙ told)))
     ]
 
--- the sketch before and after
-module _ (g : Over) (c : After-set_if_some-2 g) where
-  abbrev old : Req g.row.T.Denot
-  old = let s = c.self.inside in sketch_of s.levels.k s.levels.accuracy s.n s.levels.levels s.min_item s.max_item
+pub returns-then-count-eq0 : goal.returns-then-count-eq0
+returns-then-count-eq0 g c =
+    let none = c.if-count-eq0.true in
+    let sound = subst (IsSound g.T.Ord.cmp) c.self.view_is c.self.invariant in
+    record {
+      empty = λ _. (refl, refl, refl);
+      ok = updates_none g.met.T.Ord.total _ _ _ sound none;
+      sound = sound;
+      coins = none_taken _ _ c.args.self.now _ none;
+      err = tt;
+      full = accepted (light_still (ap (λ (s : Req g.row.T.Denot). s.n) c.self.view_is) c.self.invariant.n_fits none);
+      refused = accepted_alone _;
+      drawn = tt;
+      memory = tt;
+    }
 
-  abbrev new : Req g.row.T.Denot
-  new = sketch_of c.take_all.new.self.k c.take_all.new.self.accuracy (old.n + length c.args.items.now) c.take_all.new.self.levels c.set_if_some.new.place c.set_if_some-2.new.place
+pub returns-in_err-unless : goal.returns-in_err-unless
+returns-in_err-unless g c =
+    let told = c.in_err-unless.ensures in
+    let e = returned c.from_residual.result _ c.from_residual.ensures.1 ∙ ap Err told.err in
+    let full : (2 ^ 64 ≤ c.args.self.now.n + length c.args.items.now) ⊎ ((0 < length c.args.items.now) × (retained (bag_of c.args.self.now.levels) ≡ 4294967295)) = elim c.if-not-is_full.branch [
+      | then-not-is_full w ↦ inl (too_heavy _ _ (ap (λ (s : Req g.row.T.Denot). s.n) c.self.view_is) w.unless-is told.ok.1)
+      | else-not-is_full w ↦ none_fit c.is_full.ensures w.if-not-is_full.false c.if-count-eq0.false
+    ] in
+    record {
+      empty = λ none. absurd (c.if-count-eq0.false (ap length none));
+      ok = no_value _ e;
+      sound = subst (IsSound g.T.Ord.cmp) c.self.view_is c.self.invariant;
+      coins = no_value _ e;
+      err = with_error _ e refl;
+      full = refused_as e full;
+      refused = λ _. refl;
+      drawn = with_error _ e (none_drawn _ _ _);
+      memory = with_error _ e (λ light few. absurd (not_both _ _ full light few));
+    }
 
-  updated : (c.is_full.result ≡ false) × (c.self.inside.n + length c.args.items.now < 2 ^ 64) →
-      IsSound g.T.Ord.cmp new
-      × AreUpdated g.T.Ord.cmp old c.args.items.now (bits_from g.B.RandomBits.bit g.B.RandomBits.next c.args.coins.now (coins_of_updates old c.args.items.now)) new
-      × (c.take_all.new.coins ≡ after_draws g.B.RandomBits.next c.args.coins.now (coins_of_updates old c.args.items.now))
-  updated is_well =
-      let known = not-full _ _ _ c.self.view_is c.self.invariant c.is_full.ensures is_well.0 in
-      let least = subst (IsLeastOf g.T.Ord.cmp (option_to_list old.least ++ c.args.items.now)) (sym c.set_if_some.ensures) c.in_ok-least.ensures.least in
-      let greatest = subst (IsGreatestOf g.T.Ord.cmp (option_to_list old.greatest ++ c.args.items.now)) (sym c.set_if_some-2.ensures) c.in_ok-least.ensures.greatest in
-      let kept = c.take_all.ensures.kept in
-      let t = c.in_ok-take_all.ensures.taken in
-      rw (ap (λ (h : Held g.row.T.Denot). h.k) kept, ap (λ (h : Held g.row.T.Denot). h.accuracy) kept)
-      (updates_sketch g.met.T.Ord.total g.B.RandomBits.bit g.B.RandomBits.next c.args.coins.now c.take_all.new.coins old t.copies c.take_all.new.self.levels c.args.items.now _ _
-      c.self.invariant is_well.1 known.1 t.are_copies t.taken least greatest)
+pub returns-in_err-least : goal.returns-in_err-least
+returns-in_err-least g c =
+    let e = returned c.from_residual-in_err-least.result OutOfMemory c.from_residual-in_err-least.ensures.1 in
+    let known = allowed g (past.returns-in_err-least g c).In_ok-unless in
+    record {
+      empty = λ none. absurd (c.if-count-eq0.false (ap length none));
+      ok = no_value _ e;
+      sound = subst (IsSound g.T.Ord.cmp) c.self.view_is c.self.invariant;
+      coins = no_value _ e;
+      err = with_error _ e refl;
+      full = no_memory e (items_fit (ap (λ (s : Req g.row.T.Denot). s.n) c.self.view_is) known.1 c.is_full.ensures known.0);
+      refused = λ _. refl;
+      drawn = with_error _ e (none_drawn _ _ _);
+      memory = with_error _ e (λ _ _. refl);
+    }
+
+pub returns-in_err-take_all : goal.returns-in_err-take_all
+returns-in_err-take_all g c =
+    let told = c.in_err-take_all.ensures in
+    let e = returned c.from_residual-in_err-take_all.result _ c.from_residual-in_err-take_all.ensures.1 ∙ ap Err told.memory in
+    let known = allowed g (past.returns-in_err-take_all g c).In_ok-unless in
+    let same = same_sketch c.self.inside.n c.self.inside.min_item c.self.inside.max_item told.err in
+    record {
+      empty = λ none. absurd (c.if-count-eq0.false (ap length none));
+      ok = no_value _ e;
+      sound = subst (IsSound g.T.Ord.cmp) (sym same) c.self.invariant;
+      coins = no_value _ e;
+      err = with_error _ e (same ∙ c.self.view_is);
+      full = no_memory e (items_fit (ap (λ (s : Req g.row.T.Denot). s.n) c.self.view_is) known.1 c.is_full.ensures known.0);
+      refused = no_refusal _ e;
+      drawn = with_error _ e (subst (λ (s : Req g.row.T.Denot). IsDrawnFrom g.B.RandomBits.next (coins_of_updates s c.args.items.now) c.args.coins.now c.take_all.new.coins)
+          c.self.view_is told.drawn);
+      memory = with_error _ e (λ _ _. refl);
+    }
+
+pub returns : goal.returns
+returns g c =
+    let known = allowed g (past.returns g c).In_ok-unless in
+    let few = not-full _ _ _ c.self.view_is c.self.invariant c.is_full.ensures known.0 in
+    let t = c.in_ok-take_all.ensures.taken in
+    let made = updates_make g.met.T.Ord.total g.B.RandomBits.bit g.B.RandomBits.next c.self.view_is c.self.invariant _ _ _ known.1 few.1
+    c.take_all.ensures.kept t.are_copies t.taken c.in_ok-least.ensures.least c.set_if_some.ensures c.in_ok-least.ensures.greatest c.set_if_some-2.ensures in
+    record {
+      empty = λ none. absurd (c.if-count-eq0.false (ap length none));
+      ok = made.1;
+      sound = made.0;
+      coins = made.2;
+      err = tt;
+      full = accepted (items_fit (ap (λ (s : Req g.row.T.Denot). s.n) c.self.view_is) known.1 c.is_full.ensures known.0);
+      refused = accepted_alone _;
+      drawn = tt;
+      memory = tt;
+    }
+
+pub invariant_of-self : goal.invariant_of-self
+invariant_of-self g c =
+    subst (IsSound g.T.Ord.cmp) (sym (same_sketch c.self.inside.n c.self.inside.min_item c.self.inside.max_item c.in_err-take_all.ensures.err)) c.self.invariant
 
 pub invariant_of-self-2 : goal.invariant_of-self-2
-invariant_of-self-2 g c = (updated g (past.invariant_of-self-2 g c).After-set_if_some-2 (allowed g (past.invariant_of-self-2 g c).In_ok-unless)).0
-
-pub returns-clause-sound : goal.returns-clause-sound
-returns-clause-sound g c = (updated g (past.returns-clause-sound g c).After-set_if_some-2 (allowed g (past.returns-clause-sound g c).In_ok-unless)).0
-
-pub returns-clause-ok : goal.returns-clause-ok
-returns-clause-ok g c = rw (← c.self.view_is) (updated g (past.returns-clause-ok g c).After-set_if_some-2 (allowed g (past.returns-clause-ok g c).In_ok-unless)).1
-
-pub returns-clause-coins : goal.returns-clause-coins
-returns-clause-coins g c = rw (← c.self.view_is) (updated g (past.returns-clause-coins g c).After-set_if_some-2 (allowed g (past.returns-clause-coins g c).In_ok-unless)).2
-
-pub returns-then-count-eq0-clause-coins : goal.returns-then-count-eq0-clause-coins
-returns-then-count-eq0-clause-coins g c = grind (arith, common_steps)
+invariant_of-self-2 g c = (returns g c).sound
 
 pub take_all-requires-clause-few : goal.take_all-requires-clause-few
 take_all-requires-clause-few g c =
     (not-full _ _ _ c.self.view_is c.self.invariant c.is_full.ensures (allowed g (past.take_all-requires-clause-few g c).In_ok-unless).0).1
 
-pub returns-then-count-eq0-clause-sound : goal.returns-then-count-eq0-clause-sound
-returns-then-count-eq0-clause-sound g c = grind (arith, common_steps)
-
 pub take_all-requires-clause-fits : goal.take_all-requires-clause-fits
 take_all-requires-clause-fits g c =
     omega (arith, (allowed g (past.take_all-requires-clause-fits g c).In_ok-unless).1, c.self.invariant.weighs_n)
 
-pub invariant_of-self : goal.invariant_of-self
-invariant_of-self g c = grind (arith, common_steps)
-
 pub overflow_add-self : goal.overflow_add-self
-overflow_add-self g c = let fits = (allowed g (past.overflow_add-self g c).In_ok-unless).1 in grind (arith, common_steps)
-
-pub returns-clause-empty : goal.returns-clause-empty
-returns-clause-empty g c = grind (arith, common_steps)
-
-pub returns-clause-full : goal.returns-clause-full
-returns-clause-full g c = grind arith
-
-pub returns-clause-refused : goal.returns-clause-refused
-returns-clause-refused g c = grind (arith, common_steps)
-
-pub returns-then-count-eq0-clause-full : goal.returns-then-count-eq0-clause-full
-returns-then-count-eq0-clause-full g c = grind (arith, common_steps)
-
-pub returns-in_err-unless-clause-memory : goal.returns-in_err-unless-clause-memory
-returns-in_err-unless-clause-memory g c = grind arith
-
-pub returns-in_err-take_all-clause-refused : goal.returns-in_err-take_all-clause-refused
-returns-in_err-take_all-clause-refused g c = grind arith
-
-pub returns-in_err-take_all-clause-sound : goal.returns-in_err-take_all-clause-sound
-returns-in_err-take_all-clause-sound g c = grind arith
-
-pub returns-clause-err : goal.returns-clause-err
-returns-clause-err g c = grind arith
-
-pub returns-in_err-take_all-clause-empty : goal.returns-in_err-take_all-clause-empty
-returns-in_err-take_all-clause-empty g c = grind arith
-
-pub returns-then-count-eq0-clause-empty : goal.returns-then-count-eq0-clause-empty
-returns-then-count-eq0-clause-empty g c = grind arith
-
-pub returns-clause-memory : goal.returns-clause-memory
-returns-clause-memory g c = grind arith
+overflow_add-self g c = record { fits = (allowed g (past.overflow_add-self g c).In_ok-unless).1 }
 
 pub same-self-in_err-least : goal.same-self-in_err-least
 same-self-in_err-least g c = grind arith
-
-pub returns-clause-drawn : goal.returns-clause-drawn
-returns-clause-drawn g c = grind arith
-
-pub returns-in_err-take_all-clause-full : goal.returns-in_err-take_all-clause-full
-returns-in_err-take_all-clause-full g c = grind arith

@@ -1,35 +1,75 @@
 -- The goals at the return are what a step of the model says of the fields.
-use Rattle.std.proofs.Common.{◌≡◌, ◌+◌, ap, arith, refl, sym, subst}
+use Rattle.std.proofs.Common.{◌≡◌, ◌+◌, ◌∙◌, Err, ap, arith, refl, sym, subst}
 use Rattle.std.proofs.lemmas.Grind.{common_steps}
 use Rattle.std.proofs.lemmas.Bool.{not-true}
-use Rattle.sketch_base.specs.Random.{bits_from, after_draws}
-use Rattle.sketch_req.specs.Held.{Held}
-use Rattle.sketch_req.specs.Sketch.{Req, IsSound, IsUpdated, sketch_of, Ties, coins_of_update, least_with, greatest_with}
-use Rattle.sketch_req.proofs.UpdatedLevels.{not-full, updated_sketch}
-use Rattle.sketch_req.proofs.sketch.ReqSketch.update_slowly.Given.{Over}
-use Rattle.sketch_req.proofs.sketch.ReqSketch.update_slowly.Goals.{After-set_if_some-2}
+use Rattle.sketch_base.specs.declared.error.ErrorKind.TheVariants.{InvalidArgument, OutOfMemory}
+use Rattle.sketch_req.specs.Sketch.{IsSound}
+use Rattle.sketch_req.proofs.MadeSketches.{update_makes}
+use Rattle.sketch_req.proofs.Refusals.{returned, no_value, with_error, no_memory, accepted, refused_as, same_sketch, flagged, not_flagged, not_full_both, next_fits}
+use Rattle.sketch_req.proofs.UpdatedLevels.{not-full}
 use Rattle.sketch_req.proofs.sketch.ReqSketch.update_slowly.Goals as goal
-use Rattle.sketch_req.proofs.sketch.ReqSketch.update_slowly.Goals.at as past
 
--- the sketch before and after
-module _ (g : Over) (c : After-set_if_some-2 g) where
-  abbrev old : Req g.row.T.Denot
-  old = let s = c.self.inside in sketch_of s.levels.k s.levels.accuracy s.n s.levels.levels s.min_item s.max_item
+pub returns-in_err-unless : goal.returns-in_err-unless
+returns-in_err-unless g c =
+    let told = c.in_err-unless.ensures in
+    let e = returned c.from_residual.result _ c.from_residual.ensures.1 ∙ ap Err told.err in
+    let full = c.is_full.ensures.0 (flagged _ told.ok.1) in
+    record {
+      ok = no_value _ e;
+      sound = subst (IsSound g.T.Ord.cmp) c.self.view_is c.self.invariant;
+      coins = no_value _ e;
+      err = with_error _ e (refl, refl);
+      full = refused_as e full;
+      memory = with_error _ e (λ light few. absurd (not_full_both full light few));
+    }
 
-  abbrev new : Req g.row.T.Denot
-  new = sketch_of c.take_last.new.self.k c.take_last.new.self.accuracy (old.n + 1) c.take_last.new.self.levels c.set_if_some.new.place c.set_if_some-2.new.place
+pub returns-in_err-least : goal.returns-in_err-least
+returns-in_err-least g c =
+    let e = returned c.from_residual-in_err-least.result OutOfMemory c.from_residual-in_err-least.ensures.1 in
+    record {
+      ok = no_value _ e;
+      sound = subst (IsSound g.T.Ord.cmp) c.self.view_is c.self.invariant;
+      coins = no_value _ e;
+      err = with_error _ e (refl, refl);
+      full = no_memory e (not_flagged c.is_full.ensures (not-true _ (c.in_ok-unless.ensures.ok.0 refl)));
+      memory = with_error _ e (λ _ _. refl);
+    }
 
-  updated : IsSound g.T.Ord.cmp new
-      × IsUpdated g.T.Ord.cmp old c.args.item (bits_from g.B.RandomBits.bit g.B.RandomBits.next c.args.coins.now (coins_of_update old c.args.item)) new
-      × (c.take_last.new.coins ≡ after_draws g.B.RandomBits.next c.args.coins.now (coins_of_update old c.args.item))
-  updated =
-      let known = not-full _ _ _ c.self.view_is c.self.invariant c.is_full.ensures (not-true _ (c.in_ok-unless.ensures.ok.0 refl)) in
-      let least = subst (Ties g.T.Ord.cmp (least_with g.T.Ord.cmp c.args.item old.least)) (sym c.set_if_some.ensures) c.in_ok-least.ensures.least in
-      let greatest = subst (Ties g.T.Ord.cmp (greatest_with g.T.Ord.cmp c.args.item old.greatest)) (sym c.set_if_some-2.ensures) c.in_ok-least.ensures.greatest in
-      let kept = c.take_last.ensures.kept in
-      rw (ap (λ (h : Held g.row.T.Denot). h.k) kept, ap (λ (h : Held g.row.T.Denot). h.accuracy) kept)
-      (updated_sketch g.met.T.Ord.total g.B.RandomBits.bit g.B.RandomBits.next c.args.coins.now c.take_last.new.coins old c.args.item _ _ _
-      c.self.invariant known.0 known.1 c.in_ok-take_last.ensures.acted least greatest)
+pub returns-in_err-take_last : goal.returns-in_err-take_last
+returns-in_err-take_last g c =
+    let told = c.in_err-take_last.ensures in
+    let e = returned c.from_residual-in_err-take_last.result _ c.from_residual-in_err-take_last.ensures.1 ∙ ap Err told.memory in
+    let same = same_sketch c.self.inside.n c.self.inside.min_item c.self.inside.max_item told.err.0 in
+    record {
+      ok = no_value _ e;
+      sound = subst (IsSound g.T.Ord.cmp) (sym same) c.self.invariant;
+      coins = no_value _ e;
+      err = with_error _ e (same ∙ c.self.view_is, told.err.1);
+      full = no_memory e (not_flagged c.is_full.ensures (not-true _ (c.in_ok-unless.ensures.ok.0 refl)));
+      memory = with_error _ e (λ _ _. refl);
+    }
+
+pub returns : goal.returns
+returns g c =
+    let off = not-true _ (c.in_ok-unless.ensures.ok.0 refl) in
+    let known = not-full _ _ _ c.self.view_is c.self.invariant c.is_full.ensures off in
+    let made = update_makes g.met.T.Ord.total g.B.RandomBits.bit g.B.RandomBits.next c.self.view_is c.self.invariant _ _ known.0 known.1
+    c.take_last.ensures.kept c.in_ok-take_last.ensures.acted c.in_ok-least.ensures.least c.set_if_some.ensures c.in_ok-least.ensures.greatest c.set_if_some-2.ensures in
+    record {
+      ok = made.1;
+      sound = made.0;
+      coins = made.2;
+      err = tt;
+      full = accepted (not_flagged c.is_full.ensures off);
+      memory = tt;
+    }
+
+pub invariant_of-self : goal.invariant_of-self
+invariant_of-self g c =
+    subst (IsSound g.T.Ord.cmp) (sym (same_sketch c.self.inside.n c.self.inside.min_item c.self.inside.max_item c.in_err-take_last.ensures.err.0)) c.self.invariant
+
+pub invariant_of-self-2 : goal.invariant_of-self-2
+invariant_of-self-2 g c = (returns g c).sound
 
 pub take_last-requires-clause-clones : goal.take_last-requires-clause-clones
 take_last-requires-clause-clones g c = c.requires.clones
@@ -43,44 +83,10 @@ pub take_last-requires-clause-few : goal.take_last-requires-clause-few
 take_last-requires-clause-few g c =
     (not-full _ _ _ c.self.view_is c.self.invariant c.is_full.ensures (not-true _ (c.in_ok-unless.ensures.ok.0 refl))).1
 
-pub invariant_of-self-2 : goal.invariant_of-self-2
-invariant_of-self-2 g c = (updated g (past.invariant_of-self-2 g c).After-set_if_some-2).0
-
-pub returns-clause-sound : goal.returns-clause-sound
-returns-clause-sound g c = (updated g (past.returns-clause-sound g c).After-set_if_some-2).0
-
-pub returns-clause-ok : goal.returns-clause-ok
-returns-clause-ok g c = rw (← c.self.view_is) (updated g (past.returns-clause-ok g c).After-set_if_some-2).1
-
-pub returns-clause-coins : goal.returns-clause-coins
-returns-clause-coins g c = rw (← c.self.view_is) (updated g (past.returns-clause-coins g c).After-set_if_some-2).2
-
-pub invariant_of-self : goal.invariant_of-self
-invariant_of-self g c = grind (arith, common_steps)
-
 pub overflow_add-self : goal.overflow_add-self
-overflow_add-self g c = grind arith
-
-pub returns-clause-full : goal.returns-clause-full
-returns-clause-full g c = grind arith
-
-pub returns-in_err-take_last-clause-err : goal.returns-in_err-take_last-clause-err
-returns-in_err-take_last-clause-err g c = grind arith
+overflow_add-self g c = record {
+  fits = next_fits (not-full _ _ _ c.self.view_is c.self.invariant c.is_full.ensures (not-true _ (c.in_ok-unless.ensures.ok.0 refl))).0;
+}
 
 pub same-self-in_err-least : goal.same-self-in_err-least
 same-self-in_err-least g c = grind arith
-
-pub returns-in_err-take_last-clause-full : goal.returns-in_err-take_last-clause-full
-returns-in_err-take_last-clause-full g c = grind arith
-
-pub returns-clause-memory : goal.returns-clause-memory
-returns-clause-memory g c = grind arith
-
-pub returns-in_err-take_last-clause-sound : goal.returns-in_err-take_last-clause-sound
-returns-in_err-take_last-clause-sound g c = grind arith
-
-pub returns-in_err-least-clause-full : goal.returns-in_err-least-clause-full
-returns-in_err-least-clause-full g c = grind arith
-
-pub returns-clause-err : goal.returns-clause-err
-returns-clause-err g c = grind arith

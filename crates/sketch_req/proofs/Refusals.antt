@@ -1,0 +1,189 @@
+-- What a call gives that returns an error, or that isn't refused.
+use Rattle.std.proofs.Common.{◌≡◌, ◌⊎◌, ◌↔◌, ◌≢◌, ◌+◌, ◌-◌, ◌<◌, ◌≤◌, ◌^◌, ◌∙◌, ℕ, Bool, true, false, not, leb, Option, Result, Ok, Err, IsTrue, OnOk, IfOk, IfErr, IsErrAnd, inl, inr, refl, sym, ap, arith, List, ◌++◌, length, leb-true, leb-false}
+use Rattle.std.proofs.lemmas.Bool.{false≢true}
+use Rattle.std.specs.Int.{w64, to_le_bytes}
+use Rattle.std.proofs.lemmas.Result.{IfErr-weaker}
+use Rattle.sketch_base.specs.Answered.{IsRefusedUnless}
+use Rattle.sketch_base.specs.Random.{after_draws}
+use Rattle.sketch_base.specs.declared.error.ErrorKind.{ErrorKind}
+use Rattle.sketch_base.specs.declared.error.ErrorKind.TheVariants.{InvalidArgument, InvalidData, OutOfMemory}
+use Rattle.sketch_req.specs.Held.{Held}
+use Rattle.sketch_req.specs.Sketch.{Req, sketch_of}
+use Rattle.sketch_req.specs.Updates.{IsDrawnFrom}
+
+-- the error that a `?` returns
+pub returned : {T E : Type 0} (r : Result T E) (x : E) → IsErrAnd r (λ y. y ≡ x) → r ≡ Err x
+returned (Ok y) x h = absurd h
+returned (Err y) x h = ap Err h
+
+pub no_value : {T E : Type 0} {r : Result T E} {x : E} (P : Type 0) → r ≡ Err x → OnOk r P
+no_value P e = rw e tt
+
+pub no_found : {T E : Type 0} {r : Result T E} {x : E} (P : T → Type 0) → r ≡ Err x → IfOk r P
+no_found P e = rw e tt
+
+pub with_error : {T E : Type 0} {r : Result T E} {x : E} (P : E → Type 0) → r ≡ Err x → P x → IfErr r P
+with_error P e p = rw e p
+
+other_kind : {T : Type 0} {r : Result T ErrorKind} → r ≡ Err OutOfMemory → r ≡ Err InvalidArgument → ⊥
+other_kind e f = let both : Err OutOfMemory ≡ Err InvalidArgument = sym e ∙ f in cc
+
+-- a call with no memory returns that and no other error
+pub no_memory : {T P : Type 0} {r : Result T ErrorKind} → r ≡ Err OutOfMemory → (P → ⊥) → (r ≡ Err InvalidArgument → P) × (P → r ≡ Err InvalidArgument)
+no_memory e never = (λ is. absurd (other_kind e is), λ p. absurd (never p))
+
+pub no_refusal : {T : Type 0} {r : Result T ErrorKind} (P : Type 0) → r ≡ Err OutOfMemory → r ≡ Err InvalidArgument → P
+no_refusal P e f = absurd (other_kind e f)
+
+no_error : {T E : Type 0} {x : T} {e : E} → Ok x ≡ Err e → ⊥
+no_error is = cc
+
+pub accepted : {T E P : Type 0} {x : T} {e : E} → (P → ⊥) → (Ok x ≡ Err e → P) × (P → Ok x ≡ Err e)
+accepted never = (λ is. absurd (no_error is), λ p. absurd (never p))
+
+pub accepted_alone : {T E : Type 0} {x : T} {e : E} (P : Type 0) → Ok x ≡ Err e → P
+accepted_alone P is = absurd (no_error is)
+
+pub refused_as : {T E P : Type 0} {r : Result T E} {x : E} → r ≡ Err x → P → (r ≡ Err x → P) × (P → r ≡ Err x)
+refused_as e p = (λ _. p, λ _. e)
+
+-- levels that are kept make the same sketch
+pub same_sketch : {A : Type 0} (n : ℕ) (least greatest : Option A) {held old : Held A} → held ≡ old →
+    sketch_of held.k held.accuracy n held.levels least greatest ≡ sketch_of old.k old.accuracy n old.levels least greatest
+same_sketch {A} n least greatest e = ap (λ (h : Held A). sketch_of h.k h.accuracy n h.levels least greatest) e
+
+pub none_drawn : {S : Type 0} (next : S → S) (most : ℕ) (source : S) → IsDrawnFrom next most source source
+none_drawn next most source = record { count = 0; few = omega arith; after_is = refl }
+
+-- what holds if and only if a flag is set doesn't hold if it isn't
+pub not_flagged : {P : Type 0} {b : Bool} → (IsTrue b ↔ P) → b ≡ false → P → ⊥
+not_flagged told off p = false≢true (sym off ∙ told.1 p)
+
+-- a sketch that isn't full takes in items that leave its weight below 2^64
+pub items_fit : {n m l r : ℕ} {full : Bool} {P : Type 0} → n ≡ m → n + l < 2 ^ 64 → (IsTrue full ↔ (P ⊎ (r ≡ 4294967295))) → full ≡ false →
+    ((2 ^ 64 ≤ m + l) ⊎ ((0 < l) × (r ≡ 4294967295))) → ⊥
+items_fit e fits told off (inl heavy) = omega (arith, e, fits, heavy)
+items_fit e fits told off (inr many) = false≢true (sym off ∙ told.1 (inr many.1))
+
+-- items whose number isn't above what is left
+pub weight_fits : {n : ℕ} (l : ℕ) {b : Bool} → b ≡ leb l (2 ^ 64 - 1 - n) → b ≡ true → n < 2 ^ 64 → n + l < 2 ^ 64
+weight_fits {n} l e on fits = let most = leb-true l (2 ^ 64 - 1 - n) (sym e ∙ on) in omega (arith, most, fits)
+
+-- and those whose number is
+pub too_heavy : {n m : ℕ} (l : ℕ) (b : Bool) → n ≡ m → b ≡ leb l (2 ^ 64 - 1 - n) → (b ≡ true → false ≡ true) → 2 ^ 64 ≤ m + l
+too_heavy l true same e told = absurd (false≢true (told refl))
+too_heavy {n} l false same e told = let over = leb-false l (2 ^ 64 - 1 - n) (sym e) in omega (arith, over, same)
+
+-- a full sketch takes in no items
+pub none_fit : {m l r : ℕ} {full : Bool} → (IsTrue full ↔ ((m ≡ 2 ^ 64 - 1) ⊎ (r ≡ 4294967295))) → full ≡ true → (l ≡ 0 → ⊥) →
+    (2 ^ 64 ≤ m + l) ⊎ ((0 < l) × (r ≡ 4294967295))
+none_fit told on some = elim (told.0 on) [ inl all ↦ inl (omega (arith, all, some)) | inr most ↦ inr (omega (arith, some), most) ]
+
+pub not_both : (m l : ℕ) {r : ℕ} → (2 ^ 64 ≤ m + l) ⊎ ((0 < l) × (r ≡ 4294967295)) → m + l < 2 ^ 64 → r < 4294967295 → ⊥
+not_both m l (inl heavy) light few = omega (arith, heavy, light)
+not_both m l (inr many) light few = omega (arith, many.1, few)
+
+pub not_full_both : {n r : ℕ} → (n ≡ 2 ^ 64 - 1) ⊎ (r ≡ 4294967295) → n < 2 ^ 64 - 1 → r < 4294967295 → ⊥
+not_full_both (inl all) light few = omega (arith, all, light)
+not_full_both (inr most) light few = omega (arith, most, few)
+
+-- another fits where the weight isn't the greatest one
+pub one_fits : {n : ℕ} → n < 2 ^ 64 → (n ≡ 2 ^ 64 - 1 → ⊥) → n + 1 < 2 ^ 64
+one_fits fits not_all = omega (arith, fits, not_all)
+
+pub below_greatest : {n : ℕ} → n < 2 ^ 64 → (n ≡ 2 ^ 64 - 1 → ⊥) → n < 2 ^ 64 - 1
+below_greatest fits not_all = omega (arith, fits, not_all)
+
+pub next_fits : {n : ℕ} → n < 2 ^ 64 - 1 → n + 1 < 2 ^ 64
+next_fits small = omega (arith, small)
+
+-- no items leave the weight as it is
+pub light_still : {n m l r : ℕ} → n ≡ m → n < 2 ^ 64 → l ≡ 0 → (2 ^ 64 ≤ m + l) ⊎ ((0 < l) × (r ≡ 4294967295)) → ⊥
+light_still e fits none (inl heavy) = omega (arith, e, fits, none, heavy)
+light_still e fits none (inr many) = omega (arith, none, many.0)
+
+-- what isn't granted is refused
+pub flagged : (b : Bool) → (not b ≡ true → false ≡ true) → b ≡ true
+flagged true told = refl
+flagged false told = absurd (false≢true (told refl))
+
+-- a merge that is refused, by its reasons
+pub not_apart : {A : Type 0} {a b : A} (x y : ℕ) → (a ≢ b) ⊎ ((2 ^ 64 ≤ x) ⊎ (2 ^ 32 ≤ y)) → a ≡ b → x < 2 ^ 64 → y < 2 ^ 32 → ⊥
+not_apart x y (inl other) same light few = other same
+not_apart x y (inr (inl heavy)) same light few = omega (arith, heavy, light)
+not_apart x y (inr (inr many)) same light few = omega (arith, many, few)
+
+pub some_of : {n : ℕ} → (n ≡ 0 → ⊥) → 0 < n
+some_of not_none = omega (arith, not_none)
+
+pub none_not : {n m : ℕ} → n ≡ m → n ≡ 0 → 0 < m → ⊥
+none_not e none some = omega (arith, e, none, some)
+
+pub some_now : {n m : ℕ} → n ≡ m → (n ≡ 0 → ⊥) → 0 < m
+some_now e not_none = omega (arith, e, not_none)
+
+pub not_heavy : {n : ℕ} → n < 2 ^ 64 → 2 ^ 64 ≤ n → ⊥
+not_heavy light heavy = omega (arith, light, heavy)
+
+-- the kinds of errors differ
+pub argument_not_data : InvalidArgument ≡ InvalidData → ⊥
+argument_not_data is = cc
+
+pub memory_not_data : OutOfMemory ≡ InvalidData → ⊥
+memory_not_data is = cc
+
+pub memory_not_argument : OutOfMemory ≡ InvalidArgument → ⊥
+memory_not_argument is = cc
+
+pub data_not_argument : InvalidData ≡ InvalidArgument → ⊥
+data_not_argument is = cc
+
+-- an error for lack of memory says nothing of the data or the arguments
+pub no_refusal_of : {T : Type 0} (P : Type 0) (r : Result T ErrorKind) → IfErr r (λ e. e ≡ OutOfMemory) → IfErr r (λ e. e ≡ InvalidData → P)
+no_refusal_of P r memory = IfErr-weaker r (λ e. e ≡ OutOfMemory) (λ e. e ≡ InvalidData → P) (λ e is k. absurd (memory_not_data (sym is ∙ k))) memory
+
+pub memory_alone : {T : Type 0} (r : Result T ErrorKind) → IfErr r (λ e. e ≡ OutOfMemory) → IfErr r (λ e. e ≡ InvalidArgument → ⊥)
+memory_alone r memory = IfErr-weaker r (λ e. e ≡ OutOfMemory) (λ e. e ≡ InvalidArgument → ⊥) (λ e is k. memory_not_argument (sym is ∙ k)) memory
+
+-- ---- images
+
+-- a text of fewer than 8 bytes begins with no weight
+pub no_weight : {text behind : List ℕ} (n : ℕ) → length text < 8 → text ≡ to_le_bytes w64 n ++ behind → ⊥
+no_weight n short e = omega (arith, short, ap length e)
+
+pub not_between : {n m : ℕ} → n < m → m ≤ n → ⊥
+not_between low high = omega (arith, low, high)
+
+pub none_counted : {n : ℕ} → n ≤ 0 → 1 ≤ n → ⊥
+none_counted none some = omega (arith, none, some)
+
+pub few_counted : {n m : ℕ} → n ≡ m → m ≤ 4 → n ≤ 4
+few_counted e few = omega (arith, e, few)
+
+-- a level of more than four items
+pub over_four : {n m : ℕ} → n ≡ m → 4 < n → m ≤ 4 → ⊥
+over_four e many few = omega (arith, e, many, few)
+
+pub five_some : {n m : ℕ} → n ≡ m → 4 < n → 0 < m
+five_some e many = omega (arith, e, many)
+
+pub many_counted : {n m l : ℕ} → l ≡ m → n ≡ m → 4 < n → 5 ≤ l
+many_counted f e many = omega (arith, e, f, many)
+
+-- ---- queries
+
+pub none_among : {n m : ℕ} → n ≡ m → n ≡ 0 → (false ≡ true → 0 < m) × (0 < m → false ≡ true)
+none_among e none = (λ is. absurd (false≢true is), λ some. absurd (none_not e none some))
+
+pub some_among : {n : ℕ} → 0 < n → (true ≡ true → 0 < n) × (0 < n → true ≡ true)
+some_among some = (λ _. some, λ _. refl)
+
+-- an answer is no error, whatever number of entries there is
+pub fit_answer : {V P : Type 0} {x : V} → P → IsRefusedUnless P 0 (Ok x)
+fit_answer fit = (accepted (λ unfit. unfit fit), tt)
+
+pub unfit_refused : {V P : Type 0} {r : Result V ErrorKind} (n : ℕ) → r ≡ Err InvalidArgument → ¬ P → IsRefusedUnless P n r
+unfit_refused n e unfit = (refused_as e unfit, with_error _ e (λ fit. absurd (unfit fit)))
+
+pub fit_short : {V P : Type 0} {r : Result V ErrorKind} {n : ℕ} → r ≡ Err OutOfMemory → P → 0 < n → IsRefusedUnless P n r
+fit_short e fit some = (no_memory e (λ unfit. unfit fit), with_error _ e (λ _. (refl, some)))
