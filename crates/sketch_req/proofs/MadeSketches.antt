@@ -1,20 +1,23 @@
 -- What updates and merges make of the fields, of the sketch as callers see it.
-use Rattle.std.proofs.Common.{◌≡◌, ◌+◌, ◌-◌, ◌^◌, ◌<◌, ◌++◌, ℕ, Bool, List, [], ◌∷◌, length, Option, refl, ap, arith}
+use Rattle.std.proofs.Common.{◌≡◌, ◌+◌, ◌-◌, ◌^◌, ◌<◌, ◌++◌, ℕ, Bool, List, [], ◌∷◌, length, Option, refl, ap, arith, sym, subst, ◌∙◌}
 use Rattle.std.specs.Cmp.{IsTotalOrder}
 use Rattle.std.specs.List.{AllZip}
 use Rattle.std.specs.Option.{option_to_list}
 use Rattle.std.specs.declared.cmp.Ordering.{Ordering}
 use Rattle.sketch_base.specs.Extremes.{IsLeastOf, IsGreatestOf}
+use Rattle.sketch_base.specs.Queries.{SameAnswer}
 use Rattle.sketch_base.specs.Random.{bits_from, after_draws}
-use Rattle.sketch_req.specs.Copy.{IsLevelCopy}
-use Rattle.sketch_req.specs.Held.{Held}
+use Rattle.sketch_req.specs.Copy.{IsCopy, IsLevelCopy}
+use Rattle.sketch_req.specs.Held.{Held, held_of}
 use Rattle.sketch_req.specs.Level.{Level}
 use Rattle.sketch_req.specs.Merged.{AreTakenIn, IsMergedBy, coins_of_merge_by}
 use Rattle.sketch_req.specs.Schedule.{layouts_of, layouts_if_full, nominal_sum, retained_of}
 use Rattle.sketch_req.specs.Sketch.{Req, IsSound, IsUpdated, Ties, coins_of_update, greatest_with, least_with, sketch_of}
 use Rattle.sketch_req.specs.Updates.{AreTakenInTurn, AreUpdated, coins_of_updates}
 use Rattle.sketch_req.specs.Walk.{AreWalked, appended_first, room_of}
+use Rattle.sketch_req.proofs.Copies.{copied_sketch}
 use Rattle.sketch_req.proofs.Mergings.{Merges, merged_sketch}
+use Rattle.sketch_req.proofs.Refusals.{same_sketch}
 use Rattle.sketch_req.proofs.UpdatedLevels.{updated_sketch, updated_spare}
 use Rattle.sketch_req.proofs.UpdatesInTurn.{updates_sketch}
 
@@ -30,8 +33,8 @@ none_taken next source s (x ∷ xs) none = absurd (omega (arith, none))
 module _ {A S : Type 0} {cmp : A → A → Ordering} (order : IsTotalOrder cmp) (bit : S → Bool) (next : S → S)
     {s s' : Req A} {held : Held A} {least greatest kept_least kept_greatest : Option A} (seen : s ≡ s') (sound : IsSound cmp s) where
   pub update_makes : (source after : S) {x : A} → s.n < 2 ^ 64 - 1 → retained_of (layouts_of s.levels) < 4294967295 → held ≡ with_levels s held.levels →
-      AreWalked cmp bit next source after s.k s.accuracy (room_of s.k s.accuracy (appended_first s.levels x)) (layouts_if_full s.k (layouts_of (appended_first s.levels x)))
-      (appended_first s.levels x) held.levels →
+      AreWalked cmp bit next source after s.k s.accuracy (room_of s.k s.accuracy (appended_first s.levels x))
+      (layouts_if_full s.k (layouts_of (appended_first s.levels x))) (appended_first s.levels x) held.levels →
       Ties cmp (least_with cmp x s.least) least → kept_least ≡ least → Ties cmp (greatest_with cmp x s.greatest) greatest → kept_greatest ≡ greatest →
       IsSound cmp (sketch_of held.k held.accuracy (s.n + 1) held.levels kept_least kept_greatest)
       × IsUpdated cmp s' x (bits_from bit next source (coins_of_update s' x)) (sketch_of held.k held.accuracy (s.n + 1) held.levels kept_least kept_greatest)
@@ -40,7 +43,8 @@ module _ {A S : Type 0} {cmp : A → A → Ordering} (order : IsTotalOrder cmp) 
       rw (← seen, ap (λ (h : Held A). h.k) kept, ap (λ (h : Held A). h.accuracy) kept, least_is, greatest_is)
       (updated_sketch order bit next source after s x held.levels least greatest sound small few walked least_ties greatest_ties)
 
-  pub put_makes : (source : S) {x : A} → s.n < 2 ^ 64 - 1 → retained_of (layouts_of s.levels) + 1 < nominal_sum s.k (layouts_of s.levels) → held ≡ with_levels s (appended_first s.levels x) →
+  pub put_makes : (source : S) {x : A} → s.n < 2 ^ 64 - 1 → retained_of (layouts_of s.levels) + 1 < nominal_sum s.k (layouts_of s.levels) →
+      held ≡ with_levels s (appended_first s.levels x) →
       Ties cmp (least_with cmp x s.least) least → kept_least ≡ least → Ties cmp (greatest_with cmp x s.greatest) greatest → kept_greatest ≡ greatest →
       IsSound cmp (sketch_of held.k held.accuracy (s.n + 1) held.levels kept_least kept_greatest)
       × IsUpdated cmp s' x (bits_from bit next source (coins_of_update s' x)) (sketch_of held.k held.accuracy (s.n + 1) held.levels kept_least kept_greatest)
@@ -49,11 +53,14 @@ module _ {A S : Type 0} {cmp : A → A → Ordering} (order : IsTotalOrder cmp) 
       rw (← seen, kept, least_is, greatest_is)
       (updated_spare order bit next source s x least greatest sound small room least_ties greatest_ties)
 
-  pub updates_make : (source after : S) (copies : List (Level A)) {xs : List A} → s.n + length xs < 2 ^ 64 → retained_of (layouts_of s.levels) < 4294967295 → held ≡ with_levels s held.levels →
+  pub updates_make : (source after : S) (copies : List (Level A)) {xs : List A} → s.n + length xs < 2 ^ 64 →
+      retained_of (layouts_of s.levels) < 4294967295 → held ≡ with_levels s held.levels →
       AllZip (IsLevelCopy cmp) s.levels copies → AreTakenInTurn cmp bit next source after s.k s.accuracy copies xs held.levels →
-      IsLeastOf cmp (option_to_list s.least ++ xs) least → kept_least ≡ least → IsGreatestOf cmp (option_to_list s.greatest ++ xs) greatest → kept_greatest ≡ greatest →
+      IsLeastOf cmp (option_to_list s.least ++ xs) least → kept_least ≡ least →
+      IsGreatestOf cmp (option_to_list s.greatest ++ xs) greatest → kept_greatest ≡ greatest →
       IsSound cmp (sketch_of held.k held.accuracy (s.n + length xs) held.levels kept_least kept_greatest)
-      × AreUpdated cmp s' xs (bits_from bit next source (coins_of_updates s' xs)) (sketch_of held.k held.accuracy (s.n + length xs) held.levels kept_least kept_greatest)
+      × AreUpdated cmp s' xs (bits_from bit next source (coins_of_updates s' xs))
+      (sketch_of held.k held.accuracy (s.n + length xs) held.levels kept_least kept_greatest)
       × (after ≡ after_draws next source (coins_of_updates s' xs))
   updates_make source after copies {xs} fits few kept are_copies taken least_of least_is greatest_of greatest_is =
       rw (← seen, ap (λ (h : Held A). h.k) kept, ap (λ (h : Held A). h.accuracy) kept, least_is, greatest_is)
@@ -64,8 +71,27 @@ module _ {A S : Type 0} {cmp : A → A → Ordering} (order : IsTotalOrder cmp) 
       IsLeastOf cmp (option_to_list s.least ++ option_to_list t.least) least → kept_least ≡ least →
       IsGreatestOf cmp (option_to_list s.greatest ++ option_to_list t.greatest) greatest → kept_greatest ≡ greatest →
       IsSound cmp (sketch_of held.k held.accuracy (s.n + t.n) held.levels kept_least kept_greatest)
-      × IsMergedBy cmp redraws s' t' (bits_from bit next source (coins_of_merge_by redraws s' t')) (sketch_of held.k held.accuracy (s.n + t.n) held.levels kept_least kept_greatest)
+      × IsMergedBy cmp redraws s' t' (bits_from bit next source (coins_of_merge_by redraws s' t'))
+      (sketch_of held.k held.accuracy (s.n + t.n) held.levels kept_least kept_greatest)
       × (after ≡ after_draws next source (coins_of_merge_by redraws s' t'))
   merge_makes source after {t} {t'} {redraws} other_seen other_sound some merges kept taken least_of least_is greatest_of greatest_is =
       rw (← seen, ← other_seen, ap (λ (h : Held A). h.k) kept, ap (λ (h : Held A). h.accuracy) kept, least_is, greatest_is)
-      (merged_sketch order bit next source after redraws s t held.levels least greatest sound other_sound some merges.fits merges.few taken least_of greatest_of)
+      (merged_sketch order bit next source after redraws s t held.levels least greatest sound other_sound some merges.fits merges.few
+      taken least_of greatest_of)
+
+-- a clone of the levels makes a copy of the sketch
+pub clone_makes : {A : Type 0} {cmp : A → A → Ordering} (order : IsTotalOrder cmp) {old kept made : Held A} {s t : Req A} {n : ℕ}
+    {least greatest least' greatest' : Option A} (copies : List (Level A)) →
+    old ≡ kept → sketch_of kept.k kept.accuracy n kept.levels least greatest ≡ s → IsSound cmp (sketch_of kept.k kept.accuracy n kept.levels least greatest) →
+    made ≡ held_of old.k old.accuracy copies → AllZip (IsLevelCopy cmp) old.levels copies → SameAnswer cmp least least' → SameAnswer cmp greatest greatest' →
+    t ≡ sketch_of made.k made.accuracy n made.levels least' greatest' → IsCopy cmp s t × IsSound cmp t
+clone_makes {A} {cmp} order {old} {kept} {made} {s} {t} {n} {least} {greatest} {least'} {greatest'} copies view seen sound made_is are_copies low high t_is =
+    let before : Req A = sketch_of old.k old.accuracy n old.levels least greatest in
+    let after : Req A = sketch_of old.k old.accuracy n copies least' greatest' in
+    let from : before ≡ s = same_sketch n least greatest view ∙ seen in
+    let to : after ≡ t = sym (t_is ∙ same_sketch n least' greatest' made_is) in
+    let copy : IsCopy cmp before after = record { k = refl; accuracy = refl; n = refl; levels = are_copies; least = low; greatest = high } in
+    let sound_before = subst (IsSound cmp) (sym (same_sketch n least greatest view)) sound in (
+      subst (λ (u : Req A). IsCopy cmp u t) from (subst (IsCopy cmp before) to copy),
+      subst (IsSound cmp) to (copied_sketch order _ _ _ _ _ _ _ _ _ sound_before are_copies low high),
+    )

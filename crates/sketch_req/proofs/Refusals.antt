@@ -1,10 +1,11 @@
 -- What a call gives that returns an error, or that isn't refused.
-use Rattle.std.proofs.Common.{◌≡◌, ◌⊎◌, ◌↔◌, ◌≢◌, ◌+◌, ◌-◌, ◌<◌, ◌≤◌, ◌^◌, ◌∙◌, ℕ, Bool, true, false, not, leb, Option, Result, Ok, Err, IsTrue, OnOk, IfOk, IfErr, IsErrAnd, inl, inr, refl, sym, ap, arith, List, ◌++◌, length, leb-true, leb-false}
+use Rattle.std.proofs.Common.{◌≡◌, ◌⊎◌, ◌↔◌, ◌≢◌, ◌+◌, ◌-◌, ◌<◌, ◌≤◌, ◌^◌, ◌∙◌, ℕ, Bool, true, false, not, leb, Option, None, Some, Result, Ok, Err, IsTrue, OnOk, IfOk, IfErr, IsErrAnd, inl, inr, refl, sym, ap, arith, List, ◌++◌, length, leb-true, leb-false}
 use Rattle.std.proofs.lemmas.Bool.{false≢true}
 use Rattle.std.specs.Int.{w64, to_le_bytes}
 use Rattle.std.proofs.lemmas.Result.{IfErr-weaker}
 use Rattle.sketch_base.specs.Answered.{IsRefusedUnless}
 use Rattle.sketch_base.specs.Random.{after_draws}
+use Rattle.sketch_base.specs.Views.{IsThere}
 use Rattle.sketch_base.specs.declared.error.ErrorKind.{ErrorKind}
 use Rattle.sketch_base.specs.declared.error.ErrorKind.TheVariants.{InvalidArgument, InvalidData, OutOfMemory}
 use Rattle.sketch_req.specs.Held.{Held}
@@ -35,7 +36,7 @@ no_memory e never = (λ is. absurd (other_kind e is), λ p. absurd (never p))
 pub no_refusal : {T : Type 0} {r : Result T ErrorKind} (P : Type 0) → r ≡ Err OutOfMemory → r ≡ Err InvalidArgument → P
 no_refusal P e f = absurd (other_kind e f)
 
-no_error : {T E : Type 0} {x : T} {e : E} → Ok x ≡ Err e → ⊥
+pub no_error : {T E : Type 0} {x : T} {e : E} → Ok x ≡ Err e → ⊥
 no_error is = cc
 
 pub accepted : {T E P : Type 0} {x : T} {e : E} → (P → ⊥) → (Ok x ≡ Err e → P) × (P → Ok x ≡ Err e)
@@ -145,6 +146,26 @@ no_refusal_of P r memory = IfErr-weaker r (λ e. e ≡ OutOfMemory) (λ e. e ≡
 pub memory_alone : {T : Type 0} (r : Result T ErrorKind) → IfErr r (λ e. e ≡ OutOfMemory) → IfErr r (λ e. e ≡ InvalidArgument → ⊥)
 memory_alone r memory = IfErr-weaker r (λ e. e ≡ OutOfMemory) (λ e. e ≡ InvalidArgument → ⊥) (λ e is k. memory_not_argument (sym is ∙ k)) memory
 
+-- a part of the items is some of them
+pub first_some : {n a : ℕ} (b : ℕ) → n ≡ a + b → 0 < a → 0 < n
+first_some b e some = omega (arith, e, some)
+
+pub second_some : {n b : ℕ} (a : ℕ) → n ≡ a + b → 0 < b → 0 < n
+second_some a e some = omega (arith, e, some)
+
+pub sum_some : {a b x y n : ℕ} → 0 < a + b → a ≡ x → b ≡ y → x + y ≡ n → 0 < n
+sum_some some e f long = omega (arith, some, e, f, long)
+
+pub from_zero : {n most : ℕ} → n ≤ most → 0 + n ≤ most
+from_zero few = omega (arith, few)
+
+pub none_below : {n : ℕ} → n < n → ⊥
+none_below below = omega (arith, below)
+
+-- levels weigh what their sketches took
+pub both_fit : {w v n m : ℕ} → w ≡ n → v ≡ m → n + m < 2 ^ 64 → w + v < 2 ^ 64
+both_fit e f fits = omega (arith, e, f, fits)
+
 -- ---- images
 
 -- a text of fewer than 8 bytes begins with no weight
@@ -157,7 +178,7 @@ not_between low high = omega (arith, low, high)
 pub none_counted : {n : ℕ} → n ≤ 0 → 1 ≤ n → ⊥
 none_counted none some = omega (arith, none, some)
 
-pub few_counted : {n m : ℕ} → n ≡ m → m ≤ 4 → n ≤ 4
+pub few_counted : {n m most : ℕ} → n ≡ m → m ≤ most → n ≤ most
 few_counted e few = omega (arith, e, few)
 
 -- a level of more than four items
@@ -172,6 +193,15 @@ many_counted f e many = omega (arith, e, f, many)
 
 -- ---- queries
 
+-- a view of a sketch of no items has no entries
+pub more_than_none : {n m a b p : ℕ} → 0 < a → a ≡ b → p ≡ b → p ≤ n → n ≡ m → m ≡ 0 → ⊥
+more_than_none some e f most g none = omega (arith, some, e, f, most, g, none)
+
+-- no entries have no extremes
+pub none_there : {A : Type 0} (extreme : Option A) {n : ℕ} → IsThere extreme n → n ≡ 0 → extreme ≡ None
+none_there None there none = refl
+none_there (Some x) there none = absurd (omega (arith, there, none))
+
 pub none_among : {n m : ℕ} → n ≡ m → n ≡ 0 → (false ≡ true → 0 < m) × (0 < m → false ≡ true)
 none_among e none = (λ is. absurd (false≢true is), λ some. absurd (none_not e none some))
 
@@ -181,6 +211,13 @@ some_among some = (λ _. some, λ _. refl)
 -- an answer is no error, whatever number of entries there is
 pub fit_answer : {V P : Type 0} {x : V} → P → IsRefusedUnless P 0 (Ok x)
 fit_answer fit = (accepted (λ unfit. unfit fit), tt)
+
+-- an answer made of another one
+pub answered_too : {V W P : Type 0} {x : V} {y : W} → (Ok x ≡ Err InvalidArgument ↔ ¬ P) → IsRefusedUnless P 0 (Ok y)
+answered_too told = ((λ is. absurd (no_error is), λ no. absurd (no_error (told.1 no))), tt)
+
+pub refusal_passed : {V P : Type 0} {r : Result V ErrorKind} {x : ErrorKind} (n : ℕ) → r ≡ Err x → IsRefusedUnless {V = V} P n (Err x) → IsRefusedUnless P n r
+refusal_passed n e told = rw e told
 
 pub unfit_refused : {V P : Type 0} {r : Result V ErrorKind} (n : ℕ) → r ≡ Err InvalidArgument → ¬ P → IsRefusedUnless P n r
 unfit_refused n e unfit = (refused_as e unfit, with_error _ e (λ fit. absurd (unfit fit)))

@@ -1,9 +1,12 @@
-use Rattle.std.proofs.Common.{◌+◌, ◌<◌, ◌^◌, ◌++◌, length, ap, arith, IsPermutation}
+use Rattle.std.proofs.Common.{◌+◌, ◌<◌, ◌^◌, ◌++◌, ℕ, IfOk, List, length, ap, subst, sym, arith, IsPermutation, IsSorted}
 use Rattle.std.proofs.lemmas.Grind.{common_steps}
-use Rattle.sketch_base.specs.Weighted.{pairs_in}
+use Rattle.sketch_base.specs.Weighted.{items_of, pairs_in}
+use Rattle.sketch_base.specs.declared.weighted.Weighted.{Weighted}
 use Rattle.std.proofs.lemmas.Result.{IfErr-weaker}
 use Rattle.sketch_base.proofs.Results.{ok-weaker}
 use Rattle.sketch_req.specs.Pairs.{pairs_of}
+use Rattle.sketch_req.proofs.Pairs.{pairs-alone}
+use Rattle.sketch_req.proofs.Refusals.{returned, no_found, with_error, first_some, second_some, sum_some}
 use Rattle.sketch_req.proofs.Views.{both-long, both-moved, parts-long}
 use Rattle.sketch_req.proofs.sketch.ReqSketch.+merged.Goals as goal
 
@@ -23,17 +26,17 @@ merged-requires-2 g t c =
     let smaller : length c.split_at.result.1.now < length c.args.levels.now = omega (arith, c.split_at.ensures.back_len, c.if-levels-eq1.false, c.requires.some) in
     grind (arith, common_steps)
 
-pub returns-in_err-lower-clause-some : goal.returns-in_err-lower-clause-some
-returns-in_err-lower-clause-some g t c =
+pub returns-in_err-lower : goal.returns-in_err-lower
+returns-in_err-lower g t c =
+    let e = returned c.from_residual.result _ c.from_residual.ensures.1 in
     let long = parts-long _ c.args.levels.now c.split_at.result.0.now c.split_at.result.1.now c.split_at.ensures.front c.split_at.ensures.back in
-    let some : 0 < length (pairs_of c.args.levels.now) = omega (arith, long, c.in_err-lower.ensures.some) in
-    grind (arith, common_steps)
+    record { moved = no_found _ e; sorted = no_found _ e; some = with_error _ e (first_some _ long c.in_err-lower.ensures.some) }
 
-pub returns-in_err-upper-clause-some : goal.returns-in_err-upper-clause-some
-returns-in_err-upper-clause-some g t c =
+pub returns-in_err-upper : goal.returns-in_err-upper
+returns-in_err-upper g t c =
+    let e = returned c.from_residual-in_err-upper.result _ c.from_residual-in_err-upper.ensures.1 in
     let long = parts-long _ c.args.levels.now c.split_at.result.0.now c.split_at.result.1.now c.split_at.ensures.front c.split_at.ensures.back in
-    let some : 0 < length (pairs_of c.args.levels.now) = omega (arith, long, c.in_err-upper.ensures.some) in
-    grind (arith, common_steps)
+    record { moved = no_found _ e; sorted = no_found _ e; some = with_error _ e (second_some _ long c.in_err-upper.ensures.some) }
 
 pub returns-clause-moved : goal.returns-clause-moved
 returns-clause-moved g t c =
@@ -47,16 +50,28 @@ returns-clause-some g t c =
     let long = both-long _ c.args.levels.now c.split_at.result.0.now c.split_at.result.1.now c.split_at.ensures.front c.split_at.ensures.back c.in_ok-lower.lower.items c.in_ok-upper.upper.items
     c.in_ok-lower.ensures.moved c.in_ok-upper.ensures.moved in
     IfErr-weaker c.merge_weighted.result (λ e. 0 < length c.as_slice.result.now + length c.as_slice-2.result.now) (λ e. 0 < length (pairs_of c.args.levels.now))
-    (λ e some. omega (arith, some, long, ap length c.as_slice.ensures.value, ap length c.as_slice-2.ensures.value)) c.merge_weighted.ensures.some
-
-pub returns-then-levels-eq1-clause-some : goal.returns-then-levels-eq1-clause-some
-returns-then-levels-eq1-clause-some g c = grind (arith, common_steps)
+    (λ e some. sum_some some (ap length c.as_slice.ensures.value) (ap length c.as_slice-2.ensures.value) long) c.merge_weighted.ensures.some
 
 pub merge_weighted-requires-clause-first : goal.merge_weighted-requires-clause-first
-merge_weighted-requires-clause-first g c = grind arith
+merge_weighted-requires-clause-first g t c =
+    subst (λ (xs : List (Weighted g.row.T.Denot)). IsSorted g.T.Ord.cmp (items_of xs)) (sym c.as_slice.ensures.value) c.in_ok-lower.ensures.sorted
 
 pub merge_weighted-requires-clause-second : goal.merge_weighted-requires-clause-second
-merge_weighted-requires-clause-second g c = grind arith
+merge_weighted-requires-clause-second g t c =
+    subst (λ (xs : List (Weighted g.row.T.Denot)). IsSorted g.T.Ord.cmp (items_of xs)) (sym c.as_slice-2.ensures.value) c.in_ok-upper.ensures.sorted
+
+pub returns-clause-sorted : goal.returns-clause-sorted
+returns-clause-sorted g t c = c.merge_weighted.ensures.sorted
+
+pub returns-then-levels-eq1 : goal.returns-then-levels-eq1
+returns-then-levels-eq1 g t c =
+    let pairs = pairs-alone c.args.levels.now c.index-levels-0.result c.weight.result c.items_slice-items.result.now c.if-levels-eq1.true c.index-levels-0.is
+    c.weight.ensures c.items_slice-items.ensures.value in
+    record {
+      moved = subst (λ (ps : List (g.row.T.Denot × ℕ)). IfOk c.weigh_in_order.result (λ v. IsPermutation ps (pairs_in v.items))) pairs c.weigh_in_order.ensures.moved;
+      sorted = c.weigh_in_order.ensures.sorted;
+      some = grind (arith, common_steps);
+    }
 
 pub merge_weighted-requires-clause-few : goal.merge_weighted-requires-clause-few
 merge_weighted-requires-clause-few g c = grind arith

@@ -16,8 +16,10 @@ pub loop-point-preserved : goal.loop-point-preserved
 loop-point-preserved g c =
     let s = c.args.self.now in
     let rank : g.row.T.Denot → ℕ = λ y. true_rank g.T.Ord.cmp y c.args.criteria (expanded g.T.Ord.cmp (bag_of s.levels)) in
-    ranks-more rank s.n _ c.loop-point.point-index _ c.point-item.result _ _ c.loop-point-test.true c.loop-point.invariant c.point-item.is c.rank_weight-weight.ensures
-    (c.in_ok-push.ensures.items ∙ ap (λ (t : ℕ). c.loop-point.ranks.items ++ record { weight = c.rank_weight-weight.result; total = t } ∷ []) c.n-total.ensures.value)
+    ranks-more rank s.n _ c.loop-point.point-index _ c.point-item.result _ _ c.loop-point-test.true c.loop-point.invariant c.point-item.is
+    c.rank_weight-weight.ensures
+    (c.in_ok-push.ensures.items
+    ∙ ap (λ (t : ℕ). c.loop-point.ranks.items ++ record { weight = c.rank_weight-weight.result; total = t } ∷ []) c.n-total.ensures.value)
 
 pub returns-in_err-check_points : goal.returns-in_err-check_points
 returns-in_err-check_points g c =
@@ -26,29 +28,34 @@ returns-in_err-check_points g c =
     record { found = no_found _ e; rises = no_found _ e; there = no_found _ e; refused = unfit_refused _ e told.bad }
 
 pub returns-then-self-eq0 : goal.returns-then-self-eq0
-returns-then-self-eq0 g c = record {
-  found = tt;
-  rises = tt;
-  there = none_among (ap (λ (s : Inside g.row.T.Denot). s.n) c.self-inside.view_is ∙ ap (λ (s : Req g.row.T.Denot). s.n) c.self.view_is) c.if-self-eq0.true;
-  refused = fit_answer c.in_ok-check_points.ensures.good;
-}
+returns-then-self-eq0 g c =
+    let same_n = ap (λ (s : Inside g.row.T.Denot). s.n) c.self-inside.view_is ∙ ap (λ (s : Req g.row.T.Denot). s.n) c.self.view_is in
+    record {
+      found = tt;
+      rises = tt;
+      there = none_among same_n c.if-self-eq0.true;
+      refused = fit_answer c.in_ok-check_points.ensures.good;
+    }
 
 pub returns-in_err-ranks : goal.returns-in_err-ranks
 returns-in_err-ranks g c =
     let e = returned c.from_residual-in_err-ranks.result OutOfMemory c.from_residual-in_err-ranks.ensures.1 in
-    let some = some_now (ap (λ (s : Inside g.row.T.Denot). s.n) c.self-inside.view_is ∙ ap (λ (s : Req g.row.T.Denot). s.n) c.self.view_is) c.if-self-eq0.false in
+    let same_n = ap (λ (s : Inside g.row.T.Denot). s.n) c.self-inside.view_is ∙ ap (λ (s : Req g.row.T.Denot). s.n) c.self.view_is in
+    let some = some_now same_n c.if-self-eq0.false in
     record { found = no_found _ e; rises = no_found _ e; there = no_found _ e; refused = fit_short e c.in_ok-check_points.ensures.good some }
 
 pub returns-in_err-push : goal.returns-in_err-push
 returns-in_err-push g c =
     let e = returned c.from_residual-in_err-push.result OutOfMemory c.from_residual-in_err-push.ensures.1 in
-    let some = some_now (ap (λ (s : Inside g.row.T.Denot). s.n) c.self-inside.view_is ∙ ap (λ (s : Req g.row.T.Denot). s.n) c.self.view_is) c.if-self-eq0.false in
+    let same_n = ap (λ (s : Inside g.row.T.Denot). s.n) c.self-inside.view_is ∙ ap (λ (s : Req g.row.T.Denot). s.n) c.self.view_is in
+    let some = some_now same_n c.if-self-eq0.false in
     record { found = no_found _ e; rises = no_found _ e; there = no_found _ e; refused = fit_short e c.in_ok-check_points.ensures.good some }
 
 pub returns-in_err-push-2 : goal.returns-in_err-push-2
 returns-in_err-push-2 g c =
     let e = returned c.from_residual-in_err-push-2.result OutOfMemory c.from_residual-in_err-push-2.ensures.1 in
-    let some = some_now (ap (λ (s : Inside g.row.T.Denot). s.n) c.self-inside.view_is ∙ ap (λ (s : Req g.row.T.Denot). s.n) c.self.view_is) c.if-self-eq0.false in
+    let same_n = ap (λ (s : Inside g.row.T.Denot). s.n) c.self-inside.view_is ∙ ap (λ (s : Req g.row.T.Denot). s.n) c.self.view_is in
+    let some = some_now same_n c.if-self-eq0.false in
     record { found = no_found _ e; rises = no_found _ e; there = no_found _ e; refused = fit_short e c.in_ok-check_points.ensures.good some }
 
 pub returns : goal.returns
@@ -59,13 +66,14 @@ returns g c =
     let rank : g.row.T.Denot → ℕ = λ y. true_rank cmp y c.args.criteria entries in
     let whole : length entries ≡ s.n = length-expanded cmp (bag_of s.levels) ∙ (sym c.n-total.ensures.weight ∙ c.n-total.ensures.value) in
     let good = c.in_ok-check_points.ensures.good in
+    let same_n = ap (λ (s : Inside g.row.T.Denot). s.n) c.self-inside.view_is ∙ ap (λ (s : Req g.row.T.Denot). s.n) c.self.view_is in
     let found = ranks-last rank s.n c.args.points.now c.loop-point.point-index _ c.push-2.new.self.items c.loop-point-test.false c.loop-point.invariant
     (c.in_ok-push-2.ensures.items ∙ ap (λ (t : ℕ). c.loop-point.ranks.items ++ record { weight = t; total = t } ∷ []) c.n-total.ensures.value)
     ∙ ap (λ (m : ℕ). ranks_of s.n (map rank c.args.points.now ++ m ∷ [])) (sym whole) in
     record {
       found = found;
       rises = ranks-rise g.met.T.Ord.total c.args.criteria entries c.args.points.now _ _ good found;
-      there = some_among (some_now (ap (λ (s : Inside g.row.T.Denot). s.n) c.self-inside.view_is ∙ ap (λ (s : Req g.row.T.Denot). s.n) c.self.view_is) c.if-self-eq0.false);
+      there = some_among (some_now same_n c.if-self-eq0.false);
       refused = fit_answer good;
     }
 

@@ -1,4 +1,4 @@
-use Rattle.std.proofs.Common.{◌≡◌, ◌∙◌, refl, sym, ap, subst, List, Some, arith}
+use Rattle.std.proofs.Common.{◌≡◌, ◌<◌, ◌∙◌, length, refl, sym, ap, subst, List, Some, arith}
 use Rattle.std.proofs.lemmas.Grind.{common_steps}
 use Rattle.sketch_base.specs.declared.error.ErrorKind.TheVariants.{OutOfMemory}
 use Rattle.sketch_base.specs.Extremes.{IsExtreme, IsAtMost}
@@ -32,7 +32,8 @@ module _ (g : Over) (c : After-new-levels g) where
       c.requires.legal c.requires.placed c.num_items-n.ensures c.requires.some c.requires.fresh
       low (c.requires.clones _ _ c.in_ok-least.ensures.cases) high (c.requires.clones _ _ c.in_ok-greatest.ensures.cases)
 
-  same : sketch_of c.new-levels.result.k c.new-levels.result.accuracy c.num_items-n.result c.new-levels.result.levels (Some c.in_ok-least.least) (Some c.in_ok-greatest.greatest) ≡ sketch
+  same : sketch_of c.new-levels.result.k c.new-levels.result.accuracy c.num_items-n.result c.new-levels.result.levels
+      (Some c.in_ok-least.least) (Some c.in_ok-greatest.greatest) ≡ sketch
   same =
       same_sketch c.num_items-n.result (Some c.in_ok-least.least) (Some c.in_ok-greatest.greatest)
       (c.new-levels.ensures ∙ ap (λ (a : RankAccuracy). held_of c.args.header.now.k a c.in_ok-vec.field-0.items) c.rank_accuracy.ensures)
@@ -77,3 +78,9 @@ same-level g c = grind (arith, common_steps)
 
 pub new-levels-requires-clause-some : goal.new-levels-requires-clause-some
 new-levels-requires-clause-some g c = grind arith
+
+pub least_of-requires : goal.least_of-requires
+least_of-requires g c = subst (λ (xs : List g.row.T.Denot). 0 < length xs) (sym c.items_slice.ensures.value) c.requires.some
+
+pub greatest_of-requires : goal.greatest_of-requires
+greatest_of-requires g c = subst (λ (xs : List g.row.T.Denot). 0 < length xs) (sym c.items_slice-2.ensures.value) c.requires.some

@@ -1,5 +1,8 @@
-use Rattle.std.proofs.Common.{arith}
+use Rattle.std.proofs.Common.{◌∙◌, Err, ap, arith, refl}
 use Rattle.std.proofs.lemmas.Grind.{common_steps}
+use Rattle.std.proofs.lemmas.Bool.{false≢true}
+use Rattle.sketch_base.specs.declared.error.ErrorKind.TheVariants.{OutOfMemory}
+use Rattle.sketch_req.proofs.Refusals.{returned, no_found, with_error, no_memory, accepted, refused_as}
 use Rattle.sketch_req.proofs.sketch.ReqSketch.new.Goals as goal
 
 pub new-levels-requires-clause-levels : goal.new-levels-requires-clause-levels
@@ -8,14 +11,30 @@ new-levels-requires-clause-levels c = grind (arith, common_steps)
 pub from_levels-requires : goal.from_levels-requires
 from_levels-requires c = grind arith
 
-pub returns-clause-empty : goal.returns-clause-empty
-returns-clause-empty c = grind (arith, common_steps)
+pub returns-in_err-unless : goal.returns-in_err-unless
+returns-in_err-unless g c =
+    let told = c.in_err-unless.ensures in
+    let e = returned c.from_residual.result _ c.from_residual.ensures.1 ∙ ap Err told.err in
+    record {
+      empty = no_found _ e;
+      sound = no_found _ e;
+      illegal = refused_as e (λ legal. false≢true (told.ok.1 (c.is_legal_k.ensures.illegal legal)));
+      memory = with_error _ e (λ legal. absurd (false≢true (told.ok.1 (c.is_legal_k.ensures.illegal legal))));
+    }
 
-pub returns-clause-sound : goal.returns-clause-sound
-returns-clause-sound c = grind arith
+pub returns-in_err-vec : goal.returns-in_err-vec
+returns-in_err-vec g c =
+    let e = returned c.from_residual-in_err-vec.result OutOfMemory c.from_residual-in_err-vec.ensures.1 in
+    let legal = c.is_legal_k.ensures.legal (c.in_ok-unless.ensures.ok.0 refl) in
+    record { empty = no_found _ e; sound = no_found _ e; illegal = no_memory e (λ illegal. illegal legal); memory = with_error _ e (λ _. refl) }
 
-pub returns-clause-illegal : goal.returns-clause-illegal
-returns-clause-illegal c = grind arith
+pub returns : goal.returns
+returns g c = record {
+  empty = grind (arith, common_steps);
+  sound = grind arith;
+  illegal = accepted (λ illegal. illegal (c.is_legal_k.ensures.legal (c.in_ok-unless.ensures.ok.0 refl)));
+  memory = tt;
+}
 
 pub new-first-requires-clause-legal : goal.new-first-requires-clause-legal
 new-first-requires-clause-legal c = grind arith

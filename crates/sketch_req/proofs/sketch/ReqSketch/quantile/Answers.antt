@@ -1,26 +1,42 @@
-use Rattle.std.proofs.Common.{arith}
+use Rattle.std.proofs.Common.{◌∙◌, Err, ap, arith, is_some}
 use Rattle.std.proofs.lemmas.Grind.{common_steps}
 use Rattle.sketch_base.proofs.SketchViews.{quantile-result}
 use Rattle.sketch_req.specs.Actions.{bag_of}
+use Rattle.sketch_base.specs.declared.error.ErrorKind.TheVariants.{OutOfMemory}
+use Rattle.sketch_req.proofs.Refusals.{returned, no_found, some_of, some_among, fit_answer, unfit_refused, fit_short}
 use Rattle.sketch_req.proofs.sketch.ReqSketch.quantile.Goals as goal
 
-pub returns-clause-found : goal.returns-clause-found
-returns-clause-found g c =
+pub returns-in_err-check_fraction : goal.returns-in_err-check_fraction
+returns-in_err-check_fraction g c =
+    let told = c.in_err-check_fraction.ensures in
+    let e = returned c.from_residual.result _ c.from_residual.ensures.1 ∙ ap Err told.kind in
+    record { found = no_found _ e; there = no_found _ e; refused = unfit_refused _ e told.bad }
+
+pub returns-in_err-clone : goal.returns-in_err-clone
+returns-in_err-clone g c =
+    let e = returned c.from_residual-in_err-clone.result OutOfMemory c.from_residual-in_err-clone.ensures.1 in
+    let some = some_of (c.find.ensures.some (ap (λ o. is_some o) c.in-Some.is)) in
+    record { found = no_found _ e; there = no_found _ e; refused = fit_short e c.in_ok-check_fraction.ensures.good some }
+
+pub returns-in-Some : goal.returns-in-Some
+returns-in-Some g c = record {
+  found = grind arith;
+  there = some_among (some_of (c.find.ensures.some (ap (λ o. is_some o) c.in-Some.is)));
+  refused = fit_answer c.in_ok-check_fraction.ensures.good;
+}
+
+pub returns-in_err-sorted_view : goal.returns-in_err-sorted_view
+returns-in_err-sorted_view g c =
+    let told = c.in_err-sorted_view.ensures in
+    let e = returned c.from_residual-in_err-sorted_view.result _ c.from_residual-in_err-sorted_view.ensures.1 ∙ ap Err told.memory in
+    record { found = no_found _ e; there = no_found _ e; refused = fit_short e c.in_ok-check_fraction.ensures.good (some_of told.some) }
+
+pub returns : goal.returns
+returns g c =
     let s = c.args.self.now in
-    quantile-result g.met.T.Ord.total (bag_of s.levels) s.n s.least s.greatest c.in_ok-sorted_view.field-0 c.in_ok-sorted_view.ensures.view c.args.criteria c.args.fraction
-    c.quantile-2.result c.quantile-2.ensures.found
-
-pub returns-in-Some-clause-found : goal.returns-in-Some-clause-found
-returns-in-Some-clause-found g c = grind arith
-
-pub returns-in-Some-clause-refused : goal.returns-in-Some-clause-refused
-returns-in-Some-clause-refused g c = grind (arith, common_steps)
-
-pub returns-clause-there : goal.returns-clause-there
-returns-clause-there g c = grind (arith, common_steps)
-
-pub returns-clause-refused : goal.returns-clause-refused
-returns-clause-refused g c = grind (arith, common_steps)
-
-pub returns-in-Some-clause-there : goal.returns-in-Some-clause-there
-returns-in-Some-clause-there g c = grind arith
+    record {
+      found = quantile-result g.met.T.Ord.total (bag_of s.levels) s.n s.least s.greatest c.in_ok-sorted_view.field-0 c.in_ok-sorted_view.ensures.view
+          c.args.criteria c.args.fraction c.quantile-2.result c.quantile-2.ensures.found;
+      there = grind (arith, common_steps);
+      refused = grind (arith, common_steps);
+    }

@@ -1,17 +1,28 @@
-use Rattle.std.proofs.Common.{arith}
+use Rattle.std.proofs.Common.{◌∙◌, Err, ap, arith}
 use Rattle.std.proofs.lemmas.Grind.{common_steps}
 use Rattle.sketch_base.proofs.SketchViews.{quantiles-result}
 use Rattle.sketch_req.specs.Actions.{bag_of}
+use Rattle.sketch_req.proofs.Refusals.{returned, no_found, some_of, unfit_refused, fit_short}
 use Rattle.sketch_req.proofs.sketch.ReqSketch.quantiles.Goals as goal
 
-pub returns-clause-found : goal.returns-clause-found
-returns-clause-found g c =
+pub returns-in_err-check_fractions : goal.returns-in_err-check_fractions
+returns-in_err-check_fractions g c =
+    let told = c.in_err-check_fractions.ensures in
+    let e = returned c.from_residual.result _ c.from_residual.ensures.1 ∙ ap Err told.kind in
+    record { found = no_found _ e; there = no_found _ e; refused = unfit_refused _ e told.bad }
+
+pub returns-in_err-sorted_view : goal.returns-in_err-sorted_view
+returns-in_err-sorted_view g c =
+    let told = c.in_err-sorted_view.ensures in
+    let e = returned c.from_residual-in_err-sorted_view.result _ c.from_residual-in_err-sorted_view.ensures.1 ∙ ap Err told.memory in
+    record { found = no_found _ e; there = no_found _ e; refused = fit_short e c.in_ok-check_fractions.ensures.good (some_of told.some) }
+
+pub returns : goal.returns
+returns g c =
     let s = c.args.self.now in
-    quantiles-result g.met.T.Ord.total (bag_of s.levels) s.n s.least s.greatest c.in_ok-sorted_view.field-0 c.in_ok-sorted_view.ensures.view c.args.criteria c.args.fractions.now
-    c.quantiles-2.result c.quantiles-2.ensures.found
-
-pub returns-clause-there : goal.returns-clause-there
-returns-clause-there g c = grind (arith, common_steps)
-
-pub returns-clause-refused : goal.returns-clause-refused
-returns-clause-refused g c = grind (arith, common_steps)
+    record {
+      found = quantiles-result g.met.T.Ord.total (bag_of s.levels) s.n s.least s.greatest c.in_ok-sorted_view.field-0 c.in_ok-sorted_view.ensures.view
+          c.args.criteria c.args.fractions.now c.quantiles-2.result c.quantiles-2.ensures.found;
+      there = grind (arith, common_steps);
+      refused = grind (arith, common_steps);
+    }

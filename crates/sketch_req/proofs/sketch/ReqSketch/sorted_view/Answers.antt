@@ -1,11 +1,17 @@
-use Rattle.std.proofs.Common.{◌≢◌, ◌<◌, ◌^◌, length, subst, sym, ap, arith, IsPermutation}
+use Rattle.std.proofs.Common.{◌≢◌, ◌<◌, ◌^◌, ◌∙◌, IfOk, List, length, refl, subst, sym, ap, arith, IsPermutation, IsSorted}
 use Rattle.std.specs.Prelude.{Option}
+use Rattle.std.proofs.lemmas.Bool.{false≢true}
 use Rattle.std.proofs.lemmas.Result.{IfErr-weaker}
+use Rattle.sketch_base.specs.declared.error.ErrorKind.TheVariants.{OutOfMemory}
+use Rattle.sketch_base.specs.declared.weighted.Weighted.{Weighted}
+use Rattle.sketch_base.specs.Views.{IsViewOf}
 use Rattle.sketch_base.proofs.WeightedItems.{length-pairs_in}
 use Rattle.sketch_base.specs.Queries.{SameAnswer}
-use Rattle.sketch_base.specs.Weighted.{pairs_in}
+use Rattle.sketch_base.specs.Weighted.{items_of, pairs_in}
+use Rattle.sketch_req.specs.Actions.{bag_of}
 use Rattle.sketch_req.specs.Pairs.{pairs_of}
 use Rattle.sketch_req.specs.Sketch.{Req, sketch_of}
+use Rattle.sketch_req.proofs.Refusals.{returned, no_found, with_error, none_there, more_than_none}
 use Rattle.sketch_req.proofs.Views.{all-weigh, at-most-n, entries-view, extreme-there, weigh-n}
 use Rattle.sketch_req.proofs.sketch.ReqSketch.sorted_view.Given.{Over}
 use Rattle.sketch_req.proofs.sketch.ReqSketch.sorted_view.Goals.{In_ok-entries}
@@ -52,28 +58,53 @@ from_weighted-requires-clause-greatest g c =
     rw c.as_slice.ensures.value (extreme-there g.met.T.Ord.total (sketch g before) (pairs_in c.in_ok-entries.entries.items) c.self.invariant (moved g before)
     c.in_ok-entries.entries.items (sym (length-pairs_in c.in_ok-entries.entries.items)) c.self.inside.max_item c.in_ok-greatest.greatest c.self.invariant.greatest_there (greatest g before))
 
-pub returns-clause-view : goal.returns-clause-view
-returns-clause-view g c =
-    let before = (past.returns-clause-view g c).In_ok-entries in
-    let entries = c.in_ok-entries.entries.items in
-    rw (← c.self.view_is) (entries-view g.met.T.Ord.total (sketch g before) (pairs_in entries) c.self.invariant (moved g before) entries (sym (length-pairs_in entries))
-    c.in_ok-least.least c.in_ok-greatest.greatest _ (least g before) (greatest g before) (rw c.as_slice.ensures.value at c.from_weighted.ensures.entries)
-    (rw c.as_slice.ensures.value at c.from_weighted.ensures.least) (rw c.as_slice.ensures.value at c.from_weighted.ensures.greatest))
+pub returns-in_err-least : goal.returns-in_err-least
+returns-in_err-least g c =
+    let e = returned c.from_residual.result OutOfMemory c.from_residual.ensures.1 in
+    record {
+      view = no_found _ e;
+      joined = no_found _ e;
+      memory = with_error _ e refl;
+      some = with_error _ e (λ none. false≢true (c.in_err-least.ensures.none (c.as_ref.ensures.value
+          ∙ none_there _ c.self.invariant.least_there (ap (λ (s : Req g.row.T.Denot). s.n) c.self.view_is ∙ none))));
+    }
 
-pub returns-clause-some : goal.returns-clause-some
-returns-clause-some g c =
-    let before = (past.returns-clause-some g c).In_ok-entries in
+pub returns-in_err-greatest : goal.returns-in_err-greatest
+returns-in_err-greatest g c =
+    let e = returned c.from_residual-in_err-greatest.result OutOfMemory c.from_residual-in_err-greatest.ensures.1 in
+    record {
+      view = no_found _ e;
+      joined = no_found _ e;
+      memory = with_error _ e refl;
+      some = with_error _ e (λ none. false≢true (c.in_err-greatest.ensures.none (c.as_ref-2.ensures.value
+          ∙ none_there _ c.self.invariant.greatest_there (ap (λ (s : Req g.row.T.Denot). s.n) c.self.view_is ∙ none))));
+    }
+
+pub returns-in_err-entries : goal.returns-in_err-entries
+returns-in_err-entries g c =
+    let e = returned c.from_residual-in_err-entries.result OutOfMemory c.from_residual-in_err-entries.ensures.1 in
+    record { view = no_found _ e; joined = no_found _ e; memory = with_error _ e refl; some = with_error _ e c.in_err-entries.ensures.some }
+
+pub returns : goal.returns
+returns g c =
+    let before = (past.returns g c).In_ok-entries in
     let entries = c.in_ok-entries.entries.items in
     let most = at-most-n g.met.T.Ord.total (sketch g before) (pairs_in entries) c.self.invariant (moved g before) in
-    IfErr-weaker c.from_weighted.result (λ e. 0 < length c.as_slice.result.now) (λ e. c.args.self.now.n ≢ 0)
-    (λ e some none.
-    absurd (omega (arith, some, none, most, length-pairs_in entries, ap length c.as_slice.ensures.value, ap (λ (t : Req g.row.T.Denot). t.n) c.self.view_is))) c.from_weighted.ensures.none
-
-pub returns-clause-joined : goal.returns-clause-joined
-returns-clause-joined g c = grind arith
+    record {
+      view = subst (λ (s : Req g.row.T.Denot). IfOk c.from_weighted.result (IsViewOf g.T.Ord.cmp (bag_of s.levels) s.n s.least s.greatest)) c.self.view_is
+          (entries-view g.met.T.Ord.total (sketch g before) (pairs_in entries) c.self.invariant (moved g before) entries (sym (length-pairs_in entries))
+          c.in_ok-least.least c.in_ok-greatest.greatest _ (least g before) (greatest g before) (rw c.as_slice.ensures.value at c.from_weighted.ensures.entries)
+          (rw c.as_slice.ensures.value at c.from_weighted.ensures.least) (rw c.as_slice.ensures.value at c.from_weighted.ensures.greatest));
+      joined = c.from_weighted.ensures.joined;
+      memory = c.from_weighted.ensures.memory;
+      some = IfErr-weaker c.from_weighted.result (λ e. 0 < length c.as_slice.result.now) (λ e. c.args.self.now.n ≢ 0)
+          (λ e some none. more_than_none some (ap length c.as_slice.ensures.value) (length-pairs_in entries) most
+          (ap (λ (t : Req g.row.T.Denot). t.n) c.self.view_is) none) c.from_weighted.ensures.none;
+    }
 
 pub from_weighted-requires-clause-sorted : goal.from_weighted-requires-clause-sorted
-from_weighted-requires-clause-sorted g c = grind arith
+from_weighted-requires-clause-sorted g c =
+    subst (λ (xs : List (Weighted g.row.T.Denot)). IsSorted g.T.Ord.cmp (items_of xs)) (sym c.as_slice.ensures.value) c.in_ok-entries.ensures.sorted
 
-pub returns-clause-memory : goal.returns-clause-memory
-returns-clause-memory g c = grind arith
+pub from_weighted-requires-clause-clones : goal.from_weighted-requires-clause-clones
+from_weighted-requires-clause-clones g c = c.requires.clones

@@ -1,5 +1,5 @@
 -- The goals at the return are what updates by all items make of the fields.
-use Rattle.std.proofs.Common.{◌≡◌, ◌+◌, ◌<◌, ◌≤◌, ◌⊎◌, ◌^◌, ◌∙◌, Err, false, inl, not, ap, arith, length, refl, subst, sym}
+use Rattle.std.proofs.Common.{◌≡◌, ◌+◌, ◌<◌, ◌≤◌, ◌⊎◌, ◌^◌, ◌∙◌, ℕ, Err, false, inl, not, ap, arith, length, refl, subst, sym}
 use Rattle.std.proofs.lemmas.Bool.{false≢true}
 use Rattle.std.proofs.lemmas.Grind.{common_steps}
 use Rattle.sketch_base.specs.Bag.{retained}
@@ -9,7 +9,7 @@ use Rattle.sketch_req.specs.Actions.{bag_of}
 use Rattle.sketch_req.specs.Sketch.{Req, IsSound}
 use Rattle.sketch_req.specs.Updates.{IsDrawnFrom, coins_of_updates}
 use Rattle.sketch_req.proofs.MadeSketches.{none_taken, updates_make}
-use Rattle.sketch_req.proofs.Refusals.{returned, no_value, with_error, no_memory, no_refusal, accepted, accepted_alone, refused_as, same_sketch, none_drawn, items_fit, none_fit, not_both, weight_fits, too_heavy, light_still}
+use Rattle.sketch_req.proofs.Refusals.{returned, no_value, with_error, no_memory, no_refusal, accepted, accepted_alone, refused_as, same_sketch, none_drawn, items_fit, none_fit, not_both, weight_fits, too_heavy, light_still, some_of}
 use Rattle.sketch_req.proofs.UpdatedLevels.{not-full}
 use Rattle.sketch_req.proofs.UpdatesInTurn.{updates_none}
 use Rattle.sketch_req.proofs.sketch.ReqSketch.update_all.Given.{Over}
@@ -25,6 +25,12 @@ allowed g c =
       | then-not-is_full w ↦ (w.if-not-is_full.true, weight_fits _ w.unless-is told c.self.invariant.n_fits)
       | else-not-is_full w ↦ absurd (false≢true (sym (ap (λ b. not b) w.if-not-is_full.false) ∙ (sym w.unless-is ∙ told)))
     ]
+
+not_refused : (g : Over) (c : In_ok-unless g) → let s = c.args.self.now in let count = length c.args.items.now in
+    ((2 ^ 64 ≤ s.n + count) ⊎ ((0 < count) × (retained (bag_of s.levels) ≡ 4294967295))) → ⊥
+not_refused g c =
+    let known = allowed g c in
+    items_fit (ap (λ (s : Req g.row.T.Denot). s.n) c.self.view_is) known.1 c.is_full.ensures known.0
 
 pub returns-then-count-eq0 : goal.returns-then-count-eq0
 returns-then-count-eq0 g c =
@@ -46,7 +52,9 @@ pub returns-in_err-unless : goal.returns-in_err-unless
 returns-in_err-unless g c =
     let told = c.in_err-unless.ensures in
     let e = returned c.from_residual.result _ c.from_residual.ensures.1 ∙ ap Err told.err in
-    let full : (2 ^ 64 ≤ c.args.self.now.n + length c.args.items.now) ⊎ ((0 < length c.args.items.now) × (retained (bag_of c.args.self.now.levels) ≡ 4294967295)) = elim c.if-not-is_full.branch [
+    let s = c.args.self.now in
+    let count = length c.args.items.now in
+    let full : (2 ^ 64 ≤ s.n + count) ⊎ ((0 < count) × (retained (bag_of s.levels) ≡ 4294967295)) = elim c.if-not-is_full.branch [
       | then-not-is_full w ↦ inl (too_heavy _ _ (ap (λ (s : Req g.row.T.Denot). s.n) c.self.view_is) w.unless-is told.ok.1)
       | else-not-is_full w ↦ none_fit c.is_full.ensures w.if-not-is_full.false c.if-count-eq0.false
     ] in
@@ -65,14 +73,13 @@ returns-in_err-unless g c =
 pub returns-in_err-least : goal.returns-in_err-least
 returns-in_err-least g c =
     let e = returned c.from_residual-in_err-least.result OutOfMemory c.from_residual-in_err-least.ensures.1 in
-    let known = allowed g (past.returns-in_err-least g c).In_ok-unless in
     record {
       empty = λ none. absurd (c.if-count-eq0.false (ap length none));
       ok = no_value _ e;
       sound = subst (IsSound g.T.Ord.cmp) c.self.view_is c.self.invariant;
       coins = no_value _ e;
       err = with_error _ e refl;
-      full = no_memory e (items_fit (ap (λ (s : Req g.row.T.Denot). s.n) c.self.view_is) known.1 c.is_full.ensures known.0);
+      full = no_memory e (not_refused g (past.returns-in_err-least g c).In_ok-unless);
       refused = λ _. refl;
       drawn = with_error _ e (none_drawn _ _ _);
       memory = with_error _ e (λ _ _. refl);
@@ -82,7 +89,6 @@ pub returns-in_err-take_all : goal.returns-in_err-take_all
 returns-in_err-take_all g c =
     let told = c.in_err-take_all.ensures in
     let e = returned c.from_residual-in_err-take_all.result _ c.from_residual-in_err-take_all.ensures.1 ∙ ap Err told.memory in
-    let known = allowed g (past.returns-in_err-take_all g c).In_ok-unless in
     let same = same_sketch c.self.inside.n c.self.inside.min_item c.self.inside.max_item told.err in
     record {
       empty = λ none. absurd (c.if-count-eq0.false (ap length none));
@@ -90,10 +96,10 @@ returns-in_err-take_all g c =
       sound = subst (IsSound g.T.Ord.cmp) (sym same) c.self.invariant;
       coins = no_value _ e;
       err = with_error _ e (same ∙ c.self.view_is);
-      full = no_memory e (items_fit (ap (λ (s : Req g.row.T.Denot). s.n) c.self.view_is) known.1 c.is_full.ensures known.0);
+      full = no_memory e (not_refused g (past.returns-in_err-take_all g c).In_ok-unless);
       refused = no_refusal _ e;
-      drawn = with_error _ e (subst (λ (s : Req g.row.T.Denot). IsDrawnFrom g.B.RandomBits.next (coins_of_updates s c.args.items.now) c.args.coins.now c.take_all.new.coins)
-          c.self.view_is told.drawn);
+      drawn = with_error _ e (subst (λ (s : Req g.row.T.Denot). IsDrawnFrom g.B.RandomBits.next (coins_of_updates s c.args.items.now)
+          c.args.coins.now c.take_all.new.coins) c.self.view_is told.drawn);
       memory = with_error _ e (λ _ _. refl);
     }
 
@@ -110,7 +116,7 @@ returns g c =
       sound = made.0;
       coins = made.2;
       err = tt;
-      full = accepted (items_fit (ap (λ (s : Req g.row.T.Denot). s.n) c.self.view_is) known.1 c.is_full.ensures known.0);
+      full = accepted (not_refused g (past.returns g c).In_ok-unless);
       refused = accepted_alone _;
       drawn = tt;
       memory = tt;
@@ -129,7 +135,19 @@ take_all-requires-clause-few g c =
 
 pub take_all-requires-clause-fits : goal.take_all-requires-clause-fits
 take_all-requires-clause-fits g c =
-    omega (arith, (allowed g (past.take_all-requires-clause-fits g c).In_ok-unless).1, c.self.invariant.weighs_n)
+    subst (λ (w : ℕ). w + length c.args.items.now < 2 ^ 64) (sym c.self.invariant.weighs_n) (allowed g (past.take_all-requires-clause-fits g c).In_ok-unless).1
+
+pub take_all-requires-clause-some : goal.take_all-requires-clause-some
+take_all-requires-clause-some g c = some_of c.if-count-eq0.false
+
+pub take_all-requires-clause-clones : goal.take_all-requires-clause-clones
+take_all-requires-clause-clones g c = c.requires.clones
+
+pub clone_passing_extremes-requires-clause-some : goal.clone_passing_extremes-requires-clause-some
+clone_passing_extremes-requires-clause-some g c = some_of c.if-count-eq0.false
+
+pub clone_passing_extremes-requires-clause-clones : goal.clone_passing_extremes-requires-clause-clones
+clone_passing_extremes-requires-clause-clones g c = c.requires.clones
 
 pub overflow_add-self : goal.overflow_add-self
 overflow_add-self g c = record { fits = (allowed g (past.overflow_add-self g c).In_ok-unless).1 }

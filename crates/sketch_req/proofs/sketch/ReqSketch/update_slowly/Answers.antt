@@ -1,5 +1,5 @@
 -- The goals at the return are what a step of the model says of the fields.
-use Rattle.std.proofs.Common.{◌≡◌, ◌+◌, ◌∙◌, Err, ap, arith, refl, sym, subst}
+use Rattle.std.proofs.Common.{◌≡◌, ◌<◌, ◌-◌, ◌^◌, ◌∙◌, ℕ, Err, ap, arith, refl, sym, subst}
 use Rattle.std.proofs.lemmas.Grind.{common_steps}
 use Rattle.std.proofs.lemmas.Bool.{not-true}
 use Rattle.sketch_base.specs.declared.error.ErrorKind.TheVariants.{InvalidArgument, OutOfMemory}
@@ -54,7 +54,8 @@ returns g c =
     let off = not-true _ (c.in_ok-unless.ensures.ok.0 refl) in
     let known = not-full _ _ _ c.self.view_is c.self.invariant c.is_full.ensures off in
     let made = update_makes g.met.T.Ord.total g.B.RandomBits.bit g.B.RandomBits.next c.self.view_is c.self.invariant _ _ known.0 known.1
-    c.take_last.ensures.kept c.in_ok-take_last.ensures.acted c.in_ok-least.ensures.least c.set_if_some.ensures c.in_ok-least.ensures.greatest c.set_if_some-2.ensures in
+    c.take_last.ensures.kept c.in_ok-take_last.ensures.acted
+    c.in_ok-least.ensures.least c.set_if_some.ensures c.in_ok-least.ensures.greatest c.set_if_some-2.ensures in
     record {
       ok = made.1;
       sound = made.0;
@@ -66,7 +67,7 @@ returns g c =
 
 pub invariant_of-self : goal.invariant_of-self
 invariant_of-self g c =
-    subst (IsSound g.T.Ord.cmp) (sym (same_sketch c.self.inside.n c.self.inside.min_item c.self.inside.max_item c.in_err-take_last.ensures.err.0)) c.self.invariant
+    subst (IsSound g.T.Ord.cmp) (sym (same_sketch _ _ _ c.in_err-take_last.ensures.err.0)) c.self.invariant
 
 pub invariant_of-self-2 : goal.invariant_of-self-2
 invariant_of-self-2 g c = (returns g c).sound
@@ -77,7 +78,7 @@ take_last-requires-clause-clones g c = c.requires.clones
 pub take_last-requires-clause-fits : goal.take_last-requires-clause-fits
 take_last-requires-clause-fits g c =
     let known = not-full _ _ _ c.self.view_is c.self.invariant c.is_full.ensures (not-true _ (c.in_ok-unless.ensures.ok.0 refl)) in
-    omega (arith, known.0, c.self.invariant.weighs_n)
+    subst (λ (w : ℕ). w < 2 ^ 64 - 1) (sym c.self.invariant.weighs_n) known.0
 
 pub take_last-requires-clause-few : goal.take_last-requires-clause-few
 take_last-requires-clause-few g c =

@@ -1,5 +1,6 @@
-use Rattle.std.proofs.Common.{arith}
+use Rattle.std.proofs.Common.{◌∙◌, Err, ap, refl, arith}
 use Rattle.std.proofs.lemmas.Grind.{common_steps}
+use Rattle.sketch_req.proofs.Refusals.{returned, no_value, with_error}
 use Rattle.sketch_req.proofs.sketch.ReqSketch.write_body.Goals as goal
 
 pub returns-in-Raw-clause-ok : goal.returns-in-Raw-clause-ok
@@ -13,3 +14,18 @@ returns-in_ok-write_option-in-Several-2-clause-memory g c = grind arith
 
 pub returns-in-One-clause-ok : goal.returns-in-One-clause-ok
 returns-in-One-clause-ok g c = grind arith
+
+pub returns-in_err-write_u64_le-in-Several : goal.returns-in_err-write_u64_le-in-Several
+returns-in_err-write_u64_le-in-Several g c =
+    let e = returned c.from_residual.result _ c.from_residual.ensures.1 ∙ ap Err c.in_err-write_u64_le-in-Several.ensures.memory in
+    record { ok = no_value _ e; memory = with_error _ e refl }
+
+pub returns-in_err-write_option-in-Several : goal.returns-in_err-write_option-in-Several
+returns-in_err-write_option-in-Several g c =
+    let e = returned c.from_residual-in_err-write_option-in-Several.result _ c.from_residual-in_err-write_option-in-Several.ensures.1 ∙ ap Err c.in_err-write_option-in-Several.ensures.memory in
+    record { ok = no_value _ e; memory = with_error _ e refl }
+
+pub returns-in_err-write_option-in-Several-2 : goal.returns-in_err-write_option-in-Several-2
+returns-in_err-write_option-in-Several-2 g c =
+    let e = returned c.from_residual-in_err-write_option-in-Several-2.result _ c.from_residual-in_err-write_option-in-Several-2.ensures.1 ∙ ap Err c.in_err-write_option-in-Several-2.ensures.memory in
+    record { ok = no_value _ e; memory = with_error _ e refl }
