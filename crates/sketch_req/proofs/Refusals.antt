@@ -1,15 +1,14 @@
 -- What a call gives that returns an error, or that isn't refused.
-use Rattle.std.proofs.Common.{◌≡◌, ◌⊎◌, ◌↔◌, ◌≢◌, ◌+◌, ◌-◌, ◌<◌, ◌≤◌, ◌^◌, ◌∙◌, ℕ, Bool, true, false, not, leb, Option, None, Some, Result, Ok, Err, IsTrue, OnOk, IfOk, IfErr, IsErrAnd, inl, inr, refl, sym, ap, arith, List, ◌++◌, length, leb-true, leb-false}
+use Rattle.std.proofs.Common.{◌≡◌, ◌⊎◌, ◌↔◌, ◌≢◌, ◌+◌, ◌-◌, ◌<◌, ◌≤◌, ◌^◌, ◌∙◌, ℕ, Bool, true, false, not, leb, Option, None, Some, Result, Ok, Err, IsTrue, OnOk, IfOk, IfErr, IsErrAnd, inl, inr, refl, sym, ap, arith, List, [], ◌∷◌, ◌++◌, length, leb-true, leb-false}
 use Rattle.std.proofs.lemmas.Bool.{false≢true}
 use Rattle.std.specs.Int.{w64, to_le_bytes}
 use Rattle.std.proofs.lemmas.Result.{IfErr-weaker}
 use Rattle.sketch_base.specs.Answered.{IsRefusedUnless}
-use Rattle.sketch_base.specs.Random.{after_draws}
 use Rattle.sketch_base.specs.Views.{IsThere}
 use Rattle.sketch_base.specs.declared.error.ErrorKind.{ErrorKind}
 use Rattle.sketch_base.specs.declared.error.ErrorKind.TheVariants.{InvalidArgument, InvalidData, OutOfMemory}
 use Rattle.sketch_req.specs.Held.{Held}
-use Rattle.sketch_req.specs.Sketch.{Req, sketch_of}
+use Rattle.sketch_req.specs.Sketch.{sketch_of}
 use Rattle.sketch_req.specs.Updates.{IsDrawnFrom}
 
 -- the error that a `?` returns
@@ -155,6 +154,12 @@ second_some a e some = omega (arith, e, some)
 
 pub sum_some : {a b x y n : ℕ} → 0 < a + b → a ≡ x → b ≡ y → x + y ≡ n → 0 < n
 sum_some some e f long = omega (arith, some, e, f, long)
+
+pub two_some : {n m : ℕ} → n ≡ m → 2 ≤ m → 0 < n
+two_some e some = omega (arith, e, some)
+
+pub one_counted : {A : Type 0} {xs : List A} {x : A} → xs ≡ x ∷ [] → 0 < length xs
+one_counted e = omega (arith, ap length e)
 
 pub from_zero : {n most : ℕ} → n ≤ most → 0 + n ≤ most
 from_zero few = omega (arith, few)

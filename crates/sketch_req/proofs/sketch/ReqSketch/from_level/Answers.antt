@@ -1,12 +1,13 @@
-use Rattle.std.proofs.Common.{◌≡◌, ◌<◌, ◌∙◌, length, refl, sym, ap, subst, List, Some, arith}
-use Rattle.std.proofs.lemmas.Grind.{common_steps}
+use Rattle.std.proofs.Common.{◌≡◌, ◌<◌, ◌∙◌, length, refl, sym, ap, subst, List, Some}
 use Rattle.sketch_base.specs.declared.error.ErrorKind.TheVariants.{OutOfMemory}
 use Rattle.sketch_base.specs.Extremes.{IsExtreme, IsAtMost}
 use Rattle.sketch_req.specs.Sketch.{Req, IsSound, sketch_of}
 use Rattle.sketch_req.specs.Image.{accuracy_in, IsTold}
+use Rattle.sketch_req.specs.Level.{Level}
+use Rattle.sketch_req.specs.Walk.{AreLevels}
 use Rattle.sketch_req.specs.Held.{held_of}
 use Rattle.sketch_req.specs.declared.RankAccuracy.{RankAccuracy}
-use Rattle.sketch_req.proofs.Refusals.{returned, no_found, with_error, same_sketch}
+use Rattle.sketch_req.proofs.Refusals.{returned, no_found, with_error, one_counted, same_sketch}
 use Rattle.sketch_req.proofs.Sounds.{IsRebuilt, rebuilt}
 use Rattle.sketch_req.proofs.sketch.ReqSketch.from_level.Given.{Over}
 use Rattle.sketch_req.proofs.sketch.ReqSketch.from_level.Goals.{After-new-levels}
@@ -71,13 +72,16 @@ returns g c =
     }
 
 pub new-levels-requires-clause-levels : goal.new-levels-requires-clause-levels
-new-levels-requires-clause-levels g c = grind arith
+new-levels-requires-clause-levels g c =
+    let h = c.args.header.now in
+    subst (λ (a : RankAccuracy). AreLevels g.T.Ord.cmp h.k a 0 c.in_ok-vec.field-0.items) (sym c.rank_accuracy.ensures)
+    (subst (λ (ls : List (Level g.row.T.Denot)). AreLevels g.T.Ord.cmp h.k (accuracy_in h.flags) 0 ls) (sym c.in_ok-vec.ensures.items) (c.requires.placed, tt))
 
 pub same-level : goal.same-level
-same-level g c = grind (arith, common_steps)
+same-level g c = refl
 
 pub new-levels-requires-clause-some : goal.new-levels-requires-clause-some
-new-levels-requires-clause-some g c = grind arith
+new-levels-requires-clause-some g c = one_counted c.in_ok-vec.ensures.items
 
 pub least_of-requires : goal.least_of-requires
 least_of-requires g c = subst (λ (xs : List g.row.T.Denot). 0 < length xs) (sym c.items_slice.ensures.value) c.requires.some

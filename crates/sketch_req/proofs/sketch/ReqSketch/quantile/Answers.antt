@@ -1,8 +1,9 @@
-use Rattle.std.proofs.Common.{◌∙◌, Err, ap, arith, is_some}
-use Rattle.std.proofs.lemmas.Grind.{common_steps}
+use Rattle.std.proofs.Common.{◌∙◌, ℕ, Err, IfOk, ap, subst, arith, is_some}
 use Rattle.sketch_base.proofs.SketchViews.{quantile-result}
 use Rattle.sketch_req.specs.Actions.{bag_of}
 use Rattle.sketch_base.specs.declared.error.ErrorKind.TheVariants.{OutOfMemory}
+use Rattle.sketch_base.specs.Answered.{IsFoundAmong, IsRefusedUnless}
+use Rattle.sketch_base.specs.Queries.{IsFraction}
 use Rattle.sketch_req.proofs.Refusals.{returned, no_found, some_of, some_among, fit_answer, unfit_refused, fit_short}
 use Rattle.sketch_req.proofs.sketch.ReqSketch.quantile.Goals as goal
 
@@ -34,9 +35,10 @@ returns-in_err-sorted_view g c =
 pub returns : goal.returns
 returns g c =
     let s = c.args.self.now in
+    let weighs = c.in_ok-sorted_view.ensures.view.weighs_n in
     record {
       found = quantile-result g.met.T.Ord.total (bag_of s.levels) s.n s.least s.greatest c.in_ok-sorted_view.field-0 c.in_ok-sorted_view.ensures.view
           c.args.criteria c.args.fraction c.quantile-2.result c.quantile-2.ensures.found;
-      there = grind (arith, common_steps);
-      refused = grind (arith, common_steps);
+      there = subst (λ (n : ℕ). IfOk c.quantile-2.result (IsFoundAmong n)) weighs c.quantile-2.ensures.there;
+      refused = subst (λ (n : ℕ). IsRefusedUnless (IsFraction c.args.fraction) n c.quantile-2.result) weighs c.quantile-2.ensures.refused;
     }

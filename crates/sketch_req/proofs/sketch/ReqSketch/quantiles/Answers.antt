@@ -1,7 +1,8 @@
-use Rattle.std.proofs.Common.{◌∙◌, Err, ap, arith}
-use Rattle.std.proofs.lemmas.Grind.{common_steps}
+use Rattle.std.proofs.Common.{◌∙◌, ℕ, All, Err, IfOk, ap, subst}
 use Rattle.sketch_base.proofs.SketchViews.{quantiles-result}
 use Rattle.sketch_req.specs.Actions.{bag_of}
+use Rattle.sketch_base.specs.Answered.{IsFoundAmong, IsRefusedUnless}
+use Rattle.sketch_base.specs.Queries.{IsFraction}
 use Rattle.sketch_req.proofs.Refusals.{returned, no_found, some_of, unfit_refused, fit_short}
 use Rattle.sketch_req.proofs.sketch.ReqSketch.quantiles.Goals as goal
 
@@ -20,9 +21,10 @@ returns-in_err-sorted_view g c =
 pub returns : goal.returns
 returns g c =
     let s = c.args.self.now in
+    let weighs = c.in_ok-sorted_view.ensures.view.weighs_n in
     record {
       found = quantiles-result g.met.T.Ord.total (bag_of s.levels) s.n s.least s.greatest c.in_ok-sorted_view.field-0 c.in_ok-sorted_view.ensures.view
           c.args.criteria c.args.fractions.now c.quantiles-2.result c.quantiles-2.ensures.found;
-      there = grind (arith, common_steps);
-      refused = grind (arith, common_steps);
+      there = subst (λ (n : ℕ). IfOk c.quantiles-2.result (IsFoundAmong n)) weighs c.quantiles-2.ensures.there;
+      refused = subst (λ (n : ℕ). IsRefusedUnless (All IsFraction c.args.fractions.now) n c.quantiles-2.result) weighs c.quantiles-2.ensures.refused;
     }

@@ -1,4 +1,4 @@
-use Rattle.std.proofs.Common.{◌≡◌, ◌∷◌, [], refl, sym, ap, ap₂, subst, arith, length, List, Bool, Err, ◌∙◌, eq-eqb}
+use Rattle.std.proofs.Common.{◌∷◌, [], refl, sym, ap, ap₂, subst, arith, length, List, Bool, Err, ◌∙◌, eq-eqb}
 use Rattle.std.proofs.lemmas.Result.{IfOk-weaker}
 use Rattle.std.proofs.lemmas.Bool.{false≢true, ltb-true, lt-ltb, eqb-true}
 use Rattle.sketch_req.specs.Level.{Level}
@@ -102,7 +102,7 @@ returns g c =
     }
 
 pub same-level : goal.same-level
-same-level g c = grind arith
+same-level g c = refl
 
 pub overflow_cast-num_items : goal.overflow_cast-num_items
 overflow_cast-num_items g c = grind arith

@@ -1,10 +1,8 @@
 -- The goals at the return are what updates by all items make of the fields.
-use Rattle.std.proofs.Common.{◌≡◌, ◌+◌, ◌<◌, ◌≤◌, ◌⊎◌, ◌^◌, ◌∙◌, ℕ, Err, false, inl, not, ap, arith, length, refl, subst, sym}
+use Rattle.std.proofs.Common.{◌≡◌, ◌+◌, ◌<◌, ◌≤◌, ◌⊎◌, ◌^◌, ◌∙◌, ℕ, Err, false, inl, not, ap, length, refl, subst, sym}
 use Rattle.std.proofs.lemmas.Bool.{false≢true}
-use Rattle.std.proofs.lemmas.Grind.{common_steps}
 use Rattle.sketch_base.specs.Bag.{retained}
-use Rattle.sketch_base.specs.Random.{bits_from, after_draws}
-use Rattle.sketch_base.specs.declared.error.ErrorKind.TheVariants.{InvalidArgument, OutOfMemory}
+use Rattle.sketch_base.specs.declared.error.ErrorKind.TheVariants.{OutOfMemory}
 use Rattle.sketch_req.specs.Actions.{bag_of}
 use Rattle.sketch_req.specs.Sketch.{Req, IsSound}
 use Rattle.sketch_req.specs.Updates.{IsDrawnFrom, coins_of_updates}
@@ -153,4 +151,7 @@ pub overflow_add-self : goal.overflow_add-self
 overflow_add-self g c = record { fits = (allowed g (past.overflow_add-self g c).In_ok-unless).1 }
 
 pub same-self-in_err-least : goal.same-self-in_err-least
-same-self-in_err-least g c = grind arith
+same-self-in_err-least g c = refl
+
+pub same-self-in_err-unless : goal.same-self-in_err-unless
+same-self-in_err-unless g c = refl

@@ -1,8 +1,7 @@
 -- The goals at the return are what a step of the model says of the fields.
-use Rattle.std.proofs.Common.{◌≡◌, ◌<◌, ◌-◌, ◌^◌, ◌∙◌, ℕ, Err, ap, arith, refl, sym, subst}
-use Rattle.std.proofs.lemmas.Grind.{common_steps}
+use Rattle.std.proofs.Common.{◌<◌, ◌-◌, ◌^◌, ◌∙◌, ℕ, Err, ap, refl, sym, subst}
 use Rattle.std.proofs.lemmas.Bool.{not-true}
-use Rattle.sketch_base.specs.declared.error.ErrorKind.TheVariants.{InvalidArgument, OutOfMemory}
+use Rattle.sketch_base.specs.declared.error.ErrorKind.TheVariants.{OutOfMemory}
 use Rattle.sketch_req.specs.Sketch.{IsSound}
 use Rattle.sketch_req.proofs.MadeSketches.{update_makes}
 use Rattle.sketch_req.proofs.Refusals.{returned, no_value, with_error, no_memory, accepted, refused_as, same_sketch, flagged, not_flagged, not_full_both, next_fits}
@@ -90,4 +89,7 @@ overflow_add-self g c = record {
 }
 
 pub same-self-in_err-least : goal.same-self-in_err-least
-same-self-in_err-least g c = grind arith
+same-self-in_err-least g c = refl
+
+pub same-self : goal.same-self
+same-self g c = refl
