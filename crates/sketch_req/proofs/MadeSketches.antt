@@ -1,5 +1,6 @@
 -- What updates and merges make of the fields, of the sketch as callers see it.
 use Rattle.std.proofs.Common.{◌≡◌, ◌+◌, ◌-◌, ◌^◌, ◌<◌, ◌++◌, ℕ, Bool, List, [], ◌∷◌, length, Option, refl, ap, arith, sym, subst, ◌∙◌}
+use Rattle.std.proofs.lemmas.Grind.{common_steps}
 use Rattle.std.specs.Cmp.{IsTotalOrder}
 use Rattle.std.specs.List.{AllZip}
 use Rattle.std.specs.Option.{option_to_list}
@@ -12,10 +13,13 @@ use Rattle.sketch_req.specs.Held.{Held, held_of}
 use Rattle.sketch_req.specs.Level.{Level}
 use Rattle.sketch_req.specs.Merged.{AreTakenIn, IsMergedBy, coins_of_merge_by}
 use Rattle.sketch_req.specs.Schedule.{layouts_of, layouts_if_full, nominal_sum, retained_of}
-use Rattle.sketch_req.specs.Sketch.{Req, IsSound, IsUpdated, Ties, coins_of_update, greatest_with, least_with, sketch_of}
+use Rattle.sketch_req.specs.Sections.{IsLegalK}
+use Rattle.sketch_req.specs.Sketch.{Req, IsSound, IsUpdated, Ties, coins_of_update, empty_sketch, greatest_with, least_with, sketch_of}
 use Rattle.sketch_req.specs.Updates.{AreTakenInTurn, AreUpdated, coins_of_updates}
 use Rattle.sketch_req.specs.Walk.{AreWalked, appended_first, room_of}
 use Rattle.sketch_req.proofs.Copies.{copied_sketch}
+use Rattle.sketch_req.specs.declared.RankAccuracy.{RankAccuracy}
+use Rattle.sketch_req.proofs.Held.{first-levels}
 use Rattle.sketch_req.proofs.Mergings.{Merges, merged_sketch}
 use Rattle.sketch_req.proofs.Refusals.{same_sketch}
 use Rattle.sketch_req.proofs.UpdatedLevels.{updated_sketch, updated_spare}
@@ -24,6 +28,10 @@ use Rattle.sketch_req.proofs.UpdatesInTurn.{updates_sketch}
 -- the fields of the levels, where nothing but the levels changed
 abbrev pub with_levels : {A : Type 0} → Req A → List (Level A) → Held A
 with_levels s levels = record { k = s.k; accuracy = s.accuracy; levels = levels }
+
+-- one empty level
+pub empty_sound : {A : Type 0} (cmp : A → A → Ordering) (k : ℕ) (accuracy : RankAccuracy) → IsLegalK k → IsSound cmp (empty_sketch k accuracy)
+empty_sound cmp k accuracy legal = let placed = first-levels cmp k accuracy legal in grind (arith, common_steps)
 
 -- updates by no items draw no coin
 pub none_taken : {A S : Type 0} (next : S → S) (source : S) (s : Req A) (xs : List A) → length xs ≡ 0 → source ≡ after_draws next source (coins_of_updates s xs)

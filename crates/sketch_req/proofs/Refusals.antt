@@ -1,5 +1,5 @@
 -- What a call gives that returns an error, or that isn't refused.
-use Rattle.std.proofs.Common.{◌≡◌, ◌⊎◌, ◌↔◌, ◌≢◌, ◌+◌, ◌-◌, ◌<◌, ◌≤◌, ◌^◌, ◌∙◌, ℕ, Bool, true, false, not, leb, Option, None, Some, Result, Ok, Err, IsTrue, OnOk, IfOk, IfErr, IsErrAnd, inl, inr, refl, sym, ap, arith, List, [], ◌∷◌, ◌++◌, length, leb-true, leb-false}
+use Rattle.std.proofs.Common.{◌≡◌, ◌⊎◌, ◌↔◌, ◌≢◌, ◌+◌, ◌-◌, ◌/◌, ◌<◌, ◌≤◌, ◌^◌, ◌∙◌, ℕ, Bool, true, false, not, leb, Option, None, Some, Result, Ok, Err, IsTrue, OnOk, IfOk, IfErr, IsErrAnd, inl, inr, refl, sym, ap, arith, List, [], ◌∷◌, ◌++◌, length, leb-true, leb-false}
 use Rattle.std.proofs.lemmas.Bool.{false≢true}
 use Rattle.std.specs.Int.{w64, to_le_bytes}
 use Rattle.std.proofs.lemmas.Result.{IfErr-weaker}
@@ -152,6 +152,25 @@ first_some b e some = omega (arith, e, some)
 pub second_some : {n b : ℕ} (a : ℕ) → n ≡ a + b → 0 < b → 0 < n
 second_some a e some = omega (arith, e, some)
 
+-- the halves of some levels
+pub first_fits : {n a : ℕ} (b : ℕ) → n ≡ a + b → n < 2 ^ 64 → a < 2 ^ 64
+first_fits b e fits = omega (arith, e, fits)
+
+pub second_fits : {n b : ℕ} (a : ℕ) → n ≡ a + b → n < 2 ^ 64 → b < 2 ^ 64
+second_fits a e fits = omega (arith, e, fits)
+
+pub half_some : {n h : ℕ} → h ≡ n / 2 → (n ≡ 1 → ⊥) → 0 < n → 0 < h
+half_some e not_one some = omega (arith, e, not_one, some)
+
+pub half_less : {n h : ℕ} → h ≡ n / 2 → 0 < n → h < n
+half_less e some = omega (arith, e, some)
+
+pub rest_some : {n r : ℕ} → r + n / 2 ≡ n → 0 < n → 0 < r
+rest_some e some = omega (arith, e, some)
+
+pub rest_less : {n r : ℕ} → r + n / 2 ≡ n → (n ≡ 1 → ⊥) → 0 < n → r < n
+rest_less e not_one some = omega (arith, e, not_one, some)
+
 pub sum_some : {a b x y n : ℕ} → 0 < a + b → a ≡ x → b ≡ y → x + y ≡ n → 0 < n
 sum_some some e f long = omega (arith, some, e, f, long)
 
@@ -182,6 +201,9 @@ not_between low high = omega (arith, low, high)
 
 pub none_counted : {n : ℕ} → n ≤ 0 → 1 ≤ n → ⊥
 none_counted none some = omega (arith, none, some)
+
+pub still_many : {p q l n : ℕ} → p ≡ q → p ≡ l → 5 ≤ q → n ≡ l → 4 < n
+still_many e f many g = omega (arith, e, f, many, g)
 
 pub few_counted : {n m most : ℕ} → n ≡ m → m ≤ most → n ≤ most
 few_counted e few = omega (arith, e, few)

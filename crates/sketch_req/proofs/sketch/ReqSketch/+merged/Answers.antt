@@ -6,24 +6,24 @@ use Rattle.std.proofs.lemmas.Result.{IfErr-weaker}
 use Rattle.sketch_base.proofs.Results.{ok-weaker}
 use Rattle.sketch_req.specs.Pairs.{pairs_of}
 use Rattle.sketch_req.proofs.Pairs.{pairs-alone}
-use Rattle.sketch_req.proofs.Refusals.{returned, no_found, with_error, first_some, second_some, sum_some}
+use Rattle.sketch_req.proofs.Refusals.{returned, no_found, with_error, first_fits, first_some, half_less, half_some, rest_less, rest_some, second_fits, second_some, sum_some}
 use Rattle.sketch_req.proofs.Views.{both-long, both-moved, parts-long}
 use Rattle.sketch_req.proofs.sketch.ReqSketch.+merged.Goals as goal
 
 pub merged-requires : goal.merged-requires
 merged-requires g t c =
     let long = parts-long _ c.args.levels.now c.split_at.result.0.now c.split_at.result.1.now c.split_at.ensures.front c.split_at.ensures.back in
-    let few : length (pairs_of c.split_at.result.0.now) < 2 ^ 64 = omega (arith, long, c.requires.few) in
-    let some : 0 < length c.split_at.result.0.now = omega (arith, c.split_at.ensures.front_len, c.if-levels-eq1.false, c.requires.some) in
-    let smaller : length c.split_at.result.0.now < length c.args.levels.now = omega (arith, c.split_at.ensures.front_len, c.requires.some) in
+    let few : length (pairs_of c.split_at.result.0.now) < 2 ^ 64 = first_fits _ long c.requires.few in
+    let some : 0 < length c.split_at.result.0.now = half_some c.split_at.ensures.front_len c.if-levels-eq1.false c.requires.some in
+    let smaller : length c.split_at.result.0.now < length c.args.levels.now = half_less c.split_at.ensures.front_len c.requires.some in
     grind (arith, common_steps)
 
 pub merged-requires-2 : goal.merged-requires-2
 merged-requires-2 g t c =
     let long = parts-long _ c.args.levels.now c.split_at.result.0.now c.split_at.result.1.now c.split_at.ensures.front c.split_at.ensures.back in
-    let few : length (pairs_of c.split_at.result.1.now) < 2 ^ 64 = omega (arith, long, c.requires.few) in
-    let some : 0 < length c.split_at.result.1.now = omega (arith, c.split_at.ensures.back_len, c.requires.some) in
-    let smaller : length c.split_at.result.1.now < length c.args.levels.now = omega (arith, c.split_at.ensures.back_len, c.if-levels-eq1.false, c.requires.some) in
+    let few : length (pairs_of c.split_at.result.1.now) < 2 ^ 64 = second_fits _ long c.requires.few in
+    let some : 0 < length c.split_at.result.1.now = rest_some c.split_at.ensures.back_len c.requires.some in
+    let smaller : length c.split_at.result.1.now < length c.args.levels.now = rest_less c.split_at.ensures.back_len c.if-levels-eq1.false c.requires.some in
     grind (arith, common_steps)
 
 pub returns-in_err-lower : goal.returns-in_err-lower

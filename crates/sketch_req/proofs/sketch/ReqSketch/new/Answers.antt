@@ -1,15 +1,25 @@
-use Rattle.std.proofs.Common.{◌∙◌, Err, ap, arith, refl}
+use Rattle.std.proofs.Common.{◌∙◌, List, [], ◌∷◌, None, Err, ap, arith, refl, subst, sym}
 use Rattle.std.proofs.lemmas.Grind.{common_steps}
 use Rattle.std.proofs.lemmas.Bool.{false≢true}
 use Rattle.sketch_base.specs.declared.error.ErrorKind.TheVariants.{OutOfMemory}
-use Rattle.sketch_req.proofs.Refusals.{returned, no_found, with_error, no_memory, accepted, refused_as}
+use Rattle.sketch_req.specs.Held.{held_of}
+use Rattle.sketch_req.specs.Level.{Level}
+use Rattle.sketch_req.specs.Sketch.{IsSound}
+use Rattle.sketch_req.proofs.MadeSketches.{empty_sound}
+use Rattle.sketch_req.proofs.Refusals.{returned, no_found, with_error, no_memory, accepted, refused_as, one_counted, same_sketch}
 use Rattle.sketch_req.proofs.sketch.ReqSketch.new.Goals as goal
+
+pub new-levels-requires-clause-some : goal.new-levels-requires-clause-some
+new-levels-requires-clause-some g c = one_counted c.in_ok-vec.ensures.items
 
 pub new-levels-requires-clause-levels : goal.new-levels-requires-clause-levels
 new-levels-requires-clause-levels c = grind (arith, common_steps)
 
 pub from_levels-requires : goal.from_levels-requires
-from_levels-requires c = grind arith
+from_levels-requires g c =
+    let levels = c.in_ok-vec.ensures.items ∙ ap (λ (l : Level g.row.T.Denot). l ∷ []) c.new-first.ensures.value in
+    let same = same_sketch 0 None None (c.new-levels.ensures ∙ ap (λ (ls : List (Level g.row.T.Denot)). held_of c.args.k c.args.rank_accuracy ls) levels) in
+    subst (IsSound g.T.Ord.cmp) (sym same) (empty_sound g.T.Ord.cmp _ _ (c.is_legal_k.ensures.legal (c.in_ok-unless.ensures.ok.0 refl)))
 
 pub returns-in_err-unless : goal.returns-in_err-unless
 returns-in_err-unless g c =
@@ -29,12 +39,17 @@ returns-in_err-vec g c =
     record { empty = no_found _ e; sound = no_found _ e; illegal = no_memory e (λ illegal. illegal legal); memory = with_error _ e (λ _. refl) }
 
 pub returns : goal.returns
-returns g c = record {
-  empty = grind (arith, common_steps);
-  sound = grind arith;
-  illegal = accepted (λ illegal. illegal (c.is_legal_k.ensures.legal (c.in_ok-unless.ensures.ok.0 refl)));
-  memory = tt;
-}
+returns g c =
+    let legal = c.is_legal_k.ensures.legal (c.in_ok-unless.ensures.ok.0 refl) in
+    let levels = c.in_ok-vec.ensures.items ∙ ap (λ (l : Level g.row.T.Denot). l ∷ []) c.new-first.ensures.value in
+    let empty = c.from_levels.ensures
+    ∙ same_sketch 0 None None (c.new-levels.ensures ∙ ap (λ (ls : List (Level g.row.T.Denot)). held_of c.args.k c.args.rank_accuracy ls) levels) in
+    record {
+      empty = empty;
+      sound = subst (IsSound g.T.Ord.cmp) (sym empty) (empty_sound g.T.Ord.cmp _ _ legal);
+      illegal = accepted (λ illegal. illegal legal);
+      memory = tt;
+    }
 
 pub new-first-requires-clause-legal : goal.new-first-requires-clause-legal
 new-first-requires-clause-legal c = grind arith

@@ -7,7 +7,7 @@ use Rattle.sketch_req.specs.Image.{first_place}
 use Rattle.sketch_req.specs.declared.RankAccuracy.{RankAccuracy}
 use Rattle.sketch_req.proofs.Sounds.{one_of, alone, imaged_at}
 use Rattle.sketch_req.proofs.OneText.{same_levels, same_numbers}
-use Rattle.sketch_req.proofs.Refusals.{returned, no_found, with_error, data_not_argument, five_some, over_four, many_counted, no_refusal_of, memory_alone}
+use Rattle.sketch_req.proofs.Refusals.{returned, no_found, with_error, data_not_argument, five_some, over_four, many_counted, still_many, no_refusal_of, memory_alone}
 use Rattle.sketch_req.proofs.sketch.ReqSketch.read_one.Given.{Over}
 use Rattle.sketch_req.proofs.sketch.ReqSketch.read_one.Goals.{In_ok-level}
 use Rattle.sketch_req.proofs.sketch.ReqSketch.read_one.Goals as goal
@@ -60,7 +60,7 @@ returns-in_err-unless-2 g c =
           (c.deserialize.new.input, level, refl) b.levels in
           let n = same_numbers g.T.ReqValue.spelling xs s.levels same.0 in
           let its = ap length (alone xs c.in_ok-level.level refl).items in
-          false≢true (told.ok.1 (lt-ltb _ _ (omega (arith, n.items, its, b.many_items, c.num_items.ensures)))));
+          false≢true (told.ok.1 (lt-ltb _ _ (still_many n.items its b.many_items c.num_items.ensures))));
       kind = with_error _ e data_not_argument;
     }
 

@@ -31,10 +31,10 @@ numbers g c =
           elim c.if-header-eq1.branch [
             | then-header-eq1 v ↦
                 elim w.if-count-gt0.either [
-                  | inl low ↦ absurd (none_counted low.1 (ltb-true 0 c.args.header.now.second (cc holds)))
+                  | inl low ↦ absurd (none_counted low.1 (ltb-true 0 c.args.header.now.second (sym v.t-20-is ∙ (sym w.unless-is ∙ holds))))
                   | inr none ↦ absurd (none v.if-header-eq1.true)
                 ]
-            | else-header-eq1 v ↦ absurd (v.if-header-eq1.false (eqb-true c.args.header.now.first 1 (cc holds)))
+            | else-header-eq1 v ↦ absurd (v.if-header-eq1.false (eqb-true c.args.header.now.first 1 (sym v.t-20-is ∙ (sym w.unless-is ∙ holds))))
           ]
     ]
 

@@ -3,8 +3,8 @@ use Rattle.std.proofs.lemmas.Grind.{common_steps}
 use Rattle.sketch_req.proofs.Refusals.{returned, no_value, with_error}
 use Rattle.sketch_req.proofs.sketch.ReqSketch.write_body.Goals as goal
 
-pub returns-in-Raw-clause-ok : goal.returns-in-Raw-clause-ok
-returns-in-Raw-clause-ok g c = grind (arith, common_steps)
+pub returns-in-Raw : goal.returns-in-Raw
+returns-in-Raw g c = record { ok = grind (arith, common_steps); memory = c.write_items.ensures.memory }
 
 pub returns-in_ok-write_option-in-Several-2-clause-ok : goal.returns-in_ok-write_option-in-Several-2-clause-ok
 returns-in_ok-write_option-in-Several-2-clause-ok g c = grind (arith, common_steps)
@@ -12,8 +12,8 @@ returns-in_ok-write_option-in-Several-2-clause-ok g c = grind (arith, common_ste
 pub returns-in_ok-write_option-in-Several-2-clause-memory : goal.returns-in_ok-write_option-in-Several-2-clause-memory
 returns-in_ok-write_option-in-Several-2-clause-memory g c = grind arith
 
-pub returns-in-One-clause-ok : goal.returns-in-One-clause-ok
-returns-in-One-clause-ok g c = grind arith
+pub returns-in-One : goal.returns-in-One
+returns-in-One g c = record { ok = grind arith; memory = c.write_levels.ensures.memory }
 
 pub returns-in_err-write_u64_le-in-Several : goal.returns-in_err-write_u64_le-in-Several
 returns-in_err-write_u64_le-in-Several g c =
