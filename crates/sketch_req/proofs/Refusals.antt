@@ -1,4 +1,4 @@
--- What a call gives that returns an error, or that isn't refused.
+-- Calls that return an error or are not refused: what their clauses say, and the numbers that decide it.
 use Rattle.std.proofs.Common.{◌≡◌, ◌⊎◌, ◌↔◌, ◌≢◌, ◌+◌, ◌-◌, ◌/◌, ◌<◌, ◌≤◌, ◌^◌, ◌∙◌, ℕ, Bool, true, false, not, leb, Option, None, Some, Result, Ok, Err, IsTrue, OnOk, IfOk, IfErr, IsErrAnd, inl, inr, refl, sym, ap, arith, List, [], ◌∷◌, ◌++◌, length, leb-true, leb-false}
 use Rattle.std.proofs.lemmas.Bool.{false≢true}
 use Rattle.std.specs.Int.{w64, to_le_bytes}

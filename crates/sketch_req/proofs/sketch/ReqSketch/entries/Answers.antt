@@ -15,9 +15,11 @@ merged-requires-clause-few g c =
 
 pub returns : goal.returns
 returns g c =
-    let levels = c.as_slice.ensures.value ∙ ap (λ (h : Held g.row.T.Denot). h.levels) c.levels.view_is ∙ ap (λ (s : Req g.row.T.Denot). s.levels) c.self.view_is in
+    let levels = c.as_slice.ensures.value ∙ ap (λ (h : Held g.row.T.Denot). h.levels) c.levels.view_is
+    ∙ ap (λ (s : Req g.row.T.Denot). s.levels) c.self.view_is in
     record {
-      moved = subst (λ (ls : List (Level g.row.T.Denot)). IfOk c.merged.result (λ v. IsPermutation (pairs_of ls) (pairs_in v.items))) levels c.merged.ensures.moved;
+      moved = subst (λ (ls : List (Level g.row.T.Denot)). IfOk c.merged.result (λ v. IsPermutation (pairs_of ls) (pairs_in v.items)))
+          levels c.merged.ensures.moved;
       sorted = c.merged.ensures.sorted;
       some = grind arith;
     }

@@ -22,10 +22,12 @@ returns-in_err-write_u64_le-in-Several g c =
 
 pub returns-in_err-write_option-in-Several : goal.returns-in_err-write_option-in-Several
 returns-in_err-write_option-in-Several g c =
-    let e = returned c.from_residual-in_err-write_option-in-Several.result _ c.from_residual-in_err-write_option-in-Several.ensures.1 ∙ ap Err c.in_err-write_option-in-Several.ensures.memory in
+    let e = returned c.from_residual-in_err-write_option-in-Several.result _ c.from_residual-in_err-write_option-in-Several.ensures.1
+    ∙ ap Err c.in_err-write_option-in-Several.ensures.memory in
     record { ok = no_value _ e; memory = with_error _ e refl }
 
 pub returns-in_err-write_option-in-Several-2 : goal.returns-in_err-write_option-in-Several-2
 returns-in_err-write_option-in-Several-2 g c =
-    let e = returned c.from_residual-in_err-write_option-in-Several-2.result _ c.from_residual-in_err-write_option-in-Several-2.ensures.1 ∙ ap Err c.in_err-write_option-in-Several-2.ensures.memory in
+    let e = returned c.from_residual-in_err-write_option-in-Several-2.result _ c.from_residual-in_err-write_option-in-Several-2.ensures.1
+    ∙ ap Err c.in_err-write_option-in-Several-2.ensures.memory in
     record { ok = no_value _ e; memory = with_error _ e refl }
