@@ -4,6 +4,7 @@ use Rattle.sketch_req.specs.Actions.{bag_of}
 use Rattle.sketch_base.specs.declared.error.ErrorKind.TheVariants.{OutOfMemory}
 use Rattle.sketch_base.specs.Answered.{IsFoundAmong, IsRefusedUnless}
 use Rattle.sketch_base.specs.Queries.{IsFraction}
+use Rattle.sketch_base.proofs.Entries.{SameAnswer-trans}
 use Rattle.sketch_req.proofs.Refusals.{returned, no_found, some_of, some_among, fit_answer, unfit_refused, fit_short}
 use Rattle.sketch_req.proofs.sketch.ReqSketch.quantile.Goals as goal
 
@@ -21,7 +22,7 @@ returns-in_err-clone g c =
 
 pub returns-in-Some : goal.returns-in-Some
 returns-in-Some g c = record {
-  found = grind arith;
+  found = SameAnswer-trans g.met.T.Ord.total _ _ _ (rw c.in-Some.is at c.find.ensures.same) (c.requires.clones _ _ c.in_ok-clone.ensures.cases);
   there = some_among (some_of (c.find.ensures.some (ap (λ o. is_some o) c.in-Some.is)));
   refused = fit_answer c.in_ok-check_fraction.ensures.good;
 }
