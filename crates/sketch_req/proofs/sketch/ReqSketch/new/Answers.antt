@@ -1,10 +1,11 @@
 use Rattle.std.proofs.Common.{◌∙◌, List, [], ◌∷◌, None, Err, ap, arith, refl, subst, sym}
-use Rattle.std.proofs.lemmas.Grind.{common_steps}
 use Rattle.std.proofs.lemmas.Bool.{false≢true}
 use Rattle.sketch_base.specs.declared.error.ErrorKind.TheVariants.{OutOfMemory}
 use Rattle.sketch_req.specs.Held.{held_of}
 use Rattle.sketch_req.specs.Level.{Level}
 use Rattle.sketch_req.specs.Sketch.{IsSound}
+use Rattle.sketch_req.specs.Walk.{AreLevels}
+use Rattle.sketch_req.proofs.Held.{first-levels}
 use Rattle.sketch_req.proofs.MadeSketches.{empty_sound}
 use Rattle.sketch_req.proofs.Refusals.{returned, no_found, with_error, no_memory, accepted, refused_as, one_counted, same_sketch}
 use Rattle.sketch_req.proofs.sketch.ReqSketch.new.Goals as goal
@@ -13,7 +14,10 @@ pub new-levels-requires-clause-some : goal.new-levels-requires-clause-some
 new-levels-requires-clause-some g c = one_counted c.in_ok-vec.ensures.items
 
 pub new-levels-requires-clause-levels : goal.new-levels-requires-clause-levels
-new-levels-requires-clause-levels c = grind (arith, common_steps)
+new-levels-requires-clause-levels g c =
+    let levels = c.in_ok-vec.ensures.items ∙ ap (λ (l : Level g.row.T.Denot). l ∷ []) c.new-first.ensures.value in
+    subst (λ (ls : List (Level g.row.T.Denot)). AreLevels g.T.Ord.cmp c.args.k c.args.rank_accuracy 0 ls) (sym levels)
+    (first-levels g.T.Ord.cmp _ _ (c.is_legal_k.ensures.legal (c.in_ok-unless.ensures.ok.0 refl)))
 
 pub from_levels-requires : goal.from_levels-requires
 from_levels-requires g c =

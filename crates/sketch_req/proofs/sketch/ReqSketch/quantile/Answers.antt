@@ -1,4 +1,4 @@
-use Rattle.std.proofs.Common.{◌∙◌, ℕ, Err, IfOk, ap, subst, arith, is_some}
+use Rattle.std.proofs.Common.{◌∙◌, ℕ, Err, IfOk, ap, subst, is_some}
 use Rattle.sketch_base.proofs.SketchViews.{quantile-result}
 use Rattle.sketch_req.specs.Actions.{bag_of}
 use Rattle.sketch_base.specs.declared.error.ErrorKind.TheVariants.{OutOfMemory}

@@ -1,7 +1,17 @@
-use Rattle.std.proofs.Common.{◌∙◌, Err, ap, refl, arith}
+use Rattle.std.proofs.Common.{◌≡◌, ◌++◌, ◌∙◌, Err, ap, append-nil, refl, subst, sym, arith}
 use Rattle.std.proofs.lemmas.Grind.{common_steps}
+use Rattle.sketch_req.specs.Written.{body_by}
+use Rattle.sketch_req.specs.declared.image.Form.{Form}
 use Rattle.sketch_req.proofs.Refusals.{returned, no_value, with_error}
 use Rattle.sketch_req.proofs.sketch.ReqSketch.write_body.Goals as goal
+
+pub returns-in-Empty : goal.returns-in-Empty
+returns-in-Empty g c =
+    let bytes = c.args.bytes.now in
+    record {
+      ok = subst (λ (form : Form). bytes ≡ bytes ++ body_by g.T.ReqValue.spelling form c.args.self.now) c.in-Empty.ensures (sym (append-nil bytes));
+      memory = tt;
+    }
 
 pub returns-in-Raw : goal.returns-in-Raw
 returns-in-Raw g c = record { ok = grind (arith, common_steps); memory = c.write_items.ensures.memory }
