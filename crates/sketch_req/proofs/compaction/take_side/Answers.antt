@@ -1,8 +1,10 @@
-use Rattle.std.proofs.Common.{◌≡◌, ℕ, ◌-◌, ◌%◌, List, ◌++◌, length, take, drop, reverse, sym, ap, ◌∙◌, not, arith, take_at, length-take}
+use Rattle.std.proofs.Common.{◌≡◌, ℕ, ◌-◌, ◌%◌, List, ◌++◌, length, take, drop, reverse, sym, ap, subst, ◌∙◌, not, arith, take_at, length-take}
 use Rattle.std.proofs.lemmas.Grind.{common_steps}
 use Rattle.std.proofs.lemmas.List.{reverse-reverse}
 use Rattle.sketch_base.specs.Bag.{half}
 use Rattle.sketch_base.proofs.MovedHalves.{half_reverse}
+use Rattle.sketch_req.specs.Level.{side_kept, side_taken}
+use Rattle.sketch_req.specs.declared.RankAccuracy.{RankAccuracy}
 use Rattle.sketch_req.proofs.TakenParts.{moved_behind}
 use Rattle.sketch_req.proofs.compaction.take_side.Goals.{After-move_behind}
 use Rattle.sketch_req.proofs.compaction.take_side.Goals as goal
@@ -15,23 +17,6 @@ changed g c =
     take_at c.move_behind.new.items _ c.args.items.now.len (c.move_behind.auto.items ∙ c.deref_mut.ensures.len) ∙
     (c.move_behind.ensures ∙ ap (λ (xs : List g.row.T.Denot). drop c.args.count xs ++ reverse (take c.args.count xs)) c.deref_mut.ensures.value)
 
-pub returns-in-HighRank-clause-kept : goal.returns-in-HighRank-clause-kept
-returns-in-HighRank-clause-kept g c =
-    let xs : List g.row.T.Denot = c.args.items.now.items in
-    let turned = changed g (past.returns-in-HighRank-clause-kept g c).After-move_behind in
-    let parts = moved_behind c.args.count (c.len.result - c.args.count) xs _ (ap (λ (m : ℕ). m - c.args.count) (c.len.ensures ∙ c.args.items.now.ok.0)) turned in
-    rw c.in-HighRank.is (c.move_half.ensures.kept ∙ parts.0)
-
-pub returns-in-HighRank-clause-moved : goal.returns-in-HighRank-clause-moved
-returns-in-HighRank-clause-moved g c =
-    let xs : List g.row.T.Denot = c.args.items.now.items in
-    let turned = changed g (past.returns-in-HighRank-clause-moved g c).After-move_behind in
-    let parts = moved_behind c.args.count (c.len.result - c.args.count) xs _ (ap (λ (m : ℕ). m - c.args.count) (c.len.ensures ∙ c.args.items.now.ok.0)) turned in
-    let out : reverse (half (not c.args.odd) (reverse (take c.args.count xs))) ≡ c.move_half.new.out.items =
-    ap reverse (sym (ap (half (not c.args.odd)) parts.1) ∙ c.move_half.ensures.moved) ∙ reverse-reverse c.move_half.new.out.items in
-    let even : length (take c.args.count xs) % 2 ≡ 0 = omega (arith, length-take c.args.count xs, c.requires.within, c.requires.even) in
-    rw c.in-HighRank.is (sym (half_reverse c.args.odd (take c.args.count xs) even ∙ out))
-
 pub move_half-requires-clause-within : goal.move_half-requires-clause-within
 move_half-requires-clause-within g c = grind (arith, common_steps)
 
@@ -41,8 +26,30 @@ move_half-requires-clause-even g c = grind (arith, common_steps)
 pub move_half-requires-clause-room : goal.move_half-requires-clause-room
 move_half-requires-clause-room g c = grind (arith, common_steps)
 
-pub returns-in-LowRank-clause-moved : goal.returns-in-LowRank-clause-moved
-returns-in-LowRank-clause-moved g c = grind (arith, common_steps)
+pub returns-in-HighRank : goal.returns-in-HighRank
+returns-in-HighRank g c =
+    let xs : List g.row.T.Denot = c.args.items.now.items in
+    let turned = changed g (past.returns-in-HighRank g c).After-move_behind in
+    let parts = moved_behind c.args.count (c.len.result - c.args.count) xs _ (ap (λ (m : ℕ). m - c.args.count) (c.len.ensures ∙ c.args.items.now.ok.0)) turned in
+    let out : reverse (half (not c.args.odd) (reverse (take c.args.count xs))) ≡ c.move_half.new.out.items =
+    ap reverse (sym (ap (half (not c.args.odd)) parts.1) ∙ c.move_half.ensures.moved) ∙ reverse-reverse c.move_half.new.out.items in
+    let even : length (take c.args.count xs) % 2 ≡ 0 = omega (arith, length-take c.args.count xs, c.requires.within, c.requires.even) in
+    record {
+      kept = subst (λ (a : RankAccuracy). c.move_half.new.items.items ≡ side_kept a c.args.count xs) (sym c.in-HighRank.is) (c.move_half.ensures.kept ∙ parts.0);
+      moved = subst (λ (a : RankAccuracy). c.move_half.new.out.items ≡ half c.args.odd (side_taken a c.args.count xs)) (sym c.in-HighRank.is)
+          (sym (half_reverse c.args.odd (take c.args.count xs) even ∙ out));
+      capacity = c.move_half.ensures.capacity;
+    }
 
-pub returns-in-LowRank-clause-kept : goal.returns-in-LowRank-clause-kept
-returns-in-LowRank-clause-kept g c = grind (arith, common_steps)
+pub returns-in-LowRank : goal.returns-in-LowRank
+returns-in-LowRank g c =
+    let xs : List g.row.T.Denot = c.args.items.now.items in
+    let count : ℕ = c.args.count in
+    let all = c.len.ensures ∙ c.args.items.now.ok.0 in
+    record {
+      kept = subst (λ (a : RankAccuracy). c.move_half-in-LowRank.new.items.items ≡ side_kept a count xs) (sym c.in-LowRank.is)
+          (c.move_half-in-LowRank.ensures.kept ∙ ap (λ (m : ℕ). take (m - count) xs) all);
+      moved = subst (λ (a : RankAccuracy). c.reverse.new.self.items ≡ half c.args.odd (side_taken a count xs)) (sym c.in-LowRank.is)
+          (c.reverse.ensures.items ∙ sym c.move_half-in-LowRank.ensures.moved ∙ ap (λ (m : ℕ). half c.args.odd (drop (m - count) xs)) all);
+      capacity = c.reverse.ensures.capacity ∙ c.move_half-in-LowRank.ensures.capacity;
+    }

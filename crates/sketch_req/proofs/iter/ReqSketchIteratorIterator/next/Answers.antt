@@ -1,8 +1,15 @@
 use Rattle.std.proofs.lemmas.Grind.{common_steps}
-use Rattle.std.proofs.lemmas.Bool.{eqb-true}
-use Rattle.std.proofs.Common.{arith, ◌≡◌, ◌∷◌, ◌∙◌, sym, ap, length}
+use Rattle.std.proofs.lemmas.Bool.{eq-eqb, eqb-true, false≢true}
+use Rattle.std.proofs.lemmas.List.{nil_from_length}
+use Rattle.sketch_req.specs.Level.{Level}
+use Rattle.sketch_req.specs.Pairs.{weighed, pairs_of}
+use Rattle.std.proofs.Common.{arith, ◌≡◌, ◌-◌, ◌<◌, ◌≤◌, ℕ, List, [], ◌∷◌, ◌++◌, ◌∙◌, sym, ap, ap₂, length, Option, None, Some, MatchOption}
 use Rattle.sketch_req.proofs.Pairs.{next-level}
 use Rattle.sketch_req.proofs.iter.ReqSketchIteratorIterator.next.Goals as goal
+
+at_none : {A : Type 0} {P : Type 0} (Q : A → Type 0) (r : Option A) → r ≡ None → P → MatchOption r P Q
+at_none Q None e p = p
+at_none Q (Some x) e p = absurd cc
 
 pub loop-self-preserved : goal.loop-self-preserved
 loop-self-preserved g c =
@@ -13,29 +20,55 @@ loop-self-preserved g c =
     there c.items_slice-self-inside.ensures.value c.weight-self-inside.ensures in
     record { same = same ∙ c.loop-self.invariant.same; left = c.loop-self.invariant.left ∙ ap length (sym same) }
 
-pub returns-in_err-level-clause-steps : goal.returns-in_err-level-clause-steps
-returns-in_err-level-clause-steps g c = grind (arith, common_steps)
-
-pub returns-in_err-level-clause-goes : goal.returns-in_err-level-clause-goes
-returns-in_err-level-clause-goes g c = grind (arith, common_steps)
-
 pub loop-self-smaller : goal.loop-self-smaller
 loop-self-smaller g c = grind (arith, common_steps)
 
-pub returns-in_err-item-clause-steps : goal.returns-in_err-item-clause-steps
-returns-in_err-item-clause-steps g c = grind (arith, common_steps)
+some_left : {A : Type 0} {left : ℕ} {x : A} {xs ys : List A} → left ≡ length xs → xs ≡ x ∷ ys → 1 ≤ left
+some_left e more = omega (arith, e, ap length more)
 
-pub returns-in_err-item-clause-goes : goal.returns-in_err-item-clause-goes
-returns-in_err-item-clause-goes g c = grind (arith, common_steps)
+others_left : {A : Type 0} {left : ℕ} {x : A} {xs ys : List A} → left ≡ length xs → xs ≡ x ∷ ys → left - 1 ≡ length ys
+others_left e more = omega (arith, e, ap length more)
 
 pub overflow_sub-self : goal.overflow_sub-self
-overflow_sub-self g c = grind (arith, common_steps)
+overflow_sub-self g c =
+    let i = c.loop-self.self-inside in
+    some_left c.loop-self.invariant.left (ap (λ (xs : List g.row.T.Denot). weighed i.weight xs ++ pairs_of i.levels.now) c.in_ok-item.ensures.cases.0)
 
 pub invariant_of-self-2 : goal.invariant_of-self-2
-invariant_of-self-2 g c = grind (arith, common_steps)
+invariant_of-self-2 g c =
+    let i = c.loop-self.self-inside in
+    others_left c.loop-self.invariant.left (ap (λ (xs : List g.row.T.Denot). weighed i.weight xs ++ pairs_of i.levels.now) c.in_ok-item.ensures.cases.0)
 
-pub returns-clause-steps : goal.returns-clause-steps
-returns-clause-steps g c = grind (arith, common_steps)
+pub invariant_of-self-in_err-item : goal.invariant_of-self-in_err-item
+invariant_of-self-in_err-item g c = absurd (false≢true (sym c.loop-self-test.false ∙ c.is_empty.ensures ∙ eq-eqb _ 0 c.in_err-item.ensures.cases))
 
-pub returns-clause-goes : goal.returns-clause-goes
-returns-clause-goes g c = grind (arith, common_steps)
+-- an item is left, so the iterator doesn't end
+pub returns-in_err-item : goal.returns-in_err-item
+returns-in_err-item g c = absurd (false≢true (sym c.loop-self-test.false ∙ c.is_empty.ensures ∙ eq-eqb _ 0 c.in_err-item.ensures.cases))
+
+one_less : {A : Type 0} {x : A} {xs ys : List A} → xs ≡ x ∷ ys → length ys < length xs
+one_less e = omega (arith, ap length e)
+
+pub returns : goal.returns
+returns g c =
+    let i = c.loop-self.self-inside in
+    let steps = sym c.loop-self.invariant.same ∙ ap (λ (xs : List g.row.T.Denot). weighed i.weight xs ++ pairs_of i.levels.now) c.in_ok-item.ensures.cases.0 in
+    record {
+      steps = steps;
+      goes = record { on = λ _. (tt, tt, one_less steps); keeps = tt; rests = λ _. tt };
+    }
+
+pub returns-in_err-level : goal.returns-in_err-level
+returns-in_err-level g c =
+    let i = c.loop-self.self-inside in
+    let no_items = nil_from_length i.items.now (eqb-true _ 0 (sym c.is_empty.ensures ∙ c.loop-self-test.true)) in
+    let no_levels = nil_from_length i.levels.now c.in_err-level.ensures.cases in
+    let none = ap₂ (λ (xs : List g.row.T.Denot) (ls : List (Level g.row.T.Denot)). weighed i.weight xs ++ pairs_of ls) no_items no_levels in
+    record {
+      steps = at_none _ c.from_residual.result c.from_residual.ensures (sym c.loop-self.invariant.same ∙ none, none);
+      goes = record {
+        on = λ _. at_none _ c.from_residual.result c.from_residual.ensures tt;
+        keeps = at_none _ c.from_residual.result c.from_residual.ensures tt;
+        rests = λ _. at_none _ c.from_residual.result c.from_residual.ensures tt;
+      };
+    }
