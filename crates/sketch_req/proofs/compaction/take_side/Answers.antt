@@ -1,4 +1,4 @@
-use Rattle.std.proofs.Common.{◌≡◌, ℕ, ◌-◌, ◌%◌, List, ◌++◌, length, take, drop, reverse, sym, ap, subst, ◌∙◌, not, arith, take_at, length-take}
+use Rattle.std.proofs.Common.{◌≡◌, ℕ, ◌-◌, ◌*◌, ◌%◌, ◌≤◌, vec_capacity, List, ◌++◌, length, take, drop, reverse, sym, ap, subst, ◌∙◌, not, arith, take_at, length-take}
 use Rattle.std.proofs.lemmas.Grind.{common_steps}
 use Rattle.std.proofs.lemmas.List.{reverse-reverse}
 use Rattle.sketch_base.specs.Bag.{half}
@@ -16,6 +16,30 @@ changed : (g : _) (c : After-move_behind g) → take c.args.items.now.len (c.mov
 changed g c =
     take_at c.move_behind.new.items _ c.args.items.now.len (c.move_behind.auto.items ∙ c.deref_mut.ensures.len) ∙
     (c.move_behind.ensures ∙ ap (λ (xs : List g.row.T.Denot). drop c.args.count xs ++ reverse (take c.args.count xs)) c.deref_mut.ensures.value)
+
+pub move_half-requires-clause-empty : goal.move_half-requires-clause-empty
+move_half-requires-clause-empty g c = c.requires.empty
+
+pub move_half-requires-in-LowRank-clause-empty : goal.move_half-requires-in-LowRank-clause-empty
+move_half-requires-in-LowRank-clause-empty g c = c.requires.empty
+
+-- what lies behind the items that stay
+kept_within : {l n : ℕ} (count : ℕ) → l ≡ n → l - count ≤ n
+kept_within count e = omega (arith, e)
+
+taken_is : {l n : ℕ} (count : ℕ) → l ≡ n → count ≤ n → n - (l - count) ≡ count
+taken_is count e l = omega (arith, e, l)
+
+pub move_half-requires-in-LowRank-clause-within : goal.move_half-requires-in-LowRank-clause-within
+move_half-requires-in-LowRank-clause-within g c = kept_within c.args.count (c.len.ensures ∙ c.args.items.now.ok.0)
+
+pub move_half-requires-in-LowRank-clause-even : goal.move_half-requires-in-LowRank-clause-even
+move_half-requires-in-LowRank-clause-even g c =
+    subst (λ (n : ℕ). n % 2 ≡ 0) (sym (taken_is c.args.count (c.len.ensures ∙ c.args.items.now.ok.0) c.requires.within)) c.requires.even
+
+pub move_half-requires-in-LowRank-clause-room : goal.move_half-requires-in-LowRank-clause-room
+move_half-requires-in-LowRank-clause-room g c =
+    subst (λ (n : ℕ). n ≤ 2 * vec_capacity c.args.out.now) (sym (taken_is c.args.count (c.len.ensures ∙ c.args.items.now.ok.0) c.requires.within)) c.requires.room
 
 pub move_half-requires-clause-within : goal.move_half-requires-clause-within
 move_half-requires-clause-within g c = grind (arith, common_steps)
