@@ -1,5 +1,5 @@
 use Rattle.std.proofs.Common.{arith}
 use Rattle.sketch_req.proofs.image.check.Goals as goal
 
-pub returns-clause-ok : goal.returns-clause-ok
-returns-clause-ok c = grind arith
+pub returns : goal.returns
+returns c = record { ok = grind arith; err = c.unless.ensures.err }
