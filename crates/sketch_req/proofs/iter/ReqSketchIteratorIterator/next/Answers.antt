@@ -72,3 +72,6 @@ returns-in_err-level g c =
         rests = λ _. at_none _ c.from_residual.result c.from_residual.ensures tt;
       };
     }
+
+pub invariant_of-self : goal.invariant_of-self
+invariant_of-self g c = c.loop-self.invariant.left
