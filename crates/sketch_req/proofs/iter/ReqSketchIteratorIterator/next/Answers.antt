@@ -1,4 +1,3 @@
-use Rattle.std.proofs.lemmas.Grind.{common_steps}
 use Rattle.std.proofs.lemmas.Bool.{eq-eqb, eqb-true, false≢true}
 use Rattle.std.proofs.lemmas.List.{nil_from_length}
 use Rattle.sketch_req.specs.Level.{Level}
@@ -11,6 +10,9 @@ at_none : {A : Type 0} {P : Type 0} (Q : A → Type 0) (r : Option A) → r ≡ 
 at_none Q None e p = p
 at_none Q (Some x) e p = absurd cc
 
+one_less : {A : Type 0} {x : A} {xs ys : List A} → xs ≡ x ∷ ys → length ys < length xs
+one_less e = omega (arith, ap length e)
+
 pub loop-self-preserved : goal.loop-self-preserved
 loop-self-preserved g c =
     let i = c.loop-self.self-inside in
@@ -21,7 +23,7 @@ loop-self-preserved g c =
     record { same = same ∙ c.loop-self.invariant.same; left = c.loop-self.invariant.left ∙ ap length (sym same) }
 
 pub loop-self-smaller : goal.loop-self-smaller
-loop-self-smaller g c = grind (arith, common_steps)
+loop-self-smaller g c = one_less c.in_ok-level.ensures.cases.0
 
 some_left : {A : Type 0} {left : ℕ} {x : A} {xs ys : List A} → left ≡ length xs → xs ≡ x ∷ ys → 1 ≤ left
 some_left e more = omega (arith, e, ap length more)
@@ -45,9 +47,6 @@ invariant_of-self-in_err-item g c = absurd (false≢true (sym c.loop-self-test.f
 -- an item is left, so the iterator doesn't end
 pub returns-in_err-item : goal.returns-in_err-item
 returns-in_err-item g c = absurd (false≢true (sym c.loop-self-test.false ∙ c.is_empty.ensures ∙ eq-eqb _ 0 c.in_err-item.ensures.cases))
-
-one_less : {A : Type 0} {x : A} {xs ys : List A} → xs ≡ x ∷ ys → length ys < length xs
-one_less e = omega (arith, ap length e)
 
 pub returns : goal.returns
 returns g c =
