@@ -2,7 +2,7 @@ use Rattle.std.proofs.lemmas.Bool.{eq-eqb, eqb-true, false≢true}
 use Rattle.std.proofs.lemmas.List.{nil_from_length}
 use Rattle.sketch_req.specs.Level.{Level}
 use Rattle.sketch_req.specs.Pairs.{weighed, pairs_of}
-use Rattle.std.proofs.Common.{arith, ◌≡◌, ◌-◌, ◌<◌, ◌≤◌, ℕ, List, [], ◌∷◌, ◌++◌, ◌∙◌, sym, ap, ap₂, length, Option, None, Some, MatchOption}
+use Rattle.std.proofs.Common.{arith, ◌≡◌, ◌-◌, ◌<◌, ◌≤◌, ℕ, List, ◌∷◌, ◌++◌, ◌∙◌, sym, ap, ap₂, length, Option, None, Some, MatchOption}
 use Rattle.sketch_req.proofs.Pairs.{next-level}
 use Rattle.sketch_req.proofs.iter.ReqSketchIteratorIterator.next.Goals as goal
 
