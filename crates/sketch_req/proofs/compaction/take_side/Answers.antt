@@ -39,7 +39,8 @@ move_half-requires-in-LowRank-clause-even g c =
 
 pub move_half-requires-in-LowRank-clause-room : goal.move_half-requires-in-LowRank-clause-room
 move_half-requires-in-LowRank-clause-room g c =
-    subst (λ (n : ℕ). n ≤ 2 * vec_capacity c.args.out.now) (sym (taken_is c.args.count (c.len.ensures ∙ c.args.items.now.ok.0) c.requires.within)) c.requires.room
+    subst (λ (n : ℕ). n ≤ 2 * vec_capacity c.args.out.now)
+        (sym (taken_is c.args.count (c.len.ensures ∙ c.args.items.now.ok.0) c.requires.within)) c.requires.room
 
 pub move_half-requires-clause-within : goal.move_half-requires-clause-within
 move_half-requires-clause-within g c = grind (arith, common_steps)
@@ -54,12 +55,14 @@ pub returns-in-HighRank : goal.returns-in-HighRank
 returns-in-HighRank g c =
     let xs : List g.row.T.Denot = c.args.items.now.items in
     let turned = changed g (past.returns-in-HighRank g c).After-move_behind in
-    let parts = moved_behind c.args.count (c.len.result - c.args.count) xs _ (ap (λ (m : ℕ). m - c.args.count) (c.len.ensures ∙ c.args.items.now.ok.0)) turned in
+    let parts = moved_behind c.args.count (c.len.result - c.args.count) xs _
+        (ap (λ (m : ℕ). m - c.args.count) (c.len.ensures ∙ c.args.items.now.ok.0)) turned in
     let out : reverse (half (not c.args.odd) (reverse (take c.args.count xs))) ≡ c.move_half.new.out.items =
     ap reverse (sym (ap (half (not c.args.odd)) parts.1) ∙ c.move_half.ensures.moved) ∙ reverse-reverse c.move_half.new.out.items in
     let even : length (take c.args.count xs) % 2 ≡ 0 = omega (arith, length-take c.args.count xs, c.requires.within, c.requires.even) in
     record {
-      kept = subst (λ (a : RankAccuracy). c.move_half.new.items.items ≡ side_kept a c.args.count xs) (sym c.in-HighRank.is) (c.move_half.ensures.kept ∙ parts.0);
+      kept = subst (λ (a : RankAccuracy). c.move_half.new.items.items ≡ side_kept a c.args.count xs) (sym c.in-HighRank.is)
+          (c.move_half.ensures.kept ∙ parts.0);
       moved = subst (λ (a : RankAccuracy). c.move_half.new.out.items ≡ half c.args.odd (side_taken a c.args.count xs)) (sym c.in-HighRank.is)
           (sym (half_reverse c.args.odd (take c.args.count xs) even ∙ out));
       capacity = c.move_half.ensures.capacity;

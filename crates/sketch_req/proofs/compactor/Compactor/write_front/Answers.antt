@@ -31,7 +31,8 @@ returns g c =
           (to_le_bytes w64 f.state) (to_le_bytes w32 f.section_size) (f.lg_weight ∷ f.num_sections ∷ []) (to_le_bytes w16 0) (to_le_bytes w32 f.count)
           c.in_ok-write_u64_le.ensures.ok c.in_ok-write_u32_le.ensures.ok c.in_ok-write.ensures.ok c.in_ok-write_u16_le.ensures.ok last
           ∙ ap (λ (h : Front). c.args.bytes.now ++ front_text h) same) c.write_u32_le-2.ensures.ok;
-      err = IfErr-weaker c.write_u32_le-2.result (λ _. c.write_u32_le-2.new.self ≡ c.write_u16_le.new.self) (λ _. Extends c.args.bytes.now c.write_u32_le-2.new.self)
+      err = IfErr-weaker c.write_u32_le-2.result (λ _. c.write_u32_le-2.new.self ≡ c.write_u16_le.new.self)
+          (λ _. Extends c.args.bytes.now c.write_u32_le-2.new.self)
           (λ _ same. as_extended c.args.bytes.now last same) c.write_u32_le-2.ensures.err;
       memory = c.write_u32_le-2.ensures.memory;
     }

@@ -35,7 +35,9 @@ returns-in_err-read_u8 c =
     record {
       found = IfOk-from_err c.from_residual-in_err-read_u8.result _ e.0;
       fits = IfOk-from_err c.from_residual-in_err-read_u8.result _ e.0;
-      short = let few = (ends_soon 5 8 (longer_64 c.in_ok-read_u64_le.field-0 c.args.input.now c.read_u64_le.new.self c.in_ok-read_u64_le.ensures.ok) (ends_soon 1 4 (longer_32 c.in_ok-read_u32_le.field-0 c.read_u64_le.new.self c.read_u32_le.new.self c.in_ok-read_u32_le.ensures.ok) (empty_short c.in_err-read_u8.ensures.short))) in
+      short = let few = (ends_soon 5 8 (longer_64 c.in_ok-read_u64_le.field-0 c.args.input.now c.read_u64_le.new.self c.in_ok-read_u64_le.ensures.ok)
+          (ends_soon 1 4 (longer_32 c.in_ok-read_u32_le.field-0 c.read_u64_le.new.self c.read_u32_le.new.self c.in_ok-read_u32_le.ensures.ok)
+          (empty_short c.in_err-read_u8.ensures.short))) in
           at_error c.from_residual-in_err-read_u8.result _ e.1 (λ _ is. (is ∙ c.in_err-read_u8.ensures.kind, below_twenty 13 few (omega arith)));
     }
 
@@ -45,7 +47,10 @@ returns-in_err-read_u8-2 c =
     record {
       found = IfOk-from_err c.from_residual-in_err-read_u8-2.result _ e.0;
       fits = IfOk-from_err c.from_residual-in_err-read_u8-2.result _ e.0;
-      short = let few = (ends_soon 6 8 (longer_64 c.in_ok-read_u64_le.field-0 c.args.input.now c.read_u64_le.new.self c.in_ok-read_u64_le.ensures.ok) (ends_soon 2 4 (longer_32 c.in_ok-read_u32_le.field-0 c.read_u64_le.new.self c.read_u32_le.new.self c.in_ok-read_u32_le.ensures.ok) (ends_soon 1 1 (longer_8 c.in_ok-read_u8.field-0 c.read_u32_le.new.self c.read_u8.new.self c.in_ok-read_u8.ensures.ok) (empty_short c.in_err-read_u8-2.ensures.short)))) in
+      short = let few = (ends_soon 6 8 (longer_64 c.in_ok-read_u64_le.field-0 c.args.input.now c.read_u64_le.new.self c.in_ok-read_u64_le.ensures.ok)
+          (ends_soon 2 4 (longer_32 c.in_ok-read_u32_le.field-0 c.read_u64_le.new.self c.read_u32_le.new.self c.in_ok-read_u32_le.ensures.ok)
+          (ends_soon 1 1 (longer_8 c.in_ok-read_u8.field-0 c.read_u32_le.new.self c.read_u8.new.self c.in_ok-read_u8.ensures.ok)
+          (empty_short c.in_err-read_u8-2.ensures.short)))) in
           at_error c.from_residual-in_err-read_u8-2.result _ e.1 (λ _ is. (is ∙ c.in_err-read_u8-2.ensures.kind, below_twenty 14 few (omega arith)));
     }
 
@@ -55,7 +60,10 @@ returns-in_err-read_u16_le c =
     record {
       found = IfOk-from_err c.from_residual-in_err-read_u16_le.result _ e.0;
       fits = IfOk-from_err c.from_residual-in_err-read_u16_le.result _ e.0;
-      short = let few = (ends_soon 8 8 (longer_64 c.in_ok-read_u64_le.field-0 c.args.input.now c.read_u64_le.new.self c.in_ok-read_u64_le.ensures.ok) (ends_soon 4 4 (longer_32 c.in_ok-read_u32_le.field-0 c.read_u64_le.new.self c.read_u32_le.new.self c.in_ok-read_u32_le.ensures.ok) (ends_soon 3 1 (longer_8 c.in_ok-read_u8.field-0 c.read_u32_le.new.self c.read_u8.new.self c.in_ok-read_u8.ensures.ok) (ends_soon 2 1 (longer_8 c.in_ok-read_u8-2.field-0 c.read_u8.new.self c.read_u8-2.new.self c.in_ok-read_u8-2.ensures.ok) c.in_err-read_u16_le.ensures.short)))) in
+      short = let few = (ends_soon 8 8 (longer_64 c.in_ok-read_u64_le.field-0 c.args.input.now c.read_u64_le.new.self c.in_ok-read_u64_le.ensures.ok)
+          (ends_soon 4 4 (longer_32 c.in_ok-read_u32_le.field-0 c.read_u64_le.new.self c.read_u32_le.new.self c.in_ok-read_u32_le.ensures.ok)
+          (ends_soon 3 1 (longer_8 c.in_ok-read_u8.field-0 c.read_u32_le.new.self c.read_u8.new.self c.in_ok-read_u8.ensures.ok)
+          (ends_soon 2 1 (longer_8 c.in_ok-read_u8-2.field-0 c.read_u8.new.self c.read_u8-2.new.self c.in_ok-read_u8-2.ensures.ok) c.in_err-read_u16_le.ensures.short)))) in
           at_error c.from_residual-in_err-read_u16_le.result _ e.1 (λ _ is. (is ∙ c.in_err-read_u16_le.ensures.kind, below_twenty 16 few (omega arith)));
     }
 
@@ -65,7 +73,11 @@ returns-in_err-read_u32_le-2 c =
     record {
       found = IfOk-from_err c.from_residual-in_err-read_u32_le-2.result _ e.0;
       fits = IfOk-from_err c.from_residual-in_err-read_u32_le-2.result _ e.0;
-      short = let few = (ends_soon 12 8 (longer_64 c.in_ok-read_u64_le.field-0 c.args.input.now c.read_u64_le.new.self c.in_ok-read_u64_le.ensures.ok) (ends_soon 8 4 (longer_32 c.in_ok-read_u32_le.field-0 c.read_u64_le.new.self c.read_u32_le.new.self c.in_ok-read_u32_le.ensures.ok) (ends_soon 7 1 (longer_8 c.in_ok-read_u8.field-0 c.read_u32_le.new.self c.read_u8.new.self c.in_ok-read_u8.ensures.ok) (ends_soon 6 1 (longer_8 c.in_ok-read_u8-2.field-0 c.read_u8.new.self c.read_u8-2.new.self c.in_ok-read_u8-2.ensures.ok) (ends_soon 4 2 (longer_16 c.in_ok-read_u16_le.field-0 c.read_u8-2.new.self c.read_u16_le.new.self c.in_ok-read_u16_le.ensures.ok) c.in_err-read_u32_le-2.ensures.short))))) in
+      short = let few = (ends_soon 12 8 (longer_64 c.in_ok-read_u64_le.field-0 c.args.input.now c.read_u64_le.new.self c.in_ok-read_u64_le.ensures.ok)
+          (ends_soon 8 4 (longer_32 c.in_ok-read_u32_le.field-0 c.read_u64_le.new.self c.read_u32_le.new.self c.in_ok-read_u32_le.ensures.ok)
+          (ends_soon 7 1 (longer_8 c.in_ok-read_u8.field-0 c.read_u32_le.new.self c.read_u8.new.self c.in_ok-read_u8.ensures.ok)
+          (ends_soon 6 1 (longer_8 c.in_ok-read_u8-2.field-0 c.read_u8.new.self c.read_u8-2.new.self c.in_ok-read_u8-2.ensures.ok)
+          (ends_soon 4 2 (longer_16 c.in_ok-read_u16_le.field-0 c.read_u8-2.new.self c.read_u16_le.new.self c.in_ok-read_u16_le.ensures.ok) c.in_err-read_u32_le-2.ensures.short))))) in
           at_error c.from_residual-in_err-read_u32_le-2.result _ e.1 (λ _ is. (is ∙ c.in_err-read_u32_le-2.ensures.kind, below_twenty 20 few (omega arith)));
     }
 

@@ -46,11 +46,13 @@ returns-then-eq g c =
         few_items = few_held (held_retained c.levels.inside.compactors.items c.levels.view_is) c.levels.invariant.retained_is c.if-levels-gt-MAX_ITEMS.false;
         ends = record {
           in_order = ap is_gt (sym c.cmp.ensures) ∙ sym c.is_gt.ensures ∙ c.if-is_gt.false;
-          between = subst (λ (ls : List (Level g.row.T.Denot)). AllByRecursion (IsBetween cmp c.args.least.now c.args.greatest.now) (items_in ls)) between (c.are_all_between.ensures.yes t);
+          between = subst (λ (ls : List (Level g.row.T.Denot)). AllByRecursion (IsBetween cmp c.args.least.now c.args.greatest.now) (items_in ls)) between
+              (c.are_all_between.ensures.yes t);
         };
       };
       no = λ h. c.are_all_between.ensures.no
-          (subst (λ (ls : List (Level g.row.T.Denot)). AllByRecursion (IsBetween cmp c.args.least.now c.args.greatest.now) (items_in ls)) (sym between) h.ends.between);
+          (subst (λ (ls : List (Level g.row.T.Denot)). AllByRecursion (IsBetween cmp c.args.least.now c.args.greatest.now) (items_in ls))
+          (sym between) h.ends.between);
     }
 
 pub returns-then-n-eq0 : goal.returns-then-n-eq0
@@ -60,7 +62,8 @@ returns-then-n-eq0 g c = record {
       let held = held_retained c.levels.inside.compactors.items c.levels.view_is in
       elim c.then-n-eq0.branch as (λ _. IsTrue false) [
         | then-n-eq0-via-then-n-eq0 w ↦ absurd (omega (arith, h.some_weight, w.if-n-eq0.true))
-        | then-n-eq0-via-else-n-eq0+then-levels-gt-MAX_ITEMS w ↦ absurd (many_held held c.levels.invariant.retained_is w.if-levels-gt-MAX_ITEMS.true h.few_items)
+        | then-n-eq0-via-else-n-eq0+then-levels-gt-MAX_ITEMS w ↦ absurd
+            (many_held held c.levels.invariant.retained_is w.if-levels-gt-MAX_ITEMS.true h.few_items)
         | then-n-eq0-via-else-n-eq0+else-levels-gt-MAX_ITEMS+then-is_gt w ↦
             absurd (false≢true (sym h.ends.in_order ∙ ap is_gt (sym w.cmp.ensures) ∙ sym w.is_gt.ensures ∙ w.if-is_gt.true))
       ];
