@@ -1,7 +1,8 @@
 -- The loop keeps what is known of the next level's turn, and that there are clones, and room for the turns so far.
-use Rattle.std.proofs.Common.{nat_cmp, true, inl, inr, ◌≡◌, ℕ, suc, ◌+◌, ◌/◌, ◌<◌, ◌≤◌, Bool, if◌then◌else◌, List, [], length, length-set, refl, sym, ap, ◌∙◌, subst, arith, le_trans}
+use Rattle.std.proofs.Common.{nat_cmp, true, Ordering, inl, inr, ◌≡◌, ℕ, suc, ◌+◌, ◌/◌, ◌<◌, ◌≤◌, Bool, if◌then◌else◌, List, [], length, length-set, refl, sym, ap, ◌∙◌, subst, arith, get_or, le_trans, lt_of_lt_of_le, max, not-le_of_lt, not-suc-le-zero, vec_capacity}
 use Rattle.std.specs.Ordering.{ord_max}
 use Rattle.std.proofs.lemmas.Bool.{cases_lt}
+use Rattle.std.proofs.lemmas.Result.{IfOk-from_err}
 use Rattle.std.proofs.lemmas.Grind.{common_steps}
 use Rattle.sketch_base.specs.Bag.{SameItems, level_at}
 use Rattle.sketch_base.specs.Buffers.{Space}
@@ -24,15 +25,6 @@ use Rattle.sketch_req.proofs.sketch.levels.walk.reserve.Given.{Over}
 use Rattle.sketch_req.proofs.sketch.levels.walk.reserve.Goals as goal
 use Rattle.sketch_req.proofs.sketch.levels.walk.reserve.Goals.at as past
 use Rattle.sketch_req.proofs.sketch.levels.walk.reserve.Goals.{After-count_at-in-loop-level, Joined-level-others, Joined-is_high, then-level-others+in_ok-take_clones, else-level-others, then-is_high, else-is_high}
-
-pub loop-level-init : goal.loop-level-init
-loop-level-init g c = record {
-  enough = omega (arith, c.in_ok-for_levels.ensures, c.for_levels.new.buffers.ok);
-  planned = planned-start _ _ _;
-  cloned = λ h l. absurd (omega (arith, l));
-  promoted = λ h l. absurd (omega (arith, l));
-  own = λ h l. absurd (omega (arith, l));
-}
 
 -- the greater of two numbers
 at-most-greater : (greater m n : ℕ) → greater ≡ ord_max nat_cmp m n → (m ≤ greater) × (n ≤ greater)
@@ -80,18 +72,20 @@ record Told (g : Over) (c : Joined-level-others g) : Type 0 where
   pub same : c.loop-level.level < length c.args.others.now → SameItems g.T.Ord.cmp (level_at (item_lists c.args.others.now) c.loop-level.level) c.if-level-others.own.clones
   pub space : c.loop-level.level < length c.args.others.now → c.count_at.result + c.count_at-in-loop-level.result + c.loop-level.came ≤ c.if-level-others.own.clones_space
 
+-- clones of the slice are clones of the other level
+clones-there : {A : Type 0} (cmp : A → A → Ordering) (others : List (Level A)) (h : ℕ) (o : Level A) (items : List A) (new own : Space A) → h < length others → o ≡ get_or others h o →
+    items ≡ o.items → own ≡ new → SameItems cmp items new.clones → SameItems cmp (level_at (item_lists others) h) own.clones
+clones-there cmp others h o items new own there is value own_is same =
+    subst (λ (xs : List _). SameItems cmp xs own.clones) (value ∙ sym (read-there (λ l. l.items) [] others h o there is)) (subst (λ (b : Space _). SameItems cmp items b.clones) (sym own_is) same)
+
 told : (g : Over) (c : Joined-level-others g) → Told g c
 told g c =
     elim c.if-level-others.branch [
       | then-level-others+in_ok-take_clones w ↦ record {
-        same = λ there.
-            let items = read-there (λ (l : Level g.row.T.Denot). l.items) [] c.args.others.now c.loop-level.level w.index-others-level.result there w.index-others-level.is in
-            let clones = ap (λ (b : Space g.row.T.Denot). b.clones) w.own-is in
-            subst (λ (xs : List g.row.T.Denot). SameItems g.T.Ord.cmp xs c.if-level-others.own.clones) (sym (items ∙ sym w.items_slice.ensures.value))
-            (subst (λ (ys : List g.row.T.Denot). SameItems g.T.Ord.cmp w.items_slice.result.now ys) (sym clones) w.in_ok-take_clones.ensures.same);
-        space = λ there. omega (arith, w.in_ok-take_clones.ensures.space, ap (λ (b : Space g.row.T.Denot). b.clones_space) w.own-is);
+        same = λ there. clones-there g.T.Ord.cmp _ _ _ _ _ _ there w.index-others-level.is w.items_slice.ensures.value w.own-is w.in_ok-take_clones.ensures.same;
+        space = λ _. subst (λ (b : Space g.row.T.Denot). c.count_at.result + c.count_at-in-loop-level.result + c.loop-level.came ≤ b.clones_space) (sym w.own-is) w.in_ok-take_clones.ensures.space;
       }
-      | else-level-others w ↦ record { same = λ there. absurd (omega (arith, there, w.if-level-others.false)); space = λ there. absurd (omega (arith, there, w.if-level-others.false)) }
+      | else-level-others w ↦ record { same = λ there. absurd (not-le_of_lt there w.if-level-others.false); space = λ there. absurd (not-le_of_lt there w.if-level-others.false) }
     ]
 
 -- how many items the level gives up
@@ -119,15 +113,25 @@ overflow_sub-here g c =
     let at = (past.overflow_sub-here g c).After-count_at-in-loop-level in
     omega (arith, goes, given-within (k_of c.args.levels.now) (accuracy_of c.args.levels.now) (filled c.loop-level.came (layout_at (both g at) c.loop-level.level)), here g at)
 
+-- two counts without what comes
+without-coming : (m n a b came space own : ℕ) → m ≡ a → n ≡ b → own ≡ space → m + n + came ≤ space → a + b ≤ own
+without-coming m n a b came space own e f s l = grind arith
+
+-- no level up to this one holds more
+none-holds-more : (counts : ℕ → ℕ) (at most more : ℕ) → most ≤ more → counts at ≤ more → ((h : ℕ) → h < at → counts h ≤ most) → (h : ℕ) → h < at + 1 → counts h ≤ more
+none-holds-more counts at most more grows last before h l =
+    elim (cases_lt h at) [
+      | inl low ↦ le_trans (before h low) grows
+      | inr high ↦ let place : at ≡ h = omega (arith, l, high) in subst (λ (n : ℕ). counts n ≤ more) place last
+    ]
+
 pub loop-level-preserved : goal.loop-level-preserved
 loop-level-preserved g c =
     let i = c.loop-level.invariant in
     let at = c.loop-level.level in
     let k = k_of c.args.levels.now in
     let accuracy = accuracy_of c.args.levels.now in
-    let ls : List Layout = layouts_of c.args.levels.now in
-    let os : List Layout = layouts_of c.args.others.now in
-    let both : List Layout = joined_layouts k ls os in
+    let both : List Layout = joined_layouts k (layouts_of c.args.levels.now) (layouts_of c.args.others.now) in
     let start : List Layout = with_more c.args.more both in
     let told = told g (past.loop-level-preserved g c).Joined-level-others in
     let goes = going g (past.loop-level-preserved g c).Joined-is_high in
@@ -136,68 +140,97 @@ loop-level-preserved g c =
     let rest = c.reserve.ensures.rest in
     let count = c.count_at.result + c.count_at-in-loop-level.result + c.loop-level.came in
     let most = at-most-greater c.max-most.result c.loop-level.most count c.max-most.ensures in
-    let inside : at < length c.loop-level.rooms.items = omega (arith, i.enough, c.loop-level-test.true) in
+    let inside : at < length c.loop-level.rooms.items = lt_of_lt_of_le c.loop-level-test.true i.enough in
     record {
-      enough = simp length-set i.enough;
+      enough = subst (λ (n : ℕ). c.max-count.result ≤ n) (sym (length-set c.loop-level.rooms.items at own)) i.enough;
       planned = planned-more k at c.loop-level.came c.count_to_take_at-taken.result start both c.count_to_take_at-taken.ensures i.planned;
       cloned = cloned-more g.T.Ord.cmp _ _ c.loop-level.rooms.items at own _ _ inside most.0 i.cloned
           (λ there. record {
-            same = subst (λ (xs : List g.row.T.Denot). SameItems g.T.Ord.cmp (level_at (item_lists c.args.others.now) at) xs) (sym (ap (λ (b : Space g.row.T.Denot). b.clones) rest)) (told.same there);
-            space =
-                omega (arith, told.space there, ap (λ (b : Space g.row.T.Denot). b.clones_space) rest, c.count_at.ensures, c.count_at-in-loop-level.ensures);
-            promoted =
-                omega (arith, most.1, c.count_at.ensures, c.count_at-in-loop-level.ensures);
+            same = subst (λ (b : Space g.row.T.Denot). SameItems g.T.Ord.cmp (level_at (item_lists c.args.others.now) at) b.clones) (sym rest) (told.same there);
+            space = without-coming _ _ _ _ c.loop-level.came _ _ c.count_at.ensures c.count_at-in-loop-level.ensures (ap (λ (b : Space g.row.T.Denot). b.clones_space) rest) (told.space there);
+            promoted = without-coming _ _ _ _ c.loop-level.came _ _ c.count_at.ensures c.count_at-in-loop-level.ensures refl most.1;
           });
-      promoted = λ h l.
-          elim (cases_lt h at) [
-            | inl low ↦ omega (arith, i.promoted h low, most.0)
-            | inr high ↦
-                let place : at ≡ h = omega (arith, l, high) in
-                subst (λ (n : ℕ). (layout_at (steps_layouts k n 0 start) n).count ≤ c.max-most.result) place
-                (omega (arith, ap (λ (l : Layout). l.count) i.planned.next, held, most.1))
-          ];
+      promoted = none-holds-more (λ (h : ℕ). (layout_at (steps_layouts k h 0 start) h).count) at _ _ most.0
+          (subst (λ (l : Layout). l.count ≤ c.max-most.result) (sym i.planned.next) (subst (λ (n : ℕ). n + c.loop-level.came ≤ c.max-most.result) held most.1)) i.promoted;
       own = own-more (λ h. own_space k accuracy (taken_if_full k (layout_at (steps_layouts k h 0 start) h) / 2) (layout_at (steps_layouts k h 0 start) (suc h))) c.loop-level.rooms.items own at inside i.own
           (planned-space k at c.loop-level.came own.merged_space accuracy start both i.planned
-          (own-reserved k c.loop-level.came count c.if-is_high.going own.merged_space accuracy (layout_at both at) (omega (arith, held)) goes c.in_ok-reserve.ensures.space));
+          (own-reserved k c.loop-level.came count c.if-is_high.going own.merged_space accuracy (layout_at both at) (ap (λ (n : ℕ). n + c.loop-level.came) held) goes c.in_ok-reserve.ensures.space));
     }
 
-pub returns-clause-cloned : goal.returns-clause-cloned
-returns-clause-cloned g c =
-    let all : length c.args.others.now ≤ c.max-count.result = omega (arith, c.max-count.ensures) in
-    record {
-      enough = le_trans all c.loop-level.invariant.enough;
-      cloned = λ h l. cloned-grown g.T.Ord.cmp _ _ _ _ _ _ (omega (arith, c.in_ok-reserve_exact.ensures.ok))
-          (c.loop-level.invariant.cloned h (omega (arith, l, all, c.loop-level-test.false)) l);
-    }
+-- the greater of two lengths
+all-lengths : (n m a b both more greater : ℕ) → a ≡ n → b ≡ m → both ≡ max a b → more ≡ both → greater ≡ max n m → (more ≤ greater) × (m ≤ greater)
+all-lengths n m a b both more greater e f x y z = (omega (arith, e, f, x, y, z), omega (arith, z))
 
-pub returns-clause-fit : goal.returns-clause-fit
-returns-clause-fit g c =
+pub returns : goal.returns
+returns g c =
     let k = k_of c.args.levels.now in
     let i = c.loop-level.invariant in
     let n = length-layouts c.args.levels.now in
-    let m = length-layouts c.args.others.now in
     let b = length-joined k (layouts_of c.args.levels.now) (layouts_of c.args.others.now) in
     let more = length-more c.args.more (joined_layouts k (layouts_of c.args.levels.now) (layouts_of c.args.others.now)) (omega (arith, b, n, c.requires.levels.some)) in
+    let lengths = all-lengths _ _ _ _ _ _ _ n (length-layouts c.args.others.now) b more c.max-count.ensures in
+    let done = c.loop-level-test.false in
+    let most : c.loop-level.most ≤ vec_capacity c.reserve_exact.new.self = omega (arith, c.in_ok-reserve_exact.ensures.ok) in
     record {
-      enough = omega (arith, n, m, b, more, c.max-count.ensures, i.enough);
-      promoted = λ h l. omega (arith, c.in_ok-reserve_exact.ensures.ok, c.reserve_exact.ensures.len, c.clear.ensures.items, i.promoted h (omega (arith, l, n, m, b, more, c.max-count.ensures, c.loop-level-test.false)));
-      own = λ h l. i.own h (omega (arith, l, n, m, b, more, c.max-count.ensures, c.loop-level-test.false));
+      empty = c.reserve_exact.ensures.items ∙ c.clear.ensures.items;
+      nothing = c.reserve_exact-2.ensures.items ∙ c.clear-2.ensures.items;
+      above = omega (arith, c.in_ok-reserve_exact-2.ensures.ok, c.capacity.ensures);
+      cloned = record {
+        enough = le_trans lengths.1 i.enough;
+        cloned = λ h l. cloned-grown g.T.Ord.cmp _ _ _ _ _ _ most (i.cloned h (lt_of_lt_of_le l (le_trans lengths.1 done)) l);
+      };
+      fit = record {
+        enough = le_trans lengths.0 i.enough;
+        promoted = λ h l. le_trans (i.promoted h (lt_of_lt_of_le l (le_trans lengths.0 done))) most;
+        own = λ h l. i.own h (lt_of_lt_of_le l (le_trans lengths.0 done));
+      };
     }
 
 pub overflow_add-here : goal.overflow_add-here
 overflow_add-here g c = let f = few g c in grind (arith, common_steps)
 
-pub bounds-others-level : goal.bounds-others-level
-bounds-others-level g c = grind (arith, common_steps)
-
-pub returns-clause-empty : goal.returns-clause-empty
-returns-clause-empty g c = grind (arith, common_steps)
-
-pub returns-clause-nothing : goal.returns-clause-nothing
-returns-clause-nothing g c = grind (arith, common_steps)
-
-pub returns-clause-above : goal.returns-clause-above
-returns-clause-above g c = grind (arith, common_steps)
-
 pub new-blank-requires-clause-legal : goal.new-blank-requires-clause-legal
 new-blank-requires-clause-legal g c = grind arith
+
+pub returns-in_err-for_levels : goal.returns-in_err-for_levels
+returns-in_err-for_levels g c =
+    let f = c.from_residual.ensures.0 in
+    record { empty = IfOk-from_err _ _ f; nothing = IfOk-from_err _ _ f; above = IfOk-from_err _ _ f; cloned = IfOk-from_err _ _ f; fit = IfOk-from_err _ _ f }
+
+pub returns-in_err-take_clones : goal.returns-in_err-take_clones
+returns-in_err-take_clones g c =
+    let f = c.from_residual-in_err-take_clones.ensures.0 in
+    record { empty = IfOk-from_err _ _ f; nothing = IfOk-from_err _ _ f; above = IfOk-from_err _ _ f; cloned = IfOk-from_err _ _ f; fit = IfOk-from_err _ _ f }
+
+pub returns-in_err-reserve : goal.returns-in_err-reserve
+returns-in_err-reserve g c =
+    let f = c.from_residual-in_err-reserve.ensures.0 in
+    record { empty = IfOk-from_err _ _ f; nothing = IfOk-from_err _ _ f; above = IfOk-from_err _ _ f; cloned = IfOk-from_err _ _ f; fit = IfOk-from_err _ _ f }
+
+pub returns-in_err-reserve_exact : goal.returns-in_err-reserve_exact
+returns-in_err-reserve_exact g c =
+    let f = c.from_residual-in_err-reserve_exact.ensures.0 in
+    record { empty = IfOk-from_err _ _ f; nothing = IfOk-from_err _ _ f; above = IfOk-from_err _ _ f; cloned = IfOk-from_err _ _ f; fit = IfOk-from_err _ _ f }
+
+pub returns-in_err-reserve_exact-2 : goal.returns-in_err-reserve_exact-2
+returns-in_err-reserve_exact-2 g c =
+    let f = c.from_residual-in_err-reserve_exact-2.ensures.0 in
+    record { empty = IfOk-from_err _ _ f; nothing = IfOk-from_err _ _ f; above = IfOk-from_err _ _ f; cloned = IfOk-from_err _ _ f; fit = IfOk-from_err _ _ f }
+
+pub bounds-others-level : goal.bounds-others-level
+bounds-others-level g c = c.if-level-others.true
+
+pub take_clones-requires : goal.take_clones-requires
+take_clones-requires g c = record { clones = c.requires.clones }
+
+pub count_to_take_at-taken-requires-clause-levels : goal.count_to_take_at-taken-requires-clause-levels
+count_to_take_at-taken-requires-clause-levels g c = c.requires.levels
+
+pub loop-level-init : goal.loop-level-init
+loop-level-init g c = record {
+  enough = subst (λ (n : ℕ). c.max-count.result ≤ n) c.for_levels.new.buffers.ok.0 c.in_ok-for_levels.ensures;
+  planned = planned-start _ _ _;
+  cloned = λ h l. absurd (not-suc-le-zero l);
+  promoted = λ h l. absurd (not-suc-le-zero l);
+  own = λ h l. absurd (not-suc-le-zero l);
+}
