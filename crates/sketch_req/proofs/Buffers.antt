@@ -47,3 +47,7 @@ module _ {A : Type 0} where
     promoted = λ h within. omega (arith, fit.promoted h within, grows);
     own = λ h within. omega (arith, fit.own h within, ap (λ (spaces : List ℕ). get_or spaces (suc h) 0) merged);
   }
+
+-- the places above one
+pub places-above : (h j : ℕ) → h + 1 ≤ j → (j ≢ h) × (h ≤ j)
+places-above h j low = (λ e. absurd (omega (arith, e, low)), omega arith)

@@ -73,6 +73,11 @@ nominal-small cmp k accuracy ls a =
     let n = nominal-few cmp k accuracy 0 ls a in
     omega (arith, few, n)
 
+-- levels that weigh something
+pub some-weigh : {A : Type 0} (ls : List (Level A)) → 0 < weight_of (layouts_of ls) → 0 < length ls
+some-weigh [] heavy = absurd (omega (arith, heavy))
+some-weigh (l ∷ ls) heavy = omega arith
+
 -- ---- updates by lists
 
 module _ {A : Type 0} (k : ℕ) (accuracy : RankAccuracy) where
@@ -163,10 +168,6 @@ module _ {A S : Type 0} {cmp : A → A → Ordering} (order : IsTotalOrder cmp) 
     pub placed : AreLevels cmp k accuracy 0 ns
     pub left : AreLeft next source after k accuracy ls xs ns
 
-  there : (ls : List (Level A)) → 0 < weight_of (layouts_of ls) → 0 < length ls
-  there [] heavy = absurd (omega (arith, heavy))
-  there (l ∷ ls) heavy = omega arith
-
   -- after one item
   kept-one : (source after : S) (ls ns : List (Level A)) (x clone : A) → 0 < length ls → AreLevels cmp k accuracy 0 ls → retained_of (layouts_of ls) < 4294967295 →
       AreWalkedIfFull cmp bit next source after k accuracy (appended_first ls clone) ns → AreKept source after ls (x ∷ []) ns
@@ -186,7 +187,7 @@ module _ {A S : Type 0} {cmp : A → A → Ordering} (order : IsTotalOrder cmp) 
       let drawn : draws_of (updates_actions k accuracy (layouts_of ls) (x ∷ [])) ≡ draws_of (update_actions k accuracy (layouts_of ls) clone) =
       ap draws_of (append-nil (update_actions k accuracy (layouts_of ls) x)) in
       record {
-        some = there ns (omega (arith, both.weigh));
+        some = some-weigh ns (omega (arith, both.weigh));
         placed = both.placed;
         left = record { weigh = both.weigh; few = few_left; layouts = laid; source_is = both.source_is ∙ sym (ap (after_draws next source) drawn) };
       }
@@ -230,3 +231,13 @@ held-filled cmp k n capacity accuracy ls (x ∷ xs) held few =
 pub first-item : {A : Type 0} (xs : List A) (x : A) → 0 < length xs → x ≡ get_or xs 0 x → take 1 xs ≡ x ∷ []
 first-item [] x some e = absurd (omega (arith, some))
 first-item {A} (y ∷ xs) x some e = ap (λ (z : A). z ∷ []) (sym e)
+
+-- level 0 set to itself
+pub first-kept : {A : Type 0} (ls : List (Level A)) (x new : Level A) → 0 < length ls → x ≡ get_or ls 0 x → new ≡ x → set ls 0 new ≡ ls
+first-kept [] x new some e same = absurd (omega (arith, some))
+first-kept {A} (l ∷ ls) x new some e same = ap (λ (y : Level A). y ∷ ls) (same ∙ e)
+
+-- if an item was appended to level 0, it was appended to the levels as a whole
+pub first-appended : {A : Type 0} (ls : List (Level A)) (first new : Level A) (x : A) → 0 < length ls → first ≡ get_or ls 0 first → new ≡ appended first x → set ls 0 new ≡ appended_first ls x
+first-appended [] first new x some is e = absurd (omega (arith, some))
+first-appended {A} (l ∷ ls) first new x some is e = ap (λ (m : Level A). m ∷ ls) (e ∙ ap (λ (m : Level A). appended m x) is)

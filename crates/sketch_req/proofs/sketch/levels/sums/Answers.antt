@@ -1,9 +1,13 @@
 -- The loop keeps the sums over the levels so far.
-use Rattle.std.proofs.Common.{arith, refl}
+use Rattle.std.proofs.Common.{◌≡◌, ℕ, ◌+◌, arith, refl}
 use Rattle.std.proofs.lemmas.Grind.{common_steps}
 use Rattle.sketch_req.specs.Schedule.{Layout, nominal}
 use Rattle.sketch_req.proofs.Totals.{sum-more, nominal-there}
 use Rattle.sketch_req.proofs.sketch.levels.sums.Goals as goal
+
+-- one more level in a sum
+one-more : (n m all more sum own : ℕ) → more ≡ all + sum → n ≡ all → m ≡ own → own ≡ sum → n + m ≡ more
+one-more n m all more sum own e f h s = grind arith
 
 pub overflow_add-count : goal.overflow_add-count
 overflow_add-count g c = omega (arith, c.requires.few, c.loop-level-test.true, c.loop-level.invariant.few)
@@ -11,22 +15,21 @@ overflow_add-count g c = omega (arith, c.requires.few, c.loop-level-test.true, c
 pub overflow_add-sum : goal.overflow_add-sum
 overflow_add-sum g c = omega (arith, c.requires.few, c.loop-level-test.true, c.loop-level.invariant.small)
 
-pub loop-level-preserved : goal.loop-level-preserved
-loop-level-preserved g c =
-    let i = c.loop-level.invariant in
-    let m = sum-more (λ (l : Layout). l.count) _ _ _ _ refl c.loop-level-test.true c.level-item.is in
-    record {
-      count = omega (arith, m, i.count, c.num_items.ensures);
-      sum = λ k accuracy levels.
-          let s = sum-more (nominal k) _ _ _ _ refl c.loop-level-test.true c.level-item.is in
-          let n = nominal-there g.T.Ord.cmp _ _ _ _ _ _ levels refl c.loop-level-test.true c.level-item.is in
-          omega (arith, s, i.sum k accuracy levels, n.0, c.nominal_capacity.ensures);
-      few = omega (arith, i.few);
-      small = omega (arith, i.small);
-    }
-
 pub returns-clause-retained : goal.returns-clause-retained
 returns-clause-retained g c = grind (arith, common_steps)
 
 pub returns-clause-capacity : goal.returns-clause-capacity
 returns-clause-capacity g c = grind (arith, common_steps)
+
+pub loop-level-preserved : goal.loop-level-preserved
+loop-level-preserved g c =     let i = c.loop-level.invariant in
+    let m = sum-more (λ (l : Layout). l.count) _ _ _ _ refl c.loop-level-test.true c.level-item.is in
+    record {
+      count = one-more _ _ _ _ _ _ m i.count c.num_items.ensures refl;
+      sum = λ k accuracy levels.
+          let s = sum-more (nominal k) _ _ _ _ refl c.loop-level-test.true c.level-item.is in
+          let n = nominal-there g.T.Ord.cmp _ _ _ _ _ _ levels refl c.loop-level-test.true c.level-item.is in
+          one-more _ _ _ _ _ _ s (i.sum k accuracy levels) c.nominal_capacity.ensures n.0;
+      few = omega (arith, i.few);
+      small = omega (arith, i.small);
+    }

@@ -1,10 +1,14 @@
 -- Level 0 takes all clones at once.
-use Rattle.std.proofs.Common.{◌≡◌, ◌<◌, ◌+◌, Equal, arith, length, set}
+use Rattle.std.proofs.Common.{ℕ, List, ap, ◌∙◌, subst, sym, ◌≡◌, ◌<◌, ◌+◌, Equal, arith, length, set}
+use Rattle.std.proofs.lemmas.Result.{IfOk-from_err}
 use Rattle.std.proofs.lemmas.Grind.{common_steps}
 use Rattle.std.proofs.lemmas.List.Elements.{length_all_zip}
+use Rattle.sketch_req.specs.Updates.{HaveClones, all_appended_first}
+use Rattle.sketch_req.specs.Held.{Held, IsHeld, held_of}
+use Rattle.sketch_req.specs.Level.{Level}
 use Rattle.sketch_req.specs.Schedule.{layouts_of, nominal_sum, retained_of}
-use Rattle.sketch_req.specs.Updates.{all_appended_first}
-use Rattle.sketch_req.proofs.TakenInTurn.{first-few, first-filled, held-filled, nominal-small}
+use Rattle.sketch_req.proofs.TakenInTurn.{first-kept, first-few, first-filled, held-filled, nominal-small}
+use Rattle.sketch_req.proofs.Exits.{on-error}
 use Rattle.sketch_req.proofs.sketch.levels.Levels.fill.Goals.{In_ok-append_clones}
 use Rattle.sketch_req.proofs.sketch.levels.Levels.fill.Given.{Over}
 use Rattle.sketch_req.proofs.sketch.levels.Levels.fill.Goals as goal
@@ -27,28 +31,46 @@ filled g c =
     first-filled c.self.inside.compactors.items _ _ h.clones c.self.invariant.some c.index_mut.ensures.value h.new_is
 
 pub invariant_of-self-2 : goal.invariant_of-self-2
-invariant_of-self-2 g c =
-    let s = c.self.inside in
+invariant_of-self-2 g c =     let s = c.self.inside in
     let h = c.in_ok-append_clones.ensures.ok in
-    let room = c.requires.room in
-    let own : retained_of (layouts_of s.compactors.items) + length c.args.items.now < nominal_sum s.k (layouts_of s.compactors.items) = rw (← c.self.view_is) at room in
+    let room = subst (λ (x : Held g.row.T.Denot). retained_of (layouts_of x.levels) + length c.args.items.now < nominal_sum x.k (layouts_of x.levels)) (sym c.self.view_is) c.requires.room in
     let small = nominal-small g.T.Ord.cmp _ _ _ c.self.invariant.placed in
     let n = length_all_zip (λ x y. g.T.Ord.cmp x y ≡ Equal) c.args.items.now h.clones h.same in
-    rw (filled g (past.invariant_of-self-2 g c).In_ok-append_clones, n) (held-filled g.T.Ord.cmp _ _ _ _ s.compactors.items h.clones c.self.invariant (omega (arith, own, small, n)))
-
-pub returns-clause-filled : goal.returns-clause-filled
-returns-clause-filled g c =
-    let h = c.in_ok-append_clones.ensures.ok in
-    rw (← c.self.view_is) (record { clones = h.clones; same = h.same; levels_are = filled g (past.returns-clause-filled g c).In_ok-append_clones })
-
-pub invariant_of-self : goal.invariant_of-self
-invariant_of-self g c = grind (arith, common_steps)
-
-pub returns-in_err-append_clones-clause-err : goal.returns-in_err-append_clones-clause-err
-returns-in_err-append_clones-clause-err g c = grind (arith, common_steps)
-
-pub returns-clause-kept : goal.returns-clause-kept
-returns-clause-kept g c = grind (arith, common_steps)
+    subst (λ (ls : List (Level g.row.T.Denot)). IsHeld g.T.Ord.cmp (s.num_retained + length c.args.items.now) s.capacity (held_of s.k s.rank_accuracy ls))
+    (sym (filled g (past.invariant_of-self-2 g c).In_ok-append_clones))
+    (subst (λ (m : ℕ). IsHeld g.T.Ord.cmp (s.num_retained + m) s.capacity (held_of s.k s.rank_accuracy (all_appended_first s.compactors.items h.clones))) (sym n)
+    (held-filled g.T.Ord.cmp _ _ _ _ s.compactors.items h.clones c.self.invariant (omega (arith, room, small, n))))
 
 pub overflow_add-self : goal.overflow_add-self
 overflow_add-self g c = grind (arith, common_steps)
+
+pub returns : goal.returns
+returns g c =     let h = c.in_ok-append_clones.ensures.ok in
+    let levels = set c.self.inside.compactors.items 0 c.append_clones.new.self in
+    record {
+      kept = ap (λ (h : Held g.row.T.Denot). held_of h.k h.accuracy levels) c.self.view_is;
+      filled = subst (λ (s : Held g.row.T.Denot). HaveClones g.T.Ord.cmp s.levels c.args.items.now levels) c.self.view_is
+          (record { clones = h.clones; same = h.same; levels_are = filled g (past.returns g c).In_ok-append_clones });
+      err = tt;
+    }
+
+pub returns-in_err-append_clones : goal.returns-in_err-append_clones
+returns-in_err-append_clones g c =     let s = c.self.inside in
+    let same = first-kept s.compactors.items _ _ c.self.invariant.some c.index_mut.ensures.value c.in_err-append_clones.ensures.err in
+    let r = c.from_residual.result in
+    record {
+      kept = ap (λ (h : Held g.row.T.Denot). held_of h.k h.accuracy (set s.compactors.items 0 c.append_clones.new.self)) c.self.view_is;
+      filled = IfOk-from_err r _ c.from_residual.ensures.0;
+      err = on-error r (ap (held_of s.k s.rank_accuracy) same ∙ c.self.view_is);
+    }
+
+pub invariant_of-self : goal.invariant_of-self
+invariant_of-self g c =     let s = c.self.inside in
+    let same = first-kept s.compactors.items _ _ c.self.invariant.some c.index_mut.ensures.value c.in_err-append_clones.ensures.err in
+    subst (λ (ls : List (Level g.row.T.Denot)). IsHeld g.T.Ord.cmp s.num_retained s.capacity (held_of s.k s.rank_accuracy ls)) (sym same) c.self.invariant
+
+pub append_clones-requires-clause-some : goal.append_clones-requires-clause-some
+append_clones-requires-clause-some g c = c.requires.some
+
+pub append_clones-requires-clause-clones : goal.append_clones-requires-clause-clones
+append_clones-requires-clause-clones g c = c.requires.clones

@@ -1,13 +1,17 @@
 -- The levels themselves take the items at once, or a copy takes them in turn.
-use Rattle.std.proofs.Common.{◌≡◌, ◌∙◌, arith, ap}
+use Rattle.std.proofs.Common.{Bool, List, Ordering, refl, subst, sym, ◌≡◌, ◌∙◌, arith, ap}
+use Rattle.std.proofs.lemmas.Result.{IfOk-from_err}
 use Rattle.std.proofs.lemmas.Grind.{common_steps}
 use Rattle.std.proofs.lemmas.List.Elements.{length_all_zip}
+use Rattle.std.specs.List.{AllZip}
 use Rattle.sketch_base.specs.Trace.{draws_of}
+use Rattle.sketch_req.specs.Held.{IsHeld, held_of, Held}
+use Rattle.sketch_req.specs.Updates.{AreAllTaken, AreTakenInTurn, IsDrawnFrom}
+use Rattle.sketch_req.specs.Level.{Level}
 use Rattle.sketch_req.specs.Copy.{IsLevelCopy}
-use Rattle.sketch_req.specs.Held.{Held}
 use Rattle.sketch_req.specs.Schedule.{layouts_of, retained_of, weight_of}
 use Rattle.sketch_req.specs.ScheduleLaws.{updates_actions}
-use Rattle.sketch_req.specs.Updates.{IsDrawnFrom}
+use Rattle.sketch_req.proofs.Exits.{on-error, error-known, error-passed}
 use Rattle.sketch_req.proofs.Copies.{layouts-copied, placed-copied}
 use Rattle.sketch_req.proofs.TakenInTurn.{taken-filled}
 use Rattle.sketch_req.proofs.UpdatesInTurn.{levels-itself}
@@ -17,25 +21,28 @@ use Rattle.sketch_req.proofs.sketch.levels.Levels.take_all.Goals.{After-new-copy
 use Rattle.sketch_req.proofs.sketch.levels.Levels.take_all.Goals as goal
 use Rattle.sketch_req.proofs.sketch.levels.Levels.take_all.Goals.at as past
 
+-- copies of levels that took in items are levels that took them in
+copied-taken : {A S : Type 0} (cmp : A → A → Ordering) (bit : S → Bool) (next : S → S) (source after : S) (own s copy : Held A) (items : List A) (copies levels ns : List (Level A)) → own ≡ s →
+    copy ≡ record own { levels = copies } → AllZip (IsLevelCopy cmp) own.levels copies → AreTakenInTurn cmp bit next source after copy.k copy.accuracy copy.levels items ns → levels ≡ ns →
+    AreAllTaken cmp bit next source after s.k s.accuracy s.levels items levels
+copied-taken cmp bit next source after own s copy items copies levels ns o c are taken same =
+    subst (λ (h : Held _). AreAllTaken cmp bit next source after h.k h.accuracy h.levels items levels) o (record {
+      copies = copies;
+      are_copies = are;
+      taken = subst (λ (ls : List (Level _)). AreTakenInTurn cmp bit next source after own.k own.accuracy copies items ls) (sym same)
+          (subst (λ (h : Held _). AreTakenInTurn cmp bit next source after h.k h.accuracy h.levels items ns) c taken);
+    })
+
+-- the draws of updates, by what they depend on
+same-draws : {A S : Type 0} (next : S → S) (source after : S) (items : List A) (s t : Held A) → t.k ≡ s.k → t.accuracy ≡ s.accuracy → layouts_of t.levels ≡ layouts_of s.levels →
+    IsDrawnFrom next (draws_of (updates_actions t.k t.accuracy (layouts_of t.levels) items)) source after →
+    IsDrawnFrom next (draws_of (updates_actions s.k s.accuracy (layouts_of s.levels) items)) source after
+same-draws next source after items s t k accuracy same drawn = rw (← k, ← accuracy, ← same) drawn
+
 pub overflow_add-self-inside : goal.overflow_add-self-inside
 overflow_add-self-inside g c =
     let fits = c.requires.fits in
     omega (arith, rw (← c.self.view_is) at fits, retained-weight (layouts_of c.self.inside.compactors.items), c.self.invariant.retained_is)
-
-pub returns-then-self-items-clause-taken : goal.returns-then-self-items-clause-taken
-returns-then-self-items-clause-taken g c =
-    let s = c.self.inside in
-    let h = c.in_ok-fill.ensures.filled in
-    let levels = h.levels_are in
-    let own = rw (← c.self.view_is) at levels in
-    let placed = c.self.invariant.placed in
-    rw (← c.self.view_is) (record {
-      copies = s.compactors.items;
-      are_copies = levels-itself g.met.T.Ord.total s.k s.rank_accuracy 0 s.compactors.items c.self.invariant.placed;
-      taken = rw own (taken-filled g.met.T.Ord.total g.B.RandomBits.bit g.B.RandomBits.next s.k s.rank_accuracy c.args.coins.now s.compactors.items _ h.clones c.self.invariant.some placed
-          h.same
-          (omega (arith, c.if-self-items.true, c.self.invariant.retained_is, c.self.invariant.capacity_is)));
-    })
 
 pub new-copy-requires-clause-some : goal.new-copy-requires-clause-some
 new-copy-requires-clause-some g c = omega (arith, length_all_zip (IsLevelCopy g.T.Ord.cmp) _ _ c.in_ok-copy_levels.ensures, c.self.invariant.some)
@@ -60,23 +67,6 @@ take_in_turn-requires-clause-few g c =
     let same = copied g (past.take_in_turn-requires-clause-few g c).After-new-copy in
     omega (arith, c.requires.few, ap retained_of same)
 
-pub returns-in_err-take_in_turn-clause-drawn : goal.returns-in_err-take_in_turn-clause-drawn
-returns-in_err-take_in_turn-clause-drawn g c =
-    let s = c.args.self.now in
-    let same = copied g (past.returns-in_err-take_in_turn-clause-drawn g c).After-new-copy in
-    let k : c.new-copy.result.k ≡ s.k = ap (λ (h : Held g.row.T.Denot). h.k) c.new-copy.ensures ∙ ap (λ (h : Held g.row.T.Denot). h.k) c.self.view_is in
-    let accuracy = ap (λ (h : Held g.row.T.Denot). h.accuracy) c.new-copy.ensures ∙ ap (λ (h : Held g.row.T.Denot). h.accuracy) c.self.view_is in
-    let theirs = c.in_err-take_in_turn.ensures.drawn in
-    let drawn : IsDrawnFrom g.B.RandomBits.next (draws_of (updates_actions s.k s.accuracy (layouts_of s.levels) c.args.items.now)) c.args.coins.now c.take_in_turn.new.coins =
-    rw (k, accuracy, same) at theirs in
-    grind (arith, common_steps)
-
-pub returns-clause-kept : goal.returns-clause-kept
-returns-clause-kept g c = grind arith
-
-pub returns-clause-taken : goal.returns-clause-taken
-returns-clause-taken g c = grind (arith, common_steps)
-
 pub fill-requires-clause-room : goal.fill-requires-clause-room
 fill-requires-clause-room g c = grind (arith, common_steps)
 
@@ -86,14 +76,78 @@ invariant_of-self g c = grind arith
 pub fill-requires-clause-some : goal.fill-requires-clause-some
 fill-requires-clause-some g c = grind arith
 
-pub returns-clause-drawn : goal.returns-clause-drawn
-returns-clause-drawn g c = grind arith
-
 pub same-self-in_err-take_in_turn : goal.same-self-in_err-take_in_turn
 same-self-in_err-take_in_turn g c = grind arith
 
-pub returns-clause-err : goal.returns-clause-err
-returns-clause-err g c = grind arith
+pub returns : goal.returns
+returns g c =     let levels = c.copy.inside.compactors.items in
+    record {
+      kept = ap (λ (h : Held g.row.T.Denot). held_of h.k h.accuracy levels) (c.copy.view_is ∙ c.in_ok-take_in_turn.ensures.kept)
+          ∙ (ap (λ (h : Held g.row.T.Denot). held_of h.k h.accuracy levels) c.new-copy.ensures ∙ ap (λ (h : Held g.row.T.Denot). held_of h.k h.accuracy levels) c.self.view_is);
+      taken = copied-taken g.T.Ord.cmp g.B.RandomBits.bit g.B.RandomBits.next c.args.coins.now c.take_in_turn.new.coins _ _ _ c.args.items.now _ levels _ c.self.view_is c.new-copy.ensures
+          c.in_ok-copy_levels.ensures c.in_ok-take_in_turn.ensures.taken (ap (λ (h : Held g.row.T.Denot). h.levels) c.copy.view_is);
+      err = tt;
+      drawn = tt;
+      memory = tt;
+    }
 
-pub returns-clause-memory : goal.returns-clause-memory
-returns-clause-memory g c = grind arith
+pub returns-then-self-items : goal.returns-then-self-items
+returns-then-self-items g c =     let s = c.args.self.now in
+    let held = subst (IsHeld g.T.Ord.cmp c.self.inside.num_retained c.self.inside.capacity) c.self.view_is c.self.invariant in
+    let h = c.in_ok-fill.ensures.filled in
+    record {
+      kept = c.in_ok-fill.ensures.kept;
+      taken = record {
+        copies = s.levels;
+        are_copies = levels-itself g.met.T.Ord.total s.k s.accuracy 0 s.levels held.placed;
+        taken = subst (λ (ls : List (Level g.row.T.Denot)). AreTakenInTurn g.T.Ord.cmp g.B.RandomBits.bit g.B.RandomBits.next c.args.coins.now c.args.coins.now s.k s.accuracy s.levels c.args.items.now ls)
+            (sym h.levels_are)
+            (taken-filled g.met.T.Ord.total g.B.RandomBits.bit g.B.RandomBits.next s.k s.accuracy c.args.coins.now s.levels _ h.clones held.some held.placed h.same
+            (omega (arith, c.if-self-items.true, held.retained_is, held.capacity_is)));
+      };
+      err = tt;
+      drawn = tt;
+      memory = tt;
+    }
+
+pub returns-in_err-fill : goal.returns-in_err-fill
+returns-in_err-fill g c =     let r = c.from_residual.result in
+    let (fails, is) = c.from_residual.ensures in
+    record {
+      kept = c.in_err-fill.ensures.kept;
+      taken = IfOk-from_err r _ fails;
+      err = on-error r c.in_err-fill.ensures.err;
+      drawn = on-error r (record { count = 0; few = omega arith; after_is = refl });
+      memory = error-known r _ is;
+    }
+
+pub returns-in_err-take_in_turn : goal.returns-in_err-take_in_turn
+returns-in_err-take_in_turn g c =     let same = copied g (past.returns-in_err-take_in_turn g c).After-new-copy in
+    let k = ap (λ (h : Held g.row.T.Denot). h.k) c.new-copy.ensures ∙ ap (λ (h : Held g.row.T.Denot). h.k) c.self.view_is in
+    let accuracy = ap (λ (h : Held g.row.T.Denot). h.accuracy) c.new-copy.ensures ∙ ap (λ (h : Held g.row.T.Denot). h.accuracy) c.self.view_is in
+    let r = c.from_residual-in_err-take_in_turn.result in
+    let (fails, is) = c.from_residual-in_err-take_in_turn.ensures in
+    record {
+      kept = refl;
+      taken = IfOk-from_err r _ fails;
+      err = on-error r refl;
+      drawn = on-error r (same-draws g.B.RandomBits.next c.args.coins.now c.take_in_turn.new.coins c.args.items.now c.args.self.now c.new-copy.result k accuracy same c.in_err-take_in_turn.ensures.drawn);
+      memory = error-passed r is c.in_err-take_in_turn.ensures.memory;
+    }
+
+pub returns-in_err-copy_levels : goal.returns-in_err-copy_levels
+returns-in_err-copy_levels g c =     let r = c.from_residual-in_err-copy_levels.result in
+    let (fails, is) = c.from_residual-in_err-copy_levels.ensures in
+    record {
+      kept = refl;
+      taken = IfOk-from_err r _ fails;
+      err = on-error r refl;
+      drawn = on-error r (record { count = 0; few = omega arith; after_is = refl });
+      memory = error-known r _ is;
+    }
+
+pub take_in_turn-requires-clause-clones : goal.take_in_turn-requires-clause-clones
+take_in_turn-requires-clause-clones g c = c.requires.clones
+
+pub fill-requires-clause-clones : goal.fill-requires-clause-clones
+fill-requires-clause-clones g c = c.requires.clones

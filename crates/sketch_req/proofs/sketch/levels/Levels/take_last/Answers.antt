@@ -1,11 +1,15 @@
-use Rattle.std.proofs.Common.{◌≡◌, ◌∙◌, ◌<◌, true, false, ap, arith, le-leb}
-use Rattle.std.proofs.lemmas.Grind.{common_steps}
+use Rattle.std.proofs.Common.{ℕ, List, refl, subst, sym, ◌≡◌, ◌∙◌, true, false, ap, arith, le-leb}
+use Rattle.std.proofs.lemmas.Result.{IfOk-from_err}
 use Rattle.std.proofs.lemmas.Bool.{lt-leb}
-use Rattle.sketch_req.specs.Held.{Held}
-use Rattle.sketch_req.specs.Schedule.{layouts_of, are_full, retained_of}
-use Rattle.sketch_req.specs.Walk.{AreWalkedOver, appended_first}
-use Rattle.sketch_req.proofs.Held.{few-levels, own-levels}
-use Rattle.sketch_req.proofs.UpdatedLevels.{acted-spare, acted-walk, nominal-appended, placed-appended, retained-appended}
+use Rattle.sketch_req.specs.declared.RankAccuracy.{RankAccuracy}
+use Rattle.sketch_req.specs.Walk.{AreWalkedIfFull, k_of, AreWalkedOver, appended_first}
+use Rattle.sketch_req.specs.Held.{IsHeld, held_of, Held}
+use Rattle.sketch_req.specs.Level.{Level}
+use Rattle.sketch_req.specs.Schedule.{layouts_of, are_full}
+use Rattle.sketch_req.proofs.TakenInTurn.{some-weigh}
+use Rattle.sketch_req.proofs.UpdatedLevels.{weight-appended, acted-spare, acted-walk, nominal-appended, placed-appended, retained-appended}
+use Rattle.sketch_req.proofs.Held.{held-sums, few-levels, own-levels}
+use Rattle.sketch_req.proofs.Exits.{on-error, error-known, error-passed}
 use Rattle.sketch_req.proofs.sketch.levels.Levels.take_last.Given.{Over}
 use Rattle.sketch_req.proofs.sketch.levels.Levels.take_last.Goals.{In_ok-append_and_walk}
 use Rattle.sketch_req.proofs.sketch.levels.Levels.take_last.Goals as goal
@@ -16,47 +20,17 @@ walked : (g : Over) (c : In_ok-append_and_walk g) → let s = c.self.inside in
     AreWalkedOver g.T.Ord.cmp g.B.RandomBits.bit g.B.RandomBits.next c.args.coins.now c.append_and_walk.new.coins s.k s.rank_accuracy
     (appended_first s.compactors.items c.args.item) c.append_and_walk.new.levels.items
 walked g c =
+    let s = c.self.inside in
+    let ls = appended_first s.compactors.items c.args.item in
     let own = own-levels g.T.Ord.cmp _ _ _ c.self.invariant.some c.self.invariant.placed in
-    let acted = c.in_ok-append_and_walk.ensures.acted in
-    rw (own.k_is, own.accuracy_is) at acted
+    subst (λ (n : ℕ). AreWalkedOver g.T.Ord.cmp g.B.RandomBits.bit g.B.RandomBits.next c.args.coins.now c.append_and_walk.new.coins n s.rank_accuracy ls c.append_and_walk.new.levels.items) own.k_is
+    (subst (λ (a : RankAccuracy). AreWalkedOver g.T.Ord.cmp g.B.RandomBits.bit g.B.RandomBits.next c.args.coins.now c.append_and_walk.new.coins (k_of s.compactors.items) a ls
+    c.append_and_walk.new.levels.items) own.accuracy_is c.in_ok-append_and_walk.ensures.acted)
 
 pub sums-requires : goal.sums-requires
 sums-requires g c =
     let walked = walked g (past.sums-requires g c).In_ok-append_and_walk in
     record { few = few-levels g.T.Ord.cmp _ _ _ _ walked.acted.placed (c.as_slice.ensures.value ∙ c.give_back.ensures) }
-
-pub returns-clause-acted : goal.returns-clause-acted
-returns-clause-acted g c =
-    let s = c.self.inside in
-    let more = retained-appended s.compactors.items c.args.item c.self.invariant.some in
-    let same = nominal-appended s.k s.compactors.items c.args.item in
-    let full : are_full s.k (layouts_of (appended_first s.compactors.items c.args.item)) ≡ true =
-    le-leb _ _ (omega (arith, more, same, c.self.invariant.retained_is, c.self.invariant.capacity_is, c.if-self.false)) in
-    rw (c.give_back.ensures, ← c.self.view_is) (acted-walk _ _ _ _ _ _ _ _ full (walked g (past.returns-clause-acted g c).In_ok-append_and_walk))
-
-pub returns-then-self-clause-acted : goal.returns-then-self-clause-acted
-returns-then-self-clause-acted g c =
-    let s = c.self.inside in
-    let more = retained-appended s.compactors.items c.args.item c.self.invariant.some in
-    let same = nominal-appended s.k s.compactors.items c.args.item in
-    let spare : are_full s.k (layouts_of (appended_first s.compactors.items c.args.item)) ≡ false =
-    lt-leb _ _ (omega (arith, more, same, c.self.invariant.retained_is, c.self.invariant.capacity_is, c.if-self.true)) in
-    let few : retained_of (layouts_of s.compactors.items) < 4294967295 = rw (← c.self.view_is) at (c.requires.few) in
-    let acted = acted-spare g.met.T.Ord.total g.B.RandomBits.bit g.B.RandomBits.next c.args.coins.now s.k s.rank_accuracy (appended_first s.compactors.items c.args.item)
-    (placed-appended g.T.Ord.cmp s.k s.rank_accuracy s.compactors.items c.args.item c.self.invariant.placed few) spare in
-    rw (ap (λ (h : Held g.row.T.Denot). h.levels) c.in_ok-put.ensures.ok, ← c.self.view_is) acted
-
-pub invariant_of-self-2 : goal.invariant_of-self-2
-invariant_of-self-2 g c = grind (arith, common_steps)
-
-pub returns-then-self-clause-kept : goal.returns-then-self-clause-kept
-returns-then-self-clause-kept g c = grind (arith, common_steps)
-
-pub invariant_of-self : goal.invariant_of-self
-invariant_of-self g c = grind (arith, common_steps)
-
-pub returns-clause-kept : goal.returns-clause-kept
-returns-clause-kept g c = grind (arith, common_steps)
 
 pub overflow_add-self-inside : goal.overflow_add-self-inside
 overflow_add-self-inside g c = grind arith
@@ -75,3 +49,75 @@ put-requires g c = grind arith
 
 pub overflow_sub-max : goal.overflow_sub-max
 overflow_sub-max g c = grind arith
+
+pub returns : goal.returns
+returns g c =     let s = c.self.inside in
+    let levels = c.give_back.new.levels.items in
+    let more = retained-appended s.compactors.items c.args.item c.self.invariant.some in
+    let same = nominal-appended s.k s.compactors.items c.args.item in
+    let full : are_full s.k (layouts_of (appended_first s.compactors.items c.args.item)) ≡ true =
+    le-leb _ _ (omega (arith, more, same, c.self.invariant.retained_is, c.self.invariant.capacity_is, c.if-self.false)) in
+    let walked = walked g (past.returns g c).In_ok-append_and_walk in
+    record {
+      kept = ap (λ (h : Held g.row.T.Denot). held_of h.k h.accuracy levels) c.self.view_is;
+      acted = subst (λ (h : Held g.row.T.Denot). AreWalkedIfFull g.T.Ord.cmp g.B.RandomBits.bit g.B.RandomBits.next c.args.coins.now c.append_and_walk.new.coins h.k h.accuracy
+          (appended_first h.levels c.args.item) levels) c.self.view_is (subst (λ (ls : List (Level g.row.T.Denot)).
+          AreWalkedIfFull g.T.Ord.cmp g.B.RandomBits.bit g.B.RandomBits.next c.args.coins.now c.append_and_walk.new.coins s.k s.rank_accuracy (appended_first s.compactors.items c.args.item) ls)
+          (sym c.give_back.ensures) (acted-walk _ _ _ _ _ _ _ _ full walked));
+      err = tt;
+      memory = tt;
+    }
+
+pub returns-then-self : goal.returns-then-self
+returns-then-self g c =     let s = c.args.self.now in
+    let held = subst (IsHeld g.T.Ord.cmp c.self.inside.num_retained c.self.inside.capacity) c.self.view_is c.self.invariant in
+    let more = retained-appended s.levels c.args.item held.some in
+    let same = nominal-appended s.k s.levels c.args.item in
+    let spare : are_full s.k (layouts_of (appended_first s.levels c.args.item)) ≡ false = lt-leb _ _ (omega (arith, more, same, held.retained_is, held.capacity_is, c.if-self.true)) in
+    let put = c.in_ok-put.ensures.ok in
+    let levels = sym (ap (λ (h : Held g.row.T.Denot). h.levels) put) in
+    record {
+      kept = put ∙ ap (held_of s.k s.accuracy) levels;
+      acted = subst (AreWalkedIfFull g.T.Ord.cmp g.B.RandomBits.bit g.B.RandomBits.next c.args.coins.now c.args.coins.now s.k s.accuracy (appended_first s.levels c.args.item)) levels
+          (acted-spare g.met.T.Ord.total g.B.RandomBits.bit g.B.RandomBits.next c.args.coins.now s.k s.accuracy (appended_first s.levels c.args.item)
+          (placed-appended g.T.Ord.cmp s.k s.accuracy s.levels c.args.item held.placed c.requires.few) spare);
+      err = tt;
+      memory = tt;
+    }
+
+pub returns-in_err-append_and_walk : goal.returns-in_err-append_and_walk
+returns-in_err-append_and_walk g c =     let r = c.from_residual-in_err-append_and_walk.result in
+    let (fails, is) = c.from_residual-in_err-append_and_walk.ensures in
+    let (levels, coins) = c.in_err-append_and_walk.ensures.err in
+    record {
+      kept = ap (λ (h : Held g.row.T.Denot). held_of h.k h.accuracy c.append_and_walk.new.levels.items) c.self.view_is;
+      acted = IfOk-from_err r _ fails;
+      err = on-error r (ap (held_of c.self.inside.k c.self.inside.rank_accuracy) levels ∙ c.self.view_is, coins);
+      memory = error-passed r is c.in_err-append_and_walk.ensures.memory;
+    }
+
+pub returns-in_err-put : goal.returns-in_err-put
+returns-in_err-put g c =     let r = c.from_residual.result in
+    let (fails, is) = c.from_residual.ensures in
+    let same = c.in_err-put.ensures.err in
+    record {
+      kept = same ∙ ap (held_of c.args.self.now.k c.args.self.now.accuracy) (sym (ap (λ (h : Held g.row.T.Denot). h.levels) same));
+      acted = IfOk-from_err r _ fails;
+      err = on-error r (same, refl);
+      memory = error-known r _ is;
+    }
+
+pub invariant_of-self-2 : goal.invariant_of-self-2
+invariant_of-self-2 g c =     let s = c.self.inside in
+    let walked = walked g (past.invariant_of-self-2 g c).In_ok-append_and_walk in
+    let more = weight-appended s.compactors.items c.args.item c.self.invariant.some in
+    let some = some-weigh _ (omega (arith, walked.acted.weigh, more)) in
+    subst (λ (ls : List (Level g.row.T.Denot)). IsHeld g.T.Ord.cmp c.sums.result.0 c.sums.result.1 (held_of s.k s.rank_accuracy ls)) (sym c.give_back.ensures)
+    (held-sums g.T.Ord.cmp _ _ _ _ _ _ some walked.acted.placed (c.as_slice.ensures.value ∙ c.give_back.ensures) c.sums.ensures.retained c.sums.ensures.capacity)
+
+pub invariant_of-self : goal.invariant_of-self
+invariant_of-self g c =     let s = c.self.inside in
+    subst (λ (ls : List (Level g.row.T.Denot)). IsHeld g.T.Ord.cmp s.num_retained s.capacity (held_of s.k s.rank_accuracy ls)) (sym c.in_err-append_and_walk.ensures.err.0) c.self.invariant
+
+pub append_and_walk-requires-clause-clones : goal.append_and_walk-requires-clause-clones
+append_and_walk-requires-clause-clones g c = c.requires.clones

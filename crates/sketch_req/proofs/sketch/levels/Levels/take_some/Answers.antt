@@ -1,5 +1,9 @@
 -- A part of the items, or one of them with its walk.
-use Rattle.std.proofs.Common.{◌≡◌, Equal, arith, take}
+use Rattle.sketch_req.specs.Level.{Level}
+use Rattle.sketch_req.specs.Held.{IsHeld}
+use Rattle.std.proofs.lemmas.Result.{IfOk-from_err}
+use Rattle.sketch_req.proofs.Exits.{on-error, error-known, error-passed}
+use Rattle.std.proofs.Common.{◌≡◌, Equal, List, arith, refl, subst, sym, take}
 use Rattle.std.proofs.lemmas.Grind.{common_steps}
 use Rattle.std.proofs.lemmas.List.{length-take}
 use Rattle.sketch_req.specs.Updates.{AreTakenInTurn}
@@ -7,53 +11,29 @@ use Rattle.sketch_req.proofs.TakenInTurn.{are-kept, first-item, taken-filled, ta
 use Rattle.sketch_req.proofs.sketch.levels.Levels.take_some.Goals.{In_ok-fill, In_ok-take_last}
 use Rattle.sketch_req.proofs.sketch.levels.Levels.take_some.Given.{Over}
 use Rattle.sketch_req.proofs.sketch.levels.Levels.take_some.Goals as goal
-use Rattle.sketch_req.proofs.sketch.levels.Levels.take_some.Goals.at as past
 
 -- the part
-part : (g : Over) (c : In_ok-fill g) → let s = c.self.inside in
-    AreTakenInTurn g.T.Ord.cmp g.B.RandomBits.bit g.B.RandomBits.next c.args.coins.now c.args.coins.now s.k s.rank_accuracy s.compactors.items
-    (take c.min-count.result c.args.items.now) c.fill.new.self.levels
+part : (g : Over) (c : In_ok-fill g) → let s = c.args.self.now in
+    AreTakenInTurn g.T.Ord.cmp g.B.RandomBits.bit g.B.RandomBits.next c.args.coins.now c.args.coins.now s.k s.accuracy s.levels (take c.min-count.result c.args.items.now) c.fill.new.self.levels
 part g c =
-    let s = c.self.inside in
+    let s = c.args.self.now in
     let h = c.in_ok-fill.ensures.filled in
+    let held = subst (IsHeld g.T.Ord.cmp c.self.inside.num_retained c.self.inside.capacity) c.self.view_is c.self.invariant in
     let few = length-take c.min-count.result c.args.items.now in
-    let levels = h.levels_are in
-    let own = rw (← c.self.view_is) at levels in
-    rw own (taken-filled g.met.T.Ord.total g.B.RandomBits.bit g.B.RandomBits.next s.k s.rank_accuracy c.args.coins.now s.compactors.items _ h.clones c.self.invariant.some c.self.invariant.placed
-    h.same
-    (omega (arith, few, c.saturating_sub-room.ensures, c.min-count.ensures, c.if-room-eq0.false, c.self.invariant.retained_is, c.self.invariant.capacity_is)))
-
-pub returns-clause-taken : goal.returns-clause-taken
-returns-clause-taken g c = rw (← c.self.view_is) (part g (past.returns-clause-taken g c).In_ok-fill)
-
-pub returns-clause-left : goal.returns-clause-left
-returns-clause-left g c =
-    let few = c.requires.few in
-    rw (← c.self.view_is) ((are-kept g.met.T.Ord.total g.B.RandomBits.bit g.B.RandomBits.next _ _ _ _ _ _ _ c.self.invariant.some c.self.invariant.placed (rw (← c.self.view_is) at few)
-    (part g (past.returns-clause-left g c).In_ok-fill)).left)
+    subst (λ (ls : List (Level g.row.T.Denot)). AreTakenInTurn g.T.Ord.cmp g.B.RandomBits.bit g.B.RandomBits.next c.args.coins.now c.args.coins.now s.k s.accuracy s.levels
+    (take c.min-count.result c.args.items.now) ls) (sym h.levels_are)
+    (taken-filled g.met.T.Ord.total g.B.RandomBits.bit g.B.RandomBits.next s.k s.accuracy c.args.coins.now s.levels _ h.clones held.some held.placed h.same
+    (omega (arith, few, c.saturating_sub-room.ensures, c.min-count.ensures, c.if-room-eq0.false, held.retained_is, held.capacity_is)))
 
 -- one of them
-one : (g : Over) (c : In_ok-take_last g) → let s = c.self.inside in
-    AreTakenInTurn g.T.Ord.cmp g.B.RandomBits.bit g.B.RandomBits.next c.args.coins.now c.take_last.new.coins s.k s.rank_accuracy s.compactors.items (take 1 c.args.items.now)
-    c.take_last.new.self.levels
+one : (g : Over) (c : In_ok-take_last g) → let s = c.args.self.now in
+    AreTakenInTurn g.T.Ord.cmp g.B.RandomBits.bit g.B.RandomBits.next c.args.coins.now c.take_last.new.coins s.k s.accuracy s.levels (take 1 c.args.items.now) c.take_last.new.self.levels
 one g c =
-    let s = c.self.inside in
+    let s = c.args.self.now in
     let same : g.T.Ord.cmp c.index-items-0.result c.in_ok-clone.field-0 ≡ Equal = c.requires.clones _ _ c.in_ok-clone.ensures.cases in
-    let acted = c.in_ok-take_last.ensures.acted in
-    rw (first-item c.args.items.now c.index-items-0.result c.requires.some c.index-items-0.is)
-    (taken-one g.met.T.Ord.total g.B.RandomBits.bit g.B.RandomBits.next s.k s.rank_accuracy _ _ s.compactors.items _ c.index-items-0.result c.in_ok-clone.field-0 same (rw (← c.self.view_is) at acted))
-
-pub returns-then-room-eq0-clause-left : goal.returns-then-room-eq0-clause-left
-returns-then-room-eq0-clause-left g c =
-    let few = c.requires.few in
-    rw (← c.self.view_is) ((are-kept g.met.T.Ord.total g.B.RandomBits.bit g.B.RandomBits.next _ _ _ _ _ _ _ c.self.invariant.some c.self.invariant.placed (rw (← c.self.view_is) at few)
-    (one g (past.returns-then-room-eq0-clause-left g c).In_ok-take_last)).left)
-
-pub returns-then-room-eq0-clause-taken : goal.returns-then-room-eq0-clause-taken
-returns-then-room-eq0-clause-taken g c = grind arith
-
-pub fill-requires-clause-room : goal.fill-requires-clause-room
-fill-requires-clause-room g c = grind (arith, common_steps)
+    subst (λ (xs : List g.row.T.Denot). AreTakenInTurn g.T.Ord.cmp g.B.RandomBits.bit g.B.RandomBits.next c.args.coins.now c.take_last.new.coins s.k s.accuracy s.levels xs
+    c.take_last.new.self.levels) (sym (first-item c.args.items.now c.index-items-0.result c.requires.some c.index-items-0.is))
+    (taken-one g.met.T.Ord.total g.B.RandomBits.bit g.B.RandomBits.next s.k s.accuracy _ _ s.levels _ c.index-items-0.result c.in_ok-clone.field-0 same c.in_ok-take_last.ensures.acted)
 
 pub slice_bounds-fill-end : goal.slice_bounds-fill-end
 slice_bounds-fill-end g c = grind (arith, common_steps)
@@ -61,11 +41,89 @@ slice_bounds-fill-end g c = grind (arith, common_steps)
 pub overflow_add-self-inside : goal.overflow_add-self-inside
 overflow_add-self-inside g c = grind arith
 
-pub returns-then-room-eq0-clause-kept : goal.returns-then-room-eq0-clause-kept
-returns-then-room-eq0-clause-kept g c = grind arith
+pub returns : goal.returns
+returns g c =     let s = c.args.self.now in
+    let held = subst (IsHeld g.T.Ord.cmp c.self.inside.num_retained c.self.inside.capacity) c.self.view_is c.self.invariant in
+    let part = part g c in
+    record {
+      kept = c.in_ok-fill.ensures.kept;
+      some = omega (arith, c.min-count.ensures, c.if-room-eq0.false, c.requires.some);
+      within = omega (arith, c.min-count.ensures);
+      taken = part;
+      left = (are-kept g.met.T.Ord.total g.B.RandomBits.bit g.B.RandomBits.next s.k s.accuracy _ _ s.levels _ _ held.some held.placed c.requires.few part).left;
+      err = tt;
+      memory = tt;
+    }
+
+pub returns-then-room-eq0 : goal.returns-then-room-eq0
+returns-then-room-eq0 g c =     let s = c.args.self.now in
+    let held = subst (IsHeld g.T.Ord.cmp c.self.inside.num_retained c.self.inside.capacity) c.self.view_is c.self.invariant in
+    let one = one g c in
+    record {
+      kept = c.in_ok-take_last.ensures.kept;
+      some = omega arith;
+      within = c.requires.some;
+      taken = one;
+      left = (are-kept g.met.T.Ord.total g.B.RandomBits.bit g.B.RandomBits.next s.k s.accuracy _ _ s.levels _ _ held.some held.placed c.requires.few one).left;
+      err = tt;
+      memory = tt;
+    }
+
+pub returns-in_err-fill : goal.returns-in_err-fill
+returns-in_err-fill g c =     let r = c.from_residual-in_err-fill.result in
+    let (fails, is) = c.from_residual-in_err-fill.ensures in
+    record {
+      kept = c.in_err-fill.ensures.kept;
+      some = IfOk-from_err r _ fails;
+      within = IfOk-from_err r _ fails;
+      taken = IfOk-from_err r _ fails;
+      left = IfOk-from_err r _ fails;
+      err = on-error r refl;
+      memory = error-known r _ is;
+    }
+
+pub returns-in_err-clone : goal.returns-in_err-clone
+returns-in_err-clone g c =     let r = c.from_residual.result in
+    let (fails, is) = c.from_residual.ensures in
+    record {
+      kept = refl;
+      some = IfOk-from_err r _ fails;
+      within = IfOk-from_err r _ fails;
+      taken = IfOk-from_err r _ fails;
+      left = IfOk-from_err r _ fails;
+      err = on-error r refl;
+      memory = error-known r _ is;
+    }
+
+pub returns-in_err-take_last : goal.returns-in_err-take_last
+returns-in_err-take_last g c =     let r = c.from_residual-in_err-take_last.result in
+    let (fails, is) = c.from_residual-in_err-take_last.ensures in
+    record {
+      kept = c.in_err-take_last.ensures.kept;
+      some = IfOk-from_err r _ fails;
+      within = IfOk-from_err r _ fails;
+      taken = IfOk-from_err r _ fails;
+      left = IfOk-from_err r _ fails;
+      err = on-error r c.in_err-take_last.ensures.err.1;
+      memory = error-passed r is c.in_err-take_last.ensures.memory;
+    }
+
+pub take_last-requires-clause-few : goal.take_last-requires-clause-few
+take_last-requires-clause-few g c = c.requires.few
+
+pub take_last-requires-clause-fits : goal.take_last-requires-clause-fits
+take_last-requires-clause-fits g c = omega (arith, c.requires.fits, c.requires.some)
+
+pub take_last-requires-clause-clones : goal.take_last-requires-clause-clones
+take_last-requires-clause-clones g c = c.requires.clones
 
 pub fill-requires-clause-some : goal.fill-requires-clause-some
-fill-requires-clause-some g c = grind arith
+fill-requires-clause-some g c = omega (arith, length-take c.min-count.result c.args.items.now, c.min-count.ensures, c.if-room-eq0.false, c.requires.some)
 
-pub returns-then-room-eq0-clause-within : goal.returns-then-room-eq0-clause-within
-returns-then-room-eq0-clause-within g c = grind arith
+pub fill-requires-clause-room : goal.fill-requires-clause-room
+fill-requires-clause-room g c =     let held = subst (IsHeld g.T.Ord.cmp c.self.inside.num_retained c.self.inside.capacity) c.self.view_is c.self.invariant in
+    let few = length-take c.min-count.result c.args.items.now in
+    omega (arith, few, c.saturating_sub-room.ensures, c.min-count.ensures, c.if-room-eq0.false, held.retained_is, held.capacity_is)
+
+pub fill-requires-clause-clones : goal.fill-requires-clause-clones
+fill-requires-clause-clones g c = c.requires.clones

@@ -1,24 +1,31 @@
-use Rattle.std.proofs.Common.{◌≡◌, ◌<◌, ◌∙◌, List, [], ◌∷◌, length, get_or, slice_set, ap, arith, Ordering}
-use Rattle.std.proofs.lemmas.Grind.{common_steps}
-use Rattle.sketch_req.specs.Level.{Level, appended}
-use Rattle.sketch_req.specs.Schedule.{layouts_of, retained_of}
-use Rattle.sketch_req.specs.Walk.{AreHeld, appended_first}
+use Rattle.std.proofs.Common.{ℕ, refl, subst, sym, vec_capacity, ◌≡◌, ◌<◌, ◌∙◌, List, [], ◌∷◌, length, slice_set, ap, arith, Ordering}
+use Rattle.std.proofs.lemmas.Result.{IfOk-from_err}
+use Rattle.sketch_base.specs.Buffers.{Space}
+use Rattle.sketch_req.specs.declared.RankAccuracy.{RankAccuracy}
+use Rattle.sketch_req.specs.Walk.{AreWalkedOver, HaveSpace, accuracy_of, k_of, with_more, AreHeld, appended_first}
+use Rattle.sketch_req.specs.Schedule.{Layout, weight_of, layouts_of, retained_of}
+use Rattle.sketch_req.specs.Level.{Level}
+use Rattle.sketch_req.proofs.UpdatedLevels.{layouts-appended, retained-appended, weight-appended, length-appended, placed-appended}
+use Rattle.sketch_req.proofs.TakenInTurn.{first-appended, first-few, first-kept}
+use Rattle.sketch_req.proofs.Exits.{on-error, error-known, error-passed}
 use Rattle.sketch_req.proofs.Held.{own-appended}
-use Rattle.sketch_req.proofs.UpdatedLevels.{length-appended, placed-appended}
 use Rattle.sketch_req.proofs.sketch.levels.walk.append_and_walk.Given.{Over}
 use Rattle.sketch_req.proofs.sketch.levels.walk.append_and_walk.Goals.{After-walk-arg-2-1}
 use Rattle.sketch_req.proofs.sketch.levels.walk.append_and_walk.Goals.at as past
 use Rattle.sketch_req.proofs.sketch.levels.walk.append_and_walk.Goals as goal
 
--- the first level with an item appended to it
-first-set : {A : Type 0} (ls ms : List (Level A)) (first new : Level A) (x : A) → ms ≡ ls → 0 < length ls → first ≡ get_or ms 0 first → new ≡ appended first x →
-    slice_set ms 0 new ≡ appended_first ls x
-first-set (l ∷ ls) ms first new x same some is e = rw same (ap (λ (m : Level _). m ∷ ls) (e ∙ ap (λ (m : Level _). appended m x) (rw same at is)))
-first-set [] ms first new x same some is e = absurd (omega (arith, some))
-
 put : (g : Over) (c : After-walk-arg-2-1 g) → slice_set c.reserve_exact.new.self.items 0 c.append.new.self ≡ appended_first c.args.levels.now.items c.args.item
 put g c =
-    first-set _ _ c.index_mut.result.now _ _ c.reserve_exact.ensures.items c.requires.levels.some c.index_mut.ensures.value c.in_ok-append.ensures.ok
+    let same = c.reserve_exact.ensures.items in
+    let some = subst (λ (ls : List (Level g.row.T.Denot)). 0 < length ls) (sym same) c.requires.levels.some in
+    first-appended c.reserve_exact.new.self.items c.index_mut.result.now _ c.args.item some c.index_mut.ensures.value c.in_ok-append.ensures.ok
+    ∙ ap (λ (ls : List (Level g.row.T.Denot)). appended_first ls c.args.item) same
+
+-- space for a walk after an item came in is space for a walk over the levels with it
+space-appended : {A : Type 0} (ls : List (Level A)) (x : A) (rooms : List (Space A)) (most : ℕ) → 0 < length ls → HaveSpace (k_of ls) (accuracy_of ls) (with_more 1 (layouts_of ls)) rooms most →
+    let ns = appended_first ls x in HaveSpace (k_of ns) (accuracy_of ns) (layouts_of ns) rooms most
+space-appended [] x rooms most some fit = absurd (omega (arith, some))
+space-appended (l ∷ ls) x rooms most some fit = subst (λ (os : List Layout). HaveSpace l.k l.accuracy os rooms most) (sym (layouts-appended (l ∷ ls) x some)) fit
 
 -- levels stay held if an item is appended to the first
 held-first : {A : Type 0} (cmp : A → A → Ordering) (ls : List (Level A)) (x : A) → AreHeld cmp ls → retained_of (layouts_of ls) < 4294967295 →
@@ -27,54 +34,79 @@ held-first cmp ls x held few =
     let own = own-appended ls x in
     record { some = omega (arith, held.some, length-appended ls x); placed = rw (own.0, own.1) (placed-appended cmp _ _ ls x held.placed few) }
 
-pub returns-clause-acted : goal.returns-clause-acted
-returns-clause-acted g c =
-    let put = put g (past.returns-clause-acted g c).After-walk-arg-2-1 in
-    let own = own-appended c.args.levels.now.items c.args.item in
-    let acted = c.walk.ensures.acted in
-    rw (put, own.0, own.1) at acted
-
-pub returns-in_err-append-clause-memory : goal.returns-in_err-append-clause-memory
-returns-in_err-append-clause-memory g c = grind (arith, common_steps)
-
 pub walk-requires-clause-levels : goal.walk-requires-clause-levels
-walk-requires-clause-levels g c = rw (put g c) (held-first g.T.Ord.cmp _ _ c.requires.levels c.requires.few)
+walk-requires-clause-levels g c = subst (AreHeld g.T.Ord.cmp) (sym (put g c)) (held-first g.T.Ord.cmp _ _ c.requires.levels c.requires.few)
+
+pub returns : goal.returns
+returns g c =     let put = put g (past.returns g c).After-walk-arg-2-1 in
+    let ns = appended_first c.args.levels.now.items c.args.item in
+    let own = own-appended c.args.levels.now.items c.args.item in
+    let walked = subst (λ (xs : List (Level g.row.T.Denot)). AreWalkedOver g.T.Ord.cmp g.B.RandomBits.bit g.B.RandomBits.next c.args.coins.now c.walk.new.coins (k_of xs) (accuracy_of xs) xs
+    c.walk.new.levels.items) put c.walk.ensures.acted in
+    record {
+      acted = subst (λ (n : ℕ). AreWalkedOver g.T.Ord.cmp g.B.RandomBits.bit g.B.RandomBits.next c.args.coins.now c.walk.new.coins n (accuracy_of c.args.levels.now.items) ns c.walk.new.levels.items) own.0
+          (subst (λ (a : RankAccuracy). AreWalkedOver g.T.Ord.cmp g.B.RandomBits.bit g.B.RandomBits.next c.args.coins.now c.walk.new.coins (k_of ns) a ns c.walk.new.levels.items) own.1 walked);
+      err = tt;
+      memory = tt;
+    }
+
+pub returns-in_err-append : goal.returns-in_err-append
+returns-in_err-append g c =     let r = c.from_residual-in_err-append.result in
+    let (fails, is) = c.from_residual-in_err-append.ensures in
+    let same = c.reserve_exact.ensures.items in
+    let some = subst (λ (ls : List (Level g.row.T.Denot)). 0 < length ls) (sym same) c.requires.levels.some in
+    let few = first-few c.reserve_exact.new.self.items c.index_mut.result.now some c.index_mut.ensures.value in
+    let all = ap (λ (ls : List (Level g.row.T.Denot)). retained_of (layouts_of ls)) same in
+    record {
+      acted = IfOk-from_err r _ fails;
+      err = on-error r (first-kept c.reserve_exact.new.self.items c.index_mut.result.now _ some c.index_mut.ensures.value c.in_err-append.ensures.err ∙ same, refl);
+      memory = error-passed r is (c.in_err-append.ensures.memory (omega (arith, few, all, c.requires.few)));
+    }
+
+pub returns-in_err-reserve : goal.returns-in_err-reserve
+returns-in_err-reserve g c =     let r = c.from_residual-in_err-reserve.result in
+    let (fails, is) = c.from_residual-in_err-reserve.ensures in
+    record { acted = IfOk-from_err r _ fails; err = on-error r (c.reserve_exact.ensures.items, refl); memory = error-known r _ is }
+
+pub returns-in_err-reserve_exact : goal.returns-in_err-reserve_exact
+returns-in_err-reserve_exact g c =     let r = c.from_residual.result in
+    let (fails, is) = c.from_residual.ensures in
+    record { acted = IfOk-from_err r _ fails; err = on-error r (c.reserve_exact.ensures.items, refl); memory = error-known r _ is }
 
 pub walk-requires-clause-fits : goal.walk-requires-clause-fits
-walk-requires-clause-fits g c = grind (arith, common_steps)
+walk-requires-clause-fits g c =     let all = ap (λ (ls : List (Level g.row.T.Denot)). weight_of (layouts_of ls)) (put g c) in
+    omega (arith, all, weight-appended c.args.levels.now.items c.args.item c.requires.levels.some, c.requires.fits)
 
 pub walk-requires-clause-few_items : goal.walk-requires-clause-few_items
-walk-requires-clause-few_items g c = grind (arith, common_steps)
+walk-requires-clause-few_items g c =     let all = ap (λ (ls : List (Level g.row.T.Denot)). retained_of (layouts_of ls)) (put g c) in
+    omega (arith, all, retained-appended c.args.levels.now.items c.args.item c.requires.levels.some, c.requires.few)
 
 pub walk-requires-clause-fit : goal.walk-requires-clause-fit
-walk-requires-clause-fit g c = grind (arith, common_steps)
+walk-requires-clause-fit g c =     let rooms = c.reserve.new.room.rooms.items in
+    let most = vec_capacity c.reserve.new.room.coming in
+    subst (λ (xs : List (Level g.row.T.Denot)). HaveSpace (k_of xs) (accuracy_of xs) (layouts_of xs) rooms most) (sym (put g c))
+    (space-appended c.args.levels.now.items c.args.item rooms most c.requires.levels.some
+    (subst (λ (xs : List (Level g.row.T.Denot)). HaveSpace (k_of xs) (accuracy_of xs) (with_more 1 (layouts_of xs)) rooms most) (c.as_slice.ensures.value ∙ c.reserve_exact.ensures.items)
+    c.in_ok-reserve.ensures.fit))
 
 pub reserve-requires-clause-levels : goal.reserve-requires-clause-levels
-reserve-requires-clause-levels g c = grind (arith, common_steps)
+reserve-requires-clause-levels g c = subst (AreHeld g.T.Ord.cmp) (sym (c.as_slice.ensures.value ∙ c.reserve_exact.ensures.items)) c.requires.levels
 
 pub reserve-requires-clause-few : goal.reserve-requires-clause-few
-reserve-requires-clause-few g c = grind (arith, common_steps)
-
-pub index_mut-requires : goal.index_mut-requires
-index_mut-requires g c = grind (arith, common_steps)
-
-pub returns-clause-err : goal.returns-clause-err
-returns-clause-err g c = grind arith
+reserve-requires-clause-few g c =     let all = ap (λ (ls : List (Level g.row.T.Denot)). retained_of (layouts_of ls)) (c.as_slice.ensures.value ∙ c.reserve_exact.ensures.items) in
+    omega (arith, all, c.requires.few)
 
 pub walk-requires-clause-nothing : goal.walk-requires-clause-nothing
-walk-requires-clause-nothing g c = grind arith
-
-pub walk-requires-clause-above : goal.walk-requires-clause-above
-walk-requires-clause-above g c = grind arith
-
-pub walk-requires-clause-spare : goal.walk-requires-clause-spare
-walk-requires-clause-spare g c = grind arith
-
-pub returns-clause-memory : goal.returns-clause-memory
-returns-clause-memory g c = grind arith
+walk-requires-clause-nothing g c = c.in_ok-reserve.ensures.nothing
 
 pub walk-requires-clause-empty : goal.walk-requires-clause-empty
-walk-requires-clause-empty g c = grind arith
+walk-requires-clause-empty g c = c.in_ok-reserve.ensures.empty
 
-pub returns-in_err-append-clause-err : goal.returns-in_err-append-clause-err
-returns-in_err-append-clause-err g c = grind arith
+pub walk-requires-clause-above : goal.walk-requires-clause-above
+walk-requires-clause-above g c = c.in_ok-reserve.ensures.above
+
+pub walk-requires-clause-spare : goal.walk-requires-clause-spare
+walk-requires-clause-spare g c = omega (arith, c.in_ok-reserve_exact.ensures.ok, c.reserve_exact.ensures.len)
+
+pub reserve-requires-clause-clones : goal.reserve-requires-clause-clones
+reserve-requires-clause-clones g c = c.requires.clones

@@ -1,14 +1,14 @@
 -- The loop keeps what is pending after the turns so far.
-use Rattle.std.proofs.Common.{◌≡◌, ◌≢◌, ℕ, ◌+◌, ◌-◌, ◌<◌, ◌≤◌, ◌==◌, Bool, true, if◌then◌else◌, eq-eqb, length-append, List, [], ◌∷◌, ◌++◌, get_or, length, length-set, set, refl, sym, ap, ap₂, ◌∙◌, subst, arith, lt_of_le_of_lt, vec_capacity, IsSorted}
+use Rattle.std.proofs.Common.{le_antisymm, le_of_eq, le_trans, Ordering, ◌≡◌, ℕ, ◌+◌, ◌-◌, ◌<◌, ◌≤◌, ◌==◌, Bool, true, if◌then◌else◌, eq-eqb, length-append, List, [], ◌∷◌, ◌++◌, get_or, length, length-set, set, refl, sym, ap, ap₂, ◌∙◌, subst, arith, lt_of_le_of_lt, vec_capacity, IsSorted}
 use Rattle.std.proofs.lemmas.List.{nil_from_length}
 use Rattle.sketch_base.proofs.Sorting.{short_sorted}
 use Rattle.sketch_base.specs.Buffers.{Space, merged_spaces}
 use Rattle.sketch_req.specs.Level.{Level, IsTurned, fresh}
-use Rattle.sketch_req.specs.Schedule.{layouts_of, steps_actions, steps_layouts}
+use Rattle.sketch_req.specs.Schedule.{Layout, layouts_of, steps_actions, steps_layouts}
 use Rattle.sketch_req.specs.Sections.{IsLegalK}
-use Rattle.sketch_req.specs.Walk.{AreWalked, accuracy_of, k_of}
+use Rattle.sketch_req.specs.Walk.{AreWalked, accuracy_of, k_of, own_space}
 use Rattle.sketch_req.specs.declared.RankAccuracy.{RankAccuracy}
-use Rattle.sketch_req.proofs.Buffers.{read-other, read-there}
+use Rattle.sketch_req.proofs.Buffers.{places-above, read-other, read-there}
 use Rattle.sketch_req.proofs.Held.{own-levels}
 use Rattle.sketch_req.proofs.Layouts.{length-layouts}
 use Rattle.sketch_req.proofs.MergedLevels.{is-added}
@@ -68,11 +68,16 @@ pub turn-requires-clause-few : goal.turn-requires-clause-few
 turn-requires-clause-few g c =
     omega (arith, (ready g (past.turn-requires-clause-few g c).After-index_mut-in-loop-level).few, c.requires.few_items)
 
+-- space for a level, by its k and its accuracy
+space-told : (k own_k came most : ℕ) (accuracy own_accuracy : RankAccuracy) (l : Layout) → own_k ≡ k → own_accuracy ≡ accuracy → own_space k accuracy came l ≤ most →
+    own_space own_k own_accuracy came l ≤ most
+space-told k own_k came most accuracy own_accuracy l e f fits = rw (e, f) fits
+
 pub turn-requires-clause-space : goal.turn-requires-clause-space
 turn-requires-clause-space g c =
     let at = (past.turn-requires-clause-space g c).After-index_mut-in-loop-level in
-    rw ((own-told g at).0, (own-told g at).1)
-    (omega (arith, (ready g at).own (inside g at), own-there_is g at, ap (λ (b : Space g.row.T.Denot). b.merged_space) c.behind-rooms.view_is))
+    le_trans (space-told _ _ _ _ _ _ _ (own-told g at).0 (own-told g at).1 ((ready g at).own (inside g at)))
+    (le_of_eq (own-there_is g at ∙ sym (ap (λ (b : Space g.row.T.Denot). b.merged_space) c.behind-rooms.view_is)))
 
 pub turn-requires-clause-empty : goal.turn-requires-clause-empty
 turn-requires-clause-empty g c = c.behind-rooms.invariant
@@ -85,10 +90,6 @@ turn-requires-clause-above g c =
     let at = (past.turn-requires-clause-above g c).After-index_mut-in-loop-level in
     let held = ready-held g.met.T.Ord.total _ _ _ _ _ _ _ _ _ _ _ _ _ (ready g at) (c.requires.fit.promoted c.loop-level.level (inside g at)) in
     λ _. omega (arith, held, c.loop-level.invariant.above)
-
--- a number above another one
-above : (n j : ℕ) → n + 1 ≤ j → (j ≢ n) × (n ≤ j)
-above n j low = (λ e. absurd (omega (arith, e, low)), omega arith)
 
 pub loop-level-preserved : goal.loop-level-preserved
 loop-level-preserved g c =
@@ -106,13 +107,13 @@ loop-level-preserved g c =
           c.turn.ensures.sound c.turn.ensures.coins;
       len = i.len;
       spare = i.spare;
-      as_many = simp length-set i.as_many;
-      merged = λ j low. read-other (λ (b : Space g.row.T.Denot). b.merged_space) 0 buffers c.loop-level.level _ j (above _ j low).0
-          ∙ i.merged j (above _ j low).1;
+      as_many = length-set buffers c.loop-level.level _ ∙ i.as_many;
+      merged = λ j low. read-other (λ (b : Space g.row.T.Denot). b.merged_space) 0 buffers c.loop-level.level _ j (places-above _ j low).0
+          ∙ i.merged j (places-above _ j low).1;
       sorted = subst (IsSorted g.T.Ord.cmp) (sym x) c.turn.ensures.sorted;
       empty = ap (λ v. v.items) c.swap.ensures.y_after ∙ c.turn.ensures.coming;
-      room = rw (ap (λ v. vec_capacity v) c.swap.ensures.x_after ∙ c.turn.ensures.up_capacity) i.above;
-      above = rw (ap (λ v. vec_capacity v) c.swap.ensures.y_after ∙ c.turn.ensures.coming_capacity) i.room;
+      room = subst (λ (n : ℕ). vec_capacity c.args.room.now.coming ≤ n) (sym (ap (λ v. vec_capacity v) c.swap.ensures.x_after ∙ c.turn.ensures.up_capacity)) i.above;
+      above = subst (λ (n : ℕ). vec_capacity c.args.room.now.coming ≤ n) (sym (ap (λ v. vec_capacity v) c.swap.ensures.y_after ∙ c.turn.ensures.coming_capacity)) i.room;
     }
 
 -- the highest level gave up items
@@ -127,12 +128,13 @@ module _ (g : _) (c : After-parameters-k g) where
   some = grind (arith, c.if-not-is_empty.true, c.is_empty.ensures, c.loop-level.coming.ok.0)
 
   ends : c.len-count.result ≡ (c.loop-level.level - 1) + 1
-  ends = omega (arith, c.loop-level-test.false, pending-above g.met.T.Ord.total _ _ _ _ _ _ _ _ _ _ _ _ c.loop-level.invariant.pending some)
+  ends = le_antisymm c.loop-level-test.false c.loop-level.auto.level-end ∙ pending-above g.met.T.Ord.total _ _ _ _ _ _ _ _ _ _ _ _ c.loop-level.invariant.pending some
 
   own : c.parameters-k.result ≡ (k, accuracy)
   own =
       own-there g.T.Ord.cmp _ _ _ _ _ _ c.loop-level.invariant.pending.placed
-      (omega (arith, c.loop-level.invariant.len, c.len-count.ensures, c.requires.levels.some, c.args.levels.now.ok, c.loop-level.levels.ok)) c.index.ensures c.parameters-k.ensures
+      (subst (λ (n : ℕ). 0 < n) (sym c.args.levels.now.ok.0 ∙ (sym c.len-count.ensures ∙ (sym c.loop-level.invariant.len ∙ c.loop-level.levels.ok.0))) c.requires.levels.some) c.index.ensures
+      c.parameters-k.ensures
 
 pub add_level-requires-clause-legal : goal.add_level-requires-clause-legal
 add_level-requires-clause-legal g c =
@@ -143,8 +145,7 @@ add_level-requires-clause-legal g c =
 pub add_level-requires-clause-few : goal.add_level-requires-clause-few
 add_level-requires-clause-few g c =
     let before = (past.add_level-requires-clause-few g c).After-parameters-k in
-    let above = pending-above g.met.T.Ord.total _ _ _ _ _ _ _ _ _ _ _ _ c.loop-level.invariant.pending (some g before) in
-    omega (arith, ends g before, c.loop-level.invariant.pending.low (some g before), above)
+    omega (arith, c.loop-level-test.false, c.loop-level.invariant.pending.low (some g before))
 
 pub add_level-requires-clause-spare : goal.add_level-requires-clause-spare
 add_level-requires-clause-spare g c = λ _. omega (arith, c.loop-level.invariant.spare, c.loop-level.invariant.len)
@@ -153,8 +154,8 @@ add_level-requires-clause-spare g c = λ _. omega (arith, c.loop-level.invariant
 none : (g : _) (c : After-add_level g) (upper : Level g.row.T.Denot) → upper ≡ get_or c.add_level.new.levels.items c.len-count.result upper →
     length upper.items ≡ 0
 none g c upper e =
-    let same : c.len-count.result ≡ length c.loop-level.levels.items = omega (arith, c.loop-level.invariant.len, c.loop-level.levels.ok) in
-    let added = is-added _ _ _ _ (omega (arith, same)) c.add_level.ensures.items in
+    let same : c.len-count.result ≡ length c.loop-level.levels.items = sym c.loop-level.invariant.len ∙ c.loop-level.levels.ok.0 in
+    let added = is-added _ _ _ _ (le_of_eq same) c.add_level.ensures.items in
     ap (λ (l : Level g.row.T.Denot). length l.items) (e ∙ added.new upper (sym same))
 
 -- with the level that was added
@@ -170,8 +171,9 @@ module _ (g : _) (c : After-add_level g) (own : c.parameters-k.result ≡ (k_of 
   longer =
       let ls = c.loop-level.levels.items in
       let last : Level g.row.T.Denot = fresh [] true c.len-count.result c.parameters-k.result.0 c.parameters-k.result.1 in
-      let is : (c.len-count.result == length ls) ≡ true = eq-eqb c.len-count.result (length ls) (omega (arith, c.loop-level.invariant.len, c.loop-level.levels.ok)) in
-      ap length (c.add_level.ensures.items ∙ ap (λ (b : Bool). if b then ls ++ last ∷ [] else ls) is) ∙ omega (arith, length-append ls (last ∷ []), c.loop-level.invariant.len, c.loop-level.levels.ok)
+      let all : c.len-count.result ≡ length ls = sym c.loop-level.invariant.len ∙ c.loop-level.levels.ok.0 in
+      ap length (c.add_level.ensures.items ∙ ap (λ (b : Bool). if b then ls ++ last ∷ [] else ls) (eq-eqb c.len-count.result (length ls) all))
+      ∙ (length-append ls (last ∷ []) ∙ ap (λ (n : ℕ). n + 1) (sym all))
 
 pub index_mut-requires-then-not-is_empty : goal.index_mut-requires-then-not-is_empty
 index_mut-requires-then-not-is_empty g c =
@@ -202,6 +204,14 @@ absorb-requires-clause-few g c =
     (c.index_mut-then-not-is_empty.ensures.value ∙ ap₂ (λ (ls : List (Level g.row.T.Denot)) (n : ℕ). get_or ls n upper) all ends) in
     lt_of_le_of_lt few c.requires.few_items
 
+-- a walk over all levels
+walked-whole : {A S : Type 0} (cmp : A → A → Ordering) (bit : S → Bool) (next : S → S) (source after : S) (k n m : ℕ) (accuracy : RankAccuracy) (ls xs ys : List (Level A)) → n ≡ m → xs ≡ ys →
+    AreWalked cmp bit next source after k accuracy (steps_actions k accuracy n 0 (layouts_of ls)) (steps_layouts k n 0 (layouts_of ls)) ls xs →
+    AreWalked cmp bit next source after k accuracy (steps_actions k accuracy m 0 (layouts_of ls)) (steps_layouts k m 0 (layouts_of ls)) ls ys
+walked-whole cmp bit next source after k n m accuracy ls xs ys e same walked =
+    subst (λ (i : ℕ). AreWalked cmp bit next source after k accuracy (steps_actions k accuracy i 0 (layouts_of ls)) (steps_layouts k i 0 (layouts_of ls)) ls ys) e
+    (subst (AreWalked cmp bit next source after k accuracy (steps_actions k accuracy n 0 (layouts_of ls)) (steps_layouts k n 0 (layouts_of ls)) ls) same walked)
+
 pub returns-then-not-is_empty : goal.returns-then-not-is_empty
 returns-then-not-is_empty g c =
     let at = past.returns-then-not-is_empty g c in
@@ -212,31 +222,26 @@ returns-then-not-is_empty g c =
     let upper = c.index_mut-then-not-is_empty.result.now in
     let new = c.absorb.new.self in
     let ls : List (Level g.row.T.Denot) = c.args.levels.now.items in
-    let layouts = layouts_of ls in
     let above = pending-above g.met.T.Ord.total _ _ _ _ _ _ _ _ _ _ _ _ i.pending (some g before) in
     let walked = i.pending.some (some g before) (c.loop-level.level - 1) above upper new
     (c.index_mut-then-not-is_empty.ensures.value ∙ ap₂ (λ (l : List (Level g.row.T.Denot)) (n : ℕ). get_or l n upper) all ends) c.absorb.ensures.taken_in c.absorb.ensures.sound in
-    let same : set (raised (k_of ls) (accuracy_of ls) (c.loop-level.level - 1) c.loop-level.levels.items) ((c.loop-level.level - 1) + 1) new ≡ set c.add_level.new.levels.items c.len-count.result new =
-    ap₂ (λ (l : List (Level g.row.T.Denot)) (n : ℕ). set l n new) (sym all) (sym ends) in
-    let count : c.loop-level.level ≡ length layouts = omega (arith, length-layouts ls, ends, above, c.len-count.ensures, c.args.levels.now.ok) in
+    let count : c.loop-level.level ≡ length (layouts_of ls) =
+    le_antisymm c.loop-level.auto.level-end c.loop-level-test.false ∙ (c.len-count.ensures ∙ (c.args.levels.now.ok.0 ∙ sym (length-layouts ls))) in
     record {
-      acted = subst (λ (n : ℕ). AreWalked g.T.Ord.cmp g.B.RandomBits.bit g.B.RandomBits.next c.args.coins.now c.loop-level.coins (k_of ls) (accuracy_of ls)
-          (steps_actions (k_of ls) (accuracy_of ls) n 0 layouts) (steps_layouts (k_of ls) n 0 layouts) ls (set c.add_level.new.levels.items c.len-count.result new))
-          count (subst (λ (l : List (Level g.row.T.Denot)). AreWalked g.T.Ord.cmp g.B.RandomBits.bit g.B.RandomBits.next c.args.coins.now c.loop-level.coins (k_of ls) (accuracy_of ls)
-          (steps_actions (k_of ls) (accuracy_of ls) c.loop-level.level 0 layouts) (steps_layouts (k_of ls) c.loop-level.level 0 layouts) ls l) same walked);
+      acted = walked-whole g.T.Ord.cmp g.B.RandomBits.bit g.B.RandomBits.next c.args.coins.now c.loop-level.coins (k_of ls) c.loop-level.level _ (accuracy_of ls) ls _ _ count
+          (ap₂ (λ (l : List (Level g.row.T.Denot)) (n : ℕ). set l n new) (sym all) (sym ends)) walked;
     }
 
 pub returns-else-not-is_empty : goal.returns-else-not-is_empty
 returns-else-not-is_empty g c =
     let ls : List (Level g.row.T.Denot) = c.args.levels.now.items in
-    let layouts = layouts_of ls in
-    let all : c.loop-level.level ≡ length layouts = omega (arith, length-layouts ls, c.len-count.ensures, c.args.levels.now.ok) in
+    let count : c.loop-level.level ≡ length (layouts_of ls) =
+    le_antisymm c.loop-level.auto.level-end c.loop-level-test.false ∙ (c.len-count.ensures ∙ (c.args.levels.now.ok.0 ∙ sym (length-layouts ls))) in
     let none : c.loop-level.coming.items ≡ [] =
     nil_from_length c.loop-level.coming.items (grind (arith, c.if-not-is_empty.false, c.is_empty.ensures, c.loop-level.coming.ok.0)) in
     record {
-      acted = subst (λ (n : ℕ). AreWalked g.T.Ord.cmp g.B.RandomBits.bit g.B.RandomBits.next c.args.coins.now c.loop-level.coins (k_of ls) (accuracy_of ls)
-          (steps_actions (k_of ls) (accuracy_of ls) n 0 layouts) (steps_layouts (k_of ls) n 0 layouts) ls c.loop-level.levels.items)
-          all (c.loop-level.invariant.pending.none none);
+      acted = walked-whole g.T.Ord.cmp g.B.RandomBits.bit g.B.RandomBits.next c.args.coins.now c.loop-level.coins (k_of ls) c.loop-level.level _ (accuracy_of ls) ls _ _ count refl
+          (c.loop-level.invariant.pending.none none);
     }
 
 pub invariant_of-behind-rooms : goal.invariant_of-behind-rooms
