@@ -51,3 +51,8 @@ module _ {A : Type 0} where
 -- the places above one
 pub places-above : (h j : ℕ) → h + 1 ≤ j → (j ≢ h) × (h ≤ j)
 places-above h j low = (λ e. absurd (omega (arith, e, low)), omega arith)
+
+-- space for the walk of a sketch, by its k and its accuracy
+pub space-told : {A : Type 0} (k n : ℕ) (accuracy a : RankAccuracy) (layouts : List Layout) (buffers : List (Space A)) (most : ℕ) → k ≡ n → accuracy ≡ a →
+    HaveSpace k accuracy layouts buffers most → HaveSpace n a layouts buffers most
+space-told k n accuracy a layouts buffers most e f fit = rw (← e, ← f) fit

@@ -1,4 +1,10 @@
 -- The levels before the walk have the layouts of the joined ones.
+use Rattle.std.proofs.Common.{Bool, Ordering, ℕ, ◌+◌, ◌<◌, ◌≤◌, le_of_eq, refl}
+use Rattle.sketch_req.specs.declared.RankAccuracy.{RankAccuracy}
+use Rattle.sketch_req.specs.Walk.{HaveSpace}
+use Rattle.sketch_req.proofs.Buffers.{space-told}
+use Rattle.sketch_req.proofs.Exits.{on-error}
+use Rattle.std.proofs.lemmas.Result.{IfOk-from_err}
 use Rattle.std.proofs.Common.{◌≡◌, false, true, List, length, max, vec_capacity, sym, ap, ◌∙◌, subst, arith, le-leb}
 use Rattle.std.proofs.lemmas.Grind.{common_steps}
 use Rattle.std.proofs.lemmas.Bool.{lt-leb}
@@ -38,10 +44,12 @@ module _ (g : Over) (c : After-redraw_if g) where
   ls = c.args.levels.now.items
 
   joined_are : AreJoined g.T.Ord.cmp (k_of ls) (accuracy_of ls) ls c.args.others.now c.join_levels.new.levels.items
-  joined_are = rw c.reserve_exact.ensures.items at c.join_levels.ensures.joined
+  joined_are =
+      subst (λ (xs : List (Level g.row.T.Denot)). AreJoined g.T.Ord.cmp (k_of xs) (accuracy_of xs) xs c.args.others.now c.join_levels.new.levels.items) c.reserve_exact.ensures.items
+      c.join_levels.ensures.joined
 
   count_is : length c.join_levels.new.levels.items ≡ max (length ls) (length c.args.others.now)
-  count_is = rw c.reserve_exact.ensures.items at c.join_levels.ensures.count
+  count_is = c.join_levels.ensures.count ∙ ap (λ (xs : List (Level g.row.T.Denot)). max (length xs) (length c.args.others.now)) c.reserve_exact.ensures.items
 
   abbrev ready : List (Level g.row.T.Denot)
   ready = c.redraw_if.new.levels.items
@@ -104,62 +112,88 @@ pub walk-requires-clause-nothing : goal.walk-requires-clause-nothing
 walk-requires-clause-nothing g c = c.join_levels.ensures.nothing
 
 pub walk-requires-clause-above : goal.walk-requires-clause-above
-walk-requires-clause-above g c = omega (arith, c.in_ok-reserve.ensures.above, c.join_levels.ensures.coming, c.join_levels.ensures.up)
+walk-requires-clause-above g c =     subst (λ (n : ℕ). n ≤ vec_capacity c.join_levels.new.room.up) (sym c.join_levels.ensures.coming)
+    (subst (λ (n : ℕ). vec_capacity c.reserve.new.room.coming ≤ n) (sym c.join_levels.ensures.up) c.in_ok-reserve.ensures.above)
 
 pub walk-requires-clause-fit : goal.walk-requires-clause-fit
-walk-requires-clause-fit g c =
-    let before = (past.walk-requires-clause-fit g c).After-redraw_if in
+walk-requires-clause-fit g c =     let before = (past.walk-requires-clause-fit g c).After-redraw_if in
     let levels = c.args.levels.now.items in
-    let k = (own g before).k_is in
-    let accuracy = (own g before).accuracy_is in
-    let reserved = rw c.as_slice.ensures.value at c.in_ok-reserve.ensures.fit in
-    let both : List Layout = joined_layouts (k_of levels) (layouts_of levels) (layouts_of c.args.others.now) in
-    let count = length-joined (k_of levels) (layouts_of levels) (layouts_of c.args.others.now) in
+    let own = own g before in
+    let k = k_of levels in
+    let accuracy = accuracy_of levels in
+    let rooms = c.reserve.new.room.rooms.items in
+    let space = vec_capacity c.reserve.new.room.coming in
+    let both : List Layout = joined_layouts k (layouts_of levels) (layouts_of c.args.others.now) in
+    let count = length-joined k (layouts_of levels) (layouts_of c.args.others.now) in
     let more : with_more 0 both ≡ both = more-none both (omega (arith, count, length-layouts levels, c.requires.levels.some)) in
-    rw (k, accuracy) (space-kept _ _ _ _ _ (vec_capacity c.reserve.new.room.coming) (vec_capacity c.join_levels.new.room.coming)
-    c.join_levels.ensures.merged_spaces (omega (arith, c.join_levels.ensures.coming)) (rw (joined g before) (rw more at reserved)))
+    let reserved = subst (λ (xs : List (Level g.row.T.Denot)).
+    HaveSpace (k_of xs) (accuracy_of xs) (with_more 0 (joined_layouts (k_of xs) (layouts_of xs) (layouts_of c.args.others.now))) rooms space) c.as_slice.ensures.value c.in_ok-reserve.ensures.fit in
+    space-told _ _ _ _ _ _ _ (sym own.k_is) (sym own.accuracy_is)
+    (space-kept k accuracy _ _ _ space (vec_capacity c.join_levels.new.room.coming) c.join_levels.ensures.merged_spaces (le_of_eq (sym c.join_levels.ensures.coming))
+    (subst (λ (os : List Layout). HaveSpace k accuracy os rooms space) (more ∙ sym (joined g before)) reserved))
 
-pub returns-clause-taken_in : goal.returns-clause-taken_in
-returns-clause-taken_in g c =
-    let before = (past.returns-clause-taken_in g c).After-redraw_if in
-    let h = summed g (past.returns-clause-taken_in g c).After-sums-num_retained (own g before).held in
+-- levels after a walk, by what it started with
+walked-alike : {A S : Type 0} (cmp : A → A → Ordering) (bit : S → Bool) (next : S → S) (source start after end : S) (k n : ℕ) (accuracy a : RankAccuracy) (ls xs ys : List (Level A)) → k ≡ n →
+    accuracy ≡ a → source ≡ start → after ≡ end → xs ≡ ys → AreWalkedIfFull cmp bit next source after k accuracy ls xs → AreWalkedIfFull cmp bit next start end n a ls ys
+walked-alike cmp bit next source start after end k n accuracy a ls xs ys e f s t l walked = rw (← e, ← f, ← s, ← t, ← l) walked
+
+pub returns : goal.returns
+returns g c =
+    let at = past.returns g c in
+    let before = at.After-redraw_if in
+    let own = own g before in
+    let h = summed g at.After-sums-num_retained own.held in
     let ls : List (Level g.row.T.Denot) = c.redraw_if.new.levels.items in
     let acted : AreWalkedIfFull g.T.Ord.cmp g.B.RandomBits.bit g.B.RandomBits.next c.redraw_if.new.coins c.if-num_retained-capacity.coins (k_of ls) (accuracy_of ls) ls
     c.if-num_retained-capacity.levels.items =
     elim c.if-num_retained-capacity.branch [
       | then-num_retained-capacity w ↦
           let full : are_full (k_of ls) (layouts_of ls) ≡ true = le-leb _ _ (omega (arith, h.retained_is, h.capacity_is, w.if-num_retained-capacity.true)) in
-          rw (w.levels-is, w.coins-is) (acted-walk _ _ _ _ _ _ _ _ full w.walk.ensures.acted)
+          walked-alike _ _ _ _ _ _ _ _ _ _ _ _ _ _ refl refl refl (sym w.coins-is) (sym (ap (λ v. v.items) w.levels-is)) (acted-walk _ _ _ _ _ _ _ _ full w.walk.ensures.acted)
       | else-num_retained-capacity w ↦
           let spare : are_full (k_of ls) (layouts_of ls) ≡ false = lt-leb _ _ (omega (arith, h.retained_is, h.capacity_is, w.if-num_retained-capacity.false)) in
-          rw (w.levels-is, w.coins-is) (acted-spare g.met.T.Ord.total _ _ _ _ _ _ (own g before).held.placed spare)
+          walked-alike _ _ _ _ _ _ _ _ _ _ _ _ _ _ refl refl refl (sym w.coins-is) (sym (ap (λ v. v.items) w.levels-is)) (acted-spare g.met.T.Ord.total _ _ _ _ _ _ own.held.placed spare)
     ] in
-    rw (c.give_back.ensures ∙ c.move_back.ensures) (record {
-      joined = c.join_levels.new.levels.items;
-      joined_are = joined_are g before;
-      count_is = count_is g before;
-      ready = c.redraw_if.new.levels.items;
-      ready_are = c.redraw_if.ensures.levels;
-      acted = rw ((own g before).k_is, (own g before).accuracy_is, c.redraw_if.ensures.coins) at acted;
-    })
+    record {
+      taken_in = record {
+        joined = c.join_levels.new.levels.items;
+        joined_are = joined_are g before;
+        count_is = count_is g before;
+        ready = ls;
+        ready_are = c.redraw_if.ensures.levels;
+        acted = walked-alike _ _ _ _ _ _ _ _ _ _ _ _ _ _ own.k_is own.accuracy_is c.redraw_if.ensures.coins refl (sym (c.give_back.ensures ∙ c.move_back.ensures)) acted;
+      };
+      err = tt;
+    }
 
 pub reserve-requires-clause-levels : goal.reserve-requires-clause-levels
 reserve-requires-clause-levels g c = grind (arith, common_steps)
 
 pub join_levels-requires-clause-levels : goal.join_levels-requires-clause-levels
-join_levels-requires-clause-levels g c = grind (arith, common_steps)
+join_levels-requires-clause-levels g c = subst (AreHeld g.T.Ord.cmp) (sym c.reserve_exact.ensures.items) c.requires.levels
 
 pub join_levels-requires-clause-others : goal.join_levels-requires-clause-others
-join_levels-requires-clause-others g c = grind (arith, common_steps)
+join_levels-requires-clause-others g c =     subst (λ (xs : List (Level g.row.T.Denot)). AreLevels g.T.Ord.cmp (k_of c.args.others.now) (accuracy_of xs) 0 c.args.others.now) (sym c.reserve_exact.ensures.items) c.requires.others
 
 pub join_levels-requires-clause-few : goal.join_levels-requires-clause-few
-join_levels-requires-clause-few g c = grind (arith, common_steps)
+join_levels-requires-clause-few g c =     subst (λ (xs : List (Level g.row.T.Denot)). retained_of (layouts_of xs) + retained_of (layouts_of c.args.others.now) < 4294967296) (sym c.reserve_exact.ensures.items) c.requires.few
 
 pub join_levels-requires-clause-nothing : goal.join_levels-requires-clause-nothing
-join_levels-requires-clause-nothing g c = grind arith
+join_levels-requires-clause-nothing g c = c.in_ok-reserve.ensures.nothing
 
 pub reserve-requires-clause-few : goal.reserve-requires-clause-few
 reserve-requires-clause-few g c = grind arith
 
 pub join_levels-requires-clause-empty : goal.join_levels-requires-clause-empty
-join_levels-requires-clause-empty g c = grind arith
+join_levels-requires-clause-empty g c = c.in_ok-reserve.ensures.empty
+
+pub reserve-requires-clause-clones : goal.reserve-requires-clause-clones
+reserve-requires-clause-clones g c = c.requires.clones
+
+pub returns-in_err-reserve_exact : goal.returns-in_err-reserve_exact
+returns-in_err-reserve_exact g c =     let r = c.from_residual-in_err-reserve_exact.result in
+    record { taken_in = IfOk-from_err r _ c.from_residual-in_err-reserve_exact.ensures.0; err = on-error r (c.reserve_exact.ensures.items, refl) }
+
+pub returns-in_err-reserve : goal.returns-in_err-reserve
+returns-in_err-reserve g c =     let r = c.from_residual.result in
+    record { taken_in = IfOk-from_err r _ c.from_residual.ensures.0; err = on-error r (refl, refl) }

@@ -1,3 +1,5 @@
+use Rattle.std.proofs.Common.{◌+◌, ◌<◌, ◌≤◌, length, max, le_antisymm, le_refl, lt_of_lt_of_le}
+use Rattle.sketch_req.proofs.Buffers.{places-above}
 use Rattle.sketch_req.proofs.Held.{own-levels}
 -- The loop keeps that the levels below are joined, and that there are clones and room for the others.
 use Rattle.std.proofs.Common.{◌≡◌, ℕ, true, get_or, [], vec_capacity, length-set, ap, sym, ◌∙◌, refl, subst, arith}
@@ -57,8 +59,8 @@ module _ (g : Over) (c : After-index_mut-in-loop-level g) (added : let ls = c.ar
   ready : IsReady g.T.Ord.cmp c.args.levels.now.items c.args.others.now c.index_mut.result.now other c.index_mut-in-loop-level.result.now (vec_capacity c.args.room.now.coming)
   ready =
       let i = c.loop-level.invariant in
-      is-ready _ _ _ _ _ _ c.loop-level.rooms.items _ _ _ _ copied c.loop-level-test.true is (omega (arith, i.enough, c.loop-level-test.true))
-      c.index_mut-in-loop-level.ensures.value (i.cloned c.loop-level.level (omega arith) c.loop-level-test.true)
+      is-ready _ _ _ _ _ _ c.loop-level.rooms.items _ _ _ _ copied c.loop-level-test.true is (lt_of_lt_of_le c.loop-level-test.true i.enough)
+      c.index_mut-in-loop-level.ensures.value (i.cloned c.loop-level.level (le_refl c.loop-level.level) c.loop-level-test.true)
 
 pub add_level-requires-clause-legal : goal.add_level-requires-clause-legal
 add_level-requires-clause-legal g c =
@@ -109,7 +111,7 @@ pub join-requires-clause-promoted : goal.join-requires-clause-promoted
 join-requires-clause-promoted g c =
     let at = past.join-requires-clause-promoted g c in
     let ready = ready g at.After-index_mut-in-loop-level (added g at.After-add_level) c.index-others-level.result c.index-others-level.is in
-    rw c.loop-level.invariant.coming ready.promoted
+    subst (λ (n : ℕ). length c.index_mut.result.now.items + length c.index-others-level.result.items ≤ n) (sym c.loop-level.invariant.coming) ready.promoted
 
 pub join-requires-clause-spare : goal.join-requires-clause-spare
 join-requires-clause-spare g c = c.loop-level.invariant.nothing
@@ -129,9 +131,9 @@ loop-level-preserved g c =
     (copied g before new c.index-others-level.result c.index-others-level.is) c.loop-level-test.true c.index-others-level.is c.join.ensures.ok c.join.ensures.sound in
     record {
       joined = next-joined g.met.T.Ord.total _ _ _ _ c.requires.levels.placed _ _ _ _ c.join.new.self i.joined new joined;
-      spare = omega (arith, i.spare, c.add_level.ensures.capacity);
-      enough = simp length-set i.enough;
-      cloned = λ h l m. cloned-other g.T.Ord.cmp _ _ buffers c.loop-level.level own _ h (omega (arith, l)) (i.cloned h (omega (arith, l)) m);
+      spare = lt_of_lt_of_le i.spare c.add_level.ensures.capacity;
+      enough = subst (λ (n : ℕ). length c.args.others.now ≤ n) (sym (length-set buffers c.loop-level.level own)) i.enough;
+      cloned = λ h l m. let other = places-above _ h l in cloned-other g.T.Ord.cmp _ _ buffers c.loop-level.level own _ h other.0 (i.cloned h other.1 m);
       merged_spaces = map-set_same (λ b. b.merged_space) buffers c.loop-level.level own old same ∙ i.merged_spaces;
       empty = c.join.ensures.empty;
       coming = c.join.ensures.promoted ∙ i.coming;
@@ -139,20 +141,24 @@ loop-level-preserved g c =
       up = c.join.ensures.spare_capacity ∙ i.up;
     }
 
-pub returns-clause-joined : goal.returns-clause-joined
-returns-clause-joined g c =
-    all-joined-to g.met.T.Ord.total _ _ _ _ c.requires.levels.placed c.loop-level.level _ (omega arith) c.loop-level.invariant.joined
-
-pub returns-clause-count : goal.returns-clause-count
-returns-clause-count g c = omega (arith, c.loop-level.invariant.joined.len)
-
-pub returns-clause-spare : goal.returns-clause-spare
-returns-clause-spare g c =
-    let i = c.loop-level.invariant in
-    omega (arith, i.joined.len, i.spare, c.loop-level.levels.ok)
-
 pub offset_bounds-others-level : goal.offset_bounds-others-level
 offset_bounds-others-level g c = grind arith
 
 pub bounds-others-level : goal.bounds-others-level
 bounds-others-level g c = grind arith
+
+pub returns : goal.returns
+returns g c =     let i = c.loop-level.invariant in
+    let end : c.loop-level.level ≡ length c.args.others.now = le_antisymm c.loop-level.auto.level-end c.loop-level-test.false in
+    let count : length c.loop-level.levels.items ≡ max (length c.args.levels.now.items) (length c.args.others.now) =
+    i.joined.len ∙ ap (max (length c.args.levels.now.items)) end in
+    record {
+      joined = all-joined-to g.met.T.Ord.total _ _ _ _ c.requires.levels.placed c.loop-level.level _ end i.joined;
+      count = count;
+      spare = subst (λ (n : ℕ). n < vec_capacity c.loop-level.levels) (sym (c.loop-level.levels.ok.0 ∙ count)) i.spare;
+      merged_spaces = i.merged_spaces;
+      empty = i.empty;
+      coming = i.coming;
+      nothing = i.nothing;
+      up = i.up;
+    }
