@@ -1,4 +1,5 @@
 -- The levels themselves take the items at once, or a copy takes them in turn.
+use Rattle.std.proofs.Common.{ℕ, ◌<◌}
 use Rattle.std.proofs.Common.{Bool, List, Ordering, refl, subst, sym, ◌≡◌, ◌∙◌, arith, ap}
 use Rattle.std.proofs.lemmas.Result.{IfOk-from_err}
 use Rattle.std.proofs.lemmas.Grind.{common_steps}
@@ -45,7 +46,7 @@ overflow_add-self-inside g c =
     omega (arith, rw (← c.self.view_is) at fits, retained-weight (layouts_of c.self.inside.compactors.items), c.self.invariant.retained_is)
 
 pub new-copy-requires-clause-some : goal.new-copy-requires-clause-some
-new-copy-requires-clause-some g c = omega (arith, length_all_zip (IsLevelCopy g.T.Ord.cmp) _ _ c.in_ok-copy_levels.ensures, c.self.invariant.some)
+new-copy-requires-clause-some g c = subst (λ (n : ℕ). 0 < n) (length_all_zip (IsLevelCopy g.T.Ord.cmp) _ _ c.in_ok-copy_levels.ensures) c.self.invariant.some
 
 pub new-copy-requires-clause-levels : goal.new-copy-requires-clause-levels
 new-copy-requires-clause-levels g c = placed-copied g.met.T.Ord.total _ _ 0 _ _ c.in_ok-copy_levels.ensures c.self.invariant.placed

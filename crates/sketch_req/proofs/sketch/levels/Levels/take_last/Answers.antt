@@ -36,7 +36,7 @@ pub overflow_add-self-inside : goal.overflow_add-self-inside
 overflow_add-self-inside g c = grind arith
 
 pub append_and_walk-requires-clause-levels : goal.append_and_walk-requires-clause-levels
-append_and_walk-requires-clause-levels g c = grind arith
+append_and_walk-requires-clause-levels g c = (own-levels g.T.Ord.cmp _ _ _ c.self.invariant.some c.self.invariant.placed).held
 
 pub append_and_walk-requires-clause-few : goal.append_and_walk-requires-clause-few
 append_and_walk-requires-clause-few g c = grind arith

@@ -13,7 +13,7 @@ loop-level-preserved g c =
     let same = c.move_if_loose.ensures ∙ c.index_mut.ensures.value in
     record {
       levels = ap (set items c.loop-level.level) same ∙ (set-get_or items c.loop-level.level c.index_mut.result.now ∙ c.loop-level.invariant.levels);
-      rooms = simp length-set c.loop-level.invariant.rooms;
+      rooms = length-set c.loop-level.rooms.items c.loop-level.level _ ∙ c.loop-level.invariant.rooms;
     }
 
 pub returns : goal.returns

@@ -1,4 +1,4 @@
-use Rattle.std.proofs.Common.{ℕ, refl, subst, sym, vec_capacity, ◌≡◌, ◌<◌, ◌∙◌, List, [], ◌∷◌, length, slice_set, ap, arith, Ordering}
+use Rattle.std.proofs.Common.{ℕ, le_of_eq, le_trans, lt_of_le_of_lt, refl, subst, sym, vec_capacity, ◌≡◌, ◌<◌, ◌∙◌, List, [], ◌∷◌, length, slice_set, ap, arith, Ordering}
 use Rattle.std.proofs.lemmas.Result.{IfOk-from_err}
 use Rattle.sketch_base.specs.Buffers.{Space}
 use Rattle.sketch_req.specs.declared.RankAccuracy.{RankAccuracy}
@@ -60,7 +60,7 @@ returns-in_err-append g c =     let r = c.from_residual-in_err-append.result in
     record {
       acted = IfOk-from_err r _ fails;
       err = on-error r (first-kept c.reserve_exact.new.self.items c.index_mut.result.now _ some c.index_mut.ensures.value c.in_err-append.ensures.err ∙ same, refl);
-      memory = error-passed r is (c.in_err-append.ensures.memory (omega (arith, few, all, c.requires.few)));
+      memory = error-passed r is (c.in_err-append.ensures.memory (lt_of_le_of_lt (le_trans few (le_of_eq all)) c.requires.few));
     }
 
 pub returns-in_err-reserve : goal.returns-in_err-reserve

@@ -1,5 +1,5 @@
 -- The loop keeps what is known of the next level's turn, and that there are clones, and room for the turns so far.
-use Rattle.std.proofs.Common.{nat_cmp, true, Ordering, inl, inr, ◌≡◌, ℕ, suc, ◌+◌, ◌/◌, ◌<◌, ◌≤◌, Bool, if◌then◌else◌, List, [], length, length-set, refl, sym, ap, ◌∙◌, subst, arith, get_or, le_trans, lt_of_lt_of_le, max, not-le_of_lt, not-suc-le-zero, vec_capacity}
+use Rattle.std.proofs.Common.{nat_cmp, true, Ordering, inl, inr, ◌≡◌, ℕ, suc, ◌+◌, ◌/◌, ◌<◌, ◌≤◌, Bool, if◌then◌else◌, List, [], length, length-set, refl, sym, ap, ap₂, ◌∙◌, subst, arith, get_or, le_trans, lt_of_lt_of_le, max, not-le_of_lt, not-suc-le-zero, vec_capacity}
 use Rattle.std.specs.Ordering.{ord_max}
 use Rattle.std.proofs.lemmas.Bool.{cases_lt}
 use Rattle.std.proofs.lemmas.Result.{IfOk-from_err}
@@ -30,6 +30,14 @@ use Rattle.sketch_req.proofs.sketch.levels.walk.reserve.Goals.{After-count_at-in
 at-most-greater : (greater m n : ℕ) → greater ≡ ord_max nat_cmp m n → (m ≤ greater) × (n ≤ greater)
 at-most-greater greater m n e = (grind (arith, common_steps), grind (arith, common_steps))
 
+-- two counts together
+both-counts : (a b n m both : ℕ) → a ≡ n → b ≡ m → both ≡ n + m → a + b ≡ both
+both-counts a b n m both e f s = grind arith
+
+-- a level holds few items after some came
+few-come : (a b here came start first both n m more bound : ℕ) → a + b ≡ here → here + came ≤ start → start + first ≡ both + (first + more) → both ≡ n + m → n + m + more < bound → a + b + came < bound
+few-come a b here came start first both n m more bound e l s j f = omega (arith, e, l, s, j, f)
+
 -- how many items the level then holds
 module _ (g : Over) (c : After-count_at-in-loop-level g) where
   abbrev both : List Layout
@@ -37,30 +45,21 @@ module _ (g : Over) (c : After-count_at-in-loop-level g) where
 
   here : c.count_at.result + c.count_at-in-loop-level.result ≡ (layout_at both c.loop-level.level).count
   here =
-      omega (
-        arith,
-        joined-count (k_of c.args.levels.now) (layouts_of c.args.levels.now) (layouts_of c.args.others.now) c.loop-level.level,
-        c.count_at.ensures,
-        c.count_at-in-loop-level.ensures,
-      )
+      both-counts _ _ _ _ _ c.count_at.ensures c.count_at-in-loop-level.ensures
+      (joined-count (k_of c.args.levels.now) (layouts_of c.args.levels.now) (layouts_of c.args.others.now) c.loop-level.level)
 
   few : c.count_at.result + c.count_at-in-loop-level.result + c.loop-level.came < 4294967296
   few =
-      omega (
-        arith,
-        here,
-        planned-carried _ _ _ _ _ c.loop-level.invariant.planned,
-        retained-with 0 (filled c.args.more) both,
-        retained-joined (k_of c.args.levels.now) (layouts_of c.args.levels.now) (layouts_of c.args.others.now),
-        c.requires.few,
-      )
+      few-come _ _ _ _ _ _ _ _ _ _ _ here (planned-carried _ _ _ _ _ c.loop-level.invariant.planned) (retained-with 0 (filled c.args.more) both)
+      (retained-joined (k_of c.args.levels.now) (layouts_of c.args.levels.now) (layouts_of c.args.others.now)) c.requires.few
 
 pub overflow_add-here-in-loop-level : goal.overflow_add-here-in-loop-level
 overflow_add-here-in-loop-level g c = let f = few g (past.overflow_add-here-in-loop-level g c).After-count_at-in-loop-level in grind (arith, common_steps)
 
 pub count_to_take_at-taken-requires-clause-few : goal.count_to_take_at-taken-requires-clause-few
 count_to_take_at-taken-requires-clause-few g c =
-    omega (arith, few g (past.count_to_take_at-taken-requires-clause-few g c).After-count_at-in-loop-level, c.count_at.ensures, c.count_at-in-loop-level.ensures)
+    subst (λ (n : ℕ). n + c.loop-level.came < 4294967296) (ap₂ (λ (n m : ℕ). n + m) c.count_at.ensures c.count_at-in-loop-level.ensures)
+    (few g (past.count_to_take_at-taken-requires-clause-few g c).After-count_at-in-loop-level)
 
 pub count_to_take_at-taken-requires-clause-blank : goal.count_to_take_at-taken-requires-clause-blank
 count_to_take_at-taken-requires-clause-blank g c =
@@ -158,23 +157,28 @@ loop-level-preserved g c =
     }
 
 -- the greater of two lengths
-all-lengths : (n m a b both more greater : ℕ) → a ≡ n → b ≡ m → both ≡ max a b → more ≡ both → greater ≡ max n m → (more ≤ greater) × (m ≤ greater)
-all-lengths n m a b both more greater e f x y z = (omega (arith, e, f, x, y, z), omega (arith, z))
+all-places : {A : Type 0} (k more greater : ℕ) (ls os : List (Level A)) → 0 < length ls → greater ≡ max (length ls) (length os) →
+    (length (with_more more (joined_layouts k (layouts_of ls) (layouts_of os))) ≤ greater) × (length os ≤ greater)
+all-places k more greater ls os some e =
+    let n = length-layouts ls in
+    let b = length-joined k (layouts_of ls) (layouts_of os) in
+    let all = length-more more (joined_layouts k (layouts_of ls) (layouts_of os)) (omega (arith, b, n, some)) in
+    (omega (arith, all, b, n, length-layouts os, e), omega (arith, e))
+
+-- a part of a sum
+part-within : (n m most : ℕ) → n + m ≤ most → m ≤ most
+part-within n m most l = omega (arith, l)
 
 pub returns : goal.returns
 returns g c =
-    let k = k_of c.args.levels.now in
     let i = c.loop-level.invariant in
-    let n = length-layouts c.args.levels.now in
-    let b = length-joined k (layouts_of c.args.levels.now) (layouts_of c.args.others.now) in
-    let more = length-more c.args.more (joined_layouts k (layouts_of c.args.levels.now) (layouts_of c.args.others.now)) (omega (arith, b, n, c.requires.levels.some)) in
-    let lengths = all-lengths _ _ _ _ _ _ _ n (length-layouts c.args.others.now) b more c.max-count.ensures in
+    let lengths = all-places (k_of c.args.levels.now) c.args.more _ c.args.levels.now c.args.others.now c.requires.levels.some c.max-count.ensures in
     let done = c.loop-level-test.false in
-    let most : c.loop-level.most ≤ vec_capacity c.reserve_exact.new.self = omega (arith, c.in_ok-reserve_exact.ensures.ok) in
+    let most = part-within _ _ _ c.in_ok-reserve_exact.ensures.ok in
     record {
       empty = c.reserve_exact.ensures.items ∙ c.clear.ensures.items;
       nothing = c.reserve_exact-2.ensures.items ∙ c.clear-2.ensures.items;
-      above = omega (arith, c.in_ok-reserve_exact-2.ensures.ok, c.capacity.ensures);
+      above = subst (λ (n : ℕ). n ≤ vec_capacity c.reserve_exact-2.new.self) c.capacity.ensures (part-within _ _ _ c.in_ok-reserve_exact-2.ensures.ok);
       cloned = record {
         enough = le_trans lengths.1 i.enough;
         cloned = λ h l. cloned-grown g.T.Ord.cmp _ _ _ _ _ _ most (i.cloned h (lt_of_lt_of_le l (le_trans lengths.1 done)) l);

@@ -1,5 +1,5 @@
 -- The loop keeps what is pending after the turns so far.
-use Rattle.std.proofs.Common.{le_antisymm, le_of_eq, le_trans, Ordering, ◌≡◌, ℕ, ◌+◌, ◌-◌, ◌<◌, ◌≤◌, ◌==◌, Bool, true, if◌then◌else◌, eq-eqb, length-append, List, [], ◌∷◌, ◌++◌, get_or, length, length-set, set, refl, sym, ap, ap₂, ◌∙◌, subst, arith, lt_of_le_of_lt, vec_capacity, IsSorted}
+use Rattle.std.proofs.Common.{le_antisymm, le_of_eq, le_refl, le_trans, lt_of_lt_of_le, Ordering, ◌≡◌, ℕ, ◌+◌, ◌-◌, ◌<◌, ◌≤◌, ◌==◌, Bool, true, if◌then◌else◌, eq-eqb, length-append, List, [], ◌∷◌, ◌++◌, get_or, length, length-set, set, refl, sym, ap, ap₂, ◌∙◌, subst, arith, lt_of_le_of_lt, vec_capacity, IsSorted}
 use Rattle.std.proofs.lemmas.List.{nil_from_length}
 use Rattle.sketch_base.proofs.Sorting.{short_sorted}
 use Rattle.sketch_base.specs.Buffers.{Space, merged_spaces}
@@ -22,19 +22,19 @@ pub loop-level-init : goal.loop-level-init
 loop-level-init g c = record {
   pending = pending-start g.met.T.Ord.total _ _ _ _ _ _ _ _ _ c.requires.empty c.requires.levels.placed;
   len = sym c.len-count.ensures;
-  spare = omega (arith, c.requires.spare, c.len-count.ensures);
+  spare = subst (λ (n : ℕ). n < vec_capacity c.args.levels.now) (sym c.len-count.ensures) c.requires.spare;
   as_many = refl;
   merged = λ j _. refl;
   sorted = subst (IsSorted g.T.Ord.cmp) (sym c.requires.empty) (short_sorted g.T.Ord.cmp [] (omega arith));
   empty = c.requires.nothing;
-  room = omega arith;
+  room = le_refl _;
   above = c.requires.above;
 }
 
 -- a turn
 module _ (g : _) (c : After-index_mut-in-loop-level g) where
   within : c.loop-level.level < length c.loop-level.levels.items
-  within = omega (arith, c.loop-level-test.true, c.loop-level.invariant.len, c.loop-level.levels.ok)
+  within = subst (λ (n : ℕ). c.loop-level.level < n) (sym c.loop-level.invariant.len ∙ c.loop-level.levels.ok.0) c.loop-level-test.true
 
   abbrev spaces : List ℕ
   spaces = merged_spaces c.args.room.now.rooms.items
@@ -46,14 +46,15 @@ module _ (g : _) (c : After-index_mut-in-loop-level g) where
   inside : c.loop-level.level < length (layouts_of c.args.levels.now.items)
   inside =
       let levels = c.args.levels.now in
-      omega (arith, length-layouts levels.items, c.loop-level-test.true, c.len-count.ensures, levels.ok)
+      subst (λ (n : ℕ). c.loop-level.level < n) (c.len-count.ensures ∙ (levels.ok.0 ∙ sym (length-layouts levels.items))) c.loop-level-test.true
 
   -- the space of the level's buffers
   own-there_is : get_or spaces c.loop-level.level 0 ≡ c.index_mut-in-loop-level.result.now.merged_space
   own-there_is =
       let i = c.loop-level.invariant in
-      sym (i.merged c.loop-level.level (omega arith))
-      ∙ read-there (λ b. b.merged_space) 0 c.loop-level.rooms.items c.loop-level.level c.index_mut-in-loop-level.result.now (omega (arith, i.as_many, c.requires.fit.enough, inside)) c.index_mut-in-loop-level.ensures.value
+      sym (i.merged c.loop-level.level (le_refl _))
+      ∙ read-there (λ b. b.merged_space) 0 c.loop-level.rooms.items c.loop-level.level c.index_mut-in-loop-level.result.now
+      (lt_of_lt_of_le inside (le_trans c.requires.fit.enough (le_of_eq (sym i.as_many)))) c.index_mut-in-loop-level.ensures.value
 
   -- the level has the sketch's k and accuracy
   own-told : (c.index_mut.result.now.k ≡ k_of c.args.levels.now.items) × (c.index_mut.result.now.accuracy ≡ accuracy_of c.args.levels.now.items)
@@ -66,7 +67,7 @@ turn-requires-clause-sorted g c = c.loop-level.invariant.sorted
 
 pub turn-requires-clause-few : goal.turn-requires-clause-few
 turn-requires-clause-few g c =
-    omega (arith, (ready g (past.turn-requires-clause-few g c).After-index_mut-in-loop-level).few, c.requires.few_items)
+    lt_of_le_of_lt (ready g (past.turn-requires-clause-few g c).After-index_mut-in-loop-level).few c.requires.few_items
 
 -- space for a level, by its k and its accuracy
 space-told : (k own_k came most : ℕ) (accuracy own_accuracy : RankAccuracy) (l : Layout) → own_k ≡ k → own_accuracy ≡ accuracy → own_space k accuracy came l ≤ most →
@@ -89,7 +90,7 @@ pub turn-requires-clause-above : goal.turn-requires-clause-above
 turn-requires-clause-above g c =
     let at = (past.turn-requires-clause-above g c).After-index_mut-in-loop-level in
     let held = ready-held g.met.T.Ord.total _ _ _ _ _ _ _ _ _ _ _ _ _ (ready g at) (c.requires.fit.promoted c.loop-level.level (inside g at)) in
-    λ _. omega (arith, held, c.loop-level.invariant.above)
+    λ _. le_trans held c.loop-level.invariant.above
 
 pub loop-level-preserved : goal.loop-level-preserved
 loop-level-preserved g c =
@@ -158,6 +159,11 @@ none g c upper e =
     let added = is-added _ _ _ _ (le_of_eq same) c.add_level.ensures.items in
     ap (λ (l : Level g.row.T.Denot). length l.items) (e ∙ added.new upper (sym same))
 
+-- a list that an item was appended to
+longer-by-one : {A : Type 0} (n : ℕ) (ls ns : List A) (last : A) → n ≡ length ls → ns ≡ (if n == length ls then ls ++ last ∷ [] else ls) → length ns ≡ n + 1
+longer-by-one {A} n ls ns last all e =
+    ap length (e ∙ ap (λ (b : Bool). if b then ls ++ last ∷ [] else ls) (eq-eqb n (length ls) all)) ∙ (length-append ls (last ∷ []) ∙ ap (λ (m : ℕ). m + 1) (sym all))
+
 -- with the level that was added
 module _ (g : _) (c : After-add_level g) (own : c.parameters-k.result ≡ (k_of c.args.levels.now.items, accuracy_of c.args.levels.now.items)) (ends : c.len-count.result ≡ (c.loop-level.level - 1) + 1) where
   added : c.add_level.new.levels.items ≡ raised (k_of c.args.levels.now.items) (accuracy_of c.args.levels.now.items) (c.loop-level.level - 1) c.loop-level.levels.items
@@ -168,12 +174,7 @@ module _ (g : _) (c : After-add_level g) (own : c.parameters-k.result ≡ (k_of 
       ∙ ap (λ (p : ℕ × RankAccuracy). raised p.0 p.1 (c.loop-level.level - 1) ls) own)
 
   longer : length c.add_level.new.levels.items ≡ c.len-count.result + 1
-  longer =
-      let ls = c.loop-level.levels.items in
-      let last : Level g.row.T.Denot = fresh [] true c.len-count.result c.parameters-k.result.0 c.parameters-k.result.1 in
-      let all : c.len-count.result ≡ length ls = sym c.loop-level.invariant.len ∙ c.loop-level.levels.ok.0 in
-      ap length (c.add_level.ensures.items ∙ ap (λ (b : Bool). if b then ls ++ last ∷ [] else ls) (eq-eqb c.len-count.result (length ls) all))
-      ∙ (length-append ls (last ∷ []) ∙ ap (λ (n : ℕ). n + 1) (sym all))
+  longer = longer-by-one _ _ _ _ (sym c.loop-level.invariant.len ∙ c.loop-level.levels.ok.0) c.add_level.ensures.items
 
 pub index_mut-requires-then-not-is_empty : goal.index_mut-requires-then-not-is_empty
 index_mut-requires-then-not-is_empty g c =
