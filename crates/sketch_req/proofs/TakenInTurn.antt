@@ -232,12 +232,8 @@ pub first-item : {A : Type 0} (xs : List A) (x : A) → 0 < length xs → x ≡ 
 first-item [] x some e = absurd (omega (arith, some))
 first-item {A} (y ∷ xs) x some e = ap (λ (z : A). z ∷ []) (sym e)
 
--- level 0 set to itself
-pub first-kept : {A : Type 0} (ls : List (Level A)) (x new : Level A) → 0 < length ls → x ≡ get_or ls 0 x → new ≡ x → set ls 0 new ≡ ls
-first-kept [] x new some e same = absurd (omega (arith, some))
-first-kept {A} (l ∷ ls) x new some e same = ap (λ (y : Level A). y ∷ ls) (same ∙ e)
-
 -- if an item was appended to level 0, it was appended to the levels as a whole
-pub first-appended : {A : Type 0} (ls : List (Level A)) (first new : Level A) (x : A) → 0 < length ls → first ≡ get_or ls 0 first → new ≡ appended first x → set ls 0 new ≡ appended_first ls x
+pub first-appended : {A : Type 0} (ls : List (Level A)) (first new : Level A) (x : A) → 0 < length ls → first ≡ get_or ls 0 first → new ≡ appended first x →
+    set ls 0 new ≡ appended_first ls x
 first-appended [] first new x some is e = absurd (omega (arith, some))
 first-appended {A} (l ∷ ls) first new x some is e = ap (λ (m : Level A). m ∷ ls) (e ∙ ap (λ (m : Level A). appended m x) is)

@@ -21,15 +21,19 @@ pub returns-then-not-redraws-clause-coins : goal.returns-then-not-redraws-clause
 returns-then-not-redraws-clause-coins g c = grind (arith, common_steps)
 
 pub loop-level-preserved : goal.loop-level-preserved
-loop-level-preserved g c =     let i = c.loop-level.invariant in
+loop-level-preserved g c =
+    let i = c.loop-level.invariant in
     let items : List (Level g.row.T.Denot) = c.loop-level.levels.items in
     let inside : c.loop-level.level < length items = omega (arith, i.len, c.loop-level-test.true) in
     let e = ap (set items c.loop-level.level) c.redraw_coin.ensures.value in
-    let more = redrawn-more g.B.RandomBits.bit g.B.RandomBits.next c.loop-level.coins c.loop-level.level items c.index_mut.result.now inside c.index_mut.ensures.value in
+    let more = redrawn-more g.B.RandomBits.bit g.B.RandomBits.next c.loop-level.coins c.loop-level.level items c.index_mut.result.now inside
+    c.index_mut.ensures.value in
     record {
       len = length-set items c.loop-level.level c.redraw_coin.new.self ∙ i.len;
-      levels = ap₂ (λ (s : g.row.B.Denot) (ls : List (Level g.row.T.Denot)). drawn_so_far g.B.RandomBits.bit g.B.RandomBits.next s (c.loop-level.level + 1) ls) c.redraw_coin.ensures.coins e ∙ (more.0 ∙ i.levels);
-      coins = ap₂ (λ (s : g.row.B.Denot) (ls : List (Level g.row.T.Denot)). source_by g.B.RandomBits.bit g.B.RandomBits.next s (drop (c.loop-level.level + 1) ls)) c.redraw_coin.ensures.coins e
+      levels = ap₂ (λ (s : g.row.B.Denot) (ls : List (Level g.row.T.Denot)). drawn_so_far g.B.RandomBits.bit g.B.RandomBits.next s (c.loop-level.level + 1) ls)
+          c.redraw_coin.ensures.coins e ∙ (more.0 ∙ i.levels);
+      coins = ap₂ (λ (s : g.row.B.Denot) (ls : List (Level g.row.T.Denot)). source_by g.B.RandomBits.bit g.B.RandomBits.next s
+          (drop (c.loop-level.level + 1) ls)) c.redraw_coin.ensures.coins e
           ∙ (more.1 ∙ i.coins);
       room = i.room;
     }

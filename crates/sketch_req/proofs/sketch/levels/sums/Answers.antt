@@ -26,7 +26,8 @@ pub returns-clause-capacity : goal.returns-clause-capacity
 returns-clause-capacity g c = grind (arith, common_steps)
 
 pub loop-level-preserved : goal.loop-level-preserved
-loop-level-preserved g c =     let i = c.loop-level.invariant in
+loop-level-preserved g c =
+    let i = c.loop-level.invariant in
     let m = sum-more (λ (l : Layout). l.count) _ _ _ _ refl c.loop-level-test.true c.level-item.is in
     record {
       count = one-more _ _ _ _ _ _ m i.count c.num_items.ensures refl;

@@ -7,7 +7,8 @@ use Rattle.sketch_req.specs.Updates.{HaveClones, all_appended_first}
 use Rattle.sketch_req.specs.Held.{Held, IsHeld, held_of}
 use Rattle.sketch_req.specs.Level.{Level}
 use Rattle.sketch_req.specs.Schedule.{layouts_of, nominal_sum, retained_of}
-use Rattle.sketch_req.proofs.TakenInTurn.{first-kept, first-few, first-filled, held-filled, nominal-small}
+use Rattle.sketch_req.proofs.ListPlaces.{set-kept}
+use Rattle.sketch_req.proofs.TakenInTurn.{first-few, first-filled, held-filled, nominal-small}
 use Rattle.sketch_req.proofs.Exits.{on-error}
 use Rattle.sketch_req.proofs.sketch.levels.Levels.fill.Goals.{In_ok-append_clones}
 use Rattle.sketch_req.proofs.sketch.levels.Levels.fill.Given.{Over}
@@ -31,21 +32,25 @@ filled g c =
     first-filled c.self.inside.compactors.items _ _ h.clones c.self.invariant.some c.index_mut.ensures.value h.new_is
 
 pub invariant_of-self-2 : goal.invariant_of-self-2
-invariant_of-self-2 g c =     let s = c.self.inside in
+invariant_of-self-2 g c =
+    let s = c.self.inside in
     let h = c.in_ok-append_clones.ensures.ok in
-    let room = subst (λ (x : Held g.row.T.Denot). retained_of (layouts_of x.levels) + length c.args.items.now < nominal_sum x.k (layouts_of x.levels)) (sym c.self.view_is) c.requires.room in
+    let room = subst (λ (x : Held g.row.T.Denot). retained_of (layouts_of x.levels) + length c.args.items.now < nominal_sum x.k (layouts_of x.levels))
+    (sym c.self.view_is) c.requires.room in
     let small = nominal-small g.T.Ord.cmp _ _ _ c.self.invariant.placed in
     let n = length_all_zip (λ x y. g.T.Ord.cmp x y ≡ Equal) c.args.items.now h.clones h.same in
     subst (λ (ls : List (Level g.row.T.Denot)). IsHeld g.T.Ord.cmp (s.num_retained + length c.args.items.now) s.capacity (held_of s.k s.rank_accuracy ls))
     (sym (filled g (past.invariant_of-self-2 g c).In_ok-append_clones))
-    (subst (λ (m : ℕ). IsHeld g.T.Ord.cmp (s.num_retained + m) s.capacity (held_of s.k s.rank_accuracy (all_appended_first s.compactors.items h.clones))) (sym n)
+    (subst (λ (m : ℕ). IsHeld g.T.Ord.cmp (s.num_retained + m) s.capacity (held_of s.k s.rank_accuracy (all_appended_first s.compactors.items h.clones)))
+    (sym n)
     (held-filled g.T.Ord.cmp _ _ _ _ s.compactors.items h.clones c.self.invariant (omega (arith, room, small, n))))
 
 pub overflow_add-self : goal.overflow_add-self
 overflow_add-self g c = grind (arith, common_steps)
 
 pub returns : goal.returns
-returns g c =     let h = c.in_ok-append_clones.ensures.ok in
+returns g c =
+    let h = c.in_ok-append_clones.ensures.ok in
     let levels = set c.self.inside.compactors.items 0 c.append_clones.new.self in
     record {
       kept = ap (λ (h : Held g.row.T.Denot). held_of h.k h.accuracy levels) c.self.view_is;
@@ -55,8 +60,9 @@ returns g c =     let h = c.in_ok-append_clones.ensures.ok in
     }
 
 pub returns-in_err-append_clones : goal.returns-in_err-append_clones
-returns-in_err-append_clones g c =     let s = c.self.inside in
-    let same = first-kept s.compactors.items _ _ c.self.invariant.some c.index_mut.ensures.value c.in_err-append_clones.ensures.err in
+returns-in_err-append_clones g c =
+    let s = c.self.inside in
+    let same = set-kept s.compactors.items 0 _ _ c.index_mut.ensures.value c.in_err-append_clones.ensures.err in
     let r = c.from_residual.result in
     record {
       kept = ap (λ (h : Held g.row.T.Denot). held_of h.k h.accuracy (set s.compactors.items 0 c.append_clones.new.self)) c.self.view_is;
@@ -65,8 +71,9 @@ returns-in_err-append_clones g c =     let s = c.self.inside in
     }
 
 pub invariant_of-self : goal.invariant_of-self
-invariant_of-self g c =     let s = c.self.inside in
-    let same = first-kept s.compactors.items _ _ c.self.invariant.some c.index_mut.ensures.value c.in_err-append_clones.ensures.err in
+invariant_of-self g c =
+    let s = c.self.inside in
+    let same = set-kept s.compactors.items 0 _ _ c.index_mut.ensures.value c.in_err-append_clones.ensures.err in
     subst (λ (ls : List (Level g.row.T.Denot)). IsHeld g.T.Ord.cmp s.num_retained s.capacity (held_of s.k s.rank_accuracy ls)) (sym same) c.self.invariant
 
 pub append_clones-requires-clause-some : goal.append_clones-requires-clause-some

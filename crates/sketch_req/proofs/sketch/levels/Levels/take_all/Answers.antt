@@ -1,6 +1,5 @@
 -- The levels themselves take the items at once, or a copy takes them in turn.
-use Rattle.std.proofs.Common.{ℕ, ◌<◌}
-use Rattle.std.proofs.Common.{Bool, List, Ordering, refl, subst, sym, ◌≡◌, ◌∙◌, arith, ap}
+use Rattle.std.proofs.Common.{ℕ, ◌<◌, Bool, List, Ordering, refl, subst, sym, ◌≡◌, ◌∙◌, arith, ap}
 use Rattle.std.proofs.lemmas.Result.{IfOk-from_err}
 use Rattle.std.proofs.lemmas.Grind.{common_steps}
 use Rattle.std.proofs.lemmas.List.Elements.{length_all_zip}
@@ -23,8 +22,10 @@ use Rattle.sketch_req.proofs.sketch.levels.Levels.take_all.Goals as goal
 use Rattle.sketch_req.proofs.sketch.levels.Levels.take_all.Goals.at as past
 
 -- copies of levels that took in items are levels that took them in
-copied-taken : {A S : Type 0} (cmp : A → A → Ordering) (bit : S → Bool) (next : S → S) (source after : S) (own s copy : Held A) (items : List A) (copies levels ns : List (Level A)) → own ≡ s →
-    copy ≡ record own { levels = copies } → AllZip (IsLevelCopy cmp) own.levels copies → AreTakenInTurn cmp bit next source after copy.k copy.accuracy copy.levels items ns → levels ≡ ns →
+copied-taken : {A S : Type 0} (cmp : A → A → Ordering) (bit : S → Bool) (next : S → S) (source after : S) (own s copy : Held A) (items : List A)
+    (copies levels ns : List (Level A)) → own ≡ s →
+    copy ≡ record own { levels = copies } → AllZip (IsLevelCopy cmp) own.levels copies →
+    AreTakenInTurn cmp bit next source after copy.k copy.accuracy copy.levels items ns → levels ≡ ns →
     AreAllTaken cmp bit next source after s.k s.accuracy s.levels items levels
 copied-taken cmp bit next source after own s copy items copies levels ns o c are taken same =
     subst (λ (h : Held _). AreAllTaken cmp bit next source after h.k h.accuracy h.levels items levels) o (record {
@@ -35,7 +36,8 @@ copied-taken cmp bit next source after own s copy items copies levels ns o c are
     })
 
 -- the draws of updates, by what they depend on
-same-draws : {A S : Type 0} (next : S → S) (source after : S) (items : List A) (s t : Held A) → t.k ≡ s.k → t.accuracy ≡ s.accuracy → layouts_of t.levels ≡ layouts_of s.levels →
+same-draws : {A S : Type 0} (next : S → S) (source after : S) (items : List A) (s t : Held A) → t.k ≡ s.k → t.accuracy ≡ s.accuracy →
+    layouts_of t.levels ≡ layouts_of s.levels →
     IsDrawnFrom next (draws_of (updates_actions t.k t.accuracy (layouts_of t.levels) items)) source after →
     IsDrawnFrom next (draws_of (updates_actions s.k s.accuracy (layouts_of s.levels) items)) source after
 same-draws next source after items s t k accuracy same drawn = rw (← k, ← accuracy, ← same) drawn
@@ -81,11 +83,14 @@ pub same-self-in_err-take_in_turn : goal.same-self-in_err-take_in_turn
 same-self-in_err-take_in_turn g c = grind arith
 
 pub returns : goal.returns
-returns g c =     let levels = c.copy.inside.compactors.items in
+returns g c =
+    let levels = c.copy.inside.compactors.items in
     record {
       kept = ap (λ (h : Held g.row.T.Denot). held_of h.k h.accuracy levels) (c.copy.view_is ∙ c.in_ok-take_in_turn.ensures.kept)
-          ∙ (ap (λ (h : Held g.row.T.Denot). held_of h.k h.accuracy levels) c.new-copy.ensures ∙ ap (λ (h : Held g.row.T.Denot). held_of h.k h.accuracy levels) c.self.view_is);
-      taken = copied-taken g.T.Ord.cmp g.B.RandomBits.bit g.B.RandomBits.next c.args.coins.now c.take_in_turn.new.coins _ _ _ c.args.items.now _ levels _ c.self.view_is c.new-copy.ensures
+          ∙ (ap (λ (h : Held g.row.T.Denot). held_of h.k h.accuracy levels) c.new-copy.ensures ∙ ap
+          (λ (h : Held g.row.T.Denot). held_of h.k h.accuracy levels) c.self.view_is);
+      taken = copied-taken g.T.Ord.cmp g.B.RandomBits.bit g.B.RandomBits.next c.args.coins.now c.take_in_turn.new.coins _ _ _ c.args.items.now _ levels _
+          c.self.view_is c.new-copy.ensures
           c.in_ok-copy_levels.ensures c.in_ok-take_in_turn.ensures.taken (ap (λ (h : Held g.row.T.Denot). h.levels) c.copy.view_is);
       err = tt;
       drawn = tt;
@@ -93,7 +98,8 @@ returns g c =     let levels = c.copy.inside.compactors.items in
     }
 
 pub returns-then-self-items : goal.returns-then-self-items
-returns-then-self-items g c =     let s = c.args.self.now in
+returns-then-self-items g c =
+    let s = c.args.self.now in
     let held = subst (IsHeld g.T.Ord.cmp c.self.inside.num_retained c.self.inside.capacity) c.self.view_is c.self.invariant in
     let h = c.in_ok-fill.ensures.filled in
     record {
@@ -101,9 +107,11 @@ returns-then-self-items g c =     let s = c.args.self.now in
       taken = record {
         copies = s.levels;
         are_copies = levels-itself g.met.T.Ord.total s.k s.accuracy 0 s.levels held.placed;
-        taken = subst (λ (ls : List (Level g.row.T.Denot)). AreTakenInTurn g.T.Ord.cmp g.B.RandomBits.bit g.B.RandomBits.next c.args.coins.now c.args.coins.now s.k s.accuracy s.levels c.args.items.now ls)
+        taken = subst (λ (ls : List (Level g.row.T.Denot)). AreTakenInTurn g.T.Ord.cmp g.B.RandomBits.bit g.B.RandomBits.next c.args.coins.now c.args.coins.now
+            s.k s.accuracy s.levels c.args.items.now ls)
             (sym h.levels_are)
-            (taken-filled g.met.T.Ord.total g.B.RandomBits.bit g.B.RandomBits.next s.k s.accuracy c.args.coins.now s.levels _ h.clones held.some held.placed h.same
+            (taken-filled g.met.T.Ord.total g.B.RandomBits.bit g.B.RandomBits.next s.k s.accuracy c.args.coins.now s.levels _ h.clones held.some held.placed
+            h.same
             (omega (arith, c.if-self-items.true, held.retained_is, held.capacity_is)));
       };
       err = tt;
@@ -112,7 +120,8 @@ returns-then-self-items g c =     let s = c.args.self.now in
     }
 
 pub returns-in_err-fill : goal.returns-in_err-fill
-returns-in_err-fill g c =     let r = c.from_residual.result in
+returns-in_err-fill g c =
+    let r = c.from_residual.result in
     let (fails, is) = c.from_residual.ensures in
     record {
       kept = c.in_err-fill.ensures.kept;
@@ -123,7 +132,8 @@ returns-in_err-fill g c =     let r = c.from_residual.result in
     }
 
 pub returns-in_err-take_in_turn : goal.returns-in_err-take_in_turn
-returns-in_err-take_in_turn g c =     let same = copied g (past.returns-in_err-take_in_turn g c).After-new-copy in
+returns-in_err-take_in_turn g c =
+    let same = copied g (past.returns-in_err-take_in_turn g c).After-new-copy in
     let k = ap (λ (h : Held g.row.T.Denot). h.k) c.new-copy.ensures ∙ ap (λ (h : Held g.row.T.Denot). h.k) c.self.view_is in
     let accuracy = ap (λ (h : Held g.row.T.Denot). h.accuracy) c.new-copy.ensures ∙ ap (λ (h : Held g.row.T.Denot). h.accuracy) c.self.view_is in
     let r = c.from_residual-in_err-take_in_turn.result in
@@ -132,12 +142,14 @@ returns-in_err-take_in_turn g c =     let same = copied g (past.returns-in_err-t
       kept = refl;
       taken = IfOk-from_err r _ fails;
       err = on-error r refl;
-      drawn = on-error r (same-draws g.B.RandomBits.next c.args.coins.now c.take_in_turn.new.coins c.args.items.now c.args.self.now c.new-copy.result k accuracy same c.in_err-take_in_turn.ensures.drawn);
+      drawn = on-error r (same-draws g.B.RandomBits.next c.args.coins.now c.take_in_turn.new.coins c.args.items.now c.args.self.now c.new-copy.result k accuracy
+          same c.in_err-take_in_turn.ensures.drawn);
       memory = error-passed r is c.in_err-take_in_turn.ensures.memory;
     }
 
 pub returns-in_err-copy_levels : goal.returns-in_err-copy_levels
-returns-in_err-copy_levels g c =     let r = c.from_residual-in_err-copy_levels.result in
+returns-in_err-copy_levels g c =
+    let r = c.from_residual-in_err-copy_levels.result in
     let (fails, is) = c.from_residual-in_err-copy_levels.ensures in
     record {
       kept = refl;

@@ -15,9 +15,12 @@ use Rattle.sketch_req.proofs.TakenInTurn.{draws-few, left-append, taken-append}
 use Rattle.sketch_req.proofs.sketch.levels.Levels.take_in_turn.Goals as goal
 
 -- some items, and then a part of the rest
-module _ {A S : Type 0} {cmp : A → A → Ordering} (order : IsTotalOrder cmp) (bit : S → Bool) (next : S → S) (source middle after : S) (s own : Held A) (n m : ℕ) (items rest : List A) (ns : List (Level A)) where
-  taken-more : own ≡ record s { levels = own.levels } → rest ≡ drop n items → AreTakenInTurn cmp bit next source middle s.k s.accuracy s.levels (take n items) own.levels →
-      AreTakenInTurn cmp bit next middle after own.k own.accuracy own.levels (take m rest) ns → AreTakenInTurn cmp bit next source after s.k s.accuracy s.levels (take (n + m) items) ns
+module _ {A S : Type 0} {cmp : A → A → Ordering} (order : IsTotalOrder cmp) (bit : S → Bool) (next : S → S) (source middle after : S) (s own : Held A) (n m : ℕ)
+    (items rest : List A) (ns : List (Level A)) where
+  taken-more : own ≡ record s { levels = own.levels } → rest ≡ drop n items →
+      AreTakenInTurn cmp bit next source middle s.k s.accuracy s.levels (take n items) own.levels →
+      AreTakenInTurn cmp bit next middle after own.k own.accuracy own.levels (take m rest) ns →
+      AreTakenInTurn cmp bit next source after s.k s.accuracy s.levels (take (n + m) items) ns
   taken-more kept same so_far taken =
       let more = subst (λ (xs : List A). AreTakenInTurn cmp bit next middle after s.k s.accuracy own.levels (take m xs) ns) same
       (subst (λ (h : Held A). AreTakenInTurn cmp bit next middle after h.k h.accuracy h.levels (take m rest) ns) kept taken) in
@@ -36,18 +39,21 @@ pub loop-taken-init : goal.loop-taken-init
 loop-taken-init g c = grind (arith, common_steps)
 
 pub returns : goal.returns
-returns g c =     let s = c.args.self.now in
+returns g c =
+    let s = c.args.self.now in
     let i = c.loop-taken.invariant in
     record {
       kept = i.kept;
-      taken = subst (λ (xs : List g.row.T.Denot). AreTakenInTurn g.T.Ord.cmp g.B.RandomBits.bit g.B.RandomBits.next c.args.coins.now c.loop-taken.coins s.k s.accuracy s.levels xs c.loop-taken.self.levels)
+      taken = subst (λ (xs : List g.row.T.Denot). AreTakenInTurn g.T.Ord.cmp g.B.RandomBits.bit g.B.RandomBits.next c.args.coins.now c.loop-taken.coins s.k
+          s.accuracy s.levels xs c.loop-taken.self.levels)
           (take_all c.loop-taken.taken c.args.items.now c.loop-taken-test.false) i.so_far;
       drawn = tt;
       memory = tt;
     }
 
 pub returns-in_err-taken : goal.returns-in_err-taken
-returns-in_err-taken g c =     let s = c.args.self.now in
+returns-in_err-taken g c =
+    let s = c.args.self.now in
     let items = c.args.items.now in
     let done = take c.loop-taken.taken items in
     let r = c.from_residual.result in
@@ -57,7 +63,8 @@ returns-in_err-taken g c =     let s = c.args.self.now in
       taken = IfOk-from_err r _ fails;
       drawn = on-error r (record {
         count = draws_of (updates_actions s.k s.accuracy (layouts_of s.levels) done);
-        few = subst (λ (xs : List g.row.T.Denot). draws_of (updates_actions s.k s.accuracy (layouts_of s.levels) done) ≤ draws_of (updates_actions s.k s.accuracy (layouts_of s.levels) xs))
+        few = subst (λ (xs : List g.row.T.Denot). draws_of (updates_actions s.k s.accuracy (layouts_of s.levels) done) ≤ draws_of
+            (updates_actions s.k s.accuracy (layouts_of s.levels) xs))
             (take-append-drop c.loop-taken.taken items) (draws-few s.k s.accuracy (layouts_of s.levels) done (drop c.loop-taken.taken items));
         after_is = c.in_err-taken.ensures.err ∙ c.loop-taken.invariant.left.source_is;
       });
@@ -65,12 +72,14 @@ returns-in_err-taken g c =     let s = c.args.self.now in
     }
 
 pub take_some-requires-clause-fits : goal.take_some-requires-clause-fits
-take_some-requires-clause-fits g c =     let items = c.args.items.now in
+take_some-requires-clause-fits g c =
+    let items = c.args.items.now in
     let n = c.loop-taken.taken in
     omega (arith, c.loop-taken.invariant.left.weigh, c.requires.fits, length-take n items, length-take (length items - n) (drop n items), length-drop n items)
 
 pub take_some-requires-clause-some : goal.take_some-requires-clause-some
-take_some-requires-clause-some g c =     let items = c.args.items.now in
+take_some-requires-clause-some g c =
+    let items = c.args.items.now in
     let n = c.loop-taken.taken in
     omega (arith, c.loop-taken-test.true, length-take (length items - n) (drop n items), length-drop n items)
 
@@ -81,7 +90,8 @@ pub take_some-requires-clause-clones : goal.take_some-requires-clause-clones
 take_some-requires-clause-clones g c = c.requires.clones
 
 pub loop-taken-preserved : goal.loop-taken-preserved
-loop-taken-preserved g c =     let items = c.args.items.now in
+loop-taken-preserved g c =
+    let items = c.args.items.now in
     let n = c.loop-taken.taken in
     let i = c.loop-taken.invariant in
     let e = c.in_ok-taken.ensures in
@@ -89,8 +99,10 @@ loop-taken-preserved g c =     let items = c.args.items.now in
     record {
       within = omega (arith, c.loop-taken-test.true, e.within, ap length rest, length-drop n items);
       kept = e.kept ∙ ap (λ (h : Held g.row.T.Denot). held_of h.k h.accuracy c.take_some.new.self.levels) i.kept;
-      so_far = taken-more g.met.T.Ord.total g.B.RandomBits.bit g.B.RandomBits.next _ _ _ c.args.self.now c.loop-taken.self n c.in_ok-taken.field-0 items _ _ i.kept rest i.so_far e.taken;
-      left = left-more g.met.T.Ord.total g.B.RandomBits.bit g.B.RandomBits.next _ _ _ c.args.self.now c.loop-taken.self n c.in_ok-taken.field-0 items _ _ i.kept rest i.left e.left;
+      so_far = taken-more g.met.T.Ord.total g.B.RandomBits.bit g.B.RandomBits.next _ _ _ c.args.self.now c.loop-taken.self n c.in_ok-taken.field-0 items _ _
+          i.kept rest i.so_far e.taken;
+      left = left-more g.met.T.Ord.total g.B.RandomBits.bit g.B.RandomBits.next _ _ _ c.args.self.now c.loop-taken.self n c.in_ok-taken.field-0 items _ _ i.kept
+          rest i.left e.left;
     }
 
 pub loop-taken-smaller : goal.loop-taken-smaller

@@ -23,8 +23,10 @@ walked g c =
     let s = c.self.inside in
     let ls = appended_first s.compactors.items c.args.item in
     let own = own-levels g.T.Ord.cmp _ _ _ c.self.invariant.some c.self.invariant.placed in
-    subst (λ (n : ℕ). AreWalkedOver g.T.Ord.cmp g.B.RandomBits.bit g.B.RandomBits.next c.args.coins.now c.append_and_walk.new.coins n s.rank_accuracy ls c.append_and_walk.new.levels.items) own.k_is
-    (subst (λ (a : RankAccuracy). AreWalkedOver g.T.Ord.cmp g.B.RandomBits.bit g.B.RandomBits.next c.args.coins.now c.append_and_walk.new.coins (k_of s.compactors.items) a ls
+    subst (λ (n : ℕ). AreWalkedOver g.T.Ord.cmp g.B.RandomBits.bit g.B.RandomBits.next c.args.coins.now c.append_and_walk.new.coins n s.rank_accuracy ls
+    c.append_and_walk.new.levels.items) own.k_is
+    (subst (λ (a : RankAccuracy). AreWalkedOver g.T.Ord.cmp g.B.RandomBits.bit g.B.RandomBits.next c.args.coins.now c.append_and_walk.new.coins
+    (k_of s.compactors.items) a ls
     c.append_and_walk.new.levels.items) own.accuracy_is c.in_ok-append_and_walk.ensures.acted)
 
 pub sums-requires : goal.sums-requires
@@ -51,7 +53,8 @@ pub overflow_sub-max : goal.overflow_sub-max
 overflow_sub-max g c = grind arith
 
 pub returns : goal.returns
-returns g c =     let s = c.self.inside in
+returns g c =
+    let s = c.self.inside in
     let levels = c.give_back.new.levels.items in
     let more = retained-appended s.compactors.items c.args.item c.self.invariant.some in
     let same = nominal-appended s.k s.compactors.items c.args.item in
@@ -60,25 +63,30 @@ returns g c =     let s = c.self.inside in
     let walked = walked g (past.returns g c).In_ok-append_and_walk in
     record {
       kept = ap (λ (h : Held g.row.T.Denot). held_of h.k h.accuracy levels) c.self.view_is;
-      acted = subst (λ (h : Held g.row.T.Denot). AreWalkedIfFull g.T.Ord.cmp g.B.RandomBits.bit g.B.RandomBits.next c.args.coins.now c.append_and_walk.new.coins h.k h.accuracy
+      acted = subst (λ (h : Held g.row.T.Denot). AreWalkedIfFull g.T.Ord.cmp g.B.RandomBits.bit g.B.RandomBits.next c.args.coins.now c.append_and_walk.new.coins
+          h.k h.accuracy
           (appended_first h.levels c.args.item) levels) c.self.view_is (subst (λ (ls : List (Level g.row.T.Denot)).
-          AreWalkedIfFull g.T.Ord.cmp g.B.RandomBits.bit g.B.RandomBits.next c.args.coins.now c.append_and_walk.new.coins s.k s.rank_accuracy (appended_first s.compactors.items c.args.item) ls)
+          AreWalkedIfFull g.T.Ord.cmp g.B.RandomBits.bit g.B.RandomBits.next c.args.coins.now c.append_and_walk.new.coins s.k s.rank_accuracy
+          (appended_first s.compactors.items c.args.item) ls)
           (sym c.give_back.ensures) (acted-walk _ _ _ _ _ _ _ _ full walked));
       err = tt;
       memory = tt;
     }
 
 pub returns-then-self : goal.returns-then-self
-returns-then-self g c =     let s = c.args.self.now in
+returns-then-self g c =
+    let s = c.args.self.now in
     let held = subst (IsHeld g.T.Ord.cmp c.self.inside.num_retained c.self.inside.capacity) c.self.view_is c.self.invariant in
     let more = retained-appended s.levels c.args.item held.some in
     let same = nominal-appended s.k s.levels c.args.item in
-    let spare : are_full s.k (layouts_of (appended_first s.levels c.args.item)) ≡ false = lt-leb _ _ (omega (arith, more, same, held.retained_is, held.capacity_is, c.if-self.true)) in
+    let spare : are_full s.k (layouts_of (appended_first s.levels c.args.item)) ≡ false = lt-leb _ _
+    (omega (arith, more, same, held.retained_is, held.capacity_is, c.if-self.true)) in
     let put = c.in_ok-put.ensures.ok in
     let levels = sym (ap (λ (h : Held g.row.T.Denot). h.levels) put) in
     record {
       kept = put ∙ ap (held_of s.k s.accuracy) levels;
-      acted = subst (AreWalkedIfFull g.T.Ord.cmp g.B.RandomBits.bit g.B.RandomBits.next c.args.coins.now c.args.coins.now s.k s.accuracy (appended_first s.levels c.args.item)) levels
+      acted = subst (AreWalkedIfFull g.T.Ord.cmp g.B.RandomBits.bit g.B.RandomBits.next c.args.coins.now c.args.coins.now s.k s.accuracy
+          (appended_first s.levels c.args.item)) levels
           (acted-spare g.met.T.Ord.total g.B.RandomBits.bit g.B.RandomBits.next c.args.coins.now s.k s.accuracy (appended_first s.levels c.args.item)
           (placed-appended g.T.Ord.cmp s.k s.accuracy s.levels c.args.item held.placed c.requires.few) spare);
       err = tt;
@@ -86,7 +94,8 @@ returns-then-self g c =     let s = c.args.self.now in
     }
 
 pub returns-in_err-append_and_walk : goal.returns-in_err-append_and_walk
-returns-in_err-append_and_walk g c =     let r = c.from_residual-in_err-append_and_walk.result in
+returns-in_err-append_and_walk g c =
+    let r = c.from_residual-in_err-append_and_walk.result in
     let (fails, is) = c.from_residual-in_err-append_and_walk.ensures in
     let (levels, coins) = c.in_err-append_and_walk.ensures.err in
     record {
@@ -97,7 +106,8 @@ returns-in_err-append_and_walk g c =     let r = c.from_residual-in_err-append_a
     }
 
 pub returns-in_err-put : goal.returns-in_err-put
-returns-in_err-put g c =     let r = c.from_residual.result in
+returns-in_err-put g c =
+    let r = c.from_residual.result in
     let (fails, is) = c.from_residual.ensures in
     let same = c.in_err-put.ensures.err in
     record {
@@ -108,16 +118,20 @@ returns-in_err-put g c =     let r = c.from_residual.result in
     }
 
 pub invariant_of-self-2 : goal.invariant_of-self-2
-invariant_of-self-2 g c =     let s = c.self.inside in
+invariant_of-self-2 g c =
+    let s = c.self.inside in
     let walked = walked g (past.invariant_of-self-2 g c).In_ok-append_and_walk in
     let more = weight-appended s.compactors.items c.args.item c.self.invariant.some in
     let some = some-weigh _ (omega (arith, walked.acted.weigh, more)) in
     subst (λ (ls : List (Level g.row.T.Denot)). IsHeld g.T.Ord.cmp c.sums.result.0 c.sums.result.1 (held_of s.k s.rank_accuracy ls)) (sym c.give_back.ensures)
-    (held-sums g.T.Ord.cmp _ _ _ _ _ _ some walked.acted.placed (c.as_slice.ensures.value ∙ c.give_back.ensures) c.sums.ensures.retained c.sums.ensures.capacity)
+    (held-sums g.T.Ord.cmp _ _ _ _ _ _ some walked.acted.placed
+    (c.as_slice.ensures.value ∙ c.give_back.ensures) c.sums.ensures.retained c.sums.ensures.capacity)
 
 pub invariant_of-self : goal.invariant_of-self
-invariant_of-self g c =     let s = c.self.inside in
-    subst (λ (ls : List (Level g.row.T.Denot)). IsHeld g.T.Ord.cmp s.num_retained s.capacity (held_of s.k s.rank_accuracy ls)) (sym c.in_err-append_and_walk.ensures.err.0) c.self.invariant
+invariant_of-self g c =
+    let s = c.self.inside in
+    subst (λ (ls : List (Level g.row.T.Denot)). IsHeld g.T.Ord.cmp s.num_retained s.capacity (held_of s.k s.rank_accuracy ls))
+    (sym c.in_err-append_and_walk.ensures.err.0) c.self.invariant
 
 pub append_and_walk-requires-clause-clones : goal.append_and_walk-requires-clause-clones
 append_and_walk-requires-clause-clones g c = c.requires.clones

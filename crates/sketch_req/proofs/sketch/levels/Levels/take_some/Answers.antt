@@ -14,26 +14,31 @@ use Rattle.sketch_req.proofs.sketch.levels.Levels.take_some.Goals as goal
 
 -- the part
 part : (g : Over) (c : In_ok-fill g) → let s = c.args.self.now in
-    AreTakenInTurn g.T.Ord.cmp g.B.RandomBits.bit g.B.RandomBits.next c.args.coins.now c.args.coins.now s.k s.accuracy s.levels (take c.min-count.result c.args.items.now) c.fill.new.self.levels
+    AreTakenInTurn g.T.Ord.cmp g.B.RandomBits.bit g.B.RandomBits.next c.args.coins.now c.args.coins.now s.k s.accuracy s.levels
+    (take c.min-count.result c.args.items.now) c.fill.new.self.levels
 part g c =
     let s = c.args.self.now in
     let h = c.in_ok-fill.ensures.filled in
     let held = subst (IsHeld g.T.Ord.cmp c.self.inside.num_retained c.self.inside.capacity) c.self.view_is c.self.invariant in
     let few = length-take c.min-count.result c.args.items.now in
-    subst (λ (ls : List (Level g.row.T.Denot)). AreTakenInTurn g.T.Ord.cmp g.B.RandomBits.bit g.B.RandomBits.next c.args.coins.now c.args.coins.now s.k s.accuracy s.levels
+    subst (λ (ls : List (Level g.row.T.Denot)). AreTakenInTurn g.T.Ord.cmp g.B.RandomBits.bit g.B.RandomBits.next c.args.coins.now c.args.coins.now s.k
+    s.accuracy s.levels
     (take c.min-count.result c.args.items.now) ls) (sym h.levels_are)
     (taken-filled g.met.T.Ord.total g.B.RandomBits.bit g.B.RandomBits.next s.k s.accuracy c.args.coins.now s.levels _ h.clones held.some held.placed h.same
     (omega (arith, few, c.saturating_sub-room.ensures, c.min-count.ensures, c.if-room-eq0.false, held.retained_is, held.capacity_is)))
 
 -- one of them
 one : (g : Over) (c : In_ok-take_last g) → let s = c.args.self.now in
-    AreTakenInTurn g.T.Ord.cmp g.B.RandomBits.bit g.B.RandomBits.next c.args.coins.now c.take_last.new.coins s.k s.accuracy s.levels (take 1 c.args.items.now) c.take_last.new.self.levels
+    AreTakenInTurn g.T.Ord.cmp g.B.RandomBits.bit g.B.RandomBits.next c.args.coins.now c.take_last.new.coins s.k s.accuracy s.levels
+    (take 1 c.args.items.now) c.take_last.new.self.levels
 one g c =
     let s = c.args.self.now in
     let same : g.T.Ord.cmp c.index-items-0.result c.in_ok-clone.field-0 ≡ Equal = c.requires.clones _ _ c.in_ok-clone.ensures.cases in
-    subst (λ (xs : List g.row.T.Denot). AreTakenInTurn g.T.Ord.cmp g.B.RandomBits.bit g.B.RandomBits.next c.args.coins.now c.take_last.new.coins s.k s.accuracy s.levels xs
+    subst (λ (xs : List g.row.T.Denot). AreTakenInTurn g.T.Ord.cmp g.B.RandomBits.bit g.B.RandomBits.next c.args.coins.now c.take_last.new.coins s.k s.accuracy
+    s.levels xs
     c.take_last.new.self.levels) (sym (first-item c.args.items.now c.index-items-0.result c.requires.some c.index-items-0.is))
-    (taken-one g.met.T.Ord.total g.B.RandomBits.bit g.B.RandomBits.next s.k s.accuracy _ _ s.levels _ c.index-items-0.result c.in_ok-clone.field-0 same c.in_ok-take_last.ensures.acted)
+    (taken-one g.met.T.Ord.total g.B.RandomBits.bit g.B.RandomBits.next s.k s.accuracy _ _ s.levels _ c.index-items-0.result c.in_ok-clone.field-0 same
+    c.in_ok-take_last.ensures.acted)
 
 pub slice_bounds-fill-end : goal.slice_bounds-fill-end
 slice_bounds-fill-end g c = grind (arith, common_steps)
@@ -42,7 +47,8 @@ pub overflow_add-self-inside : goal.overflow_add-self-inside
 overflow_add-self-inside g c = grind arith
 
 pub returns : goal.returns
-returns g c =     let s = c.args.self.now in
+returns g c =
+    let s = c.args.self.now in
     let held = subst (IsHeld g.T.Ord.cmp c.self.inside.num_retained c.self.inside.capacity) c.self.view_is c.self.invariant in
     let part = part g c in
     record {
@@ -56,7 +62,8 @@ returns g c =     let s = c.args.self.now in
     }
 
 pub returns-then-room-eq0 : goal.returns-then-room-eq0
-returns-then-room-eq0 g c =     let s = c.args.self.now in
+returns-then-room-eq0 g c =
+    let s = c.args.self.now in
     let held = subst (IsHeld g.T.Ord.cmp c.self.inside.num_retained c.self.inside.capacity) c.self.view_is c.self.invariant in
     let one = one g c in
     record {
@@ -70,7 +77,8 @@ returns-then-room-eq0 g c =     let s = c.args.self.now in
     }
 
 pub returns-in_err-fill : goal.returns-in_err-fill
-returns-in_err-fill g c =     let r = c.from_residual-in_err-fill.result in
+returns-in_err-fill g c =
+    let r = c.from_residual-in_err-fill.result in
     let (fails, is) = c.from_residual-in_err-fill.ensures in
     record {
       kept = c.in_err-fill.ensures.kept;
@@ -83,7 +91,8 @@ returns-in_err-fill g c =     let r = c.from_residual-in_err-fill.result in
     }
 
 pub returns-in_err-clone : goal.returns-in_err-clone
-returns-in_err-clone g c =     let r = c.from_residual.result in
+returns-in_err-clone g c =
+    let r = c.from_residual.result in
     let (fails, is) = c.from_residual.ensures in
     record {
       kept = refl;
@@ -96,7 +105,8 @@ returns-in_err-clone g c =     let r = c.from_residual.result in
     }
 
 pub returns-in_err-take_last : goal.returns-in_err-take_last
-returns-in_err-take_last g c =     let r = c.from_residual-in_err-take_last.result in
+returns-in_err-take_last g c =
+    let r = c.from_residual-in_err-take_last.result in
     let (fails, is) = c.from_residual-in_err-take_last.ensures in
     record {
       kept = c.in_err-take_last.ensures.kept;
@@ -121,7 +131,8 @@ pub fill-requires-clause-some : goal.fill-requires-clause-some
 fill-requires-clause-some g c = omega (arith, length-take c.min-count.result c.args.items.now, c.min-count.ensures, c.if-room-eq0.false, c.requires.some)
 
 pub fill-requires-clause-room : goal.fill-requires-clause-room
-fill-requires-clause-room g c =     let held = subst (IsHeld g.T.Ord.cmp c.self.inside.num_retained c.self.inside.capacity) c.self.view_is c.self.invariant in
+fill-requires-clause-room g c =
+    let held = subst (IsHeld g.T.Ord.cmp c.self.inside.num_retained c.self.inside.capacity) c.self.view_is c.self.invariant in
     let few = length-take c.min-count.result c.args.items.now in
     omega (arith, few, c.saturating_sub-room.ensures, c.min-count.ensures, c.if-room-eq0.false, held.retained_is, held.capacity_is)
 

@@ -1,19 +1,16 @@
 -- The levels before the walk have the layouts of the joined ones.
-use Rattle.std.proofs.Common.{Bool, Ordering, ℕ, ◌+◌, ◌<◌, ◌≤◌, le_of_eq, refl}
-use Rattle.sketch_req.specs.declared.RankAccuracy.{RankAccuracy}
-use Rattle.sketch_req.specs.Walk.{HaveSpace}
-use Rattle.sketch_req.proofs.Buffers.{space-told}
-use Rattle.sketch_req.proofs.Exits.{on-error}
+use Rattle.std.proofs.Common.{◌-◌, subst₂, Bool, Ordering, ℕ, ◌+◌, ◌<◌, ◌≤◌, le_of_eq, refl, ◌≡◌, false, true, List, length, max, vec_capacity, sym, ap, ◌∙◌, subst, arith, le-leb}
 use Rattle.std.proofs.lemmas.Result.{IfOk-from_err}
-use Rattle.std.proofs.Common.{◌≡◌, false, true, List, length, max, vec_capacity, sym, ap, ◌∙◌, subst, arith, le-leb}
 use Rattle.std.proofs.lemmas.Grind.{common_steps}
 use Rattle.std.proofs.lemmas.Bool.{lt-leb}
+use Rattle.sketch_req.specs.declared.RankAccuracy.{RankAccuracy}
+use Rattle.sketch_req.specs.Walk.{HaveSpace, AreHeld, AreLevels, AreWalkedIfFull, accuracy_of, k_of, with_more}
 use Rattle.sketch_req.specs.Held.{IsHeld, held_of}
 use Rattle.sketch_req.specs.Level.{Level}
 use Rattle.sketch_req.specs.Merged.{AreCloned, AreJoined}
 use Rattle.sketch_req.specs.Schedule.{Layout, are_full, layouts_of, joined_layouts, retained_of, weight_of}
-use Rattle.sketch_req.specs.Walk.{AreHeld, AreLevels, AreWalkedIfFull, accuracy_of, k_of, with_more}
-use Rattle.sketch_req.proofs.Buffers.{space-kept}
+use Rattle.sketch_req.proofs.Buffers.{space-told, space-kept}
+use Rattle.sketch_req.proofs.Exits.{on-error}
 use Rattle.sketch_req.proofs.Held.{IsOwn, few-levels, held-sums, own-levels}
 use Rattle.sketch_req.proofs.Layouts.{length-layouts}
 use Rattle.sketch_req.proofs.Mergings.{layouts-joined}
@@ -22,14 +19,19 @@ use Rattle.sketch_req.proofs.UpdatedLevels.{acted-spare, acted-walk}
 use Rattle.sketch_req.proofs.ReservedWalks.{more-none}
 use Rattle.sketch_req.proofs.Redraws.{layouts-ready, placed-ready}
 use Rattle.sketch_req.proofs.sketch.levels.joining.join_and_walk.Given.{Over}
-use Rattle.sketch_req.proofs.sketch.levels.joining.join_and_walk.Goals.{After-redraw_if, After-sums-num_retained}
+use Rattle.sketch_req.proofs.sketch.levels.joining.join_and_walk.Goals.{After-redraw_if, After-sums-num_retained, then-num_retained-capacity, else-num_retained-capacity}
 use Rattle.sketch_req.proofs.sketch.levels.joining.join_and_walk.Goals as goal
 use Rattle.sketch_req.proofs.sketch.levels.joining.join_and_walk.Goals.at as past
-use Rattle.sketch_req.proofs.sketch.levels.joining.join_and_walk.Goals.{then-num_retained-capacity, else-num_retained-capacity}
+
+-- room for as many levels as the longer list has, and for one more
+spare-both : (n own len less m cap : ℕ) → own ≡ n → len ≡ own → less ≡ m - own → len + (less + 1) ≤ cap → max n m < cap
+spare-both n own len less m cap e f s l = omega (arith, e, f, s, l)
 
 pub join_levels-requires-clause-spare : goal.join_levels-requires-clause-spare
 join_levels-requires-clause-spare g c =
-    omega (arith, ap length c.reserve_exact.ensures.items, c.in_ok-reserve_exact.ensures.ok, c.reserve_exact.ensures.len, c.args.levels.now.ok)
+    spare-both _ _ _ _ _ _ (c.len.ensures ∙ (c.args.levels.now.ok.0 ∙ sym (ap length c.reserve_exact.ensures.items)))
+    (c.reserve_exact.ensures.len ∙ sym c.len.ensures)
+    c.saturating_sub.ensures c.in_ok-reserve_exact.ensures.ok
 
 pub join_levels-requires-clause-cloned : goal.join_levels-requires-clause-cloned
 join_levels-requires-clause-cloned g c =
@@ -45,7 +47,8 @@ module _ (g : Over) (c : After-redraw_if g) where
 
   joined_are : AreJoined g.T.Ord.cmp (k_of ls) (accuracy_of ls) ls c.args.others.now c.join_levels.new.levels.items
   joined_are =
-      subst (λ (xs : List (Level g.row.T.Denot)). AreJoined g.T.Ord.cmp (k_of xs) (accuracy_of xs) xs c.args.others.now c.join_levels.new.levels.items) c.reserve_exact.ensures.items
+      subst (λ (xs : List (Level g.row.T.Denot)). AreJoined g.T.Ord.cmp (k_of xs) (accuracy_of xs) xs c.args.others.now c.join_levels.new.levels.items)
+      c.reserve_exact.ensures.items
       c.join_levels.ensures.joined
 
   count_is : length c.join_levels.new.levels.items ≡ max (length ls) (length c.args.others.now)
@@ -112,11 +115,13 @@ pub walk-requires-clause-nothing : goal.walk-requires-clause-nothing
 walk-requires-clause-nothing g c = c.join_levels.ensures.nothing
 
 pub walk-requires-clause-above : goal.walk-requires-clause-above
-walk-requires-clause-above g c =     subst (λ (n : ℕ). n ≤ vec_capacity c.join_levels.new.room.up) (sym c.join_levels.ensures.coming)
+walk-requires-clause-above g c =
+    subst (λ (n : ℕ). n ≤ vec_capacity c.join_levels.new.room.up) (sym c.join_levels.ensures.coming)
     (subst (λ (n : ℕ). vec_capacity c.reserve.new.room.coming ≤ n) (sym c.join_levels.ensures.up) c.in_ok-reserve.ensures.above)
 
 pub walk-requires-clause-fit : goal.walk-requires-clause-fit
-walk-requires-clause-fit g c =     let before = (past.walk-requires-clause-fit g c).After-redraw_if in
+walk-requires-clause-fit g c =
+    let before = (past.walk-requires-clause-fit g c).After-redraw_if in
     let levels = c.args.levels.now.items in
     let own = own g before in
     let k = k_of levels in
@@ -127,14 +132,18 @@ walk-requires-clause-fit g c =     let before = (past.walk-requires-clause-fit g
     let count = length-joined k (layouts_of levels) (layouts_of c.args.others.now) in
     let more : with_more 0 both ≡ both = more-none both (omega (arith, count, length-layouts levels, c.requires.levels.some)) in
     let reserved = subst (λ (xs : List (Level g.row.T.Denot)).
-    HaveSpace (k_of xs) (accuracy_of xs) (with_more 0 (joined_layouts (k_of xs) (layouts_of xs) (layouts_of c.args.others.now))) rooms space) c.as_slice.ensures.value c.in_ok-reserve.ensures.fit in
+    HaveSpace (k_of xs) (accuracy_of xs) (with_more 0 (joined_layouts (k_of xs) (layouts_of xs) (layouts_of c.args.others.now))) rooms space)
+    c.as_slice.ensures.value c.in_ok-reserve.ensures.fit in
     space-told _ _ _ _ _ _ _ (sym own.k_is) (sym own.accuracy_is)
-    (space-kept k accuracy _ _ _ space (vec_capacity c.join_levels.new.room.coming) c.join_levels.ensures.merged_spaces (le_of_eq (sym c.join_levels.ensures.coming))
+    (space-kept k accuracy _ _ _ space (vec_capacity c.join_levels.new.room.coming) c.join_levels.ensures.merged_spaces
+    (le_of_eq (sym c.join_levels.ensures.coming))
     (subst (λ (os : List Layout). HaveSpace k accuracy os rooms space) (more ∙ sym (joined g before)) reserved))
 
 -- levels after a walk, by what it started with
-walked-alike : {A S : Type 0} (cmp : A → A → Ordering) (bit : S → Bool) (next : S → S) (source start after end : S) (k n : ℕ) (accuracy a : RankAccuracy) (ls xs ys : List (Level A)) → k ≡ n →
-    accuracy ≡ a → source ≡ start → after ≡ end → xs ≡ ys → AreWalkedIfFull cmp bit next source after k accuracy ls xs → AreWalkedIfFull cmp bit next start end n a ls ys
+walked-alike : {A S : Type 0} (cmp : A → A → Ordering) (bit : S → Bool) (next : S → S) (source start after end : S) (k n : ℕ) (accuracy a : RankAccuracy)
+    (ls xs ys : List (Level A)) → k ≡ n →
+    accuracy ≡ a → source ≡ start → after ≡ end → xs ≡ ys → AreWalkedIfFull cmp bit next source after k accuracy ls xs →
+    AreWalkedIfFull cmp bit next start end n a ls ys
 walked-alike cmp bit next source start after end k n accuracy a ls xs ys e f s t l walked = rw (← e, ← f, ← s, ← t, ← l) walked
 
 pub returns : goal.returns
@@ -148,11 +157,15 @@ returns g c =
     c.if-num_retained-capacity.levels.items =
     elim c.if-num_retained-capacity.branch [
       | then-num_retained-capacity w ↦
-          let full : are_full (k_of ls) (layouts_of ls) ≡ true = le-leb _ _ (omega (arith, h.retained_is, h.capacity_is, w.if-num_retained-capacity.true)) in
-          walked-alike _ _ _ _ _ _ _ _ _ _ _ _ _ _ refl refl refl (sym w.coins-is) (sym (ap (λ v. v.items) w.levels-is)) (acted-walk _ _ _ _ _ _ _ _ full w.walk.ensures.acted)
+          let full : are_full (k_of ls) (layouts_of ls) ≡ true = le-leb _ _
+          (subst₂ (λ (n m : ℕ). n ≤ m) h.capacity_is h.retained_is w.if-num_retained-capacity.true) in
+          walked-alike _ _ _ _ _ _ _ _ _ _ _ _ _ _ refl refl refl (sym w.coins-is) (sym (ap (λ v. v.items) w.levels-is))
+          (acted-walk _ _ _ _ _ _ _ _ full w.walk.ensures.acted)
       | else-num_retained-capacity w ↦
-          let spare : are_full (k_of ls) (layouts_of ls) ≡ false = lt-leb _ _ (omega (arith, h.retained_is, h.capacity_is, w.if-num_retained-capacity.false)) in
-          walked-alike _ _ _ _ _ _ _ _ _ _ _ _ _ _ refl refl refl (sym w.coins-is) (sym (ap (λ v. v.items) w.levels-is)) (acted-spare g.met.T.Ord.total _ _ _ _ _ _ own.held.placed spare)
+          let spare : are_full (k_of ls) (layouts_of ls) ≡ false = lt-leb _ _
+          (subst₂ (λ (n m : ℕ). n < m) h.retained_is h.capacity_is w.if-num_retained-capacity.false) in
+          walked-alike _ _ _ _ _ _ _ _ _ _ _ _ _ _ refl refl refl (sym w.coins-is) (sym (ap (λ v. v.items) w.levels-is))
+          (acted-spare g.met.T.Ord.total _ _ _ _ _ _ own.held.placed spare)
     ] in
     record {
       taken_in = record {
@@ -161,7 +174,8 @@ returns g c =
         count_is = count_is g before;
         ready = ls;
         ready_are = c.redraw_if.ensures.levels;
-        acted = walked-alike _ _ _ _ _ _ _ _ _ _ _ _ _ _ own.k_is own.accuracy_is c.redraw_if.ensures.coins refl (sym (c.give_back.ensures ∙ c.move_back.ensures)) acted;
+        acted = walked-alike _ _ _ _ _ _ _ _ _ _ _ _ _ _ own.k_is own.accuracy_is c.redraw_if.ensures.coins refl
+            (sym (c.give_back.ensures ∙ c.move_back.ensures)) acted;
       };
       err = tt;
     }
@@ -173,10 +187,14 @@ pub join_levels-requires-clause-levels : goal.join_levels-requires-clause-levels
 join_levels-requires-clause-levels g c = subst (AreHeld g.T.Ord.cmp) (sym c.reserve_exact.ensures.items) c.requires.levels
 
 pub join_levels-requires-clause-others : goal.join_levels-requires-clause-others
-join_levels-requires-clause-others g c =     subst (λ (xs : List (Level g.row.T.Denot)). AreLevels g.T.Ord.cmp (k_of c.args.others.now) (accuracy_of xs) 0 c.args.others.now) (sym c.reserve_exact.ensures.items) c.requires.others
+join_levels-requires-clause-others g c =
+    subst (λ (xs : List (Level g.row.T.Denot)). AreLevels g.T.Ord.cmp (k_of c.args.others.now) (accuracy_of xs) 0 c.args.others.now)
+    (sym c.reserve_exact.ensures.items) c.requires.others
 
 pub join_levels-requires-clause-few : goal.join_levels-requires-clause-few
-join_levels-requires-clause-few g c =     subst (λ (xs : List (Level g.row.T.Denot)). retained_of (layouts_of xs) + retained_of (layouts_of c.args.others.now) < 4294967296) (sym c.reserve_exact.ensures.items) c.requires.few
+join_levels-requires-clause-few g c =
+    subst (λ (xs : List (Level g.row.T.Denot)). retained_of (layouts_of xs) + retained_of (layouts_of c.args.others.now) < 4294967296)
+    (sym c.reserve_exact.ensures.items) c.requires.few
 
 pub join_levels-requires-clause-nothing : goal.join_levels-requires-clause-nothing
 join_levels-requires-clause-nothing g c = c.in_ok-reserve.ensures.nothing
@@ -191,9 +209,11 @@ pub reserve-requires-clause-clones : goal.reserve-requires-clause-clones
 reserve-requires-clause-clones g c = c.requires.clones
 
 pub returns-in_err-reserve_exact : goal.returns-in_err-reserve_exact
-returns-in_err-reserve_exact g c =     let r = c.from_residual-in_err-reserve_exact.result in
+returns-in_err-reserve_exact g c =
+    let r = c.from_residual-in_err-reserve_exact.result in
     record { taken_in = IfOk-from_err r _ c.from_residual-in_err-reserve_exact.ensures.0; err = on-error r (c.reserve_exact.ensures.items, refl) }
 
 pub returns-in_err-reserve : goal.returns-in_err-reserve
-returns-in_err-reserve g c =     let r = c.from_residual.result in
+returns-in_err-reserve g c =
+    let r = c.from_residual.result in
     record { taken_in = IfOk-from_err r _ c.from_residual.ensures.0; err = on-error r (refl, refl) }

@@ -148,7 +148,8 @@ pub bounds-others-level : goal.bounds-others-level
 bounds-others-level g c = grind arith
 
 pub returns : goal.returns
-returns g c =     let i = c.loop-level.invariant in
+returns g c =
+    let i = c.loop-level.invariant in
     let end : c.loop-level.level ≡ length c.args.others.now = le_antisymm c.loop-level.auto.level-end c.loop-level-test.false in
     let count : length c.loop-level.levels.items ≡ max (length c.args.levels.now.items) (length c.args.others.now) =
     i.joined.len ∙ ap (max (length c.args.levels.now.items)) end in

@@ -6,7 +6,8 @@ use Rattle.sketch_req.specs.Walk.{AreWalkedOver, HaveSpace, accuracy_of, k_of, w
 use Rattle.sketch_req.specs.Schedule.{Layout, weight_of, layouts_of, retained_of}
 use Rattle.sketch_req.specs.Level.{Level}
 use Rattle.sketch_req.proofs.UpdatedLevels.{layouts-appended, retained-appended, weight-appended, length-appended, placed-appended}
-use Rattle.sketch_req.proofs.TakenInTurn.{first-appended, first-few, first-kept}
+use Rattle.sketch_req.proofs.ListPlaces.{set-kept}
+use Rattle.sketch_req.proofs.TakenInTurn.{first-appended, first-few}
 use Rattle.sketch_req.proofs.Exits.{on-error, error-known, error-passed}
 use Rattle.sketch_req.proofs.Held.{own-appended}
 use Rattle.sketch_req.proofs.sketch.levels.walk.append_and_walk.Given.{Over}
@@ -22,10 +23,12 @@ put g c =
     ∙ ap (λ (ls : List (Level g.row.T.Denot)). appended_first ls c.args.item) same
 
 -- space for a walk after an item came in is space for a walk over the levels with it
-space-appended : {A : Type 0} (ls : List (Level A)) (x : A) (rooms : List (Space A)) (most : ℕ) → 0 < length ls → HaveSpace (k_of ls) (accuracy_of ls) (with_more 1 (layouts_of ls)) rooms most →
+space-appended : {A : Type 0} (ls : List (Level A)) (x : A) (rooms : List (Space A)) (most : ℕ) → 0 < length ls → HaveSpace (k_of ls) (accuracy_of ls)
+    (with_more 1 (layouts_of ls)) rooms most →
     let ns = appended_first ls x in HaveSpace (k_of ns) (accuracy_of ns) (layouts_of ns) rooms most
 space-appended [] x rooms most some fit = absurd (omega (arith, some))
-space-appended (l ∷ ls) x rooms most some fit = subst (λ (os : List Layout). HaveSpace l.k l.accuracy os rooms most) (sym (layouts-appended (l ∷ ls) x some)) fit
+space-appended (l ∷ ls) x rooms most some fit = subst (λ (os : List Layout). HaveSpace l.k l.accuracy os rooms most)
+    (sym (layouts-appended (l ∷ ls) x some)) fit
 
 -- levels stay held if an item is appended to the first
 held-first : {A : Type 0} (cmp : A → A → Ordering) (ls : List (Level A)) (x : A) → AreHeld cmp ls → retained_of (layouts_of ls) < 4294967295 →
@@ -38,20 +41,25 @@ pub walk-requires-clause-levels : goal.walk-requires-clause-levels
 walk-requires-clause-levels g c = subst (AreHeld g.T.Ord.cmp) (sym (put g c)) (held-first g.T.Ord.cmp _ _ c.requires.levels c.requires.few)
 
 pub returns : goal.returns
-returns g c =     let put = put g (past.returns g c).After-walk-arg-2-1 in
+returns g c =
+    let put = put g (past.returns g c).After-walk-arg-2-1 in
     let ns = appended_first c.args.levels.now.items c.args.item in
     let own = own-appended c.args.levels.now.items c.args.item in
-    let walked = subst (λ (xs : List (Level g.row.T.Denot)). AreWalkedOver g.T.Ord.cmp g.B.RandomBits.bit g.B.RandomBits.next c.args.coins.now c.walk.new.coins (k_of xs) (accuracy_of xs) xs
+    let walked = subst (λ (xs : List (Level g.row.T.Denot)). AreWalkedOver g.T.Ord.cmp g.B.RandomBits.bit g.B.RandomBits.next c.args.coins.now c.walk.new.coins
+    (k_of xs) (accuracy_of xs) xs
     c.walk.new.levels.items) put c.walk.ensures.acted in
     record {
-      acted = subst (λ (n : ℕ). AreWalkedOver g.T.Ord.cmp g.B.RandomBits.bit g.B.RandomBits.next c.args.coins.now c.walk.new.coins n (accuracy_of c.args.levels.now.items) ns c.walk.new.levels.items) own.0
-          (subst (λ (a : RankAccuracy). AreWalkedOver g.T.Ord.cmp g.B.RandomBits.bit g.B.RandomBits.next c.args.coins.now c.walk.new.coins (k_of ns) a ns c.walk.new.levels.items) own.1 walked);
+      acted = subst (λ (n : ℕ). AreWalkedOver g.T.Ord.cmp g.B.RandomBits.bit g.B.RandomBits.next c.args.coins.now c.walk.new.coins n
+          (accuracy_of c.args.levels.now.items) ns c.walk.new.levels.items) own.0
+          (subst (λ (a : RankAccuracy). AreWalkedOver g.T.Ord.cmp g.B.RandomBits.bit g.B.RandomBits.next c.args.coins.now c.walk.new.coins
+          (k_of ns) a ns c.walk.new.levels.items) own.1 walked);
       err = tt;
       memory = tt;
     }
 
 pub returns-in_err-append : goal.returns-in_err-append
-returns-in_err-append g c =     let r = c.from_residual-in_err-append.result in
+returns-in_err-append g c =
+    let r = c.from_residual-in_err-append.result in
     let (fails, is) = c.from_residual-in_err-append.ensures in
     let same = c.reserve_exact.ensures.items in
     let some = subst (λ (ls : List (Level g.row.T.Denot)). 0 < length ls) (sym same) c.requires.levels.some in
@@ -59,41 +67,48 @@ returns-in_err-append g c =     let r = c.from_residual-in_err-append.result in
     let all = ap (λ (ls : List (Level g.row.T.Denot)). retained_of (layouts_of ls)) same in
     record {
       acted = IfOk-from_err r _ fails;
-      err = on-error r (first-kept c.reserve_exact.new.self.items c.index_mut.result.now _ some c.index_mut.ensures.value c.in_err-append.ensures.err ∙ same, refl);
+      err = on-error r (set-kept c.reserve_exact.new.self.items 0 c.index_mut.result.now _ c.index_mut.ensures.value c.in_err-append.ensures.err ∙ same, refl);
       memory = error-passed r is (c.in_err-append.ensures.memory (lt_of_le_of_lt (le_trans few (le_of_eq all)) c.requires.few));
     }
 
 pub returns-in_err-reserve : goal.returns-in_err-reserve
-returns-in_err-reserve g c =     let r = c.from_residual-in_err-reserve.result in
+returns-in_err-reserve g c =
+    let r = c.from_residual-in_err-reserve.result in
     let (fails, is) = c.from_residual-in_err-reserve.ensures in
     record { acted = IfOk-from_err r _ fails; err = on-error r (c.reserve_exact.ensures.items, refl); memory = error-known r _ is }
 
 pub returns-in_err-reserve_exact : goal.returns-in_err-reserve_exact
-returns-in_err-reserve_exact g c =     let r = c.from_residual.result in
+returns-in_err-reserve_exact g c =
+    let r = c.from_residual.result in
     let (fails, is) = c.from_residual.ensures in
     record { acted = IfOk-from_err r _ fails; err = on-error r (c.reserve_exact.ensures.items, refl); memory = error-known r _ is }
 
 pub walk-requires-clause-fits : goal.walk-requires-clause-fits
-walk-requires-clause-fits g c =     let all = ap (λ (ls : List (Level g.row.T.Denot)). weight_of (layouts_of ls)) (put g c) in
+walk-requires-clause-fits g c =
+    let all = ap (λ (ls : List (Level g.row.T.Denot)). weight_of (layouts_of ls)) (put g c) in
     omega (arith, all, weight-appended c.args.levels.now.items c.args.item c.requires.levels.some, c.requires.fits)
 
 pub walk-requires-clause-few_items : goal.walk-requires-clause-few_items
-walk-requires-clause-few_items g c =     let all = ap (λ (ls : List (Level g.row.T.Denot)). retained_of (layouts_of ls)) (put g c) in
+walk-requires-clause-few_items g c =
+    let all = ap (λ (ls : List (Level g.row.T.Denot)). retained_of (layouts_of ls)) (put g c) in
     omega (arith, all, retained-appended c.args.levels.now.items c.args.item c.requires.levels.some, c.requires.few)
 
 pub walk-requires-clause-fit : goal.walk-requires-clause-fit
-walk-requires-clause-fit g c =     let rooms = c.reserve.new.room.rooms.items in
+walk-requires-clause-fit g c =
+    let rooms = c.reserve.new.room.rooms.items in
     let most = vec_capacity c.reserve.new.room.coming in
     subst (λ (xs : List (Level g.row.T.Denot)). HaveSpace (k_of xs) (accuracy_of xs) (layouts_of xs) rooms most) (sym (put g c))
     (space-appended c.args.levels.now.items c.args.item rooms most c.requires.levels.some
-    (subst (λ (xs : List (Level g.row.T.Denot)). HaveSpace (k_of xs) (accuracy_of xs) (with_more 1 (layouts_of xs)) rooms most) (c.as_slice.ensures.value ∙ c.reserve_exact.ensures.items)
+    (subst (λ (xs : List (Level g.row.T.Denot)). HaveSpace (k_of xs) (accuracy_of xs) (with_more 1 (layouts_of xs)) rooms most)
+    (c.as_slice.ensures.value ∙ c.reserve_exact.ensures.items)
     c.in_ok-reserve.ensures.fit))
 
 pub reserve-requires-clause-levels : goal.reserve-requires-clause-levels
 reserve-requires-clause-levels g c = subst (AreHeld g.T.Ord.cmp) (sym (c.as_slice.ensures.value ∙ c.reserve_exact.ensures.items)) c.requires.levels
 
 pub reserve-requires-clause-few : goal.reserve-requires-clause-few
-reserve-requires-clause-few g c =     let all = ap (λ (ls : List (Level g.row.T.Denot)). retained_of (layouts_of ls)) (c.as_slice.ensures.value ∙ c.reserve_exact.ensures.items) in
+reserve-requires-clause-few g c =
+    let all = ap (λ (ls : List (Level g.row.T.Denot)). retained_of (layouts_of ls)) (c.as_slice.ensures.value ∙ c.reserve_exact.ensures.items) in
     omega (arith, all, c.requires.few)
 
 pub walk-requires-clause-nothing : goal.walk-requires-clause-nothing

@@ -30,12 +30,9 @@ use Rattle.sketch_req.proofs.sketch.levels.walk.reserve.Goals.{After-count_at-in
 at-most-greater : (greater m n : ℕ) → greater ≡ ord_max nat_cmp m n → (m ≤ greater) × (n ≤ greater)
 at-most-greater greater m n e = (grind (arith, common_steps), grind (arith, common_steps))
 
--- two counts together
-both-counts : (a b n m both : ℕ) → a ≡ n → b ≡ m → both ≡ n + m → a + b ≡ both
-both-counts a b n m both e f s = grind arith
-
 -- a level holds few items after some came
-few-come : (a b here came start first both n m more bound : ℕ) → a + b ≡ here → here + came ≤ start → start + first ≡ both + (first + more) → both ≡ n + m → n + m + more < bound → a + b + came < bound
+few-come : (a b here came start first both n m more bound : ℕ) → a + b ≡ here → here + came ≤ start → start + first ≡ both + (first + more) → both ≡ n + m →
+    n + m + more < bound → a + b + came < bound
 few-come a b here came start first both n m more bound e l s j f = omega (arith, e, l, s, j, f)
 
 -- how many items the level then holds
@@ -45,8 +42,12 @@ module _ (g : Over) (c : After-count_at-in-loop-level g) where
 
   here : c.count_at.result + c.count_at-in-loop-level.result ≡ (layout_at both c.loop-level.level).count
   here =
-      both-counts _ _ _ _ _ c.count_at.ensures c.count_at-in-loop-level.ensures
-      (joined-count (k_of c.args.levels.now) (layouts_of c.args.levels.now) (layouts_of c.args.others.now) c.loop-level.level)
+      omega (
+        arith,
+        joined-count (k_of c.args.levels.now) (layouts_of c.args.levels.now) (layouts_of c.args.others.now) c.loop-level.level,
+        c.count_at.ensures,
+        c.count_at-in-loop-level.ensures,
+      )
 
   few : c.count_at.result + c.count_at-in-loop-level.result + c.loop-level.came < 4294967296
   few =
@@ -72,19 +73,24 @@ record Told (g : Over) (c : Joined-level-others g) : Type 0 where
   pub space : c.loop-level.level < length c.args.others.now → c.count_at.result + c.count_at-in-loop-level.result + c.loop-level.came ≤ c.if-level-others.own.clones_space
 
 -- clones of the slice are clones of the other level
-clones-there : {A : Type 0} (cmp : A → A → Ordering) (others : List (Level A)) (h : ℕ) (o : Level A) (items : List A) (new own : Space A) → h < length others → o ≡ get_or others h o →
+clones-there : {A : Type 0} (cmp : A → A → Ordering) (others : List (Level A)) (h : ℕ) (o : Level A) (items : List A) (new own : Space A) → h < length others →
+    o ≡ get_or others h o →
     items ≡ o.items → own ≡ new → SameItems cmp items new.clones → SameItems cmp (level_at (item_lists others) h) own.clones
 clones-there cmp others h o items new own there is value own_is same =
-    subst (λ (xs : List _). SameItems cmp xs own.clones) (value ∙ sym (read-there (λ l. l.items) [] others h o there is)) (subst (λ (b : Space _). SameItems cmp items b.clones) (sym own_is) same)
+    subst (λ (xs : List _). SameItems cmp xs own.clones) (value ∙ sym (read-there (λ l. l.items) [] others h o there is))
+    (subst (λ (b : Space _). SameItems cmp items b.clones) (sym own_is) same)
 
 told : (g : Over) (c : Joined-level-others g) → Told g c
 told g c =
     elim c.if-level-others.branch [
       | then-level-others+in_ok-take_clones w ↦ record {
-        same = λ there. clones-there g.T.Ord.cmp _ _ _ _ _ _ there w.index-others-level.is w.items_slice.ensures.value w.own-is w.in_ok-take_clones.ensures.same;
-        space = λ _. subst (λ (b : Space g.row.T.Denot). c.count_at.result + c.count_at-in-loop-level.result + c.loop-level.came ≤ b.clones_space) (sym w.own-is) w.in_ok-take_clones.ensures.space;
+        same = λ there. clones-there g.T.Ord.cmp _ _ _ _ _ _ there w.index-others-level.is w.items_slice.ensures.value w.own-is
+            w.in_ok-take_clones.ensures.same;
+        space = λ _. subst (λ (b : Space g.row.T.Denot). c.count_at.result + c.count_at-in-loop-level.result + c.loop-level.came ≤ b.clones_space)
+            (sym w.own-is) w.in_ok-take_clones.ensures.space;
       }
-      | else-level-others w ↦ record { same = λ there. absurd (not-le_of_lt there w.if-level-others.false); space = λ there. absurd (not-le_of_lt there w.if-level-others.false) }
+      | else-level-others w ↦ record { same = λ there. absurd (not-le_of_lt there w.if-level-others.false); space = λ there. absurd
+          (not-le_of_lt there w.if-level-others.false) }
     ]
 
 -- how many items the level gives up
@@ -117,7 +123,8 @@ without-coming : (m n a b came space own : ℕ) → m ≡ a → n ≡ b → own 
 without-coming m n a b came space own e f s l = grind arith
 
 -- no level up to this one holds more
-none-holds-more : (counts : ℕ → ℕ) (at most more : ℕ) → most ≤ more → counts at ≤ more → ((h : ℕ) → h < at → counts h ≤ most) → (h : ℕ) → h < at + 1 → counts h ≤ more
+none-holds-more : (counts : ℕ → ℕ) (at most more : ℕ) → most ≤ more → counts at ≤ more → ((h : ℕ) → h < at → counts h ≤ most) → (h : ℕ) → h < at + 1 →
+    counts h ≤ more
 none-holds-more counts at most more grows last before h l =
     elim (cases_lt h at) [
       | inl low ↦ le_trans (before h low) grows
@@ -145,15 +152,19 @@ loop-level-preserved g c =
       planned = planned-more k at c.loop-level.came c.count_to_take_at-taken.result start both c.count_to_take_at-taken.ensures i.planned;
       cloned = cloned-more g.T.Ord.cmp _ _ c.loop-level.rooms.items at own _ _ inside most.0 i.cloned
           (λ there. record {
-            same = subst (λ (b : Space g.row.T.Denot). SameItems g.T.Ord.cmp (level_at (item_lists c.args.others.now) at) b.clones) (sym rest) (told.same there);
-            space = without-coming _ _ _ _ c.loop-level.came _ _ c.count_at.ensures c.count_at-in-loop-level.ensures (ap (λ (b : Space g.row.T.Denot). b.clones_space) rest) (told.space there);
+            same = subst (λ (b : Space g.row.T.Denot). SameItems g.T.Ord.cmp (level_at (item_lists c.args.others.now) at) b.clones) (sym rest)
+                (told.same there);
+            space = without-coming _ _ _ _ c.loop-level.came _ _ c.count_at.ensures c.count_at-in-loop-level.ensures
+                (ap (λ (b : Space g.row.T.Denot). b.clones_space) rest) (told.space there);
             promoted = without-coming _ _ _ _ c.loop-level.came _ _ c.count_at.ensures c.count_at-in-loop-level.ensures refl most.1;
           });
       promoted = none-holds-more (λ (h : ℕ). (layout_at (steps_layouts k h 0 start) h).count) at _ _ most.0
-          (subst (λ (l : Layout). l.count ≤ c.max-most.result) (sym i.planned.next) (subst (λ (n : ℕ). n + c.loop-level.came ≤ c.max-most.result) held most.1)) i.promoted;
+          (subst (λ (l : Layout). l.count ≤ c.max-most.result) (sym i.planned.next) (subst (λ (n : ℕ). n + c.loop-level.came ≤ c.max-most.result) held most.1))
+          i.promoted;
       own = own-more (λ h. own_space k accuracy (taken_if_full k (layout_at (steps_layouts k h 0 start) h) / 2) (layout_at (steps_layouts k h 0 start) (suc h))) c.loop-level.rooms.items own at inside i.own
           (planned-space k at c.loop-level.came own.merged_space accuracy start both i.planned
-          (own-reserved k c.loop-level.came count c.if-is_high.going own.merged_space accuracy (layout_at both at) (ap (λ (n : ℕ). n + c.loop-level.came) held) goes c.in_ok-reserve.ensures.space));
+          (own-reserved k c.loop-level.came count c.if-is_high.going own.merged_space accuracy (layout_at both at)
+          (ap (λ (n : ℕ). n + c.loop-level.came) held) goes c.in_ok-reserve.ensures.space));
     }
 
 -- the greater of two lengths

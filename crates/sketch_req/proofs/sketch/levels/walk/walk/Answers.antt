@@ -3,7 +3,7 @@ use Rattle.std.proofs.Common.{le_antisymm, le_of_eq, le_refl, le_trans, lt_of_lt
 use Rattle.std.proofs.lemmas.List.{nil_from_length}
 use Rattle.sketch_base.proofs.Sorting.{short_sorted}
 use Rattle.sketch_base.specs.Buffers.{Space, merged_spaces}
-use Rattle.sketch_req.specs.Level.{Level, IsTurned, fresh}
+use Rattle.sketch_req.specs.Level.{Level, fresh}
 use Rattle.sketch_req.specs.Schedule.{Layout, layouts_of, steps_actions, steps_layouts}
 use Rattle.sketch_req.specs.Sections.{IsLegalK}
 use Rattle.sketch_req.specs.Walk.{AreWalked, accuracy_of, k_of, own_space}
@@ -13,7 +13,7 @@ use Rattle.sketch_req.proofs.Held.{own-levels}
 use Rattle.sketch_req.proofs.Layouts.{length-layouts}
 use Rattle.sketch_req.proofs.MergedLevels.{is-added}
 use Rattle.sketch_req.proofs.WalkSteps.{opened, own-there, raised}
-use Rattle.sketch_req.proofs.Turns.{IsReady, is-ready, next-pending, pending-above, pending-start, ready-held}
+use Rattle.sketch_req.proofs.Turns.{IsPending, IsReady, is-ready, next-pending, pending-above, pending-start, ready-held}
 use Rattle.sketch_req.proofs.sketch.levels.walk.walk.Goals.{After-index_mut-in-loop-level, After-parameters-k, After-add_level}
 use Rattle.sketch_req.proofs.sketch.levels.walk.walk.Goals as goal
 use Rattle.sketch_req.proofs.sketch.levels.walk.walk.Goals.at as past
@@ -23,7 +23,8 @@ loop-level-init g c = record {
   pending = pending-start g.met.T.Ord.total _ _ _ _ _ _ _ _ _ c.requires.empty c.requires.levels.placed;
   len = sym c.len-count.ensures;
   spare = subst (λ (n : ℕ). n < vec_capacity c.args.levels.now) (sym c.len-count.ensures) c.requires.spare;
-  as_many = refl;
+  enough = subst (λ (n : ℕ). n ≤ length c.args.room.now.rooms.items)
+      (length-layouts c.args.levels.now.items ∙ (sym c.args.levels.now.ok.0 ∙ sym c.len-count.ensures)) c.requires.fit.enough;
   merged = λ j _. refl;
   sorted = subst (IsSorted g.T.Ord.cmp) (sym c.requires.empty) (short_sorted g.T.Ord.cmp [] (omega arith));
   empty = c.requires.nothing;
@@ -54,7 +55,7 @@ module _ (g : _) (c : After-index_mut-in-loop-level g) where
       let i = c.loop-level.invariant in
       sym (i.merged c.loop-level.level (le_refl _))
       ∙ read-there (λ b. b.merged_space) 0 c.loop-level.rooms.items c.loop-level.level c.index_mut-in-loop-level.result.now
-      (lt_of_lt_of_le inside (le_trans c.requires.fit.enough (le_of_eq (sym i.as_many)))) c.index_mut-in-loop-level.ensures.value
+      (lt_of_lt_of_le c.loop-level-test.true i.enough) c.index_mut-in-loop-level.ensures.value
 
   -- the level has the sketch's k and accuracy
   own-told : (c.index_mut.result.now.k ≡ k_of c.args.levels.now.items) × (c.index_mut.result.now.accuracy ≡ accuracy_of c.args.levels.now.items)
@@ -70,7 +71,8 @@ turn-requires-clause-few g c =
     lt_of_le_of_lt (ready g (past.turn-requires-clause-few g c).After-index_mut-in-loop-level).few c.requires.few_items
 
 -- space for a level, by its k and its accuracy
-space-told : (k own_k came most : ℕ) (accuracy own_accuracy : RankAccuracy) (l : Layout) → own_k ≡ k → own_accuracy ≡ accuracy → own_space k accuracy came l ≤ most →
+space-told : (k own_k came most : ℕ) (accuracy own_accuracy : RankAccuracy) (l : Layout) → own_k ≡ k → own_accuracy ≡ accuracy →
+    own_space k accuracy came l ≤ most →
     own_space own_k own_accuracy came l ≤ most
 space-told k own_k came most accuracy own_accuracy l e f fits = rw (e, f) fits
 
@@ -97,24 +99,31 @@ loop-level-preserved g c =
     let at = (past.loop-level-preserved g c).After-index_mut-in-loop-level in
     let legal = (own-levels g.T.Ord.cmp _ _ _ c.requires.levels.some c.requires.levels.placed).legal in
     let x = ap (λ v. v.items) c.swap.ensures.x_after in
-    let turned =
-    subst (λ (up : List g.row.T.Denot). let coin = g.B.RandomBits.bit c.loop-level.coins in
-    IsTurned g.T.Ord.cmp c.index_mut.result.now c.loop-level.coming.items coin up c.turn.new.self) (sym x) c.turn.ensures.turned in
     let i = c.loop-level.invariant in
     let buffers = c.loop-level.rooms.items in
+    let ls : List (Level g.row.T.Denot) = c.args.levels.now.items in
+    let most = vec_capacity c.args.room.now.coming in
     record {
-      pending = next-pending g.met.T.Ord.total _ _ _ _ _ _ _ _ _ _ _ _ _ _ _ _ c.requires.few_items i.pending (within g at) c.index_mut.ensures.value
-          c.requires.fits legal (c.requires.fit.promoted c.loop-level.level (inside g at)) (c.requires.fit.own c.loop-level.level) turned
-          c.turn.ensures.sound c.turn.ensures.coins;
+      pending = subst (IsPending g.met.T.Ord.total g.B.RandomBits.bit g.B.RandomBits.next c.args.coins.now (k_of ls) (accuracy_of ls) ls (spaces g at) most
+          (c.loop-level.level + 1) c.turn.new.coins
+          (set c.loop-level.levels.items c.loop-level.level c.turn.new.self)) (sym x)
+          (next-pending g.met.T.Ord.total g.B.RandomBits.bit g.B.RandomBits.next c.args.coins.now (k_of ls) (accuracy_of ls) ls
+          (spaces g at) c.loop-level.level most c.loop-level.coins
+          c.turn.new.coins c.loop-level.levels.items c.index_mut.result.now c.turn.new.self c.loop-level.coming.items _ c.requires.few_items i.pending
+          (within g at) c.index_mut.ensures.value
+          c.requires.fits legal (c.requires.fit.promoted c.loop-level.level (inside g at)) (c.requires.fit.own c.loop-level.level) c.turn.ensures.turned
+          c.turn.ensures.sound c.turn.ensures.coins);
       len = i.len;
       spare = i.spare;
-      as_many = length-set buffers c.loop-level.level _ ∙ i.as_many;
+      enough = subst (λ (n : ℕ). c.len-count.result ≤ n) (sym (length-set buffers c.loop-level.level _)) i.enough;
       merged = λ j low. read-other (λ (b : Space g.row.T.Denot). b.merged_space) 0 buffers c.loop-level.level _ j (places-above _ j low).0
           ∙ i.merged j (places-above _ j low).1;
       sorted = subst (IsSorted g.T.Ord.cmp) (sym x) c.turn.ensures.sorted;
       empty = ap (λ v. v.items) c.swap.ensures.y_after ∙ c.turn.ensures.coming;
-      room = subst (λ (n : ℕ). vec_capacity c.args.room.now.coming ≤ n) (sym (ap (λ v. vec_capacity v) c.swap.ensures.x_after ∙ c.turn.ensures.up_capacity)) i.above;
-      above = subst (λ (n : ℕ). vec_capacity c.args.room.now.coming ≤ n) (sym (ap (λ v. vec_capacity v) c.swap.ensures.y_after ∙ c.turn.ensures.coming_capacity)) i.room;
+      room = subst (λ (n : ℕ). vec_capacity c.args.room.now.coming ≤ n)
+          (sym (ap (λ v. vec_capacity v) c.swap.ensures.x_after ∙ c.turn.ensures.up_capacity)) i.above;
+      above = subst (λ (n : ℕ). vec_capacity c.args.room.now.coming ≤ n)
+          (sym (ap (λ v. vec_capacity v) c.swap.ensures.y_after ∙ c.turn.ensures.coming_capacity)) i.room;
     }
 
 -- the highest level gave up items
@@ -129,12 +138,14 @@ module _ (g : _) (c : After-parameters-k g) where
   some = grind (arith, c.if-not-is_empty.true, c.is_empty.ensures, c.loop-level.coming.ok.0)
 
   ends : c.len-count.result ≡ (c.loop-level.level - 1) + 1
-  ends = le_antisymm c.loop-level-test.false c.loop-level.auto.level-end ∙ pending-above g.met.T.Ord.total _ _ _ _ _ _ _ _ _ _ _ _ c.loop-level.invariant.pending some
+  ends = le_antisymm c.loop-level-test.false c.loop-level.auto.level-end
+      ∙ pending-above g.met.T.Ord.total _ _ _ _ _ _ _ _ _ _ _ _ c.loop-level.invariant.pending some
 
   own : c.parameters-k.result ≡ (k, accuracy)
   own =
       own-there g.T.Ord.cmp _ _ _ _ _ _ c.loop-level.invariant.pending.placed
-      (subst (λ (n : ℕ). 0 < n) (sym c.args.levels.now.ok.0 ∙ (sym c.len-count.ensures ∙ (sym c.loop-level.invariant.len ∙ c.loop-level.levels.ok.0))) c.requires.levels.some) c.index.ensures
+      (subst (λ (n : ℕ). 0 < n) (sym c.args.levels.now.ok.0 ∙ (sym c.len-count.ensures ∙ (sym c.loop-level.invariant.len ∙ c.loop-level.levels.ok.0)))
+      c.requires.levels.some) c.index.ensures
       c.parameters-k.ensures
 
 pub add_level-requires-clause-legal : goal.add_level-requires-clause-legal
@@ -162,7 +173,8 @@ none g c upper e =
 -- a list that an item was appended to
 longer-by-one : {A : Type 0} (n : ℕ) (ls ns : List A) (last : A) → n ≡ length ls → ns ≡ (if n == length ls then ls ++ last ∷ [] else ls) → length ns ≡ n + 1
 longer-by-one {A} n ls ns last all e =
-    ap length (e ∙ ap (λ (b : Bool). if b then ls ++ last ∷ [] else ls) (eq-eqb n (length ls) all)) ∙ (length-append ls (last ∷ []) ∙ ap (λ (m : ℕ). m + 1) (sym all))
+    ap length (e ∙ ap (λ (b : Bool). if b then ls ++ last ∷ [] else ls) (eq-eqb n (length ls) all)) ∙
+    (length-append ls (last ∷ []) ∙ ap (λ (m : ℕ). m + 1) (sym all))
 
 -- with the level that was added
 module _ (g : _) (c : After-add_level g) (own : c.parameters-k.result ≡ (k_of c.args.levels.now.items, accuracy_of c.args.levels.now.items)) (ends : c.len-count.result ≡ (c.loop-level.level - 1) + 1) where
@@ -206,11 +218,13 @@ absorb-requires-clause-few g c =
     lt_of_le_of_lt few c.requires.few_items
 
 -- a walk over all levels
-walked-whole : {A S : Type 0} (cmp : A → A → Ordering) (bit : S → Bool) (next : S → S) (source after : S) (k n m : ℕ) (accuracy : RankAccuracy) (ls xs ys : List (Level A)) → n ≡ m → xs ≡ ys →
+walked-whole : {A S : Type 0} (cmp : A → A → Ordering) (bit : S → Bool) (next : S → S) (source after : S) (k n m : ℕ) (accuracy : RankAccuracy)
+    (ls xs ys : List (Level A)) → n ≡ m → xs ≡ ys →
     AreWalked cmp bit next source after k accuracy (steps_actions k accuracy n 0 (layouts_of ls)) (steps_layouts k n 0 (layouts_of ls)) ls xs →
     AreWalked cmp bit next source after k accuracy (steps_actions k accuracy m 0 (layouts_of ls)) (steps_layouts k m 0 (layouts_of ls)) ls ys
 walked-whole cmp bit next source after k n m accuracy ls xs ys e same walked =
-    subst (λ (i : ℕ). AreWalked cmp bit next source after k accuracy (steps_actions k accuracy i 0 (layouts_of ls)) (steps_layouts k i 0 (layouts_of ls)) ls ys) e
+    subst (λ (i : ℕ). AreWalked cmp bit next source after k accuracy (steps_actions k accuracy i 0 (layouts_of ls)) (steps_layouts k i 0 (layouts_of ls)) ls ys)
+    e
     (subst (AreWalked cmp bit next source after k accuracy (steps_actions k accuracy n 0 (layouts_of ls)) (steps_layouts k n 0 (layouts_of ls)) ls) same walked)
 
 pub returns-then-not-is_empty : goal.returns-then-not-is_empty
@@ -229,7 +243,8 @@ returns-then-not-is_empty g c =
     let count : c.loop-level.level ≡ length (layouts_of ls) =
     le_antisymm c.loop-level.auto.level-end c.loop-level-test.false ∙ (c.len-count.ensures ∙ (c.args.levels.now.ok.0 ∙ sym (length-layouts ls))) in
     record {
-      acted = walked-whole g.T.Ord.cmp g.B.RandomBits.bit g.B.RandomBits.next c.args.coins.now c.loop-level.coins (k_of ls) c.loop-level.level _ (accuracy_of ls) ls _ _ count
+      acted = walked-whole g.T.Ord.cmp g.B.RandomBits.bit g.B.RandomBits.next c.args.coins.now c.loop-level.coins (k_of ls) c.loop-level.level _
+          (accuracy_of ls) ls _ _ count
           (ap₂ (λ (l : List (Level g.row.T.Denot)) (n : ℕ). set l n new) (sym all) (sym ends)) walked;
     }
 
@@ -241,7 +256,8 @@ returns-else-not-is_empty g c =
     let none : c.loop-level.coming.items ≡ [] =
     nil_from_length c.loop-level.coming.items (grind (arith, c.if-not-is_empty.false, c.is_empty.ensures, c.loop-level.coming.ok.0)) in
     record {
-      acted = walked-whole g.T.Ord.cmp g.B.RandomBits.bit g.B.RandomBits.next c.args.coins.now c.loop-level.coins (k_of ls) c.loop-level.level _ (accuracy_of ls) ls _ _ count refl
+      acted = walked-whole g.T.Ord.cmp g.B.RandomBits.bit g.B.RandomBits.next c.args.coins.now c.loop-level.coins (k_of ls) c.loop-level.level _
+          (accuracy_of ls) ls _ _ count refl
           (c.loop-level.invariant.pending.none none);
     }
 

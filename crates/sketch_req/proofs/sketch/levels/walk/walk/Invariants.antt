@@ -11,7 +11,7 @@ invariant-loop-level g l =
       pending : IsPending g.met.T.Ord.total g.B.RandomBits.bit g.B.RandomBits.next l.initial.coins (k_of ls) (accuracy_of ls) ls (merged_spaces l.initial.rooms.items) (vec_capacity l.initial.coming) l.level l.coins l.levels.items l.coming.items;
       len : vec_len l.levels ≡ l.count;
       spare : l.count < vec_capacity l.levels;
-      as_many : length l.rooms.items ≡ length l.initial.rooms.items;
+      enough : l.count ≤ length l.rooms.items;
       merged : (j : ℕ) → l.level ≤ j → get_or (merged_spaces l.rooms.items) j 0 ≡ get_or (merged_spaces l.initial.rooms.items) j 0;
       sorted : IsSorted g.T.Ord.cmp l.coming.items;
       empty : l.up.items ≡ [];
