@@ -8,18 +8,6 @@ use Rattle.sketch_req.proofs.sketch.levels.redraw_if.Goals as goal
 pub loop-level-init : goal.loop-level-init
 loop-level-init g c = record { len = omega (arith, c.len-level-end.ensures, c.args.levels.now.ok); levels = refl; coins = refl; room = refl }
 
-pub returns-clause-levels : goal.returns-clause-levels
-returns-clause-levels g c = grind (arith, common_steps)
-
-pub returns-clause-coins : goal.returns-clause-coins
-returns-clause-coins g c = grind (arith, common_steps)
-
-pub returns-then-not-redraws-clause-levels : goal.returns-then-not-redraws-clause-levels
-returns-then-not-redraws-clause-levels g c = grind (arith, common_steps)
-
-pub returns-then-not-redraws-clause-coins : goal.returns-then-not-redraws-clause-coins
-returns-then-not-redraws-clause-coins g c = grind (arith, common_steps)
-
 pub loop-level-preserved : goal.loop-level-preserved
 loop-level-preserved g c =
     let i = c.loop-level.invariant in
@@ -37,3 +25,9 @@ loop-level-preserved g c =
           ∙ (more.1 ∙ i.coins);
       room = i.room;
     }
+
+pub returns : goal.returns
+returns g c = record { levels = grind (arith, common_steps); coins = grind (arith, common_steps); room = c.loop-level.invariant.room }
+
+pub returns-then-not-redraws : goal.returns-then-not-redraws
+returns-then-not-redraws g c = record { levels = grind (arith, common_steps); coins = grind (arith, common_steps); room = refl }

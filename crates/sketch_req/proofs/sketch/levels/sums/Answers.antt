@@ -19,12 +19,6 @@ overflow_add-count g c = omega (arith, c.requires.few, c.loop-level-test.true, c
 pub overflow_add-sum : goal.overflow_add-sum
 overflow_add-sum g c = omega (arith, c.requires.few, c.loop-level-test.true, c.loop-level.invariant.small)
 
-pub returns-clause-retained : goal.returns-clause-retained
-returns-clause-retained g c = grind (arith, common_steps)
-
-pub returns-clause-capacity : goal.returns-clause-capacity
-returns-clause-capacity g c = grind (arith, common_steps)
-
 pub loop-level-preserved : goal.loop-level-preserved
 loop-level-preserved g c =
     let i = c.loop-level.invariant in
@@ -38,3 +32,6 @@ loop-level-preserved g c =
       few = few-more _ _ _ i.few c.num_items.type_inv;
       small = few-more _ _ _ i.small c.nominal_capacity.type_inv;
     }
+
+pub returns : goal.returns
+returns g c = record { retained = grind (arith, common_steps); capacity = grind (arith, common_steps) }

@@ -1,4 +1,4 @@
-use Rattle.std.proofs.Common.{ℕ, List, refl, subst, sym, ◌≡◌, ◌∙◌, true, false, ap, arith, le-leb}
+use Rattle.std.proofs.Common.{◌<◌, ◌≤◌, ◌+◌, subst₂, ℕ, List, refl, subst, sym, ◌≡◌, ◌∙◌, true, false, ap, arith, le-leb}
 use Rattle.std.proofs.lemmas.Result.{IfOk-from_err}
 use Rattle.std.proofs.lemmas.Bool.{lt-leb}
 use Rattle.sketch_req.specs.declared.RankAccuracy.{RankAccuracy}
@@ -59,7 +59,8 @@ returns g c =
     let more = retained-appended s.compactors.items c.args.item c.self.invariant.some in
     let same = nominal-appended s.k s.compactors.items c.args.item in
     let full : are_full s.k (layouts_of (appended_first s.compactors.items c.args.item)) ≡ true =
-    le-leb _ _ (omega (arith, more, same, c.self.invariant.retained_is, c.self.invariant.capacity_is, c.if-self.false)) in
+    le-leb _ _ (subst₂ (λ (n m : ℕ). n ≤ m) (c.self.invariant.capacity_is ∙ sym same)
+    (ap (λ (n : ℕ). n + 1) c.self.invariant.retained_is ∙ sym more) c.if-self.false) in
     let walked = walked g (past.returns g c).In_ok-append_and_walk in
     record {
       kept = ap (λ (h : Held g.row.T.Denot). held_of h.k h.accuracy levels) c.self.view_is;
@@ -80,7 +81,7 @@ returns-then-self g c =
     let more = retained-appended s.levels c.args.item held.some in
     let same = nominal-appended s.k s.levels c.args.item in
     let spare : are_full s.k (layouts_of (appended_first s.levels c.args.item)) ≡ false = lt-leb _ _
-    (omega (arith, more, same, held.retained_is, held.capacity_is, c.if-self.true)) in
+    (subst₂ (λ (n m : ℕ). n < m) (ap (λ (n : ℕ). n + 1) held.retained_is ∙ sym more) (held.capacity_is ∙ sym same) c.if-self.true) in
     let put = c.in_ok-put.ensures.ok in
     let levels = sym (ap (λ (h : Held g.row.T.Denot). h.levels) put) in
     record {
@@ -117,12 +118,16 @@ returns-in_err-put g c =
       memory = error-known r _ is;
     }
 
+-- a weight after an item came in
+some-more : (n m k : ℕ) → n ≡ m + 0 → m ≡ k + 1 → 0 < n
+some-more n m k e f = omega (arith, e, f)
+
 pub invariant_of-self-2 : goal.invariant_of-self-2
 invariant_of-self-2 g c =
     let s = c.self.inside in
     let walked = walked g (past.invariant_of-self-2 g c).In_ok-append_and_walk in
     let more = weight-appended s.compactors.items c.args.item c.self.invariant.some in
-    let some = some-weigh _ (omega (arith, walked.acted.weigh, more)) in
+    let some = some-weigh _ (some-more _ _ _ walked.acted.weigh more) in
     subst (λ (ls : List (Level g.row.T.Denot)). IsHeld g.T.Ord.cmp c.sums.result.0 c.sums.result.1 (held_of s.k s.rank_accuracy ls)) (sym c.give_back.ensures)
     (held-sums g.T.Ord.cmp _ _ _ _ _ _ some walked.acted.placed
     (c.as_slice.ensures.value ∙ c.give_back.ensures) c.sums.ensures.retained c.sums.ensures.capacity)
