@@ -1,6 +1,6 @@
 -- Levels of one sketch: their k and their accuracy are those of level 0.
 use Rattle.std.proofs.Common.{◌≡◌, ℕ, ◌+◌, ◌<◌, ◌≤◌, ap, ◌∙◌, Bool, true, List, [], ◌∷◌, length, refl, sym, subst, arith, Ordering}
-use Rattle.sketch_req.specs.Held.{IsHeld, held_of}
+use Rattle.sketch_req.specs.Held.{Held, IsHeld, held_of}
 use Rattle.sketch_req.specs.Level.{Level, fresh}
 use Rattle.sketch_req.specs.Merged.{AreTakenIn}
 use Rattle.sketch_req.specs.Redrawn.{redrawn}
@@ -89,3 +89,15 @@ some-taken bit next source after k accuracy redraws ls others ns some t =
     let same = ap length (ap layouts_of t.ready_are ∙ layouts-ready redraws _ t.joined) in
     let n = ap length t.acted.acted.layouts_are in
     omega (arith, some, t.count_is, length-layouts t.joined, length-layouts ns, same, n, longer-room k (layouts_of t.ready))
+
+-- the levels of a sketch replaced
+pub with-levels : {A : Type 0} (h s : Held A) (ls : List (Level A)) → h ≡ s → held_of h.k h.accuracy ls ≡ held_of s.k s.accuracy ls
+with-levels {A} h s ls e = ap (λ (x : Held A). held_of x.k x.accuracy ls) e
+
+-- if only the levels changed, the rest is as it was
+pub only-levels : {A : Type 0} (h s : Held A) (ls : List (Level A)) → h ≡ held_of s.k s.accuracy ls → h ≡ held_of s.k s.accuracy h.levels
+only-levels {A} h s ls e = e ∙ ap (held_of s.k s.accuracy) (sym (ap (λ (x : Held A). x.levels) e))
+
+-- if the levels are as they were, so is the whole
+pub same-levels : {A : Type 0} (k : ℕ) (accuracy : RankAccuracy) (ls ms : List (Level A)) (s : Held A) → ms ≡ ls → held_of k accuracy ls ≡ s → held_of k accuracy ms ≡ s
+same-levels k accuracy ls ms s same e = ap (held_of k accuracy) same ∙ e

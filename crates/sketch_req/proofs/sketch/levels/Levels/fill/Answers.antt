@@ -10,6 +10,7 @@ use Rattle.sketch_req.specs.Schedule.{layouts_of, nominal_sum, retained_of}
 use Rattle.sketch_req.proofs.ListPlaces.{set-kept}
 use Rattle.sketch_req.proofs.TakenInTurn.{first-few, first-filled, held-filled, nominal-small}
 use Rattle.sketch_req.proofs.Exits.{on-error}
+use Rattle.sketch_req.proofs.Held.{with-levels, same-levels}
 use Rattle.sketch_req.proofs.sketch.levels.Levels.fill.Goals.{In_ok-append_clones}
 use Rattle.sketch_req.proofs.sketch.levels.Levels.fill.Given.{Over}
 use Rattle.sketch_req.proofs.sketch.levels.Levels.fill.Goals as goal
@@ -53,7 +54,7 @@ returns g c =
     let h = c.in_ok-append_clones.ensures.ok in
     let levels = set c.self.inside.compactors.items 0 c.append_clones.new.self in
     record {
-      kept = ap (λ (h : Held g.row.T.Denot). held_of h.k h.accuracy levels) c.self.view_is;
+      kept = with-levels _ _ levels c.self.view_is;
       filled = subst (λ (s : Held g.row.T.Denot). HaveClones g.T.Ord.cmp s.levels c.args.items.now levels) c.self.view_is
           (record { clones = h.clones; same = h.same; levels_are = filled g (past.returns g c).In_ok-append_clones });
       err = tt;
@@ -65,9 +66,9 @@ returns-in_err-append_clones g c =
     let same = set-kept s.compactors.items 0 _ _ c.index_mut.ensures.value c.in_err-append_clones.ensures.err in
     let r = c.from_residual.result in
     record {
-      kept = ap (λ (h : Held g.row.T.Denot). held_of h.k h.accuracy (set s.compactors.items 0 c.append_clones.new.self)) c.self.view_is;
+      kept = with-levels _ _ (set s.compactors.items 0 c.append_clones.new.self) c.self.view_is;
       filled = IfOk-from_err r _ c.from_residual.ensures.0;
-      err = on-error r (ap (held_of s.k s.rank_accuracy) same ∙ c.self.view_is);
+      err = on-error r (same-levels _ _ _ _ _ same c.self.view_is);
     }
 
 pub invariant_of-self : goal.invariant_of-self

@@ -12,6 +12,7 @@ use Rattle.sketch_req.specs.Schedule.{layouts_of}
 use Rattle.sketch_req.specs.ScheduleLaws.{updates_actions}
 use Rattle.sketch_req.proofs.Exits.{on-error, error-passed}
 use Rattle.sketch_req.proofs.TakenInTurn.{draws-few, left-append, taken-append}
+use Rattle.sketch_req.proofs.Held.{with-levels}
 use Rattle.sketch_req.proofs.sketch.levels.Levels.take_in_turn.Goals as goal
 
 -- some items, and then a part of the rest
@@ -59,7 +60,7 @@ returns-in_err-taken g c =
     let r = c.from_residual.result in
     let (fails, is) = c.from_residual.ensures in
     record {
-      kept = c.in_err-taken.ensures.kept ∙ ap (λ (h : Held g.row.T.Denot). held_of h.k h.accuracy c.take_some.new.self.levels) c.loop-taken.invariant.kept;
+      kept = c.in_err-taken.ensures.kept ∙ with-levels _ _ c.take_some.new.self.levels c.loop-taken.invariant.kept;
       taken = IfOk-from_err r _ fails;
       drawn = on-error r (record {
         count = draws_of (updates_actions s.k s.accuracy (layouts_of s.levels) done);
@@ -98,7 +99,7 @@ loop-taken-preserved g c =
     let rest = take_all (length items - n) (drop n items) (le_of_eq (length-drop n items)) in
     record {
       within = omega (arith, c.loop-taken-test.true, e.within, ap length rest, length-drop n items);
-      kept = e.kept ∙ ap (λ (h : Held g.row.T.Denot). held_of h.k h.accuracy c.take_some.new.self.levels) i.kept;
+      kept = e.kept ∙ with-levels _ _ c.take_some.new.self.levels i.kept;
       so_far = taken-more g.met.T.Ord.total g.B.RandomBits.bit g.B.RandomBits.next _ _ _ c.args.self.now c.loop-taken.self n c.in_ok-taken.field-0 items _ _
           i.kept rest i.so_far e.taken;
       left = left-more g.met.T.Ord.total g.B.RandomBits.bit g.B.RandomBits.next _ _ _ c.args.self.now c.loop-taken.self n c.in_ok-taken.field-0 items _ _ i.kept

@@ -8,7 +8,7 @@ use Rattle.sketch_req.specs.Level.{Level}
 use Rattle.sketch_req.specs.Schedule.{layouts_of, are_full}
 use Rattle.sketch_req.proofs.TakenInTurn.{some-weigh}
 use Rattle.sketch_req.proofs.UpdatedLevels.{weight-appended, acted-spare, acted-walk, nominal-appended, placed-appended, retained-appended}
-use Rattle.sketch_req.proofs.Held.{held-sums, few-levels, own-levels}
+use Rattle.sketch_req.proofs.Held.{only-levels, with-levels, same-levels, held-sums, few-levels, own-levels}
 use Rattle.sketch_req.proofs.Exits.{on-error, error-known, error-passed}
 use Rattle.sketch_req.proofs.sketch.levels.Levels.take_last.Given.{Over}
 use Rattle.sketch_req.proofs.sketch.levels.Levels.take_last.Goals.{In_ok-append_and_walk}
@@ -63,7 +63,7 @@ returns g c =
     (ap (λ (n : ℕ). n + 1) c.self.invariant.retained_is ∙ sym more) c.if-self.false) in
     let walked = walked g (past.returns g c).In_ok-append_and_walk in
     record {
-      kept = ap (λ (h : Held g.row.T.Denot). held_of h.k h.accuracy levels) c.self.view_is;
+      kept = with-levels _ _ levels c.self.view_is;
       acted = subst (λ (h : Held g.row.T.Denot). AreWalkedIfFull g.T.Ord.cmp g.B.RandomBits.bit g.B.RandomBits.next c.args.coins.now c.append_and_walk.new.coins
           h.k h.accuracy
           (appended_first h.levels c.args.item) levels) c.self.view_is (subst (λ (ls : List (Level g.row.T.Denot)).
@@ -85,7 +85,7 @@ returns-then-self g c =
     let put = c.in_ok-put.ensures.ok in
     let levels = sym (ap (λ (h : Held g.row.T.Denot). h.levels) put) in
     record {
-      kept = put ∙ ap (held_of s.k s.accuracy) levels;
+      kept = only-levels c.put.new.self s _ put;
       acted = subst (AreWalkedIfFull g.T.Ord.cmp g.B.RandomBits.bit g.B.RandomBits.next c.args.coins.now c.args.coins.now s.k s.accuracy
           (appended_first s.levels c.args.item)) levels
           (acted-spare g.met.T.Ord.total g.B.RandomBits.bit g.B.RandomBits.next c.args.coins.now s.k s.accuracy (appended_first s.levels c.args.item)
@@ -100,9 +100,9 @@ returns-in_err-append_and_walk g c =
     let (fails, is) = c.from_residual-in_err-append_and_walk.ensures in
     let (levels, coins) = c.in_err-append_and_walk.ensures.err in
     record {
-      kept = ap (λ (h : Held g.row.T.Denot). held_of h.k h.accuracy c.append_and_walk.new.levels.items) c.self.view_is;
+      kept = with-levels _ _ c.append_and_walk.new.levels.items c.self.view_is;
       acted = IfOk-from_err r _ fails;
-      err = on-error r (ap (held_of c.self.inside.k c.self.inside.rank_accuracy) levels ∙ c.self.view_is, coins);
+      err = on-error r (same-levels _ _ _ _ _ levels c.self.view_is, coins);
       memory = error-passed r is c.in_err-append_and_walk.ensures.memory;
     }
 
@@ -112,7 +112,7 @@ returns-in_err-put g c =
     let (fails, is) = c.from_residual.ensures in
     let same = c.in_err-put.ensures.err in
     record {
-      kept = same ∙ ap (held_of c.args.self.now.k c.args.self.now.accuracy) (sym (ap (λ (h : Held g.row.T.Denot). h.levels) same));
+      kept = only-levels c.put.new.self c.args.self.now _ same;
       acted = IfOk-from_err r _ fails;
       err = on-error r (same, refl);
       memory = error-known r _ is;
