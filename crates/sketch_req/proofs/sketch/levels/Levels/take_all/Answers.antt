@@ -9,7 +9,7 @@ use Rattle.sketch_req.specs.Held.{IsHeld, held_of, Held}
 use Rattle.sketch_req.specs.Updates.{AreAllTaken, AreTakenInTurn, IsDrawnFrom}
 use Rattle.sketch_req.specs.Level.{Level}
 use Rattle.sketch_req.specs.Copy.{IsLevelCopy}
-use Rattle.sketch_req.specs.Schedule.{layouts_of, retained_of, weight_of}
+use Rattle.sketch_req.specs.Schedule.{Layout, layouts_of, retained_of, weight_of}
 use Rattle.sketch_req.specs.ScheduleLaws.{updates_actions}
 use Rattle.sketch_req.proofs.Exits.{on-error, error-known, error-passed}
 use Rattle.sketch_req.proofs.Copies.{layouts-copied, placed-copied}
@@ -35,12 +35,24 @@ copied-taken cmp bit next source after own s copy items copies levels ns o c are
           (subst (λ (h : Held _). AreTakenInTurn cmp bit next source after h.k h.accuracy h.levels items ns) c taken);
     })
 
--- the draws of updates, by what they depend on
-same-draws : {A S : Type 0} (next : S → S) (source after : S) (items : List A) (s t : Held A) → t.k ≡ s.k → t.accuracy ≡ s.accuracy →
-    layouts_of t.levels ≡ layouts_of s.levels →
-    IsDrawnFrom next (draws_of (updates_actions t.k t.accuracy (layouts_of t.levels) items)) source after →
+-- so are their layouts, the draws of updates of them, and what stays of a sketch
+copied-layouts : {A : Type 0} (own s copy : Held A) (copies : List (Level A)) → own ≡ s → copy ≡ record own { levels = copies } → layouts_of copies ≡ layouts_of own.levels →
+    layouts_of copy.levels ≡ layouts_of s.levels
+copied-layouts {A} own s copy copies o c same = ap (λ (h : Held A). layouts_of h.levels) c ∙ (same ∙ ap (λ (h : Held A). layouts_of h.levels) o)
+
+copied-draws : {A S : Type 0} (next : S → S) (source after : S) (items : List A) (own s copy : Held A) (copies : List (Level A)) → own ≡ s → copy ≡ record own { levels = copies } →
+    layouts_of copies ≡ layouts_of own.levels → IsDrawnFrom next (draws_of (updates_actions copy.k copy.accuracy (layouts_of copy.levels) items)) source after →
     IsDrawnFrom next (draws_of (updates_actions s.k s.accuracy (layouts_of s.levels) items)) source after
-same-draws next source after items s t k accuracy same drawn = rw (← k, ← accuracy, ← same) drawn
+copied-draws {A} next source after items own s copy copies o c same drawn =
+    subst (λ (h : Held A). IsDrawnFrom next (draws_of (updates_actions h.k h.accuracy (layouts_of h.levels) items)) source after) o
+    (subst (λ (os : List Layout). IsDrawnFrom next (draws_of (updates_actions own.k own.accuracy os items)) source after) same
+    (subst (λ (h : Held A). IsDrawnFrom next (draws_of (updates_actions h.k h.accuracy (layouts_of h.levels) items)) source after) c drawn))
+
+copied-kept : {A : Type 0} (own s copy taken end : Held A) (copies levels : List (Level A)) → own ≡ s → copy ≡ record own { levels = copies } →
+    taken ≡ record copy { levels = taken.levels } → end ≡ taken → held_of end.k end.accuracy levels ≡ held_of s.k s.accuracy levels
+copied-kept {A} own s copy taken end copies levels o c t e =
+    let kept = λ (h : Held A). held_of h.k h.accuracy levels in
+    ap kept e ∙ (ap kept t ∙ (ap kept c ∙ ap kept o))
 
 pub overflow_add-self-inside : goal.overflow_add-self-inside
 overflow_add-self-inside g c =
@@ -55,10 +67,7 @@ new-copy-requires-clause-levels g c = placed-copied g.met.T.Ord.total _ _ 0 _ _ 
 
 -- the layouts of the copy
 copied : (g : Over) (c : After-new-copy g) → layouts_of c.new-copy.result.levels ≡ layouts_of c.args.self.now.levels
-copied g c =
-    let copy = ap (λ (h : Held g.row.T.Denot). layouts_of h.levels) c.new-copy.ensures in
-    let same = layouts-copied g.met.T.Ord.total _ _ c.in_ok-copy_levels.ensures in
-    copy ∙ (same ∙ ap (λ (h : Held g.row.T.Denot). layouts_of h.levels) c.self.view_is)
+copied g c = copied-layouts _ _ _ _ c.self.view_is c.new-copy.ensures (layouts-copied g.met.T.Ord.total _ _ c.in_ok-copy_levels.ensures)
 
 pub take_in_turn-requires-clause-fits : goal.take_in_turn-requires-clause-fits
 take_in_turn-requires-clause-fits g c =
@@ -86,9 +95,7 @@ pub returns : goal.returns
 returns g c =
     let levels = c.copy.inside.compactors.items in
     record {
-      kept = ap (λ (h : Held g.row.T.Denot). held_of h.k h.accuracy levels) (c.copy.view_is ∙ c.in_ok-take_in_turn.ensures.kept)
-          ∙ (ap (λ (h : Held g.row.T.Denot). held_of h.k h.accuracy levels) c.new-copy.ensures ∙ ap
-          (λ (h : Held g.row.T.Denot). held_of h.k h.accuracy levels) c.self.view_is);
+      kept = copied-kept _ _ _ _ _ _ levels c.self.view_is c.new-copy.ensures c.in_ok-take_in_turn.ensures.kept c.copy.view_is;
       taken = copied-taken g.T.Ord.cmp g.B.RandomBits.bit g.B.RandomBits.next c.args.coins.now c.take_in_turn.new.coins _ _ _ c.args.items.now _ levels _
           c.self.view_is c.new-copy.ensures
           c.in_ok-copy_levels.ensures c.in_ok-take_in_turn.ensures.taken (ap (λ (h : Held g.row.T.Denot). h.levels) c.copy.view_is);
@@ -133,17 +140,14 @@ returns-in_err-fill g c =
 
 pub returns-in_err-take_in_turn : goal.returns-in_err-take_in_turn
 returns-in_err-take_in_turn g c =
-    let same = copied g (past.returns-in_err-take_in_turn g c).After-new-copy in
-    let k = ap (λ (h : Held g.row.T.Denot). h.k) c.new-copy.ensures ∙ ap (λ (h : Held g.row.T.Denot). h.k) c.self.view_is in
-    let accuracy = ap (λ (h : Held g.row.T.Denot). h.accuracy) c.new-copy.ensures ∙ ap (λ (h : Held g.row.T.Denot). h.accuracy) c.self.view_is in
+    let same = layouts-copied g.met.T.Ord.total _ _ c.in_ok-copy_levels.ensures in
     let r = c.from_residual-in_err-take_in_turn.result in
     let (fails, is) = c.from_residual-in_err-take_in_turn.ensures in
     record {
       kept = refl;
       taken = IfOk-from_err r _ fails;
       err = on-error r refl;
-      drawn = on-error r (same-draws g.B.RandomBits.next c.args.coins.now c.take_in_turn.new.coins c.args.items.now c.args.self.now c.new-copy.result k accuracy
-          same c.in_err-take_in_turn.ensures.drawn);
+      drawn = on-error r (copied-draws g.B.RandomBits.next c.args.coins.now c.take_in_turn.new.coins c.args.items.now _ _ _ _ c.self.view_is c.new-copy.ensures same c.in_err-take_in_turn.ensures.drawn);
       memory = error-passed r is c.in_err-take_in_turn.ensures.memory;
     }
 

@@ -1,19 +1,31 @@
 -- The loop takes one part of the items after another.
-use Rattle.std.proofs.Common.{◌+◌, Bool, Ordering, le_of_eq, sym, length-take, ◌≡◌, ◌≤◌, ◌∙◌, List, ℕ, arith, length, take, drop, ap, subst, take-add, take_all, length-drop, ◌-◌}
+use Rattle.std.proofs.Common.{◌<◌, ◌+◌, Bool, Ordering, le_of_eq, sym, length-take, ◌≡◌, ◌≤◌, ◌∙◌, List, ℕ, arith, length, take, drop, ap, subst, take-add, take_all, length-drop, ◌-◌}
 use Rattle.std.proofs.lemmas.Result.{IfOk-from_err}
 use Rattle.std.proofs.lemmas.Grind.{common_steps}
 use Rattle.std.proofs.lemmas.List.{take-append-drop}
 use Rattle.std.specs.Cmp.{IsTotalOrder}
 use Rattle.sketch_base.specs.Trace.{draws_of}
 use Rattle.sketch_req.specs.Updates.{AreLeft, AreTakenInTurn}
+use Rattle.sketch_req.specs.declared.RankAccuracy.{RankAccuracy}
 use Rattle.sketch_req.specs.Held.{held_of, Held}
 use Rattle.sketch_req.specs.Level.{Level}
-use Rattle.sketch_req.specs.Schedule.{layouts_of}
+use Rattle.sketch_req.specs.Schedule.{Layout, layouts_of}
 use Rattle.sketch_req.specs.ScheduleLaws.{updates_actions}
 use Rattle.sketch_req.proofs.Exits.{on-error, error-passed}
 use Rattle.sketch_req.proofs.TakenInTurn.{draws-few, left-append, taken-append}
 use Rattle.sketch_req.proofs.Held.{with-levels}
 use Rattle.sketch_req.proofs.sketch.levels.Levels.take_in_turn.Goals as goal
+
+-- a part of the items takes no more coins than all
+draws-part : {A : Type 0} (k : ℕ) (accuracy : RankAccuracy) (layouts : List Layout) (n : ℕ) (items : List A) →
+    draws_of (updates_actions k accuracy layouts (take n items)) ≤ draws_of (updates_actions k accuracy layouts items)
+draws-part {A} k accuracy layouts n items =
+    subst (λ (xs : List A). draws_of (updates_actions k accuracy layouts (take n items)) ≤ draws_of (updates_actions k accuracy layouts xs)) (take-append-drop n items)
+    (draws-few k accuracy layouts (take n items) (drop n items))
+
+-- a part of the rest fits in
+part-fits : (n m all part rest : ℕ) → n < all → m ≤ part → part ≡ rest → rest ≡ all - n → n + m ≤ all
+part-fits n m all part rest l w e f = omega (arith, l, w, e, f)
 
 -- some items, and then a part of the rest
 module _ {A S : Type 0} {cmp : A → A → Ordering} (order : IsTotalOrder cmp) (bit : S → Bool) (next : S → S) (source middle after : S) (s own : Held A) (n m : ℕ)
@@ -64,9 +76,7 @@ returns-in_err-taken g c =
       taken = IfOk-from_err r _ fails;
       drawn = on-error r (record {
         count = draws_of (updates_actions s.k s.accuracy (layouts_of s.levels) done);
-        few = subst (λ (xs : List g.row.T.Denot). draws_of (updates_actions s.k s.accuracy (layouts_of s.levels) done) ≤ draws_of
-            (updates_actions s.k s.accuracy (layouts_of s.levels) xs))
-            (take-append-drop c.loop-taken.taken items) (draws-few s.k s.accuracy (layouts_of s.levels) done (drop c.loop-taken.taken items));
+        few = draws-part s.k s.accuracy (layouts_of s.levels) c.loop-taken.taken items;
         after_is = c.in_err-taken.ensures.err ∙ c.loop-taken.invariant.left.source_is;
       });
       memory = error-passed r is c.in_err-taken.ensures.memory;
@@ -98,7 +108,7 @@ loop-taken-preserved g c =
     let e = c.in_ok-taken.ensures in
     let rest = take_all (length items - n) (drop n items) (le_of_eq (length-drop n items)) in
     record {
-      within = omega (arith, c.loop-taken-test.true, e.within, ap length rest, length-drop n items);
+      within = part-fits _ _ _ _ _ c.loop-taken-test.true e.within (ap length rest) (length-drop n items);
       kept = e.kept ∙ with-levels _ _ c.take_some.new.self.levels i.kept;
       so_far = taken-more g.met.T.Ord.total g.B.RandomBits.bit g.B.RandomBits.next _ _ _ c.args.self.now c.loop-taken.self n c.in_ok-taken.field-0 items _ _
           i.kept rest i.so_far e.taken;
