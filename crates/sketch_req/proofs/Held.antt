@@ -99,5 +99,6 @@ pub only-levels : {A : Type 0} (h s : Held A) (ls : List (Level A)) → h ≡ he
 only-levels {A} h s ls e = e ∙ ap (held_of s.k s.accuracy) (sym (ap (λ (x : Held A). x.levels) e))
 
 -- if the levels are as they were, so is the whole
-pub same-levels : {A : Type 0} (k : ℕ) (accuracy : RankAccuracy) (ls ms : List (Level A)) (s : Held A) → ms ≡ ls → held_of k accuracy ls ≡ s → held_of k accuracy ms ≡ s
+pub same-levels : {A : Type 0} (k : ℕ) (accuracy : RankAccuracy) (ls ms : List (Level A)) (s : Held A) → ms ≡ ls → held_of k accuracy ls ≡ s →
+    held_of k accuracy ms ≡ s
 same-levels k accuracy ls ms s same e = ap (held_of k accuracy) same ∙ e

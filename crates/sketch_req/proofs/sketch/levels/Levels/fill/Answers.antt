@@ -1,5 +1,5 @@
 -- Level 0 takes all clones at once.
-use Rattle.std.proofs.Common.{ℕ, List, ap, ◌∙◌, subst, sym, ◌≡◌, ◌<◌, ◌+◌, Equal, arith, length, set}
+use Rattle.std.proofs.Common.{ℕ, List, subst, sym, ◌≡◌, ◌<◌, ◌+◌, Equal, arith, length, set}
 use Rattle.std.proofs.lemmas.Result.{IfOk-from_err}
 use Rattle.std.proofs.lemmas.Grind.{common_steps}
 use Rattle.std.proofs.lemmas.List.Elements.{length_all_zip}

@@ -36,11 +36,12 @@ copied-taken cmp bit next source after own s copy items copies levels ns o c are
     })
 
 -- so are their layouts, the draws of updates of them, and what stays of a sketch
-copied-layouts : {A : Type 0} (own s copy : Held A) (copies : List (Level A)) → own ≡ s → copy ≡ record own { levels = copies } → layouts_of copies ≡ layouts_of own.levels →
-    layouts_of copy.levels ≡ layouts_of s.levels
+copied-layouts : {A : Type 0} (own s copy : Held A) (copies : List (Level A)) → own ≡ s → copy ≡ record own { levels = copies } →
+    layouts_of copies ≡ layouts_of own.levels → layouts_of copy.levels ≡ layouts_of s.levels
 copied-layouts {A} own s copy copies o c same = ap (λ (h : Held A). layouts_of h.levels) c ∙ (same ∙ ap (λ (h : Held A). layouts_of h.levels) o)
 
-copied-draws : {A S : Type 0} (next : S → S) (source after : S) (items : List A) (own s copy : Held A) (copies : List (Level A)) → own ≡ s → copy ≡ record own { levels = copies } →
+copied-draws : {A S : Type 0} (next : S → S) (source after : S) (items : List A) (own s copy : Held A) (copies : List (Level A)) → own ≡ s →
+    copy ≡ record own { levels = copies } →
     layouts_of copies ≡ layouts_of own.levels → IsDrawnFrom next (draws_of (updates_actions copy.k copy.accuracy (layouts_of copy.levels) items)) source after →
     IsDrawnFrom next (draws_of (updates_actions s.k s.accuracy (layouts_of s.levels) items)) source after
 copied-draws {A} next source after items own s copy copies o c same drawn =
@@ -147,7 +148,8 @@ returns-in_err-take_in_turn g c =
       kept = refl;
       taken = IfOk-from_err r _ fails;
       err = on-error r refl;
-      drawn = on-error r (copied-draws g.B.RandomBits.next c.args.coins.now c.take_in_turn.new.coins c.args.items.now _ _ _ _ c.self.view_is c.new-copy.ensures same c.in_err-take_in_turn.ensures.drawn);
+      drawn = on-error r (copied-draws g.B.RandomBits.next c.args.coins.now c.take_in_turn.new.coins c.args.items.now _ _ _ _ c.self.view_is c.new-copy.ensures
+          same c.in_err-take_in_turn.ensures.drawn);
       memory = error-passed r is c.in_err-take_in_turn.ensures.memory;
     }
 

@@ -7,7 +7,7 @@ use Rattle.std.specs.Cmp.{IsTotalOrder}
 use Rattle.sketch_base.specs.Trace.{draws_of}
 use Rattle.sketch_req.specs.Updates.{AreLeft, AreTakenInTurn}
 use Rattle.sketch_req.specs.declared.RankAccuracy.{RankAccuracy}
-use Rattle.sketch_req.specs.Held.{held_of, Held}
+use Rattle.sketch_req.specs.Held.{Held}
 use Rattle.sketch_req.specs.Level.{Level}
 use Rattle.sketch_req.specs.Schedule.{Layout, layouts_of}
 use Rattle.sketch_req.specs.ScheduleLaws.{updates_actions}
@@ -20,7 +20,8 @@ use Rattle.sketch_req.proofs.sketch.levels.Levels.take_in_turn.Goals as goal
 draws-part : {A : Type 0} (k : ℕ) (accuracy : RankAccuracy) (layouts : List Layout) (n : ℕ) (items : List A) →
     draws_of (updates_actions k accuracy layouts (take n items)) ≤ draws_of (updates_actions k accuracy layouts items)
 draws-part {A} k accuracy layouts n items =
-    subst (λ (xs : List A). draws_of (updates_actions k accuracy layouts (take n items)) ≤ draws_of (updates_actions k accuracy layouts xs)) (take-append-drop n items)
+    subst (λ (xs : List A). draws_of (updates_actions k accuracy layouts (take n items)) ≤ draws_of (updates_actions k accuracy layouts xs))
+    (take-append-drop n items)
     (draws-few k accuracy layouts (take n items) (drop n items))
 
 -- a part of the rest fits in

@@ -1,5 +1,5 @@
 -- The loop keeps what is pending after the turns so far.
-use Rattle.std.proofs.Common.{le_antisymm, le_of_eq, le_refl, le_trans, lt_of_lt_of_le, Ordering, ◌≡◌, ℕ, ◌+◌, ◌-◌, ◌<◌, ◌≤◌, ◌==◌, Bool, true, if◌then◌else◌, eq-eqb, length-append, List, [], ◌∷◌, ◌++◌, get_or, length, length-set, set, refl, sym, ap, ap₂, ◌∙◌, subst, arith, lt_of_le_of_lt, vec_capacity, IsSorted}
+use Rattle.std.proofs.Common.{Vec, le_antisymm, le_of_eq, le_refl, le_trans, lt_of_lt_of_le, Ordering, ◌≡◌, ℕ, ◌+◌, ◌-◌, ◌<◌, ◌≤◌, ◌==◌, Bool, true, if◌then◌else◌, eq-eqb, length-append, List, [], ◌∷◌, ◌++◌, get_or, length, length-set, set, refl, sym, ap, ap₂, ◌∙◌, subst, arith, lt_of_le_of_lt, vec_capacity, IsSorted}
 use Rattle.std.proofs.lemmas.List.{nil_from_length}
 use Rattle.sketch_base.proofs.Sorting.{short_sorted}
 use Rattle.sketch_base.specs.Buffers.{Space, merged_spaces}
@@ -94,19 +94,25 @@ turn-requires-clause-above g c =
     let held = ready-held g.met.T.Ord.total _ _ _ _ _ _ _ _ _ _ _ _ _ (ready g at) (c.requires.fit.promoted c.loop-level.level (inside g at)) in
     λ _. le_trans held c.loop-level.invariant.above
 
+-- what holds of a vector's items, and of its capacity, holds of an equal vector
+items-kept : {X Z : Type 0} (P : List X → Type 0) (v w : Vec X Z) → v ≡ w → P w.items → P v.items
+items-kept {X} {Z} P v w e p = subst P (sym (ap (λ (u : Vec X Z). u.items) e)) p
+
+capacity-kept : {X Z : Type 0} (v w : Vec X Z) (n m : ℕ) → v ≡ w → vec_capacity w ≡ m → n ≤ m → n ≤ vec_capacity v
+capacity-kept {X} {Z} v w n m e f l = subst (λ (i : ℕ). n ≤ i) (sym (ap (λ (u : Vec X Z). vec_capacity u) e ∙ f)) l
+
 pub loop-level-preserved : goal.loop-level-preserved
 loop-level-preserved g c =
     let at = (past.loop-level-preserved g c).After-index_mut-in-loop-level in
     let legal = (own-levels g.T.Ord.cmp _ _ _ c.requires.levels.some c.requires.levels.placed).legal in
-    let x = ap (λ v. v.items) c.swap.ensures.x_after in
     let i = c.loop-level.invariant in
     let buffers = c.loop-level.rooms.items in
     let ls : List (Level g.row.T.Denot) = c.args.levels.now.items in
     let most = vec_capacity c.args.room.now.coming in
     record {
-      pending = subst (IsPending g.met.T.Ord.total g.B.RandomBits.bit g.B.RandomBits.next c.args.coins.now (k_of ls) (accuracy_of ls) ls (spaces g at) most
+      pending = items-kept (IsPending g.met.T.Ord.total g.B.RandomBits.bit g.B.RandomBits.next c.args.coins.now (k_of ls) (accuracy_of ls) ls (spaces g at) most
           (c.loop-level.level + 1) c.turn.new.coins
-          (set c.loop-level.levels.items c.loop-level.level c.turn.new.self)) (sym x)
+          (set c.loop-level.levels.items c.loop-level.level c.turn.new.self)) _ _ c.swap.ensures.x_after
           (next-pending g.met.T.Ord.total g.B.RandomBits.bit g.B.RandomBits.next c.args.coins.now (k_of ls) (accuracy_of ls) ls
           (spaces g at) c.loop-level.level most c.loop-level.coins
           c.turn.new.coins c.loop-level.levels.items c.index_mut.result.now c.turn.new.self c.loop-level.coming.items _ c.requires.few_items i.pending
@@ -118,12 +124,10 @@ loop-level-preserved g c =
       enough = subst (λ (n : ℕ). c.len-count.result ≤ n) (sym (length-set buffers c.loop-level.level _)) i.enough;
       merged = λ j low. read-other (λ (b : Space g.row.T.Denot). b.merged_space) 0 buffers c.loop-level.level _ j (places-above _ j low).0
           ∙ i.merged j (places-above _ j low).1;
-      sorted = subst (IsSorted g.T.Ord.cmp) (sym x) c.turn.ensures.sorted;
-      empty = ap (λ v. v.items) c.swap.ensures.y_after ∙ c.turn.ensures.coming;
-      room = subst (λ (n : ℕ). vec_capacity c.args.room.now.coming ≤ n)
-          (sym (ap (λ v. vec_capacity v) c.swap.ensures.x_after ∙ c.turn.ensures.up_capacity)) i.above;
-      above = subst (λ (n : ℕ). vec_capacity c.args.room.now.coming ≤ n)
-          (sym (ap (λ v. vec_capacity v) c.swap.ensures.y_after ∙ c.turn.ensures.coming_capacity)) i.room;
+      sorted = items-kept (IsSorted g.T.Ord.cmp) _ _ c.swap.ensures.x_after c.turn.ensures.sorted;
+      empty = items-kept (λ (xs : List g.row.T.Denot). xs ≡ []) _ _ c.swap.ensures.y_after c.turn.ensures.coming;
+      room = capacity-kept _ _ _ _ c.swap.ensures.x_after c.turn.ensures.up_capacity i.above;
+      above = capacity-kept _ _ _ _ c.swap.ensures.y_after c.turn.ensures.coming_capacity i.room;
     }
 
 -- the highest level gave up items
