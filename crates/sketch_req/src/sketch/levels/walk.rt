@@ -91,8 +91,7 @@ pub(super) fn reserve<T: Clone + Ord>(
     coming.clear();
     up.clear();
     coming.reserve_exact(most)?;
-    up.reserve_exact(coming.capacity())?;
-    Ok(())
+    up.reserve_exact(coming.capacity())
 }
 
 /// Adds a level at a place if there is none. The place is at most the next one.

@@ -2,7 +2,7 @@
 use Rattle.std.proofs.Common.{nat_cmp, true, Ordering, inl, inr, ◌≡◌, ℕ, suc, ◌+◌, ◌/◌, ◌<◌, ◌≤◌, Bool, if◌then◌else◌, List, [], length, length-set, refl, sym, ap, ap₂, ◌∙◌, subst, arith, get_or, le_trans, lt_of_lt_of_le, max, not-le_of_lt, not-suc-le-zero, vec_capacity}
 use Rattle.std.specs.Ordering.{ord_max}
 use Rattle.std.proofs.lemmas.Bool.{cases_lt}
-use Rattle.std.proofs.lemmas.Result.{IfOk-from_err}
+use Rattle.std.proofs.lemmas.Result.{on_ok_weaker, IfOk-from_err}
 use Rattle.std.proofs.lemmas.Grind.{common_steps}
 use Rattle.sketch_base.specs.Bag.{SameItems, level_at}
 use Rattle.sketch_base.specs.Buffers.{Space}
@@ -186,19 +186,21 @@ returns g c =
     let lengths = all-places (k_of c.args.levels.now) c.args.more _ c.args.levels.now c.args.others.now c.requires.levels.some c.max-count.ensures in
     let done = c.loop-level-test.false in
     let most = part-within _ _ _ c.in_ok-reserve_exact.ensures.ok in
+    let r = c.reserve_exact-2.result in
+    let ok = c.reserve_exact-2.ensures.ok in
     record {
-      empty = c.reserve_exact.ensures.items ∙ c.clear.ensures.items;
-      nothing = c.reserve_exact-2.ensures.items ∙ c.clear-2.ensures.items;
-      above = subst (λ (n : ℕ). n ≤ vec_capacity c.reserve_exact-2.new.self) c.capacity.ensures (part-within _ _ _ c.in_ok-reserve_exact-2.ensures.ok);
-      cloned = record {
+      empty = on_ok_weaker r (λ _. c.reserve_exact.ensures.items ∙ c.clear.ensures.items) ok;
+      nothing = on_ok_weaker r (λ _. c.reserve_exact-2.ensures.items ∙ c.clear-2.ensures.items) ok;
+      above = on_ok_weaker r (λ room. subst (λ (n : ℕ). n ≤ vec_capacity c.reserve_exact-2.new.self) c.capacity.ensures (part-within _ _ _ room)) ok;
+      cloned = on_ok_weaker r (λ _. record {
         enough = le_trans lengths.1 i.enough;
         cloned = λ h l. cloned-grown g.T.Ord.cmp _ _ _ _ _ _ most (i.cloned h (lt_of_lt_of_le l (le_trans lengths.1 done)) l);
-      };
-      fit = record {
+      }) ok;
+      fit = on_ok_weaker r (λ _. record {
         enough = le_trans lengths.0 i.enough;
         promoted = λ h l. le_trans (i.promoted h (lt_of_lt_of_le l (le_trans lengths.0 done))) most;
         own = λ h l. i.own h (lt_of_lt_of_le l (le_trans lengths.0 done));
-      };
+      }) ok;
     }
 
 pub overflow_add-here : goal.overflow_add-here
@@ -227,10 +229,6 @@ returns-in_err-reserve_exact g c =
     let f = c.from_residual-in_err-reserve_exact.ensures.0 in
     record { empty = IfOk-from_err _ _ f; nothing = IfOk-from_err _ _ f; above = IfOk-from_err _ _ f; cloned = IfOk-from_err _ _ f; fit = IfOk-from_err _ _ f }
 
-pub returns-in_err-reserve_exact-2 : goal.returns-in_err-reserve_exact-2
-returns-in_err-reserve_exact-2 g c =
-    let f = c.from_residual-in_err-reserve_exact-2.ensures.0 in
-    record { empty = IfOk-from_err _ _ f; nothing = IfOk-from_err _ _ f; above = IfOk-from_err _ _ f; cloned = IfOk-from_err _ _ f; fit = IfOk-from_err _ _ f }
 
 pub bounds-others-level : goal.bounds-others-level
 bounds-others-level g c = c.if-level-others.true
