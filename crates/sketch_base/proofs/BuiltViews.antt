@@ -1,6 +1,6 @@
 -- What the calls that build a view give: the view of joined items, that of no items, or an error.
-use Rattle.std.proofs.Common.{◌≡◌, ℕ, ◌<◌, List, [], ◌∷◌, length, map, refl, sym, ap₂, ◌∙◌, subst, arith, Ordering, IsPermutation, IsSorted, Result, Ok, Err}
-use Rattle.std.specs.Prelude.{Option, None, IfErr, IsErrAnd}
+use Rattle.std.proofs.Common.{◌≡◌, ℕ, ◌<◌, List, [], ◌∷◌, length, map, refl, sym, ap₂, ◌∙◌, subst, arith, Ordering, IsPermutation, IsSorted}
+use Rattle.std.specs.Prelude.{Option, None}
 use Rattle.std.specs.Cmp.{IsTotalOrder}
 use Rattle.std.specs.List.{All}
 use Rattle.std.proofs.lemmas.Grind.{common_steps}
@@ -59,18 +59,13 @@ built-joined {A} {B} {cmp} order weighted pairs same sorted weights ws least gre
     (is ∙ ap₂ (λ (ys : List A) (ns : List ℕ). view_of ys ns least greatest) is_joined is_weights)
     (joined-entries order weighted pairs same sorted weights) (joined-distinct order weighted pairs same sorted weights) some
 
--- none are joined if there are none
-pub none-joined : {A : Type 0} (cmp : A → A → Ordering) (pairs : List (A × ℕ)) (xs : List A) → pairs ≡ [] → SameItems cmp (joined cmp pairs) xs → xs ≡ []
-none-joined {A} cmp pairs xs e h = go xs (subst (λ (ps : List (A × ℕ)). SameItems cmp (joined cmp ps) xs) e h)
-  where
-    go : (ys : List A) → SameItems cmp [] ys → ys ≡ []
-    go [] k = refl
-    go (y ∷ ys) k = absurd k
+-- the same items as none are none
+pub no-items : {A : Type 0} (cmp : A → A → Ordering) (xs : List A) → SameItems cmp [] xs → xs ≡ []
+no-items cmp [] same = refl
+no-items cmp (x ∷ xs) same = absurd same
 
--- a call that gives up gives this error
-pub error-is : {T E : Type 0} (r : Result T E) (e : E) → IsErrAnd r (λ x. x ≡ e) → IfErr r (λ x. x ≡ e)
-error-is (Ok x) e h = absurd h
-error-is (Err x) e h = h
+pub none-joined : {A : Type 0} (cmp : A → A → Ordering) (pairs : List (A × ℕ)) (xs : List A) → pairs ≡ [] → SameItems cmp (joined cmp pairs) xs → xs ≡ []
+none-joined {A} cmp pairs xs e h = no-items cmp xs (subst (λ (ps : List (A × ℕ)). SameItems cmp (joined cmp ps) xs) e h)
 
 pub some-pairs : (n m : ℕ) → 0 < n → m ≡ n → 0 < m
 some-pairs n m h e = omega arith

@@ -1,5 +1,5 @@
 -- Calls that return an error or are not refused: what their clauses say, and the numbers that decide it.
-use Rattle.std.proofs.Common.{◌≡◌, ◌⊎◌, ◌↔◌, ◌≢◌, ◌+◌, ◌-◌, ◌/◌, ◌<◌, ◌≤◌, ◌^◌, ◌∙◌, ℕ, Bool, true, false, not, leb, Option, None, Some, Result, Ok, Err, IsTrue, OnOk, IfOk, IfErr, IsErrAnd, inl, inr, refl, sym, ap, arith, List, [], ◌∷◌, ◌++◌, length, leb-true, leb-false}
+use Rattle.std.proofs.Common.{◌≡◌, ◌⊎◌, ◌↔◌, ◌≢◌, ◌+◌, ◌-◌, ◌/◌, ◌<◌, ◌≤◌, ◌^◌, ◌∙◌, ℕ, Bool, true, false, not, leb, Option, None, Some, Result, Ok, Err, IsTrue, IfErr, inl, inr, refl, sym, ap, arith, List, [], ◌∷◌, ◌++◌, length, leb-true, leb-false}
 use Rattle.std.proofs.lemmas.Bool.{false≢true}
 use Rattle.std.specs.Int.{w64, to_le_bytes}
 use Rattle.std.proofs.lemmas.Result.{IfErr-weaker}
@@ -7,26 +7,10 @@ use Rattle.sketch_base.specs.Answered.{IsRefusedUnless}
 use Rattle.sketch_base.specs.Views.{IsThere}
 use Rattle.sketch_base.specs.declared.error.ErrorKind.{ErrorKind}
 use Rattle.sketch_base.specs.declared.error.ErrorKind.TheVariants.{InvalidArgument, InvalidData, OutOfMemory}
+use Rattle.sketch_base.proofs.Exits.{accepted, memory_not_argument, memory_not_data, no_error, other_kind, with_error}
 use Rattle.sketch_req.specs.Held.{Held}
 use Rattle.sketch_req.specs.Sketch.{sketch_of}
 use Rattle.sketch_req.specs.Updates.{IsDrawnFrom}
-
--- the error that a `?` returns
-pub returned : {T E : Type 0} (r : Result T E) (x : E) → IsErrAnd r (λ y. y ≡ x) → r ≡ Err x
-returned (Ok y) x h = absurd h
-returned (Err y) x h = ap Err h
-
-pub no_value : {T E : Type 0} {r : Result T E} {x : E} (P : Type 0) → r ≡ Err x → OnOk r P
-no_value P e = rw e tt
-
-pub no_found : {T E : Type 0} {r : Result T E} {x : E} (P : T → Type 0) → r ≡ Err x → IfOk r P
-no_found P e = rw e tt
-
-pub with_error : {T E : Type 0} {r : Result T E} {x : E} (P : E → Type 0) → r ≡ Err x → P x → IfErr r P
-with_error P e p = rw e p
-
-other_kind : {T : Type 0} {r : Result T ErrorKind} → r ≡ Err OutOfMemory → r ≡ Err InvalidArgument → ⊥
-other_kind e f = let both : Err OutOfMemory ≡ Err InvalidArgument = sym e ∙ f in cc
 
 -- a call with no memory returns that and no other error
 pub no_memory : {T P : Type 0} {r : Result T ErrorKind} → r ≡ Err OutOfMemory → (P → ⊥) → (r ≡ Err InvalidArgument → P) × (P → r ≡ Err InvalidArgument)
@@ -34,12 +18,6 @@ no_memory e never = (λ is. absurd (other_kind e is), λ p. absurd (never p))
 
 pub no_refusal : {T : Type 0} {r : Result T ErrorKind} (P : Type 0) → r ≡ Err OutOfMemory → r ≡ Err InvalidArgument → P
 no_refusal P e f = absurd (other_kind e f)
-
-pub no_error : {T E : Type 0} {x : T} {e : E} → Ok x ≡ Err e → ⊥
-no_error is = cc
-
-pub accepted : {T E P : Type 0} {x : T} {e : E} → (P → ⊥) → (Ok x ≡ Err e → P) × (P → Ok x ≡ Err e)
-accepted never = (λ is. absurd (no_error is), λ p. absurd (never p))
 
 pub accepted_alone : {T E : Type 0} {x : T} {e : E} (P : Type 0) → Ok x ≡ Err e → P
 accepted_alone P is = absurd (no_error is)
@@ -124,19 +102,6 @@ some_now e not_none = omega (arith, e, not_none)
 
 pub not_heavy : {n : ℕ} → n < 2 ^ 64 → 2 ^ 64 ≤ n → ⊥
 not_heavy light heavy = omega (arith, light, heavy)
-
--- the kinds of errors differ
-pub argument_not_data : InvalidArgument ≡ InvalidData → ⊥
-argument_not_data is = cc
-
-pub memory_not_data : OutOfMemory ≡ InvalidData → ⊥
-memory_not_data is = cc
-
-pub memory_not_argument : OutOfMemory ≡ InvalidArgument → ⊥
-memory_not_argument is = cc
-
-pub data_not_argument : InvalidData ≡ InvalidArgument → ⊥
-data_not_argument is = cc
 
 -- an error for lack of memory says nothing of the data or the arguments
 pub no_refusal_of : {T : Type 0} (P : Type 0) (r : Result T ErrorKind) → IfErr r (λ e. e ≡ OutOfMemory) → IfErr r (λ e. e ≡ InvalidData → P)

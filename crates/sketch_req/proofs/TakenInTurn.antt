@@ -10,13 +10,13 @@ use Rattle.sketch_base.specs.Trace.{Action, draws_of}
 use Rattle.sketch_base.proofs.CallsInTurn.{draws-append, source-composes}
 use Rattle.sketch_req.specs.Held.{IsHeld, held_of}
 use Rattle.sketch_req.specs.Level.{Level, appended}
-use Rattle.sketch_req.specs.Schedule.{Layout, layout_of, layouts_of, are_full, nominal_sum, retained_of, weight_of, update_actions, update_layouts, actions_if_full, layouts_if_full}
+use Rattle.sketch_req.specs.Schedule.{Layout, layout_of, layouts_of, are_full, nominal_sum, retained_of, update_actions, update_layouts, actions_if_full, layouts_if_full}
 use Rattle.sketch_req.specs.ScheduleLaws.{AreLayouts, updates_actions, updates_layouts}
 use Rattle.sketch_req.specs.Updates.{AreLeft, AreTakenInTurn, HasClones, appended_all, all_appended_first}
 use Rattle.sketch_req.specs.Walk.{AreActed, AreLevels, AreWalkedIfFull, appended_first}
 use Rattle.sketch_req.specs.declared.RankAccuracy.{RankAccuracy}
 use Rattle.sketch_req.proofs.Held.{held-appended, own-levels}
-use Rattle.sketch_req.proofs.Sounds.{few-placed}
+use Rattle.sketch_req.proofs.Sounds.{few-placed, some-weight}
 use Rattle.sketch_req.proofs.Totals.{nominal-few}
 use Rattle.sketch_req.proofs.UpdatedLevels.{acted-put, acted-spare, layouts-appended, length-appended, nominal-appended, placed-appended, retained-appended}
 use Rattle.sketch_req.proofs.WalkCapacities.{update_spares}
@@ -72,11 +72,6 @@ nominal-small cmp k accuracy ls a =
     let few = few-placed cmp k accuracy 0 ls (omega arith) a in
     let n = nominal-few cmp k accuracy 0 ls a in
     omega (arith, few, n)
-
--- levels that weigh something
-pub some-weigh : {A : Type 0} (ls : List (Level A)) → 0 < weight_of (layouts_of ls) → 0 < length ls
-some-weigh [] heavy = absurd (omega (arith, heavy))
-some-weigh (l ∷ ls) heavy = omega arith
 
 -- ---- updates by lists
 
@@ -187,7 +182,7 @@ module _ {A S : Type 0} {cmp : A → A → Ordering} (order : IsTotalOrder cmp) 
       let drawn : draws_of (updates_actions k accuracy (layouts_of ls) (x ∷ [])) ≡ draws_of (update_actions k accuracy (layouts_of ls) clone) =
       ap draws_of (append-nil (update_actions k accuracy (layouts_of ls) x)) in
       record {
-        some = some-weigh ns (omega (arith, both.weigh));
+        some = some-weight ns (omega (arith, both.weigh));
         placed = both.placed;
         left = record { weigh = both.weigh; few = few_left; layouts = laid; source_is = both.source_is ∙ sym (ap (after_draws next source) drawn) };
       }

@@ -2,7 +2,7 @@ use Rattle.std.proofs.Common.{◌∙◌, List, ◌++◌, take, take_all, ap, sub
 use Rattle.std.proofs.lemmas.Grind.{common_steps}
 use Rattle.std.proofs.lemmas.Result.{IfOk-from_err}
 use Rattle.sketch_base.specs.Spelling.{AllSpelled, items_text}
-use Rattle.sketch_req.proofs.Exits.{on_error, only_error}
+use Rattle.sketch_base.proofs.Exits.{on_error, only_error}
 use Rattle.sketch_req.proofs.LevelFronts.{extended}
 use Rattle.sketch_req.proofs.image.write_items.Goals as goal
 

@@ -2,7 +2,8 @@ use Rattle.std.proofs.Common.{◌∙◌, ℕ, map, ap, refl, IsSorted}
 use Rattle.std.proofs.lemmas.Result.{IfOk-from_err, MatchResult-from_err}
 use Rattle.sketch_base.specs.Pairs.{joined_weights}
 use Rattle.sketch_base.specs.Weighted.{pairs_in}
-use Rattle.sketch_base.proofs.BuiltViews.{built, built-empty, empty-view, error-is, none-joined, some-pairs}
+use Rattle.sketch_base.proofs.Exits.{error_known}
+use Rattle.sketch_base.proofs.BuiltViews.{built, built-empty, empty-view, none-joined, some-pairs}
 use Rattle.sketch_base.proofs.JoinedViews.{clones-distinct, clones-entries, clones-view}
 use Rattle.sketch_base.proofs.MovedCounts.{emptied, some-unless_empty}
 use Rattle.sketch_base.proofs.WeightedItems.{items-in_pairs, length-pairs_in}
@@ -56,6 +57,6 @@ returns-in_err-items g c =
       joined = IfOk-from_err r _ err;
       least = IfOk-from_err r _ err;
       greatest = IfOk-from_err r _ err;
-      memory = error-is r _ c.from_residual.ensures.1;
+      memory = error_known r _ c.from_residual.ensures.1;
       none = MatchResult-from_err r _ _ err (λ e. c.in_err-items.ensures.some);
     }

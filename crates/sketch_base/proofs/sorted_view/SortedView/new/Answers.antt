@@ -3,7 +3,8 @@ use Rattle.std.proofs.lemmas.Fn.{always_returns_same}
 use Rattle.std.proofs.lemmas.List.{nil_from_length, reverse-reverse}
 use Rattle.std.proofs.lemmas.List.Sorted.{ranks_by, sum_by-IsPermutation}
 use Rattle.std.proofs.lemmas.Result.{IfOk-from_err, MatchResult-from_err}
-use Rattle.sketch_base.proofs.BuiltViews.{built-empty, built-joined, empty-view, error-is}
+use Rattle.sketch_base.proofs.Exits.{error_known}
+use Rattle.sketch_base.proofs.BuiltViews.{built-empty, built-joined, empty-view}
 use Rattle.sketch_base.proofs.JoinedViews.{joined-view, some-unless_none, sorted-items}
 use Rattle.sketch_base.proofs.MovedCounts.{some-unless_zero}
 use Rattle.sketch_base.proofs.sorted_view.SortedView.new.Given.{Over}
@@ -63,7 +64,7 @@ returns-in_err-items g c =
       joined = IfOk-from_err r _ err;
       least = IfOk-from_err r _ err;
       greatest = IfOk-from_err r _ err;
-      memory = error-is r _ c.from_residual.ensures.1;
+      memory = error_known r _ c.from_residual.ensures.1;
       none = MatchResult-from_err r _ _ err (λ e. some-unless_none _ (λ z. c.in_err-items.ensures.succeeds (c.len-count.ensures ∙ (c.args.weighted.ok.0 ∙ z))));
     }
 
@@ -76,7 +77,7 @@ returns-in_err-cumulated g c =
       joined = IfOk-from_err r _ err;
       least = IfOk-from_err r _ err;
       greatest = IfOk-from_err r _ err;
-      memory = error-is r _ c.from_residual-in_err-cumulated.ensures.1;
+      memory = error_known r _ c.from_residual-in_err-cumulated.ensures.1;
       none = MatchResult-from_err r _ _ err
           (λ e. some-unless_none _ (λ z. c.in_err-cumulated.ensures.succeeds (c.len-count.ensures ∙ (c.args.weighted.ok.0 ∙ z))));
     }
@@ -90,7 +91,7 @@ returns-in_err-sort_by g c =
       joined = IfOk-from_err r _ err;
       least = IfOk-from_err r _ err;
       greatest = IfOk-from_err r _ err;
-      memory = error-is r _ c.from_residual-in_err-sort_by.ensures.1;
+      memory = error_known r _ c.from_residual-in_err-sort_by.ensures.1;
       none = MatchResult-from_err r _ _ err (λ e. some-unless_zero _ _ _ c.if-count-eq0.false c.len-count.ensures c.args.weighted.ok.0);
     }
 

@@ -3,7 +3,7 @@ use Rattle.std.proofs.Common.{◌∷◌, [], ◌≡◌, ◌++◌, ◌∙◌, ref
 use Rattle.std.proofs.lemmas.Result.{IfErr-weaker, IfOk-from_err, IfOk-weaker}
 use Rattle.sketch_req.specs.declared.compactor.image.Front.{Front}
 use Rattle.sketch_req.specs.LevelImage.{front_text, front_of}
-use Rattle.sketch_req.proofs.Exits.{on_error, only_error}
+use Rattle.sketch_base.proofs.Exits.{on_error, only_error}
 use Rattle.sketch_req.proofs.LevelFronts.{Extends, as_extended, extended, five_written, not_extended}
 use Rattle.sketch_req.proofs.compactor.Compactor.write_front.Goals as goal
 

@@ -1,7 +1,7 @@
 use Rattle.std.proofs.Common.{◌≡◌, ◌<◌, [], ◌∙◌, ℕ, List, length, ap, arith}
 use Rattle.std.proofs.lemmas.Result.{IfOk-from_err}
 use Rattle.std.specs.Int.{w16, w32, w64, to_le_bytes}
-use Rattle.sketch_req.proofs.Exits.{at_error}
+use Rattle.sketch_base.proofs.Exits.{at_error}
 use Rattle.sketch_req.proofs.LevelFronts.{below_twenty, ends_soon, longer_8, longer_16, longer_32, longer_64, six_read}
 use Rattle.sketch_req.proofs.compactor.image.read_front.Goals as goal
 

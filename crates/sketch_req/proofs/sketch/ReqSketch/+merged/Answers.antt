@@ -6,7 +6,8 @@ use Rattle.std.proofs.lemmas.Result.{IfErr-weaker}
 use Rattle.sketch_base.proofs.Results.{ok-weaker}
 use Rattle.sketch_req.specs.Pairs.{pairs_of}
 use Rattle.sketch_req.proofs.Pairs.{pairs-alone}
-use Rattle.sketch_req.proofs.Refusals.{returned, no_found, with_error, first_fits, first_some, half_less, half_some, rest_less, rest_some, second_fits, second_some, sum_some}
+use Rattle.sketch_base.proofs.Exits.{no_found, returned, with_error}
+use Rattle.sketch_req.proofs.Refusals.{first_fits, first_some, half_less, half_some, rest_less, rest_some, second_fits, second_some, sum_some}
 use Rattle.sketch_req.proofs.Views.{both-long, both-moved, parts-long}
 use Rattle.sketch_req.proofs.sketch.ReqSketch.+merged.Goals as goal
 

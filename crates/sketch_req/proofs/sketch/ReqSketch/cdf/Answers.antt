@@ -8,7 +8,8 @@ use Rattle.sketch_base.proofs.SketchViews.{length-expanded}
 use Rattle.sketch_req.specs.Actions.{bag_of}
 use Rattle.sketch_req.specs.Sketch.{Req}
 use Rattle.sketch_req.specs.declared.sketch.ReqSketch.TheInside.{Inside}
-use Rattle.sketch_req.proofs.Refusals.{returned, no_found, some_now, none_among, some_among, fit_answer, unfit_refused, fit_short}
+use Rattle.sketch_base.proofs.Exits.{no_found, returned}
+use Rattle.sketch_req.proofs.Refusals.{fit_answer, fit_short, none_among, some_among, some_now, unfit_refused}
 use Rattle.sketch_req.proofs.sketch.ReqSketch.cdf.Goals as goal
 
 pub loop-point-preserved : goal.loop-point-preserved

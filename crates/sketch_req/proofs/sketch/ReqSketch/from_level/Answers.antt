@@ -7,7 +7,8 @@ use Rattle.sketch_req.specs.Level.{Level}
 use Rattle.sketch_req.specs.Walk.{AreLevels}
 use Rattle.sketch_req.specs.Held.{held_of}
 use Rattle.sketch_req.specs.declared.RankAccuracy.{RankAccuracy}
-use Rattle.sketch_req.proofs.Refusals.{returned, no_found, with_error, one_counted, same_sketch}
+use Rattle.sketch_base.proofs.Exits.{no_found, returned, with_error}
+use Rattle.sketch_req.proofs.Refusals.{one_counted, same_sketch}
 use Rattle.sketch_req.proofs.Sounds.{IsRebuilt, rebuilt}
 use Rattle.sketch_req.proofs.sketch.ReqSketch.from_level.Given.{Over}
 use Rattle.sketch_req.proofs.sketch.ReqSketch.from_level.Goals.{After-new-levels}

@@ -7,7 +7,8 @@ use Rattle.sketch_req.specs.Sketch.{IsSound}
 use Rattle.sketch_req.specs.Walk.{AreLevels}
 use Rattle.sketch_req.proofs.Held.{first-levels}
 use Rattle.sketch_req.proofs.MadeSketches.{empty_sound}
-use Rattle.sketch_req.proofs.Refusals.{returned, no_found, with_error, no_memory, accepted, refused_as, one_counted, same_sketch}
+use Rattle.sketch_base.proofs.Exits.{accepted, no_found, returned, with_error}
+use Rattle.sketch_req.proofs.Refusals.{no_memory, one_counted, refused_as, same_sketch}
 use Rattle.sketch_req.proofs.sketch.ReqSketch.new.Goals as goal
 
 pub new-levels-requires-clause-some : goal.new-levels-requires-clause-some

@@ -1,5 +1,5 @@
 use Rattle.std.proofs.Common.{◌∙◌, Err, ap, arith}
-use Rattle.sketch_req.proofs.Refusals.{returned, no_found, with_error, data_not_argument, memory_not_argument, memory_not_data}
+use Rattle.sketch_base.proofs.Exits.{data_not_argument, memory_not_argument, memory_not_data, no_found, returned, with_error}
 use Rattle.sketch_req.proofs.sketch.ReqSketch.read_empty.Goals as goal
 
 pub returns-in_err-unless : goal.returns-in_err-unless

@@ -7,7 +7,8 @@ use Rattle.sketch_req.specs.Image.{first_place}
 use Rattle.sketch_req.specs.declared.RankAccuracy.{RankAccuracy}
 use Rattle.sketch_req.proofs.Sounds.{one_of, alone, imaged_at}
 use Rattle.sketch_req.proofs.OneText.{same_levels, same_numbers}
-use Rattle.sketch_req.proofs.Refusals.{returned, no_found, with_error, data_not_argument, five_some, over_four, many_counted, still_many, no_refusal_of, memory_alone}
+use Rattle.sketch_base.proofs.Exits.{data_not_argument, no_found, returned, with_error}
+use Rattle.sketch_req.proofs.Refusals.{five_some, many_counted, memory_alone, no_refusal_of, over_four, still_many}
 use Rattle.sketch_req.proofs.sketch.ReqSketch.read_one.Given.{Over}
 use Rattle.sketch_req.proofs.sketch.ReqSketch.read_one.Goals.{In_ok-level}
 use Rattle.sketch_req.proofs.sketch.ReqSketch.read_one.Goals as goal

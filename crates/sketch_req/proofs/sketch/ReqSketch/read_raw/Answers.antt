@@ -6,7 +6,8 @@ use Rattle.std.proofs.lemmas.Result.{IfOk-weaker}
 use Rattle.sketch_req.specs.Image.{accuracy_in}
 use Rattle.sketch_req.specs.Walk.{IsPlaced}
 use Rattle.sketch_req.specs.declared.RankAccuracy.{RankAccuracy}
-use Rattle.sketch_req.proofs.Refusals.{returned, no_found, with_error, data_not_argument, none_counted, few_counted, no_refusal_of, memory_alone}
+use Rattle.sketch_base.proofs.Exits.{data_not_argument, no_found, returned, with_error}
+use Rattle.sketch_req.proofs.Refusals.{few_counted, memory_alone, no_refusal_of, none_counted}
 use Rattle.sketch_req.proofs.Sounds.{fresh_placed}
 use Rattle.sketch_req.proofs.sketch.ReqSketch.read_raw.Given.{Over}
 use Rattle.sketch_req.proofs.sketch.ReqSketch.read_raw.Goals.{then-count-gt0, else-count-gt0, then-header-eq1, else-header-eq1, After-read_items, After-raw_items_compactor-level}

@@ -1,5 +1,5 @@
 use Rattle.std.proofs.Common.{◌∙◌, Err, ap, refl, arith}
-use Rattle.sketch_req.proofs.Refusals.{returned, no_found, no_value, with_error}
+use Rattle.sketch_base.proofs.Exits.{no_found, no_value, returned, with_error}
 use Rattle.sketch_req.proofs.sketch.ReqSketch.serialized_size_bytes.Goals as goal
 
 pub returns-in_err-unless : goal.returns-in_err-unless

@@ -11,7 +11,8 @@ use Rattle.sketch_base.specs.Weighted.{items_of, pairs_in}
 use Rattle.sketch_req.specs.Actions.{bag_of}
 use Rattle.sketch_req.specs.Pairs.{pairs_of}
 use Rattle.sketch_req.specs.Sketch.{Req, sketch_of}
-use Rattle.sketch_req.proofs.Refusals.{returned, no_found, with_error, none_there, more_than_none}
+use Rattle.sketch_base.proofs.Exits.{no_found, returned, with_error}
+use Rattle.sketch_req.proofs.Refusals.{more_than_none, none_there}
 use Rattle.sketch_req.proofs.Views.{all-weigh, at-most-n, entries-view, extreme-there, weigh-n}
 use Rattle.sketch_req.proofs.sketch.ReqSketch.sorted_view.Given.{Over}
 use Rattle.sketch_req.proofs.sketch.ReqSketch.sorted_view.Goals.{In_ok-entries}

@@ -7,7 +7,8 @@ use Rattle.sketch_req.specs.Actions.{bag_of}
 use Rattle.sketch_req.specs.Sketch.{Req, IsSound}
 use Rattle.sketch_req.specs.Updates.{IsDrawnFrom, coins_of_updates}
 use Rattle.sketch_req.proofs.MadeSketches.{none_taken, updates_make}
-use Rattle.sketch_req.proofs.Refusals.{returned, no_value, with_error, no_memory, no_refusal, accepted, accepted_alone, refused_as, same_sketch, none_drawn, items_fit, none_fit, not_both, weight_fits, too_heavy, light_still, some_of}
+use Rattle.sketch_base.proofs.Exits.{accepted, no_value, returned, with_error}
+use Rattle.sketch_req.proofs.Refusals.{accepted_alone, items_fit, light_still, no_memory, no_refusal, none_drawn, none_fit, not_both, refused_as, same_sketch, some_of, too_heavy, weight_fits}
 use Rattle.sketch_req.proofs.UpdatedLevels.{not-full}
 use Rattle.sketch_req.proofs.UpdatesInTurn.{updates_none}
 use Rattle.sketch_req.proofs.sketch.ReqSketch.update_all.Given.{Over}

@@ -4,7 +4,8 @@ use Rattle.std.proofs.lemmas.Bool.{not-true}
 use Rattle.sketch_base.specs.declared.error.ErrorKind.TheVariants.{OutOfMemory}
 use Rattle.sketch_req.specs.Sketch.{IsSound}
 use Rattle.sketch_req.proofs.MadeSketches.{update_makes}
-use Rattle.sketch_req.proofs.Refusals.{returned, no_value, with_error, no_memory, accepted, refused_as, same_sketch, flagged, not_flagged, not_full_both, next_fits}
+use Rattle.sketch_base.proofs.Exits.{accepted, no_value, returned, with_error}
+use Rattle.sketch_req.proofs.Refusals.{flagged, next_fits, no_memory, not_flagged, not_full_both, refused_as, same_sketch}
 use Rattle.sketch_req.proofs.UpdatedLevels.{not-full}
 use Rattle.sketch_req.proofs.sketch.ReqSketch.update_slowly.Goals as goal
 

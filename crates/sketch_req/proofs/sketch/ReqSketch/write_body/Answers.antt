@@ -2,7 +2,7 @@ use Rattle.std.proofs.Common.{◌≡◌, ◌++◌, ◌∙◌, Err, ap, append-ni
 use Rattle.std.proofs.lemmas.Grind.{common_steps}
 use Rattle.sketch_req.specs.Written.{body_by}
 use Rattle.sketch_req.specs.declared.image.Form.{Form}
-use Rattle.sketch_req.proofs.Refusals.{returned, no_value, with_error}
+use Rattle.sketch_base.proofs.Exits.{no_value, returned, with_error}
 use Rattle.sketch_req.proofs.sketch.ReqSketch.write_body.Goals as goal
 
 pub returns-in-Empty : goal.returns-in-Empty

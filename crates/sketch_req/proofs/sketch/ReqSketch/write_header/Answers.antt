@@ -1,6 +1,6 @@
 use Rattle.std.proofs.Common.{◌∙◌, Err, ap, refl, arith}
 use Rattle.std.proofs.lemmas.Grind.{common_steps}
-use Rattle.sketch_req.proofs.Refusals.{returned, no_value, with_error}
+use Rattle.sketch_base.proofs.Exits.{no_value, returned, with_error}
 use Rattle.sketch_req.proofs.sketch.ReqSketch.write_header.Goals as goal
 
 pub returns-clause-ok : goal.returns-clause-ok

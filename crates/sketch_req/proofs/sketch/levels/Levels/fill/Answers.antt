@@ -9,7 +9,7 @@ use Rattle.sketch_req.specs.Level.{Level}
 use Rattle.sketch_req.specs.Schedule.{layouts_of, nominal_sum, retained_of}
 use Rattle.sketch_req.proofs.ListPlaces.{set-kept}
 use Rattle.sketch_req.proofs.TakenInTurn.{first-few, first-filled, held-filled, nominal-small}
-use Rattle.sketch_req.proofs.Exits.{on-error}
+use Rattle.sketch_base.proofs.Exits.{on_error}
 use Rattle.sketch_req.proofs.Held.{with-levels, same-levels}
 use Rattle.sketch_req.proofs.sketch.levels.Levels.fill.Goals.{In_ok-append_clones}
 use Rattle.sketch_req.proofs.sketch.levels.Levels.fill.Given.{Over}
@@ -68,7 +68,7 @@ returns-in_err-append_clones g c =
     record {
       kept = with-levels _ _ (set s.compactors.items 0 c.append_clones.new.self) c.self.view_is;
       filled = IfOk-from_err r _ c.from_residual.ensures.0;
-      err = on-error r (same-levels _ _ _ _ _ same c.self.view_is);
+      err = on_error r (same-levels _ _ _ _ _ same c.self.view_is);
     }
 
 pub invariant_of-self : goal.invariant_of-self

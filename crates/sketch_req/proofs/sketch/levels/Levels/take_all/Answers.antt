@@ -11,7 +11,7 @@ use Rattle.sketch_req.specs.Level.{Level}
 use Rattle.sketch_req.specs.Copy.{IsLevelCopy}
 use Rattle.sketch_req.specs.Schedule.{Layout, layouts_of, retained_of, weight_of}
 use Rattle.sketch_req.specs.ScheduleLaws.{updates_actions}
-use Rattle.sketch_req.proofs.Exits.{on-error, error-known, error-passed}
+use Rattle.sketch_base.proofs.Exits.{error_known, on_error, only_error}
 use Rattle.sketch_req.proofs.Copies.{layouts-copied, placed-copied}
 use Rattle.sketch_req.proofs.TakenInTurn.{taken-filled}
 use Rattle.sketch_req.proofs.UpdatesInTurn.{levels-itself}
@@ -134,9 +134,9 @@ returns-in_err-fill g c =
     record {
       kept = c.in_err-fill.ensures.kept;
       taken = IfOk-from_err r _ fails;
-      err = on-error r c.in_err-fill.ensures.err;
-      drawn = on-error r (record { count = 0; few = omega arith; after_is = refl });
-      memory = error-known r _ is;
+      err = on_error r c.in_err-fill.ensures.err;
+      drawn = on_error r (record { count = 0; few = omega arith; after_is = refl });
+      memory = error_known r _ is;
     }
 
 pub returns-in_err-take_in_turn : goal.returns-in_err-take_in_turn
@@ -147,10 +147,10 @@ returns-in_err-take_in_turn g c =
     record {
       kept = refl;
       taken = IfOk-from_err r _ fails;
-      err = on-error r refl;
-      drawn = on-error r (copied-draws g.B.RandomBits.next c.args.coins.now c.take_in_turn.new.coins c.args.items.now _ _ _ _ c.self.view_is c.new-copy.ensures
+      err = on_error r refl;
+      drawn = on_error r (copied-draws g.B.RandomBits.next c.args.coins.now c.take_in_turn.new.coins c.args.items.now _ _ _ _ c.self.view_is c.new-copy.ensures
           same c.in_err-take_in_turn.ensures.drawn);
-      memory = error-passed r is c.in_err-take_in_turn.ensures.memory;
+      memory = only_error r is c.in_err-take_in_turn.ensures.memory;
     }
 
 pub returns-in_err-copy_levels : goal.returns-in_err-copy_levels
@@ -160,9 +160,9 @@ returns-in_err-copy_levels g c =
     record {
       kept = refl;
       taken = IfOk-from_err r _ fails;
-      err = on-error r refl;
-      drawn = on-error r (record { count = 0; few = omega arith; after_is = refl });
-      memory = error-known r _ is;
+      err = on_error r refl;
+      drawn = on_error r (record { count = 0; few = omega arith; after_is = refl });
+      memory = error_known r _ is;
     }
 
 pub take_in_turn-requires-clause-clones : goal.take_in_turn-requires-clause-clones

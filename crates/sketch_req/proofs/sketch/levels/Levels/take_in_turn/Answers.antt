@@ -11,7 +11,7 @@ use Rattle.sketch_req.specs.Held.{Held}
 use Rattle.sketch_req.specs.Level.{Level}
 use Rattle.sketch_req.specs.Schedule.{Layout, layouts_of}
 use Rattle.sketch_req.specs.ScheduleLaws.{updates_actions}
-use Rattle.sketch_req.proofs.Exits.{on-error, error-passed}
+use Rattle.sketch_base.proofs.Exits.{on_error, only_error}
 use Rattle.sketch_req.proofs.TakenInTurn.{draws-few, left-append, taken-append}
 use Rattle.sketch_req.proofs.Held.{with-levels}
 use Rattle.sketch_req.proofs.sketch.levels.Levels.take_in_turn.Goals as goal
@@ -75,12 +75,12 @@ returns-in_err-taken g c =
     record {
       kept = c.in_err-taken.ensures.kept ∙ with-levels _ _ c.take_some.new.self.levels c.loop-taken.invariant.kept;
       taken = IfOk-from_err r _ fails;
-      drawn = on-error r (record {
+      drawn = on_error r (record {
         count = draws_of (updates_actions s.k s.accuracy (layouts_of s.levels) done);
         few = draws-part s.k s.accuracy (layouts_of s.levels) c.loop-taken.taken items;
         after_is = c.in_err-taken.ensures.err ∙ c.loop-taken.invariant.left.source_is;
       });
-      memory = error-passed r is c.in_err-taken.ensures.memory;
+      memory = only_error r is c.in_err-taken.ensures.memory;
     }
 
 pub take_some-requires-clause-fits : goal.take_some-requires-clause-fits

@@ -6,10 +6,10 @@ use Rattle.sketch_req.specs.Walk.{AreWalkedIfFull, k_of, AreWalkedOver, appended
 use Rattle.sketch_req.specs.Held.{IsHeld, held_of, Held}
 use Rattle.sketch_req.specs.Level.{Level}
 use Rattle.sketch_req.specs.Schedule.{layouts_of, are_full}
-use Rattle.sketch_req.proofs.TakenInTurn.{some-weigh}
+use Rattle.sketch_req.proofs.Sounds.{some-weight}
 use Rattle.sketch_req.proofs.UpdatedLevels.{weight-appended, acted-spare, acted-walk, nominal-appended, placed-appended, retained-appended}
 use Rattle.sketch_req.proofs.Held.{only-levels, with-levels, same-levels, held-sums, few-levels, own-levels}
-use Rattle.sketch_req.proofs.Exits.{on-error, error-known, error-passed}
+use Rattle.sketch_base.proofs.Exits.{error_known, on_error, only_error}
 use Rattle.sketch_req.proofs.sketch.levels.Levels.take_last.Given.{Over}
 use Rattle.sketch_req.proofs.sketch.levels.Levels.take_last.Goals.{In_ok-append_and_walk}
 use Rattle.sketch_req.proofs.sketch.levels.Levels.take_last.Goals as goal
@@ -102,8 +102,8 @@ returns-in_err-append_and_walk g c =
     record {
       kept = with-levels _ _ c.append_and_walk.new.levels.items c.self.view_is;
       acted = IfOk-from_err r _ fails;
-      err = on-error r (same-levels _ _ _ _ _ levels c.self.view_is, coins);
-      memory = error-passed r is c.in_err-append_and_walk.ensures.memory;
+      err = on_error r (same-levels _ _ _ _ _ levels c.self.view_is, coins);
+      memory = only_error r is c.in_err-append_and_walk.ensures.memory;
     }
 
 pub returns-in_err-put : goal.returns-in_err-put
@@ -114,8 +114,8 @@ returns-in_err-put g c =
     record {
       kept = only-levels c.put.new.self c.args.self.now _ same;
       acted = IfOk-from_err r _ fails;
-      err = on-error r (same, refl);
-      memory = error-known r _ is;
+      err = on_error r (same, refl);
+      memory = error_known r _ is;
     }
 
 -- a weight after an item came in
@@ -127,7 +127,7 @@ invariant_of-self-2 g c =
     let s = c.self.inside in
     let walked = walked g (past.invariant_of-self-2 g c).In_ok-append_and_walk in
     let more = weight-appended s.compactors.items c.args.item c.self.invariant.some in
-    let some = some-weigh _ (some-more _ _ _ walked.acted.weigh more) in
+    let some = some-weight _ (some-more _ _ _ walked.acted.weigh more) in
     subst (λ (ls : List (Level g.row.T.Denot)). IsHeld g.T.Ord.cmp c.sums.result.0 c.sums.result.1 (held_of s.k s.rank_accuracy ls)) (sym c.give_back.ensures)
     (held-sums g.T.Ord.cmp _ _ _ _ _ _ some walked.acted.placed
     (c.as_slice.ensures.value ∙ c.give_back.ensures) c.sums.ensures.retained c.sums.ensures.capacity)

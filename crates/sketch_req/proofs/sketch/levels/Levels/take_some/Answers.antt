@@ -2,7 +2,7 @@
 use Rattle.sketch_req.specs.Level.{Level}
 use Rattle.sketch_req.specs.Held.{IsHeld}
 use Rattle.std.proofs.lemmas.Result.{IfOk-from_err}
-use Rattle.sketch_req.proofs.Exits.{on-error, error-known, error-passed}
+use Rattle.sketch_base.proofs.Exits.{error_known, on_error, only_error}
 use Rattle.std.proofs.Common.{◌≡◌, Equal, List, arith, refl, subst, sym, take}
 use Rattle.std.proofs.lemmas.Grind.{common_steps}
 use Rattle.std.proofs.lemmas.List.{length-take}
@@ -86,8 +86,8 @@ returns-in_err-fill g c =
       within = IfOk-from_err r _ fails;
       taken = IfOk-from_err r _ fails;
       left = IfOk-from_err r _ fails;
-      err = on-error r refl;
-      memory = error-known r _ is;
+      err = on_error r refl;
+      memory = error_known r _ is;
     }
 
 pub returns-in_err-clone : goal.returns-in_err-clone
@@ -100,8 +100,8 @@ returns-in_err-clone g c =
       within = IfOk-from_err r _ fails;
       taken = IfOk-from_err r _ fails;
       left = IfOk-from_err r _ fails;
-      err = on-error r refl;
-      memory = error-known r _ is;
+      err = on_error r refl;
+      memory = error_known r _ is;
     }
 
 pub returns-in_err-take_last : goal.returns-in_err-take_last
@@ -114,8 +114,8 @@ returns-in_err-take_last g c =
       within = IfOk-from_err r _ fails;
       taken = IfOk-from_err r _ fails;
       left = IfOk-from_err r _ fails;
-      err = on-error r c.in_err-take_last.ensures.err.1;
-      memory = error-passed r is c.in_err-take_last.ensures.memory;
+      err = on_error r c.in_err-take_last.ensures.err.1;
+      memory = only_error r is c.in_err-take_last.ensures.memory;
     }
 
 pub take_last-requires-clause-few : goal.take_last-requires-clause-few

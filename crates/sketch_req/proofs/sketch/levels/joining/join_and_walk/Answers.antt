@@ -10,7 +10,7 @@ use Rattle.sketch_req.specs.Level.{Level}
 use Rattle.sketch_req.specs.Merged.{AreCloned, AreJoined}
 use Rattle.sketch_req.specs.Schedule.{Layout, are_full, layouts_of, joined_layouts, retained_of, weight_of}
 use Rattle.sketch_req.proofs.Buffers.{space-told, space-kept}
-use Rattle.sketch_req.proofs.Exits.{on-error}
+use Rattle.sketch_base.proofs.Exits.{on_error}
 use Rattle.sketch_req.proofs.Held.{IsOwn, few-levels, held-sums, own-levels}
 use Rattle.sketch_req.proofs.Layouts.{length-layouts}
 use Rattle.sketch_req.proofs.Mergings.{layouts-joined}
@@ -211,9 +211,9 @@ reserve-requires-clause-clones g c = c.requires.clones
 pub returns-in_err-reserve_exact : goal.returns-in_err-reserve_exact
 returns-in_err-reserve_exact g c =
     let r = c.from_residual-in_err-reserve_exact.result in
-    record { taken_in = IfOk-from_err r _ c.from_residual-in_err-reserve_exact.ensures.0; err = on-error r (c.reserve_exact.ensures.items, refl) }
+    record { taken_in = IfOk-from_err r _ c.from_residual-in_err-reserve_exact.ensures.0; err = on_error r (c.reserve_exact.ensures.items, refl) }
 
 pub returns-in_err-reserve : goal.returns-in_err-reserve
 returns-in_err-reserve g c =
     let r = c.from_residual.result in
-    record { taken_in = IfOk-from_err r _ c.from_residual.ensures.0; err = on-error r (refl, refl) }
+    record { taken_in = IfOk-from_err r _ c.from_residual.ensures.0; err = on_error r (refl, refl) }

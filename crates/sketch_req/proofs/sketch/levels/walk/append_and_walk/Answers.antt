@@ -8,7 +8,7 @@ use Rattle.sketch_req.specs.Level.{Level}
 use Rattle.sketch_req.proofs.UpdatedLevels.{layouts-appended, retained-appended, weight-appended, length-appended, placed-appended}
 use Rattle.sketch_req.proofs.ListPlaces.{set-kept}
 use Rattle.sketch_req.proofs.TakenInTurn.{first-appended, first-few}
-use Rattle.sketch_req.proofs.Exits.{on-error, error-known, error-passed}
+use Rattle.sketch_base.proofs.Exits.{error_known, on_error, only_error}
 use Rattle.sketch_req.proofs.Held.{own-appended}
 use Rattle.sketch_req.proofs.sketch.levels.walk.append_and_walk.Given.{Over}
 use Rattle.sketch_req.proofs.sketch.levels.walk.append_and_walk.Goals.{After-walk-arg-2-1}
@@ -67,21 +67,21 @@ returns-in_err-append g c =
     let all = ap (λ (ls : List (Level g.row.T.Denot)). retained_of (layouts_of ls)) same in
     record {
       acted = IfOk-from_err r _ fails;
-      err = on-error r (set-kept c.reserve_exact.new.self.items 0 c.index_mut.result.now _ c.index_mut.ensures.value c.in_err-append.ensures.err ∙ same, refl);
-      memory = error-passed r is (c.in_err-append.ensures.memory (lt_of_le_of_lt (le_trans few (le_of_eq all)) c.requires.few));
+      err = on_error r (set-kept c.reserve_exact.new.self.items 0 c.index_mut.result.now _ c.index_mut.ensures.value c.in_err-append.ensures.err ∙ same, refl);
+      memory = only_error r is (c.in_err-append.ensures.memory (lt_of_le_of_lt (le_trans few (le_of_eq all)) c.requires.few));
     }
 
 pub returns-in_err-reserve : goal.returns-in_err-reserve
 returns-in_err-reserve g c =
     let r = c.from_residual-in_err-reserve.result in
     let (fails, is) = c.from_residual-in_err-reserve.ensures in
-    record { acted = IfOk-from_err r _ fails; err = on-error r (c.reserve_exact.ensures.items, refl); memory = error-known r _ is }
+    record { acted = IfOk-from_err r _ fails; err = on_error r (c.reserve_exact.ensures.items, refl); memory = error_known r _ is }
 
 pub returns-in_err-reserve_exact : goal.returns-in_err-reserve_exact
 returns-in_err-reserve_exact g c =
     let r = c.from_residual.result in
     let (fails, is) = c.from_residual.ensures in
-    record { acted = IfOk-from_err r _ fails; err = on-error r (c.reserve_exact.ensures.items, refl); memory = error-known r _ is }
+    record { acted = IfOk-from_err r _ fails; err = on_error r (c.reserve_exact.ensures.items, refl); memory = error_known r _ is }
 
 pub walk-requires-clause-fits : goal.walk-requires-clause-fits
 walk-requires-clause-fits g c =
