@@ -40,7 +40,7 @@ move_half-requires-in-LowRank-clause-even g c =
 pub move_half-requires-in-LowRank-clause-room : goal.move_half-requires-in-LowRank-clause-room
 move_half-requires-in-LowRank-clause-room g c =
     subst (λ (n : ℕ). n ≤ 2 * vec_capacity c.args.out.now)
-        (sym (taken_is c.args.count (c.len.ensures ∙ c.args.items.now.ok.0) c.requires.within)) c.requires.room
+    (sym (taken_is c.args.count (c.len.ensures ∙ c.args.items.now.ok.0) c.requires.within)) c.requires.room
 
 pub move_half-requires-clause-within : goal.move_half-requires-clause-within
 move_half-requires-clause-within g c = grind (arith, common_steps)
@@ -56,7 +56,7 @@ returns-in-HighRank g c =
     let xs : List g.row.T.Denot = c.args.items.now.items in
     let turned = changed g (past.returns-in-HighRank g c).After-move_behind in
     let parts = moved_behind c.args.count (c.len.result - c.args.count) xs _
-        (ap (λ (m : ℕ). m - c.args.count) (c.len.ensures ∙ c.args.items.now.ok.0)) turned in
+    (ap (λ (m : ℕ). m - c.args.count) (c.len.ensures ∙ c.args.items.now.ok.0)) turned in
     let out : reverse (half (not c.args.odd) (reverse (take c.args.count xs))) ≡ c.move_half.new.out.items =
     ap reverse (sym (ap (half (not c.args.odd)) parts.1) ∙ c.move_half.ensures.moved) ∙ reverse-reverse c.move_half.new.out.items in
     let even : length (take c.args.count xs) % 2 ≡ 0 = omega (arith, length-take c.args.count xs, c.requires.within, c.requires.even) in

@@ -17,8 +17,11 @@ returns-in_err-serialize_value g c =
       ok = IfOk-from_err c.from_residual.result _ e.0;
       spelled = IfOk-from_err c.from_residual.result _ e.0;
       err = on_error c.from_residual.result
-          (extended c.args.bytes.now failed.err.0 (items_text g.T.ReqValue.spelling
-          (take c.loop-item.item-index c.args.items.now), c.loop-item.invariant.written) failed.err.1);
+          (extended c.args.bytes.now failed.err.0 (
+            items_text g.T.ReqValue.spelling
+                (take c.loop-item.item-index c.args.items.now),
+            c.loop-item.invariant.written,
+          ) failed.err.1);
       memory = only_error c.from_residual.result e.1 failed.memory;
     }
 

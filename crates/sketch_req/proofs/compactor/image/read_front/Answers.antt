@@ -8,7 +8,6 @@ use Rattle.sketch_req.proofs.compactor.image.read_front.Goals as goal
 empty_short : {text : List ℕ} → text ≡ [] → length text < 1
 empty_short e = omega (arith, ap length e)
 
-
 pub returns-in_err-read_u64_le : goal.returns-in_err-read_u64_le
 returns-in_err-read_u64_le c =
     let e = c.from_residual.ensures in

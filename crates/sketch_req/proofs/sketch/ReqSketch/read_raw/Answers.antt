@@ -97,17 +97,17 @@ returns g c =
     let numbers = numbers g (past.returns g c).After-read_items in
     record {
       found = IfOk-weaker c.from_level.result _ _ (λ s t. record {
-          one_level = numbers.0;
-          some_items = numbers.1;
-          few_items = numbers.2;
-          items = xs;
-          begins = c.in_ok-items.ensures.found.begins;
-          as_many = c.in_ok-items.ensures.found.as_many;
-          is_sorted = made.result.is_sorted;
-          sorted = subst (λ (z : Bool). IsTrue made.result.is_sorted ↔ (IsTrue z × IsSorted g.T.Ord.cmp xs)) c.has_flag-sorted.ensures made.ensures.sorted;
-          levels_are = t.0 ∙ ap (λ (l : Level g.row.T.Denot). l ∷ []) rest;
-          told = t.1;
-        }) c.from_level.ensures.told;
+        one_level = numbers.0;
+        some_items = numbers.1;
+        few_items = numbers.2;
+        items = xs;
+        begins = c.in_ok-items.ensures.found.begins;
+        as_many = c.in_ok-items.ensures.found.as_many;
+        is_sorted = made.result.is_sorted;
+        sorted = subst (λ (z : Bool). IsTrue made.result.is_sorted ↔ (IsTrue z × IsSorted g.T.Ord.cmp xs)) c.has_flag-sorted.ensures made.ensures.sorted;
+        levels_are = t.0 ∙ ap (λ (l : Level g.row.T.Denot). l ∷ []) rest;
+        told = t.1;
+      }) c.from_level.ensures.told;
       refused = no_refusal_of _ c.from_level.result c.from_level.ensures.memory;
       kind = memory_alone c.from_level.result c.from_level.ensures.memory;
     }

@@ -89,8 +89,11 @@ told g c =
         space = λ _. subst (λ (b : Space g.row.T.Denot). c.count_at.result + c.count_at-in-loop-level.result + c.loop-level.came ≤ b.clones_space)
             (sym w.own-is) w.in_ok-take_clones.ensures.space;
       }
-      | else-level-others w ↦ record { same = λ there. absurd (not-le_of_lt there w.if-level-others.false); space = λ there. absurd
-          (not-le_of_lt there w.if-level-others.false) }
+      | else-level-others w ↦ record {
+        same = λ there. absurd (not-le_of_lt there w.if-level-others.false);
+        space = λ there. absurd
+            (not-le_of_lt there w.if-level-others.false);
+      }
     ]
 
 -- how many items the level gives up
@@ -228,7 +231,6 @@ pub returns-in_err-reserve_exact : goal.returns-in_err-reserve_exact
 returns-in_err-reserve_exact g c =
     let f = c.from_residual-in_err-reserve_exact.ensures.0 in
     record { empty = IfOk-from_err _ _ f; nothing = IfOk-from_err _ _ f; above = IfOk-from_err _ _ f; cloned = IfOk-from_err _ _ f; fit = IfOk-from_err _ _ f }
-
 
 pub bounds-others-level : goal.bounds-others-level
 bounds-others-level g c = c.if-level-others.true
