@@ -12,7 +12,7 @@ use Rattle.sketch_req.specs.Held.{Held}
 use Rattle.sketch_req.specs.Sketch.{sketch_of}
 use Rattle.sketch_req.specs.Updates.{IsDrawnFrom}
 
--- a call with no memory returns that and no other error
+-- a call that runs out of memory returns that and no other error
 pub no_memory : {T P : Type 0} {r : Result T ErrorKind} → r ≡ Err OutOfMemory → (P → ⊥) → (r ≡ Err InvalidArgument → P) × (P → r ≡ Err InvalidArgument)
 no_memory e never = (λ is. absurd (other_kind e is), λ p. absurd (never p))
 
@@ -103,7 +103,7 @@ some_now e not_none = omega (arith, e, not_none)
 pub not_heavy : {n : ℕ} → n < 2 ^ 64 → 2 ^ 64 ≤ n → ⊥
 not_heavy light heavy = omega (arith, light, heavy)
 
--- an error for lack of memory says nothing of the data or the arguments
+-- an error that says out of memory says nothing of the data or the arguments
 pub no_refusal_of : {T : Type 0} (P : Type 0) (r : Result T ErrorKind) → IfErr r (λ e. e ≡ OutOfMemory) → IfErr r (λ e. e ≡ InvalidData → P)
 no_refusal_of P r memory = IfErr-weaker r (λ e. e ≡ OutOfMemory) (λ e. e ≡ InvalidData → P) (λ e is k. absurd (memory_not_data (sym is ∙ k))) memory
 

@@ -8,7 +8,7 @@ use Rattle.sketch_req.proofs.Rank.{retained_is}
 use Rattle.quantile_sketches.proofs.Outputs.{ok-so}
 use Rattle.quantile_sketches.proofs.family.req.ReqSketchFamily.update.Goals as goal
 
--- an error in an update of a sound sketch is an allocation's, unless the sketch is full
+-- an update of a sound sketch that isn't full fails only if it runs out of memory
 starved : {A : Type 0} (cmp : A → A → Ordering) (s : Req A) (r : Result (Unit {0}) ErrorKind) → IsSound cmp s →
     IfErr r (λ e. s.n < 2 ^ 64 - 1 → retained (bag_of s.levels) < 4294967295 → e ≡ OutOfMemory) →
     IfErr r (λ e. (s.n ≡ 2 ^ 64 - 1 → ⊥) → (retained (bag_of s.levels) ≡ 4294967295 → ⊥) → e ≡ OutOfMemory)
