@@ -1,9 +1,10 @@
-use Rattle.std.proofs.Common.{sym, length, arith}
+use Rattle.std.proofs.Common.{refl, sym, length, arith}
+use Rattle.std.proofs.lemmas.Bool.{false≢true}
 use Rattle.std.proofs.lemmas.Grind.{common_steps}
 use Rattle.std.proofs.lemmas.Result.{IfOk-from_err}
 use Rattle.std.specs.List.{All}
 use Rattle.sketch_base.specs.Queries.{IsFraction}
-use Rattle.sketch_base.proofs.ViewAnswers.{entries-there, refused-argument, refused-memory}
+use Rattle.sketch_base.proofs.ViewAnswers.{entries-there, no-entries, refused-argument, refused-memory, refused-nothing}
 use Rattle.sketch_base.proofs.sorted_view.SortedView.quantiles.Goals as goal
 
 pub returns-in_err-check_fractions : goal.returns-in_err-check_fractions
@@ -31,17 +32,25 @@ returns-in_err-entries_of_all g c =
           c.in_ok-check_fractions.ensures.good some;
     }
 
-pub returns-then-is_empty-clause-there : goal.returns-then-is_empty-clause-there
-returns-then-is_empty-clause-there g c = grind (arith, common_steps)
-
-pub returns-then-is_empty-clause-refused : goal.returns-then-is_empty-clause-refused
-returns-then-is_empty-clause-refused g c = grind arith
-
 pub entries_of_all-requires-clause-fractions : goal.entries_of_all-requires-clause-fractions
 entries_of_all-requires-clause-fractions g c = grind arith
 
 pub entries_of_all-requires-clause-some : goal.entries_of_all-requires-clause-some
 entries_of_all-requires-clause-some g c = grind (arith, common_steps)
 
-pub returns-clause-refused : goal.returns-clause-refused
-returns-clause-refused g c = grind arith
+pub returns : goal.returns
+returns g c =
+    let some = entries-there _ _ _ _ _ (sym c.self.view_is) c.is_empty.result _ c.is_empty.ensures c.self.inside.items.ok.0 c.if-is_empty.false
+    c.self.invariant.each_counts in
+    record {
+      found = c.in_ok-entries_of_all.ensures;
+      there = (λ t. some, λ t. refl);
+      refused = refused-nothing (All IsFraction c.args.fractions.now) (length c.args.self.now.entries) _ c.in_ok-check_fractions.ensures.good;
+    }
+
+pub returns-then-is_empty : goal.returns-then-is_empty
+returns-then-is_empty g c = record {
+  found = tt;
+  there = (λ t. absurd (false≢true t), no-entries _ _ _ _ _ (sym c.self.view_is) c.is_empty.result _ c.is_empty.ensures c.self.inside.items.ok.0 c.if-is_empty.true);
+  refused = refused-nothing (All IsFraction c.args.fractions.now) (length c.args.self.now.entries) _ c.in_ok-check_fractions.ensures.good;
+}
