@@ -10,7 +10,7 @@ use Rattle.sketch_base.specs.Views.{IsThere, View, quantile_of, view_of}
 use denote.Ref.{Bor}
 
 -- an item within a list is found
-got : {A : Type 0} (xs : List A) (i : ℕ) (r : Option (Bor A)) → option_copied r ≡ slice_get xs i → i < length xs → IsSome r
+pub got : {A : Type 0} (xs : List A) (i : ℕ) (r : Option (Bor A)) → option_copied r ≡ slice_get xs i → i < length xs → IsSome r
 got xs i (Some x) found within = refl
 got xs i None found within = elim (slice_get_cases xs i).1 [
   | inl h ↦ absurd (cc (found, h.2))

@@ -1,23 +1,26 @@
-use Rattle.std.proofs.Common.{arith}
-use Rattle.std.proofs.lemmas.Grind.{common_steps}
-use Rattle.sketch_base.specs.declared.common.SearchCriteria.TheVariants.{Inclusive, Exclusive}
+use Rattle.std.proofs.Common.{◌≡◌, count_by, sym, subst}
+use Rattle.std.proofs.lemmas.List.Sums.{count_by-le-length}
+use Rattle.sketch_base.specs.Query.{counted}
+use Rattle.sketch_base.proofs.MovedCounts.{from-equal}
 use Rattle.sketch_base.proofs.QuantilePlaces.{sorted-split}
 use Rattle.sketch_base.proofs.common.counting.count_in_order.Goals as goal
 
-pub returns-in-Inclusive-clause-parts : goal.returns-in-Inclusive-clause-parts
-returns-in-Inclusive-clause-parts g c = rw c.in-Inclusive.is (sorted-split g.met.T.Ord.total c.args.items.now c.args.query.now Inclusive _ c.requires.sorted c.count_by_halves.ensures)
+pub returns-in-Exclusive : goal.returns-in-Exclusive
+returns-in-Exclusive g c =
+    let items = c.args.items.now in
+    let count = subst (λ k. c.count_by_halves-in-Exclusive.result ≡ count_by (counted g.T.Ord.cmp c.args.query.now k) items) (sym c.in-Exclusive.is) c.count_by_halves-in-Exclusive.ensures in
+    record {
+      within = from-equal _ _ _ (sym count) (count_by-le-length (counted g.T.Ord.cmp c.args.query.now c.args.criteria) items);
+      parts = sorted-split g.met.T.Ord.total items c.args.query.now c.args.criteria _ c.requires.sorted count;
+      count = count;
+    }
 
-pub returns-in-Exclusive-clause-parts : goal.returns-in-Exclusive-clause-parts
-returns-in-Exclusive-clause-parts g c = rw c.in-Exclusive.is (sorted-split g.met.T.Ord.total c.args.items.now c.args.query.now Exclusive _ c.requires.sorted c.count_by_halves-in-Exclusive.ensures)
-
-pub returns-in-Inclusive-clause-within : goal.returns-in-Inclusive-clause-within
-returns-in-Inclusive-clause-within g c = grind (arith, common_steps)
-
-pub returns-in-Exclusive-clause-within : goal.returns-in-Exclusive-clause-within
-returns-in-Exclusive-clause-within g c = grind (arith, common_steps)
-
-pub returns-in-Exclusive-clause-count : goal.returns-in-Exclusive-clause-count
-returns-in-Exclusive-clause-count g c = grind arith
-
-pub returns-in-Inclusive-clause-count : goal.returns-in-Inclusive-clause-count
-returns-in-Inclusive-clause-count g c = grind arith
+pub returns-in-Inclusive : goal.returns-in-Inclusive
+returns-in-Inclusive g c =
+    let items = c.args.items.now in
+    let count = subst (λ k. c.count_by_halves.result ≡ count_by (counted g.T.Ord.cmp c.args.query.now k) items) (sym c.in-Inclusive.is) c.count_by_halves.ensures in
+    record {
+      within = from-equal _ _ _ (sym count) (count_by-le-length (counted g.T.Ord.cmp c.args.query.now c.args.criteria) items);
+      parts = sorted-split g.met.T.Ord.total items c.args.query.now c.args.criteria _ c.requires.sorted count;
+      count = count;
+    }

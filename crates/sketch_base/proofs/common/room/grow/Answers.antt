@@ -1,8 +1,17 @@
-use Rattle.std.proofs.Common.{arith}
+use Rattle.std.proofs.Common.{◌+◌, ◌/◌, ◌≤◌, max, subst, vec_len, vec_capacity}
+use Rattle.std.proofs.lemmas.Result.{on_ok_weaker}
+use Rattle.sketch_base.proofs.RoomCounts.{below-least, one-fits, quarter-some}
 use Rattle.sketch_base.proofs.common.room.grow.Goals as goal
 
-pub returns-clause-ok : goal.returns-clause-ok
-returns-clause-ok c = grind arith
-
-pub returns-clause-lean : goal.returns-clause-lean
-returns-clause-lean c = grind arith
+pub returns : goal.returns
+returns g c =
+    let r = c.reserve_exact.result in
+    let got = c.reserve_exact.ensures in
+    record {
+      items = got.items;
+      len = got.len;
+      ok = on_ok_weaker r (λ h. one-fits _ _ _ _ _ _ c.min.ensures c.max-left.ensures (quarter-some c.len-len.result) h) got.ok;
+      capacity = got.capacity;
+      lean = on_ok_weaker r (λ h. subst (λ n. vec_capacity c.reserve_exact.new.self ≤ max (vec_capacity c.args.items.now) (vec_len c.args.items.now + (n / 4 + 4)))
+          c.len-len.ensures (below-least _ _ _ _ _ _ c.min.ensures h)) got.capacity_exact;
+    }
