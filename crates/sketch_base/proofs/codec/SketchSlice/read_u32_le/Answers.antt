@@ -1,8 +1,21 @@
-use Rattle.std.proofs.Common.{arith}
+use Rattle.std.proofs.Common.{ℕ, ◌<◌, List, length, refl, subst, arith}
+use Rattle.std.proofs.lemmas.Result.{IfOk-from_err}
+use Rattle.sketch_base.proofs.Exits.{on_error, only_error}
+use Rattle.sketch_base.proofs.TakenBytes.{too-few}
 use Rattle.sketch_base.proofs.codec.SketchSlice.read_u32_le.Goals as goal
 
 pub split_at-requires : goal.split_at-requires
 split_at-requires c = grind arith
 
-pub returns-clause-ok : goal.returns-clause-ok
-returns-clause-ok c = grind arith
+pub returns : goal.returns
+returns c = record { ok = grind arith; err = tt; short = tt; kind = tt }
+
+pub returns-in_err-unless : goal.returns-in_err-unless
+returns-in_err-unless c =
+    let r = c.from_residual.result in
+    record {
+      ok = IfOk-from_err r _ c.from_residual.ensures.0;
+      err = on_error r refl;
+      short = on_error r (subst (λ (bytes : List ℕ). length bytes < 4) c.self.view_is (too-few _ 4 c.in_err-unless.ensures.ok.1));
+      kind = only_error r c.from_residual.ensures.1 c.in_err-unless.ensures.err;
+    }

@@ -1,12 +1,12 @@
-use Rattle.std.proofs.Common.{arith}
-use Rattle.std.proofs.lemmas.Grind.{common_steps}
+use Rattle.std.proofs.Common.{refl, arith}
+use Rattle.sketch_base.proofs.TakenBytes.{first-taken, none-to_take}
 use Rattle.sketch_base.proofs.codec.SketchSlice.read_u8.Goals as goal
-
-pub returns-in_default-clause-short : goal.returns-in_default-clause-short
-returns-in_default-clause-short c = grind (arith, common_steps)
-
-pub returns-clause-ok : goal.returns-clause-ok
-returns-clause-ok c = grind (arith, common_steps)
 
 pub bounds-first-0 : goal.bounds-first-0
 bounds-first-0 c = grind arith
+
+pub returns : goal.returns
+returns c = record { ok = first-taken _ _ c.self.view_is c.in-len1-up.len_at_least; err = tt; short = tt; kind = tt }
+
+pub returns-in_default : goal.returns-in_default
+returns-in_default c = record { ok = tt; err = refl; short = none-to_take _ _ c.self.view_is c.in_default.len_below; kind = c.new.ensures }

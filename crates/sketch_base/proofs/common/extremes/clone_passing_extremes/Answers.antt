@@ -1,15 +1,32 @@
 use Rattle.std.proofs.Common.{refl}
+use Rattle.std.proofs.lemmas.Result.{IfOk-from_err}
 use Rattle.sketch_base.proofs.Extremes.{least_kept, least_with_all, greatest_kept, greatest_with_all}
 use Rattle.sketch_base.proofs.common.extremes.clone_passing_extremes.Goals as goal
 
-pub returns-then-are_within-clause-least : goal.returns-then-are_within-clause-least
-returns-then-are_within-clause-least g c = least_kept g.met.T.Ord.total c.args.least.now c.args.items.now (c.if-are_within.ensures.least refl)
+pub returns : goal.returns
+returns g c =
+    let o = g.met.T.Ord.total in
+    record {
+      least = least_with_all o _ c.args.least.now _ c.args.items.now c.least_of.ensures c.in_ok-new_least.ensures;
+      greatest = greatest_with_all o _ c.args.greatest.now _ c.args.items.now c.greatest_of.ensures c.in_ok-new_greatest.ensures;
+    }
 
-pub returns-then-are_within-clause-greatest : goal.returns-then-are_within-clause-greatest
-returns-then-are_within-clause-greatest g c = greatest_kept g.met.T.Ord.total c.args.greatest.now c.args.items.now (c.if-are_within.ensures.greatest refl)
+pub returns-in_err-new_greatest : goal.returns-in_err-new_greatest
+returns-in_err-new_greatest g c =
+    let r = c.from_residual-in_err-new_greatest.result in
+    let err = c.from_residual-in_err-new_greatest.ensures.0 in
+    record { least = IfOk-from_err r _ err; greatest = IfOk-from_err r _ err }
 
-pub returns-clause-least : goal.returns-clause-least
-returns-clause-least g c = least_with_all g.met.T.Ord.total _ c.args.least.now _ c.args.items.now c.least_of.ensures c.in_ok-new_least.ensures
+pub returns-in_err-new_least : goal.returns-in_err-new_least
+returns-in_err-new_least g c =
+    let r = c.from_residual.result in
+    let err = c.from_residual.ensures.0 in
+    record { least = IfOk-from_err r _ err; greatest = IfOk-from_err r _ err }
 
-pub returns-clause-greatest : goal.returns-clause-greatest
-returns-clause-greatest g c = greatest_with_all g.met.T.Ord.total _ c.args.greatest.now _ c.args.items.now c.greatest_of.ensures c.in_ok-new_greatest.ensures
+pub returns-then-are_within : goal.returns-then-are_within
+returns-then-are_within g c =
+    let o = g.met.T.Ord.total in
+    record {
+      least = least_kept o c.args.least.now c.args.items.now (c.if-are_within.ensures.least refl);
+      greatest = greatest_kept o c.args.greatest.now c.args.items.now (c.if-are_within.ensures.greatest refl);
+    }

@@ -1,0 +1,5 @@
+use Rattle.sketch_base.proofs.LowestPairs.{slice-behind}
+use Rattle.sketch_base.proofs.codec.SketchSlice.advance.Goals as goal
+
+pub returns : goal.returns
+returns c = slice-behind c.args.count _ _ c.self.view_is
