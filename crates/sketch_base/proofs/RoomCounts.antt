@@ -1,5 +1,6 @@
 -- The room that a vector has, lacks or gets, in numbers.
-use Rattle.std.proofs.Common.{◌≡◌, ℕ, ◌+◌, ◌-◌, ◌/◌, ◌<◌, ◌≤◌, min, max, arith}
+use Rattle.std.proofs.Common.{◌≡◌, ℕ, ◌+◌, ◌-◌, ◌/◌, ◌<◌, ◌≤◌, Bool, false, nat_eq, eq-eqb, min, max, sym, ◌∙◌, pos_of_ne-zero, arith}
+use Rattle.std.proofs.lemmas.Bool.{false≢true}
 
 -- a, the capacity, minus b, the length, against the number m of further items
 pub lacks-room : (a b m k l : ℕ) → a - b < m → a ≡ k → b ≡ l → k < l + m
@@ -26,3 +27,34 @@ below-least c k a b x y e h = omega arith
 
 pub quarter-some : (n : ℕ) → 0 < n / 4 + 4
 quarter-some n = omega arith
+
+-- what is moved out of one list and the rest of another fit behind a third one
+pub rest-room : (l r m s t u cap old : ℕ) → l + r + m ≡ s + t + u → u + s + t ≤ old → cap ≡ old → m + (r - 0) ≤ cap
+rest-room l r m s t u cap old e h c = omega arith
+
+pub back-room : (l r m s t u j k cap old : ℕ) → l + r + m ≡ s + t + u → u + (s - j) + (t - k) ≤ old → cap ≡ old → j ≤ l → j ≤ s → k ≤ r → k ≤ t →
+    m + (r - k) ≤ cap
+back-room l r m s t u j k cap old e h c jl js kr kt = omega arith
+
+pub moved-room : (l t n s r u cap old : ℕ) → l + t ≡ s + r + u → n ≡ u → n ≤ t → s + r ≤ old → cap ≡ old → l + (t - n) ≤ cap
+moved-room l t n s r u cap old e f h fits c = omega arith
+
+pub end-room : (v m i n f s c : ℕ) → v ≡ m → m ≡ i + n → n ≤ s → i ≤ f → f + s ≤ c → v + (s - n) ≤ c
+end-room v m i n f s c e l h k r = omega (arith, e, l, h, k, r)
+
+-- the part of a list that isn't sorted yet fits into one empty vector, and the whole into another
+pub part-room : (v a n b cap k : ℕ) → v ≡ 0 → a - k ≤ b → a ≡ n → b ≡ cap → v + (n - k) ≤ cap
+part-room v a n b cap k none h e f = omega arith
+
+pub whole-room : (l r n k a b cap : ℕ) → l ≡ k → r ≡ n - k → k ≤ n → a ≤ b → a ≡ n → b ≡ cap → l + r ≤ cap
+whole-room l r n k a b cap e f w h g c = omega arith
+
+pub both-some : (l r : ℕ) (b c : Bool) → b ≡ nat_eq l 0 → c ≡ nat_eq r 0 → b ≡ false → c ≡ false → 1 < l + r
+both-some l r b c e f g h =
+    let left : 0 < l = pos_of_ne-zero (λ z. false≢true (sym g ∙ (e ∙ eq-eqb l 0 z))) in
+    let right : 0 < r = pos_of_ne-zero (λ z. false≢true (sym h ∙ (f ∙ eq-eqb r 0 z))) in
+    omega (arith, left, right)
+
+-- at most as many items as a list has that others were put behind
+pub more-there : (n m k l : ℕ) → n ≡ k → m ≡ l + k → n ≤ m
+more-there n m k l e f = omega (arith, e, f)

@@ -23,3 +23,6 @@ pub eight-taken : {s0 s1 s2 s3 s4 s5 s6 s7 : List ℕ} {a b c d e f g h : ℕ} �
     s6 ≡ h ∷ s7 → s0 ≡ a ∷ b ∷ c ∷ d ∷ e ∷ f ∷ g ∷ h ∷ s7
 eight-taken {a} {b} {c} {d} {e} {f} {g} e0 e1 e2 e3 e4 e5 e6 =
     e0 ∙ ap (λ xs. a ∷ xs) (e1 ∙ ap (λ xs. b ∷ xs) (e2 ∙ ap (λ xs. c ∷ xs) (e3 ∙ ap (λ xs. d ∷ xs) (e4 ∙ ap (λ xs. e ∷ f ∷ xs) (e5 ∙ ap (λ xs. g ∷ xs) e6)))))
+
+pub is-within : (n m k : ℕ) → n ≡ m → k < m → k < n
+is-within n m k e h = omega arith

@@ -21,3 +21,6 @@ returns g c = grind arith
 
 pub loop-shift-preserved : goal.loop-shift-preserved
 loop-shift-preserved g c = grind arith
+
+pub halve-count-requires-clause-sorted : goal.halve-count-requires-clause-sorted
+halve-count-requires-clause-sorted g c = c.requires.sorted

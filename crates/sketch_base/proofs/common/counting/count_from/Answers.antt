@@ -6,10 +6,8 @@ use Rattle.sketch_base.proofs.Entries.{counted-parted}
 use Rattle.sketch_base.proofs.MovedCounts.{from-equal}
 use Rattle.sketch_base.proofs.PassedFronts.{count-of_part}
 use Rattle.sketch_base.proofs.QuantilePlaces.{sorted-split}
+use Rattle.sketch_base.proofs.FoundOrder.{part-sorted}
 use Rattle.sketch_base.proofs.common.counting.count_from.Goals as goal
-
-pub count_in_part-requires : goal.count_in_part-requires
-count_in_part-requires g c = grind (arith, common_steps)
 
 pub overflow_add-result : goal.overflow_add-result
 overflow_add-result g c = grind (arith, common_steps)
@@ -27,3 +25,6 @@ returns g c =
       parts = sorted-split g.met.T.Ord.total items c.args.query.now c.args.criteria _ c.requires.sorted count;
       count = count;
     }
+
+pub count_in_part-requires : goal.count_in_part-requires
+count_in_part-requires g c = record { sorted = part-sorted g.T.Ord.cmp c.args.items.now c.part_from-start.result.0 _ c.requires.sorted }

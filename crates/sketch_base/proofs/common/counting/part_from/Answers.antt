@@ -41,3 +41,6 @@ returns g c =
       ];
       within = part-within _ _ _ _ c.min.ensures i.1.0;
     }
+
+pub bounds-items-start : goal.bounds-items-start
+bounds-items-start g c = step-within _ _ _ c.loop-step-test.true c.loop-step.invariant.1.0 c.loop-step.invariant.1.1

@@ -30,3 +30,15 @@ returns-then-are_within g c =
       least = least_kept o c.args.least.now c.args.items.now (c.if-are_within.ensures.least refl);
       greatest = greatest_kept o c.args.greatest.now c.args.items.now (c.if-are_within.ensures.greatest refl);
     }
+
+pub greatest_of-requires : goal.greatest_of-requires
+greatest_of-requires g c = c.requires.some
+
+pub least_of-requires : goal.least_of-requires
+least_of-requires g c = c.requires.some
+
+pub clone_if_greatest-requires : goal.clone_if_greatest-requires
+clone_if_greatest-requires g c = record { clones = c.requires.clones }
+
+pub clone_if_least-requires : goal.clone_if_least-requires
+clone_if_least-requires g c = record { clones = c.requires.clones }

@@ -4,6 +4,7 @@ use Rattle.std.proofs.lemmas.Grind.{common_steps}
 use Rattle.std.proofs.lemmas.Result.{IfOk-from_err}
 use Rattle.sketch_base.specs.Queries.{IsIncreasing, cdf_of, ranks_of}
 use Rattle.sketch_base.proofs.ViewAnswers.{at-entries, entries-there, no-entries, refused-argument, refused-memory, refused-nothing}
+use Rattle.sketch_base.proofs.SeenViews.{seen-cumulated, seen-sorted}
 use Rattle.sketch_base.proofs.sorted_view.SortedView.cdf.Goals as goal
 
 pub returns : goal.returns
@@ -58,7 +59,7 @@ pub cdf_among-requires-clause-increasing : goal.cdf_among-requires-clause-increa
 cdf_among-requires-clause-increasing g c = c.in_ok-check_points.ensures.good
 
 pub cdf_among-requires-clause-cumulated : goal.cdf_among-requires-clause-cumulated
-cdf_among-requires-clause-cumulated g c = grind (arith, common_steps)
+cdf_among-requires-clause-cumulated g c = seen-cumulated _ _ _ _ c.as_slice-items.ensures.value c.as_slice-cumulated.ensures.value c.self.invariant.cumulates
 
 pub cdf_among-requires-clause-sorted : goal.cdf_among-requires-clause-sorted
-cdf_among-requires-clause-sorted g c = grind arith
+cdf_among-requires-clause-sorted g c = seen-sorted g.T.Ord.cmp _ _ c.as_slice-items.ensures.value c.self.invariant.sorted

@@ -5,6 +5,7 @@ use Rattle.std.proofs.lemmas.Result.{IfOk-from_err}
 use Rattle.sketch_base.specs.declared.common.Rank.{Rank}
 use Rattle.sketch_base.specs.Queries.{IsIncreasing, pmf_of, ranks_of}
 use Rattle.sketch_base.proofs.ViewAnswers.{at-entries, entries-there, no-entries, refused-argument, refused-memory, refused-nothing}
+use Rattle.sketch_base.proofs.SeenViews.{seen-cumulated, seen-sorted}
 use Rattle.sketch_base.proofs.sorted_view.SortedView.pmf.Goals as goal
 
 pub returns : goal.returns
@@ -61,7 +62,7 @@ pub pmf_among-requires-clause-increasing : goal.pmf_among-requires-clause-increa
 pmf_among-requires-clause-increasing g c = c.in_ok-check_points.ensures.good
 
 pub pmf_among-requires-clause-cumulated : goal.pmf_among-requires-clause-cumulated
-pmf_among-requires-clause-cumulated g c = grind (arith, common_steps)
+pmf_among-requires-clause-cumulated g c = seen-cumulated _ _ _ _ c.as_slice-items.ensures.value c.as_slice-cumulated.ensures.value c.self.invariant.cumulates
 
 pub pmf_among-requires-clause-sorted : goal.pmf_among-requires-clause-sorted
-pmf_among-requires-clause-sorted g c = grind arith
+pmf_among-requires-clause-sorted g c = seen-sorted g.T.Ord.cmp _ _ c.as_slice-items.ensures.value c.self.invariant.sorted

@@ -34,3 +34,6 @@ returns-in_err-check_fraction g c =
       refused = refused-argument (IsFraction c.args.fraction) (length c.args.self.now.entries) r _ c.from_residual.ensures.1
           c.in_err-check_fraction.ensures.kind c.in_err-check_fraction.ensures.bad;
     }
+
+pub clone_found-requires : goal.clone_found-requires
+clone_found-requires g c = record { clones = c.requires.clones }

@@ -32,12 +32,6 @@ returns-in_err-entries_of_all g c =
           c.in_ok-check_fractions.ensures.good some;
     }
 
-pub entries_of_all-requires-clause-fractions : goal.entries_of_all-requires-clause-fractions
-entries_of_all-requires-clause-fractions g c = grind arith
-
-pub entries_of_all-requires-clause-some : goal.entries_of_all-requires-clause-some
-entries_of_all-requires-clause-some g c = grind (arith, common_steps)
-
 pub returns : goal.returns
 returns g c =
     let some = entries-there _ _ _ _ _ (sym c.self.view_is) c.is_empty.result _ c.is_empty.ensures c.self.inside.items.ok.0 c.if-is_empty.false
@@ -54,3 +48,13 @@ returns-then-is_empty g c = record {
   there = (λ t. absurd (false≢true t), no-entries _ _ _ _ _ (sym c.self.view_is) c.is_empty.result _ c.is_empty.ensures c.self.inside.items.ok.0 c.if-is_empty.true);
   refused = refused-nothing (All IsFraction c.args.fractions.now) (length c.args.self.now.entries) _ c.in_ok-check_fractions.ensures.good;
 }
+
+pub entries_of_all-requires-clause-clones : goal.entries_of_all-requires-clause-clones
+entries_of_all-requires-clause-clones g c = c.requires.clones
+
+pub entries_of_all-requires-clause-fractions : goal.entries_of_all-requires-clause-fractions
+entries_of_all-requires-clause-fractions g c = c.in_ok-check_fractions.ensures.good
+
+pub entries_of_all-requires-clause-some : goal.entries_of_all-requires-clause-some
+entries_of_all-requires-clause-some g c =
+    entries-there _ _ _ _ _ (sym c.self.view_is) c.is_empty.result _ c.is_empty.ensures c.self.inside.items.ok.0 c.if-is_empty.false c.self.invariant.each_counts

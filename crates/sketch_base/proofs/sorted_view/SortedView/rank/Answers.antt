@@ -2,10 +2,8 @@ use Rattle.std.proofs.Common.{◌≡◌, List, length, refl, sym, arith}
 use Rattle.std.proofs.lemmas.Bool.{false≢true}
 use Rattle.sketch_base.specs.Query.{true_rank}
 use Rattle.sketch_base.proofs.ViewAnswers.{at-entries, entries-there, no-entries}
+use Rattle.sketch_base.proofs.SeenViews.{seen-cumulated, seen-sorted}
 use Rattle.sketch_base.proofs.sorted_view.SortedView.rank.Goals as goal
-
-pub rank_among-weight-requires-clause-cumulated : goal.rank_among-weight-requires-clause-cumulated
-rank_among-weight-requires-clause-cumulated g c = grind arith
 
 pub returns : goal.returns
 returns g c =
@@ -25,3 +23,12 @@ returns-then-is_empty g c = record {
   weight = tt;
   total = tt;
 }
+
+pub entries_of-total-requires : goal.entries_of-total-requires
+entries_of-total-requires g c = seen-cumulated _ _ _ _ c.as_slice-items.ensures.value c.as_slice-cumulated.ensures.value c.self.invariant.cumulates
+
+pub rank_among-weight-requires-clause-sorted : goal.rank_among-weight-requires-clause-sorted
+rank_among-weight-requires-clause-sorted g c = seen-sorted g.T.Ord.cmp _ _ c.as_slice-items.ensures.value c.self.invariant.sorted
+
+pub rank_among-weight-requires-clause-cumulated : goal.rank_among-weight-requires-clause-cumulated
+rank_among-weight-requires-clause-cumulated g c = seen-cumulated _ _ _ _ c.as_slice-items.ensures.value c.as_slice-cumulated.ensures.value c.self.invariant.cumulates
