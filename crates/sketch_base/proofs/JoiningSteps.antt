@@ -48,12 +48,3 @@ module _ {A : Type 0} (cmp : A → A → Ordering) (all : List A) (weights : Lis
       weights_are = ap (λ ys. ws ++ ys) (sym (weights_if e)) ∙ weights_before;
       sum_is = sum-after;
     }
-
--- the room that is left for others
-pub room-kept : {A B : Type 0} (items items' : List A) (x : A) (pairs rest : List B) (pair : B) (c d : ℕ) → items' ≡ items ++ x ∷ [] → pairs ≡ rest ++ pair ∷ [] → d ≡ c →
-    length items + length pairs ≤ c → length items' + length rest ≤ d
-room-kept items items' x pairs rest pair c d e f is h =
-    omega (arith, ap length e, ap length f, length-append items (x ∷ []), length-append rest (pair ∷ []), is, h)
-
-pub room-over : {B : Type 0} (n : ℕ) (pairs rest : List B) (pair : B) (c : ℕ) → pairs ≡ rest ++ pair ∷ [] → n + length pairs ≤ c → n + length rest ≤ c
-room-over n pairs rest pair c f h = omega (arith, ap length f, length-append rest (pair ∷ []), h)

@@ -31,7 +31,3 @@ left-behind k n v rest rest' x h e f is = omega (arith, h, e, f, ap length is, l
 
 pub one-fewer : {A : Type 0} (rest rest' : List A) (x : A) → rest ≡ rest' ++ x ∷ [] → length rest' < length rest
 one-fewer rest rest' x is = omega (arith, ap length is, length-append rest' (x ∷ []))
-
-pub moved-over : {A : Type 0} (rest rest' to to' : List A) (x : A) → rest ≡ rest' ++ x ∷ [] → to' ≡ to ++ x ∷ [] →
-    length to' + length rest' ≡ length to + length rest
-moved-over rest rest' to to' x e f = omega (arith, ap length e, ap length f, length-append rest' (x ∷ []), length-append to (x ∷ []))

@@ -1,5 +1,5 @@
 -- The room that a vector has, lacks or gets, in numbers.
-use Rattle.std.proofs.Common.{◌≡◌, ℕ, ◌+◌, ◌-◌, ◌/◌, ◌<◌, ◌≤◌, Bool, false, nat_eq, eq-eqb, min, max, sym, ◌∙◌, pos_of_ne-zero, arith}
+use Rattle.std.proofs.Common.{◌≡◌, ℕ, ◌+◌, ◌-◌, ◌*◌, ◌/◌, ◌<◌, ◌≤◌, Bool, false, nat_eq, eq-eqb, min, max, sym, ◌∙◌, pos_of_ne-zero, arith}
 use Rattle.std.proofs.lemmas.Bool.{false≢true}
 
 -- a, the capacity, minus b, the length, against the number m of further items
@@ -58,3 +58,23 @@ both-some l r b c e f g h =
 -- at most as many items as a list has that others were put behind
 pub more-there : (n m k l : ℕ) → n ≡ k → m ≡ l + k → n ≤ m
 more-there n m k l e f = omega (arith, e, f)
+
+-- items that move one by one to another vector
+pub moved-first : (m r k c a b d : ℕ) → m ≡ a → r ≡ b → c ≡ d → a + (b - k) ≤ d → m + (r - k) ≤ c
+moved-first m r k c a b d e f g h = omega arith
+
+pub moved-after : (m p r k c n s d : ℕ) → k < n → n ≡ r → p ≡ m + 1 → s + 1 ≡ r → d ≡ c → m + (r - k) ≤ c → p + (s - k) ≤ d
+moved-after m p r k c n s d l e is f g h = omega arith
+
+pub one-over : (m n l k c d : ℕ) → n ≡ m + 1 → k + 1 ≡ l → d ≡ c → m + l ≤ c → n + k ≤ d
+one-over m n l k c d e f g h = omega arith
+
+pub one-out : (m l k c : ℕ) → k + 1 ≡ l → m + l ≤ c → m + k ≤ c
+one-out m l k c e h = omega arith
+
+-- every other one of some items moves to an empty vector
+pub spare-first : (n l k m c d : ℕ) → n ≡ l → m ≡ 0 → c ≡ d → l - k ≤ 2 * d → n - k ≤ 2 * (c - m)
+spare-first n l k m c d e f g h = omega arith
+
+pub spare-after : (r s t k m n c d : ℕ) → t + 1 ≡ s → s + 1 ≡ r → n ≡ m + 1 → d ≡ c → r - k ≤ 2 * (c - m) → t - k ≤ 2 * (d - n)
+spare-after r s t k m n c d e f g h l = omega arith
