@@ -78,3 +78,13 @@ spare-first n l k m c d e f g h = omega arith
 
 pub spare-after : (r s t k m n c d : ℕ) → t + 1 ≡ s → s + 1 ≡ r → n ≡ m + 1 → d ≡ c → r - k ≤ 2 * (c - m) → t - k ≤ 2 * (d - n)
 spare-after r s t k m n c d e f g h l = omega arith
+
+pub same-room : (a b d n c : ℕ) → a ≡ b → b ≡ d → n ≡ d → n ≤ c → a ≤ c
+same-room a b d n c e f g h = omega arith
+
+pub within-read : (k n v l : ℕ) → n ≡ v → v ≡ l → k ≤ l → k ≤ n
+within-read k n v l e f h = omega arith
+
+-- room for one more after some items of one list are merged into another
+pub pushed-room : (v p o s a n i f cap old : ℕ) → v ≡ p → p + (s - a) ≡ o + (s - n) → o ≡ i + n → n ≤ s → a ≤ s → i < f → f + s ≤ old → cap ≡ old → v < cap
+pushed-room v p o s a n i f cap old e sizes len w u l h c = omega arith

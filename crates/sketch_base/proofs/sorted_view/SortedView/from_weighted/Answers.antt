@@ -60,3 +60,9 @@ returns-in_err-items g c =
       memory = error_known r _ c.from_residual.ensures.1;
       none = MatchResult-from_err r _ _ err (λ e. c.in_err-items.ensures.some);
     }
+
+pub join_clones-requires-clause-clones : goal.join_clones-requires-clause-clones
+join_clones-requires-clause-clones g c = c.requires.clones
+
+pub join_clones-requires-clause-fits : goal.join_clones-requires-clause-fits
+join_clones-requires-clause-fits g c = c.requires.fits

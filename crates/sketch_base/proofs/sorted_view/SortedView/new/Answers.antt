@@ -9,6 +9,7 @@ use Rattle.sketch_base.proofs.JoinedViews.{joined-view, some-unless_none, sorted
 use Rattle.sketch_base.proofs.MovedCounts.{some-unless_zero}
 use Rattle.sketch_base.proofs.sorted_view.SortedView.new.Given.{Over}
 use Rattle.sketch_base.proofs.sorted_view.SortedView.new.Goals.{After-reverse}
+use Rattle.sketch_base.proofs.RoomCounts.{same-room}
 use Rattle.sketch_base.proofs.sorted_view.SortedView.new.Goals as goal
 use Rattle.sketch_base.proofs.sorted_view.SortedView.new.Goals.at as past
 
@@ -102,7 +103,7 @@ pub join_equal-requires-clause-weights : goal.join_equal-requires-clause-weights
 join_equal-requires-clause-weights g c = c.in_ok-cumulated.ensures.items
 
 pub join_equal-requires-clause-room : goal.join_equal-requires-clause-room
-join_equal-requires-clause-room g c = grind arith
+join_equal-requires-clause-room g c = same-room _ _ _ _ _ c.reverse.ensures.len c.in_ok-sort_by.ensures.len c.len-count.ensures c.in_ok-items.ensures.capacity
 
 pub join_equal-requires-clause-weights_room : goal.join_equal-requires-clause-weights_room
-join_equal-requires-clause-weights_room g c = grind arith
+join_equal-requires-clause-weights_room g c = same-room _ _ _ _ _ c.reverse.ensures.len c.in_ok-sort_by.ensures.len c.len-count.ensures c.in_ok-cumulated.ensures.capacity
