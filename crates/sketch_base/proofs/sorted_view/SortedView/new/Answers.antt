@@ -1,8 +1,9 @@
-use Rattle.std.proofs.Common.{◌∙◌, ℕ, map, reverse, sym, arith, IsSorted, IsPermutation, is_lt, rules, of_calls}
+use Rattle.std.proofs.Common.{◌≡◌, ◌∙◌, ℕ, List, ap, subst, subst₂, map, reverse, sym, arith, IsSorted, IsPermutation, is_lt, rules, of_calls}
 use Rattle.std.proofs.lemmas.Fn.{always_returns_same}
 use Rattle.std.proofs.lemmas.List.{nil_from_length, reverse-reverse}
 use Rattle.std.proofs.lemmas.List.Sorted.{ranks_by, sum_by-IsPermutation}
 use Rattle.std.proofs.lemmas.Result.{IfOk-from_err, MatchResult-from_err}
+use Rattle.sketch_base.specs.Views.{IsView}
 use Rattle.sketch_base.proofs.Exits.{error_known}
 use Rattle.sketch_base.proofs.BuiltViews.{built-empty, built-joined, empty-view}
 use Rattle.sketch_base.proofs.JoinedViews.{joined-view, some-unless_none, sorted-items}
@@ -15,12 +16,15 @@ use Rattle.sketch_base.proofs.sorted_view.SortedView.new.Goals.at as past
 
 -- the weighted items as they are joined, from the last to the first
 module _ (g : Over) (c : After-reverse g) where
+  turned : reverse c.reverse.new.self.items ≡ c.sort_by.new.self.items
+  turned = ap reverse c.reverse.ensures.items ∙ reverse-reverse c.sort_by.new.self.items
+
   moved : IsPermutation c.args.weighted.items (reverse c.reverse.new.self.items)
-  moved = rw (c.reverse.ensures.items, reverse-reverse) c.in_ok-sort_by.ensures.permutation
+  moved = subst (λ (pairs : List (g.row.T.Denot × ℕ)). IsPermutation c.args.weighted.items pairs) (sym turned) c.in_ok-sort_by.ensures.permutation
 
   sorted : IsSorted g.T.Ord.cmp (map (λ (pair : g.row.T.Denot × ℕ). pair.0) (reverse c.reverse.new.self.items))
   sorted =
-      rw (c.reverse.ensures.items, reverse-reverse) (sorted-items g.T.Ord.cmp c.sort_by.new.self.items
+      subst (λ (pairs : List (g.row.T.Denot × ℕ)). IsSorted g.T.Ord.cmp (map (λ (pair : g.row.T.Denot × ℕ). pair.0) pairs)) (sym turned) (sorted-items g.T.Ord.cmp c.sort_by.new.self.items
       (c.in_ok-sort_by.ensures.sorted (λ (a b : g.row.T.Denot × ℕ). is_lt (g.T.Ord.cmp a.0 b.0)) (ranks_by g.met.T.Ord.total (λ (p : g.row.T.Denot × ℕ). p.0))
       (always_returns_same _ _ _ (λ a r f k. search (rules, of_calls)))))
 
@@ -33,7 +37,8 @@ pub from_cumulated-requires-2 : goal.from_cumulated-requires-2
 from_cumulated-requires-2 g c =
     let after = (past.from_cumulated-requires-2 g c).After-reverse in
     let some = some-unless_zero _ _ _ c.if-count-eq0.false c.len-count.ensures c.args.weighted.ok.0 in
-    rw (c.join_equal.ensures.items, c.join_equal.ensures.weights)
+    subst₂ (λ (xs : List g.row.T.Denot) (ns : List ℕ). IsView g.T.Ord.cmp xs ns c.args.min_item c.args.max_item) (sym c.join_equal.ensures.items)
+    (sym c.join_equal.ensures.weights)
     (joined-view g.met.T.Ord.total _ _ (moved g after) (sorted g after) c.requires.weights c.args.min_item c.args.max_item some (c.requires.least some) (c.requires.greatest some))
 
 pub from_cumulated-requires : goal.from_cumulated-requires
