@@ -1,6 +1,6 @@
 -- The entry that a view finds for a fraction: an extreme, or the entry at the fraction's place.
-use Rattle.std.proofs.Common.{◌≡◌, ℕ, ◌<◌, ◌≤◌, ◌↔◌, false, true, if◌then◌else◌, ne_eqb, eq-eqb, List, length, refl, sym, ap, ◌∙◌, subst, arith, inl, inr, Ordering}
-use Rattle.std.specs.Prelude.{Option, None, Some, slice_get, option_copied, IsSome, is_some, ◌==◌}
+use Rattle.std.proofs.Common.{◌≡◌, ℕ, ◌<◌, ◌↔◌, false, true, ne_eqb, eq-eqb, List, length, refl, sym, ap, ◌∙◌, subst, arith, inl, inr, Ordering}
+use Rattle.std.specs.Prelude.{Option, None, Some, slice_get, option_copied, IsSome, is_some}
 use Rattle.std.proofs.lemmas.Bool.{false≢true}
 use Rattle.std.proofs.lemmas.Option.{slice_get_cases, slice_get_past}
 use Rattle.sketch_base.specs.declared.common.Rank.{Rank}
