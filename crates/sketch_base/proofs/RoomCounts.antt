@@ -46,9 +46,6 @@ end-room v m i n f s c e l h k r = omega (arith, e, l, h, k, r)
 pub part-room : (v a n b cap k : ℕ) → v ≡ 0 → a - k ≤ b → a ≡ n → b ≡ cap → v + (n - k) ≤ cap
 part-room v a n b cap k none h e f = omega arith
 
-pub whole-room : (l r n k a b cap : ℕ) → l ≡ k → r ≡ n - k → k ≤ n → a ≤ b → a ≡ n → b ≡ cap → l + r ≤ cap
-whole-room l r n k a b cap e f w h g c = omega arith
-
 pub both-some : (l r : ℕ) (b c : Bool) → b ≡ nat_eq l 0 → c ≡ nat_eq r 0 → b ≡ false → c ≡ false → 1 < l + r
 both-some l r b c e f g h =
     let left : 0 < l = pos_of_ne-zero (λ z. false≢true (sym g ∙ (e ∙ eq-eqb l 0 z))) in
@@ -56,9 +53,6 @@ both-some l r b c e f g h =
     omega (arith, left, right)
 
 -- at most as many items as a list has that others were put behind
-pub more-there : (n m k l : ℕ) → n ≡ k → m ≡ l + k → n ≤ m
-more-there n m k l e f = omega (arith, e, f)
-
 -- items that move one by one to another vector
 pub moved-first : (m r k c a b d : ℕ) → m ≡ a → r ≡ b → c ≡ d → a + (b - k) ≤ d → m + (r - k) ≤ c
 moved-first m r k c a b d e f g h = omega arith
