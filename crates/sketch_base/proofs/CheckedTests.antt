@@ -1,6 +1,6 @@
 -- What a call that tests a condition returns.
-use Rattle.std.proofs.Common.{◌≡◌, ◌↔◌, Bool, true, false, Result, Ok, Err, refl}
-use Rattle.std.specs.Prelude.{IfErr, IsOk, IsTrue, OnErr, OnOk}
+use Rattle.std.proofs.Common.{◌≡◌, ◌↔◌, Bool, true, Result, Ok, Err, refl}
+use Rattle.std.specs.Prelude.{IsOk, IsTrue, OnErr, OnOk}
 use Rattle.std.proofs.lemmas.Bool.{false≢true}
 
 pub record IsTested {T E : Type 0} (r : Result T E) (P : Type 0) : Type 0 where

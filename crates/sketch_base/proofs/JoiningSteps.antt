@@ -1,5 +1,5 @@
 -- One more weighted item is joined with those that follow it, or with the next one, which compares equal.
-use Rattle.std.proofs.Common.{◌≡◌, ℕ, ◌+◌, ◌≤◌, Bool, true, false, if◌then◌else◌, List, [], ◌∷◌, ◌++◌, length, reverse, sum_by, sym, ap, ◌∙◌, arith, append_assoc, length-append, Ordering}
+use Rattle.std.proofs.Common.{◌≡◌, ℕ, ◌+◌, Bool, true, false, if◌then◌else◌, List, [], ◌∷◌, ◌++◌, reverse, sum_by, sym, ap, ◌∙◌, arith, append_assoc, Ordering}
 use Rattle.std.proofs.lemmas.List.{reverse-append}
 use Rattle.std.proofs.lemmas.List.Sums.{sum_by-cons}
 use Rattle.sketch_base.specs.Pairs.{is_below_next, joined, joined_weights}

@@ -1,5 +1,5 @@
 -- The last items of a list that are moved one by one to the end of another list.
-use Rattle.std.proofs.Common.{◌≡◌, ℕ, ◌+◌, ◌<◌, ◌≤◌, List, [], ◌∷◌, ◌++◌, length, take, drop, reverse, sym, ap, ap₂, ◌∙◌, arith, append_assoc, append-nil, take_at, drop_at, length-append}
+use Rattle.std.proofs.Common.{◌≡◌, ℕ, ◌<◌, ◌≤◌, List, [], ◌∷◌, ◌++◌, length, take, drop, reverse, sym, ap, ap₂, ◌∙◌, arith, append_assoc, append-nil, take_at, drop_at, length-append}
 use Rattle.std.proofs.lemmas.List.{reverse-append}
 use Rattle.sketch_base.proofs.Pourings.{AreMoved}
 

@@ -1,6 +1,6 @@
 use Rattle.std.proofs.Common.{None, refl, sym, pos_of_ne-zero}
 use Rattle.sketch_base.proofs.FoundEntries.{entry-found, greatest-found, least-found, none-found}
-use Rattle.sketch_base.proofs.SeenViews.{below-whole, seen-cumulated}
+use Rattle.sketch_base.proofs.SeenViews.{below-whole}
 use Rattle.sketch_base.proofs.sorted_view.SortedView.entry_of.Goals as goal
 
 pub returns : goal.returns

@@ -1,6 +1,5 @@
-use Rattle.std.proofs.Common.{◌≡◌, List, refl, sym, length, sum_by, arith}
+use Rattle.std.proofs.Common.{◌≡◌, List, refl, sym, length, sum_by}
 use Rattle.std.proofs.lemmas.Bool.{false≢true}
-use Rattle.std.proofs.lemmas.Grind.{common_steps}
 use Rattle.std.proofs.lemmas.Result.{IfOk-from_err}
 use Rattle.sketch_base.specs.declared.common.Rank.{Rank}
 use Rattle.sketch_base.specs.Queries.{IsIncreasing, pmf_of, ranks_of}

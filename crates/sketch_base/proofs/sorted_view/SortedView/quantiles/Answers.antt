@@ -1,6 +1,5 @@
-use Rattle.std.proofs.Common.{refl, sym, length, arith}
+use Rattle.std.proofs.Common.{refl, sym, length}
 use Rattle.std.proofs.lemmas.Bool.{false≢true}
-use Rattle.std.proofs.lemmas.Grind.{common_steps}
 use Rattle.std.proofs.lemmas.Result.{IfOk-from_err}
 use Rattle.std.specs.List.{All}
 use Rattle.sketch_base.specs.Queries.{IsFraction}

@@ -1,4 +1,4 @@
-use Rattle.std.proofs.Common.{◌≡◌, List, length, refl, sym, arith}
+use Rattle.std.proofs.Common.{◌≡◌, List, length, refl, sym}
 use Rattle.std.proofs.lemmas.Bool.{false≢true}
 use Rattle.sketch_base.specs.Query.{true_rank}
 use Rattle.sketch_base.proofs.ViewAnswers.{at-entries, entries-there, no-entries}
