@@ -1,4 +1,5 @@
 use Rattle.std.proofs.Common.{◌++◌, ◌∷◌, [], ◌∙◌, Some, ap, arith}
+use Rattle.std.proofs.lemmas.Result.{IfOk-from_err}
 use Rattle.sketch_kll.specs.Flat.{levels_in}
 use Rattle.sketch_kll.specs.Image.{IsItemSketch}
 use Rattle.sketch_kll.specs.Sketch.{IsSound, sketch_of}
@@ -31,3 +32,15 @@ returns g c = (made g c).2
 
 pub total_capacity-requires-clause-minimum : goal.total_capacity-requires-clause-minimum
 total_capacity-requires-clause-minimum g c = grind arith
+
+pub returns-in_err-bounds : goal.returns-in_err-bounds
+returns-in_err-bounds g c = IfOk-from_err _ _ c.from_residual.ensures.0
+
+pub returns-in_err-least : goal.returns-in_err-least
+returns-in_err-least g c = IfOk-from_err _ _ c.from_residual-in_err-least.ensures.0
+
+pub returns-in_err-greatest : goal.returns-in_err-greatest
+returns-in_err-greatest g c = IfOk-from_err _ _ c.from_residual-in_err-greatest.ensures.0
+
+pub returns-in_err-push : goal.returns-in_err-push
+returns-in_err-push g c = IfOk-from_err _ _ c.from_residual-in_err-push.ensures.0

@@ -1,18 +1,36 @@
 -- The goals at the return are what updates by all items make of the fields.
 use Rattle.std.proofs.lemmas.Grind.{common_steps}
-use Rattle.std.proofs.Common.{◌≡◌, ◌<◌, ◌≤◌, ◌^◌, ◌+◌, ◌-◌, ◌∙◌, ℕ, zero, suc, Bool, false, eqb, List, [], length, ap, sym, arith}
-use Rattle.std.proofs.lemmas.Bool.{true≢false}
+use Rattle.std.proofs.Common.{◌≡◌, ◌<◌, ◌≤◌, ◌^◌, ◌+◌, ◌-◌, ◌∙◌, ℕ, zero, suc, Bool, Err, true, false, eqb, List, [], ◌∷◌, length, ap, refl, subst, sym, arith}
+use Rattle.std.proofs.lemmas.Bool.{eqb-true, true≢false}
+use Rattle.sketch_base.specs.declared.error.ErrorKind.TheVariants.{OutOfMemory}
+use Rattle.sketch_base.proofs.Exits.{accepted, no_value, returned, with_error}
+use Rattle.sketch_base.specs.Random.{after_draws}
 use Rattle.sketch_kll.specs.Levels.{weight}
-use Rattle.sketch_kll.specs.Sketch.{Kll}
-use Rattle.sketch_kll.proofs.MergedSketches.{never_refused}
+use Rattle.sketch_kll.specs.Sketch.{IsSound, Kll}
+use Rattle.sketch_kll.specs.Updates.{coins_of_updates}
+use Rattle.sketch_kll.proofs.MergedSketches.{kept_levels}
+use Rattle.sketch_kll.proofs.SketchCalls.{no_memory, not_heavy, refused_as, same_sketch}
 use Rattle.sketch_kll.proofs.CompactedSizes.{length-same}
 use Rattle.sketch_kll.proofs.UpdatesInTurn.{updates_fields, updates_none, updates_seen}
 use Rattle.sketch_kll.proofs.sketch.KllSketch.update_all.Goals as goal
 
-pub returns-then-is_empty-clause-ok : goal.returns-then-is_empty-clause-ok
-returns-then-is_empty-clause-ok g c =
-    let none : length c.args.items.now ≡ 0 = grind (arith, common_steps) in
-    updates_none g.met.T.Ord.total c.args.self.now c.args.items.now _ none
+none_of : (n : ℕ) {is_none : Bool} → is_none ≡ eqb n 0 → is_none ≡ true → n ≡ 0
+none_of n e f = eqb-true n 0 (sym e ∙ f)
+
+-- no items leave the weight as it is
+still_light : {x a n : ℕ} → x ≡ a → x < 2 ^ 64 → n ≡ 0 → 2 ^ 64 ≤ a + n → ⊥
+still_light e fits none heavy = omega (arith, e, fits, none, heavy)
+
+none_drawn : {A S : Type 0} (next : S → S) (source : S) (s : Kll A) (items : List A) → length items ≡ 0 →
+    source ≡ after_draws next source (coins_of_updates s items)
+none_drawn next source s [] none = refl
+none_drawn next source s (x ∷ items) none = absurd (omega (arith, none))
+
+over_all : {x a : ℕ} (n : ℕ) → 2 ^ 64 - 1 - x < n → x ≡ a → 2 ^ 64 ≤ a + n
+over_all n over e = omega (arith, over, e)
+
+none_over : {A : Type 0} {xs : List A} {m : ℕ} → xs ≡ [] → m < length xs → ⊥
+none_over e over = omega (arith, ap length e, over)
 
 some_of : (n : ℕ) {is_none : Bool} → is_none ≡ eqb n 0 → is_none ≡ false → 0 < n
 some_of zero e f = absurd (true≢false (sym e ∙ f))
@@ -49,31 +67,62 @@ returns g c =
       ok = fields.updated_are;
       coins = fields.source_is;
       err = tt;
-      full = never_refused _ _ (heavy_not _ (sum_of _ c.if-count-self.false some) (ap (λ (k : Kll g.row.T.Denot). k.n) c.self.view_is));
+      full = accepted (heavy_not _ (sum_of _ c.if-count-self.false some) (ap (λ (k : Kll g.row.T.Denot). k.n) c.self.view_is));
       memory = tt;
       sound = fields.sound;
     }
 
-pub invariant_of-self-2 : goal.invariant_of-self-2
-invariant_of-self-2 g c = (returns g c).sound
+pub returns-then-count-self : goal.returns-then-count-self
+returns-then-count-self g c =
+    let heavy = over_all _ c.if-count-self.true (ap (λ (k : Kll g.row.T.Denot). k.n) c.self.view_is) in
+    record {
+      empty = λ none. absurd (none_over none c.if-count-self.true);
+      ok = tt;
+      coins = tt;
+      err = (refl, refl);
+      full = refused_as (ap Err c.new.ensures) heavy;
+      memory = λ light. absurd (not_heavy light heavy);
+      sound = subst (IsSound g.T.Ord.cmp) c.self.view_is c.self.invariant;
+    }
 
-pub returns-then-is_empty-clause-coins : goal.returns-then-is_empty-clause-coins
-returns-then-is_empty-clause-coins g c = grind (arith, common_steps)
+pub returns-then-is_empty : goal.returns-then-is_empty
+returns-then-is_empty g c =
+    let none = none_of _ c.is_empty.ensures c.if-is_empty.true in
+    record {
+      empty = λ _. (refl, refl, refl);
+      ok = updates_none g.met.T.Ord.total _ _ _ none;
+      coins = none_drawn _ _ c.args.self.now c.args.items.now none;
+      err = tt;
+      full = accepted (still_light (ap (λ (k : Kll g.row.T.Denot). k.n) c.self.view_is) c.self.ranges.1.0.1 none);
+      memory = tt;
+      sound = subst (IsSound g.T.Ord.cmp) c.self.view_is c.self.invariant;
+    }
 
-pub returns-then-count-self-clause-empty : goal.returns-then-count-self-clause-empty
-returns-then-count-self-clause-empty g c = grind (arith, common_steps)
-
-pub returns-then-count-self-clause-sound : goal.returns-then-count-self-clause-sound
-returns-then-count-self-clause-sound g c = grind (arith, common_steps)
-
-pub returns-then-is_empty-clause-sound : goal.returns-then-is_empty-clause-sound
-returns-then-is_empty-clause-sound g c = grind (arith, common_steps)
+pub returns-in_err-clones : goal.returns-in_err-clones
+returns-in_err-clones g c =
+    let e = returned c.from_residual.result OutOfMemory c.from_residual.ensures.1 in
+    let same = same_sketch c.self.inside.min_k c.self.inside.n c.self.inside.min_item c.self.inside.max_item c.prepare_all.ensures.kept in
+    let some = some_of _ c.is_empty.ensures c.if-is_empty.false in
+    record {
+      empty = λ none. absurd (none_not some none);
+      ok = no_value _ e;
+      coins = no_value _ e;
+      err = with_error _ e (same ∙ c.self.view_is, refl);
+      full = no_memory e (heavy_not _ (sum_of _ c.if-count-self.false some) (ap (λ (k : Kll g.row.T.Denot). k.n) c.self.view_is));
+      memory = with_error _ e (λ _. refl);
+      sound = subst (IsSound g.T.Ord.cmp) (sym same) c.self.invariant;
+    }
 
 pub invariant_of-self : goal.invariant_of-self
-invariant_of-self g c = grind (arith, common_steps)
+invariant_of-self g c = subst (IsSound g.T.Ord.cmp) (sym (same_sketch _ _ _ _ c.prepare_all.ensures.kept)) c.self.invariant
 
 pub take_all-requires-clause-kept : goal.take_all-requires-clause-kept
-take_all-requires-clause-kept g c = grind arith
+take_all-requires-clause-kept g c =
+    let kept = c.prepare_all.ensures.kept in
+    kept_levels g.met.T.Ord.total c.self.invariant kept.k_is kept.flag_is kept.levels_are
+
+pub invariant_of-self-2 : goal.invariant_of-self-2
+invariant_of-self-2 g c = (returns g c).sound
 
 pub take_all-requires-clause-room : goal.take_all-requires-clause-room
 take_all-requires-clause-room g c = grind (arith, common_steps)
@@ -87,8 +136,3 @@ prepare_all-requires-clause-some g c = grind (arith, common_steps)
 pub overflow_add-self : goal.overflow_add-self
 overflow_add-self g c = record { fits = sum_of _ c.if-count-self.false (some_of _ c.is_empty.ensures c.if-is_empty.false) }
 
-pub returns-then-count-self-clause-err : goal.returns-then-count-self-clause-err
-returns-then-count-self-clause-err g c = grind arith
-
-pub returns-then-is_empty-clause-empty : goal.returns-then-is_empty-clause-empty
-returns-then-is_empty-clause-empty g c = grind arith
