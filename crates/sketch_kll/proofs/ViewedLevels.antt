@@ -13,7 +13,7 @@ use Rattle.sketch_kll.proofs.Flats.{length-bounds, length-items}
 use Rattle.sketch_kll.proofs.Rank.{retained_is, weight_is}
 use Rattle.sketch_kll.proofs.StoredLevels.{sound_inside}
 
-module _ {A : Type 0} {cmp : A → A → Ordering} where
+module _ {A : Type 0} (cmp : A → A → Ordering) where
   -- an extreme is there if one that compares equal to it is
   there_too : (x y : Option A) (n m : ℕ) → SameAnswer cmp x y → n ≡ m → IsThere x n → IsThere y m
   there_too None None n m same e there = sym e ∙ there
@@ -33,11 +33,11 @@ module _ {A : Type 0} {cmp : A → A → Ordering} where
 
   -- a sound sketch has all of it
   pub can_be_viewed : {k total items_room bounds_room min_k n : ℕ} {is_sorted : Bool} {items items' : List A} {bounds bounds' : List ℕ} {seen : Stored A}
-      {least greatest least' greatest' : Option A} →
+      {least greatest : Option A} (least' greatest' : Option A) →
       AreStored cmp k items bounds total → stored_of k is_sorted items bounds items_room bounds_room ≡ seen →
       IsSound cmp (sketch_of seen.k min_k n seen.is_sorted seen.levels least greatest) → n < 2 ^ 64 → items' ≡ items → bounds' ≡ bounds →
       SameAnswer cmp least least' → SameAnswer cmp greatest greatest' → CanBeViewed items' bounds' is_sorted least' greatest'
-  can_be_viewed {items = items} {bounds = bounds} {least = least} {greatest = greatest} {least' = least'} {greatest' = greatest'}
+  can_be_viewed {items = items} {bounds = bounds} {least = least} {greatest = greatest} least' greatest'
       stored view_is sound fits items_are bounds_are low high =
       let own = sound_inside view_is sound in
       let len = length-bounds items bounds stored.flat in
@@ -63,13 +63,13 @@ module _ {A : Type 0} {cmp : A → A → Ordering} where
 
   -- the view, as callers see it
   pub view_as_seen : {E : Type 0} {k items_room bounds_room min_k n : ℕ} {is_sorted : Bool} {items items' : List A} {bounds bounds' : List ℕ} {seen : Stored A}
-      {least greatest least' greatest' : Option A} {s : Kll A} → IsTotalOrder cmp →
+      {least greatest : Option A} (least' greatest' : Option A) {s : Kll A} → IsTotalOrder cmp →
       stored_of k is_sorted items bounds items_room bounds_room ≡ seen →
       sketch_of seen.k min_k n seen.is_sorted seen.levels least greatest ≡ s → IsSound cmp (sketch_of seen.k min_k n seen.is_sorted seen.levels least greatest) →
       items' ≡ items → bounds' ≡ bounds → SameAnswer cmp least least' → SameAnswer cmp greatest greatest' → (r : Result (View A) E) →
       IfOk r (λ v. SameItems cmp (expanded cmp (bag_in is_sorted (levels_in items' bounds'))) v.entries) → IfOk r (λ v. v.least ≡ least') →
       IfOk r (λ v. v.greatest ≡ greatest') → IfOk r (IsViewOf cmp (bag_of s) s.n s.least s.greatest)
-  view_as_seen {n = n} {is_sorted = is_sorted} {items = items} {bounds = bounds} {least = least} {greatest = greatest} {least' = least'} {greatest' = greatest'}
+  view_as_seen {n = n} {is_sorted = is_sorted} {items = items} {bounds = bounds} {least = least} {greatest = greatest} least' greatest'
       order view_is seen_is sound items_are bounds_are low high r entries least_is greatest_is =
       let levels : List (List A) = levels_in items bounds in
       let own = subst (λ (ls : List (List A)). IfOk r (λ v. SameItems cmp (expanded cmp (bag_in is_sorted ls)) v.entries)) (ap₂ levels_in items_are bounds_are) entries in
