@@ -1,5 +1,5 @@
 -- Calls of a sketch that return an error or a value: what their clauses say, and the numbers that decide it.
-use Rattle.std.proofs.Common.{◌≡◌, ◌+◌, ◌-◌, ◌<◌, ◌≤◌, ◌^◌, ◌⊎◌, ◌∙◌, ℕ, Bool, true, false, eqb, List, [], ◌++◌, Option, Result, Ok, Err, IsTrue, IfErr, length, inl, inr, refl, sym, ap, arith}
+use Rattle.std.proofs.Common.{◌≡◌, ◌+◌, ◌-◌, ◌<◌, ◌≤◌, ◌^◌, ◌⊎◌, ◌∙◌, ℕ, Bool, true, false, eqb, List, [], ◌++◌, Option, Ordering, Result, Ok, Err, IsTrue, IfErr, length, inl, inr, refl, subst, sym, ap, arith}
 use Rattle.std.specs.Prelude.{◌↔◌}
 use Rattle.std.proofs.lemmas.Bool.{eqb-true, false≢true, true≢false}
 use Rattle.std.proofs.lemmas.List.{nil_from_length}
@@ -9,7 +9,7 @@ use Rattle.sketch_base.specs.declared.codec.Header.{Header}
 use Rattle.sketch_base.specs.declared.error.ErrorKind.{ErrorKind}
 use Rattle.sketch_base.specs.declared.error.ErrorKind.TheVariants.{InvalidArgument, InvalidData, OutOfMemory}
 use Rattle.sketch_base.proofs.Exits.{accepted, no_error, other_kind, with_error}
-use Rattle.sketch_kll.specs.Sketch.{sketch_of}
+use Rattle.sketch_kll.specs.Sketch.{IsSound, Kll, sketch_of}
 use Rattle.sketch_kll.specs.Stored.{Stored, KeepsLevels}
 
 -- a call that runs out of memory returns that and no other error
@@ -40,9 +40,9 @@ pub accepted_alone : {T E : Type 0} {x : T} {e : E} (P : Type 0) → Ok x ≡ Er
 accepted_alone P is = absurd (no_error is)
 
 -- levels that are kept make the same sketch
-pub same_sketch : {A : Type 0} (min_k n : ℕ) (least greatest : Option A) {x y : Stored A} → KeepsLevels x y →
+same_sketch : {A : Type 0} (x y : Stored A) (min_k n : ℕ) (least greatest : Option A) → KeepsLevels x y →
     sketch_of y.k min_k n y.is_sorted y.levels least greatest ≡ sketch_of x.k min_k n x.is_sorted x.levels least greatest
-same_sketch min_k n least greatest kept = λ j. record {
+same_sketch x y min_k n least greatest kept = λ j. record {
   k = kept.k_is j;
   min_k = min_k;
   n = n;
@@ -51,6 +51,15 @@ same_sketch min_k n least greatest kept = λ j. record {
   least = least;
   greatest = greatest;
 }
+
+-- the same, of the sketch as callers see it
+pub still_seen : {A : Type 0} (x y : Stored A) (min_k n : ℕ) (least greatest : Option A) (s : Kll A) → KeepsLevels x y →
+    sketch_of x.k min_k n x.is_sorted x.levels least greatest ≡ s → sketch_of y.k min_k n y.is_sorted y.levels least greatest ≡ s
+still_seen x y min_k n least greatest s kept seen = same_sketch x y min_k n least greatest kept ∙ seen
+
+pub still_sound : {A : Type 0} (cmp : A → A → Ordering) (x y : Stored A) (min_k n : ℕ) (least greatest : Option A) → KeepsLevels x y →
+    IsSound cmp (sketch_of x.k min_k n x.is_sorted x.levels least greatest) → IsSound cmp (sketch_of y.k min_k n y.is_sorted y.levels least greatest)
+still_sound cmp x y min_k n least greatest kept sound = subst (IsSound cmp) (sym (same_sketch x y min_k n least greatest kept)) sound
 
 -- ---- numbers
 
