@@ -79,6 +79,9 @@ not_all all light = omega (arith, all, light)
 pub one_fits : {n : ℕ} → n < 2 ^ 64 → (n ≡ 2 ^ 64 - 1 → ⊥) → n + 1 < 2 ^ 64
 one_fits fits not_greatest = omega (arith, fits, not_greatest)
 
+pub next_fits : (n m : ℕ) → n ≡ m → m < 2 ^ 64 - 1 → n + 1 < 2 ^ 64
+next_fits n m e small = omega (arith, e, small)
+
 pub below_greatest : {n : ℕ} → n < 2 ^ 64 → (n ≡ 2 ^ 64 - 1 → ⊥) → n < 2 ^ 64 - 1
 below_greatest fits not_greatest = omega (arith, fits, not_greatest)
 

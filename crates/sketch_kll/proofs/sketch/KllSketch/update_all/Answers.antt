@@ -6,13 +6,16 @@ use Rattle.sketch_base.specs.declared.error.ErrorKind.TheVariants.{OutOfMemory}
 use Rattle.sketch_base.proofs.Exits.{accepted, no_value, returned, with_error}
 use Rattle.sketch_base.specs.Random.{after_draws}
 use Rattle.sketch_kll.specs.Levels.{weight}
-use Rattle.sketch_kll.specs.Sketch.{IsSound, Kll}
+use Rattle.sketch_kll.specs.Sketch.{IsSound, Kll, newer_or, sketch_of}
 use Rattle.sketch_kll.specs.Updates.{coins_of_updates}
 use Rattle.sketch_kll.proofs.MergedSketches.{kept_levels}
-use Rattle.sketch_kll.proofs.SketchCalls.{no_memory, not_heavy, refused_as, same_sketch}
+use Rattle.sketch_kll.proofs.SketchCalls.{no_memory, not_heavy, refused_as, still_seen, still_sound}
 use Rattle.sketch_kll.proofs.CompactedSizes.{length-same}
-use Rattle.sketch_kll.proofs.UpdatesInTurn.{updates_fields, updates_none, updates_seen}
+use Rattle.sketch_kll.proofs.UpdatesInTurn.{UpdatesFields, updates_fields, updates_none, updates_seen}
+use Rattle.sketch_kll.proofs.sketch.KllSketch.update_all.Given.{Over}
+use Rattle.sketch_kll.proofs.sketch.KllSketch.update_all.Goals.{After-self-1}
 use Rattle.sketch_kll.proofs.sketch.KllSketch.update_all.Goals as goal
+use Rattle.sketch_kll.proofs.sketch.KllSketch.update_all.Goals.at as past
 
 none_of : (n : ℕ) {is_none : Bool} → is_none ≡ eqb n 0 → is_none ≡ true → n ≡ 0
 none_of n e f = eqb-true n 0 (sym e ∙ f)
@@ -40,8 +43,8 @@ some_of (suc n) e f = omega arith
 sum_of : (x : ℕ) {n : ℕ} → n ≤ 2 ^ 64 - 1 - x → 0 < n → x + n < 2 ^ 64
 sum_of x h some = omega arith
 
-light_of : {u v x n l : ℕ} → u ≡ v → v ≡ x → n ≡ l → x + n < 2 ^ 64 → u + l < 2 ^ 64
-light_of p q r light = omega arith
+levels_light : {A : Type 0} (ls kept : List (List A)) (x n l : ℕ) → kept ≡ ls → weight ls ≡ x → n ≡ l → x + n < 2 ^ 64 → weight kept + l < 2 ^ 64
+levels_light ls kept x n l same weighs is light = omega (arith, ap weight same, weighs, is, light)
 
 heavy_not : {x a : ℕ} (n : ℕ) → x + n < 2 ^ 64 → x ≡ a → 2 ^ 64 ≤ a + n → ⊥
 heavy_not n light e heavy = omega arith
@@ -51,17 +54,35 @@ none_not some e = omega (arith, ap length e)
 
 pub take_all-requires-clause-light : goal.take_all-requires-clause-light
 take_all-requires-clause-light g c =
-    light_of (ap weight c.prepare_all.ensures.kept.levels_are) c.self.invariant.weighs_n (length-same g.T.Ord.cmp _ _ c.in_ok-clones.ensures.clones)
+    let x = c.self.inside in
+    let clones = c.in_ok-clones.clones.items in
+    let same = length-same g.T.Ord.cmp c.args.items.now clones c.in_ok-clones.ensures.clones in
+    levels_light x.levels.levels c.prepare_all.new.self.levels x.n (length c.args.items.now) (length clones)
+    c.prepare_all.ensures.kept.levels_are c.self.invariant.weighs_n same
     (sum_of _ c.if-count-self.false (some_of _ c.is_empty.ensures c.if-is_empty.false))
+
+-- what the updates make of the fields
+made : (g : Over) (c : After-self-1 g) → let x = c.self.inside in let new = c.take_all.new.self in
+    UpdatesFields g.met.T.Ord.total g.B.RandomBits.bit g.B.RandomBits.next c.args.coins.now c.take_all.new.coins
+    (sketch_of x.levels.k x.min_k x.n x.levels.is_sorted x.levels.levels x.min_item x.max_item) c.args.items.now
+    (sketch_of new.k x.min_k (x.n + length c.args.items.now) new.is_sorted new.levels c.set_if_some.new.place c.set_if_some-2.new.place)
+made g c =
+    let x = c.self.inside in
+    let old = c.prepare_all.new.self in
+    let new = c.take_all.new.self in
+    let kept = c.prepare_all.ensures.kept in
+    let told = c.in_ok-clones.ensures in
+    updates_fields g.met.T.Ord.total g.B.RandomBits.bit g.B.RandomBits.next {source = c.args.coins.now} {after = c.take_all.new.coins}
+    {items = c.args.items.now} {clones = c.in_ok-clones.clones.items} {k = new.k} {old_k = old.k} {old_flag = old.is_sorted} {flag = new.is_sorted}
+    {rows = old.levels} {ms = new.levels} {least = newer_or c.in_ok-clones.least x.min_item} {greatest = newer_or c.in_ok-clones.greatest x.max_item}
+    {kept_least = c.set_if_some.new.place} {kept_greatest = c.set_if_some-2.new.place}
+    c.self.invariant (some_of _ c.is_empty.ensures c.if-is_empty.false) told.clones kept.k_is kept.flag_is kept.levels_are c.take_all.ensures.k
+    c.take_all.ensures.taken told.least c.set_if_some.ensures told.greatest c.set_if_some-2.ensures
 
 pub returns : goal.returns
 returns g c =
-    let ready = c.prepare_all.ensures.kept in
     let some = some_of _ c.is_empty.ensures c.if-is_empty.false in
-    let fields = updates_seen g.met.T.Ord.total c.self.view_is (updates_fields g.met.T.Ord.total g.B.RandomBits.bit g.B.RandomBits.next c.self.invariant some
-    c.in_ok-clones.ensures.clones ready.k_is ready.flag_is ready.levels_are c.take_all.ensures.k c.take_all.ensures.taken c.in_ok-clones.ensures.least
-    c.set_if_some.ensures
-    c.in_ok-clones.ensures.greatest c.set_if_some-2.ensures) in
+    let fields = updates_seen g.met.T.Ord.total c.self.view_is (made g (past.returns g c).After-self-1) in
     record {
       empty = λ e. absurd (none_not some e);
       ok = fields.updated_are;
@@ -101,25 +122,30 @@ returns-then-is_empty g c =
 pub returns-in_err-clones : goal.returns-in_err-clones
 returns-in_err-clones g c =
     let e = returned c.from_residual.result OutOfMemory c.from_residual.ensures.1 in
-    let same = same_sketch c.self.inside.min_k c.self.inside.n c.self.inside.min_item c.self.inside.max_item c.prepare_all.ensures.kept in
+    let x = c.self.inside in
+    let y = c.prepare_all.new.self in
+    let kept = c.prepare_all.ensures.kept in
     let some = some_of _ c.is_empty.ensures c.if-is_empty.false in
     record {
       empty = λ none. absurd (none_not some none);
       ok = no_value _ e;
       coins = no_value _ e;
-      err = with_error _ e (same ∙ c.self.view_is, refl);
+      err = with_error _ e (still_seen x.levels y x.min_k x.n x.min_item x.max_item c.args.self.now kept c.self.view_is, refl);
       full = no_memory e (heavy_not _ (sum_of _ c.if-count-self.false some) (ap (λ (k : Kll g.row.T.Denot). k.n) c.self.view_is));
       memory = with_error _ e (λ _. refl);
-      sound = subst (IsSound g.T.Ord.cmp) (sym same) c.self.invariant;
+      sound = still_sound g.T.Ord.cmp x.levels y x.min_k x.n x.min_item x.max_item kept c.self.invariant;
     }
 
 pub invariant_of-self : goal.invariant_of-self
-invariant_of-self g c = subst (IsSound g.T.Ord.cmp) (sym (same_sketch _ _ _ _ c.prepare_all.ensures.kept)) c.self.invariant
+invariant_of-self g c =
+    let x = c.self.inside in
+    still_sound g.T.Ord.cmp x.levels c.prepare_all.new.self x.min_k x.n x.min_item x.max_item c.prepare_all.ensures.kept c.self.invariant
 
 pub take_all-requires-clause-kept : goal.take_all-requires-clause-kept
 take_all-requires-clause-kept g c =
+    let y = c.prepare_all.new.self in
     let kept = c.prepare_all.ensures.kept in
-    kept_levels g.met.T.Ord.total c.self.invariant kept.k_is kept.flag_is kept.levels_are
+    kept_levels g.met.T.Ord.total {k = y.k} {flag = y.is_sorted} {rows = y.levels} c.self.invariant kept.k_is kept.flag_is kept.levels_are
 
 pub invariant_of-self-2 : goal.invariant_of-self-2
 invariant_of-self-2 g c = (returns g c).sound
