@@ -1,5 +1,4 @@
 -- The goals at the return are what updates by all items make of the fields.
-use Rattle.std.proofs.lemmas.Grind.{common_steps}
 use Rattle.std.proofs.Common.{◌≡◌, ◌<◌, ◌≤◌, ◌^◌, ◌+◌, ◌-◌, ◌∙◌, ℕ, zero, suc, Bool, Err, true, false, eqb, List, [], ◌∷◌, length, ap, refl, subst, sym, arith}
 use Rattle.std.proofs.lemmas.Bool.{eqb-true, true≢false}
 use Rattle.sketch_base.specs.declared.error.ErrorKind.TheVariants.{OutOfMemory}
@@ -151,14 +150,16 @@ pub invariant_of-self-2 : goal.invariant_of-self-2
 invariant_of-self-2 g c = (returns g c).sound
 
 pub take_all-requires-clause-room : goal.take_all-requires-clause-room
-take_all-requires-clause-room g c = grind (arith, common_steps)
+take_all-requires-clause-room g c = c.in_ok-clones.ensures.room
 
 pub take_all-requires-clause-spare : goal.take_all-requires-clause-spare
-take_all-requires-clause-spare g c = grind (arith, common_steps)
+take_all-requires-clause-spare g c = c.in_ok-clones.ensures.spare
 
 pub prepare_all-requires-clause-some : goal.prepare_all-requires-clause-some
-prepare_all-requires-clause-some g c = grind (arith, common_steps)
+prepare_all-requires-clause-some g c = some_of _ c.is_empty.ensures c.if-is_empty.false
 
 pub overflow_add-self : goal.overflow_add-self
 overflow_add-self g c = record { fits = sum_of _ c.if-count-self.false (some_of _ c.is_empty.ensures c.if-is_empty.false) }
 
+pub prepare_all-requires-clause-clones : goal.prepare_all-requires-clause-clones
+prepare_all-requires-clause-clones g c = c.requires.clones
