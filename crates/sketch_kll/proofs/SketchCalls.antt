@@ -85,6 +85,9 @@ next_fits n m e small = omega (arith, e, small)
 pub below_greatest : {n : ℕ} → n < 2 ^ 64 → (n ≡ 2 ^ 64 - 1 → ⊥) → n < 2 ^ 64 - 1
 below_greatest fits not_greatest = omega (arith, fits, not_greatest)
 
+pub not_between : {n m : ℕ} → n < m → m ≤ n → ⊥
+not_between low high = omega (arith, low, high)
+
 pub not_heavy : {n : ℕ} → n < 2 ^ 64 → 2 ^ 64 ≤ n → ⊥
 not_heavy light heavy = omega (arith, light, heavy)
 

@@ -1,4 +1,5 @@
 use Rattle.std.proofs.Common.{◌≡◌, length, false, sym, subst, ◌∙◌, arith}
+use Rattle.std.proofs.lemmas.Bool.{false≢true}
 use Rattle.std.proofs.lemmas.Grind.{common_steps}
 use Rattle.std.specs.Prelude.{Option, Some, IfSome, ◌==◌}
 use Rattle.sketch_base.specs.Bag.{expanded}
@@ -24,3 +25,12 @@ returns-then-fraction-eq0-clause-same g c = grind arith
 
 pub returns-then-fraction-clause-same : goal.returns-then-fraction-clause-same
 returns-then-fraction-clause-same g c = grind arith
+
+pub returns-then-fraction-eq0-clause-some : goal.returns-then-fraction-eq0-clause-some
+returns-then-fraction-eq0-clause-some g c = c.min_item.ensures.there.0
+
+pub returns-then-fraction-clause-some : goal.returns-then-fraction-clause-some
+returns-then-fraction-clause-some g c = c.max_item.ensures.there.0
+
+pub returns-in-0 : goal.returns-in-0
+returns-in-0 g c = record { same = tt; some = λ is. absurd (false≢true is) }
