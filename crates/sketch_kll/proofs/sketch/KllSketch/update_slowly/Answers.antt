@@ -1,8 +1,8 @@
 -- The goals at the return are what an update makes of the fields.
-use Rattle.std.proofs.Common.{◌≡◌, ◌+◌, ◌<◌, ◌^◌, ℕ, Bool, List, false, arith, ap, refl, ◌∙◌}
+use Rattle.std.proofs.Common.{◌≡◌, ◌+◌, ◌<◌, ◌≤◌, ◌^◌, ℕ, Bool, List, false, arith, ap, refl, ◌∙◌}
 use Rattle.sketch_base.specs.declared.error.ErrorKind.TheVariants.{OutOfMemory}
 use Rattle.sketch_base.proofs.Exits.{no_value, returned, with_error}
-use Rattle.sketch_kll.specs.Levels.{weight}
+use Rattle.sketch_kll.specs.Levels.{retained, weight}
 use Rattle.sketch_kll.specs.Sketch.{Kll, newer_or, sketch_of}
 use Rattle.sketch_kll.proofs.SketchCalls.{next_fits, still_seen, still_sound}
 use Rattle.sketch_kll.proofs.UpdatesGoOn.{UpdatedFields, updated_fields, updated_seen}
@@ -107,3 +107,16 @@ invariant_of-self-in_err-least g c =
 
 pub overflow_add-self : goal.overflow_add-self
 overflow_add-self g c = record { fits = next_fits c.self.inside.n c.args.self.now.n (ap (λ (k : Kll g.row.T.Denot). k.n) c.self.view_is) c.requires.small }
+
+pub clone_new_extremes-requires : goal.clone_new_extremes-requires
+clone_new_extremes-requires g c = record { clones = c.requires.clones }
+
+room_left : (held before room before_room : ℕ) → held ≤ before → before < before_room → before_room ≤ room → held < room
+room_left held before room before_room fewer spare kept = omega (arith, fewer, spare, kept)
+
+pub push-requires : goal.push-requires
+push-requires g c =
+    let old = c.reserve_next.new.self in
+    let new = c.compact_if_full.new.self in
+    let told = c.compact_if_full.ensures in
+    record { spare = room_left (retained new.levels) (retained old.levels) new.items_room old.items_room told.shorter c.in_ok-reserve_next.ensures.room told.kept.items_room }
