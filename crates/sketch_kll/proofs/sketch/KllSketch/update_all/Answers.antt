@@ -1,12 +1,15 @@
 -- The goals at the return are what updates by all items make of the fields.
-use Rattle.std.proofs.Common.{◌≡◌, ◌<◌, ◌≤◌, ◌^◌, ◌+◌, ◌-◌, ◌∙◌, ℕ, zero, suc, Bool, Err, true, false, eqb, List, [], ◌∷◌, length, ap, refl, subst, sym, arith}
+use Rattle.std.proofs.Common.{◌≡◌, ◌<◌, ◌≤◌, ◌^◌, ◌+◌, ◌-◌, ◌∙◌, ℕ, zero, suc, Bool, Ordering, Result, Ok, Err, true, false, eqb, List, [], ◌∷◌, length, ap, refl, subst, sym, arith}
 use Rattle.std.proofs.lemmas.Bool.{eqb-true, true≢false}
-use Rattle.sketch_base.specs.declared.error.ErrorKind.TheVariants.{OutOfMemory}
+use Rattle.std.specs.Cmp.{IsTotalOrder}
+use Rattle.std.specs.Prelude.{◌↔◌, IfErr, IsErrOf, IsOk, OnErr, OnOk}
+use Rattle.sketch_base.specs.declared.error.ErrorKind.{ErrorKind}
+use Rattle.sketch_base.specs.declared.error.ErrorKind.TheVariants.{InvalidArgument, OutOfMemory}
 use Rattle.sketch_base.proofs.Exits.{accepted, no_value, returned, with_error}
-use Rattle.sketch_base.specs.Random.{after_draws}
+use Rattle.sketch_base.specs.Random.{after_draws, bits_from}
 use Rattle.sketch_kll.specs.Levels.{weight}
 use Rattle.sketch_kll.specs.Sketch.{IsSound, Kll, newer_or, sketch_of}
-use Rattle.sketch_kll.specs.Updates.{coins_of_updates}
+use Rattle.sketch_kll.specs.Updates.{AreUpdated, coins_of_updates}
 use Rattle.sketch_kll.proofs.MergedSketches.{kept_levels}
 use Rattle.sketch_kll.proofs.SketchCalls.{no_memory, not_heavy, refused_as, still_seen, still_sound}
 use Rattle.sketch_kll.proofs.CompactedSizes.{length-same}
@@ -19,20 +22,8 @@ use Rattle.sketch_kll.proofs.sketch.KllSketch.update_all.Goals.at as past
 none_of : (n : ℕ) {is_none : Bool} → is_none ≡ eqb n 0 → is_none ≡ true → n ≡ 0
 none_of n e f = eqb-true n 0 (sym e ∙ f)
 
--- no items leave the weight as it is
-still_light : {x a n : ℕ} → x ≡ a → x < 2 ^ 64 → n ≡ 0 → 2 ^ 64 ≤ a + n → ⊥
-still_light e fits none heavy = omega (arith, e, fits, none, heavy)
-
-none_drawn : {A S : Type 0} (next : S → S) (source : S) (s : Kll A) (items : List A) → length items ≡ 0 →
-    source ≡ after_draws next source (coins_of_updates s items)
-none_drawn next source s [] none = refl
-none_drawn next source s (x ∷ items) none = absurd (omega (arith, none))
-
 over_all : {x a : ℕ} (n : ℕ) → 2 ^ 64 - 1 - x < n → x ≡ a → 2 ^ 64 ≤ a + n
 over_all n over e = omega (arith, over, e)
-
-none_over : {A : Type 0} {xs : List A} {m : ℕ} → xs ≡ [] → m < length xs → ⊥
-none_over e over = omega (arith, ap length e, over)
 
 some_of : (n : ℕ) {is_none : Bool} → is_none ≡ eqb n 0 → is_none ≡ false → 0 < n
 some_of zero e f = absurd (true≢false (sym e ∙ f))
@@ -50,6 +41,75 @@ heavy_not n light e heavy = omega arith
 
 none_not : {A : Type 0} {xs : List A} → 0 < length xs → xs ≡ [] → ⊥
 none_not some e = omega (arith, ap length e)
+
+-- what a call says of its result, the sketch before and after it, the items and the coins before and after it
+abbrev Says : {A S : Type 0} (cmp : A → A → Ordering) (bit : S → Bool) (next : S → S) (r : Result Unit ErrorKind) (s t : Kll A) (items : List A)
+    (source after : S) → Type 0
+Says cmp bit next r s t items source after = record {
+  empty : items ≡ [] → IsOk r × (t ≡ s) × (after ≡ source);
+  ok : OnOk r (AreUpdated cmp s items (bits_from bit next source (coins_of_updates s items)) t);
+  coins : OnOk r (after ≡ after_draws next source (coins_of_updates s items));
+  err : OnErr r ((t ≡ s) × (after ≡ source));
+  full : IsErrOf r InvalidArgument ↔ (2 ^ 64 ≤ s.n + length items);
+  memory : IfErr r (λ e. s.n + length items < 2 ^ 64 → e ≡ OutOfMemory);
+  sound : IsSound cmp t;
+}
+
+module _ {A S : Type 0} (cmp : A → A → Ordering) (bit : S → Bool) (next : S → S) (s : Kll A) (items : List A) (source : S) where
+  -- one that is refused
+  too_heavy : (x : ErrorKind) → x ≡ InvalidArgument → 2 ^ 64 ≤ s.n + length items → s.n < 2 ^ 64 → IsSound cmp s →
+      Says cmp bit next (Err x) s s items source source
+  too_heavy x is heavy fits sound = record {
+    empty = λ none. absurd (omega (arith, heavy, fits, ap length none));
+    ok = tt;
+    coins = tt;
+    err = (refl, refl);
+    full = refused_as (ap Err is) heavy;
+    memory = λ light. absurd (not_heavy light heavy);
+    sound = sound;
+  }
+
+  none_drawn : (xs : List A) → length xs ≡ 0 → source ≡ after_draws next source (coins_of_updates s xs)
+  none_drawn [] none = refl
+  none_drawn (x ∷ xs) none = absurd (omega (arith, none))
+
+  -- one of no items
+  none_taken : IsTotalOrder cmp → length items ≡ 0 → s.n < 2 ^ 64 → IsSound cmp s → Says cmp bit next (Ok tt) s s items source source
+  none_taken o none fits sound = record {
+    empty = λ _. (refl, refl, refl);
+    ok = updates_none o s items _ none;
+    coins = none_drawn items none;
+    err = tt;
+    full = accepted (λ heavy. omega (arith, heavy, fits, none));
+    memory = tt;
+    sound = sound;
+  }
+
+  -- one that runs out of memory, and leaves the sketch and the coins as they were
+  ran_out : (r : Result Unit ErrorKind) (t : Kll A) → r ≡ Err OutOfMemory → 0 < length items → (2 ^ 64 ≤ s.n + length items → ⊥) → t ≡ s → IsSound cmp t →
+      Says cmp bit next r s t items source source
+  ran_out r t e some light same sound = record {
+    empty = λ none. absurd (none_not some none);
+    ok = no_value _ e;
+    coins = no_value _ e;
+    err = with_error _ e (same, refl);
+    full = no_memory e light;
+    memory = with_error _ e (λ _. refl);
+    sound = sound;
+  }
+
+  -- and one that takes the items
+  some_taken : {o : IsTotalOrder cmp} (t : Kll A) (after : S) → UpdatesFields o bit next source after s items t → 0 < length items →
+      (2 ^ 64 ≤ s.n + length items → ⊥) → Says cmp bit next (Ok tt) s t items source after
+  some_taken t after fields some light = record {
+    empty = λ none. absurd (none_not some none);
+    ok = fields.updated_are;
+    coins = fields.source_is;
+    err = tt;
+    full = accepted light;
+    memory = tt;
+    sound = fields.sound;
+  }
 
 pub take_all-requires-clause-light : goal.take_all-requires-clause-light
 take_all-requires-clause-light g c =
@@ -80,60 +140,42 @@ made g c =
 
 pub returns : goal.returns
 returns g c =
+    let x = c.self.inside in
+    let new = c.take_all.new.self in
+    let count = length c.args.items.now in
     let some = some_of _ c.is_empty.ensures c.if-is_empty.false in
-    let fields = updates_seen g.met.T.Ord.total c.self.view_is (made g (past.returns g c).After-self-1) in
-    record {
-      empty = λ e. absurd (none_not some e);
-      ok = fields.updated_are;
-      coins = fields.source_is;
-      err = tt;
-      full = accepted (heavy_not _ (sum_of _ c.if-count-self.false some) (ap (λ (k : Kll g.row.T.Denot). k.n) c.self.view_is));
-      memory = tt;
-      sound = fields.sound;
-    }
+    some_taken g.T.Ord.cmp g.B.RandomBits.bit g.B.RandomBits.next c.args.self.now c.args.items.now c.args.coins.now {o = g.met.T.Ord.total}
+    (sketch_of new.k x.min_k (x.n + count) new.is_sorted new.levels c.set_if_some.new.place c.set_if_some-2.new.place) c.take_all.new.coins
+    (updates_seen g.met.T.Ord.total c.self.view_is (made g (past.returns g c).After-self-1)) some
+    (heavy_not {x = x.n} {a = c.args.self.now.n} count (sum_of x.n c.if-count-self.false some) (ap (λ (k : Kll g.row.T.Denot). k.n) c.self.view_is))
 
 pub returns-then-count-self : goal.returns-then-count-self
 returns-then-count-self g c =
-    let heavy = over_all _ c.if-count-self.true (ap (λ (k : Kll g.row.T.Denot). k.n) c.self.view_is) in
-    record {
-      empty = λ none. absurd (none_over none c.if-count-self.true);
-      ok = tt;
-      coins = tt;
-      err = (refl, refl);
-      full = refused_as (ap Err c.new.ensures) heavy;
-      memory = λ light. absurd (not_heavy light heavy);
-      sound = subst (IsSound g.T.Ord.cmp) c.self.view_is c.self.invariant;
-    }
+    let n_is = ap (λ (k : Kll g.row.T.Denot). k.n) c.self.view_is in
+    too_heavy g.T.Ord.cmp g.B.RandomBits.bit g.B.RandomBits.next c.args.self.now c.args.items.now c.args.coins.now c.new.result c.new.ensures
+    (over_all {x = c.self.inside.n} (length c.args.items.now) c.if-count-self.true n_is) (subst (λ (n : ℕ). n < 2 ^ 64) n_is c.self.ranges.1.0.1)
+    (subst (IsSound g.T.Ord.cmp) c.self.view_is c.self.invariant)
 
 pub returns-then-is_empty : goal.returns-then-is_empty
 returns-then-is_empty g c =
-    let none = none_of _ c.is_empty.ensures c.if-is_empty.true in
-    record {
-      empty = λ _. (refl, refl, refl);
-      ok = updates_none g.met.T.Ord.total _ _ _ none;
-      coins = none_drawn _ _ c.args.self.now c.args.items.now none;
-      err = tt;
-      full = accepted (still_light (ap (λ (k : Kll g.row.T.Denot). k.n) c.self.view_is) c.self.ranges.1.0.1 none);
-      memory = tt;
-      sound = subst (IsSound g.T.Ord.cmp) c.self.view_is c.self.invariant;
-    }
+    none_taken g.T.Ord.cmp g.B.RandomBits.bit g.B.RandomBits.next c.args.self.now c.args.items.now c.args.coins.now g.met.T.Ord.total
+    (none_of (length c.args.items.now) c.is_empty.ensures c.if-is_empty.true)
+    (subst (λ (n : ℕ). n < 2 ^ 64) (ap (λ (k : Kll g.row.T.Denot). k.n) c.self.view_is) c.self.ranges.1.0.1)
+    (subst (IsSound g.T.Ord.cmp) c.self.view_is c.self.invariant)
 
 pub returns-in_err-clones : goal.returns-in_err-clones
 returns-in_err-clones g c =
-    let e = returned c.from_residual.result OutOfMemory c.from_residual.ensures.1 in
     let x = c.self.inside in
     let y = c.prepare_all.new.self in
     let kept = c.prepare_all.ensures.kept in
-    let some = some_of _ c.is_empty.ensures c.if-is_empty.false in
-    record {
-      empty = λ none. absurd (none_not some none);
-      ok = no_value _ e;
-      coins = no_value _ e;
-      err = with_error _ e (still_seen x.levels y x.min_k x.n x.min_item x.max_item c.args.self.now kept c.self.view_is, refl);
-      full = no_memory e (heavy_not _ (sum_of _ c.if-count-self.false some) (ap (λ (k : Kll g.row.T.Denot). k.n) c.self.view_is));
-      memory = with_error _ e (λ _. refl);
-      sound = still_sound g.T.Ord.cmp x.levels y x.min_k x.n x.min_item x.max_item kept c.self.invariant;
-    }
+    let count = length c.args.items.now in
+    let r = c.from_residual.result in
+    let some = some_of count c.is_empty.ensures c.if-is_empty.false in
+    ran_out g.T.Ord.cmp g.B.RandomBits.bit g.B.RandomBits.next c.args.self.now c.args.items.now c.args.coins.now r
+    (sketch_of y.k x.min_k x.n y.is_sorted y.levels x.min_item x.max_item) (returned r OutOfMemory c.from_residual.ensures.1) some
+    (heavy_not {x = x.n} {a = c.args.self.now.n} count (sum_of x.n c.if-count-self.false some) (ap (λ (k : Kll g.row.T.Denot). k.n) c.self.view_is))
+    (still_seen x.levels y x.min_k x.n x.min_item x.max_item c.args.self.now kept c.self.view_is)
+    (still_sound g.T.Ord.cmp x.levels y x.min_k x.n x.min_item x.max_item kept c.self.invariant)
 
 pub invariant_of-self : goal.invariant_of-self
 invariant_of-self g c =
