@@ -1,13 +1,12 @@
 -- Calls of a sketch that return an error or a value: what their clauses say, and the numbers that decide it.
-use Rattle.std.proofs.Common.{◌≡◌, ◌+◌, ◌-◌, ◌<◌, ◌≤◌, ◌^◌, ◌⊎◌, ◌∙◌, ℕ, Bool, true, false, eqb, List, [], ◌++◌, Option, Ordering, Result, Ok, Err, IsTrue, IfErr, length, inl, inr, refl, subst, sym, ap, arith}
-use Rattle.std.specs.Prelude.{◌↔◌}
+use Rattle.std.proofs.Common.{◌≡◌, ◌+◌, ◌-◌, ◌<◌, ◌≤◌, ◌^◌, ◌∙◌, ℕ, Bool, true, false, eqb, List, [], ◌++◌, Option, Ordering, Result, Ok, Err, IfErr, length, refl, subst, sym, ap, arith}
 use Rattle.std.proofs.lemmas.Bool.{eqb-true, false≢true, true≢false}
 use Rattle.std.proofs.lemmas.List.{nil_from_length}
-use Rattle.sketch_base.specs.Answered.{IsFoundAmong, IsRefusedUnless}
+use Rattle.sketch_base.specs.Answered.{IsRefusedUnless}
 use Rattle.sketch_base.specs.Heads.{header_text}
 use Rattle.sketch_base.specs.declared.codec.Header.{Header}
 use Rattle.sketch_base.specs.declared.error.ErrorKind.{ErrorKind}
-use Rattle.sketch_base.specs.declared.error.ErrorKind.TheVariants.{InvalidArgument, InvalidData, OutOfMemory}
+use Rattle.sketch_base.specs.declared.error.ErrorKind.TheVariants.{InvalidArgument, OutOfMemory}
 use Rattle.sketch_base.proofs.Exits.{accepted, no_error, other_kind, with_error}
 use Rattle.sketch_kll.specs.Sketch.{IsSound, Kll, sketch_of}
 use Rattle.sketch_kll.specs.Stored.{Stored, KeepsLevels}

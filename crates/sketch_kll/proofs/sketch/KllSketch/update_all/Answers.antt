@@ -15,7 +15,7 @@ use Rattle.sketch_kll.proofs.SketchCalls.{no_memory, not_heavy, refused_as, stil
 use Rattle.sketch_kll.proofs.CompactedSizes.{length-same}
 use Rattle.sketch_kll.proofs.UpdatesInTurn.{UpdatesFields, updates_fields, updates_none, updates_seen}
 use Rattle.sketch_kll.proofs.sketch.KllSketch.update_all.Given.{Over}
-use Rattle.sketch_kll.proofs.sketch.KllSketch.update_all.Goals.{After-self-1}
+use Rattle.sketch_kll.proofs.sketch.KllSketch.update_all.Goals.{After-set_if_some-2}
 use Rattle.sketch_kll.proofs.sketch.KllSketch.update_all.Goals as goal
 use Rattle.sketch_kll.proofs.sketch.KllSketch.update_all.Goals.at as past
 
@@ -121,7 +121,7 @@ take_all-requires-clause-light g c =
     (sum_of _ c.if-count-self.false (some_of _ c.is_empty.ensures c.if-is_empty.false))
 
 -- what the updates make of the fields
-made : (g : Over) (c : After-self-1 g) → let x = c.self.inside in let new = c.take_all.new.self in
+made : (g : Over) (c : After-set_if_some-2 g) → let x = c.self.inside in let new = c.take_all.new.self in
     UpdatesFields g.met.T.Ord.total g.B.RandomBits.bit g.B.RandomBits.next c.args.coins.now c.take_all.new.coins
     (sketch_of x.levels.k x.min_k x.n x.levels.is_sorted x.levels.levels x.min_item x.max_item) c.args.items.now
     (sketch_of new.k x.min_k (x.n + length c.args.items.now) new.is_sorted new.levels c.set_if_some.new.place c.set_if_some-2.new.place)
@@ -146,7 +146,7 @@ returns g c =
     let some = some_of _ c.is_empty.ensures c.if-is_empty.false in
     some_taken g.T.Ord.cmp g.B.RandomBits.bit g.B.RandomBits.next c.args.self.now c.args.items.now c.args.coins.now {o = g.met.T.Ord.total}
     (sketch_of new.k x.min_k (x.n + count) new.is_sorted new.levels c.set_if_some.new.place c.set_if_some-2.new.place) c.take_all.new.coins
-    (updates_seen g.met.T.Ord.total c.self.view_is (made g (past.returns g c).After-self-1)) some
+    (updates_seen g.met.T.Ord.total c.self.view_is (made g (past.returns g c).After-set_if_some-2)) some
     (heavy_not {x = x.n} {a = c.args.self.now.n} count (sum_of x.n c.if-count-self.false some) (ap (λ (k : Kll g.row.T.Denot). k.n) c.self.view_is))
 
 pub returns-then-count-self : goal.returns-then-count-self

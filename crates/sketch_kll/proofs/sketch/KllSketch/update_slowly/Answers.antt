@@ -7,7 +7,7 @@ use Rattle.sketch_kll.specs.Sketch.{Kll, newer_or, sketch_of}
 use Rattle.sketch_kll.proofs.SketchCalls.{next_fits, still_seen, still_sound}
 use Rattle.sketch_kll.proofs.UpdatesGoOn.{UpdatedFields, updated_fields, updated_seen}
 use Rattle.sketch_kll.proofs.sketch.KllSketch.update_slowly.Given.{Over}
-use Rattle.sketch_kll.proofs.sketch.KllSketch.update_slowly.Goals.{After-self-1}
+use Rattle.sketch_kll.proofs.sketch.KllSketch.update_slowly.Goals.{After-set_if_some-2}
 use Rattle.sketch_kll.proofs.sketch.KllSketch.update_slowly.Goals as goal
 use Rattle.sketch_kll.proofs.sketch.KllSketch.update_slowly.Goals.at as past
 
@@ -37,7 +37,7 @@ same_levels : {A : Type 0} (ls ms ns : List (List A)) → ls ≡ ms → ms ≡ n
 same_levels ls ms ns e f = e ∙ f
 
 -- what the update makes of the fields
-made : (g : Over) (c : After-self-1 g) → let x = c.self.inside in let new = c.give_back_much.new.self in
+made : (g : Over) (c : After-set_if_some-2 g) → let x = c.self.inside in let new = c.give_back_much.new.self in
     UpdatedFields g.met.T.Ord.total g.B.RandomBits.bit g.B.RandomBits.next c.args.coins.now c.compact_if_full.new.coins
     (sketch_of x.levels.k x.min_k x.n x.levels.is_sorted x.levels.levels x.min_item x.max_item) c.args.item
     (sketch_of new.k x.min_k (x.n + 1) new.is_sorted new.levels c.set_if_some.new.place c.set_if_some-2.new.place)
@@ -61,7 +61,7 @@ made g c =
 
 pub returns : goal.returns
 returns g c =
-    let fields = updated_seen g.met.T.Ord.total c.self.view_is (made g (past.returns g c).After-self-1) in
+    let fields = updated_seen g.met.T.Ord.total c.self.view_is (made g (past.returns g c).After-set_if_some-2) in
     record { ok = fields.updated_is; coins = fields.source_is; err = tt; memory = tt; sound = fields.sound }
 
 pub invariant_of-self-2 : goal.invariant_of-self-2
