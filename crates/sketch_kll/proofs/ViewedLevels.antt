@@ -65,13 +65,15 @@ module _ {A : Type 0} (cmp : A → A → Ordering) where
   pub view_as_seen : {E : Type 0} {k items_room bounds_room min_k n : ℕ} {is_sorted : Bool} {items items' : List A} {bounds bounds' : List ℕ} {seen : Stored A}
       {least greatest : Option A} (least' greatest' : Option A) {s : Kll A} → IsTotalOrder cmp →
       stored_of k is_sorted items bounds items_room bounds_room ≡ seen →
-      sketch_of seen.k min_k n seen.is_sorted seen.levels least greatest ≡ s → IsSound cmp (sketch_of seen.k min_k n seen.is_sorted seen.levels least greatest) →
+      sketch_of seen.k min_k n seen.is_sorted seen.levels least greatest ≡ s → IsSound cmp (sketch_of seen.k min_k n seen.is_sorted seen.levels least
+      greatest) →
       items' ≡ items → bounds' ≡ bounds → SameAnswer cmp least least' → SameAnswer cmp greatest greatest' → (r : Result (View A) E) →
       IfOk r (λ v. SameItems cmp (expanded cmp (bag_in is_sorted (levels_in items' bounds'))) v.entries) → IfOk r (λ v. v.least ≡ least') →
       IfOk r (λ v. v.greatest ≡ greatest') → IfOk r (IsViewOf cmp (bag_of s) s.n s.least s.greatest)
   view_as_seen {n = n} {is_sorted = is_sorted} {items = items} {bounds = bounds} {least = least} {greatest = greatest} least' greatest'
       order view_is seen_is sound items_are bounds_are low high r entries least_is greatest_is =
       let levels : List (List A) = levels_in items bounds in
-      let own = subst (λ (ls : List (List A)). IfOk r (λ v. SameItems cmp (expanded cmp (bag_in is_sorted ls)) v.entries)) (ap₂ levels_in items_are bounds_are) entries in
+      let own = subst (λ (ls : List (List A)). IfOk r (λ v. SameItems cmp (expanded cmp (bag_in is_sorted ls)) v.entries))
+      (ap₂ levels_in items_are bounds_are) entries in
       rw (← seen_is, ← view_is) (built-view order (bag_in is_sorted levels) n least least' greatest greatest' r
       (weight_is levels ∙ (sound_inside view_is sound).weighs_n) low high own least_is greatest_is)

@@ -18,7 +18,8 @@ returns-in_default-3-clause-same g c =
     let some : (f.weight == 0) ≡ false = grind (arith, common_steps) in
     let part : (f.weight == f.total) ≡ false = grind (arith, common_steps) in
     subst (λ (q : Option g.row.T.Denot). IfSome c.find_at.result (λ x. SameAnswer g.T.Ord.cmp q (Some x.now)))
-    (quantile-at entries s.least s.greatest f.weight f.total c.n.result c.place_of.result c.args.criteria some part whole c.place_of.ensures.place) c.find_at.ensures
+    (quantile-at entries s.least s.greatest f.weight f.total c.n.result c.place_of.result c.args.criteria some part whole c.place_of.ensures.place)
+    c.find_at.ensures
 
 pub returns-then-fraction-eq0-clause-same : goal.returns-then-fraction-eq0-clause-same
 returns-then-fraction-eq0-clause-same g c = grind arith

@@ -119,4 +119,7 @@ push-requires g c =
     let old = c.reserve_next.new.self in
     let new = c.compact_if_full.new.self in
     let told = c.compact_if_full.ensures in
-    record { spare = room_left (retained new.levels) (retained old.levels) new.items_room old.items_room told.shorter c.in_ok-reserve_next.ensures.room told.kept.items_room }
+    record {
+      spare = room_left (retained new.levels) (retained old.levels) new.items_room old.items_room told.shorter c.in_ok-reserve_next.ensures.room
+          told.kept.items_room;
+    }
