@@ -6,6 +6,7 @@ use Rattle.sketch_base.proofs.MovedHalves.{half_reverse}
 use Rattle.sketch_req.specs.Level.{side_kept, side_taken}
 use Rattle.sketch_req.specs.declared.RankAccuracy.{RankAccuracy}
 use Rattle.sketch_req.proofs.TakenParts.{moved_behind}
+use Rattle.sketch_req.proofs.Equations.{same_items, same_number}
 use Rattle.sketch_req.proofs.compaction.take_side.Goals.{After-move_behind}
 use Rattle.sketch_req.proofs.compaction.take_side.Goals as goal
 use Rattle.sketch_req.proofs.compaction.take_side.Goals.at as past
@@ -14,8 +15,8 @@ use Rattle.sketch_req.proofs.compaction.take_side.Goals.at as past
 changed : (g : _) (c : After-move_behind g) → take c.args.items.now.len (c.move_behind.new.items ++ drop (length c.move_behind.new.items) c.args.items.now.items)
     ≡ drop c.args.count c.args.items.now.items ++ reverse (take c.args.count c.args.items.now.items)
 changed g c =
-    take_at c.move_behind.new.items _ c.args.items.now.len (c.move_behind.auto.items ∙ c.deref_mut.ensures.len) ∙
-    (c.move_behind.ensures ∙ ap (λ (xs : List g.row.T.Denot). drop c.args.count xs ++ reverse (take c.args.count xs)) c.deref_mut.ensures.value)
+    same_items (take_at c.move_behind.new.items _ c.args.items.now.len (same_number c.move_behind.auto.items c.deref_mut.ensures.len))
+    (same_items c.move_behind.ensures (ap (λ (xs : List g.row.T.Denot). drop c.args.count xs ++ reverse (take c.args.count xs)) c.deref_mut.ensures.value))
 
 pub move_half-requires-clause-empty : goal.move_half-requires-clause-empty
 move_half-requires-clause-empty g c = c.requires.empty
@@ -31,16 +32,16 @@ taken_is : {l n : ℕ} (count : ℕ) → l ≡ n → count ≤ n → n - (l - co
 taken_is count e l = omega (arith, e, l)
 
 pub move_half-requires-in-LowRank-clause-within : goal.move_half-requires-in-LowRank-clause-within
-move_half-requires-in-LowRank-clause-within g c = kept_within c.args.count (c.len.ensures ∙ c.args.items.now.ok.0)
+move_half-requires-in-LowRank-clause-within g c = kept_within c.args.count (same_number c.len.ensures c.args.items.now.ok.0)
 
 pub move_half-requires-in-LowRank-clause-even : goal.move_half-requires-in-LowRank-clause-even
 move_half-requires-in-LowRank-clause-even g c =
-    subst (λ (n : ℕ). n % 2 ≡ 0) (sym (taken_is c.args.count (c.len.ensures ∙ c.args.items.now.ok.0) c.requires.within)) c.requires.even
+    subst (λ (n : ℕ). n % 2 ≡ 0) (sym (taken_is c.args.count (same_number c.len.ensures c.args.items.now.ok.0) c.requires.within)) c.requires.even
 
 pub move_half-requires-in-LowRank-clause-room : goal.move_half-requires-in-LowRank-clause-room
 move_half-requires-in-LowRank-clause-room g c =
     subst (λ (n : ℕ). n ≤ 2 * vec_capacity c.args.out.now)
-    (sym (taken_is c.args.count (c.len.ensures ∙ c.args.items.now.ok.0) c.requires.within)) c.requires.room
+    (sym (taken_is c.args.count (same_number c.len.ensures c.args.items.now.ok.0) c.requires.within)) c.requires.room
 
 pub move_half-requires-clause-within : goal.move_half-requires-clause-within
 move_half-requires-clause-within g c = grind (arith, common_steps)
@@ -56,15 +57,15 @@ returns-in-HighRank g c =
     let xs : List g.row.T.Denot = c.args.items.now.items in
     let turned = changed g (past.returns-in-HighRank g c).After-move_behind in
     let parts = moved_behind c.args.count (c.len.result - c.args.count) xs _
-    (ap (λ (m : ℕ). m - c.args.count) (c.len.ensures ∙ c.args.items.now.ok.0)) turned in
+    (ap (λ (m : ℕ). m - c.args.count) (same_number c.len.ensures c.args.items.now.ok.0)) turned in
     let out : reverse (half (not c.args.odd) (reverse (take c.args.count xs))) ≡ c.move_half.new.out.items =
-    ap reverse (sym (ap (half (not c.args.odd)) parts.1) ∙ c.move_half.ensures.moved) ∙ reverse-reverse c.move_half.new.out.items in
+    same_items (ap reverse (same_items (sym (ap (half (not c.args.odd)) parts.1)) c.move_half.ensures.moved)) (reverse-reverse c.move_half.new.out.items) in
     let even : length (take c.args.count xs) % 2 ≡ 0 = omega (arith, length-take c.args.count xs, c.requires.within, c.requires.even) in
     record {
       kept = subst (λ (a : RankAccuracy). c.move_half.new.items.items ≡ side_kept a c.args.count xs) (sym c.in-HighRank.is)
-          (c.move_half.ensures.kept ∙ parts.0);
+          (same_items c.move_half.ensures.kept parts.0);
       moved = subst (λ (a : RankAccuracy). c.move_half.new.out.items ≡ half c.args.odd (side_taken a c.args.count xs)) (sym c.in-HighRank.is)
-          (sym (half_reverse c.args.odd (take c.args.count xs) even ∙ out));
+          (sym (same_items (half_reverse c.args.odd (take c.args.count xs) even) out));
       capacity = c.move_half.ensures.capacity;
     }
 
@@ -72,11 +73,11 @@ pub returns-in-LowRank : goal.returns-in-LowRank
 returns-in-LowRank g c =
     let xs : List g.row.T.Denot = c.args.items.now.items in
     let count : ℕ = c.args.count in
-    let all = c.len.ensures ∙ c.args.items.now.ok.0 in
+    let all = same_number c.len.ensures c.args.items.now.ok.0 in
     record {
       kept = subst (λ (a : RankAccuracy). c.move_half-in-LowRank.new.items.items ≡ side_kept a count xs) (sym c.in-LowRank.is)
-          (c.move_half-in-LowRank.ensures.kept ∙ ap (λ (m : ℕ). take (m - count) xs) all);
+          (same_items c.move_half-in-LowRank.ensures.kept (ap (λ (m : ℕ). take (m - count) xs) all));
       moved = subst (λ (a : RankAccuracy). c.reverse.new.self.items ≡ half c.args.odd (side_taken a count xs)) (sym c.in-LowRank.is)
-          (c.reverse.ensures.items ∙ sym c.move_half-in-LowRank.ensures.moved ∙ ap (λ (m : ℕ). half c.args.odd (drop (m - count) xs)) all);
-      capacity = c.reverse.ensures.capacity ∙ c.move_half-in-LowRank.ensures.capacity;
+          (same_items c.reverse.ensures.items (same_items (sym c.move_half-in-LowRank.ensures.moved) (ap (λ (m : ℕ). half c.args.odd (drop (m - count) xs)) all)));
+      capacity = same_number c.reverse.ensures.capacity c.move_half-in-LowRank.ensures.capacity;
     }

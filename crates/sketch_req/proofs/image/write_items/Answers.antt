@@ -4,6 +4,7 @@ use Rattle.std.proofs.lemmas.Result.{IfOk-from_err}
 use Rattle.sketch_base.specs.Spelling.{AllSpelled, items_text}
 use Rattle.sketch_base.proofs.Exits.{on_error, only_error}
 use Rattle.sketch_req.proofs.LevelFronts.{extended}
+use Rattle.sketch_req.proofs.Equations.{same_items}
 use Rattle.sketch_req.proofs.image.write_items.Goals as goal
 
 pub loop-item-preserved : goal.loop-item-preserved
@@ -30,7 +31,7 @@ returns g c =
     let f = g.T.ReqValue.spelling in
     let all = take_all c.loop-item.item-index c.args.items.now c.loop-item-test.false in
     record {
-      ok = c.loop-item.invariant.written ∙ ap (λ (xs : List g.row.T.Denot). c.args.bytes.now ++ items_text f xs) all;
+      ok = same_items c.loop-item.invariant.written (ap (λ (xs : List g.row.T.Denot). c.args.bytes.now ++ items_text f xs) all);
       spelled = subst (AllSpelled f) all c.loop-item.invariant.spelled;
       err = tt;
       memory = tt;

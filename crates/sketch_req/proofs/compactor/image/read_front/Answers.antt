@@ -1,4 +1,4 @@
-use Rattle.std.proofs.Common.{◌≡◌, ◌<◌, [], ◌∙◌, ℕ, List, length, ap, arith}
+use Rattle.std.proofs.Common.{◌≡◌, ◌<◌, ◌^◌, [], ◌∙◌, ℕ, List, length, refl, ap, arith}
 use Rattle.std.proofs.lemmas.Result.{IfOk-from_err}
 use Rattle.std.specs.Int.{w16, w32, w64, to_le_bytes}
 use Rattle.sketch_base.proofs.Exits.{at_error}
@@ -15,7 +15,7 @@ returns-in_err-read_u64_le c =
       found = IfOk-from_err c.from_residual.result _ e.0;
       fits = IfOk-from_err c.from_residual.result _ e.0;
       short = let few = c.in_err-read_u64_le.ensures.short in
-          at_error c.from_residual.result _ e.1 (λ _ is. (is ∙ c.in_err-read_u64_le.ensures.kind, below_twenty 8 few (omega arith)));
+          at_error c.from_residual.result _ e.1 (λ _ is. (is ∙ c.in_err-read_u64_le.ensures.kind, below_twenty 8 few refl));
     }
 
 pub returns-in_err-read_u32_le : goal.returns-in_err-read_u32_le
@@ -25,7 +25,7 @@ returns-in_err-read_u32_le c =
       found = IfOk-from_err c.from_residual-in_err-read_u32_le.result _ e.0;
       fits = IfOk-from_err c.from_residual-in_err-read_u32_le.result _ e.0;
       short = let few = (ends_soon 4 8 (longer_64 c.in_ok-read_u64_le.field-0 c.args.input.now c.read_u64_le.new.self c.in_ok-read_u64_le.ensures.ok) c.in_err-read_u32_le.ensures.short) in
-          at_error c.from_residual-in_err-read_u32_le.result _ e.1 (λ _ is. (is ∙ c.in_err-read_u32_le.ensures.kind, below_twenty 12 few (omega arith)));
+          at_error c.from_residual-in_err-read_u32_le.result _ e.1 (λ _ is. (is ∙ c.in_err-read_u32_le.ensures.kind, below_twenty 12 few refl));
     }
 
 pub returns-in_err-read_u8 : goal.returns-in_err-read_u8
@@ -37,7 +37,7 @@ returns-in_err-read_u8 c =
       short = let few = (ends_soon 5 8 (longer_64 c.in_ok-read_u64_le.field-0 c.args.input.now c.read_u64_le.new.self c.in_ok-read_u64_le.ensures.ok)
           (ends_soon 1 4 (longer_32 c.in_ok-read_u32_le.field-0 c.read_u64_le.new.self c.read_u32_le.new.self c.in_ok-read_u32_le.ensures.ok)
           (empty_short c.in_err-read_u8.ensures.short))) in
-          at_error c.from_residual-in_err-read_u8.result _ e.1 (λ _ is. (is ∙ c.in_err-read_u8.ensures.kind, below_twenty 13 few (omega arith)));
+          at_error c.from_residual-in_err-read_u8.result _ e.1 (λ _ is. (is ∙ c.in_err-read_u8.ensures.kind, below_twenty 13 few refl));
     }
 
 pub returns-in_err-read_u8-2 : goal.returns-in_err-read_u8-2
@@ -50,7 +50,7 @@ returns-in_err-read_u8-2 c =
           (ends_soon 2 4 (longer_32 c.in_ok-read_u32_le.field-0 c.read_u64_le.new.self c.read_u32_le.new.self c.in_ok-read_u32_le.ensures.ok)
           (ends_soon 1 1 (longer_8 c.in_ok-read_u8.field-0 c.read_u32_le.new.self c.read_u8.new.self c.in_ok-read_u8.ensures.ok)
           (empty_short c.in_err-read_u8-2.ensures.short)))) in
-          at_error c.from_residual-in_err-read_u8-2.result _ e.1 (λ _ is. (is ∙ c.in_err-read_u8-2.ensures.kind, below_twenty 14 few (omega arith)));
+          at_error c.from_residual-in_err-read_u8-2.result _ e.1 (λ _ is. (is ∙ c.in_err-read_u8-2.ensures.kind, below_twenty 14 few refl));
     }
 
 pub returns-in_err-read_u16_le : goal.returns-in_err-read_u16_le
@@ -63,7 +63,7 @@ returns-in_err-read_u16_le c =
           (ends_soon 4 4 (longer_32 c.in_ok-read_u32_le.field-0 c.read_u64_le.new.self c.read_u32_le.new.self c.in_ok-read_u32_le.ensures.ok)
           (ends_soon 3 1 (longer_8 c.in_ok-read_u8.field-0 c.read_u32_le.new.self c.read_u8.new.self c.in_ok-read_u8.ensures.ok)
           (ends_soon 2 1 (longer_8 c.in_ok-read_u8-2.field-0 c.read_u8.new.self c.read_u8-2.new.self c.in_ok-read_u8-2.ensures.ok) c.in_err-read_u16_le.ensures.short)))) in
-          at_error c.from_residual-in_err-read_u16_le.result _ e.1 (λ _ is. (is ∙ c.in_err-read_u16_le.ensures.kind, below_twenty 16 few (omega arith)));
+          at_error c.from_residual-in_err-read_u16_le.result _ e.1 (λ _ is. (is ∙ c.in_err-read_u16_le.ensures.kind, below_twenty 16 few refl));
     }
 
 pub returns-in_err-read_u32_le-2 : goal.returns-in_err-read_u32_le-2
@@ -77,8 +77,20 @@ returns-in_err-read_u32_le-2 c =
           (ends_soon 7 1 (longer_8 c.in_ok-read_u8.field-0 c.read_u32_le.new.self c.read_u8.new.self c.in_ok-read_u8.ensures.ok)
           (ends_soon 6 1 (longer_8 c.in_ok-read_u8-2.field-0 c.read_u8.new.self c.read_u8-2.new.self c.in_ok-read_u8-2.ensures.ok)
           (ends_soon 4 2 (longer_16 c.in_ok-read_u16_le.field-0 c.read_u8-2.new.self c.read_u16_le.new.self c.in_ok-read_u16_le.ensures.ok) c.in_err-read_u32_le-2.ensures.short))))) in
-          at_error c.from_residual-in_err-read_u32_le-2.result _ e.1 (λ _ is. (is ∙ c.in_err-read_u32_le-2.ensures.kind, below_twenty 20 few (omega arith)));
+          at_error c.from_residual-in_err-read_u32_le-2.result _ e.1 (λ _ is. (is ∙ c.in_err-read_u32_le-2.ensures.kind, below_twenty 20 few refl));
     }
+
+state_fits : (c : goal.In_ok-read_u32_le-2) → c.in_ok-read_u64_le.field-0 < 2 ^ 64
+state_fits c = omega arith
+
+size_fits : (c : goal.In_ok-read_u32_le-2) → c.in_ok-read_u32_le.field-0 < 2 ^ 32
+size_fits c = omega arith
+
+padding_fits : (c : goal.In_ok-read_u32_le-2) → c.in_ok-read_u16_le.field-0 < 2 ^ 16
+padding_fits c = omega arith
+
+count_fits : (c : goal.In_ok-read_u32_le-2) → c.in_ok-read_u32_le-2.field-0 < 2 ^ 32
+count_fits c = omega arith
 
 pub returns : goal.returns
 returns c = record {
@@ -87,6 +99,6 @@ returns c = record {
       (to_le_bytes w32 c.in_ok-read_u32_le-2.field-0) c.in_ok-read_u8.field-0 c.in_ok-read_u8-2.field-0
       c.in_ok-read_u64_le.ensures.ok c.in_ok-read_u32_le.ensures.ok c.in_ok-read_u8.ensures.ok c.in_ok-read_u8-2.ensures.ok c.in_ok-read_u16_le.ensures.ok
       c.in_ok-read_u32_le-2.ensures.ok;
-  fits = grind arith;
+  fits = record { state_fits = state_fits c; size_fits = size_fits c; padding_fits = padding_fits c; count_fits = count_fits c };
   short = tt;
 }
