@@ -1,12 +1,8 @@
 use Rattle.std.proofs.Common.{◌≡◌, ◌<◌, ◌^◌, [], ◌∙◌, ℕ, List, length, refl, ap, arith}
 use Rattle.std.proofs.lemmas.Result.{IfOk-from_err}
 use Rattle.std.specs.Int.{w16, w32, w64, to_le_bytes}
-use Rattle.sketch_base.proofs.Exits.{at_error}
-use Rattle.sketch_req.proofs.LevelFronts.{below_twenty, ends_soon, longer_8, longer_16, longer_32, longer_64, six_read}
+use Rattle.sketch_req.proofs.LevelFronts.{as_short, short_of_fifth, short_of_first, short_of_fourth, short_of_last, short_of_second, short_of_third, six_read}
 use Rattle.sketch_req.proofs.compactor.image.read_front.Goals as goal
-
-empty_short : {text : List ℕ} → text ≡ [] → length text < 1
-empty_short e = omega (arith, ap length e)
 
 pub returns-in_err-read_u64_le : goal.returns-in_err-read_u64_le
 returns-in_err-read_u64_le c =
@@ -14,8 +10,7 @@ returns-in_err-read_u64_le c =
     record {
       found = IfOk-from_err c.from_residual.result _ e.0;
       fits = IfOk-from_err c.from_residual.result _ e.0;
-      short = let few = c.in_err-read_u64_le.ensures.short in
-          at_error c.from_residual.result _ e.1 (λ _ is. (is ∙ c.in_err-read_u64_le.ensures.kind, below_twenty 8 few refl));
+      short = as_short c.from_residual.result e.1 c.in_err-read_u64_le.ensures.kind (short_of_first c.args.input.now c.in_err-read_u64_le.ensures.short);
     }
 
 pub returns-in_err-read_u32_le : goal.returns-in_err-read_u32_le
@@ -24,8 +19,7 @@ returns-in_err-read_u32_le c =
     record {
       found = IfOk-from_err c.from_residual-in_err-read_u32_le.result _ e.0;
       fits = IfOk-from_err c.from_residual-in_err-read_u32_le.result _ e.0;
-      short = let few = (ends_soon 4 8 (longer_64 c.in_ok-read_u64_le.field-0 c.args.input.now c.read_u64_le.new.self c.in_ok-read_u64_le.ensures.ok) c.in_err-read_u32_le.ensures.short) in
-          at_error c.from_residual-in_err-read_u32_le.result _ e.1 (λ _ is. (is ∙ c.in_err-read_u32_le.ensures.kind, below_twenty 12 few refl));
+      short = as_short c.from_residual-in_err-read_u32_le.result e.1 c.in_err-read_u32_le.ensures.kind (short_of_second c.in_ok-read_u64_le.field-0 c.in_ok-read_u64_le.ensures.ok c.in_err-read_u32_le.ensures.short);
     }
 
 pub returns-in_err-read_u8 : goal.returns-in_err-read_u8
@@ -34,10 +28,7 @@ returns-in_err-read_u8 c =
     record {
       found = IfOk-from_err c.from_residual-in_err-read_u8.result _ e.0;
       fits = IfOk-from_err c.from_residual-in_err-read_u8.result _ e.0;
-      short = let few = (ends_soon 5 8 (longer_64 c.in_ok-read_u64_le.field-0 c.args.input.now c.read_u64_le.new.self c.in_ok-read_u64_le.ensures.ok)
-          (ends_soon 1 4 (longer_32 c.in_ok-read_u32_le.field-0 c.read_u64_le.new.self c.read_u32_le.new.self c.in_ok-read_u32_le.ensures.ok)
-          (empty_short c.in_err-read_u8.ensures.short))) in
-          at_error c.from_residual-in_err-read_u8.result _ e.1 (λ _ is. (is ∙ c.in_err-read_u8.ensures.kind, below_twenty 13 few refl));
+      short = as_short c.from_residual-in_err-read_u8.result e.1 c.in_err-read_u8.ensures.kind (short_of_third c.in_ok-read_u64_le.field-0 c.in_ok-read_u32_le.field-0 c.in_ok-read_u64_le.ensures.ok c.in_ok-read_u32_le.ensures.ok c.in_err-read_u8.ensures.short);
     }
 
 pub returns-in_err-read_u8-2 : goal.returns-in_err-read_u8-2
@@ -46,11 +37,8 @@ returns-in_err-read_u8-2 c =
     record {
       found = IfOk-from_err c.from_residual-in_err-read_u8-2.result _ e.0;
       fits = IfOk-from_err c.from_residual-in_err-read_u8-2.result _ e.0;
-      short = let few = (ends_soon 6 8 (longer_64 c.in_ok-read_u64_le.field-0 c.args.input.now c.read_u64_le.new.self c.in_ok-read_u64_le.ensures.ok)
-          (ends_soon 2 4 (longer_32 c.in_ok-read_u32_le.field-0 c.read_u64_le.new.self c.read_u32_le.new.self c.in_ok-read_u32_le.ensures.ok)
-          (ends_soon 1 1 (longer_8 c.in_ok-read_u8.field-0 c.read_u32_le.new.self c.read_u8.new.self c.in_ok-read_u8.ensures.ok)
-          (empty_short c.in_err-read_u8-2.ensures.short)))) in
-          at_error c.from_residual-in_err-read_u8-2.result _ e.1 (λ _ is. (is ∙ c.in_err-read_u8-2.ensures.kind, below_twenty 14 few refl));
+      short = as_short c.from_residual-in_err-read_u8-2.result e.1 c.in_err-read_u8-2.ensures.kind (short_of_fourth c.in_ok-read_u64_le.field-0 c.in_ok-read_u32_le.field-0 c.in_ok-read_u8.field-0
+          c.in_ok-read_u64_le.ensures.ok c.in_ok-read_u32_le.ensures.ok c.in_ok-read_u8.ensures.ok c.in_err-read_u8-2.ensures.short);
     }
 
 pub returns-in_err-read_u16_le : goal.returns-in_err-read_u16_le
@@ -59,11 +47,8 @@ returns-in_err-read_u16_le c =
     record {
       found = IfOk-from_err c.from_residual-in_err-read_u16_le.result _ e.0;
       fits = IfOk-from_err c.from_residual-in_err-read_u16_le.result _ e.0;
-      short = let few = (ends_soon 8 8 (longer_64 c.in_ok-read_u64_le.field-0 c.args.input.now c.read_u64_le.new.self c.in_ok-read_u64_le.ensures.ok)
-          (ends_soon 4 4 (longer_32 c.in_ok-read_u32_le.field-0 c.read_u64_le.new.self c.read_u32_le.new.self c.in_ok-read_u32_le.ensures.ok)
-          (ends_soon 3 1 (longer_8 c.in_ok-read_u8.field-0 c.read_u32_le.new.self c.read_u8.new.self c.in_ok-read_u8.ensures.ok)
-          (ends_soon 2 1 (longer_8 c.in_ok-read_u8-2.field-0 c.read_u8.new.self c.read_u8-2.new.self c.in_ok-read_u8-2.ensures.ok) c.in_err-read_u16_le.ensures.short)))) in
-          at_error c.from_residual-in_err-read_u16_le.result _ e.1 (λ _ is. (is ∙ c.in_err-read_u16_le.ensures.kind, below_twenty 16 few refl));
+      short = as_short c.from_residual-in_err-read_u16_le.result e.1 c.in_err-read_u16_le.ensures.kind (short_of_fifth c.in_ok-read_u64_le.field-0 c.in_ok-read_u32_le.field-0 c.in_ok-read_u8.field-0 c.in_ok-read_u8-2.field-0
+          c.in_ok-read_u64_le.ensures.ok c.in_ok-read_u32_le.ensures.ok c.in_ok-read_u8.ensures.ok c.in_ok-read_u8-2.ensures.ok c.in_err-read_u16_le.ensures.short);
     }
 
 pub returns-in_err-read_u32_le-2 : goal.returns-in_err-read_u32_le-2
@@ -72,12 +57,8 @@ returns-in_err-read_u32_le-2 c =
     record {
       found = IfOk-from_err c.from_residual-in_err-read_u32_le-2.result _ e.0;
       fits = IfOk-from_err c.from_residual-in_err-read_u32_le-2.result _ e.0;
-      short = let few = (ends_soon 12 8 (longer_64 c.in_ok-read_u64_le.field-0 c.args.input.now c.read_u64_le.new.self c.in_ok-read_u64_le.ensures.ok)
-          (ends_soon 8 4 (longer_32 c.in_ok-read_u32_le.field-0 c.read_u64_le.new.self c.read_u32_le.new.self c.in_ok-read_u32_le.ensures.ok)
-          (ends_soon 7 1 (longer_8 c.in_ok-read_u8.field-0 c.read_u32_le.new.self c.read_u8.new.self c.in_ok-read_u8.ensures.ok)
-          (ends_soon 6 1 (longer_8 c.in_ok-read_u8-2.field-0 c.read_u8.new.self c.read_u8-2.new.self c.in_ok-read_u8-2.ensures.ok)
-          (ends_soon 4 2 (longer_16 c.in_ok-read_u16_le.field-0 c.read_u8-2.new.self c.read_u16_le.new.self c.in_ok-read_u16_le.ensures.ok) c.in_err-read_u32_le-2.ensures.short))))) in
-          at_error c.from_residual-in_err-read_u32_le-2.result _ e.1 (λ _ is. (is ∙ c.in_err-read_u32_le-2.ensures.kind, below_twenty 20 few refl));
+      short = as_short c.from_residual-in_err-read_u32_le-2.result e.1 c.in_err-read_u32_le-2.ensures.kind (short_of_last c.in_ok-read_u64_le.field-0 c.in_ok-read_u32_le.field-0 c.in_ok-read_u8.field-0 c.in_ok-read_u8-2.field-0 c.in_ok-read_u16_le.field-0
+          c.in_ok-read_u64_le.ensures.ok c.in_ok-read_u32_le.ensures.ok c.in_ok-read_u8.ensures.ok c.in_ok-read_u8-2.ensures.ok c.in_ok-read_u16_le.ensures.ok c.in_err-read_u32_le-2.ensures.short);
     }
 
 state_fits : (c : goal.In_ok-read_u32_le-2) → c.in_ok-read_u64_le.field-0 < 2 ^ 64
