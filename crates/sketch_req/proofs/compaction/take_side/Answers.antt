@@ -1,12 +1,11 @@
-use Rattle.std.proofs.Common.{◌≡◌, ℕ, ◌-◌, ◌*◌, ◌%◌, ◌≤◌, vec_capacity, List, ◌++◌, length, take, drop, reverse, sym, ap, subst, ◌∙◌, not, arith, take_at, length-take}
-use Rattle.std.proofs.lemmas.Grind.{common_steps}
-use Rattle.std.proofs.lemmas.List.{reverse-reverse}
+use Rattle.std.proofs.Common.{◌≡◌, ℕ, ◌-◌, ◌*◌, ◌%◌, ◌≤◌, vec_capacity, List, ◌++◌, length, take, drop, reverse, sym, ap, subst, ◌∙◌, not, arith, take_at, length-append, length-drop, length-take}
+use Rattle.std.proofs.lemmas.List.{length-reverse, reverse-reverse}
 use Rattle.sketch_base.specs.Bag.{half}
 use Rattle.sketch_base.proofs.MovedHalves.{half_reverse}
 use Rattle.sketch_req.specs.Level.{side_kept, side_taken}
 use Rattle.sketch_req.specs.declared.RankAccuracy.{RankAccuracy}
+use Rattle.sketch_req.proofs.Equations.{same_back, same_items, same_number}
 use Rattle.sketch_req.proofs.TakenParts.{moved_behind}
-use Rattle.sketch_req.proofs.Equations.{same_items, same_number}
 use Rattle.sketch_req.proofs.compaction.take_side.Goals.{After-move_behind}
 use Rattle.sketch_req.proofs.compaction.take_side.Goals as goal
 use Rattle.sketch_req.proofs.compaction.take_side.Goals.at as past
@@ -17,6 +16,15 @@ changed : (g : _) (c : After-move_behind g) → take c.args.items.now.len (c.mov
 changed g c =
     same_items (take_at c.move_behind.new.items _ c.args.items.now.len (same_number c.move_behind.auto.items c.deref_mut.ensures.len))
     (same_items c.move_behind.ensures (ap (λ (xs : List g.row.T.Denot). drop c.args.count xs ++ reverse (take c.args.count xs)) c.deref_mut.ensures.value))
+
+turned_count : {A : Type 0} (n : ℕ) (xs : List A) → length (drop n xs ++ reverse (take n xs)) ≡ length xs
+turned_count n xs = omega (arith, length-append (drop n xs) (reverse (take n xs)), length-reverse (take n xs), length-drop n xs, length-take n xs)
+
+changed-count : (g : _) (c : After-move_behind g) → length (take c.args.items.now.len (c.move_behind.new.items ++ drop (length c.move_behind.new.items) c.args.items.now.items)) ≡ c.len.result
+changed-count g c = same_back (same_number (ap length (changed g c)) (turned_count c.args.count c.args.items.now.items)) (same_number c.len.ensures c.args.items.now.ok.0)
+
+behind_is : {l m n : ℕ} (count : ℕ) → m ≡ l → l ≡ n → count ≤ n → m - (l - count) ≡ count
+behind_is count same e l = omega (arith, same, e, l)
 
 pub move_half-requires-clause-empty : goal.move_half-requires-clause-empty
 move_half-requires-clause-empty g c = c.requires.empty
@@ -44,13 +52,17 @@ move_half-requires-in-LowRank-clause-room g c =
     (sym (taken_is c.args.count (same_number c.len.ensures c.args.items.now.ok.0) c.requires.within)) c.requires.room
 
 pub move_half-requires-clause-within : goal.move_half-requires-clause-within
-move_half-requires-clause-within g c = grind (arith, common_steps)
+move_half-requires-clause-within g c = kept_within c.args.count (sym (changed-count g (past.move_half-requires-clause-within g c).After-move_behind))
 
 pub move_half-requires-clause-even : goal.move_half-requires-clause-even
-move_half-requires-clause-even g c = grind (arith, common_steps)
+move_half-requires-clause-even g c =
+    subst (λ (n : ℕ). n % 2 ≡ 0)
+    (sym (behind_is c.args.count (changed-count g (past.move_half-requires-clause-even g c).After-move_behind) (same_number c.len.ensures c.args.items.now.ok.0) c.requires.within)) c.requires.even
 
 pub move_half-requires-clause-room : goal.move_half-requires-clause-room
-move_half-requires-clause-room g c = grind (arith, common_steps)
+move_half-requires-clause-room g c =
+    subst (λ (n : ℕ). n ≤ 2 * vec_capacity c.args.out.now)
+    (sym (behind_is c.args.count (changed-count g (past.move_half-requires-clause-room g c).After-move_behind) (same_number c.len.ensures c.args.items.now.ok.0) c.requires.within)) c.requires.room
 
 pub returns-in-HighRank : goal.returns-in-HighRank
 returns-in-HighRank g c =
