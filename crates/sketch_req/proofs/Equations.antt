@@ -15,12 +15,6 @@ same_flag e f = e ∙ f
 pub same_items : {A : Type 0} {xs ys zs : List A} → xs ≡ ys → ys ≡ zs → xs ≡ zs
 same_items e f = e ∙ f
 
-pub same_count : {A : Type 0} {xs ys : List A} {n : ℕ} → n ≡ length xs → xs ≡ ys → n ≡ length ys
-same_count e f = e ∙ ap length f
-
-pub same_length : {A : Type 0} {xs ys : List A} {n m : ℕ} → n ≡ length xs → xs ≡ ys → m ≡ length ys → n ≡ m
-same_length e f g = e ∙ ap length f ∙ sym g
-
 -- a flag that is both
 pub not_both : {P : Type 0} {b : Bool} → b ≡ true → b ≡ false → P
 not_both on off = absurd (false≢true (sym off ∙ on))

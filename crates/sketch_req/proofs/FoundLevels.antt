@@ -5,10 +5,10 @@ use Rattle.sketch_req.specs.Fronts.{IsFront}
 use Rattle.sketch_req.specs.Level.{Level, fresh}
 use Rattle.sketch_req.specs.LevelImage.{Place, BeginsLevel, front_text}
 use Rattle.sketch_req.specs.Sections.{IsLegalLayout, IsLegalState, IsReached, sections_of, size_of}
-use Rattle.sketch_req.specs.Stored.{IsStored, level_of}
+use Rattle.sketch_req.specs.Stored.{IsStored}
 use Rattle.sketch_req.specs.declared.RankAccuracy.{RankAccuracy}
 use Rattle.sketch_req.specs.declared.compactor.image.Front.{Front}
-use Rattle.sketch_req.proofs.LevelImages.{level_read, read_found}
+use Rattle.sketch_req.proofs.LevelImages.{read_found}
 use Rattle.sketch_req.proofs.Sections.{doublings_known}
 
 filled_new : {A : Type 0} {start filled made : Level A} {xs : List A} {flag : Bool} {lg_weight k : ℕ} {accuracy : RankAccuracy} → start ≡ filled → made ≡ fresh [] true lg_weight k accuracy →

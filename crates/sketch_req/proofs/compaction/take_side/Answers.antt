@@ -1,4 +1,4 @@
-use Rattle.std.proofs.Common.{◌≡◌, ℕ, ◌-◌, ◌*◌, ◌%◌, ◌≤◌, vec_capacity, List, ◌++◌, length, take, drop, reverse, sym, ap, subst, ◌∙◌, not, arith, take_at, length-append, length-drop, length-take}
+use Rattle.std.proofs.Common.{◌≡◌, ℕ, ◌-◌, ◌*◌, ◌%◌, ◌≤◌, vec_capacity, List, ◌++◌, length, take, drop, reverse, sym, ap, subst, not, arith, take_at, length-append, length-drop, length-take}
 use Rattle.std.proofs.lemmas.List.{length-reverse, reverse-reverse}
 use Rattle.sketch_base.specs.Bag.{half}
 use Rattle.sketch_base.proofs.MovedHalves.{half_reverse}

@@ -1,4 +1,4 @@
-use Rattle.std.proofs.Common.{◌∙◌, List, ◌++◌, take, take_all, ap, subst, arith}
+use Rattle.std.proofs.Common.{List, ◌++◌, take, take_all, ap, subst, arith}
 use Rattle.std.proofs.lemmas.Grind.{common_steps}
 use Rattle.std.proofs.lemmas.Result.{IfOk-from_err}
 use Rattle.sketch_base.specs.Spelling.{AllSpelled, items_text}

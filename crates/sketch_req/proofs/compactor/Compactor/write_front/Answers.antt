@@ -1,8 +1,6 @@
 use Rattle.std.specs.Int.{w16, w32, w64, to_le_bytes}
-use Rattle.std.proofs.Common.{◌∷◌, [], ◌≡◌, ◌++◌, ◌∙◌, refl, ap}
+use Rattle.std.proofs.Common.{◌∷◌, [], refl}
 use Rattle.std.proofs.lemmas.Result.{IfErr-weaker, IfOk-from_err, IfOk-weaker}
-use Rattle.sketch_req.specs.declared.compactor.image.Front.{Front}
-use Rattle.sketch_req.specs.LevelImage.{front_text, front_of}
 use Rattle.sketch_base.proofs.Exits.{on_error, only_error}
 use Rattle.sketch_req.proofs.LevelFronts.{as_extended, extended, front_written, not_extended}
 use Rattle.sketch_req.proofs.compactor.Compactor.write_front.Goals as goal

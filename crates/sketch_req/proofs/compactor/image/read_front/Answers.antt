@@ -1,4 +1,4 @@
-use Rattle.std.proofs.Common.{◌≡◌, ◌<◌, ◌^◌, [], ◌∙◌, ℕ, List, length, refl, ap, arith}
+use Rattle.std.proofs.Common.{◌<◌, ◌^◌, arith}
 use Rattle.std.proofs.lemmas.Result.{IfOk-from_err}
 use Rattle.std.specs.Int.{w16, w32, w64, to_le_bytes}
 use Rattle.sketch_req.proofs.LevelFronts.{as_short, short_of_fifth, short_of_first, short_of_fourth, short_of_last, short_of_second, short_of_third, six_read}
