@@ -11,14 +11,19 @@ use Rattle.sketch_req.specs.declared.compactor.image.Front.{Front}
 use Rattle.sketch_req.proofs.LevelImages.{read_found}
 use Rattle.sketch_req.proofs.Sections.{doublings_known}
 
-filled_new : {A : Type 0} {start filled made : Level A} {xs : List A} {flag : Bool} {lg_weight k : ℕ} {accuracy : RankAccuracy} → start ≡ filled → made ≡ fresh [] true lg_weight k accuracy →
+filled_new : {A : Type 0} {start filled made : Level A} {xs : List A} {flag : Bool} {lg_weight k : ℕ} {accuracy : RankAccuracy} → start ≡ filled →
+    made ≡ fresh [] true lg_weight k accuracy →
     filled ≡ record made { items = xs; is_sorted = flag } → start ≡ fresh xs flag lg_weight k accuracy
-filled_new {A} {xs = xs} {flag} same made_is filled_is = same ∙ filled_is ∙ ap (λ (l : Level A). let m : Level A = record l { items = xs; is_sorted = flag } in m) made_is
+filled_new {A} {xs = xs} {flag} same made_is filled_is = same ∙ filled_is ∙ ap
+    (λ (l : Level A). let m : Level A = record l { items = xs; is_sorted = flag } in m) made_is
 
 -- what is then known of it
-pub read_stored : {A : Type 0} {cmp : A → A → Ordering} {start : Level A} {size len section_size num_sections lg_weight k doublings : ℕ} {xs : List A} {flag : Bool} {accuracy : RankAccuracy} (state : ℕ) {filled made : Level A} →
-    IsStored cmp start size len → start ≡ filled → made ≡ fresh [] true lg_weight k accuracy → filled ≡ record made { items = xs; is_sorted = flag } → IsLegalLayout k state section_size num_sections →
-    ((j : ℕ) → j ≤ 5 → num_sections ≡ sections_of j → doublings ≡ j) → state < 2 ^ 64 → IsStored cmp (record start { state = state; doublings = doublings }) section_size len
+pub read_stored : {A : Type 0} {cmp : A → A → Ordering} {start : Level A} {size len section_size num_sections lg_weight k doublings : ℕ} {xs : List A}
+    {flag : Bool} {accuracy : RankAccuracy} (state : ℕ) {filled made : Level A} →
+    IsStored cmp start size len → start ≡ filled → made ≡ fresh [] true lg_weight k accuracy → filled ≡ record made { items = xs; is_sorted = flag } →
+    IsLegalLayout k state section_size num_sections →
+    ((j : ℕ) → j ≤ 5 → num_sections ≡ sections_of j → doublings ≡ j) → state < 2 ^ 64 →
+    IsStored cmp (record start { state = state; doublings = doublings }) section_size len
 read_stored {A} {section_size = section_size} state stored begun empty filled_is layout known fits =
     let made_is = filled_new begun empty filled_is in
     let same = known layout.doublings layout.few layout.sections in
@@ -42,8 +47,10 @@ read_stored {A} {section_size = section_size} state stored begun empty filled_is
     }
 
 -- the text begins with it
-pub read_begins : {A : Type 0} {cmp : A → A → Ordering} (spelling : A → Option (List ℕ)) (place : Place) {text after rest : List ℕ} (f : Front) {doublings : ℕ} {xs : List A} {flag : Bool}
-    {start filled made : Level A} → start ≡ filled → made ≡ fresh [] true f.lg_weight place.k place.accuracy → filled ≡ record made { items = xs; is_sorted = flag } → IsLegalState place.k place.lg_weight f.state f.section_size f.lg_weight f.num_sections →
+pub read_begins : {A : Type 0} {cmp : A → A → Ordering} (spelling : A → Option (List ℕ)) (place : Place) {text after rest : List ℕ} (f : Front)
+    {doublings : ℕ} {xs : List A} {flag : Bool}
+    {start filled made : Level A} → start ≡ filled → made ≡ fresh [] true f.lg_weight place.k place.accuracy →
+    filled ≡ record made { items = xs; is_sorted = flag } → IsLegalState place.k place.lg_weight f.state f.section_size f.lg_weight f.num_sections →
     ((j : ℕ) → j ≤ 5 → f.num_sections ≡ sections_of j → doublings ≡ j) → text ≡ front_text f ++ after → IsFront f → ReadsItems spelling after f.count xs rest →
     (flag ≡ true → (place.is_said_sorted ≡ true) × IsSorted cmp xs) → (place.is_said_sorted ≡ true → IsSorted cmp xs → flag ≡ true) →
     BeginsLevel cmp spelling place text (record start { state = f.state; doublings = doublings }) rest

@@ -20,8 +20,10 @@ changed g c =
 turned_count : {A : Type 0} (n : ℕ) (xs : List A) → length (drop n xs ++ reverse (take n xs)) ≡ length xs
 turned_count n xs = omega (arith, length-append (drop n xs) (reverse (take n xs)), length-reverse (take n xs), length-drop n xs, length-take n xs)
 
-changed-count : (g : _) (c : After-move_behind g) → length (take c.args.items.now.len (c.move_behind.new.items ++ drop (length c.move_behind.new.items) c.args.items.now.items)) ≡ c.len.result
-changed-count g c = same_back (same_number (ap length (changed g c)) (turned_count c.args.count c.args.items.now.items)) (same_number c.len.ensures c.args.items.now.ok.0)
+changed-count : (g : _) (c : After-move_behind g) →
+    length (take c.args.items.now.len (c.move_behind.new.items ++ drop (length c.move_behind.new.items) c.args.items.now.items)) ≡ c.len.result
+changed-count g c = same_back (same_number (ap length (changed g c)) (turned_count c.args.count c.args.items.now.items))
+    (same_number c.len.ensures c.args.items.now.ok.0)
 
 behind_is : {l m n : ℕ} (count : ℕ) → m ≡ l → l ≡ n → count ≤ n → m - (l - count) ≡ count
 behind_is count same e l = omega (arith, same, e, l)
@@ -57,12 +59,14 @@ move_half-requires-clause-within g c = kept_within c.args.count (sym (changed-co
 pub move_half-requires-clause-even : goal.move_half-requires-clause-even
 move_half-requires-clause-even g c =
     subst (λ (n : ℕ). n % 2 ≡ 0)
-    (sym (behind_is c.args.count (changed-count g (past.move_half-requires-clause-even g c).After-move_behind) (same_number c.len.ensures c.args.items.now.ok.0) c.requires.within)) c.requires.even
+    (sym (behind_is c.args.count (changed-count g (past.move_half-requires-clause-even g c).After-move_behind)
+    (same_number c.len.ensures c.args.items.now.ok.0) c.requires.within)) c.requires.even
 
 pub move_half-requires-clause-room : goal.move_half-requires-clause-room
 move_half-requires-clause-room g c =
     subst (λ (n : ℕ). n ≤ 2 * vec_capacity c.args.out.now)
-    (sym (behind_is c.args.count (changed-count g (past.move_half-requires-clause-room g c).After-move_behind) (same_number c.len.ensures c.args.items.now.ok.0) c.requires.within)) c.requires.room
+    (sym (behind_is c.args.count (changed-count g (past.move_half-requires-clause-room g c).After-move_behind)
+    (same_number c.len.ensures c.args.items.now.ok.0) c.requires.within)) c.requires.room
 
 pub returns-in-HighRank : goal.returns-in-HighRank
 returns-in-HighRank g c =
@@ -90,6 +94,7 @@ returns-in-LowRank g c =
       kept = subst (λ (a : RankAccuracy). c.move_half-in-LowRank.new.items.items ≡ side_kept a count xs) (sym c.in-LowRank.is)
           (same_items c.move_half-in-LowRank.ensures.kept (ap (λ (m : ℕ). take (m - count) xs) all));
       moved = subst (λ (a : RankAccuracy). c.reverse.new.self.items ≡ half c.args.odd (side_taken a count xs)) (sym c.in-LowRank.is)
-          (same_items c.reverse.ensures.items (same_items (sym c.move_half-in-LowRank.ensures.moved) (ap (λ (m : ℕ). half c.args.odd (drop (m - count) xs)) all)));
+          (same_items c.reverse.ensures.items (same_items (sym c.move_half-in-LowRank.ensures.moved)
+          (ap (λ (m : ℕ). half c.args.odd (drop (m - count) xs)) all)));
       capacity = same_number c.reverse.ensures.capacity c.move_half-in-LowRank.ensures.capacity;
     }

@@ -14,7 +14,8 @@ returns g c =
     let last = extended c.args.bytes.now (to_le_bytes w16 0) then c.in_ok-write_u16_le.ensures.ok in
     record {
       ok = IfOk-weaker c.write_u32_le-2.result _ _
-          (λ _ last. front_written c.args.bytes.now c.self.view_is c.section_size.ensures.value c.num_sections.ensures c.num_items.ensures c.in_ok-write_u64_le.ensures.ok c.in_ok-write_u32_le.ensures.ok
+          (λ _ last. front_written c.args.bytes.now c.self.view_is c.section_size.ensures.value c.num_sections.ensures c.num_items.ensures
+          c.in_ok-write_u64_le.ensures.ok c.in_ok-write_u32_le.ensures.ok
           c.in_ok-write.ensures.ok c.in_ok-write_u16_le.ensures.ok last) c.write_u32_le-2.ensures.ok;
       err = IfErr-weaker c.write_u32_le-2.result _ _ (λ _ same. as_extended c.args.bytes.now last same) c.write_u32_le-2.ensures.err;
       memory = c.write_u32_le-2.ensures.memory;

@@ -19,7 +19,8 @@ returns-in_err-read_u32_le c =
     record {
       found = IfOk-from_err c.from_residual-in_err-read_u32_le.result _ e.0;
       fits = IfOk-from_err c.from_residual-in_err-read_u32_le.result _ e.0;
-      short = as_short c.from_residual-in_err-read_u32_le.result e.1 c.in_err-read_u32_le.ensures.kind (short_of_second c.in_ok-read_u64_le.field-0 c.in_ok-read_u64_le.ensures.ok c.in_err-read_u32_le.ensures.short);
+      short = as_short c.from_residual-in_err-read_u32_le.result e.1 c.in_err-read_u32_le.ensures.kind
+          (short_of_second c.in_ok-read_u64_le.field-0 c.in_ok-read_u64_le.ensures.ok c.in_err-read_u32_le.ensures.short);
     }
 
 pub returns-in_err-read_u8 : goal.returns-in_err-read_u8
@@ -28,7 +29,9 @@ returns-in_err-read_u8 c =
     record {
       found = IfOk-from_err c.from_residual-in_err-read_u8.result _ e.0;
       fits = IfOk-from_err c.from_residual-in_err-read_u8.result _ e.0;
-      short = as_short c.from_residual-in_err-read_u8.result e.1 c.in_err-read_u8.ensures.kind (short_of_third c.in_ok-read_u64_le.field-0 c.in_ok-read_u32_le.field-0 c.in_ok-read_u64_le.ensures.ok c.in_ok-read_u32_le.ensures.ok c.in_err-read_u8.ensures.short);
+      short = as_short c.from_residual-in_err-read_u8.result e.1 c.in_err-read_u8.ensures.kind
+          (short_of_third c.in_ok-read_u64_le.field-0 c.in_ok-read_u32_le.field-0 c.in_ok-read_u64_le.ensures.ok c.in_ok-read_u32_le.ensures.ok
+          c.in_err-read_u8.ensures.short);
     }
 
 pub returns-in_err-read_u8-2 : goal.returns-in_err-read_u8-2
@@ -37,7 +40,8 @@ returns-in_err-read_u8-2 c =
     record {
       found = IfOk-from_err c.from_residual-in_err-read_u8-2.result _ e.0;
       fits = IfOk-from_err c.from_residual-in_err-read_u8-2.result _ e.0;
-      short = as_short c.from_residual-in_err-read_u8-2.result e.1 c.in_err-read_u8-2.ensures.kind (short_of_fourth c.in_ok-read_u64_le.field-0 c.in_ok-read_u32_le.field-0 c.in_ok-read_u8.field-0
+      short = as_short c.from_residual-in_err-read_u8-2.result e.1 c.in_err-read_u8-2.ensures.kind
+          (short_of_fourth c.in_ok-read_u64_le.field-0 c.in_ok-read_u32_le.field-0 c.in_ok-read_u8.field-0
           c.in_ok-read_u64_le.ensures.ok c.in_ok-read_u32_le.ensures.ok c.in_ok-read_u8.ensures.ok c.in_err-read_u8-2.ensures.short);
     }
 
@@ -47,8 +51,10 @@ returns-in_err-read_u16_le c =
     record {
       found = IfOk-from_err c.from_residual-in_err-read_u16_le.result _ e.0;
       fits = IfOk-from_err c.from_residual-in_err-read_u16_le.result _ e.0;
-      short = as_short c.from_residual-in_err-read_u16_le.result e.1 c.in_err-read_u16_le.ensures.kind (short_of_fifth c.in_ok-read_u64_le.field-0 c.in_ok-read_u32_le.field-0 c.in_ok-read_u8.field-0 c.in_ok-read_u8-2.field-0
-          c.in_ok-read_u64_le.ensures.ok c.in_ok-read_u32_le.ensures.ok c.in_ok-read_u8.ensures.ok c.in_ok-read_u8-2.ensures.ok c.in_err-read_u16_le.ensures.short);
+      short = as_short c.from_residual-in_err-read_u16_le.result e.1 c.in_err-read_u16_le.ensures.kind
+          (short_of_fifth c.in_ok-read_u64_le.field-0 c.in_ok-read_u32_le.field-0 c.in_ok-read_u8.field-0 c.in_ok-read_u8-2.field-0
+          c.in_ok-read_u64_le.ensures.ok c.in_ok-read_u32_le.ensures.ok c.in_ok-read_u8.ensures.ok c.in_ok-read_u8-2.ensures.ok
+          c.in_err-read_u16_le.ensures.short);
     }
 
 pub returns-in_err-read_u32_le-2 : goal.returns-in_err-read_u32_le-2
@@ -57,8 +63,10 @@ returns-in_err-read_u32_le-2 c =
     record {
       found = IfOk-from_err c.from_residual-in_err-read_u32_le-2.result _ e.0;
       fits = IfOk-from_err c.from_residual-in_err-read_u32_le-2.result _ e.0;
-      short = as_short c.from_residual-in_err-read_u32_le-2.result e.1 c.in_err-read_u32_le-2.ensures.kind (short_of_last c.in_ok-read_u64_le.field-0 c.in_ok-read_u32_le.field-0 c.in_ok-read_u8.field-0 c.in_ok-read_u8-2.field-0 c.in_ok-read_u16_le.field-0
-          c.in_ok-read_u64_le.ensures.ok c.in_ok-read_u32_le.ensures.ok c.in_ok-read_u8.ensures.ok c.in_ok-read_u8-2.ensures.ok c.in_ok-read_u16_le.ensures.ok c.in_err-read_u32_le-2.ensures.short);
+      short = as_short c.from_residual-in_err-read_u32_le-2.result e.1 c.in_err-read_u32_le-2.ensures.kind
+          (short_of_last c.in_ok-read_u64_le.field-0 c.in_ok-read_u32_le.field-0 c.in_ok-read_u8.field-0 c.in_ok-read_u8-2.field-0 c.in_ok-read_u16_le.field-0
+          c.in_ok-read_u64_le.ensures.ok c.in_ok-read_u32_le.ensures.ok c.in_ok-read_u8.ensures.ok c.in_ok-read_u8-2.ensures.ok c.in_ok-read_u16_le.ensures.ok
+          c.in_err-read_u32_le-2.ensures.short);
     }
 
 state_fits : (c : goal.In_ok-read_u32_le-2) → c.in_ok-read_u64_le.field-0 < 2 ^ 64
