@@ -1,0 +1,69 @@
+-- The counts of the slots when a command is counted: one slot's count is set, or all stay.
+use Rattle.std.proofs.Common.{◌≡◌, ℕ, ◌+◌, ◌<◌, ◌^◌, Bool, List, length, set, get_or, ◌⊎◌, inl, inr, sym, ap, ap₂, ◌∙◌, subst, arith, Fits, w64}
+use Rattle.std.specs.Prelude.{slice_index}
+use Rattle.std.proofs.lemmas.Bool.{cases_eq}
+use Rattle.std.proofs.lemmas.List.{get_or-set_same, get_or-set_other}
+use Rattle.sketch_base.specs.Trace.{changed}
+use Rattle.sketch_base.proofs.Changes.{changed-there, changed-other}
+use Rattle.quantile_sketches.specs.declared.audit.commands.Command.{Command}
+use Rattle.quantile_sketches.specs.declared.audit.commands.Command.TheVariants.{New, Merge, Reset, RoundTrip, Redraw, MergeRedrawn}
+use Rattle.quantile_sketches.specs.Audit.{counts_after, HasFewSlots}
+
+set-changes : (counts : List ℕ) (slot value : ℕ) → slot < length counts → (q : ℕ) → slice_index (set counts slot value) q ≡ changed (slice_index counts) slot value q
+set-changes counts slot value inside q =
+    elim (cases_eq q slot) [
+      | inl e ↦
+          ap (λ (k : ℕ). slice_index (set counts slot value) k) e
+          ∙ (get_or-set_same counts slot value 0 inside ∙ sym (ap (changed (slice_index counts) slot value) e ∙ changed-there (slice_index counts) slot value))
+      | inr ne ↦ get_or-set_other counts slot q value 0 ne ∙ sym (changed-other (slice_index counts) slot value q ne)
+    ]
+
+-- the slot's count is set, at an index that is the slot
+module _ {A C : Type 0} (test : A → Bool) (command : Command A C) (counts : List ℕ) (slot value : ℕ) {at new : ℕ}
+    (sets : counts_after test command (slice_index counts) ≡ changed (slice_index counts) slot value) (here : at ≡ slot) (is : new ≡ value) where
+  pub set-fits : ((q : ℕ) → counts_after test command (slice_index counts) q < 2 ^ 64) → Fits w64 new
+  set-fits fits = record {
+    fits = subst (λ (n : ℕ). n < 2 ^ 64) (ap (λ (f : ℕ → ℕ). f slot) sets ∙ (changed-there (slice_index counts) slot value ∙ sym is)) (fits slot);
+  }
+
+  pub set-counted : length counts ≡ 256 → slot < 256 → (q : ℕ) → q < 256 → slice_index (set counts at new) q ≡ counts_after test command (slice_index counts) q
+  set-counted long few q inside =
+      ap₂ (λ (k n : ℕ). slice_index (set counts k n) q) here is
+      ∙ (set-changes counts slot value (omega (arith, long, few)) q ∙ sym (ap (λ (f : ℕ → ℕ). f q) sets))
+
+-- what an item adds to its slot
+pub added : (counts : List ℕ) (slot more : ℕ) {at weight : ℕ} → at ≡ slot → weight ≡ more → get_or counts at 0 + weight ≡ slice_index counts slot + more
+added counts slot more here is = ap₂ (λ (n m : ℕ). n + m) (ap (slice_index counts) here) is
+
+-- which commands empty a slot, join two or change no stream
+module _ {A C : Type 0} {command : Command A C} where
+  pub emptied-after : (test : A → Bool) (counts : ℕ → ℕ) {slot : ℕ} → ((config : C) × (command ≡ New slot config)) ⊎ (command ≡ Reset slot) →
+      counts_after test command counts ≡ changed counts slot 0
+  emptied-after test counts (inl (config, is)) = ap (λ (one : Command A C). counts_after test one counts) is
+  emptied-after test counts (inr is) = ap (λ (one : Command A C). counts_after test one counts) is
+
+  pub emptied-few : {slot : ℕ} → ((config : C) × (command ≡ New slot config)) ⊎ (command ≡ Reset slot) → slot < 256 → HasFewSlots command
+  emptied-few (inl (config, is)) few = subst (λ (one : Command A C). HasFewSlots one) (sym is) few
+  emptied-few (inr is) few = subst (λ (one : Command A C). HasFewSlots one) (sym is) few
+
+  pub joined-after : (test : A → Bool) (counts : ℕ → ℕ) {into source : ℕ} → (command ≡ Merge into source) ⊎ (command ≡ MergeRedrawn into source) →
+      counts_after test command counts ≡ changed counts into (counts into + counts source)
+  joined-after test counts (inl is) = ap (λ (one : Command A C). counts_after test one counts) is
+  joined-after test counts (inr is) = ap (λ (one : Command A C). counts_after test one counts) is
+
+  pub joined-few : {into source : ℕ} → (command ≡ Merge into source) ⊎ (command ≡ MergeRedrawn into source) → into < 256 → source < 256 → HasFewSlots command
+  joined-few (inl is) few all = subst (λ (one : Command A C). HasFewSlots one) (sym is) (few, all)
+  joined-few (inr is) few all = subst (λ (one : Command A C). HasFewSlots one) (sym is) (few, all)
+
+  pub kept-after : (test : A → Bool) (counts : ℕ → ℕ) → ((slot : ℕ) × (command ≡ RoundTrip slot)) ⊎ ((slot : ℕ) × (command ≡ Redraw slot)) →
+      counts_after test command counts ≡ counts
+  kept-after test counts (inl (slot, is)) = ap (λ (one : Command A C). counts_after test one counts) is
+  kept-after test counts (inr (slot, is)) = ap (λ (one : Command A C). counts_after test one counts) is
+
+  pub kept-few : ((slot : ℕ) × (command ≡ RoundTrip slot)) ⊎ ((slot : ℕ) × (command ≡ Redraw slot)) → HasFewSlots command
+  kept-few (inl (slot, is)) = subst (λ (one : Command A C). HasFewSlots one) (sym is) tt
+  kept-few (inr (slot, is)) = subst (λ (one : Command A C). HasFewSlots one) (sym is) tt
+
+-- an index of a slot
+pub within : (counts : List ℕ) {slot at : ℕ} → at ≡ slot → slot < 256 → length counts ≡ 256 → at < length counts
+within counts here few long = omega (arith, here, few, long)
