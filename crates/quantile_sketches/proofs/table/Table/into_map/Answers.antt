@@ -1,38 +1,42 @@
-use Rattle.std.proofs.Common.{◌<◌, length, sym, ap, ◌∙◌, le_refl, arith}
-use Rattle.std.proofs.lemmas.Grind.{common_steps}
+use Rattle.std.proofs.Common.{refl, sym, le_refl, ◌∙◌}
+use Rattle.std.proofs.lemmas.Result.{IfOk-from_err}
 use Rattle.quantile_sketches.specs.Outcome.{sketch_at}
-use Rattle.quantile_sketches.proofs.Slots.{within_all, moved-on, not-at}
+use Rattle.quantile_sketches.proofs.Slots.{within_all, none-moved, moved-one, all-moved}
 use Rattle.quantile_sketches.proofs.table.Table.into_map.Goals.{in-Some+in_ok-insert+in-Some-1, in-Some+in_ok-insert+in-None-1, in_default}
 use Rattle.quantile_sketches.proofs.table.Table.into_map.Goals as goal
 
 pub loop-slot-preserved : goal.loop-slot-preserved
 loop-slot-preserved g c =
-    let inside : c.loop-slot.slot < length c.loop-slot.slots.items =
-    within_all c.loop-slot.slots c.loop-slot.slot c.loop-slot.invariant.0 c.loop-slot-test.true in
-    let on = moved-on c.args.self c.loop-slot.slots.items c.loop-slot.slot (sketch_at c.loop-slot.map) (sketch_at c.match-take.map) c.index_mut.result.now
-    c.take.new.self
-    c.loop-slot.invariant.1 inside c.index_mut.ensures.value in
+    let l = c.loop-slot in
+    let was = c.index_mut.result.now in
+    let inside = within_all l.slots l.slot l.invariant.0 c.loop-slot-test.true in
     elim c.match-take.branch [
       | in-Some+in_ok-insert+in-Some-1 w ↦ (
-        c.loop-slot.invariant.0,
-        on (ap (λ map. sketch_at map c.loop-slot.slot) w.map-is ∙ w.in_ok-insert.ensures.updates.1 ∙ sym w.in-Some.is ∙ c.take.ensures.value)
-            (λ q ne. ap (λ map. sketch_at map q) w.map-is ∙ w.in_ok-insert.ensures.updates.2 q (not-at c.loop-slot.slot q ne)),
+        l.invariant.0,
+        moved-one c.args.self l.slots.items l.slot l.map _ c.match-take.map was c.take.new.self _ l.invariant.1 inside c.index_mut.ensures.value w.map-is
+            w.in_ok-insert.ensures.updates.1 (sym w.in-Some.is ∙ c.take.ensures.value) w.in_ok-insert.ensures.updates.2,
       )
       | in-Some+in_ok-insert+in-None-1 w ↦ (
-        c.loop-slot.invariant.0,
-        on (ap (λ map. sketch_at map c.loop-slot.slot) w.map-is ∙ w.in_ok-insert.ensures.updates.1 ∙ sym w.in-Some.is ∙ c.take.ensures.value)
-            (λ q ne. ap (λ map. sketch_at map q) w.map-is ∙ w.in_ok-insert.ensures.updates.2 q (not-at c.loop-slot.slot q ne)),
+        l.invariant.0,
+        moved-one c.args.self l.slots.items l.slot l.map _ c.match-take.map was c.take.new.self _ l.invariant.1 inside c.index_mut.ensures.value w.map-is
+            w.in_ok-insert.ensures.updates.1 (sym w.in-Some.is ∙ c.take.ensures.value) w.in_ok-insert.ensures.updates.2,
       )
       | in_default w ↦ (
-        c.loop-slot.invariant.0,
-        on (ap (λ map. sketch_at map c.loop-slot.slot) w.map-is ∙ c.loop-slot.invariant.1.none c.loop-slot.slot (le_refl _) ∙ sym w.in_default.is
-            ∙ c.take.ensures.value)
-            (λ q ne. ap (λ map. sketch_at map q) w.map-is),
+        l.invariant.0,
+        moved-one c.args.self l.slots.items l.slot l.map l.map c.match-take.map was c.take.new.self _ l.invariant.1 inside c.index_mut.ensures.value w.map-is
+            (l.invariant.1.none l.slot (le_refl _)) (sym w.in_default.is ∙ c.take.ensures.value) (λ q ne. refl),
       )
     ]
 
-pub returns : goal.returns
-returns g c = grind (arith, common_steps)
-
 pub loop-slot-init : goal.loop-slot-init
-loop-slot-init g c = grind (arith, common_steps)
+loop-slot-init g c = (c.self.invariant, none-moved c.args.self c.self.inside.slots.items c.new-map.result c.new-map.ensures.empty c.self.view_is)
+
+pub returns : goal.returns
+returns g c =
+    all-moved c.args.self c.loop-slot.slots c.loop-slot.slot (sketch_at c.loop-slot.map) c.loop-slot.invariant.0 c.loop-slot.invariant.1 c.loop-slot-test.false
+
+pub returns-in_err-insert : goal.returns-in_err-insert
+returns-in_err-insert g c = IfOk-from_err c.from_residual.result _ c.from_residual.ensures.0
+
+pub overflow_cast-slot : goal.overflow_cast-slot
+overflow_cast-slot g c = record { fits = c.loop-slot-test.true }

@@ -1,10 +1,11 @@
-use Rattle.std.proofs.Common.{ℤ, SFits, Ok, Err, None, Some, set, refl, ap, subst, ◌∙◌, arith}
+use Rattle.std.proofs.Common.{ℤ, SFits, Ok, Err, None, Some, refl, ap, subst, ◌∙◌, arith}
 use Rattle.std.specs.Int.{w64}
 use Rattle.std.proofs.lemmas.Int.{to_z-of_z}
 use Rattle.quantile_sketches.specs.declared.answer.Answer.TheVariants.{Item}
 use Rattle.quantile_sketches.specs.declared.answer.Refusal.TheVariants.{Sketch}
-use Rattle.quantile_sketches.specs.LineWords.{words}
-use Rattle.quantile_sketches.proofs.Slots.{slot_held, error_is, executed_as, replied-error}
+use Rattle.quantile_sketches.specs.LineSteps.{ReadsImage}
+use Rattle.quantile_sketches.specs.LineWords.{words, image_in}
+use Rattle.quantile_sketches.proofs.Slots.{slot_made, slot_fits, error_is, executed_as, replied-error}
 use Rattle.quantile_sketches.proofs.table.Table.reply.Goals as goal
 
 pub returns-in_err-load-in-Load : goal.returns-in_err-load-in-Load
@@ -17,10 +18,10 @@ returns-in_err-load-in-Load g c =
 
 pub returns-in_ok-load-in-Load : goal.returns-in_ok-load-in-Load
 returns-in_ok-load-in-Load g c =
-    let held = slot_held c.self.inside.slots _ c.in-Load.slot _ c.self.invariant c.self.view_is (omega arith) c.index_mut.ensures.value in
-    let same = ap (λ slots. set slots c.in-Load.slot (Some c.in_ok-load-in-Load.field-0)) c.self.view_is in
     executed_as g.S.Family.behaviour c.args.request _ (words c.args.line.now) c.args.self.now c.args.coins.now _ _ c.args.coins.now c.in-Load.is
-    (Ok tt, refl, (c.in_ok-load-in-Load.field-0, c.index_mut.result.now, held, c.in_ok-load-in-Load.ensures.loaded, same), refl)
+    (Ok tt, refl, slot_made (ReadsImage g.S.Family.behaviour (image_in (words c.args.line.now))) c.self.inside.slots c.args.self.now c.in-Load.slot
+    c.index_mut.result.now c.in_ok-load-in-Load.field-0 c.self.invariant c.self.view_is (omega arith) c.index_mut.ensures.value
+    c.in_ok-load-in-Load.ensures.loaded, refl)
 
 pub returns-in-Run : goal.returns-in-Run
 returns-in-Run g c =
@@ -118,4 +119,4 @@ pub invariant_of-self : goal.invariant_of-self
 invariant_of-self g c = c.self.invariant
 
 pub overflow_cast-slot : goal.overflow_cast-slot
-overflow_cast-slot g c = grind arith
+overflow_cast-slot g c = slot_fits (omega arith)
