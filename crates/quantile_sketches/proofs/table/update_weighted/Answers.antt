@@ -1,6 +1,8 @@
 use Rattle.std.proofs.Common.{Err, refl, ap, ◌∙◌}
 use Rattle.sketch_base.specs.declared.error.ErrorKind.TheVariants.{InvalidArgument, OutOfMemory}
 use Rattle.quantile_sketches.specs.declared.answer.Refusal.TheVariants.{Sketch}
+use Rattle.quantile_sketches.specs.LineSteps.{Cloned}
+use Rattle.quantile_sketches.proofs.SlotCalls.{turns-absent}
 use Rattle.quantile_sketches.proofs.Slots.{refused_early, error_is, refused_for, fails_for, clone_taken, clone_refused}
 use Rattle.quantile_sketches.proofs.table.update_weighted.Goals as goal
 
@@ -38,3 +40,8 @@ returns-in_err-update_weighted g c =
     c.in-Some.is
     c.in_ok-clone.ensures.cases (error_is c.from_residual-in_err-update_weighted.result (Sketch c.in_err-update_weighted.field-0.0)
     c.from_residual-in_err-update_weighted.ensures.1) c.in_err-update_weighted.ensures
+
+pub returns-in_default : goal.returns-in_default
+returns-in_default g c =
+    turns-absent (Cloned (g.S.Item.Clone.is_clone c.args.item.now)
+    (λ x. g.S.Family.behaviour.taken_weighted x c.args.weight g.row.B.Denot g.B.RandomBits.bit g.B.RandomBits.next)) c.args.slot.now c.args.coins.now c.in_default.is

@@ -1,0 +1,54 @@
+-- What comes of a call on a slot, by what the slot holds and what the call returns, and the replies of split points and images.
+use Rattle.std.proofs.Common.{◌≡◌, Bool, true, false, ℤ, List, Option, Some, None, Ok, Err, IsTrue, not, refl, sym, ap, subst, inl, inr, ◌∙◌}
+use Rattle.std.proofs.lemmas.Bool.{false≢true}
+use Rattle.sketch_base.specs.declared.error.ErrorKind.{ErrorKind}
+use Rattle.sketch_base.specs.declared.error.ErrorKind.TheVariants.{InvalidArgument}
+use Rattle.quantile_sketches.specs.Behaviour.{Behaviour, Change, Masses}
+use Rattle.quantile_sketches.specs.LineSteps.{Verdict, Reply, Turns, Joins, JoinsCopy, IsRefusal, AnswersMasses}
+use Rattle.quantile_sketches.specs.LineWords.{rise}
+use Rattle.quantile_sketches.specs.declared.answer.Answer.TheVariants.{Ranks}
+use Rattle.quantile_sketches.specs.declared.answer.Refusal.TheVariants.{AbsentSlot, Sketch}
+
+module _ {S Source : Type 0} (changed : Change Source S) (slot : Option S) where
+  -- the slot holds no sketch
+  pub turns-absent : (coins : Source) → slot ≡ None → Turns changed slot coins (Err AbsentSlot) slot coins
+  turns-absent coins is = subst (λ (o : Option S). Turns changed o coins (Err AbsentSlot) slot coins) (sym is) (refl, is, refl)
+
+  -- its sketch changes
+  pub turns-done : (s t : S) (coins coins' : Source) → slot ≡ Some s → changed s coins (Ok tt) t coins' → Turns changed slot coins (Ok tt) (Some t) coins'
+  turns-done s t coins coins' is done = subst (λ (o : Option S). Turns changed o coins (Ok tt) (Some t) coins') (sym is) (t, refl, done)
+
+  -- its sketch refuses
+  pub turns-refused : (s t : S) (coins coins' : Source) (e : ErrorKind) (r : Verdict) → slot ≡ Some s → r ≡ Err (Sketch e) → changed s coins (Err e) t coins' →
+      Turns changed slot coins r (Some t) coins'
+  turns-refused s t coins coins' e r is err refused = rw (err, is) (t, refl, refused)
+
+-- what another slot holds
+module _ {S Source : Type 0} (joined : S → Change Source S) (source slot : Option S) where
+  pub joins-absent : (coins : Source) → source ≡ None → Joins joined source slot coins (Err AbsentSlot) slot coins
+  joins-absent coins is = subst (λ (o : Option S). Joins joined o slot coins (Err AbsentSlot) slot coins) (sym is) (refl, refl, refl)
+
+  pub joins-other : (p : S) (coins coins' : Source) (r : Verdict) (slot' : Option S) → source ≡ Some p → Turns (joined p) slot coins r slot' coins' →
+      Joins joined source slot coins r slot' coins'
+  joins-other p coins coins' r slot' is turns = subst (λ (o : Option S). Joins joined o slot coins r slot' coins') (sym is) turns
+
+-- a merge with a copy that the sketch refuses
+pub copy_refused : {S A C Source : Type 0} (behaviour : Behaviour S A C) (bit : Source → Bool) (next : Source → Source) (redraws refused : Bool) (slot : Option S) (s : S)
+    (coins : Source) (e : ErrorKind) (r : Verdict) → slot ≡ Some s → behaviour.refuses redraws s s refused → (IsTrue (not refused) → false ≡ true) →
+    e ≡ InvalidArgument → r ≡ Err (Sketch e) → Turns (JoinsCopy behaviour bit next redraws) slot coins r (Some s) coins
+copy_refused behaviour bit next redraws true slot s coins e r is told unfit kind err =
+    turns-refused (JoinsCopy behaviour bit next redraws) slot s s coins coins e r is err (inl (told, ap (λ e. Err e) kind, refl, refl))
+copy_refused behaviour bit next redraws false slot s coins e r is told unfit kind err = absurd (false≢true (unfit refl))
+
+-- what comes of split points
+module _ {S C : Type 0} (behaviour : Behaviour S ℤ C) (points : List ℤ) where
+  pub masses-refused : (gives : Masses → Type 0) (r : Reply) (e : ErrorKind) → r ≡ Err (Sketch e) → IsRefusal (rise points) e → AnswersMasses behaviour points gives r
+  masses-refused gives r e is (inl (kind, falls)) = inl (falls, is ∙ ap (λ e. Err (Sketch e)) kind)
+  masses-refused gives r e is (inr (kind, rises)) = inr (rises, inr (is ∙ ap (λ e. Err (Sketch e)) kind))
+
+  module _ (gives : List ℤ → Masses → Type 0) (given : List ℤ) (same : given ≡ points) (rises : rise points ≡ true) where
+    pub masses-error : (r : Reply) (e : ErrorKind) → r ≡ Err (Sketch e) → gives given (Err e) → AnswersMasses behaviour points (gives points) r
+    masses-error r e is told = rw is (inr (rises, inl (subst (λ (l : List ℤ). gives l (Err e)) same told)))
+
+    pub masses-given : (masses : _) → gives given (Ok masses) → AnswersMasses behaviour points (gives points) (Ok (Ranks masses))
+    masses-given masses told = inr (rises, inl (masses, subst (λ (l : List ℤ). gives l (Ok masses)) same told, refl))
