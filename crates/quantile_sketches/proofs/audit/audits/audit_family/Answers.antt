@@ -1,31 +1,30 @@
-use Rattle.std.proofs.Common.{◌≡◌, ◌≤◌, ◌^◌, ℕ, List, inl, sym, ap, ◌∙◌, subst, arith}
-use Rattle.std.proofs.lemmas.Result.{IfOk-from_err}
+use Rattle.std.proofs.Common.{◌≤◌, ◌^◌, ℕ, List, inl, sym, ap, ◌∙◌, subst}
+use Rattle.sketch_base.proofs.Exits.{returned, no_found, with_error}
 use Rattle.quantile_sketches.specs.Refused.{AreRefused}
-use Rattle.quantile_sketches.proofs.CallErrors.{IfErr-from_err_and}
 use Rattle.quantile_sketches.proofs.audit.audits.audit_family.Goals as goal
 
 pub returns-in_err-weights_under_all : goal.returns-in_err-weights_under_all
 returns-in_err-weights_under_all g c =
-    let (fails, is) = c.from_residual-in_err-weights_under_all.ensures in
+    let is = returned c.from_residual-in_err-weights_under_all.result _ c.from_residual-in_err-weights_under_all.ensures.1 in
     record {
-      enough = IfOk-from_err _ _ fails;
-      errors = IfErr-from_err_and c.from_residual-in_err-weights_under_all.result _ is (λ e same. inl (same ∙ c.in_err-weights_under_all.ensures.memory));
-      coins = IfOk-from_err _ _ fails;
-      words = IfOk-from_err _ _ fails;
-      weights = IfOk-from_err _ _ fails;
-      true_rank = IfOk-from_err _ _ fails;
+      enough = no_found _ is;
+      errors = with_error _ is (inl c.in_err-weights_under_all.ensures.memory);
+      coins = no_found _ is;
+      words = no_found _ is;
+      weights = no_found _ is;
+      true_rank = no_found _ is;
     }
 
 pub returns-in_err-first : goal.returns-in_err-first
 returns-in_err-first g c =
-    let (fails, is) = c.from_residual.ensures in
+    let is = returned c.from_residual.result _ c.from_residual.ensures.1 in
     record {
-      enough = IfOk-from_err _ _ fails;
-      errors = IfErr-from_err_and c.from_residual.result _ is (λ e (same : e ≡ c.in_err-first.field-0.0). rw same c.in_err-first.ensures.errors);
-      coins = IfOk-from_err _ _ fails;
-      words = IfOk-from_err _ _ fails;
-      weights = IfOk-from_err _ _ fails;
-      true_rank = IfOk-from_err _ _ fails;
+      enough = no_found _ is;
+      errors = with_error _ is c.in_err-first.ensures.errors;
+      coins = no_found _ is;
+      words = no_found _ is;
+      weights = no_found _ is;
+      true_rank = no_found _ is;
     }
 
 pub returns : goal.returns
@@ -50,10 +49,16 @@ true_rank-requires-clause-refused g c =
     (_, subst (λ (l : List ℕ). AreRefused g.S.Family.kind _ c.args.commands.now l) (sym c.as_slice.ensures.value) c.in_ok-first.ensures.refused)
 
 pub true_rank-requires-clause-lawful : goal.true_rank-requires-clause-lawful
-true_rank-requires-clause-lawful g c = grind arith
+true_rank-requires-clause-lawful g c = c.requires.lawful
 
 pub weights_under_all-requires-clause-asks : goal.weights_under_all-requires-clause-asks
-weights_under_all-requires-clause-asks g c = grind arith
+weights_under_all-requires-clause-asks g c = c.requires.asks
 
 pub weights_under_all-requires-clause-lawful : goal.weights_under_all-requires-clause-lawful
-weights_under_all-requires-clause-lawful g c = grind arith
+weights_under_all-requires-clause-lawful g c = c.requires.lawful
+
+pub run_family-requires-clause-lawful : goal.run_family-requires-clause-lawful
+run_family-requires-clause-lawful g c = c.requires.lawful
+
+pub run_family-requires-clause-asks : goal.run_family-requires-clause-asks
+run_family-requires-clause-asks g c = c.requires.asks
