@@ -1,8 +1,15 @@
-use Rattle.std.proofs.Common.{rules}
+use Rattle.std.proofs.Common.{refl}
 use Rattle.sketch_kll.specs.Capacity.{capacity_at, depth_capacity, shallow_capacity}
 use Rattle.sketch_kll.specs.Schedule.{walk_actions}
 use Rattle.quantile_sketches.proofs.audit.laws.kll_run_rows.Goals as goal
 
 pub returns : goal.returns
 unfolding walk_actions capacity_at depth_capacity shallow_capacity
-returns c = search rules
+returns c = record {
+  nine = refl;
+  twenty_seven = refl;
+  two_levels = refl;
+  one_level = refl;
+  read_back = refl;
+  emptied = refl;
+}
