@@ -1,5 +1,5 @@
 -- What follows for the value of a result, if there is one, from what is known of it.
-use Rattle.std.proofs.Common.{Result, Ok, Err, IfOk}
+use Rattle.std.proofs.Common.{Result, Ok, Err, IfOk, OnOk}
 
 pub all : {T E : Type 0} {P : T → Type 0} (r : Result T E) → ((x : T) → P x) → IfOk r P
 all (Ok x) f = f x
@@ -16,3 +16,12 @@ both (Err e) f p q = tt
 pub three : {T E : Type 0} {P Q R U : T → Type 0} (r : Result T E) → ((x : T) → P x → Q x → R x → U x) → IfOk r P → IfOk r Q → IfOk r R → IfOk r U
 three (Ok x) f p q s = f x p q s
 three (Err e) f p q s = tt
+
+-- two facts about the value together, and two that hold if a call succeeds
+pub together : {T E : Type 0} (P Q : T → Type 0) (r : Result T E) → IfOk r P → IfOk r Q → IfOk r (λ x. P x × Q x)
+together P Q (Ok x) p q = (p, q)
+together P Q (Err e) p q = tt
+
+pub both-done : {T E : Type 0} (P Q : Type 0) (r : Result T E) → OnOk r P → OnOk r Q → OnOk r (P × Q)
+both-done P Q (Ok x) p q = (p, q)
+both-done P Q (Err e) p q = tt

@@ -1,5 +1,7 @@
-use Rattle.std.proofs.Common.{arith}
+use Rattle.quantile_sketches.proofs.Outputs.{ok-so}
 use Rattle.quantile_sketches.proofs.family.kll.KllSketchFamily.update_weighted.Goals as goal
 
 pub returns : goal.returns
-returns c = grind arith
+returns g c =
+    let is = c.update_weighted.ensures in
+    (is.refused, is.memory, is.ok, is.coins, ok-so c.update_weighted.result is.sound, is.err)
