@@ -1,4 +1,4 @@
-use Rattle.std.proofs.Common.{refl, sym, le_refl, ◌∙◌}
+use Rattle.std.proofs.Common.{Some, None, refl, sym, le_refl, ◌∙◌}
 use Rattle.std.proofs.lemmas.Result.{IfOk-from_err}
 use Rattle.quantile_sketches.specs.Outcome.{sketch_at}
 use Rattle.quantile_sketches.proofs.Slots.{within_all, none-moved, moved-one, all-moved}
@@ -13,17 +13,17 @@ loop-slot-preserved g c =
     elim c.match-take.branch [
       | in-Some+in_ok-insert+in-Some-1 w ↦ (
         l.invariant.0,
-        moved-one c.args.self l.slots.items l.slot l.map _ c.match-take.map was c.take.new.self _ l.invariant.1 inside c.index_mut.ensures.value w.map-is
-            w.in_ok-insert.ensures.updates.1 (sym w.in-Some.is ∙ c.take.ensures.value) w.in_ok-insert.ensures.updates.2,
+        moved-one c.args.self l.slots.items l.slot l.map w.insert.new.self c.match-take.map was c.take.new.self (Some w.in-Some.sketch) l.invariant.1 inside
+            c.index_mut.ensures.value w.map-is w.in_ok-insert.ensures.updates.1 (sym w.in-Some.is ∙ c.take.ensures.value) w.in_ok-insert.ensures.updates.2,
       )
       | in-Some+in_ok-insert+in-None-1 w ↦ (
         l.invariant.0,
-        moved-one c.args.self l.slots.items l.slot l.map _ c.match-take.map was c.take.new.self _ l.invariant.1 inside c.index_mut.ensures.value w.map-is
-            w.in_ok-insert.ensures.updates.1 (sym w.in-Some.is ∙ c.take.ensures.value) w.in_ok-insert.ensures.updates.2,
+        moved-one c.args.self l.slots.items l.slot l.map w.insert.new.self c.match-take.map was c.take.new.self (Some w.in-Some.sketch) l.invariant.1 inside
+            c.index_mut.ensures.value w.map-is w.in_ok-insert.ensures.updates.1 (sym w.in-Some.is ∙ c.take.ensures.value) w.in_ok-insert.ensures.updates.2,
       )
       | in_default w ↦ (
         l.invariant.0,
-        moved-one c.args.self l.slots.items l.slot l.map l.map c.match-take.map was c.take.new.self _ l.invariant.1 inside c.index_mut.ensures.value w.map-is
+        moved-one c.args.self l.slots.items l.slot l.map l.map c.match-take.map was c.take.new.self None l.invariant.1 inside c.index_mut.ensures.value w.map-is
             (l.invariant.1.none l.slot (le_refl _)) (sym w.in_default.is ∙ c.take.ensures.value) (λ q ne. refl),
       )
     ]
