@@ -7,5 +7,5 @@ returns g c =
     record {
       levels = λ y criteria commands bits slot only enough. run-relative g.T.Ord.cmp commands slot only bits enough y criteria (updates_relative g.met.T.Ord.total);
       counts = λ y criteria commands bits slot levels only enough.
-        run-relative_to_counts g.T.Ord.cmp commands slot only bits enough y criteria (updates_relative_to_counts g.met.T.Ord.total) levels;
+          run-relative_to_counts g.T.Ord.cmp commands slot only bits enough y criteria (updates_relative_to_counts g.met.T.Ord.total) levels;
     }

@@ -18,10 +18,14 @@ returns-in_err-load-in-Load g c =
 
 pub returns-in_ok-load-in-Load : goal.returns-in_ok-load-in-Load
 returns-in_ok-load-in-Load g c =
-    executed_as g.S.Family.behaviour c.args.request _ (words c.args.line.now) c.args.self.now c.args.coins.now _ _ c.args.coins.now c.in-Load.is
-    (Ok tt, refl, slot_made (ReadsImage g.S.Family.behaviour (image_in (words c.args.line.now))) c.self.inside.slots c.args.self.now c.in-Load.slot
-    c.index_mut.result.now c.in_ok-load-in-Load.field-0 c.self.invariant c.self.view_is (omega arith) c.index_mut.ensures.value
-    c.in_ok-load-in-Load.ensures.loaded, refl)
+    executed_as g.S.Family.behaviour c.args.request _ (words c.args.line.now) c.args.self.now c.args.coins.now _ _ c.args.coins.now c.in-Load.is (
+      Ok tt,
+      refl,
+      slot_made (ReadsImage g.S.Family.behaviour (image_in (words c.args.line.now))) c.self.inside.slots c.args.self.now c.in-Load.slot
+          c.index_mut.result.now c.in_ok-load-in-Load.field-0 c.self.invariant c.self.view_is (omega arith) c.index_mut.ensures.value
+          c.in_ok-load-in-Load.ensures.loaded,
+      refl,
+    )
 
 pub returns-in-Run : goal.returns-in-Run
 returns-in-Run g c =
@@ -49,10 +53,16 @@ returns-in_err-quantile_of-in-Quantile g c =
     let s = c.in_ok-sketch-in-Quantile in
     let r = c.from_residual-in_err-quantile_of-in-Quantile in
     executed_as g.S.Family.behaviour c.args.request _ (words c.args.line.now) c.args.self.now c.args.coins.now r.result c.args.self.now c.args.coins.now
-    c.in-Quantile.is
-    ((Some s.field-0.now, s.ensures.found,
-    replied-error Item (g.S.Family.behaviour.quantile s.field-0.now c.in-Quantile.fraction c.in-Quantile.criteria) r.result _
-    (error_is r.result (Sketch c.in_err-quantile_of-in-Quantile.field-0.0) r.ensures.1) c.in_err-quantile_of-in-Quantile.ensures), refl, refl)
+    c.in-Quantile.is (
+      (
+        Some s.field-0.now,
+        s.ensures.found,
+        replied-error Item (g.S.Family.behaviour.quantile s.field-0.now c.in-Quantile.fraction c.in-Quantile.criteria) r.result _
+            (error_is r.result (Sketch c.in_err-quantile_of-in-Quantile.field-0.0) r.ensures.1) c.in_err-quantile_of-in-Quantile.ensures,
+      ),
+      refl,
+      refl,
+    )
 
 pub returns-in_ok-sketch-in-Cdf : goal.returns-in_ok-sketch-in-Cdf
 returns-in_ok-sketch-in-Cdf g c =
