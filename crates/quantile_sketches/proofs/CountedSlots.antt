@@ -9,7 +9,8 @@ use Rattle.quantile_sketches.specs.declared.audit.commands.Command.{Command}
 use Rattle.quantile_sketches.specs.declared.audit.commands.Command.TheVariants.{New, Merge, Reset, RoundTrip, Redraw, MergeRedrawn}
 use Rattle.quantile_sketches.specs.Audit.{counts_after, HasFewSlots}
 
-set-changes : (counts : List ℕ) (slot value : ℕ) → slot < length counts → (q : ℕ) → slice_index (set counts slot value) q ≡ changed (slice_index counts) slot value q
+set-changes : (counts : List ℕ) (slot value : ℕ) → slot < length counts → (q : ℕ) →
+    slice_index (set counts slot value) q ≡ changed (slice_index counts) slot value q
 set-changes counts slot value inside q =
     elim (cases_eq q slot) [
       | inl e ↦

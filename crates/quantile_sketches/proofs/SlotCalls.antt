@@ -33,7 +33,8 @@ module _ {S Source : Type 0} (joined : S → Change Source S) (source slot : Opt
   joins-other p coins coins' r slot' is turns = subst (λ (o : Option S). Joins joined o slot coins r slot' coins') (sym is) turns
 
 -- a merge with a copy that the sketch refuses
-pub copy_refused : {S A C Source : Type 0} (behaviour : Behaviour S A C) (bit : Source → Bool) (next : Source → Source) (redraws refused : Bool) (slot : Option S) (s : S)
+pub copy_refused : {S A C Source : Type 0} (behaviour : Behaviour S A C) (bit : Source → Bool) (next : Source → Source) (redraws refused : Bool)
+    (slot : Option S) (s : S)
     (coins : Source) (e : ErrorKind) (r : Verdict) → slot ≡ Some s → behaviour.refuses redraws s s refused → (IsTrue (not refused) → false ≡ true) →
     e ≡ InvalidArgument → r ≡ Err (Sketch e) → Turns (JoinsCopy behaviour bit next redraws) slot coins r (Some s) coins
 copy_refused behaviour bit next redraws true slot s coins e r is told unfit kind err =
@@ -42,7 +43,8 @@ copy_refused behaviour bit next redraws false slot s coins e r is told unfit kin
 
 -- what comes of split points
 module _ {S C : Type 0} (behaviour : Behaviour S ℤ C) (points : List ℤ) where
-  pub masses-refused : (gives : Masses → Type 0) (r : Reply) (e : ErrorKind) → r ≡ Err (Sketch e) → IsRefusal (rise points) e → AnswersMasses behaviour points gives r
+  pub masses-refused : (gives : Masses → Type 0) (r : Reply) (e : ErrorKind) → r ≡ Err (Sketch e) → IsRefusal (rise points) e →
+      AnswersMasses behaviour points gives r
   masses-refused gives r e is (inl (kind, falls)) = inl (falls, is ∙ ap (λ e. Err (Sketch e)) kind)
   masses-refused gives r e is (inr (kind, rises)) = inr (rises, inr (is ∙ ap (λ e. Err (Sketch e)) kind))
 

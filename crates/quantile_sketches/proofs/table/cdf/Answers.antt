@@ -7,13 +7,15 @@ use Rattle.quantile_sketches.proofs.table.cdf.Goals as goal
 
 pub returns : goal.returns
 returns g c =
-    masses-given g.S.Family.behaviour (points_of (words c.args.line.now)) (λ points. g.S.Family.behaviour.cdf c.args.of.now points c.args.criteria) c.as_slice.result.now
+    masses-given g.S.Family.behaviour (points_of (words c.args.line.now)) (λ points. g.S.Family.behaviour.cdf c.args.of.now points c.args.criteria)
+    c.as_slice.result.now
     (c.as_slice.ensures.value ∙ c.in_ok-points.ensures.points) c.in_ok-points.ensures.good _ c.in_ok-cdf_of.ensures
 
 pub returns-in_err-cdf_of : goal.returns-in_err-cdf_of
 returns-in_err-cdf_of g c =
     let r = c.from_residual-in_err-cdf_of in
-    masses-error g.S.Family.behaviour (points_of (words c.args.line.now)) (λ points. g.S.Family.behaviour.cdf c.args.of.now points c.args.criteria) c.as_slice.result.now
+    masses-error g.S.Family.behaviour (points_of (words c.args.line.now)) (λ points. g.S.Family.behaviour.cdf c.args.of.now points c.args.criteria)
+    c.as_slice.result.now
     (c.as_slice.ensures.value ∙ c.in_ok-points.ensures.points) c.in_ok-points.ensures.good r.result c.in_err-cdf_of.field-0.0
     (error_is r.result (Sketch c.in_err-cdf_of.field-0.0) r.ensures.1) c.in_err-cdf_of.ensures
 

@@ -43,4 +43,5 @@ returns-in_err-update g c =
 
 pub returns-in_default : goal.returns-in_default
 returns-in_default g c =
-    turns-absent (Cloned (g.S.Item.Clone.is_clone c.args.item.now) (λ x. g.S.Family.behaviour.taken x g.row.B.Denot g.B.RandomBits.bit g.B.RandomBits.next)) c.args.slot.now c.args.coins.now c.in_default.is
+    turns-absent (Cloned (g.S.Item.Clone.is_clone c.args.item.now) (λ x. g.S.Family.behaviour.taken x g.row.B.Denot g.B.RandomBits.bit g.B.RandomBits.next))
+    c.args.slot.now c.args.coins.now c.in_default.is

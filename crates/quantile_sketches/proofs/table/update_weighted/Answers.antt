@@ -44,4 +44,5 @@ returns-in_err-update_weighted g c =
 pub returns-in_default : goal.returns-in_default
 returns-in_default g c =
     turns-absent (Cloned (g.S.Item.Clone.is_clone c.args.item.now)
-    (λ x. g.S.Family.behaviour.taken_weighted x c.args.weight g.row.B.Denot g.B.RandomBits.bit g.B.RandomBits.next)) c.args.slot.now c.args.coins.now c.in_default.is
+    (λ x. g.S.Family.behaviour.taken_weighted x c.args.weight g.row.B.Denot g.B.RandomBits.bit g.B.RandomBits.next)) c.args.slot.now c.args.coins.now
+    c.in_default.is

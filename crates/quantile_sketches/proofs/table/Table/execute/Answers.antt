@@ -9,7 +9,8 @@ returns-in-Update g c =
     let was = c.index_mut in
     carried_out g.S.Family.behaviour g.B.RandomBits.bit g.B.RandomBits.next g.S.Item.Clone.is_clone c.args.command.now _ c.args.self.now c.args.coins.now
     c.update.result _ c.update.new.coins c.in-Update.is
-    (changed-slot (Turns (Cloned (g.S.Item.Clone.is_clone c.in-Update.item) (λ x. g.S.Family.behaviour.taken x g.row.B.Denot g.B.RandomBits.bit g.B.RandomBits.next)))
+    (changed-slot (Turns (Cloned (g.S.Item.Clone.is_clone c.in-Update.item)
+    (λ x. g.S.Family.behaviour.taken x g.row.B.Denot g.B.RandomBits.bit g.B.RandomBits.next)))
     s.inside.slots c.args.self.now c.in-Update.slot was.result.now c.update.new.slot c.args.coins.now c.update.new.coins c.update.result
     s.invariant s.view_is (omega arith) was.ensures.value c.update.ensures)
 
@@ -21,7 +22,8 @@ returns-in-UpdateWeighted g c =
     c.update_weighted.result _ c.update_weighted.new.coins c.in-UpdateWeighted.is
     (changed-slot (Turns (Cloned (g.S.Item.Clone.is_clone c.in-UpdateWeighted.item)
     (λ x. g.S.Family.behaviour.taken_weighted x c.in-UpdateWeighted.weight g.row.B.Denot g.B.RandomBits.bit g.B.RandomBits.next)))
-    s.inside.slots c.args.self.now c.in-UpdateWeighted.slot was.result.now c.update_weighted.new.slot c.args.coins.now c.update_weighted.new.coins c.update_weighted.result
+    s.inside.slots c.args.self.now c.in-UpdateWeighted.slot was.result.now c.update_weighted.new.slot c.args.coins.now c.update_weighted.new.coins
+    c.update_weighted.result
     s.invariant s.view_is (omega arith) was.ensures.value c.update_weighted.ensures)
 
 pub returns-in-Reset : goal.returns-in-Reset

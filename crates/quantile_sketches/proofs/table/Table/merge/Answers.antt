@@ -10,7 +10,8 @@ returns-then-into-source g c =
     merged_as g.S.Family.behaviour g.B.RandomBits.bit g.B.RandomBits.next c.args.redraws (c.args.into == c.args.source) true c.args.into c.args.source
     c.args.self.now c.args.coins.now c.merge_copy.result _ c.merge_copy.new.coins
     (eq-eqb c.args.into c.args.source c.if-into-source.true)
-    (changed-slot (Turns (JoinsCopy g.S.Family.behaviour g.B.RandomBits.bit g.B.RandomBits.next c.args.redraws)) c.self.inside.slots c.args.self.now c.args.into was
+    (changed-slot (Turns (JoinsCopy g.S.Family.behaviour g.B.RandomBits.bit g.B.RandomBits.next c.args.redraws)) c.self.inside.slots c.args.self.now
+    c.args.into was
     c.merge_copy.new.slot c.args.coins.now c.merge_copy.new.coins c.merge_copy.result c.self.invariant c.self.view_is c.ranges.into.fits
     c.index_mut-slot.ensures.value c.merge_copy.ensures)
 

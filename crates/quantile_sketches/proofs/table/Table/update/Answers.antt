@@ -15,7 +15,8 @@ returns g c =
     c.update.new.slot c.update.new.coins) (to_z-of_z w64 c.args.item c.ranges.item) c.update.ensures in
     item_of_clone g.S.Family.behaviour coin_of next_state _ (λ x y e. e) (Update c.args.slot c.args.item) c.args.self.now c.args.coins.now c.update.result _
     c.update.new.coins
-    (changed-slot (Turns (Cloned (λ y. y ≡ c.args.item) (λ y. g.S.Family.behaviour.taken y ℕ coin_of next_state))) c.self.inside.slots c.args.self.now c.args.slot was
+    (changed-slot (Turns (Cloned (λ y. y ≡ c.args.item) (λ y. g.S.Family.behaviour.taken y ℕ coin_of next_state))) c.self.inside.slots c.args.self.now
+    c.args.slot was
     c.update.new.slot c.args.coins.now c.update.new.coins c.update.result c.self.invariant c.self.view_is c.ranges.slot.fits c.index_mut.ensures.value turns)
 
 pub invariant_of-self : goal.invariant_of-self
