@@ -1,4 +1,4 @@
-use Rattle.std.proofs.Common.{arith}
+use Rattle.std.proofs.Common.{◌<◌, ◌-◌, ◌^◌, length, arith}
 use Rattle.quantile_sketches.proofs.Given.{given, both, three}
 use Rattle.quantile_sketches.proofs.AfterCommands.{close-by}
 use Rattle.quantile_sketches.proofs.ReqKind.{req_kind_lawful}
@@ -10,6 +10,7 @@ run_family-requires-clause-lawful g c = req_kind_lawful g.met.T.Ord.total g.T.Re
 
 pub returns : goal.returns
 returns g c =
+    let few : length c.args.word.now < 2 ^ 64 - 1 = omega arith in
     record {
       enough = c.run_family.ensures.enough;
       errors = c.run_family.ensures.errors;
@@ -41,23 +42,23 @@ returns g c =
           given c.run_family.result (λ run. run-tails-own g.met.T.Ord.total g.T.ReqValue.spelling c.args.commands.now run.slots) c.run_family.ensures.planned;
       fair =
           given c.run_family.result (λ run enough. runs-fair g.met.T.Ord.total g.T.ReqValue.spelling c.args.commands.now run.slots c.args.word.now enough
-          (omega arith)) c.run_family.ensures.enough;
+          few) c.run_family.ensures.enough;
       redrawn =
           given c.run_family.result (λ run enough. runs-redrawn g.met.T.Ord.total g.T.ReqValue.spelling c.args.commands.now run.slots c.args.word.now enough
-          (omega arith)) c.run_family.ensures.enough;
+          few) c.run_family.ensures.enough;
       images =
           given c.run_family.result
           (λ run. run-images g.met.T.Ord.total g.T.ReqValue.spelling c.args.commands.now run.slots g.met.T.ReqValue.is_prefix_free c.requires.codec)
           c.run_family.ensures.sound;
       unbiased =
           given c.run_family.result (λ run enough. runs-unbiased g.met.T.Ord.total g.T.ReqValue.spelling c.args.commands.now run.slots c.args.word.now enough
-          (omega arith)) c.run_family.ensures.enough;
+          few) c.run_family.ensures.enough;
       relative =
           both c.run_family.result (λ run planned enough. runs-relative g.met.T.Ord.total g.T.ReqValue.spelling c.args.commands.now run.slots c.args.word.now
-          enough (omega arith) planned)
+          enough few planned)
           c.run_family.ensures.planned c.run_family.ensures.enough;
       counts =
           both c.run_family.result (λ run planned enough. runs-relative_to_counts g.met.T.Ord.total g.T.ReqValue.spelling c.args.commands.now run.slots
-          c.args.word.now enough (omega arith) planned)
+          c.args.word.now enough few planned)
           c.run_family.ensures.planned c.run_family.ensures.enough;
     }
