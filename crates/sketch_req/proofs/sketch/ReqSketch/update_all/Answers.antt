@@ -1,18 +1,20 @@
 -- The goals at the return are what updates by all items make of the fields.
-use Rattle.std.proofs.Common.{◌≡◌, ◌+◌, ◌<◌, ◌≤◌, ◌⊎◌, ◌^◌, ◌∙◌, ℕ, Err, false, inl, not, ap, length, refl, subst, sym}
+use Rattle.std.proofs.Common.{Ok, ◌≡◌, ◌+◌, ◌<◌, ◌≤◌, ◌⊎◌, ◌^◌, ◌∙◌, ℕ, Err, false, inl, not, ap, length, refl, subst, sym}
 use Rattle.std.proofs.lemmas.Bool.{false≢true}
 use Rattle.sketch_base.specs.Bag.{retained}
 use Rattle.sketch_base.specs.declared.error.ErrorKind.TheVariants.{OutOfMemory}
 use Rattle.sketch_req.specs.Actions.{bag_of}
-use Rattle.sketch_req.specs.Sketch.{Req, IsSound}
+use Rattle.sketch_req.specs.Sketch.{Req, IsSound, newer_or, sketch_of}
 use Rattle.sketch_req.specs.Updates.{IsDrawnFrom, coins_of_updates}
+use Rattle.sketch_req.proofs.KeptSketches.{still_seen, still_sound}
 use Rattle.sketch_req.proofs.MadeSketches.{none_taken, updates_make}
+use Rattle.sketch_req.proofs.Outcomes.{AreDone, UpdatesEnd, updates_done, updates_failed, updates_refused}
 use Rattle.sketch_base.proofs.Exits.{accepted, no_value, returned, with_error}
-use Rattle.sketch_req.proofs.Refusals.{accepted_alone, items_fit, light_still, no_memory, no_refusal, none_drawn, none_fit, not_both, refused_as, same_sketch, some_of, too_heavy, weight_fits}
+use Rattle.sketch_req.proofs.Refusals.{accepted_alone, items_fit, light_still, no_memory, no_refusal, none_drawn, none_fit, not_both, refused_as, some_of, too_heavy, weight_fits}
 use Rattle.sketch_req.proofs.UpdatedLevels.{not-full}
 use Rattle.sketch_req.proofs.UpdatesInTurn.{updates_none}
 use Rattle.sketch_req.proofs.sketch.ReqSketch.update_all.Given.{Over}
-use Rattle.sketch_req.proofs.sketch.ReqSketch.update_all.Goals.{In_ok-unless, then-not-is_full, else-not-is_full}
+use Rattle.sketch_req.proofs.sketch.ReqSketch.update_all.Goals.{After-from_residual, After-set_if_some-2, In_ok-unless, Joined-least, then-not-is_full, else-not-is_full}
 use Rattle.sketch_req.proofs.sketch.ReqSketch.update_all.Goals as goal
 use Rattle.sketch_req.proofs.sketch.ReqSketch.update_all.Goals.at as past
 
@@ -47,83 +49,83 @@ returns-then-count-eq0 g c =
       memory = tt;
     }
 
+-- the items are too many
+too_many : (g : Over) (c : After-from_residual g) → let s = c.args.self.now in let count = length c.args.items.now in
+    (2 ^ 64 ≤ s.n + count) ⊎ ((0 < count) × (retained (bag_of s.levels) ≡ 4294967295))
+too_many g c = elim c.if-not-is_full.branch [
+  | then-not-is_full w ↦ inl (too_heavy _ _ (ap (λ (s : Req g.row.T.Denot). s.n) c.self.view_is) w.unless-is c.in_err-unless.ensures.ok.1)
+  | else-not-is_full w ↦ none_fit c.is_full.ensures w.if-not-is_full.false c.if-count-eq0.false
+]
+
 pub returns-in_err-unless : goal.returns-in_err-unless
 returns-in_err-unless g c =
     let told = c.in_err-unless.ensures in
-    let e = returned c.from_residual.result _ c.from_residual.ensures.1 ∙ ap Err told.err in
     let s = c.args.self.now in
-    let count = length c.args.items.now in
-    let full : (2 ^ 64 ≤ s.n + count) ⊎ ((0 < count) × (retained (bag_of s.levels) ≡ 4294967295)) = elim c.if-not-is_full.branch [
-      | then-not-is_full w ↦ inl (too_heavy _ _ (ap (λ (s : Req g.row.T.Denot). s.n) c.self.view_is) w.unless-is told.ok.1)
-      | else-not-is_full w ↦ none_fit c.is_full.ensures w.if-not-is_full.false c.if-count-eq0.false
-    ] in
-    record {
-      empty = λ none. absurd (c.if-count-eq0.false (ap length none));
-      ok = no_value _ e;
-      sound = subst (IsSound g.T.Ord.cmp) c.self.view_is c.self.invariant;
-      coins = no_value _ e;
-      err = with_error _ e refl;
-      full = refused_as e full;
-      refused = λ _. refl;
-      drawn = with_error _ e (none_drawn _ _ _);
-      memory = with_error _ e (λ light few. absurd (not_both _ _ full light few));
-    }
+    updates_refused g.T.Ord.cmp g.B.RandomBits.bit g.B.RandomBits.next s s c.args.coins.now c.args.coins.now c.from_residual.result c.args.items.now c.from_residual.ensures.1 told.err
+    (subst (IsSound g.T.Ord.cmp) c.self.view_is c.self.invariant) refl refl (none_drawn _ _ _) c.if-count-eq0.false (too_many g c)
 
 pub returns-in_err-least : goal.returns-in_err-least
 returns-in_err-least g c =
-    let e = returned c.from_residual-in_err-least.result OutOfMemory c.from_residual-in_err-least.ensures.1 in
-    record {
-      empty = λ none. absurd (c.if-count-eq0.false (ap length none));
-      ok = no_value _ e;
-      sound = subst (IsSound g.T.Ord.cmp) c.self.view_is c.self.invariant;
-      coins = no_value _ e;
-      err = with_error _ e refl;
-      full = no_memory e (not_refused g (past.returns-in_err-least g c).In_ok-unless);
-      refused = λ _. refl;
-      drawn = with_error _ e (none_drawn _ _ _);
-      memory = with_error _ e (λ _ _. refl);
-    }
+    let s = c.args.self.now in
+    updates_failed g.T.Ord.cmp g.B.RandomBits.bit g.B.RandomBits.next s s c.args.coins.now c.args.coins.now c.from_residual-in_err-least.result c.args.items.now
+    c.from_residual-in_err-least.ensures.1 refl
+    (subst (IsSound g.T.Ord.cmp) c.self.view_is c.self.invariant) refl (none_drawn _ _ _) c.if-count-eq0.false
+    (not_refused g (past.returns-in_err-least g c).In_ok-unless)
+
+-- the coins that were drawn
+drawn : (g : Over) (c : Joined-least g) →
+    IsDrawnFrom g.B.RandomBits.next (coins_of_updates c.args.self.now c.args.items.now) c.args.coins.now c.take_all.new.coins
+drawn g c = subst (λ (s : Req g.row.T.Denot). IsDrawnFrom g.B.RandomBits.next (coins_of_updates s c.args.items.now) c.args.coins.now c.take_all.new.coins)
+    c.self.view_is c.in_err-take_all.ensures.drawn
 
 pub returns-in_err-take_all : goal.returns-in_err-take_all
 returns-in_err-take_all g c =
     let told = c.in_err-take_all.ensures in
-    let e = returned c.from_residual-in_err-take_all.result _ c.from_residual-in_err-take_all.ensures.1 ∙ ap Err told.memory in
-    let same = same_sketch c.self.inside.n c.self.inside.min_item c.self.inside.max_item told.err in
-    record {
-      empty = λ none. absurd (c.if-count-eq0.false (ap length none));
-      ok = no_value _ e;
-      sound = subst (IsSound g.T.Ord.cmp) (sym same) c.self.invariant;
-      coins = no_value _ e;
-      err = with_error _ e (same ∙ c.self.view_is);
-      full = no_memory e (not_refused g (past.returns-in_err-take_all g c).In_ok-unless);
-      refused = no_refusal _ e;
-      drawn = with_error _ e (subst (λ (s : Req g.row.T.Denot). IsDrawnFrom g.B.RandomBits.next (coins_of_updates s c.args.items.now)
-          c.args.coins.now c.take_all.new.coins) c.self.view_is told.drawn);
-      memory = with_error _ e (λ _ _. refl);
-    }
+    let i = c.self.inside in
+    let held = c.take_all.new.self in
+    updates_failed g.T.Ord.cmp g.B.RandomBits.bit g.B.RandomBits.next c.args.self.now (sketch_of held.k held.accuracy i.n held.levels i.min_item i.max_item) c.args.coins.now c.take_all.new.coins
+    c.from_residual-in_err-take_all.result c.args.items.now c.from_residual-in_err-take_all.ensures.1 told.memory
+    (still_sound i.n i.min_item i.max_item told.err c.self.invariant) (still_seen i.n i.min_item i.max_item told.err c.self.view_is)
+    (drawn g c) c.if-count-eq0.false (not_refused g (past.returns-in_err-take_all g c).In_ok-unless)
 
-pub returns : goal.returns
-returns g c =
-    let known = allowed g (past.returns g c).In_ok-unless in
+-- the extremes, and the levels but for what they hold
+module _ (g : Over) (c : After-set_if_some-2 g) where
+  least_is : c.set_if_some.new.place ≡ newer_or c.in_ok-least.least c.self.inside.min_item
+  least_is = c.set_if_some.ensures
+
+  greatest_is : c.set_if_some-2.new.place ≡ newer_or c.in_ok-least.greatest c.self.inside.max_item
+  greatest_is = c.set_if_some-2.ensures
+
+  kept : let held = c.take_all.new.self in held ≡ record { k = c.self.inside.levels.k; accuracy = c.self.inside.levels.accuracy; levels = held.levels }
+  kept = c.take_all.ensures.kept
+
+-- all items are taken in
+made : (g : Over) (c : After-set_if_some-2 g) → (c.is_full.result ≡ false) × (c.self.inside.n + length c.args.items.now < 2 ^ 64) →
+    let i = c.self.inside in let held = c.take_all.new.self in
+    AreDone g.T.Ord.cmp g.B.RandomBits.bit g.B.RandomBits.next c.args.self.now
+    (sketch_of held.k held.accuracy (i.n + length c.args.items.now) held.levels c.set_if_some.new.place c.set_if_some-2.new.place)
+    c.args.coins.now c.take_all.new.coins c.args.items.now
+made g c known =
     let few = not-full _ _ _ c.self.view_is c.self.invariant c.is_full.ensures known.0 in
     let t = c.in_ok-take_all.ensures.taken in
-    let made = updates_make g.met.T.Ord.total g.B.RandomBits.bit g.B.RandomBits.next c.self.view_is c.self.invariant _ _ _ known.1 few.1
-    c.take_all.ensures.kept t.are_copies t.taken c.in_ok-least.ensures.least c.set_if_some.ensures c.in_ok-least.ensures.greatest c.set_if_some-2.ensures in
-    record {
-      empty = λ none. absurd (c.if-count-eq0.false (ap length none));
-      ok = made.1;
-      sound = made.0;
-      coins = made.2;
-      err = tt;
-      full = accepted (not_refused g (past.returns g c).In_ok-unless);
-      refused = accepted_alone _;
-      drawn = tt;
-      memory = tt;
-    }
+    updates_make g.met.T.Ord.total g.B.RandomBits.bit g.B.RandomBits.next c.self.view_is c.self.invariant _ _ _ known.1 few.1
+    (kept g c) t.are_copies t.taken c.in_ok-least.ensures.least (least_is g c) c.in_ok-least.ensures.greatest (greatest_is g c)
+
+done : (g : Over) (c : After-set_if_some-2 g) → (c.is_full.result ≡ false) × (c.self.inside.n + length c.args.items.now < 2 ^ 64) →
+    let i = c.self.inside in let held = c.take_all.new.self in
+    UpdatesEnd g.T.Ord.cmp g.B.RandomBits.bit g.B.RandomBits.next c.args.self.now
+    (sketch_of held.k held.accuracy (i.n + length c.args.items.now) held.levels c.set_if_some.new.place c.set_if_some-2.new.place)
+    c.args.coins.now c.take_all.new.coins (Ok (tt {0})) c.args.items.now
+done g c known =
+    updates_done g.T.Ord.cmp g.B.RandomBits.bit g.B.RandomBits.next c.args.self.now _ c.args.coins.now c.take_all.new.coins (tt {0}) c.args.items.now (made g c known) c.if-count-eq0.false
+    (items_fit (ap (λ (s : Req g.row.T.Denot). s.n) c.self.view_is) known.1 c.is_full.ensures known.0)
+
+pub returns : goal.returns
+returns g c = done g (past.returns g c).After-set_if_some-2 (allowed g (past.returns g c).In_ok-unless)
 
 pub invariant_of-self : goal.invariant_of-self
 invariant_of-self g c =
-    subst (IsSound g.T.Ord.cmp) (sym (same_sketch c.self.inside.n c.self.inside.min_item c.self.inside.max_item c.in_err-take_all.ensures.err)) c.self.invariant
+    still_sound c.self.inside.n c.self.inside.min_item c.self.inside.max_item c.in_err-take_all.ensures.err c.self.invariant
 
 pub invariant_of-self-2 : goal.invariant_of-self-2
 invariant_of-self-2 g c = (returns g c).sound

@@ -1,73 +1,72 @@
 -- The goals at the return are what a step of the model says of the fields.
-use Rattle.std.proofs.Common.{◌<◌, ◌-◌, ◌^◌, ◌∙◌, ℕ, Err, ap, refl, sym, subst}
+use Rattle.std.proofs.Common.{◌≡◌, ◌+◌, false, ◌<◌, ◌-◌, ◌^◌, ◌∙◌, ℕ, Err, Ok, ap, refl, sym, subst}
 use Rattle.std.proofs.lemmas.Bool.{not-true}
 use Rattle.sketch_base.specs.declared.error.ErrorKind.TheVariants.{OutOfMemory}
-use Rattle.sketch_req.specs.Sketch.{IsSound}
+use Rattle.sketch_req.specs.Sketch.{IsSound, newer_or, sketch_of}
+use Rattle.sketch_req.proofs.KeptSketches.{still_seen, still_sound}
 use Rattle.sketch_req.proofs.MadeSketches.{update_makes}
+use Rattle.sketch_req.proofs.Outcomes.{IsDone, UpdateEnds, update_done, update_failed, update_refused}
 use Rattle.sketch_base.proofs.Exits.{accepted, no_value, returned, with_error}
-use Rattle.sketch_req.proofs.Refusals.{flagged, next_fits, no_memory, not_flagged, not_full_both, refused_as, same_sketch}
+use Rattle.sketch_req.proofs.Refusals.{flagged, next_fits, no_memory, not_flagged, not_full_both, refused_as}
 use Rattle.sketch_req.proofs.UpdatedLevels.{not-full}
+use Rattle.sketch_req.proofs.sketch.ReqSketch.update_slowly.Given.{Over}
+use Rattle.sketch_req.proofs.sketch.ReqSketch.update_slowly.Goals.{After-set_if_some-2}
 use Rattle.sketch_req.proofs.sketch.ReqSketch.update_slowly.Goals as goal
+use Rattle.sketch_req.proofs.sketch.ReqSketch.update_slowly.Goals.at as past
 
 pub returns-in_err-unless : goal.returns-in_err-unless
 returns-in_err-unless g c =
     let told = c.in_err-unless.ensures in
-    let e = returned c.from_residual.result _ c.from_residual.ensures.1 ∙ ap Err told.err in
-    let full = c.is_full.ensures.0 (flagged _ told.ok.1) in
-    record {
-      ok = no_value _ e;
-      sound = subst (IsSound g.T.Ord.cmp) c.self.view_is c.self.invariant;
-      coins = no_value _ e;
-      err = with_error _ e (refl, refl);
-      full = refused_as e full;
-      memory = with_error _ e (λ light few. absurd (not_full_both full light few));
-    }
+    update_refused g.T.Ord.cmp g.B.RandomBits.bit g.B.RandomBits.next c.args.self.now c.args.self.now c.args.coins.now c.args.coins.now c.from_residual.result c.args.item c.from_residual.ensures.1 told.err
+    (subst (IsSound g.T.Ord.cmp) c.self.view_is c.self.invariant) refl refl (c.is_full.ensures.0 (flagged _ told.ok.1))
 
 pub returns-in_err-least : goal.returns-in_err-least
 returns-in_err-least g c =
-    let e = returned c.from_residual-in_err-least.result OutOfMemory c.from_residual-in_err-least.ensures.1 in
-    record {
-      ok = no_value _ e;
-      sound = subst (IsSound g.T.Ord.cmp) c.self.view_is c.self.invariant;
-      coins = no_value _ e;
-      err = with_error _ e (refl, refl);
-      full = no_memory e (not_flagged c.is_full.ensures (not-true _ (c.in_ok-unless.ensures.ok.0 refl)));
-      memory = with_error _ e (λ _ _. refl);
-    }
+    update_failed g.T.Ord.cmp g.B.RandomBits.bit g.B.RandomBits.next c.args.self.now c.args.self.now c.args.coins.now c.args.coins.now c.from_residual-in_err-least.result c.args.item c.from_residual-in_err-least.ensures.1 refl
+    (subst (IsSound g.T.Ord.cmp) c.self.view_is c.self.invariant) refl refl (not_flagged c.is_full.ensures (not-true _ (c.in_ok-unless.ensures.ok.0 refl)))
 
 pub returns-in_err-take_last : goal.returns-in_err-take_last
 returns-in_err-take_last g c =
+    let i = c.self.inside in
+    let held = c.take_last.new.self in
     let told = c.in_err-take_last.ensures in
-    let e = returned c.from_residual-in_err-take_last.result _ c.from_residual-in_err-take_last.ensures.1 ∙ ap Err told.memory in
-    let same = same_sketch c.self.inside.n c.self.inside.min_item c.self.inside.max_item told.err.0 in
-    record {
-      ok = no_value _ e;
-      sound = subst (IsSound g.T.Ord.cmp) (sym same) c.self.invariant;
-      coins = no_value _ e;
-      err = with_error _ e (same ∙ c.self.view_is, told.err.1);
-      full = no_memory e (not_flagged c.is_full.ensures (not-true _ (c.in_ok-unless.ensures.ok.0 refl)));
-      memory = with_error _ e (λ _ _. refl);
-    }
+    update_failed g.T.Ord.cmp g.B.RandomBits.bit g.B.RandomBits.next c.args.self.now (sketch_of held.k held.accuracy i.n held.levels i.min_item i.max_item) c.args.coins.now c.take_last.new.coins
+    c.from_residual-in_err-take_last.result c.args.item c.from_residual-in_err-take_last.ensures.1 told.memory
+    (still_sound i.n i.min_item i.max_item told.err.0 c.self.invariant) (still_seen i.n i.min_item i.max_item told.err.0 c.self.view_is) told.err.1
+    (not_flagged c.is_full.ensures (not-true _ (c.in_ok-unless.ensures.ok.0 refl)))
+
+-- the extremes, and the levels but for what they hold
+module _ (g : Over) (c : After-set_if_some-2 g) where
+  least_is : c.set_if_some.new.place ≡ newer_or c.in_ok-least.least c.self.inside.min_item
+  least_is = c.set_if_some.ensures
+
+  greatest_is : c.set_if_some-2.new.place ≡ newer_or c.in_ok-least.greatest c.self.inside.max_item
+  greatest_is = c.set_if_some-2.ensures
+
+  kept : let held = c.take_last.new.self in held ≡ record { k = c.self.inside.levels.k; accuracy = c.self.inside.levels.accuracy; levels = held.levels }
+  kept = c.take_last.ensures.kept
+
+-- the item is taken in
+made : (g : Over) (c : After-set_if_some-2 g) → c.is_full.result ≡ false → let i = c.self.inside in let held = c.take_last.new.self in
+    IsDone g.T.Ord.cmp g.B.RandomBits.bit g.B.RandomBits.next c.args.self.now
+    (sketch_of held.k held.accuracy (i.n + 1) held.levels c.set_if_some.new.place c.set_if_some-2.new.place) c.args.coins.now c.take_last.new.coins c.args.item
+made g c off =
+    let known = not-full _ _ _ c.self.view_is c.self.invariant c.is_full.ensures off in
+    update_makes g.met.T.Ord.total g.B.RandomBits.bit g.B.RandomBits.next c.self.view_is c.self.invariant _ _ known.0 known.1
+    (kept g c) c.in_ok-take_last.ensures.acted
+    c.in_ok-least.ensures.least (least_is g c) c.in_ok-least.ensures.greatest (greatest_is g c)
+
+done : (g : Over) (c : After-set_if_some-2 g) → c.is_full.result ≡ false → let i = c.self.inside in let held = c.take_last.new.self in
+    UpdateEnds g.T.Ord.cmp g.B.RandomBits.bit g.B.RandomBits.next c.args.self.now
+    (sketch_of held.k held.accuracy (i.n + 1) held.levels c.set_if_some.new.place c.set_if_some-2.new.place) c.args.coins.now c.take_last.new.coins (Ok (tt {0})) c.args.item
+done g c off = update_done g.T.Ord.cmp g.B.RandomBits.bit g.B.RandomBits.next c.args.self.now _ c.args.coins.now c.take_last.new.coins (tt {0}) c.args.item (made g c off) (not_flagged c.is_full.ensures off)
 
 pub returns : goal.returns
-returns g c =
-    let off = not-true _ (c.in_ok-unless.ensures.ok.0 refl) in
-    let known = not-full _ _ _ c.self.view_is c.self.invariant c.is_full.ensures off in
-    let made = update_makes g.met.T.Ord.total g.B.RandomBits.bit g.B.RandomBits.next c.self.view_is c.self.invariant _ _ known.0 known.1
-    c.take_last.ensures.kept c.in_ok-take_last.ensures.acted
-    c.in_ok-least.ensures.least c.set_if_some.ensures c.in_ok-least.ensures.greatest c.set_if_some-2.ensures in
-    record {
-      ok = made.1;
-      sound = made.0;
-      coins = made.2;
-      err = tt;
-      full = accepted (not_flagged c.is_full.ensures off);
-      memory = tt;
-    }
+returns g c = done g (past.returns g c).After-set_if_some-2 (not-true _ (c.in_ok-unless.ensures.ok.0 refl))
 
 pub invariant_of-self : goal.invariant_of-self
 invariant_of-self g c =
-    subst (IsSound g.T.Ord.cmp) (sym (same_sketch _ _ _ c.in_err-take_last.ensures.err.0)) c.self.invariant
+    still_sound c.self.inside.n c.self.inside.min_item c.self.inside.max_item c.in_err-take_last.ensures.err.0 c.self.invariant
 
 pub invariant_of-self-2 : goal.invariant_of-self-2
 invariant_of-self-2 g c = (returns g c).sound
