@@ -39,20 +39,6 @@ returns-in_err-upper g t c =
     let long = parts-long _ c.args.levels.now c.split_at.result.0.now c.split_at.result.1.now c.split_at.ensures.front c.split_at.ensures.back in
     record { moved = no_found _ e; sorted = no_found _ e; some = with_error _ e (second_some _ long c.in_err-upper.ensures.some) }
 
-pub returns-clause-moved : goal.returns-clause-moved
-returns-clause-moved g t c =
-    ok-weaker c.merge_weighted.result (λ v. IsPermutation (c.as_slice.result.now ++ c.as_slice-2.result.now) v.items) (λ v. IsPermutation (pairs_of c.args.levels.now) (pairs_in v.items))
-    (λ v same.
-    both-moved _ c.args.levels.now c.split_at.result.0.now c.split_at.result.1.now c.split_at.ensures.front c.split_at.ensures.back c.in_ok-lower.lower.items c.in_ok-upper.upper.items
-    c.in_ok-lower.ensures.moved c.in_ok-upper.ensures.moved v.items (rw (c.as_slice.ensures.value, c.as_slice-2.ensures.value) at same)) c.merge_weighted.ensures.moved
-
-pub returns-clause-some : goal.returns-clause-some
-returns-clause-some g t c =
-    let long = both-long _ c.args.levels.now c.split_at.result.0.now c.split_at.result.1.now c.split_at.ensures.front c.split_at.ensures.back c.in_ok-lower.lower.items c.in_ok-upper.upper.items
-    c.in_ok-lower.ensures.moved c.in_ok-upper.ensures.moved in
-    IfErr-weaker c.merge_weighted.result (λ e. 0 < length c.as_slice.result.now + length c.as_slice-2.result.now) (λ e. 0 < length (pairs_of c.args.levels.now))
-    (λ e some. sum_some some (ap length c.as_slice.ensures.value) (ap length c.as_slice-2.ensures.value) long) c.merge_weighted.ensures.some
-
 pub merge_weighted-requires-clause-first : goal.merge_weighted-requires-clause-first
 merge_weighted-requires-clause-first g t c =
     subst (λ (xs : List (Weighted g.row.T.Denot)). IsSorted g.T.Ord.cmp (items_of xs)) (sym c.as_slice.ensures.value) c.in_ok-lower.ensures.sorted
@@ -60,9 +46,6 @@ merge_weighted-requires-clause-first g t c =
 pub merge_weighted-requires-clause-second : goal.merge_weighted-requires-clause-second
 merge_weighted-requires-clause-second g t c =
     subst (λ (xs : List (Weighted g.row.T.Denot)). IsSorted g.T.Ord.cmp (items_of xs)) (sym c.as_slice-2.ensures.value) c.in_ok-upper.ensures.sorted
-
-pub returns-clause-sorted : goal.returns-clause-sorted
-returns-clause-sorted g t c = c.merge_weighted.ensures.sorted
 
 pub returns-then-levels-eq1 : goal.returns-then-levels-eq1
 returns-then-levels-eq1 g t c =
@@ -77,3 +60,21 @@ returns-then-levels-eq1 g t c =
 
 pub merge_weighted-requires-clause-few : goal.merge_weighted-requires-clause-few
 merge_weighted-requires-clause-few g c = grind arith
+
+pub returns : goal.returns
+returns g t c =
+    let all = c.args.levels.now in
+    let low = c.split_at.result.0.now in
+    let high = c.split_at.result.1.now in
+    record {
+      moved = ok-weaker c.merge_weighted.result (λ v. IsPermutation (c.as_slice.result.now ++ c.as_slice-2.result.now) v.items)
+          (λ v. IsPermutation (pairs_of all) (pairs_in v.items))
+          (λ v same. both-moved _ all low high c.split_at.ensures.front c.split_at.ensures.back c.in_ok-lower.lower.items c.in_ok-upper.upper.items
+          c.in_ok-lower.ensures.moved c.in_ok-upper.ensures.moved v.items (rw (c.as_slice.ensures.value, c.as_slice-2.ensures.value) at same))
+          c.merge_weighted.ensures.moved;
+      sorted = c.merge_weighted.ensures.sorted;
+      some = IfErr-weaker c.merge_weighted.result (λ e. 0 < length c.as_slice.result.now + length c.as_slice-2.result.now) (λ e. 0 < length (pairs_of all))
+          (λ e some. sum_some some (ap length c.as_slice.ensures.value) (ap length c.as_slice-2.ensures.value)
+          (both-long _ all low high c.split_at.ensures.front c.split_at.ensures.back c.in_ok-lower.lower.items c.in_ok-upper.upper.items
+          c.in_ok-lower.ensures.moved c.in_ok-upper.ensures.moved)) c.merge_weighted.ensures.some;
+    }

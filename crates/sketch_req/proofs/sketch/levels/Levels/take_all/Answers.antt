@@ -1,6 +1,5 @@
 -- The levels themselves take the items at once, or a copy takes them in turn.
 use Rattle.std.proofs.Common.{ℕ, ◌<◌, Bool, List, Ordering, refl, subst, sym, ◌≡◌, ◌∙◌, arith, ap}
-use Rattle.std.proofs.lemmas.Result.{IfOk-from_err}
 use Rattle.std.proofs.lemmas.Grind.{common_steps}
 use Rattle.std.proofs.lemmas.List.Elements.{length_all_zip}
 use Rattle.std.specs.List.{AllZip}
@@ -11,8 +10,9 @@ use Rattle.sketch_req.specs.Level.{Level}
 use Rattle.sketch_req.specs.Copy.{IsLevelCopy}
 use Rattle.sketch_req.specs.Schedule.{Layout, layouts_of, retained_of, weight_of}
 use Rattle.sketch_req.specs.ScheduleLaws.{updates_actions}
-use Rattle.sketch_base.proofs.Exits.{error_known, on_error, only_error}
 use Rattle.sketch_req.proofs.Copies.{layouts-copied, placed-copied}
+use Rattle.sketch_req.proofs.LevelEnds.{all_failed}
+use Rattle.sketch_req.proofs.Refusals.{none_drawn}
 use Rattle.sketch_req.proofs.TakenInTurn.{taken-filled}
 use Rattle.sketch_req.proofs.UpdatesInTurn.{levels-itself}
 use Rattle.sketch_req.proofs.WalkCapacities.{retained-weight}
@@ -129,41 +129,22 @@ returns-then-self-items g c =
 
 pub returns-in_err-fill : goal.returns-in_err-fill
 returns-in_err-fill g c =
-    let r = c.from_residual.result in
-    let (fails, is) = c.from_residual.ensures in
-    record {
-      kept = c.in_err-fill.ensures.kept;
-      taken = IfOk-from_err r _ fails;
-      err = on_error r c.in_err-fill.ensures.err;
-      drawn = on_error r (record { count = 0; few = omega arith; after_is = refl });
-      memory = error_known r _ is;
-    }
+    let told = c.in_err-fill.ensures in
+    all_failed g.T.Ord.cmp g.B.RandomBits.bit g.B.RandomBits.next c.args.self.now c.fill.new.self c.args.items.now c.args.coins.now c.args.coins.now c.from_residual.result
+    c.from_residual.ensures refl told.kept told.err (none_drawn _ _ _)
 
 pub returns-in_err-take_in_turn : goal.returns-in_err-take_in_turn
 returns-in_err-take_in_turn g c =
     let same = layouts-copied g.met.T.Ord.total _ _ c.in_ok-copy_levels.ensures in
-    let r = c.from_residual-in_err-take_in_turn.result in
-    let (fails, is) = c.from_residual-in_err-take_in_turn.ensures in
-    record {
-      kept = refl;
-      taken = IfOk-from_err r _ fails;
-      err = on_error r refl;
-      drawn = on_error r (copied-draws g.B.RandomBits.next c.args.coins.now c.take_in_turn.new.coins c.args.items.now _ _ _ _ c.self.view_is c.new-copy.ensures
-          same c.in_err-take_in_turn.ensures.drawn);
-      memory = only_error r is c.in_err-take_in_turn.ensures.memory;
-    }
+    all_failed g.T.Ord.cmp g.B.RandomBits.bit g.B.RandomBits.next c.args.self.now c.args.self.now c.args.items.now c.args.coins.now c.take_in_turn.new.coins c.from_residual-in_err-take_in_turn.result
+    c.from_residual-in_err-take_in_turn.ensures c.in_err-take_in_turn.ensures.memory refl refl
+    (copied-draws g.B.RandomBits.next c.args.coins.now c.take_in_turn.new.coins c.args.items.now _ _ _ _ c.self.view_is c.new-copy.ensures
+    same c.in_err-take_in_turn.ensures.drawn)
 
 pub returns-in_err-copy_levels : goal.returns-in_err-copy_levels
 returns-in_err-copy_levels g c =
-    let r = c.from_residual-in_err-copy_levels.result in
-    let (fails, is) = c.from_residual-in_err-copy_levels.ensures in
-    record {
-      kept = refl;
-      taken = IfOk-from_err r _ fails;
-      err = on_error r refl;
-      drawn = on_error r (record { count = 0; few = omega arith; after_is = refl });
-      memory = error_known r _ is;
-    }
+    all_failed g.T.Ord.cmp g.B.RandomBits.bit g.B.RandomBits.next c.args.self.now c.args.self.now c.args.items.now c.args.coins.now c.args.coins.now c.from_residual-in_err-copy_levels.result
+    c.from_residual-in_err-copy_levels.ensures refl refl refl (none_drawn _ _ _)
 
 pub take_in_turn-requires-clause-clones : goal.take_in_turn-requires-clause-clones
 take_in_turn-requires-clause-clones g c = c.requires.clones

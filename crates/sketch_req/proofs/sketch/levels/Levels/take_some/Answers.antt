@@ -1,12 +1,11 @@
 -- A part of the items, or one of them with its walk.
 use Rattle.sketch_req.specs.Level.{Level}
 use Rattle.sketch_req.specs.Held.{IsHeld}
-use Rattle.std.proofs.lemmas.Result.{IfOk-from_err}
-use Rattle.sketch_base.proofs.Exits.{error_known, on_error, only_error}
 use Rattle.std.proofs.Common.{◌≡◌, Equal, List, arith, refl, subst, sym, take}
 use Rattle.std.proofs.lemmas.Grind.{common_steps}
 use Rattle.std.proofs.lemmas.List.{length-take}
 use Rattle.sketch_req.specs.Updates.{AreTakenInTurn}
+use Rattle.sketch_req.proofs.LevelEnds.{some_failed}
 use Rattle.sketch_req.proofs.TakenInTurn.{are-kept, first-item, taken-filled, taken-one}
 use Rattle.sketch_req.proofs.sketch.levels.Levels.take_some.Goals.{In_ok-fill, In_ok-take_last}
 use Rattle.sketch_req.proofs.sketch.levels.Levels.take_some.Given.{Over}
@@ -78,45 +77,18 @@ returns-then-room-eq0 g c =
 
 pub returns-in_err-fill : goal.returns-in_err-fill
 returns-in_err-fill g c =
-    let r = c.from_residual-in_err-fill.result in
-    let (fails, is) = c.from_residual-in_err-fill.ensures in
-    record {
-      kept = c.in_err-fill.ensures.kept;
-      some = IfOk-from_err r _ fails;
-      within = IfOk-from_err r _ fails;
-      taken = IfOk-from_err r _ fails;
-      left = IfOk-from_err r _ fails;
-      err = on_error r refl;
-      memory = error_known r _ is;
-    }
+    some_failed g.T.Ord.cmp g.B.RandomBits.bit g.B.RandomBits.next c.args.self.now c.fill.new.self c.args.items.now c.args.coins.now c.args.coins.now c.from_residual-in_err-fill.result
+    c.from_residual-in_err-fill.ensures refl c.in_err-fill.ensures.kept refl
 
 pub returns-in_err-clone : goal.returns-in_err-clone
 returns-in_err-clone g c =
-    let r = c.from_residual.result in
-    let (fails, is) = c.from_residual.ensures in
-    record {
-      kept = refl;
-      some = IfOk-from_err r _ fails;
-      within = IfOk-from_err r _ fails;
-      taken = IfOk-from_err r _ fails;
-      left = IfOk-from_err r _ fails;
-      err = on_error r refl;
-      memory = error_known r _ is;
-    }
+    some_failed g.T.Ord.cmp g.B.RandomBits.bit g.B.RandomBits.next c.args.self.now c.args.self.now c.args.items.now c.args.coins.now c.args.coins.now c.from_residual.result c.from_residual.ensures refl refl refl
 
 pub returns-in_err-take_last : goal.returns-in_err-take_last
 returns-in_err-take_last g c =
-    let r = c.from_residual-in_err-take_last.result in
-    let (fails, is) = c.from_residual-in_err-take_last.ensures in
-    record {
-      kept = c.in_err-take_last.ensures.kept;
-      some = IfOk-from_err r _ fails;
-      within = IfOk-from_err r _ fails;
-      taken = IfOk-from_err r _ fails;
-      left = IfOk-from_err r _ fails;
-      err = on_error r c.in_err-take_last.ensures.err.1;
-      memory = only_error r is c.in_err-take_last.ensures.memory;
-    }
+    let told = c.in_err-take_last.ensures in
+    some_failed g.T.Ord.cmp g.B.RandomBits.bit g.B.RandomBits.next c.args.self.now c.take_last.new.self c.args.items.now c.args.coins.now c.take_last.new.coins c.from_residual-in_err-take_last.result
+    c.from_residual-in_err-take_last.ensures told.memory told.kept told.err.1
 
 pub take_last-requires-clause-few : goal.take_last-requires-clause-few
 take_last-requires-clause-few g c = c.requires.few

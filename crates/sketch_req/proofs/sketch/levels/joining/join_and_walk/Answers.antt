@@ -45,14 +45,16 @@ module _ (g : Over) (c : After-redraw_if g) where
   abbrev ls : List (Level g.row.T.Denot)
   ls = c.args.levels.now.items
 
+  held : c.reserve_exact.new.self.items ≡ ls
+  held = c.reserve_exact.ensures.items
+
   joined_are : AreJoined g.T.Ord.cmp (k_of ls) (accuracy_of ls) ls c.args.others.now c.join_levels.new.levels.items
   joined_are =
       subst (λ (xs : List (Level g.row.T.Denot)). AreJoined g.T.Ord.cmp (k_of xs) (accuracy_of xs) xs c.args.others.now c.join_levels.new.levels.items)
-      c.reserve_exact.ensures.items
-      c.join_levels.ensures.joined
+      held c.join_levels.ensures.joined
 
   count_is : length c.join_levels.new.levels.items ≡ max (length ls) (length c.args.others.now)
-  count_is = c.join_levels.ensures.count ∙ ap (λ (xs : List (Level g.row.T.Denot)). max (length xs) (length c.args.others.now)) c.reserve_exact.ensures.items
+  count_is = c.join_levels.ensures.count ∙ ap (λ (xs : List (Level g.row.T.Denot)). max (length xs) (length c.args.others.now)) held
 
   abbrev ready : List (Level g.row.T.Denot)
   ready = c.redraw_if.new.levels.items

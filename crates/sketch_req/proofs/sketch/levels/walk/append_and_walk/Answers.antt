@@ -11,16 +11,21 @@ use Rattle.sketch_req.proofs.TakenInTurn.{first-appended, first-few}
 use Rattle.sketch_base.proofs.Exits.{error_known, on_error, only_error}
 use Rattle.sketch_req.proofs.Held.{own-appended}
 use Rattle.sketch_req.proofs.sketch.levels.walk.append_and_walk.Given.{Over}
-use Rattle.sketch_req.proofs.sketch.levels.walk.append_and_walk.Goals.{After-walk-arg-2-1}
+use Rattle.sketch_req.proofs.sketch.levels.walk.append_and_walk.Goals.{After-walk-arg-2-1, In_err-append}
 use Rattle.sketch_req.proofs.sketch.levels.walk.append_and_walk.Goals.at as past
 use Rattle.sketch_req.proofs.sketch.levels.walk.append_and_walk.Goals as goal
 
-put : (g : Over) (c : After-walk-arg-2-1 g) → slice_set c.reserve_exact.new.self.items 0 c.append.new.self ≡ appended_first c.args.levels.now.items c.args.item
-put g c =
-    let same = c.reserve_exact.ensures.items in
-    let some = subst (λ (ls : List (Level g.row.T.Denot)). 0 < length ls) (sym same) c.requires.levels.some in
-    first-appended c.reserve_exact.new.self.items c.index_mut.result.now _ c.args.item some c.index_mut.ensures.value c.in_ok-append.ensures.ok
-    ∙ ap (λ (ls : List (Level g.row.T.Denot)). appended_first ls c.args.item) same
+module _ (g : Over) (c : After-walk-arg-2-1 g) where
+  -- the levels themselves are as they were
+  held : c.reserve_exact.new.self.items ≡ c.args.levels.now.items
+  held = c.reserve_exact.ensures.items
+
+  -- but for the item
+  put : slice_set c.reserve_exact.new.self.items 0 c.append.new.self ≡ appended_first c.args.levels.now.items c.args.item
+  put =
+      let some = subst (λ (ls : List (Level g.row.T.Denot)). 0 < length ls) (sym held) c.requires.levels.some in
+      first-appended c.reserve_exact.new.self.items c.index_mut.result.now c.append.new.self c.args.item some c.index_mut.ensures.value c.in_ok-append.ensures.ok
+      ∙ ap (λ (ls : List (Level g.row.T.Denot)). appended_first ls c.args.item) held
 
 -- space for a walk after an item came in is space for a walk over the levels with it
 space-appended : {A : Type 0} (ls : List (Level A)) (x : A) (rooms : List (Space A)) (most : ℕ) → 0 < length ls → HaveSpace (k_of ls) (accuracy_of ls)
@@ -57,18 +62,28 @@ returns g c =
       memory = tt;
     }
 
+-- the levels as they were, where the item wasn't appended
+module _ (g : Over) (c : In_err-append g) where
+  same : c.reserve_exact.new.self.items ≡ c.args.levels.now.items
+  same = c.reserve_exact.ensures.items
+
+  still : slice_set c.reserve_exact.new.self.items 0 c.append.new.self ≡ c.args.levels.now.items
+  still = set-kept c.reserve_exact.new.self.items 0 c.index_mut.result.now c.append.new.self c.index_mut.ensures.value c.in_err-append.ensures.err ∙ same
+
+  few : length c.index_mut.result.now.items < 4294967295
+  few =
+      let some = subst (λ (ls : List (Level g.row.T.Denot)). 0 < length ls) (sym same) c.requires.levels.some in
+      lt_of_le_of_lt (le_trans (first-few c.reserve_exact.new.self.items c.index_mut.result.now some c.index_mut.ensures.value)
+      (le_of_eq (ap (λ (ls : List (Level g.row.T.Denot)). retained_of (layouts_of ls)) same))) c.requires.few
+
 pub returns-in_err-append : goal.returns-in_err-append
 returns-in_err-append g c =
     let r = c.from_residual-in_err-append.result in
-    let (fails, is) = c.from_residual-in_err-append.ensures in
-    let same = c.reserve_exact.ensures.items in
-    let some = subst (λ (ls : List (Level g.row.T.Denot)). 0 < length ls) (sym same) c.requires.levels.some in
-    let few = first-few c.reserve_exact.new.self.items c.index_mut.result.now some c.index_mut.ensures.value in
-    let all = ap (λ (ls : List (Level g.row.T.Denot)). retained_of (layouts_of ls)) same in
+    let at = (past.returns-in_err-append g c).In_err-append in
     record {
-      acted = IfOk-from_err r _ fails;
-      err = on_error r (set-kept c.reserve_exact.new.self.items 0 c.index_mut.result.now _ c.index_mut.ensures.value c.in_err-append.ensures.err ∙ same, refl);
-      memory = only_error r is (c.in_err-append.ensures.memory (lt_of_le_of_lt (le_trans few (le_of_eq all)) c.requires.few));
+      acted = IfOk-from_err r _ c.from_residual-in_err-append.ensures.0;
+      err = on_error r (still g at, refl);
+      memory = only_error r c.from_residual-in_err-append.ensures.1 (c.in_err-append.ensures.memory (few g at));
     }
 
 pub returns-in_err-reserve : goal.returns-in_err-reserve

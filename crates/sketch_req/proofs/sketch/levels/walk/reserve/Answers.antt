@@ -1,5 +1,5 @@
 -- The loop keeps what is known of the next level's turn, and that there are clones, and room for the turns so far.
-use Rattle.std.proofs.Common.{nat_cmp, true, Ordering, inl, inr, ◌≡◌, ℕ, suc, ◌+◌, ◌/◌, ◌<◌, ◌≤◌, Bool, if◌then◌else◌, List, [], length, length-set, refl, sym, ap, ap₂, ◌∙◌, subst, arith, get_or, le_trans, lt_of_lt_of_le, max, not-le_of_lt, not-suc-le-zero, vec_capacity}
+use Rattle.std.proofs.Common.{OnOk, nat_cmp, true, Ordering, inl, inr, ◌≡◌, ℕ, suc, ◌+◌, ◌/◌, ◌<◌, ◌≤◌, Bool, if◌then◌else◌, List, [], length, length-set, refl, sym, ap, ap₂, ◌∙◌, subst, arith, get_or, le_trans, lt_of_lt_of_le, max, not-le_of_lt, not-suc-le-zero, vec_capacity}
 use Rattle.std.specs.Ordering.{ord_max}
 use Rattle.std.proofs.lemmas.Bool.{cases_lt}
 use Rattle.std.proofs.lemmas.Result.{on_ok_weaker, IfOk-from_err}
@@ -7,9 +7,9 @@ use Rattle.std.proofs.lemmas.Grind.{common_steps}
 use Rattle.sketch_base.specs.Bag.{SameItems, level_at}
 use Rattle.sketch_base.specs.Buffers.{Space}
 use Rattle.sketch_req.specs.Level.{Level, fresh}
-use Rattle.sketch_req.specs.Merged.{item_lists}
+use Rattle.sketch_req.specs.Merged.{AreCloned, item_lists}
 use Rattle.sketch_req.specs.Schedule.{Layout, layouts_of, layout_at, joined_layouts, filled, steps_layouts}
-use Rattle.sketch_req.specs.Walk.{accuracy_of, given_up, k_of, own_space, taken_if_full, with_more}
+use Rattle.sketch_req.specs.Walk.{HaveSpace, accuracy_of, given_up, k_of, own_space, taken_if_full, with_more}
 use denote.Enum.Bare.{sameb}
 use Rattle.sketch_req.specs.contracts.RankAccuracy.{the_type}
 use Rattle.sketch_req.specs.declared.RankAccuracy.{RankAccuracy}
@@ -24,7 +24,7 @@ use Rattle.sketch_req.proofs.WalkSteps.{own-there}
 use Rattle.sketch_req.proofs.sketch.levels.walk.reserve.Given.{Over}
 use Rattle.sketch_req.proofs.sketch.levels.walk.reserve.Goals as goal
 use Rattle.sketch_req.proofs.sketch.levels.walk.reserve.Goals.at as past
-use Rattle.sketch_req.proofs.sketch.levels.walk.reserve.Goals.{After-count_at-in-loop-level, Joined-level-others, Joined-is_high, then-level-others+in_ok-take_clones, else-level-others, then-is_high, else-is_high}
+use Rattle.sketch_req.proofs.sketch.levels.walk.reserve.Goals.{After-count_at-in-loop-level, After-drop-blank-inside-2, In_ok-for_levels, Joined-level-others, Joined-is_high, then-level-others+in_ok-take_clones, else-level-others, then-is_high, else-is_high}
 
 -- the greater of two numbers
 at-most-greater : (greater m n : ℕ) → greater ≡ ord_max nat_cmp m n → (m ≤ greater) × (n ≤ greater)
@@ -183,28 +183,53 @@ all-places k more greater ls os some e =
 part-within : (n m most : ℕ) → n + m ≤ most → m ≤ most
 part-within n m most l = omega (arith, l)
 
-pub returns : goal.returns
-returns g c =
-    let i = c.loop-level.invariant in
-    let lengths = all-places (k_of c.args.levels.now) c.args.more _ c.args.levels.now c.args.others.now c.requires.levels.some c.max-count.ensures in
-    let done = c.loop-level-test.false in
-    let most = part-within _ _ _ c.in_ok-reserve_exact.ensures.ok in
-    let r = c.reserve_exact-2.result in
-    let ok = c.reserve_exact-2.ensures.ok in
-    record {
-      empty = on_ok_weaker r (λ _. c.reserve_exact.ensures.items ∙ c.clear.ensures.items) ok;
-      nothing = on_ok_weaker r (λ _. c.reserve_exact-2.ensures.items ∙ c.clear-2.ensures.items) ok;
-      above = on_ok_weaker r (λ room. subst (λ (n : ℕ). n ≤ vec_capacity c.reserve_exact-2.new.self) c.capacity.ensures (part-within _ _ _ room)) ok;
-      cloned = on_ok_weaker r (λ _. record {
-        enough = le_trans lengths.1 i.enough;
-        cloned = λ h l. cloned-grown g.T.Ord.cmp _ _ _ _ _ _ most (i.cloned h (lt_of_lt_of_le l (le_trans lengths.1 done)) l);
-      }) ok;
-      fit = on_ok_weaker r (λ _. record {
+-- all is reserved
+module _ (g : Over) (c : After-drop-blank-inside-2 g) where
+  empty : OnOk c.reserve_exact-2.result (c.reserve_exact.new.self.items ≡ [])
+  empty = on_ok_weaker c.reserve_exact-2.result (λ _. ◌∙◌ {A = List g.row.T.Denot} c.reserve_exact.ensures.items c.clear.ensures.items) c.reserve_exact-2.ensures.ok
+
+  nothing : OnOk c.reserve_exact-2.result (c.reserve_exact-2.new.self.items ≡ [])
+  nothing = on_ok_weaker c.reserve_exact-2.result (λ _. c.reserve_exact-2.ensures.items ∙ c.clear-2.ensures.items) c.reserve_exact-2.ensures.ok
+
+  above : OnOk c.reserve_exact-2.result (vec_capacity c.reserve_exact.new.self ≤ vec_capacity c.reserve_exact-2.new.self)
+  above =
+      on_ok_weaker c.reserve_exact-2.result
+      (λ room. subst (λ (n : ℕ). n ≤ vec_capacity c.reserve_exact-2.new.self) c.capacity.ensures (part-within _ _ _ room)) c.reserve_exact-2.ensures.ok
+
+  most : c.loop-level.most ≤ vec_capacity c.reserve_exact.new.self
+  most = part-within _ _ _ c.in_ok-reserve_exact.ensures.ok
+
+  abbrev all : List Layout
+  all = with_more c.args.more (joined_layouts (k_of c.args.levels.now) (layouts_of c.args.levels.now) (layouts_of c.args.others.now))
+
+  lengths : (length all ≤ c.max-count.result) × (length c.args.others.now ≤ c.max-count.result)
+  lengths = all-places (k_of c.args.levels.now) c.args.more _ c.args.levels.now c.args.others.now c.requires.levels.some c.max-count.ensures
+
+  cloned : AreCloned g.T.Ord.cmp c.args.levels.now c.args.others.now c.loop-level.rooms.items (vec_capacity c.reserve_exact.new.self)
+  cloned = record {
+    enough = le_trans lengths.1 c.loop-level.invariant.enough;
+    cloned = λ h l. cloned-grown g.T.Ord.cmp _ _ _ _ _ _ most
+        (c.loop-level.invariant.cloned h (lt_of_lt_of_le l (le_trans lengths.1 c.loop-level-test.false)) l);
+  }
+
+  fit : HaveSpace (k_of c.args.levels.now) (accuracy_of c.args.levels.now) all c.loop-level.rooms.items (vec_capacity c.reserve_exact.new.self)
+  fit =
+      let i = c.loop-level.invariant in
+      let done = c.loop-level-test.false in
+      record {
         enough = le_trans lengths.0 i.enough;
         promoted = λ h l. le_trans (i.promoted h (lt_of_lt_of_le l (le_trans lengths.0 done))) most;
         own = λ h l. i.own h (lt_of_lt_of_le l (le_trans lengths.0 done));
-      }) ok;
-    }
+      }
+
+pub returns : goal.returns
+returns g c = record {
+  empty = empty g c;
+  nothing = nothing g c;
+  above = above g c;
+  cloned = on_ok_weaker c.reserve_exact-2.result (λ _. cloned g c) c.reserve_exact-2.ensures.ok;
+  fit = on_ok_weaker c.reserve_exact-2.result (λ _. fit g c) c.reserve_exact-2.ensures.ok;
+}
 
 pub overflow_add-here : goal.overflow_add-here
 overflow_add-here g c = let f = few g c in grind (arith, common_steps)
@@ -241,9 +266,13 @@ take_clones-requires g c = record { clones = c.requires.clones }
 pub count_to_take_at-taken-requires-clause-levels : goal.count_to_take_at-taken-requires-clause-levels
 count_to_take_at-taken-requires-clause-levels g c = c.requires.levels
 
+-- there is a buffer for each level
+enough : (g : Over) (c : In_ok-for_levels g) → c.max-count.result ≤ length c.for_levels.new.buffers.items
+enough g c = subst (λ (n : ℕ). c.max-count.result ≤ n) c.for_levels.new.buffers.ok.0 c.in_ok-for_levels.ensures
+
 pub loop-level-init : goal.loop-level-init
 loop-level-init g c = record {
-  enough = subst (λ (n : ℕ). c.max-count.result ≤ n) c.for_levels.new.buffers.ok.0 c.in_ok-for_levels.ensures;
+  enough = enough g c;
   planned = planned-start _ _ _;
   cloned = λ h l. absurd (not-suc-le-zero l);
   promoted = λ h l. absurd (not-suc-le-zero l);

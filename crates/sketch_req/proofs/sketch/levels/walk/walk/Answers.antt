@@ -14,7 +14,7 @@ use Rattle.sketch_req.proofs.Layouts.{length-layouts}
 use Rattle.sketch_req.proofs.MergedLevels.{is-added}
 use Rattle.sketch_req.proofs.WalkSteps.{opened, own-there, raised}
 use Rattle.sketch_req.proofs.Turns.{IsPending, IsReady, is-ready, next-pending, pending-above, pending-start, ready-held}
-use Rattle.sketch_req.proofs.sketch.levels.walk.walk.Goals.{After-index_mut-in-loop-level, After-parameters-k, After-add_level}
+use Rattle.sketch_req.proofs.sketch.levels.walk.walk.Goals.{After-index_mut-in-loop-level, After-swap, After-parameters-k, After-add_level}
 use Rattle.sketch_req.proofs.sketch.levels.walk.walk.Goals as goal
 use Rattle.sketch_req.proofs.sketch.levels.walk.walk.Goals.at as past
 
@@ -101,6 +101,10 @@ items-kept {X} {Z} P v w e p = subst P (sym (ap (λ (u : Vec X Z). u.items) e)) 
 capacity-kept : {X Z : Type 0} (v w : Vec X Z) (n m : ℕ) → v ≡ w → vec_capacity w ≡ m → n ≤ m → n ≤ vec_capacity v
 capacity-kept {X} {Z} v w n m e f l = subst (λ (i : ℕ). n ≤ i) (sym (ap (λ (u : Vec X Z). vec_capacity u) e ∙ f)) l
 
+-- the two vectors are exchanged
+swapped : (g : _) (c : After-swap g) → (c.swap.new.x ≡ c.turn.new.up) × (c.swap.new.y ≡ c.turn.new.coming)
+swapped g c = (c.swap.ensures.x_after, c.swap.ensures.y_after)
+
 pub loop-level-preserved : goal.loop-level-preserved
 loop-level-preserved g c =
     let at = (past.loop-level-preserved g c).After-index_mut-in-loop-level in
@@ -112,7 +116,7 @@ loop-level-preserved g c =
     record {
       pending = items-kept (IsPending g.met.T.Ord.total g.B.RandomBits.bit g.B.RandomBits.next c.args.coins.now (k_of ls) (accuracy_of ls) ls (spaces g at) most
           (c.loop-level.level + 1) c.turn.new.coins
-          (set c.loop-level.levels.items c.loop-level.level c.turn.new.self)) _ _ c.swap.ensures.x_after
+          (set c.loop-level.levels.items c.loop-level.level c.turn.new.self)) _ _ (swapped g c).0
           (next-pending g.met.T.Ord.total g.B.RandomBits.bit g.B.RandomBits.next c.args.coins.now (k_of ls) (accuracy_of ls) ls
           (spaces g at) c.loop-level.level most c.loop-level.coins
           c.turn.new.coins c.loop-level.levels.items c.index_mut.result.now c.turn.new.self c.loop-level.coming.items _ c.requires.few_items i.pending
@@ -124,10 +128,10 @@ loop-level-preserved g c =
       enough = subst (λ (n : ℕ). c.len-count.result ≤ n) (sym (length-set buffers c.loop-level.level _)) i.enough;
       merged = λ j low. read-other (λ (b : Space g.row.T.Denot). b.merged_space) 0 buffers c.loop-level.level _ j (places-above _ j low).0
           ∙ i.merged j (places-above _ j low).1;
-      sorted = items-kept (IsSorted g.T.Ord.cmp) _ _ c.swap.ensures.x_after c.turn.ensures.sorted;
-      empty = items-kept (λ (xs : List g.row.T.Denot). xs ≡ []) _ _ c.swap.ensures.y_after c.turn.ensures.coming;
-      room = capacity-kept _ _ _ _ c.swap.ensures.x_after c.turn.ensures.up_capacity i.above;
-      above = capacity-kept _ _ _ _ c.swap.ensures.y_after c.turn.ensures.coming_capacity i.room;
+      sorted = items-kept (IsSorted g.T.Ord.cmp) _ _ (swapped g c).0 c.turn.ensures.sorted;
+      empty = items-kept (λ (xs : List g.row.T.Denot). xs ≡ []) _ _ (swapped g c).1 c.turn.ensures.coming;
+      room = capacity-kept _ _ _ _ (swapped g c).0 c.turn.ensures.up_capacity i.above;
+      above = capacity-kept _ _ _ _ (swapped g c).1 c.turn.ensures.coming_capacity i.room;
     }
 
 -- the highest level gave up items

@@ -1,0 +1,77 @@
+-- The body of an image, by its form.
+use Rattle.std.proofs.Common.{◌≡◌, ◌+◌, ◌++◌, ◌≤◌, ◌∙◌, ℕ, Bool, true, false, if◌then◌else◌, List, [], ◌∷◌, get_or, length, append-nil, append_assoc, length-append, Option, refl, ap, sym, subst, arith, ◌==◌}
+use Rattle.std.proofs.lemmas.Bool.{eqb-true}
+use Rattle.std.specs.Int.{w64, to_le_bytes}
+use Rattle.std.specs.Option.{option_to_list}
+use Rattle.std.specs.Prelude.{IsSome, nat_le}
+use Rattle.std.proofs.lemmas.List.Concat.{flat_map-append}
+use Rattle.sketch_base.specs.Spelling.{AllSpelled, items_text}
+use Rattle.sketch_base.proofs.AllParts.{all-append}
+use Rattle.sketch_req.specs.Imaged.{items_in}
+use Rattle.sketch_req.specs.Level.{Level}
+use Rattle.sketch_req.specs.LevelImage.{levels_text}
+use Rattle.sketch_req.specs.Sketch.{Req}
+use Rattle.sketch_req.specs.Written.{body_by, ends_of, form_of, items_by}
+use Rattle.sketch_req.specs.declared.image.Form.{Form}
+use Rattle.sketch_req.specs.declared.image.Form.TheVariants.{Empty, Raw, One, Several}
+
+not_raw : (b : Bool) → Raw ≡ (if b then Empty else Several) → ⊥
+not_raw true e = cc
+not_raw false e = cc
+
+not_one : (b d : Bool) (form : Form) → (d ≡ true → ⊥) → Raw ≡ (if b then Empty else if d then form else Several) → ⊥
+not_one true d form never e = cc
+not_one false true form never e = never refl
+not_one false false form never e = cc
+
+many : (n : ℕ) → 2 ≤ n → n == 1 ≡ true → ⊥
+many n some one = let is = eqb-true n 1 one in omega (arith, some, is)
+
+alone : {A : Type 0} (n : ℕ) (ls : List (Level A)) (x : Level A) →
+    Raw ≡ (if n == 0 then Empty else if length ls == 1 then (if nat_le n 4 then Raw else One) else Several) → x ≡ get_or ls 0 x → x.items ≡ items_in ls
+alone n [] x e is = absurd (not_raw (n == 0) e)
+alone {A} n (l ∷ []) x e is = ap (λ (k : Level A). k.items) is ∙ sym (append-nil l.items)
+alone n (l ∷ m ∷ ls) x e is = absurd (not_one (n == 0) (length (l ∷ m ∷ ls) == 1) (if nat_le n 4 then Raw else One) (many _ (omega arith)) e)
+
+module _ {A : Type 0} (f : A → Option (List ℕ)) (s : Req A) where
+  -- what is written by a form is written by that of the sketch
+  pub sized : {form : Form} {n : ℕ} → form ≡ form_of s → n ≡ length (body_by f form s) → n ≡ length (body_by f (form_of s) s)
+  sized {form} {n} e size = subst (λ (by : Form). n ≡ length (body_by f by s)) e size
+
+  pub all_spelled : {form : Form} → form ≡ form_of s → AllSpelled f (items_by form s) → AllSpelled f (items_by (form_of s) s)
+  all_spelled e spelled = subst (λ (by : Form). AllSpelled f (items_by by s)) e spelled
+
+  pub written : {form : Form} {new : List ℕ} (old : List ℕ) → form ≡ form_of s → new ≡ old ++ body_by f form s → new ≡ old ++ body_by f (form_of s) s
+  written {form} {new} old e told = subst (λ (by : Form). new ≡ old ++ body_by f by s) e told
+
+  -- the items of the one level of a sketch of few items
+  pub raw_items : {ls : List (Level A)} {x : Level A} {xs : List A} → Raw ≡ form_of s → ls ≡ s.levels → x ≡ get_or ls 0 x → xs ≡ x.items → xs ≡ items_in s.levels
+  raw_items {ls} {x} e same is items = items ∙ alone s.n s.levels x e (subst (λ (ks : List (Level A)). x ≡ get_or ks 0 x) same is)
+
+  text-ends : (xs ys : List A) → items_text f (xs ++ ys) ≡ items_text f xs ++ items_text f ys
+  text-ends xs ys = flat_map-append _ xs ys
+
+  -- a body of several levels
+  pub several_size : {a b c : ℕ} → a ≡ length (items_text f (option_to_list s.least)) → b ≡ length (items_text f (option_to_list s.greatest)) → c ≡ length (levels_text f s.levels) →
+      8 + a + b + c ≡ length (body_by f Several s)
+  several_size {a} {b} {c} least greatest levels =
+      let ends = ap length (text-ends (option_to_list s.least) (option_to_list s.greatest)) in
+      let both = length-append (items_text f (option_to_list s.least)) (items_text f (option_to_list s.greatest)) in
+      let all = length-append (items_text f (ends_of s)) (levels_text f s.levels) in
+      let whole = length-append (to_le_bytes w64 s.n) (items_text f (ends_of s) ++ levels_text f s.levels) in
+      omega (arith, least, greatest, levels, ends, both, all, whole)
+
+  pub several_spelled : AllSpelled f (option_to_list s.least) → AllSpelled f (option_to_list s.greatest) → AllSpelled f (items_in s.levels) → AllSpelled f (items_by Several s)
+  several_spelled least greatest levels =
+      all-append (λ y. IsSome (f y)) (ends_of s) (items_in s.levels) (all-append (λ y. IsSome (f y)) (option_to_list s.least) (option_to_list s.greatest) least greatest) levels
+
+  pub several_written : {one two three new : List ℕ} (old : List ℕ) → one ≡ old ++ to_le_bytes w64 s.n → two ≡ one ++ items_text f (option_to_list s.least) →
+      three ≡ two ++ items_text f (option_to_list s.greatest) → new ≡ three ++ levels_text f s.levels → new ≡ old ++ body_by f Several s
+  several_written old first second third last =
+      let n = to_le_bytes w64 s.n in
+      let low = items_text f (option_to_list s.least) in
+      let high = items_text f (option_to_list s.greatest) in
+      let rest = levels_text f s.levels in
+      last ∙ ap (λ (t : List ℕ). t ++ rest) (third ∙ ap (λ (t : List ℕ). t ++ high) (second ∙ ap (λ (t : List ℕ). t ++ low) first))
+      ∙ (append_assoc ((old ++ n) ++ low) high rest ∙ append_assoc (old ++ n) low (high ++ rest) ∙ append_assoc old n (low ++ (high ++ rest))
+      ∙ ap (λ (t : List ℕ). old ++ (n ++ t)) (sym (append_assoc low high rest) ∙ ap (λ (t : List ℕ). t ++ rest) (sym (text-ends (option_to_list s.least) (option_to_list s.greatest)))))
