@@ -1,4 +1,4 @@
-use Rattle.std.proofs.Common.{◌≡◌, ◌<◌, ◌∙◌, length, refl, sym, ap, subst, List, Some}
+use Rattle.std.proofs.Common.{[], ◌∷◌, ◌≡◌, ◌<◌, ◌∙◌, length, refl, sym, ap, subst, List, Some}
 use Rattle.sketch_base.specs.declared.error.ErrorKind.TheVariants.{OutOfMemory}
 use Rattle.sketch_base.specs.Extremes.{IsExtreme, IsAtMost}
 use Rattle.sketch_req.specs.Sketch.{Req, IsSound, sketch_of}
@@ -11,7 +11,7 @@ use Rattle.sketch_base.proofs.Exits.{no_found, returned, with_error}
 use Rattle.sketch_req.proofs.Refusals.{one_counted, same_sketch}
 use Rattle.sketch_req.proofs.Sounds.{IsRebuilt, rebuilt}
 use Rattle.sketch_req.proofs.sketch.ReqSketch.from_level.Given.{Over}
-use Rattle.sketch_req.proofs.sketch.ReqSketch.from_level.Goals.{After-new-levels}
+use Rattle.sketch_req.proofs.sketch.ReqSketch.from_level.Goals.{After-from_levels, After-new-levels}
 use Rattle.sketch_req.proofs.sketch.ReqSketch.from_level.Goals as goal
 use Rattle.sketch_req.proofs.sketch.ReqSketch.from_level.Goals.at as past
 
@@ -34,11 +34,15 @@ module _ (g : Over) (c : After-new-levels g) where
       c.requires.legal c.requires.placed c.num_items-n.ensures c.requires.some c.requires.fresh
       low (c.requires.clones _ _ c.in_ok-least.ensures.cases) high (c.requires.clones _ _ c.in_ok-greatest.ensures.cases)
 
+  held_is : c.new-levels.result ≡ held_of c.args.header.now.k (accuracy_in c.args.header.now.flags) c.in_ok-vec.field-0.items
+  held_is = subst (λ (a : RankAccuracy). c.new-levels.result ≡ held_of c.args.header.now.k a c.in_ok-vec.field-0.items) c.rank_accuracy.ensures c.new-levels.ensures
+
   same : sketch_of c.new-levels.result.k c.new-levels.result.accuracy c.num_items-n.result c.new-levels.result.levels
       (Some c.in_ok-least.least) (Some c.in_ok-greatest.greatest) ≡ sketch
-  same =
-      same_sketch c.num_items-n.result (Some c.in_ok-least.least) (Some c.in_ok-greatest.greatest)
-      (c.new-levels.ensures ∙ ap (λ (a : RankAccuracy). held_of c.args.header.now.k a c.in_ok-vec.field-0.items) c.rank_accuracy.ensures)
+  same = same_sketch c.num_items-n.result (Some c.in_ok-least.least) (Some c.in_ok-greatest.greatest) held_is
+
+  told : IsTold g.T.Ord.cmp c.args.header.now sketch
+  told = record { k_is = refl; accuracy_is = refl; n_is = made.n_is; least_is = made.least_is; greatest_is = made.greatest_is }
 
 pub returns-in_err-least : goal.returns-in_err-least
 returns-in_err-least g c =
@@ -60,17 +64,26 @@ from_levels-requires g c =
     let before = (past.from_levels-requires g c).After-new-levels in
     subst (IsSound g.T.Ord.cmp) (sym (same g before)) (made g before).sound
 
+-- the sketch that is made
+made_is : (g : Over) (c : After-from_levels g) → c.from_levels.result
+    ≡ sketch_of c.new-levels.result.k c.new-levels.result.accuracy c.num_items-n.result c.new-levels.result.levels (Some c.in_ok-least.least) (Some c.in_ok-greatest.greatest)
+made_is g c = c.from_levels.ensures
+
+-- it is of this level
+found : (g : Over) (c : After-from_levels g) →
+    let h = c.args.header.now in
+    let made = sketch_of h.k (accuracy_in h.flags) c.num_items-n.result c.in_ok-vec.field-0.items (Some c.in_ok-least.least) (Some c.in_ok-greatest.greatest) in
+    sketch_of c.new-levels.result.k c.new-levels.result.accuracy c.num_items-n.result c.new-levels.result.levels
+    (Some c.in_ok-least.least) (Some c.in_ok-greatest.greatest) ≡ made → IsTold g.T.Ord.cmp h made →
+    (c.from_levels.result.levels ≡ c.args.level ∷ []) × IsTold g.T.Ord.cmp h c.from_levels.result
+found g c same told =
+    (ap (λ (s : Req g.row.T.Denot). s.levels) (made_is g c ∙ same) ∙ c.in_ok-vec.ensures.items,
+    subst (IsTold g.T.Ord.cmp c.args.header.now) (sym (made_is g c ∙ same)) told)
+
 pub returns : goal.returns
 returns g c =
     let before = (past.returns g c).After-new-levels in
-    let m = made g before in
-    let told : IsTold g.T.Ord.cmp c.args.header.now (sketch g before) =
-    record { k_is = refl; accuracy_is = refl; n_is = m.n_is; least_is = m.least_is; greatest_is = m.greatest_is } in
-    let read : c.from_levels.result ≡ sketch g before = c.from_levels.ensures ∙ same g before in
-    record {
-      told = (ap (λ (s : Req g.row.T.Denot). s.levels) read ∙ c.in_ok-vec.ensures.items, subst (IsTold g.T.Ord.cmp c.args.header.now) (sym read) told);
-      memory = tt;
-    }
+    record { told = found g (past.returns g c).After-from_levels (same g before) (told g before); memory = tt }
 
 pub new-levels-requires-clause-levels : goal.new-levels-requires-clause-levels
 new-levels-requires-clause-levels g c =

@@ -3,11 +3,11 @@ use Rattle.std.proofs.lemmas.Result.{IfOk-weaker}
 use Rattle.std.proofs.lemmas.Bool.{false≢true, ltb-true, lt-ltb, eqb-true}
 use Rattle.sketch_req.specs.Level.{Level}
 use Rattle.sketch_req.specs.LevelImage.{Place, place_at, BeginsLevel, BeginsLevels}
-use Rattle.sketch_req.specs.Image.{first_place}
+use Rattle.sketch_req.specs.Image.{IsOneBody, first_place}
 use Rattle.sketch_req.specs.declared.RankAccuracy.{RankAccuracy}
 use Rattle.sketch_req.proofs.Sounds.{one_of, alone, imaged_at}
 use Rattle.sketch_req.proofs.OneText.{same_levels, same_numbers}
-use Rattle.sketch_base.proofs.Exits.{data_not_argument, no_found, returned, with_error}
+use Rattle.sketch_req.proofs.ReadEnds.{read_failed, read_refused}
 use Rattle.sketch_req.proofs.Refusals.{five_some, many_counted, memory_alone, no_refusal_of, over_four, still_many}
 use Rattle.sketch_req.proofs.sketch.ReqSketch.read_one.Given.{Over}
 use Rattle.sketch_req.proofs.sketch.ReqSketch.read_one.Goals.{In_ok-level}
@@ -25,45 +25,33 @@ read g c =
 pub returns-in_err-unless : goal.returns-in_err-unless
 returns-in_err-unless g c =
     let told = c.in_err-unless.ensures in
-    let e = returned c.from_residual.result _ c.from_residual.ensures.1 ∙ ap Err told.err in
-    record {
-      found = no_found _ e;
-      refused = with_error _ e (λ k s rest b. false≢true (told.ok.1 (eq-eqb _ _ b.none_raw)));
-      kind = with_error _ e data_not_argument;
-    }
+    read_refused _ (IsOneBody g.T.Ord.cmp g.T.ReqValue.spelling c.args.header.now c.args.text.now) c.from_residual.result c.from_residual.ensures.1 told.err
+    (λ s rest b. false≢true (told.ok.1 (eq-eqb _ _ b.none_raw)))
 
 pub returns-in_err-level : goal.returns-in_err-level
 returns-in_err-level g c =
     let told = c.in_err-level.ensures in
-    let e = returned c.from_residual-in_err-level.result _ c.from_residual-in_err-level.ensures.1 in
     let f = g.T.ReqValue.spelling in
     let text = c.args.text.now in
     let place = ap₂ (λ (a : RankAccuracy) (z : Bool). place_at c.args.header.now.k a 0 z) c.rank_accuracy-accuracy.ensures c.has_flag-sorted.ensures in
-    record {
-      found = no_found _ e;
-      refused = with_error _ e (λ k s rest b.
-          let one = one_of s.levels b.one_level in
-          let all = subst (λ (ls : List (Level g.row.T.Denot)). BeginsLevels g.T.Ord.cmp f (first_place c.args.header.now) text ls rest) one.1 b.levels in
-          told.refused k one.0 all.0 (subst (λ (q : Place). BeginsLevel g.T.Ord.cmp f q text one.0 all.0) (sym place) all.1));
-      kind = with_error _ e told.kind;
-    }
+    read_failed _ (IsOneBody g.T.Ord.cmp g.T.ReqValue.spelling c.args.header.now c.args.text.now) c.from_residual-in_err-level.result c.from_residual-in_err-level.ensures.1
+    (λ k s rest b.
+    let one = one_of s.levels b.one_level in
+    let all = subst (λ (ls : List (Level g.row.T.Denot)). BeginsLevels g.T.Ord.cmp f (first_place c.args.header.now) text ls rest) one.1 b.levels in
+    told.refused k one.0 all.0 (subst (λ (q : Place). BeginsLevel g.T.Ord.cmp f q text one.0 all.0) (sym place) all.1)) told.kind
 
 pub returns-in_err-unless-2 : goal.returns-in_err-unless-2
 returns-in_err-unless-2 g c =
     let told = c.in_err-unless-2.ensures in
-    let e = returned c.from_residual-in_err-unless-2.result _ c.from_residual-in_err-unless-2.ensures.1 ∙ ap Err told.err in
     let level = read g (past.returns-in_err-unless-2 g c).In_ok-level in
     let xs : List (Level g.row.T.Denot) = c.in_ok-level.level ∷ [] in
-    record {
-      found = no_found _ e;
-      refused = with_error _ e (λ k s rest b.
-          let same = same_levels _ _ g.met.T.ReqValue.is_prefix_free _ c.requires.head.legal_k _ xs _ _ _ (sym b.one_level)
-          (c.deserialize.new.input, level, refl) b.levels in
-          let n = same_numbers g.T.ReqValue.spelling xs s.levels same.0 in
-          let its = ap length (alone xs c.in_ok-level.level refl).items in
-          false≢true (told.ok.1 (lt-ltb _ _ (still_many n.items its b.many_items c.num_items.ensures))));
-      kind = with_error _ e data_not_argument;
-    }
+    read_refused _ (IsOneBody g.T.Ord.cmp g.T.ReqValue.spelling c.args.header.now c.args.text.now) c.from_residual-in_err-unless-2.result c.from_residual-in_err-unless-2.ensures.1 told.err
+    (λ s rest b.
+    let same = same_levels _ _ g.met.T.ReqValue.is_prefix_free _ c.requires.head.legal_k _ xs _ _ _ (sym b.one_level)
+    (c.deserialize.new.input, level, refl) b.levels in
+    let n = same_numbers g.T.ReqValue.spelling xs s.levels same.0 in
+    let its = ap length (alone xs c.in_ok-level.level refl).items in
+    false≢true (told.ok.1 (lt-ltb _ _ (still_many n.items its b.many_items c.num_items.ensures))))
 
 pub from_level-requires-clause-clones : goal.from_level-requires-clause-clones
 from_level-requires-clause-clones g c = c.requires.clones

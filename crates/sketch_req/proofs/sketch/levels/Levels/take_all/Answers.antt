@@ -17,7 +17,7 @@ use Rattle.sketch_req.proofs.TakenInTurn.{taken-filled}
 use Rattle.sketch_req.proofs.UpdatesInTurn.{levels-itself}
 use Rattle.sketch_req.proofs.WalkCapacities.{retained-weight}
 use Rattle.sketch_req.proofs.sketch.levels.Levels.take_all.Given.{Over}
-use Rattle.sketch_req.proofs.sketch.levels.Levels.take_all.Goals.{After-new-copy}
+use Rattle.sketch_req.proofs.sketch.levels.Levels.take_all.Goals.{After-new-copy, In_ok-copy_levels}
 use Rattle.sketch_req.proofs.sketch.levels.Levels.take_all.Goals as goal
 use Rattle.sketch_req.proofs.sketch.levels.Levels.take_all.Goals.at as past
 
@@ -60,24 +60,35 @@ overflow_add-self-inside g c =
     let fits = c.requires.fits in
     omega (arith, rw (← c.self.view_is) at fits, retained-weight (layouts_of c.self.inside.compactors.items), c.self.invariant.retained_is)
 
+-- copies of the levels
+are_copies : (g : Over) (c : In_ok-copy_levels g) → AllZip (IsLevelCopy g.T.Ord.cmp) c.self.inside.compactors.items c.in_ok-copy_levels.field-0.items
+are_copies g c = c.in_ok-copy_levels.ensures
+
 pub new-copy-requires-clause-some : goal.new-copy-requires-clause-some
-new-copy-requires-clause-some g c = subst (λ (n : ℕ). 0 < n) (length_all_zip (IsLevelCopy g.T.Ord.cmp) _ _ c.in_ok-copy_levels.ensures) c.self.invariant.some
+new-copy-requires-clause-some g c =
+    subst (λ (n : ℕ). 0 < n) (length_all_zip (IsLevelCopy g.T.Ord.cmp) c.self.inside.compactors.items c.in_ok-copy_levels.field-0.items (are_copies g c))
+    c.self.invariant.some
 
 pub new-copy-requires-clause-levels : goal.new-copy-requires-clause-levels
-new-copy-requires-clause-levels g c = placed-copied g.met.T.Ord.total _ _ 0 _ _ c.in_ok-copy_levels.ensures c.self.invariant.placed
+new-copy-requires-clause-levels g c =
+    placed-copied g.met.T.Ord.total _ _ 0 c.self.inside.compactors.items c.in_ok-copy_levels.field-0.items (are_copies g c) c.self.invariant.placed
 
 -- the layouts of the copy
-copied : (g : Over) (c : After-new-copy g) → layouts_of c.new-copy.result.levels ≡ layouts_of c.args.self.now.levels
-copied g c = copied-layouts _ _ _ _ c.self.view_is c.new-copy.ensures (layouts-copied g.met.T.Ord.total _ _ c.in_ok-copy_levels.ensures)
+copied : (g : Over) (c : After-new-copy g) → AllZip (IsLevelCopy g.T.Ord.cmp) c.self.inside.compactors.items c.in_ok-copy_levels.field-0.items →
+    layouts_of c.new-copy.result.levels ≡ layouts_of c.args.self.now.levels
+copied g c are =
+    copied-layouts (held_of c.self.inside.k c.self.inside.rank_accuracy c.self.inside.compactors.items) c.args.self.now c.new-copy.result
+    c.in_ok-copy_levels.field-0.items c.self.view_is c.new-copy.ensures
+    (layouts-copied g.met.T.Ord.total c.self.inside.compactors.items c.in_ok-copy_levels.field-0.items are)
 
 pub take_in_turn-requires-clause-fits : goal.take_in_turn-requires-clause-fits
 take_in_turn-requires-clause-fits g c =
-    let same = copied g (past.take_in_turn-requires-clause-fits g c).After-new-copy in
+    let same = copied g (past.take_in_turn-requires-clause-fits g c).After-new-copy (are_copies g (past.take_in_turn-requires-clause-fits g c).In_ok-copy_levels) in
     omega (arith, c.requires.fits, ap weight_of same)
 
 pub take_in_turn-requires-clause-few : goal.take_in_turn-requires-clause-few
 take_in_turn-requires-clause-few g c =
-    let same = copied g (past.take_in_turn-requires-clause-few g c).After-new-copy in
+    let same = copied g (past.take_in_turn-requires-clause-few g c).After-new-copy (are_copies g (past.take_in_turn-requires-clause-few g c).In_ok-copy_levels) in
     omega (arith, c.requires.few, ap retained_of same)
 
 pub fill-requires-clause-room : goal.fill-requires-clause-room
@@ -90,7 +101,7 @@ pub fill-requires-clause-some : goal.fill-requires-clause-some
 fill-requires-clause-some g c = grind arith
 
 pub same-self-in_err-take_in_turn : goal.same-self-in_err-take_in_turn
-same-self-in_err-take_in_turn g c = grind arith
+same-self-in_err-take_in_turn g c = refl
 
 pub returns : goal.returns
 returns g c =
@@ -99,7 +110,7 @@ returns g c =
       kept = copied-kept _ _ _ _ _ _ levels c.self.view_is c.new-copy.ensures c.in_ok-take_in_turn.ensures.kept c.copy.view_is;
       taken = copied-taken g.T.Ord.cmp g.B.RandomBits.bit g.B.RandomBits.next c.args.coins.now c.take_in_turn.new.coins _ _ _ c.args.items.now _ levels _
           c.self.view_is c.new-copy.ensures
-          c.in_ok-copy_levels.ensures c.in_ok-take_in_turn.ensures.taken (ap (λ (h : Held g.row.T.Denot). h.levels) c.copy.view_is);
+          (are_copies g (past.returns g c).In_ok-copy_levels) c.in_ok-take_in_turn.ensures.taken (ap (λ (h : Held g.row.T.Denot). h.levels) c.copy.view_is);
       err = tt;
       drawn = tt;
       memory = tt;
@@ -135,7 +146,7 @@ returns-in_err-fill g c =
 
 pub returns-in_err-take_in_turn : goal.returns-in_err-take_in_turn
 returns-in_err-take_in_turn g c =
-    let same = layouts-copied g.met.T.Ord.total _ _ c.in_ok-copy_levels.ensures in
+    let same = layouts-copied g.met.T.Ord.total _ _ (are_copies g (past.returns-in_err-take_in_turn g c).In_ok-copy_levels) in
     all_failed g.T.Ord.cmp g.B.RandomBits.bit g.B.RandomBits.next c.args.self.now c.args.self.now c.args.items.now c.args.coins.now c.take_in_turn.new.coins c.from_residual-in_err-take_in_turn.result
     c.from_residual-in_err-take_in_turn.ensures c.in_err-take_in_turn.ensures.memory refl refl
     (copied-draws g.B.RandomBits.next c.args.coins.now c.take_in_turn.new.coins c.args.items.now _ _ _ _ c.self.view_is c.new-copy.ensures
@@ -151,3 +162,6 @@ take_in_turn-requires-clause-clones g c = c.requires.clones
 
 pub fill-requires-clause-clones : goal.fill-requires-clause-clones
 fill-requires-clause-clones g c = c.requires.clones
+
+pub same-self-in_err-copy_levels : goal.same-self-in_err-copy_levels
+same-self-in_err-copy_levels g c = refl

@@ -1,30 +1,52 @@
 -- A part of the items, or one of them with its walk.
 use Rattle.sketch_req.specs.Level.{Level}
 use Rattle.sketch_req.specs.Held.{IsHeld}
-use Rattle.std.proofs.Common.{◌≡◌, Equal, List, arith, refl, subst, sym, take}
-use Rattle.std.proofs.lemmas.Grind.{common_steps}
-use Rattle.std.proofs.lemmas.List.{length-take}
+use Rattle.std.proofs.Common.{◌≡◌, ◌+◌, ◌<◌, ◌≤◌, ℕ, length, Equal, List, arith, refl, subst, sym, take}
+use Rattle.std.proofs.lemmas.List.{length-take-le}
+use Rattle.sketch_req.specs.Schedule.{layouts_of, nominal_sum, retained_of}
 use Rattle.sketch_req.specs.Updates.{AreTakenInTurn}
 use Rattle.sketch_req.proofs.LevelEnds.{some_failed}
 use Rattle.sketch_req.proofs.TakenInTurn.{are-kept, first-item, taken-filled, taken-one}
-use Rattle.sketch_req.proofs.sketch.levels.Levels.take_some.Goals.{In_ok-fill, In_ok-take_last}
+use Rattle.sketch_req.proofs.sketch.levels.Levels.take_some.Goals.{After-min-count, In_ok-fill, In_ok-take_last}
 use Rattle.sketch_req.proofs.sketch.levels.Levels.take_some.Given.{Over}
 use Rattle.sketch_req.proofs.sketch.levels.Levels.take_some.Goals as goal
+use Rattle.sketch_req.proofs.sketch.levels.Levels.take_some.Goals.at as past
+
+-- the levels, and the part that they have room for
+module _ (g : Over) (c : After-min-count g) where
+  held : IsHeld g.T.Ord.cmp c.self.inside.num_retained c.self.inside.capacity c.args.self.now
+  held = subst (IsHeld g.T.Ord.cmp c.self.inside.num_retained c.self.inside.capacity) c.self.view_is c.self.invariant
+
+  within : c.min-count.result ≤ length c.args.items.now
+  within = omega (arith, c.min-count.ensures)
+
+  some : 0 < c.min-count.result
+  some = omega (arith, c.min-count.ensures, c.if-room-eq0.false, c.requires.some)
+
+  room : retained_of (layouts_of c.args.self.now.levels) + c.min-count.result < nominal_sum c.args.self.now.k (layouts_of c.args.self.now.levels)
+  room = omega (arith, c.saturating_sub-room.ensures, c.min-count.ensures, c.if-room-eq0.false, held.retained_is, held.capacity_is)
+
+  all : length (take c.min-count.result c.args.items.now) ≡ c.min-count.result
+  all = length-take-le c.min-count.result c.args.items.now within
+
+  room_taken : retained_of (layouts_of c.args.self.now.levels) + length (take c.min-count.result c.args.items.now) < nominal_sum c.args.self.now.k (layouts_of c.args.self.now.levels)
+  room_taken = subst (λ (n : ℕ). retained_of (layouts_of c.args.self.now.levels) + n < nominal_sum c.args.self.now.k (layouts_of c.args.self.now.levels)) (sym all) room
+
+  some_taken : 0 < length (take c.min-count.result c.args.items.now)
+  some_taken = subst (λ (n : ℕ). 0 < n) (sym all) some
 
 -- the part
-part : (g : Over) (c : In_ok-fill g) → let s = c.args.self.now in
+part : (g : Over) (c : In_ok-fill g) → IsHeld g.T.Ord.cmp c.self.inside.num_retained c.self.inside.capacity c.args.self.now →
+    retained_of (layouts_of c.args.self.now.levels) + length (take c.min-count.result c.args.items.now) < nominal_sum c.args.self.now.k (layouts_of c.args.self.now.levels) → let s = c.args.self.now in
     AreTakenInTurn g.T.Ord.cmp g.B.RandomBits.bit g.B.RandomBits.next c.args.coins.now c.args.coins.now s.k s.accuracy s.levels
     (take c.min-count.result c.args.items.now) c.fill.new.self.levels
-part g c =
+part g c held room =
     let s = c.args.self.now in
     let h = c.in_ok-fill.ensures.filled in
-    let held = subst (IsHeld g.T.Ord.cmp c.self.inside.num_retained c.self.inside.capacity) c.self.view_is c.self.invariant in
-    let few = length-take c.min-count.result c.args.items.now in
     subst (λ (ls : List (Level g.row.T.Denot)). AreTakenInTurn g.T.Ord.cmp g.B.RandomBits.bit g.B.RandomBits.next c.args.coins.now c.args.coins.now s.k
     s.accuracy s.levels
     (take c.min-count.result c.args.items.now) ls) (sym h.levels_are)
-    (taken-filled g.met.T.Ord.total g.B.RandomBits.bit g.B.RandomBits.next s.k s.accuracy c.args.coins.now s.levels _ h.clones held.some held.placed h.same
-    (omega (arith, few, c.saturating_sub-room.ensures, c.min-count.ensures, c.if-room-eq0.false, held.retained_is, held.capacity_is)))
+    (taken-filled g.met.T.Ord.total g.B.RandomBits.bit g.B.RandomBits.next s.k s.accuracy c.args.coins.now s.levels _ h.clones held.some held.placed h.same room)
 
 -- one of them
 one : (g : Over) (c : In_ok-take_last g) → let s = c.args.self.now in
@@ -40,7 +62,7 @@ one g c =
     c.in_ok-take_last.ensures.acted)
 
 pub slice_bounds-fill-end : goal.slice_bounds-fill-end
-slice_bounds-fill-end g c = grind (arith, common_steps)
+slice_bounds-fill-end g c = sym (all g (past.slice_bounds-fill-end g c).After-min-count)
 
 pub overflow_add-self-inside : goal.overflow_add-self-inside
 overflow_add-self-inside g c = grind arith
@@ -48,12 +70,13 @@ overflow_add-self-inside g c = grind arith
 pub returns : goal.returns
 returns g c =
     let s = c.args.self.now in
-    let held = subst (IsHeld g.T.Ord.cmp c.self.inside.num_retained c.self.inside.capacity) c.self.view_is c.self.invariant in
-    let part = part g c in
+    let at = (past.returns g c).After-min-count in
+    let held = held g at in
+    let part = part g c held (room_taken g at) in
     record {
       kept = c.in_ok-fill.ensures.kept;
-      some = omega (arith, c.min-count.ensures, c.if-room-eq0.false, c.requires.some);
-      within = omega (arith, c.min-count.ensures);
+      some = some g at;
+      within = within g at;
       taken = part;
       left = (are-kept g.met.T.Ord.total g.B.RandomBits.bit g.B.RandomBits.next s.k s.accuracy _ _ s.levels _ _ held.some held.placed c.requires.few part).left;
       err = tt;
@@ -100,13 +123,10 @@ pub take_last-requires-clause-clones : goal.take_last-requires-clause-clones
 take_last-requires-clause-clones g c = c.requires.clones
 
 pub fill-requires-clause-some : goal.fill-requires-clause-some
-fill-requires-clause-some g c = omega (arith, length-take c.min-count.result c.args.items.now, c.min-count.ensures, c.if-room-eq0.false, c.requires.some)
+fill-requires-clause-some g c = some_taken g (past.fill-requires-clause-some g c).After-min-count
 
 pub fill-requires-clause-room : goal.fill-requires-clause-room
-fill-requires-clause-room g c =
-    let held = subst (IsHeld g.T.Ord.cmp c.self.inside.num_retained c.self.inside.capacity) c.self.view_is c.self.invariant in
-    let few = length-take c.min-count.result c.args.items.now in
-    omega (arith, few, c.saturating_sub-room.ensures, c.min-count.ensures, c.if-room-eq0.false, held.retained_is, held.capacity_is)
+fill-requires-clause-room g c = room_taken g (past.fill-requires-clause-room g c).After-min-count
 
 pub fill-requires-clause-clones : goal.fill-requires-clause-clones
 fill-requires-clause-clones g c = c.requires.clones
