@@ -1,4 +1,4 @@
-use Rattle.std.proofs.Common.{ℕ, ◌≡◌, ◌++◌, [], ◌∷◌, Err, length, map, arith, ap, sym, ◌∙◌}
+use Rattle.std.proofs.Common.{ℕ, ◌<◌, ◌≡◌, ◌++◌, [], ◌∷◌, Err, length, map, arith, ap, sym, ◌∙◌}
 use Rattle.sketch_base.specs.declared.error.ErrorKind.TheVariants.{OutOfMemory}
 use Rattle.sketch_base.specs.Bag.{expanded}
 use Rattle.sketch_base.specs.Query.{true_rank}
@@ -10,7 +10,10 @@ use Rattle.sketch_req.specs.Sketch.{Req}
 use Rattle.sketch_req.specs.declared.sketch.ReqSketch.TheInside.{Inside}
 use Rattle.sketch_base.proofs.Exits.{no_found, returned}
 use Rattle.sketch_req.proofs.Refusals.{fit_answer, fit_short, none_among, some_among, some_now, unfit_refused}
+use Rattle.sketch_req.proofs.sketch.ReqSketch.cdf.Given.{Over}
+use Rattle.sketch_req.proofs.sketch.ReqSketch.cdf.Goals.{After-n-total, In_ok-push-2}
 use Rattle.sketch_req.proofs.sketch.ReqSketch.cdf.Goals as goal
+use Rattle.sketch_req.proofs.sketch.ReqSketch.cdf.Goals.at as past
 
 pub loop-point-preserved : goal.loop-point-preserved
 loop-point-preserved g c =
@@ -37,43 +40,51 @@ returns-then-self-eq0 g c =
       refused = fit_answer c.in_ok-check_points.ensures.good;
     }
 
+-- the sketch has items
+some : (g : Over) (c : After-n-total g) → 0 < c.args.self.now.n
+some g c =
+    some_now (ap (λ (s : Inside g.row.T.Denot). s.n) c.self-inside.view_is ∙ ap (λ (s : Req g.row.T.Denot). s.n) c.self.view_is) c.if-self-eq0.false
+
 pub returns-in_err-ranks : goal.returns-in_err-ranks
 returns-in_err-ranks g c =
     let e = returned c.from_residual-in_err-ranks.result OutOfMemory c.from_residual-in_err-ranks.ensures.1 in
-    let same_n = ap (λ (s : Inside g.row.T.Denot). s.n) c.self-inside.view_is ∙ ap (λ (s : Req g.row.T.Denot). s.n) c.self.view_is in
-    let some = some_now same_n c.if-self-eq0.false in
+    let some = some g (past.returns-in_err-ranks g c).After-n-total in
     record { found = no_found _ e; rises = no_found _ e; there = no_found _ e; refused = fit_short e c.in_ok-check_points.ensures.good some }
 
 pub returns-in_err-push : goal.returns-in_err-push
 returns-in_err-push g c =
     let e = returned c.from_residual-in_err-push.result OutOfMemory c.from_residual-in_err-push.ensures.1 in
-    let same_n = ap (λ (s : Inside g.row.T.Denot). s.n) c.self-inside.view_is ∙ ap (λ (s : Req g.row.T.Denot). s.n) c.self.view_is in
-    let some = some_now same_n c.if-self-eq0.false in
+    let some = some g (past.returns-in_err-push g c).After-n-total in
     record { found = no_found _ e; rises = no_found _ e; there = no_found _ e; refused = fit_short e c.in_ok-check_points.ensures.good some }
 
 pub returns-in_err-push-2 : goal.returns-in_err-push-2
 returns-in_err-push-2 g c =
     let e = returned c.from_residual-in_err-push-2.result OutOfMemory c.from_residual-in_err-push-2.ensures.1 in
-    let same_n = ap (λ (s : Inside g.row.T.Denot). s.n) c.self-inside.view_is ∙ ap (λ (s : Req g.row.T.Denot). s.n) c.self.view_is in
-    let some = some_now same_n c.if-self-eq0.false in
+    let some = some g (past.returns-in_err-push-2 g c).After-n-total in
     record { found = no_found _ e; rises = no_found _ e; there = no_found _ e; refused = fit_short e c.in_ok-check_points.ensures.good some }
+
+-- the ranks
+found : (g : Over) (c : In_ok-push-2 g) → let entries = expanded g.T.Ord.cmp (bag_of c.args.self.now.levels) in
+    c.push-2.new.self.items
+    ≡ ranks_of c.args.self.now.n (map (λ y. true_rank g.T.Ord.cmp y c.args.criteria entries) c.args.points.now ++ length entries ∷ [])
+found g c =
+    let s = c.args.self.now in
+    let entries = expanded g.T.Ord.cmp (bag_of s.levels) in
+    let rank : g.row.T.Denot → ℕ = λ y. true_rank g.T.Ord.cmp y c.args.criteria entries in
+    let whole : length entries ≡ s.n = length-expanded g.T.Ord.cmp (bag_of s.levels) ∙ (sym c.n-total.ensures.weight ∙ c.n-total.ensures.value) in
+    ranks-last rank s.n c.args.points.now c.loop-point.point-index _ c.push-2.new.self.items c.loop-point-test.false c.loop-point.invariant
+    (c.in_ok-push-2.ensures.items ∙ ap (λ (t : ℕ). c.loop-point.ranks.items ++ record { weight = t; total = t } ∷ []) c.n-total.ensures.value)
+    ∙ ap (λ (m : ℕ). ranks_of s.n (map rank c.args.points.now ++ m ∷ [])) (sym whole)
 
 pub returns : goal.returns
 returns g c =
-    let s = c.args.self.now in
-    let cmp = g.T.Ord.cmp in
-    let entries = expanded cmp (bag_of s.levels) in
-    let rank : g.row.T.Denot → ℕ = λ y. true_rank cmp y c.args.criteria entries in
-    let whole : length entries ≡ s.n = length-expanded cmp (bag_of s.levels) ∙ (sym c.n-total.ensures.weight ∙ c.n-total.ensures.value) in
     let good = c.in_ok-check_points.ensures.good in
-    let same_n = ap (λ (s : Inside g.row.T.Denot). s.n) c.self-inside.view_is ∙ ap (λ (s : Req g.row.T.Denot). s.n) c.self.view_is in
-    let found = ranks-last rank s.n c.args.points.now c.loop-point.point-index _ c.push-2.new.self.items c.loop-point-test.false c.loop-point.invariant
-    (c.in_ok-push-2.ensures.items ∙ ap (λ (t : ℕ). c.loop-point.ranks.items ++ record { weight = t; total = t } ∷ []) c.n-total.ensures.value)
-    ∙ ap (λ (m : ℕ). ranks_of s.n (map rank c.args.points.now ++ m ∷ [])) (sym whole) in
+    let found = found g (past.returns g c).In_ok-push-2 in
+    let entries = expanded g.T.Ord.cmp (bag_of c.args.self.now.levels) in
     record {
       found = found;
       rises = ranks-rise g.met.T.Ord.total c.args.criteria entries c.args.points.now _ _ good found;
-      there = some_among (some_now same_n c.if-self-eq0.false);
+      there = some_among (some g (past.returns g c).After-n-total);
       refused = fit_answer good;
     }
 

@@ -1,4 +1,4 @@
-use Rattle.std.proofs.Common.{◌∷◌, [], refl, sym, ap, ap₂, subst, arith, length, List, Bool, Err, ◌∙◌, eq-eqb}
+use Rattle.std.proofs.Common.{IfOk, ◌<◌, ◌∷◌, [], refl, sym, ap, ap₂, subst, arith, length, List, Bool, Err, ◌∙◌, eq-eqb}
 use Rattle.std.proofs.lemmas.Result.{IfOk-weaker}
 use Rattle.std.proofs.lemmas.Bool.{false≢true, ltb-true, lt-ltb, eqb-true}
 use Rattle.sketch_req.specs.Level.{Level}
@@ -10,7 +10,7 @@ use Rattle.sketch_req.proofs.OneText.{same_levels, same_numbers}
 use Rattle.sketch_req.proofs.ReadEnds.{read_failed, read_refused}
 use Rattle.sketch_req.proofs.Refusals.{five_some, many_counted, memory_alone, no_refusal_of, over_four, still_many}
 use Rattle.sketch_req.proofs.sketch.ReqSketch.read_one.Given.{Over}
-use Rattle.sketch_req.proofs.sketch.ReqSketch.read_one.Goals.{In_ok-level}
+use Rattle.sketch_req.proofs.sketch.ReqSketch.read_one.Goals.{After-from_level, In_ok-level}
 use Rattle.sketch_req.proofs.sketch.ReqSketch.read_one.Goals as goal
 use Rattle.sketch_req.proofs.sketch.ReqSketch.read_one.Goals.at as past
 
@@ -71,24 +71,29 @@ pub from_level-requires-clause-fresh : goal.from_level-requires-clause-fresh
 from_level-requires-clause-fresh g c =
     λ few. absurd (over_four c.num_items.ensures (ltb-true _ _ (c.in_ok-unless-2.ensures.ok.0 refl)) few)
 
-pub returns : goal.returns
-returns g c =
+-- the sketch that is made has such a body
+found : (g : Over) (c : After-from_level g) →
+    BeginsLevel g.T.Ord.cmp g.T.ReqValue.spelling (first_place c.args.header.now) c.args.text.now c.in_ok-level.level c.deserialize.new.input →
+    4 < c.num_items.result →
+    IfOk c.from_level.result (λ s. IsOneBody g.T.Ord.cmp g.T.ReqValue.spelling c.args.header.now c.args.text.now s c.deserialize.new.input)
+found g c level many =
     let rest = c.deserialize.new.input in
     let place = first_place c.args.header.now in
-    let level = read g (past.returns g c).In_ok-level in
-    let many = ltb-true _ _ (c.in_ok-unless-2.ensures.ok.0 refl) in
-    record {
-      found = IfOk-weaker c.from_level.result _ _ (λ s t. record {
-        none_raw = eqb-true _ _ (c.in_ok-unless.ensures.ok.0 refl);
-        one_level = ap length t.0;
-        levels = subst (λ (ls : List (Level g.row.T.Denot)). BeginsLevels g.T.Ord.cmp g.T.ReqValue.spelling place c.args.text.now ls rest)
-            (sym t.0) (rest, level, refl);
-        many_items = many_counted (ap length (alone _ c.in_ok-level.level t.0).items) c.num_items.ensures many;
-        told = t.1;
-      }) c.from_level.ensures.told;
-      refused = no_refusal_of _ c.from_level.result c.from_level.ensures.memory;
-      kind = memory_alone c.from_level.result c.from_level.ensures.memory;
-    }
+    IfOk-weaker c.from_level.result _ _ (λ s t. record {
+      none_raw = eqb-true _ _ (c.in_ok-unless.ensures.ok.0 refl);
+      one_level = ap length t.0;
+      levels = subst (λ (ls : List (Level g.row.T.Denot)). BeginsLevels g.T.Ord.cmp g.T.ReqValue.spelling place c.args.text.now ls rest)
+          (sym t.0) (rest, level, refl);
+      many_items = many_counted (ap length (alone _ c.in_ok-level.level t.0).items) c.num_items.ensures many;
+      told = t.1;
+    }) c.from_level.ensures.told
+
+pub returns : goal.returns
+returns g c = record {
+  found = found g c (read g (past.returns g c).In_ok-level) (ltb-true _ _ (c.in_ok-unless-2.ensures.ok.0 refl));
+  refused = no_refusal_of _ c.from_level.result c.from_level.ensures.memory;
+  kind = memory_alone c.from_level.result c.from_level.ensures.memory;
+}
 
 pub same-level : goal.same-level
 same-level g c = refl

@@ -1,16 +1,16 @@
-use Rattle.std.proofs.Common.{◌≡◌, ◌∙◌, ◌∷◌, [], ◌≤◌, refl, inl, inr, sym, ap, subst, arith, length, List, Bool, Err, IsSorted, le-leb}
+use Rattle.std.proofs.Common.{IfOk, ◌≡◌, ◌∙◌, ◌∷◌, [], ◌≤◌, refl, inl, inr, sym, ap, subst, arith, length, List, Bool, Err, IsSorted, le-leb}
 use Rattle.std.proofs.lemmas.Bool.{eqb-true, false≢true, leb-true, ltb-true}
 use Rattle.std.specs.Prelude.{IsTrue, ◌↔◌}
 use Rattle.sketch_req.specs.Level.{Level, fresh}
 use Rattle.std.proofs.lemmas.Result.{IfOk-weaker}
-use Rattle.sketch_req.specs.Image.{accuracy_in}
+use Rattle.sketch_req.specs.Image.{IsRawBody, accuracy_in}
 use Rattle.sketch_req.specs.Walk.{IsPlaced}
 use Rattle.sketch_req.specs.declared.RankAccuracy.{RankAccuracy}
 use Rattle.sketch_base.proofs.Exits.{data_not_argument, no_found, returned, with_error}
 use Rattle.sketch_req.proofs.Refusals.{few_counted, memory_alone, no_refusal_of, none_counted}
 use Rattle.sketch_req.proofs.Sounds.{fresh_placed}
 use Rattle.sketch_req.proofs.sketch.ReqSketch.read_raw.Given.{Over}
-use Rattle.sketch_req.proofs.sketch.ReqSketch.read_raw.Goals.{then-count-gt0, else-count-gt0, then-header-eq1, else-header-eq1, After-read_items, After-raw_items_compactor-level}
+use Rattle.sketch_req.proofs.sketch.ReqSketch.read_raw.Goals.{After-from_level, then-count-gt0, else-count-gt0, then-header-eq1, else-header-eq1, After-read_items, After-raw_items_compactor-level}
 use Rattle.sketch_req.proofs.sketch.ReqSketch.read_raw.Goals as goal
 use Rattle.sketch_req.proofs.sketch.ReqSketch.read_raw.Goals.at as past
 
@@ -19,8 +19,8 @@ fresh_level : (g : Over) (c : After-raw_items_compactor-level g) → let level =
     level ≡ fresh c.in_ok-items.items.items level.is_sorted 0 c.args.header.now.k (accuracy_in c.args.header.now.flags)
 fresh_level g c =
     let level : Level g.row.T.Denot = c.raw_items_compactor-level.result in
+    subst (λ (a : RankAccuracy). level ≡ fresh c.in_ok-items.items.items level.is_sorted 0 c.args.header.now.k a) c.rank_accuracy.ensures
     c.raw_items_compactor-level.ensures.rest
-    ∙ ap (λ (a : RankAccuracy). fresh c.in_ok-items.items.items level.is_sorted 0 c.args.header.now.k a) c.rank_accuracy.ensures
 
 -- what the header says of the items
 numbers : (g : Over) (c : After-read_items g) → (c.args.header.now.first ≡ 1) × (1 ≤ c.args.header.now.second) × (c.args.header.now.second ≤ 4)
@@ -89,28 +89,33 @@ returns-in_err-items g c =
       kind = with_error _ e told.kind;
     }
 
-pub returns : goal.returns
-returns g c =
+-- the sketch that is made has such a body
+found : (g : Over) (c : After-from_level g) → let level = c.raw_items_compactor-level.result in
+    level ≡ fresh c.in_ok-items.items.items level.is_sorted 0 c.args.header.now.k (accuracy_in c.args.header.now.flags) →
+    (c.args.header.now.first ≡ 1) × (1 ≤ c.args.header.now.second) × (c.args.header.now.second ≤ 4) →
+    IfOk c.from_level.result (λ s. IsRawBody g.T.Ord.cmp g.T.ReqValue.spelling c.args.header.now c.args.text.now s c.read_items.new.input)
+found g c rest numbers =
     let xs : List g.row.T.Denot = c.in_ok-items.items.items in
     let made = c.raw_items_compactor-level in
-    let rest = fresh_level g (past.returns g c).After-raw_items_compactor-level in
-    let numbers = numbers g (past.returns g c).After-read_items in
-    record {
-      found = IfOk-weaker c.from_level.result _ _ (λ s t. record {
-        one_level = numbers.0;
-        some_items = numbers.1;
-        few_items = numbers.2;
-        items = xs;
-        begins = c.in_ok-items.ensures.found.begins;
-        as_many = c.in_ok-items.ensures.found.as_many;
-        is_sorted = made.result.is_sorted;
-        sorted = subst (λ (z : Bool). IsTrue made.result.is_sorted ↔ (IsTrue z × IsSorted g.T.Ord.cmp xs)) c.has_flag-sorted.ensures made.ensures.sorted;
-        levels_are = t.0 ∙ ap (λ (l : Level g.row.T.Denot). l ∷ []) rest;
-        told = t.1;
-      }) c.from_level.ensures.told;
-      refused = no_refusal_of _ c.from_level.result c.from_level.ensures.memory;
-      kind = memory_alone c.from_level.result c.from_level.ensures.memory;
-    }
+    IfOk-weaker c.from_level.result _ _ (λ s t. record {
+      one_level = numbers.0;
+      some_items = numbers.1;
+      few_items = numbers.2;
+      items = xs;
+      begins = c.in_ok-items.ensures.found.begins;
+      as_many = c.in_ok-items.ensures.found.as_many;
+      is_sorted = made.result.is_sorted;
+      sorted = subst (λ (z : Bool). IsTrue made.result.is_sorted ↔ (IsTrue z × IsSorted g.T.Ord.cmp xs)) c.has_flag-sorted.ensures made.ensures.sorted;
+      levels_are = t.0 ∙ ap (λ (l : Level g.row.T.Denot). l ∷ []) rest;
+      told = t.1;
+    }) c.from_level.ensures.told
+
+pub returns : goal.returns
+returns g c = record {
+  found = found g c (fresh_level g (past.returns g c).After-raw_items_compactor-level) (numbers g (past.returns g c).After-read_items);
+  refused = no_refusal_of _ c.from_level.result c.from_level.ensures.memory;
+  kind = memory_alone c.from_level.result c.from_level.ensures.memory;
+}
 
 pub raw_items_compactor-level-requires-clause-few : goal.raw_items_compactor-level-requires-clause-few
 raw_items_compactor-level-requires-clause-few g c =

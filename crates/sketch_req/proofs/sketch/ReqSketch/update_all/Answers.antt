@@ -14,7 +14,7 @@ use Rattle.sketch_req.proofs.Refusals.{accepted_alone, items_fit, light_still, n
 use Rattle.sketch_req.proofs.UpdatedLevels.{not-full}
 use Rattle.sketch_req.proofs.UpdatesInTurn.{updates_none}
 use Rattle.sketch_req.proofs.sketch.ReqSketch.update_all.Given.{Over}
-use Rattle.sketch_req.proofs.sketch.ReqSketch.update_all.Goals.{After-from_residual, After-set_if_some-2, In_ok-unless, Joined-least, then-not-is_full, else-not-is_full}
+use Rattle.sketch_req.proofs.sketch.ReqSketch.update_all.Goals.{After-from_residual, After-set_if_some-2, In_err-take_all, In_ok-unless, Joined-least, then-not-is_full, else-not-is_full}
 use Rattle.sketch_req.proofs.sketch.ReqSketch.update_all.Goals as goal
 use Rattle.sketch_req.proofs.sketch.ReqSketch.update_all.Goals.at as past
 
@@ -78,14 +78,18 @@ drawn : (g : Over) (c : Joined-least g) →
 drawn g c = subst (λ (s : Req g.row.T.Denot). IsDrawnFrom g.B.RandomBits.next (coins_of_updates s c.args.items.now) c.args.coins.now c.take_all.new.coins)
     c.self.view_is c.in_err-take_all.ensures.drawn
 
+-- nothing changed
+unchanged : (g : Over) (c : In_err-take_all g) → c.take_all.new.self ≡ c.self.inside.levels
+unchanged g c = c.in_err-take_all.ensures.err
+
 pub returns-in_err-take_all : goal.returns-in_err-take_all
 returns-in_err-take_all g c =
-    let told = c.in_err-take_all.ensures in
+    let kept = unchanged g (past.returns-in_err-take_all g c).In_err-take_all in
     let i = c.self.inside in
     let held = c.take_all.new.self in
     updates_failed g.T.Ord.cmp g.B.RandomBits.bit g.B.RandomBits.next c.args.self.now (sketch_of held.k held.accuracy i.n held.levels i.min_item i.max_item) c.args.coins.now c.take_all.new.coins
-    c.from_residual-in_err-take_all.result c.args.items.now c.from_residual-in_err-take_all.ensures.1 told.memory
-    (still_sound i.n i.min_item i.max_item told.err c.self.invariant) (still_seen i.n i.min_item i.max_item told.err c.self.view_is)
+    c.from_residual-in_err-take_all.result c.args.items.now c.from_residual-in_err-take_all.ensures.1 c.in_err-take_all.ensures.memory
+    (still_sound i.n i.min_item i.max_item kept c.self.invariant) (still_seen i.n i.min_item i.max_item kept c.self.view_is)
     (drawn g c) c.if-count-eq0.false (not_refused g (past.returns-in_err-take_all g c).In_ok-unless)
 
 -- the extremes, and the levels but for what they hold

@@ -10,7 +10,7 @@ use Rattle.sketch_base.proofs.Exits.{accepted, no_value, returned, with_error}
 use Rattle.sketch_req.proofs.Refusals.{flagged, next_fits, no_memory, not_flagged, not_full_both, refused_as}
 use Rattle.sketch_req.proofs.UpdatedLevels.{not-full}
 use Rattle.sketch_req.proofs.sketch.ReqSketch.update_slowly.Given.{Over}
-use Rattle.sketch_req.proofs.sketch.ReqSketch.update_slowly.Goals.{After-set_if_some-2}
+use Rattle.sketch_req.proofs.sketch.ReqSketch.update_slowly.Goals.{After-set_if_some-2, In_err-take_last}
 use Rattle.sketch_req.proofs.sketch.ReqSketch.update_slowly.Goals as goal
 use Rattle.sketch_req.proofs.sketch.ReqSketch.update_slowly.Goals.at as past
 
@@ -25,14 +25,18 @@ returns-in_err-least g c =
     update_failed g.T.Ord.cmp g.B.RandomBits.bit g.B.RandomBits.next c.args.self.now c.args.self.now c.args.coins.now c.args.coins.now c.from_residual-in_err-least.result c.args.item c.from_residual-in_err-least.ensures.1 refl
     (subst (IsSound g.T.Ord.cmp) c.self.view_is c.self.invariant) refl refl (not_flagged c.is_full.ensures (not-true _ (c.in_ok-unless.ensures.ok.0 refl)))
 
+-- nothing changed
+unchanged : (g : Over) (c : In_err-take_last g) → (c.take_last.new.self ≡ c.self.inside.levels) × (c.take_last.new.coins ≡ c.args.coins.now)
+unchanged g c = c.in_err-take_last.ensures.err
+
 pub returns-in_err-take_last : goal.returns-in_err-take_last
 returns-in_err-take_last g c =
     let i = c.self.inside in
     let held = c.take_last.new.self in
-    let told = c.in_err-take_last.ensures in
+    let kept = unchanged g (past.returns-in_err-take_last g c).In_err-take_last in
     update_failed g.T.Ord.cmp g.B.RandomBits.bit g.B.RandomBits.next c.args.self.now (sketch_of held.k held.accuracy i.n held.levels i.min_item i.max_item) c.args.coins.now c.take_last.new.coins
-    c.from_residual-in_err-take_last.result c.args.item c.from_residual-in_err-take_last.ensures.1 told.memory
-    (still_sound i.n i.min_item i.max_item told.err.0 c.self.invariant) (still_seen i.n i.min_item i.max_item told.err.0 c.self.view_is) told.err.1
+    c.from_residual-in_err-take_last.result c.args.item c.from_residual-in_err-take_last.ensures.1 c.in_err-take_last.ensures.memory
+    (still_sound i.n i.min_item i.max_item kept.0 c.self.invariant) (still_seen i.n i.min_item i.max_item kept.0 c.self.view_is) kept.1
     (not_flagged c.is_full.ensures (not-true _ (c.in_ok-unless.ensures.ok.0 refl)))
 
 -- the extremes, and the levels but for what they hold
