@@ -1,18 +1,21 @@
 -- The goals at the return are what updates by all items make of the fields.
-use Rattle.std.proofs.Common.{Ok, ◌≡◌, ◌+◌, ◌<◌, ◌≤◌, ◌⊎◌, ◌^◌, ◌∙◌, ℕ, Err, false, inl, not, ap, length, refl, subst, sym}
+use Rattle.std.proofs.Common.{◌++◌, Ok, ◌≡◌, ◌+◌, ◌<◌, ◌≤◌, ◌⊎◌, ◌^◌, ◌∙◌, ℕ, Err, false, inl, not, ap, length, refl, subst, sym}
 use Rattle.std.proofs.lemmas.Bool.{false≢true}
 use Rattle.sketch_base.specs.Bag.{retained}
 use Rattle.sketch_base.specs.declared.error.ErrorKind.TheVariants.{OutOfMemory}
 use Rattle.sketch_req.specs.Actions.{bag_of}
+use Rattle.std.specs.List.{AllZip}
+use Rattle.std.specs.Option.{option_to_list}
+use Rattle.sketch_base.specs.Extremes.{IsGreatestOf, IsLeastOf}
+use Rattle.sketch_req.specs.Copy.{IsLevelCopy}
 use Rattle.sketch_req.specs.Sketch.{Req, IsSound, newer_or, sketch_of}
-use Rattle.sketch_req.specs.Updates.{IsDrawnFrom, coins_of_updates}
+use Rattle.sketch_req.specs.Updates.{AreTakenInTurn, IsDrawnFrom, coins_of_updates}
 use Rattle.sketch_req.proofs.KeptSketches.{still_seen, still_sound}
-use Rattle.sketch_req.proofs.MadeSketches.{none_taken, updates_make}
-use Rattle.sketch_req.proofs.Outcomes.{AreDone, UpdatesEnd, updates_done, updates_failed, updates_refused}
+use Rattle.sketch_req.proofs.MadeSketches.{updates_make}
+use Rattle.sketch_req.proofs.Outcomes.{AreDone, UpdatesEnd, updates_done, updates_failed, updates_of_none, updates_refused}
 use Rattle.sketch_base.proofs.Exits.{accepted, no_value, returned, with_error}
 use Rattle.sketch_req.proofs.Refusals.{accepted_alone, items_fit, light_still, no_memory, no_refusal, none_drawn, none_fit, not_both, refused_as, some_of, too_heavy, weight_fits}
 use Rattle.sketch_req.proofs.UpdatedLevels.{not-full}
-use Rattle.sketch_req.proofs.UpdatesInTurn.{updates_none}
 use Rattle.sketch_req.proofs.sketch.ReqSketch.update_all.Given.{Over}
 use Rattle.sketch_req.proofs.sketch.ReqSketch.update_all.Goals.{After-from_residual, After-set_if_some-2, In_err-take_all, In_ok-unless, Joined-least, then-not-is_full, else-not-is_full}
 use Rattle.sketch_req.proofs.sketch.ReqSketch.update_all.Goals as goal
@@ -35,19 +38,8 @@ not_refused g c =
 
 pub returns-then-count-eq0 : goal.returns-then-count-eq0
 returns-then-count-eq0 g c =
-    let none = c.if-count-eq0.true in
-    let sound = subst (IsSound g.T.Ord.cmp) c.self.view_is c.self.invariant in
-    record {
-      empty = λ _. (refl, refl, refl);
-      ok = updates_none g.met.T.Ord.total _ _ _ sound none;
-      sound = sound;
-      coins = none_taken _ _ c.args.self.now _ none;
-      err = tt;
-      full = accepted (light_still (ap (λ (s : Req g.row.T.Denot). s.n) c.self.view_is) c.self.invariant.n_fits none);
-      refused = accepted_alone _;
-      drawn = tt;
-      memory = tt;
-    }
+    updates_of_none g.T.Ord.cmp g.B.RandomBits.bit g.B.RandomBits.next c.args.self.now c.args.coins.now (tt {0}) g.met.T.Ord.total c.args.items.now c.if-count-eq0.true (subst (IsSound g.T.Ord.cmp) c.self.view_is c.self.invariant)
+    (light_still (ap (λ (s : Req g.row.T.Denot). s.n) c.self.view_is) c.self.invariant.n_fits c.if-count-eq0.true)
 
 -- the items are too many
 too_many : (g : Over) (c : After-from_residual g) → let s = c.args.self.now in let count = length c.args.items.now in
@@ -94,6 +86,27 @@ returns-in_err-take_all g c =
 
 -- the extremes, and the levels but for what they hold
 module _ (g : Over) (c : After-set_if_some-2 g) where
+  abbrev old : Req g.row.T.Denot
+  old = let s = c.self.inside in sketch_of s.levels.k s.levels.accuracy s.n s.levels.levels s.min_item s.max_item
+
+  seen : old ≡ c.args.self.now
+  seen = c.self.view_is
+
+  sound : IsSound g.T.Ord.cmp old
+  sound = c.self.invariant
+
+  copies_told : AllZip (IsLevelCopy g.T.Ord.cmp) old.levels c.in_ok-take_all.ensures.taken.copies
+  copies_told = c.in_ok-take_all.ensures.taken.are_copies
+
+  taken : AreTakenInTurn g.T.Ord.cmp g.B.RandomBits.bit g.B.RandomBits.next c.args.coins.now c.take_all.new.coins old.k old.accuracy c.in_ok-take_all.ensures.taken.copies c.args.items.now c.take_all.new.self.levels
+  taken = c.in_ok-take_all.ensures.taken.taken
+
+  least_told : IsLeastOf g.T.Ord.cmp (option_to_list old.least ++ c.args.items.now) (newer_or c.in_ok-least.least old.least)
+  least_told = c.in_ok-least.ensures.least
+
+  greatest_told : IsGreatestOf g.T.Ord.cmp (option_to_list old.greatest ++ c.args.items.now) (newer_or c.in_ok-least.greatest old.greatest)
+  greatest_told = c.in_ok-least.ensures.greatest
+
   least_is : c.set_if_some.new.place ≡ newer_or c.in_ok-least.least c.self.inside.min_item
   least_is = c.set_if_some.ensures
 
@@ -110,10 +123,9 @@ made : (g : Over) (c : After-set_if_some-2 g) → (c.is_full.result ≡ false) �
     (sketch_of held.k held.accuracy (i.n + length c.args.items.now) held.levels c.set_if_some.new.place c.set_if_some-2.new.place)
     c.args.coins.now c.take_all.new.coins c.args.items.now
 made g c known =
-    let few = not-full _ _ _ c.self.view_is c.self.invariant c.is_full.ensures known.0 in
-    let t = c.in_ok-take_all.ensures.taken in
-    updates_make g.met.T.Ord.total g.B.RandomBits.bit g.B.RandomBits.next c.self.view_is c.self.invariant _ _ _ known.1 few.1
-    (kept g c) t.are_copies t.taken c.in_ok-least.ensures.least (least_is g c) c.in_ok-least.ensures.greatest (greatest_is g c)
+    let few = not-full _ _ _ (seen g c) (sound g c) c.is_full.ensures known.0 in
+    updates_make g.met.T.Ord.total g.B.RandomBits.bit g.B.RandomBits.next (seen g c) (sound g c) _ _ _ known.1 few.1
+    (kept g c) (copies_told g c) (taken g c) (least_told g c) (least_is g c) (greatest_told g c) (greatest_is g c)
 
 done : (g : Over) (c : After-set_if_some-2 g) → (c.is_full.result ≡ false) × (c.self.inside.n + length c.args.items.now < 2 ^ 64) →
     let i = c.self.inside in let held = c.take_all.new.self in

@@ -2,7 +2,9 @@
 use Rattle.std.proofs.Common.{◌≡◌, ◌+◌, false, ◌<◌, ◌-◌, ◌^◌, ◌∙◌, ℕ, Err, Ok, ap, refl, sym, subst}
 use Rattle.std.proofs.lemmas.Bool.{not-true}
 use Rattle.sketch_base.specs.declared.error.ErrorKind.TheVariants.{OutOfMemory}
-use Rattle.sketch_req.specs.Sketch.{IsSound, newer_or, sketch_of}
+use Rattle.sketch_req.specs.Sketch.{Req, IsSound, Ties, greatest_with, least_with, newer_or, sketch_of}
+use Rattle.sketch_req.specs.Schedule.{layouts_if_full, layouts_of}
+use Rattle.sketch_req.specs.Walk.{AreWalked, appended_first, room_of}
 use Rattle.sketch_req.proofs.KeptSketches.{still_seen, still_sound}
 use Rattle.sketch_req.proofs.MadeSketches.{update_makes}
 use Rattle.sketch_req.proofs.Outcomes.{IsDone, UpdateEnds, update_done, update_failed, update_refused}
@@ -41,6 +43,26 @@ returns-in_err-take_last g c =
 
 -- the extremes, and the levels but for what they hold
 module _ (g : Over) (c : After-set_if_some-2 g) where
+  abbrev old : Req g.row.T.Denot
+  old = let s = c.self.inside in sketch_of s.levels.k s.levels.accuracy s.n s.levels.levels s.min_item s.max_item
+
+  seen : old ≡ c.args.self.now
+  seen = c.self.view_is
+
+  sound : IsSound g.T.Ord.cmp old
+  sound = c.self.invariant
+
+  acted : AreWalked g.T.Ord.cmp g.B.RandomBits.bit g.B.RandomBits.next c.args.coins.now c.take_last.new.coins old.k old.accuracy
+      (room_of old.k old.accuracy (appended_first old.levels c.args.item))
+      (layouts_if_full old.k (layouts_of (appended_first old.levels c.args.item))) (appended_first old.levels c.args.item) c.take_last.new.self.levels
+  acted = c.in_ok-take_last.ensures.acted
+
+  least_told : Ties g.T.Ord.cmp (least_with g.T.Ord.cmp c.args.item old.least) (newer_or c.in_ok-least.least old.least)
+  least_told = c.in_ok-least.ensures.least
+
+  greatest_told : Ties g.T.Ord.cmp (greatest_with g.T.Ord.cmp c.args.item old.greatest) (newer_or c.in_ok-least.greatest old.greatest)
+  greatest_told = c.in_ok-least.ensures.greatest
+
   least_is : c.set_if_some.new.place ≡ newer_or c.in_ok-least.least c.self.inside.min_item
   least_is = c.set_if_some.ensures
 
@@ -55,10 +77,9 @@ made : (g : Over) (c : After-set_if_some-2 g) → c.is_full.result ≡ false →
     IsDone g.T.Ord.cmp g.B.RandomBits.bit g.B.RandomBits.next c.args.self.now
     (sketch_of held.k held.accuracy (i.n + 1) held.levels c.set_if_some.new.place c.set_if_some-2.new.place) c.args.coins.now c.take_last.new.coins c.args.item
 made g c off =
-    let known = not-full _ _ _ c.self.view_is c.self.invariant c.is_full.ensures off in
-    update_makes g.met.T.Ord.total g.B.RandomBits.bit g.B.RandomBits.next c.self.view_is c.self.invariant _ _ known.0 known.1
-    (kept g c) c.in_ok-take_last.ensures.acted
-    c.in_ok-least.ensures.least (least_is g c) c.in_ok-least.ensures.greatest (greatest_is g c)
+    let known = not-full _ _ _ (seen g c) (sound g c) c.is_full.ensures off in
+    update_makes g.met.T.Ord.total g.B.RandomBits.bit g.B.RandomBits.next (seen g c) (sound g c) _ _ known.0 known.1
+    (kept g c) (acted g c) (least_told g c) (least_is g c) (greatest_told g c) (greatest_is g c)
 
 done : (g : Over) (c : After-set_if_some-2 g) → c.is_full.result ≡ false → let i = c.self.inside in let held = c.take_last.new.self in
     UpdateEnds g.T.Ord.cmp g.B.RandomBits.bit g.B.RandomBits.next c.args.self.now
