@@ -24,7 +24,7 @@ use Rattle.sketch_req.proofs.WalkSteps.{own-there}
 use Rattle.sketch_req.proofs.sketch.levels.walk.reserve.Given.{Over}
 use Rattle.sketch_req.proofs.sketch.levels.walk.reserve.Goals as goal
 use Rattle.sketch_req.proofs.sketch.levels.walk.reserve.Goals.at as past
-use Rattle.sketch_req.proofs.sketch.levels.walk.reserve.Goals.{After-count_at-in-loop-level, After-drop-blank-inside-2, In_ok-for_levels, Joined-level-others, Joined-is_high, then-level-others+in_ok-take_clones, else-level-others, then-is_high, else-is_high}
+use Rattle.sketch_req.proofs.sketch.levels.walk.reserve.Goals.{After-count_at-in-loop-level, After-max-most, After-parameters-k, After-drop-blank-inside-2, In_ok-for_levels, Joined-level-others, Joined-is_high, then-level-others+in_ok-take_clones, else-level-others, then-is_high, else-is_high}
 
 -- the greater of two numbers
 at-most-greater : (greater m n : ℕ) → greater ≡ ord_max nat_cmp m n → (m ≤ greater) × (n ≤ greater)
@@ -62,9 +62,13 @@ count_to_take_at-taken-requires-clause-few g c =
     subst (λ (n : ℕ). n + c.loop-level.came < 4294967296) (ap₂ (λ (n m : ℕ). n + m) c.count_at.ensures c.count_at-in-loop-level.ensures)
     (few g (past.count_to_take_at-taken-requires-clause-few g c).After-count_at-in-loop-level)
 
+-- the k and accuracy of the sketch
+own : (g : Over) (c : After-parameters-k g) → c.parameters-k.result ≡ (k_of c.args.levels.now, accuracy_of c.args.levels.now)
+own g c = own-there g.T.Ord.cmp _ _ 0 _ _ _ c.requires.levels.placed c.requires.levels.some c.index-levels-0.is c.parameters-k.ensures
+
 pub count_to_take_at-taken-requires-clause-blank : goal.count_to_take_at-taken-requires-clause-blank
 count_to_take_at-taken-requires-clause-blank g c =
-    let told = own-there g.T.Ord.cmp _ _ 0 _ _ _ c.requires.levels.placed c.requires.levels.some c.index-levels-0.is c.parameters-k.ensures in
+    let told = own g (past.count_to_take_at-taken-requires-clause-blank g c).After-parameters-k in
     c.new-blank.ensures.value ∙ ap (λ (p : ℕ × RankAccuracy). fresh [] true 0 p.0 p.1) told
 
 -- the clones of the other level
@@ -101,11 +105,10 @@ of-kind : (k n : ℕ) (l : Layout) (accuracy : RankAccuracy) → n ≡ taken_if_
 of-kind k n l HighRank e = e
 of-kind k n l LowRank e = refl
 
-going : (g : Over) (c : Joined-is_high g) →
+going : (g : Over) (c : Joined-is_high g) → c.parameters-k.result ≡ (k_of c.args.levels.now, accuracy_of c.args.levels.now) →
     c.if-is_high.going ≡ given_up (k_of c.args.levels.now) (accuracy_of c.args.levels.now) (filled c.loop-level.came (layout_at
     (joined_layouts (k_of c.args.levels.now) (layouts_of c.args.levels.now) (layouts_of c.args.others.now)) c.loop-level.level))
-going g c =
-    let told = own-there g.T.Ord.cmp _ _ 0 _ _ _ c.requires.levels.placed c.requires.levels.some c.index-levels-0.is c.parameters-k.ensures in
+going g c told =
     let kind = of-kind (k_of c.args.levels.now) c.count_to_take_at-taken.result _ (accuracy_of c.args.levels.now) c.count_to_take_at-taken.ensures in
     let is : c.eq-is_high.result ≡ sameb the_type (accuracy_of c.args.levels.now) HighRank = c.eq-is_high.ensures ∙ ap (λ (p : ℕ × RankAccuracy). sameb the_type p.1 HighRank) told in
     let taken : c.if-is_high.going ≡ (if c.eq-is_high.result then c.count_to_take_at-taken.result else 0) =
@@ -117,7 +120,7 @@ going g c =
 
 pub overflow_sub-here : goal.overflow_sub-here
 overflow_sub-here g c =
-    let goes = going g (past.overflow_sub-here g c).Joined-is_high in
+    let goes = going g (past.overflow_sub-here g c).Joined-is_high (own g (past.overflow_sub-here g c).After-parameters-k) in
     let at = (past.overflow_sub-here g c).After-count_at-in-loop-level in
     omega (arith, goes, given-within (k_of c.args.levels.now) (accuracy_of c.args.levels.now) (filled c.loop-level.came (layout_at (both g at) c.loop-level.level)), here g at)
 
@@ -134,6 +137,11 @@ none-holds-more counts at most more grows last before h l =
       | inr high ↦ let place : at ≡ h = omega (arith, l, high) in subst (λ (n : ℕ). counts n ≤ more) place last
     ]
 
+-- the most that a level holds
+most_is : (g : Over) (c : After-max-most g) →
+    (c.loop-level.most ≤ c.max-most.result) × (c.count_at.result + c.count_at-in-loop-level.result + c.loop-level.came ≤ c.max-most.result)
+most_is g c = at-most-greater _ _ _ c.max-most.ensures
+
 pub loop-level-preserved : goal.loop-level-preserved
 loop-level-preserved g c =
     let i = c.loop-level.invariant in
@@ -143,12 +151,12 @@ loop-level-preserved g c =
     let both : List Layout = joined_layouts k (layouts_of c.args.levels.now) (layouts_of c.args.others.now) in
     let start : List Layout = with_more c.args.more both in
     let told = told g (past.loop-level-preserved g c).Joined-level-others in
-    let goes = going g (past.loop-level-preserved g c).Joined-is_high in
+    let goes = going g (past.loop-level-preserved g c).Joined-is_high (own g (past.loop-level-preserved g c).After-parameters-k) in
     let held = here g (past.loop-level-preserved g c).After-count_at-in-loop-level in
     let own = c.reserve.new.self in
     let rest = c.reserve.ensures.rest in
     let count = c.count_at.result + c.count_at-in-loop-level.result + c.loop-level.came in
-    let most = at-most-greater c.max-most.result c.loop-level.most count c.max-most.ensures in
+    let most = most_is g (past.loop-level-preserved g c).After-max-most in
     let inside : at < length c.loop-level.rooms.items = lt_of_lt_of_le c.loop-level-test.true i.enough in
     record {
       enough = subst (λ (n : ℕ). c.max-count.result ≤ n) (sym (length-set c.loop-level.rooms.items at own)) i.enough;

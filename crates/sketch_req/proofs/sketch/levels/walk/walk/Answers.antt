@@ -14,9 +14,13 @@ use Rattle.sketch_req.proofs.Layouts.{length-layouts}
 use Rattle.sketch_req.proofs.MergedLevels.{is-added}
 use Rattle.sketch_req.proofs.WalkSteps.{opened, own-there, raised}
 use Rattle.sketch_req.proofs.Turns.{IsPending, IsReady, is-ready, next-pending, pending-above, pending-start, ready-held}
-use Rattle.sketch_req.proofs.sketch.levels.walk.walk.Goals.{After-index_mut-in-loop-level, After-swap, After-parameters-k, After-add_level}
+use Rattle.sketch_req.proofs.sketch.levels.walk.walk.Goals.{After-index_mut-in-loop-level, After-len-count, After-swap, After-parameters-k, After-add_level}
 use Rattle.sketch_req.proofs.sketch.levels.walk.walk.Goals as goal
 use Rattle.sketch_req.proofs.sketch.levels.walk.walk.Goals.at as past
+
+-- how many levels there are
+count_is : (g : _) (c : After-len-count g) → c.len-count.result ≡ length c.args.levels.now.items
+count_is g c = c.len-count.ensures ∙ c.args.levels.now.ok.0
 
 pub loop-level-init : goal.loop-level-init
 loop-level-init g c = record {
@@ -24,7 +28,7 @@ loop-level-init g c = record {
   len = sym c.len-count.ensures;
   spare = subst (λ (n : ℕ). n < vec_capacity c.args.levels.now) (sym c.len-count.ensures) c.requires.spare;
   enough = subst (λ (n : ℕ). n ≤ length c.args.room.now.rooms.items)
-      (length-layouts c.args.levels.now.items ∙ (sym c.args.levels.now.ok.0 ∙ sym c.len-count.ensures)) c.requires.fit.enough;
+      (length-layouts c.args.levels.now.items ∙ sym (count_is g (past.loop-level-init g c).After-len-count)) c.requires.fit.enough;
   merged = λ j _. refl;
   sorted = subst (IsSorted g.T.Ord.cmp) (sym c.requires.empty) (short_sorted g.T.Ord.cmp [] (omega arith));
   empty = c.requires.nothing;
@@ -249,7 +253,7 @@ returns-then-not-is_empty g c =
     let walked = i.pending.some (some g before) (c.loop-level.level - 1) above upper new
     (c.index_mut-then-not-is_empty.ensures.value ∙ ap₂ (λ (l : List (Level g.row.T.Denot)) (n : ℕ). get_or l n upper) all ends) c.absorb.ensures.taken_in c.absorb.ensures.sound in
     let count : c.loop-level.level ≡ length (layouts_of ls) =
-    le_antisymm c.loop-level.auto.level-end c.loop-level-test.false ∙ (c.len-count.ensures ∙ (c.args.levels.now.ok.0 ∙ sym (length-layouts ls))) in
+    le_antisymm c.loop-level.auto.level-end c.loop-level-test.false ∙ (count_is g (past.returns-then-not-is_empty g c).After-len-count ∙ sym (length-layouts ls)) in
     record {
       acted = walked-whole g.T.Ord.cmp g.B.RandomBits.bit g.B.RandomBits.next c.args.coins.now c.loop-level.coins (k_of ls) c.loop-level.level _
           (accuracy_of ls) ls _ _ count
@@ -260,7 +264,7 @@ pub returns-else-not-is_empty : goal.returns-else-not-is_empty
 returns-else-not-is_empty g c =
     let ls : List (Level g.row.T.Denot) = c.args.levels.now.items in
     let count : c.loop-level.level ≡ length (layouts_of ls) =
-    le_antisymm c.loop-level.auto.level-end c.loop-level-test.false ∙ (c.len-count.ensures ∙ (c.args.levels.now.ok.0 ∙ sym (length-layouts ls))) in
+    le_antisymm c.loop-level.auto.level-end c.loop-level-test.false ∙ (count_is g (past.returns-else-not-is_empty g c).After-len-count ∙ sym (length-layouts ls)) in
     let none : c.loop-level.coming.items ≡ [] =
     nil_from_length c.loop-level.coming.items (grind (arith, c.if-not-is_empty.false, c.is_empty.ensures, c.loop-level.coming.ok.0)) in
     record {
