@@ -1,15 +1,18 @@
-use Rattle.std.proofs.Common.{◌∙◌, List, [], ◌∷◌, None, Err, ap, arith, refl, subst, sym}
+use Rattle.std.proofs.Common.{◌≡◌, true, ◌∙◌, List, [], ◌∷◌, None, Err, ap, arith, refl, subst, sym}
 use Rattle.std.proofs.lemmas.Bool.{false≢true}
 use Rattle.sketch_base.specs.declared.error.ErrorKind.TheVariants.{OutOfMemory}
 use Rattle.sketch_req.specs.Held.{held_of}
-use Rattle.sketch_req.specs.Level.{Level}
-use Rattle.sketch_req.specs.Sketch.{IsSound}
+use Rattle.sketch_req.specs.Level.{Level, fresh}
+use Rattle.sketch_req.specs.Sketch.{IsSound, empty_sketch, sketch_of}
 use Rattle.sketch_req.specs.Walk.{AreLevels}
 use Rattle.sketch_req.proofs.Held.{first-levels}
 use Rattle.sketch_req.proofs.MadeSketches.{empty_sound}
 use Rattle.sketch_base.proofs.Exits.{accepted, no_found, returned, with_error}
 use Rattle.sketch_req.proofs.Refusals.{no_memory, one_counted, refused_as, same_sketch}
+use Rattle.sketch_req.proofs.sketch.ReqSketch.new.Given.{Over}
+use Rattle.sketch_req.proofs.sketch.ReqSketch.new.Goals.{After-from_levels, After-new-levels}
 use Rattle.sketch_req.proofs.sketch.ReqSketch.new.Goals as goal
+use Rattle.sketch_req.proofs.sketch.ReqSketch.new.Goals.at as past
 
 pub new-levels-requires-clause-some : goal.new-levels-requires-clause-some
 new-levels-requires-clause-some g c = one_counted c.in_ok-vec.ensures.items
@@ -20,11 +23,21 @@ new-levels-requires-clause-levels g c =
     subst (λ (ls : List (Level g.row.T.Denot)). AreLevels g.T.Ord.cmp c.args.k c.args.rank_accuracy 0 ls) (sym levels)
     (first-levels g.T.Ord.cmp _ _ (c.is_legal_k.ensures.legal (c.in_ok-unless.ensures.ok.0 refl)))
 
+-- one empty level
+module _ (g : Over) (c : After-new-levels g) where
+  levels_are : c.in_ok-vec.field-0.items ≡ fresh [] true 0 c.args.k c.args.rank_accuracy ∷ []
+  levels_are = c.in_ok-vec.ensures.items ∙ ap (λ (l : Level g.row.T.Denot). l ∷ []) c.new-first.ensures.value
+
+  held_is : c.new-levels.result ≡ held_of c.args.k c.args.rank_accuracy (fresh [] true 0 c.args.k c.args.rank_accuracy ∷ [])
+  held_is = subst (λ (ls : List (Level g.row.T.Denot)). c.new-levels.result ≡ held_of c.args.k c.args.rank_accuracy ls) levels_are c.new-levels.ensures
+
+  same : sketch_of c.new-levels.result.k c.new-levels.result.accuracy 0 c.new-levels.result.levels None None ≡ empty_sketch c.args.k c.args.rank_accuracy
+  same = same_sketch 0 None None held_is
+
 pub from_levels-requires : goal.from_levels-requires
 from_levels-requires g c =
-    let levels = c.in_ok-vec.ensures.items ∙ ap (λ (l : Level g.row.T.Denot). l ∷ []) c.new-first.ensures.value in
-    let same = same_sketch 0 None None (c.new-levels.ensures ∙ ap (λ (ls : List (Level g.row.T.Denot)). held_of c.args.k c.args.rank_accuracy ls) levels) in
-    subst (IsSound g.T.Ord.cmp) (sym same) (empty_sound g.T.Ord.cmp _ _ (c.is_legal_k.ensures.legal (c.in_ok-unless.ensures.ok.0 refl)))
+    subst (IsSound g.T.Ord.cmp) (sym (same g (past.from_levels-requires g c).After-new-levels))
+    (empty_sound g.T.Ord.cmp _ _ (c.is_legal_k.ensures.legal (c.in_ok-unless.ensures.ok.0 refl)))
 
 pub returns-in_err-unless : goal.returns-in_err-unless
 returns-in_err-unless g c =
@@ -43,12 +56,15 @@ returns-in_err-vec g c =
     let legal = c.is_legal_k.ensures.legal (c.in_ok-unless.ensures.ok.0 refl) in
     record { empty = no_found _ e; sound = no_found _ e; illegal = no_memory e (λ illegal. illegal legal); memory = with_error _ e (λ _. refl) }
 
+-- the sketch that is made
+made_is : (g : Over) (c : After-from_levels g) →
+    c.from_levels.result ≡ sketch_of c.new-levels.result.k c.new-levels.result.accuracy 0 c.new-levels.result.levels None None
+made_is g c = c.from_levels.ensures
+
 pub returns : goal.returns
 returns g c =
     let legal = c.is_legal_k.ensures.legal (c.in_ok-unless.ensures.ok.0 refl) in
-    let levels = c.in_ok-vec.ensures.items ∙ ap (λ (l : Level g.row.T.Denot). l ∷ []) c.new-first.ensures.value in
-    let empty = c.from_levels.ensures
-    ∙ same_sketch 0 None None (c.new-levels.ensures ∙ ap (λ (ls : List (Level g.row.T.Denot)). held_of c.args.k c.args.rank_accuracy ls) levels) in
+    let empty = made_is g (past.returns g c).After-from_levels ∙ same g (past.returns g c).After-new-levels in
     record {
       empty = empty;
       sound = subst (IsSound g.T.Ord.cmp) (sym empty) (empty_sound g.T.Ord.cmp _ _ legal);

@@ -1,4 +1,4 @@
-use Rattle.std.proofs.Common.{◌≢◌, ◌<◌, ◌^◌, ◌∙◌, IfOk, List, length, refl, subst, sym, ap, arith, IsPermutation, IsSorted}
+use Rattle.std.proofs.Common.{◌≡◌, ◌≢◌, ◌<◌, ◌^◌, ◌∙◌, IfOk, List, length, refl, subst, sym, ap, arith, IsPermutation, IsSorted}
 use Rattle.std.specs.Prelude.{Option}
 use Rattle.std.proofs.lemmas.Bool.{false≢true}
 use Rattle.std.proofs.lemmas.Result.{IfErr-weaker}
@@ -6,6 +6,8 @@ use Rattle.sketch_base.specs.declared.error.ErrorKind.TheVariants.{OutOfMemory}
 use Rattle.sketch_base.specs.declared.weighted.Weighted.{Weighted}
 use Rattle.sketch_base.specs.Views.{IsViewOf}
 use Rattle.sketch_base.proofs.WeightedItems.{length-pairs_in}
+use Rattle.sketch_base.specs.Bag.{SameItems, sort}
+use Rattle.sketch_base.specs.Pairs.{copies, extreme_among}
 use Rattle.sketch_base.specs.Queries.{SameAnswer}
 use Rattle.sketch_base.specs.Weighted.{items_of, pairs_in}
 use Rattle.sketch_req.specs.Actions.{bag_of}
@@ -15,7 +17,7 @@ use Rattle.sketch_base.proofs.Exits.{no_found, returned, with_error}
 use Rattle.sketch_req.proofs.Refusals.{more_than_none, none_there}
 use Rattle.sketch_req.proofs.Views.{all-weigh, at-most-n, entries-view, extreme-there, weigh-n}
 use Rattle.sketch_req.proofs.sketch.ReqSketch.sorted_view.Given.{Over}
-use Rattle.sketch_req.proofs.sketch.ReqSketch.sorted_view.Goals.{In_ok-entries}
+use Rattle.sketch_req.proofs.sketch.ReqSketch.sorted_view.Goals.{After-from_weighted, In_ok-entries}
 use Rattle.sketch_req.proofs.sketch.ReqSketch.sorted_view.Goals as goal
 use Rattle.sketch_req.proofs.sketch.ReqSketch.sorted_view.Goals.at as past
 
@@ -86,16 +88,37 @@ returns-in_err-entries g c =
     let e = returned c.from_residual-in_err-entries.result OutOfMemory c.from_residual-in_err-entries.ensures.1 in
     record { view = no_found _ e; joined = no_found _ e; memory = with_error _ e refl; some = with_error _ e c.in_err-entries.ensures.some }
 
+-- what the view is of
+module _ (g : Over) (c : After-from_weighted g) where
+  slice_is : c.as_slice.result.now ≡ c.in_ok-entries.entries.items
+  slice_is = c.as_slice.ensures.value
+
+  entries_told : IfOk c.from_weighted.result (λ v. SameItems g.T.Ord.cmp (sort g.T.Ord.cmp (copies (pairs_in c.in_ok-entries.entries.items))) v.entries)
+  entries_told =
+      subst (λ (xs : List (Weighted g.row.T.Denot)).
+      IfOk c.from_weighted.result (λ v. SameItems g.T.Ord.cmp (sort g.T.Ord.cmp (copies (pairs_in xs))) v.entries)) slice_is c.from_weighted.ensures.entries
+
+  least_told : IfOk c.from_weighted.result (λ v. v.least ≡ extreme_among c.in_ok-entries.entries.items c.in_ok-least.least)
+  least_told =
+      subst (λ (xs : List (Weighted g.row.T.Denot)). IfOk c.from_weighted.result (λ v. v.least ≡ extreme_among xs c.in_ok-least.least)) slice_is
+      c.from_weighted.ensures.least
+
+  greatest_told : IfOk c.from_weighted.result (λ v. v.greatest ≡ extreme_among c.in_ok-entries.entries.items c.in_ok-greatest.greatest)
+  greatest_told =
+      subst (λ (xs : List (Weighted g.row.T.Denot)). IfOk c.from_weighted.result (λ v. v.greatest ≡ extreme_among xs c.in_ok-greatest.greatest)) slice_is
+      c.from_weighted.ensures.greatest
+
 pub returns : goal.returns
 returns g c =
     let before = (past.returns g c).In_ok-entries in
+    let after = (past.returns g c).After-from_weighted in
     let entries = c.in_ok-entries.entries.items in
     let most = at-most-n g.met.T.Ord.total (sketch g before) (pairs_in entries) c.self.invariant (moved g before) in
     record {
       view = subst (λ (s : Req g.row.T.Denot). IfOk c.from_weighted.result (IsViewOf g.T.Ord.cmp (bag_of s.levels) s.n s.least s.greatest)) c.self.view_is
           (entries-view g.met.T.Ord.total (sketch g before) (pairs_in entries) c.self.invariant (moved g before) entries (sym (length-pairs_in entries))
-          c.in_ok-least.least c.in_ok-greatest.greatest _ (least g before) (greatest g before) (rw c.as_slice.ensures.value at c.from_weighted.ensures.entries)
-          (rw c.as_slice.ensures.value at c.from_weighted.ensures.least) (rw c.as_slice.ensures.value at c.from_weighted.ensures.greatest));
+          c.in_ok-least.least c.in_ok-greatest.greatest _ (least g before) (greatest g before) (entries_told g after)
+          (least_told g after) (greatest_told g after));
       joined = c.from_weighted.ensures.joined;
       memory = c.from_weighted.ensures.memory;
       some = IfErr-weaker c.from_weighted.result (λ e. 0 < length c.as_slice.result.now) (λ e. c.args.self.now.n ≢ 0)
