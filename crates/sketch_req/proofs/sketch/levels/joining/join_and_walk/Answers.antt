@@ -1,5 +1,5 @@
 -- The levels before the walk have the layouts of the joined ones.
-use Rattle.std.proofs.Common.{◌-◌, subst₂, Bool, Ordering, ℕ, ◌+◌, ◌<◌, ◌≤◌, le_of_eq, refl, ◌≡◌, false, true, List, length, max, vec_capacity, sym, ap, ◌∙◌, subst, arith, le-leb}
+use Rattle.std.proofs.Common.{◌-◌, subst₂, Bool, Ordering, ℕ, ◌+◌, ◌<◌, ◌≤◌, le_of_eq, refl, ◌≡◌, false, true, List, length, max, vec_capacity, vec_len, sym, ap, ◌∙◌, subst, arith, le-leb}
 use Rattle.std.proofs.lemmas.Result.{IfOk-from_err}
 use Rattle.std.proofs.lemmas.Grind.{common_steps}
 use Rattle.std.proofs.lemmas.Bool.{lt-leb}
@@ -7,7 +7,8 @@ use Rattle.sketch_req.specs.declared.RankAccuracy.{RankAccuracy}
 use Rattle.sketch_req.specs.Walk.{HaveSpace, AreHeld, AreLevels, AreWalkedIfFull, accuracy_of, k_of, with_more}
 use Rattle.sketch_req.specs.Held.{IsHeld, held_of}
 use Rattle.sketch_req.specs.Level.{Level}
-use Rattle.sketch_req.specs.Merged.{AreCloned, AreJoined}
+use Rattle.sketch_base.specs.Random.{bits_from}
+use Rattle.sketch_req.specs.Merged.{AreCloned, AreJoined, redrawn_if, redraws_of}
 use Rattle.sketch_req.specs.Schedule.{Layout, are_full, layouts_of, joined_layouts, retained_of, weight_of}
 use Rattle.sketch_req.proofs.Buffers.{space-told, space-kept}
 use Rattle.sketch_base.proofs.Exits.{on_error}
@@ -19,7 +20,7 @@ use Rattle.sketch_req.proofs.UpdatedLevels.{acted-spare, acted-walk}
 use Rattle.sketch_req.proofs.ReservedWalks.{more-none}
 use Rattle.sketch_req.proofs.Redraws.{layouts-ready, placed-ready}
 use Rattle.sketch_req.proofs.sketch.levels.joining.join_and_walk.Given.{Over}
-use Rattle.sketch_req.proofs.sketch.levels.joining.join_and_walk.Goals.{After-redraw_if, After-sums-num_retained, then-num_retained-capacity, else-num_retained-capacity}
+use Rattle.sketch_req.proofs.sketch.levels.joining.join_and_walk.Goals.{After-redraw_if, In_ok-reserve, In_ok-reserve_exact, After-sums-num_retained, then-num_retained-capacity, else-num_retained-capacity}
 use Rattle.sketch_req.proofs.sketch.levels.joining.join_and_walk.Goals as goal
 use Rattle.sketch_req.proofs.sketch.levels.joining.join_and_walk.Goals.at as past
 
@@ -27,11 +28,23 @@ use Rattle.sketch_req.proofs.sketch.levels.joining.join_and_walk.Goals.at as pas
 spare-both : (n own len less m cap : ℕ) → own ≡ n → len ≡ own → less ≡ m - own → len + (less + 1) ≤ cap → max n m < cap
 spare-both n own len less m cap e f s l = omega (arith, e, f, s, l)
 
+module _ (g : Over) (c : In_ok-reserve_exact g) where
+  own_count : c.len.result ≡ length c.reserve_exact.new.self.items
+  own_count = c.len.ensures ∙ (c.args.levels.now.ok.0 ∙ sym (ap length c.reserve_exact.ensures.items))
+
+  room_count : vec_len c.reserve_exact.new.self ≡ c.len.result
+  room_count = c.reserve_exact.ensures.len ∙ sym c.len.ensures
+
+  fewer : c.saturating_sub.result ≡ length c.args.others.now - c.len.result
+  fewer = c.saturating_sub.ensures
+
+  room : vec_len c.reserve_exact.new.self + (c.saturating_sub.result + 1) ≤ vec_capacity c.reserve_exact.new.self
+  room = c.in_ok-reserve_exact.ensures.ok
+
 pub join_levels-requires-clause-spare : goal.join_levels-requires-clause-spare
 join_levels-requires-clause-spare g c =
-    spare-both _ _ _ _ _ _ (c.len.ensures ∙ (c.args.levels.now.ok.0 ∙ sym (ap length c.reserve_exact.ensures.items)))
-    (c.reserve_exact.ensures.len ∙ sym c.len.ensures)
-    c.saturating_sub.ensures c.in_ok-reserve_exact.ensures.ok
+    let at = (past.join_levels-requires-clause-spare g c).In_ok-reserve_exact in
+    spare-both _ _ _ _ _ _ (own_count g at) (room_count g at) (fewer g at) (room g at)
 
 pub join_levels-requires-clause-cloned : goal.join_levels-requires-clause-cloned
 join_levels-requires-clause-cloned g c =
@@ -59,9 +72,13 @@ module _ (g : Over) (c : After-redraw_if g) where
   abbrev ready : List (Level g.row.T.Denot)
   ready = c.redraw_if.new.levels.items
 
+  ready_are : ready ≡ redrawn_if c.args.redraws (bits_from g.B.RandomBits.bit g.B.RandomBits.next c.args.coins.now
+      (redraws_of c.args.redraws c.join_levels.new.levels.items)) c.join_levels.new.levels.items
+  ready_are = c.redraw_if.ensures.levels
+
   -- redraws leave the layouts as they are
   same : layouts_of ready ≡ layouts_of c.join_levels.new.levels.items
-  same = ap layouts_of c.redraw_if.ensures.levels ∙ layouts-ready c.args.redraws _ c.join_levels.new.levels.items
+  same = ap layouts_of ready_are ∙ layouts-ready c.args.redraws _ c.join_levels.new.levels.items
 
   joined : layouts_of ready ≡ joined_layouts (k_of ls) (layouts_of ls) (layouts_of c.args.others.now)
   joined = same ∙ layouts-joined _ _ _ _ _ joined_are count_is
@@ -73,7 +90,7 @@ module _ (g : Over) (c : After-redraw_if g) where
   own =
       let n = count in
       own-levels _ _ _ _ (let m = count_is in omega (arith, n, m, c.requires.levels.some))
-      (subst (AreLevels g.T.Ord.cmp (k_of ls) (accuracy_of ls) 0) (sym c.redraw_if.ensures.levels)
+      (subst (AreLevels g.T.Ord.cmp (k_of ls) (accuracy_of ls) 0) (sym ready_are)
       (placed-ready g.T.Ord.cmp _ _ c.args.redraws _ c.join_levels.new.levels.items joined_are.placed))
 
 -- the sums are those of the levels
@@ -121,6 +138,15 @@ walk-requires-clause-above g c =
     subst (λ (n : ℕ). n ≤ vec_capacity c.join_levels.new.room.up) (sym c.join_levels.ensures.coming)
     (subst (λ (n : ℕ). vec_capacity c.reserve.new.room.coming ≤ n) (sym c.join_levels.ensures.up) c.in_ok-reserve.ensures.above)
 
+-- the room that is reserved
+reserved : (g : Over) (c : In_ok-reserve g) → let xs = c.args.levels.now.items in
+    HaveSpace (k_of xs) (accuracy_of xs) (with_more 0 (joined_layouts (k_of xs) (layouts_of xs) (layouts_of c.args.others.now)))
+    c.reserve.new.room.rooms.items (vec_capacity c.reserve.new.room.coming)
+reserved g c =
+    subst (λ (xs : List (Level g.row.T.Denot)).
+    HaveSpace (k_of xs) (accuracy_of xs) (with_more 0 (joined_layouts (k_of xs) (layouts_of xs) (layouts_of c.args.others.now)))
+    c.reserve.new.room.rooms.items (vec_capacity c.reserve.new.room.coming)) c.as_slice.ensures.value c.in_ok-reserve.ensures.fit
+
 pub walk-requires-clause-fit : goal.walk-requires-clause-fit
 walk-requires-clause-fit g c =
     let before = (past.walk-requires-clause-fit g c).After-redraw_if in
@@ -133,9 +159,7 @@ walk-requires-clause-fit g c =
     let both : List Layout = joined_layouts k (layouts_of levels) (layouts_of c.args.others.now) in
     let count = length-joined k (layouts_of levels) (layouts_of c.args.others.now) in
     let more : with_more 0 both ≡ both = more-none both (omega (arith, count, length-layouts levels, c.requires.levels.some)) in
-    let reserved = subst (λ (xs : List (Level g.row.T.Denot)).
-    HaveSpace (k_of xs) (accuracy_of xs) (with_more 0 (joined_layouts (k_of xs) (layouts_of xs) (layouts_of c.args.others.now))) rooms space)
-    c.as_slice.ensures.value c.in_ok-reserve.ensures.fit in
+    let reserved = reserved g (past.walk-requires-clause-fit g c).In_ok-reserve in
     space-told _ _ _ _ _ _ _ (sym own.k_is) (sym own.accuracy_is)
     (space-kept k accuracy _ _ _ space (vec_capacity c.join_levels.new.room.coming) c.join_levels.ensures.merged_spaces
     (le_of_eq (sym c.join_levels.ensures.coming))
@@ -175,7 +199,7 @@ returns g c =
         joined_are = joined_are g before;
         count_is = count_is g before;
         ready = ls;
-        ready_are = c.redraw_if.ensures.levels;
+        ready_are = ready_are g before;
         acted = walked-alike _ _ _ _ _ _ _ _ _ _ _ _ _ _ own.k_is own.accuracy_is c.redraw_if.ensures.coins refl
             (sym (c.give_back.ensures ∙ c.move_back.ensures)) acted;
       };
