@@ -1,5 +1,5 @@
 -- What calls on levels come to that fail, as their contracts tell it.
-use Rattle.std.proofs.Common.{◌≡◌, ◌≤◌, ◌<◌, ◌∙◌, ℕ, Bool, List, Result, Ordering, IsErr, IsErrAnd, IfErr, IfOk, OnErr, OnOk, length, take, arith, refl}
+use Rattle.std.proofs.Common.{◌≡◌, ◌≤◌, ◌<◌, ℕ, Bool, List, Result, Ordering, IsErr, IsErrAnd, IfErr, IfOk, OnErr, OnOk, length, take}
 use Rattle.std.proofs.lemmas.Result.{IfOk-from_err}
 use Rattle.sketch_base.specs.Trace.{draws_of}
 use Rattle.sketch_base.specs.declared.error.ErrorKind.{ErrorKind}

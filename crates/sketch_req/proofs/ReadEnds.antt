@@ -1,5 +1,5 @@
 -- What reading a body comes to that fails, as its contract tells it.
-use Rattle.std.proofs.Common.{◌≡◌, ◌≢◌, ◌∙◌, ℕ, List, Result, Err, IsErrAnd, IfErr, IfOk, ap, sym}
+use Rattle.std.proofs.Common.{◌≡◌, ◌≢◌, ◌∙◌, ℕ, List, Result, Err, IsErrAnd, IfErr, IfOk, sym}
 use Rattle.sketch_base.specs.declared.error.ErrorKind.{ErrorKind}
 use Rattle.sketch_base.specs.declared.error.ErrorKind.TheVariants.{InvalidArgument, InvalidData}
 use Rattle.sketch_base.proofs.Exits.{data_not_argument, no_found, returned, with_error}

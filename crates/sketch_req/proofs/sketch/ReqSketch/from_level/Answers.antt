@@ -76,9 +76,10 @@ found : (g : Over) (c : After-from_levels g) →
     sketch_of c.new-levels.result.k c.new-levels.result.accuracy c.num_items-n.result c.new-levels.result.levels
     (Some c.in_ok-least.least) (Some c.in_ok-greatest.greatest) ≡ made → IsTold g.T.Ord.cmp h made →
     (c.from_levels.result.levels ≡ c.args.level ∷ []) × IsTold g.T.Ord.cmp h c.from_levels.result
-found g c same told =
-    (ap (λ (s : Req g.row.T.Denot). s.levels) (made_is g c ∙ same) ∙ c.in_ok-vec.ensures.items,
-    subst (IsTold g.T.Ord.cmp c.args.header.now) (sym (made_is g c ∙ same)) told)
+found g c same told = (
+  ap (λ (s : Req g.row.T.Denot). s.levels) (made_is g c ∙ same) ∙ c.in_ok-vec.ensures.items,
+  subst (IsTold g.T.Ord.cmp c.args.header.now) (sym (made_is g c ∙ same)) told,
+)
 
 pub returns : goal.returns
 returns g c =

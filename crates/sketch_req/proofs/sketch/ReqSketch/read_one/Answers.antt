@@ -1,4 +1,4 @@
-use Rattle.std.proofs.Common.{IfOk, ◌<◌, ◌∷◌, [], refl, sym, ap, ap₂, subst, arith, length, List, Bool, Err, ◌∙◌, eq-eqb}
+use Rattle.std.proofs.Common.{IfOk, ◌<◌, ◌∷◌, [], refl, sym, ap, ap₂, subst, arith, length, List, Bool, eq-eqb}
 use Rattle.std.proofs.lemmas.Result.{IfOk-weaker}
 use Rattle.std.proofs.lemmas.Bool.{false≢true, ltb-true, lt-ltb, eqb-true}
 use Rattle.sketch_req.specs.Level.{Level}

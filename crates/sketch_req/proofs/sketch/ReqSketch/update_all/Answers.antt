@@ -1,8 +1,7 @@
 -- The goals at the return are what updates by all items make of the fields.
-use Rattle.std.proofs.Common.{◌++◌, Ok, ◌≡◌, ◌+◌, ◌<◌, ◌≤◌, ◌⊎◌, ◌^◌, ◌∙◌, ℕ, Err, false, inl, not, ap, length, refl, subst, sym}
+use Rattle.std.proofs.Common.{◌++◌, Ok, ◌≡◌, ◌+◌, ◌<◌, ◌≤◌, ◌⊎◌, ◌^◌, ◌∙◌, ℕ, false, inl, not, ap, length, refl, subst, sym}
 use Rattle.std.proofs.lemmas.Bool.{false≢true}
 use Rattle.sketch_base.specs.Bag.{retained}
-use Rattle.sketch_base.specs.declared.error.ErrorKind.TheVariants.{OutOfMemory}
 use Rattle.sketch_req.specs.Actions.{bag_of}
 use Rattle.std.specs.List.{AllZip}
 use Rattle.std.specs.Option.{option_to_list}
@@ -13,8 +12,7 @@ use Rattle.sketch_req.specs.Updates.{AreTakenInTurn, IsDrawnFrom, coins_of_updat
 use Rattle.sketch_req.proofs.KeptSketches.{still_seen, still_sound}
 use Rattle.sketch_req.proofs.MadeSketches.{updates_make}
 use Rattle.sketch_req.proofs.Outcomes.{AreDone, UpdatesEnd, updates_done, updates_failed, updates_of_none, updates_refused}
-use Rattle.sketch_base.proofs.Exits.{accepted, no_value, returned, with_error}
-use Rattle.sketch_req.proofs.Refusals.{accepted_alone, items_fit, light_still, no_memory, no_refusal, none_drawn, none_fit, not_both, refused_as, some_of, too_heavy, weight_fits}
+use Rattle.sketch_req.proofs.Refusals.{items_fit, light_still, none_drawn, none_fit, some_of, too_heavy, weight_fits}
 use Rattle.sketch_req.proofs.UpdatedLevels.{not-full}
 use Rattle.sketch_req.proofs.sketch.ReqSketch.update_all.Given.{Over}
 use Rattle.sketch_req.proofs.sketch.ReqSketch.update_all.Goals.{After-from_residual, After-set_if_some-2, In_err-take_all, In_ok-unless, Joined-least, then-not-is_full, else-not-is_full}

@@ -1,15 +1,13 @@
 -- The goals at the return are what a step of the model says of the fields.
-use Rattle.std.proofs.Common.{◌≡◌, ◌+◌, false, ◌<◌, ◌-◌, ◌^◌, ◌∙◌, ℕ, Err, Ok, ap, refl, sym, subst}
+use Rattle.std.proofs.Common.{◌≡◌, ◌+◌, false, ◌<◌, ◌-◌, ◌^◌, ℕ, Ok, refl, sym, subst}
 use Rattle.std.proofs.lemmas.Bool.{not-true}
-use Rattle.sketch_base.specs.declared.error.ErrorKind.TheVariants.{OutOfMemory}
 use Rattle.sketch_req.specs.Sketch.{Req, IsSound, Ties, greatest_with, least_with, newer_or, sketch_of}
 use Rattle.sketch_req.specs.Schedule.{layouts_if_full, layouts_of}
 use Rattle.sketch_req.specs.Walk.{AreWalked, appended_first, room_of}
 use Rattle.sketch_req.proofs.KeptSketches.{still_seen, still_sound}
 use Rattle.sketch_req.proofs.MadeSketches.{update_makes}
 use Rattle.sketch_req.proofs.Outcomes.{IsDone, UpdateEnds, update_done, update_failed, update_refused}
-use Rattle.sketch_base.proofs.Exits.{accepted, no_value, returned, with_error}
-use Rattle.sketch_req.proofs.Refusals.{flagged, next_fits, no_memory, not_flagged, not_full_both, refused_as}
+use Rattle.sketch_req.proofs.Refusals.{flagged, next_fits, not_flagged}
 use Rattle.sketch_req.proofs.UpdatedLevels.{not-full}
 use Rattle.sketch_req.proofs.sketch.ReqSketch.update_slowly.Given.{Over}
 use Rattle.sketch_req.proofs.sketch.ReqSketch.update_slowly.Goals.{After-set_if_some-2, In_err-take_last}

@@ -1,5 +1,4 @@
 use Rattle.std.proofs.Common.{ℕ, Option, List, OnOk, ◌≡◌, ◌++◌, ◌∙◌, Err, ap, append-nil, refl, subst, sym, arith}
-use Rattle.std.proofs.lemmas.Grind.{common_steps}
 use Rattle.sketch_req.specs.Written.{body_by, form_of}
 use Rattle.sketch_req.specs.declared.image.Form.{Form}
 use Rattle.sketch_base.proofs.Exits.{no_value, returned, with_error}
