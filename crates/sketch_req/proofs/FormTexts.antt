@@ -45,14 +45,16 @@ module _ {A : Type 0} (f : A → Option (List ℕ)) (s : Req A) where
   written {form} {new} old e told = subst (λ (by : Form). new ≡ old ++ body_by f by s) e told
 
   -- the items of the one level of a sketch of few items
-  pub raw_items : {ls : List (Level A)} {x : Level A} {xs : List A} → Raw ≡ form_of s → ls ≡ s.levels → x ≡ get_or ls 0 x → xs ≡ x.items → xs ≡ items_in s.levels
+  pub raw_items : {ls : List (Level A)} {x : Level A} {xs : List A} → Raw ≡ form_of s → ls ≡ s.levels → x ≡ get_or ls 0 x → xs ≡ x.items → xs ≡ items_in
+      s.levels
   raw_items {ls} {x} e same is items = items ∙ alone s.n s.levels x e (subst (λ (ks : List (Level A)). x ≡ get_or ks 0 x) same is)
 
   text-ends : (xs ys : List A) → items_text f (xs ++ ys) ≡ items_text f xs ++ items_text f ys
   text-ends xs ys = flat_map-append _ xs ys
 
   -- a body of several levels
-  pub several_size : {a b c : ℕ} → a ≡ length (items_text f (option_to_list s.least)) → b ≡ length (items_text f (option_to_list s.greatest)) → c ≡ length (levels_text f s.levels) →
+  pub several_size : {a b c : ℕ} → a ≡ length (items_text f (option_to_list s.least)) → b ≡ length (items_text f (option_to_list s.greatest)) → c ≡ length
+      (levels_text f s.levels) →
       8 + a + b + c ≡ length (body_by f Several s)
   several_size {a} {b} {c} least greatest levels =
       let ends = ap length (text-ends (option_to_list s.least) (option_to_list s.greatest)) in
@@ -61,9 +63,11 @@ module _ {A : Type 0} (f : A → Option (List ℕ)) (s : Req A) where
       let whole = length-append (to_le_bytes w64 s.n) (items_text f (ends_of s) ++ levels_text f s.levels) in
       omega (arith, least, greatest, levels, ends, both, all, whole)
 
-  pub several_spelled : AllSpelled f (option_to_list s.least) → AllSpelled f (option_to_list s.greatest) → AllSpelled f (items_in s.levels) → AllSpelled f (items_by Several s)
+  pub several_spelled : AllSpelled f (option_to_list s.least) → AllSpelled f (option_to_list s.greatest) → AllSpelled f (items_in s.levels) → AllSpelled f
+      (items_by Several s)
   several_spelled least greatest levels =
-      all-append (λ y. IsSome (f y)) (ends_of s) (items_in s.levels) (all-append (λ y. IsSome (f y)) (option_to_list s.least) (option_to_list s.greatest) least greatest) levels
+      all-append (λ y. IsSome (f y)) (ends_of s) (items_in s.levels) (all-append (λ y. IsSome (f y)) (option_to_list s.least) (option_to_list s.greatest)
+      least greatest) levels
 
   pub several_written : {one two three new : List ℕ} (old : List ℕ) → one ≡ old ++ to_le_bytes w64 s.n → two ≡ one ++ items_text f (option_to_list s.least) →
       three ≡ two ++ items_text f (option_to_list s.greatest) → new ≡ three ++ levels_text f s.levels → new ≡ old ++ body_by f Several s
@@ -74,4 +78,5 @@ module _ {A : Type 0} (f : A → Option (List ℕ)) (s : Req A) where
       let rest = levels_text f s.levels in
       last ∙ ap (λ (t : List ℕ). t ++ rest) (third ∙ ap (λ (t : List ℕ). t ++ high) (second ∙ ap (λ (t : List ℕ). t ++ low) first))
       ∙ (append_assoc ((old ++ n) ++ low) high rest ∙ append_assoc (old ++ n) low (high ++ rest) ∙ append_assoc old n (low ++ (high ++ rest))
-      ∙ ap (λ (t : List ℕ). old ++ (n ++ t)) (sym (append_assoc low high rest) ∙ ap (λ (t : List ℕ). t ++ rest) (sym (text-ends (option_to_list s.least) (option_to_list s.greatest)))))
+      ∙ ap (λ (t : List ℕ). old ++ (n ++ t)) (sym (append_assoc low high rest) ∙ ap (λ (t : List ℕ). t ++ rest)
+      (sym (text-ends (option_to_list s.least) (option_to_list s.greatest)))))

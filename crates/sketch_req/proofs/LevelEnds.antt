@@ -21,7 +21,8 @@ module _ {A S : Type 0} (cmp : A → A → Ordering) (bit : S → Bool) (next : 
     memory : IfErr r (λ e. e ≡ OutOfMemory);
   }
 
-  pub all_failed : {T : Type 0} {x : ErrorKind} (r : Result T ErrorKind) → IsErr r × IsErrAnd r (λ e. e ≡ x) → x ≡ OutOfMemory → new ≡ record s { levels = new.levels } → new ≡ s →
+  pub all_failed : {T : Type 0} {x : ErrorKind} (r : Result T ErrorKind) → IsErr r × IsErrAnd r (λ e. e ≡ x) → x ≡ OutOfMemory → new ≡ record s
+      { levels = new.levels } → new ≡ s →
       IsDrawnFrom next (draws_of (updates_actions s.k s.accuracy (layouts_of s.levels) items)) source after → AllEnd r
   all_failed r h short kept same drawn =
       record { kept = kept; taken = IfOk-from_err r _ h.0; err = on_error r same; drawn = on_error r drawn; memory = only_error r h.1 short }
@@ -38,7 +39,8 @@ module _ {A S : Type 0} (cmp : A → A → Ordering) (bit : S → Bool) (next : 
     memory : IfErr r (λ e. e ≡ OutOfMemory);
   }
 
-  pub some_failed : {x : ErrorKind} (r : Result ℕ ErrorKind) → IsErr r × IsErrAnd r (λ e. e ≡ x) → x ≡ OutOfMemory → new ≡ record s { levels = new.levels } → after ≡ source → SomeEnd r
+  pub some_failed : {x : ErrorKind} (r : Result ℕ ErrorKind) → IsErr r × IsErrAnd r (λ e. e ≡ x) → x ≡ OutOfMemory → new ≡ record s { levels = new.levels } →
+      after ≡ source → SomeEnd r
   some_failed r h short kept still = record {
     kept = kept;
     some = IfOk-from_err r _ h.0;

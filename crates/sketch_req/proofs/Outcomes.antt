@@ -46,7 +46,8 @@ module _ {A S T : Type 0} (cmp : A → A → Ordering) (bit : S → Bool) (next 
     memory : IfErr r (λ e. s.n < 2 ^ 64 - 1 → retained (bag_of s.levels) < 4294967295 → e ≡ OutOfMemory);
   }
 
-  pub update_failed : (x : A) {y : ErrorKind} → IsErrAnd r (λ e. e ≡ y) → y ≡ OutOfMemory → IsSound cmp new → new ≡ s → after ≡ source → (IsFull s → ⊥) → UpdateEnds x
+  pub update_failed : (x : A) {y : ErrorKind} → IsErrAnd r (λ e. e ≡ y) → y ≡ OutOfMemory → IsSound cmp new → new ≡ s → after ≡ source → (IsFull s → ⊥) →
+      UpdateEnds x
   update_failed x h short sound same still not_full =
       let e : r ≡ Err OutOfMemory = short_of h short in
       record {
@@ -102,7 +103,8 @@ module _ {A S T : Type 0} (cmp : A → A → Ordering) (bit : S → Bool) (next 
     memory : IfErr r (λ e. s.accuracy ≡ t.accuracy → s.n + t.n < 2 ^ 64 → retained (bag_of s.levels) + retained (bag_of t.levels) < 2 ^ 32 → e ≡ OutOfMemory);
   }
 
-  pub merge_failed : (redraws : Bool) (t : Req A) {y : ErrorKind} → IsErrAnd r (λ e. e ≡ y) → y ≡ OutOfMemory → IsSound cmp new → new ≡ s → after ≡ source → (t.n ≡ 0 → ⊥) →
+  pub merge_failed : (redraws : Bool) (t : Req A) {y : ErrorKind} → IsErrAnd r (λ e. e ≡ y) → y ≡ OutOfMemory → IsSound cmp new → new ≡ s → after ≡ source →
+      (t.n ≡ 0 → ⊥) →
       (AreApart s t → ⊥) → MergeEnds redraws t
   merge_failed redraws t h short sound same still some near =
       let e : r ≡ Err OutOfMemory = short_of h short in
@@ -116,7 +118,8 @@ module _ {A S T : Type 0} (cmp : A → A → Ordering) (bit : S → Bool) (next 
         memory = with_error _ e (λ _ _ _. refl);
       }
 
-  pub merge_refused : (redraws : Bool) (t : Req A) {y : ErrorKind} → IsErrAnd r (λ e. e ≡ y) → y ≡ InvalidArgument → IsSound cmp new → new ≡ s → after ≡ source →
+  pub merge_refused : (redraws : Bool) (t : Req A) {y : ErrorKind} → IsErrAnd r (λ e. e ≡ y) → y ≡ InvalidArgument → IsSound cmp new → new ≡ s →
+      after ≡ source →
       (s.accuracy ≡ t.accuracy → t.n ≡ 0 → ⊥) → AreApart s t → MergeEnds redraws t
   merge_refused redraws t h refusal sound same still some apart =
       let e : r ≡ Err InvalidArgument = refused_of h refusal in
@@ -130,7 +133,8 @@ module _ {A S T : Type 0} (cmp : A → A → Ordering) (bit : S → Bool) (next 
         memory = with_error _ e (λ near light few. absurd (not_apart _ _ apart near light few));
       }
 
-  pub update_refused : (x : A) {y : ErrorKind} → IsErrAnd r (λ e. e ≡ y) → y ≡ InvalidArgument → IsSound cmp new → new ≡ s → after ≡ source → IsFull s → UpdateEnds x
+  pub update_refused : (x : A) {y : ErrorKind} → IsErrAnd r (λ e. e ≡ y) → y ≡ InvalidArgument → IsSound cmp new → new ≡ s → after ≡ source → IsFull s →
+      UpdateEnds x
   update_refused x h refusal sound same still full =
       let e : r ≡ Err InvalidArgument = refused_of h refusal in
       record {
@@ -165,7 +169,8 @@ module _ {A S : Type 0} (cmp : A → A → Ordering) (bit : S → Bool) (next : 
   IsDone x = IsSound cmp new × IsUpdated cmp s x (bits_from bit next source (coins_of_update s x)) new × (after ≡ after_draws next source (coins_of_update s x))
 
   abbrev pub AreDone : List A → Type 0
-  AreDone xs = IsSound cmp new × AreUpdated cmp s xs (bits_from bit next source (coins_of_updates s xs)) new × (after ≡ after_draws next source (coins_of_updates s xs))
+  AreDone xs = IsSound cmp new × AreUpdated cmp s xs (bits_from bit next source (coins_of_updates s xs)) new ×
+      (after ≡ after_draws next source (coins_of_updates s xs))
 
   abbrev pub IsMerged : Bool → Req A → Type 0
   IsMerged redraws t = IsSound cmp new × IsMergedBy cmp redraws s t (bits_from bit next source (coins_of_merge_by redraws s t)) new
@@ -218,7 +223,8 @@ module _ {A S T : Type 0} (cmp : A → A → Ordering) (bit : S → Bool) (next 
       nothing : {n : ℕ} → n ≡ 0 → 0 < n → ⊥
       nothing none some = omega (arith, none, some)
 
-  pub updates_of_none : IsTotalOrder cmp → (xs : List A) → length xs ≡ 0 → IsSound cmp s → (AreTooMany s xs → ⊥) → UpdatesEnd cmp bit next s s source source (Ok v) xs
+  pub updates_of_none : IsTotalOrder cmp → (xs : List A) → length xs ≡ 0 → IsSound cmp s → (AreTooMany s xs → ⊥) → UpdatesEnd cmp bit next s s source source
+      (Ok v) xs
   updates_of_none order xs none sound few = record {
     empty = λ _. (refl, refl, refl);
     ok = updates_none order _ _ _ sound none;

@@ -14,7 +14,8 @@ module _ {A T : Type 0} (Found : T → Type 0) (IsBody : Req A → List ℕ → 
   }
 
   -- another call failed
-  pub read_failed : {x : ErrorKind} → IsErrAnd r (λ e. e ≡ x) → (x ≡ InvalidData → (s : Req A) (rest : List ℕ) → ¬ IsBody s rest) → x ≢ InvalidArgument → ReadEnds
+  pub read_failed : {x : ErrorKind} → IsErrAnd r (λ e. e ≡ x) → (x ≡ InvalidData → (s : Req A) (rest : List ℕ) → ¬ IsBody s rest) → x ≢ InvalidArgument →
+      ReadEnds
   read_failed {x} h refused kind =
       let e : r ≡ Err x = returned r x h in record { found = no_found _ e; refused = with_error _ e refused; kind = with_error _ e kind }
 

@@ -32,7 +32,8 @@ levels_size-requires-in-Several g c = grind arith
 
 -- the levels are those of the sketch
 levels_are : (g : Over) (c : After-as_slice-levels g) → c.as_slice-levels.result.now ≡ c.args.self.now.levels
-levels_are g c = c.as_slice-levels.ensures.value ∙ (ap (λ (s : Inside g.row.T.Denot). s.levels.levels) c.self-inside.view_is ∙ ap (λ (s : Req g.row.T.Denot). s.levels) c.self.view_is)
+levels_are g c = c.as_slice-levels.ensures.value ∙ (ap (λ (s : Inside g.row.T.Denot). s.levels.levels) c.self-inside.view_is ∙ ap
+    (λ (s : Req g.row.T.Denot). s.levels) c.self.view_is)
 
 -- few items
 module _ (g : Over) (c : After-items_size g) (same : c.as_slice-levels.result.now ≡ c.args.self.now.levels) where
@@ -83,7 +84,8 @@ module _ (g : Over) (c : After-levels_size-in-Several g) (same : c.as_slice-leve
 
   low_is : c.option_size.result ≡ length (items_text g.T.ReqValue.spelling (option_to_list c.args.self.now.least))
   low_is =
-      subst (λ (x : Option g.row.T.Denot). c.option_size.result ≡ length (items_text g.T.ReqValue.spelling (option_to_list x))) least_is c.option_size.ensures.size
+      subst (λ (x : Option g.row.T.Denot). c.option_size.result ≡ length (items_text g.T.ReqValue.spelling (option_to_list x))) least_is
+      c.option_size.ensures.size
 
   high_is : c.option_size-in-Several.result ≡ length (items_text g.T.ReqValue.spelling (option_to_list c.args.self.now.greatest))
   high_is =
@@ -97,12 +99,14 @@ module _ (g : Over) (c : After-levels_size-in-Several g) (same : c.as_slice-leve
   high_spelled = subst (λ (x : Option g.row.T.Denot). AllSpelled g.T.ReqValue.spelling (option_to_list x)) greatest_is c.option_size-in-Several.ensures.spelled
 
   all_size : c.levels_size-in-Several.result ≡ length (levels_text g.T.ReqValue.spelling c.args.self.now.levels)
-  all_size = subst (λ (ls : List (Level g.row.T.Denot)). c.levels_size-in-Several.result ≡ length (levels_text g.T.ReqValue.spelling ls)) same c.levels_size-in-Several.ensures.size
+  all_size = subst (λ (ls : List (Level g.row.T.Denot)). c.levels_size-in-Several.result ≡ length (levels_text g.T.ReqValue.spelling ls)) same
+      c.levels_size-in-Several.ensures.size
 
   levels_spelled : AllSpelled g.T.ReqValue.spelling (items_in c.args.self.now.levels)
   levels_spelled = subst (λ (ls : List (Level g.row.T.Denot)). AllSpelled g.T.ReqValue.spelling (items_in ls)) same c.levels_size-in-Several.ensures.spelled
 
-  several_is : 8 + c.option_size.result + c.option_size-in-Several.result + c.levels_size-in-Several.result ≡ length (body_by g.T.ReqValue.spelling Several c.args.self.now)
+  several_is : 8 + c.option_size.result + c.option_size-in-Several.result + c.levels_size-in-Several.result ≡ length
+      (body_by g.T.ReqValue.spelling Several c.args.self.now)
   several_is = several_size g.T.ReqValue.spelling c.args.self.now low_is high_is all_size
 
   several_told : AllSpelled g.T.ReqValue.spelling (items_by Several c.args.self.now)
@@ -116,7 +120,8 @@ returns-in-Several-clause-size g c =
 pub returns-in-Several-clause-spelled : goal.returns-in-Several-clause-spelled
 returns-in-Several-clause-spelled g c =
     let at = past.returns-in-Several-clause-spelled g c in
-    all_spelled g.T.ReqValue.spelling c.args.self.now c.in-Several.ensures (several_told g at.After-levels_size-in-Several (levels_are g at.After-as_slice-levels))
+    all_spelled g.T.ReqValue.spelling c.args.self.now c.in-Several.ensures (several_told g at.After-levels_size-in-Several
+    (levels_are g at.After-as_slice-levels))
 
 pub returns-in-Several-clause-fits : goal.returns-in-Several-clause-fits
 returns-in-Several-clause-fits g c = grind (arith, common_steps)

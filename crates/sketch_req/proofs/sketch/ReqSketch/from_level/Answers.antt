@@ -35,7 +35,8 @@ module _ (g : Over) (c : After-new-levels g) where
       low (c.requires.clones _ _ c.in_ok-least.ensures.cases) high (c.requires.clones _ _ c.in_ok-greatest.ensures.cases)
 
   held_is : c.new-levels.result ≡ held_of c.args.header.now.k (accuracy_in c.args.header.now.flags) c.in_ok-vec.field-0.items
-  held_is = subst (λ (a : RankAccuracy). c.new-levels.result ≡ held_of c.args.header.now.k a c.in_ok-vec.field-0.items) c.rank_accuracy.ensures c.new-levels.ensures
+  held_is = subst (λ (a : RankAccuracy). c.new-levels.result ≡ held_of c.args.header.now.k a c.in_ok-vec.field-0.items) c.rank_accuracy.ensures
+      c.new-levels.ensures
 
   same : sketch_of c.new-levels.result.k c.new-levels.result.accuracy c.num_items-n.result c.new-levels.result.levels
       (Some c.in_ok-least.least) (Some c.in_ok-greatest.greatest) ≡ sketch
@@ -66,7 +67,8 @@ from_levels-requires g c =
 
 -- the sketch that is made
 made_is : (g : Over) (c : After-from_levels g) → c.from_levels.result
-    ≡ sketch_of c.new-levels.result.k c.new-levels.result.accuracy c.num_items-n.result c.new-levels.result.levels (Some c.in_ok-least.least) (Some c.in_ok-greatest.greatest)
+    ≡ sketch_of c.new-levels.result.k c.new-levels.result.accuracy c.num_items-n.result c.new-levels.result.levels (Some c.in_ok-least.least)
+    (Some c.in_ok-greatest.greatest)
 made_is g c = c.from_levels.ensures
 
 -- it is of this level

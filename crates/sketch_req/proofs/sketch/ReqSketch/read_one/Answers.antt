@@ -34,7 +34,8 @@ returns-in_err-level g c =
     let f = g.T.ReqValue.spelling in
     let text = c.args.text.now in
     let place = ap₂ (λ (a : RankAccuracy) (z : Bool). place_at c.args.header.now.k a 0 z) c.rank_accuracy-accuracy.ensures c.has_flag-sorted.ensures in
-    read_failed _ (IsOneBody g.T.Ord.cmp g.T.ReqValue.spelling c.args.header.now c.args.text.now) c.from_residual-in_err-level.result c.from_residual-in_err-level.ensures.1
+    read_failed _ (IsOneBody g.T.Ord.cmp g.T.ReqValue.spelling c.args.header.now c.args.text.now) c.from_residual-in_err-level.result
+    c.from_residual-in_err-level.ensures.1
     (λ k s rest b.
     let one = one_of s.levels b.one_level in
     let all = subst (λ (ls : List (Level g.row.T.Denot)). BeginsLevels g.T.Ord.cmp f (first_place c.args.header.now) text ls rest) one.1 b.levels in
@@ -45,7 +46,8 @@ returns-in_err-unless-2 g c =
     let told = c.in_err-unless-2.ensures in
     let level = read g (past.returns-in_err-unless-2 g c).In_ok-level in
     let xs : List (Level g.row.T.Denot) = c.in_ok-level.level ∷ [] in
-    read_refused _ (IsOneBody g.T.Ord.cmp g.T.ReqValue.spelling c.args.header.now c.args.text.now) c.from_residual-in_err-unless-2.result c.from_residual-in_err-unless-2.ensures.1 told.err
+    read_refused _ (IsOneBody g.T.Ord.cmp g.T.ReqValue.spelling c.args.header.now c.args.text.now) c.from_residual-in_err-unless-2.result
+    c.from_residual-in_err-unless-2.ensures.1 told.err
     (λ s rest b.
     let same = same_levels _ _ g.met.T.ReqValue.is_prefix_free _ c.requires.head.legal_k _ xs _ _ _ (sym b.one_level)
     (c.deserialize.new.input, level, refl) b.levels in

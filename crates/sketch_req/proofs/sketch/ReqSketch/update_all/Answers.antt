@@ -36,7 +36,8 @@ not_refused g c =
 
 pub returns-then-count-eq0 : goal.returns-then-count-eq0
 returns-then-count-eq0 g c =
-    updates_of_none g.T.Ord.cmp g.B.RandomBits.bit g.B.RandomBits.next c.args.self.now c.args.coins.now (tt {0}) g.met.T.Ord.total c.args.items.now c.if-count-eq0.true (subst (IsSound g.T.Ord.cmp) c.self.view_is c.self.invariant)
+    updates_of_none g.T.Ord.cmp g.B.RandomBits.bit g.B.RandomBits.next c.args.self.now c.args.coins.now (tt {0}) g.met.T.Ord.total c.args.items.now
+    c.if-count-eq0.true (subst (IsSound g.T.Ord.cmp) c.self.view_is c.self.invariant)
     (light_still (ap (λ (s : Req g.row.T.Denot). s.n) c.self.view_is) c.self.invariant.n_fits c.if-count-eq0.true)
 
 -- the items are too many
@@ -51,7 +52,8 @@ pub returns-in_err-unless : goal.returns-in_err-unless
 returns-in_err-unless g c =
     let told = c.in_err-unless.ensures in
     let s = c.args.self.now in
-    updates_refused g.T.Ord.cmp g.B.RandomBits.bit g.B.RandomBits.next s s c.args.coins.now c.args.coins.now c.from_residual.result c.args.items.now c.from_residual.ensures.1 told.err
+    updates_refused g.T.Ord.cmp g.B.RandomBits.bit g.B.RandomBits.next s s c.args.coins.now c.args.coins.now c.from_residual.result c.args.items.now
+    c.from_residual.ensures.1 told.err
     (subst (IsSound g.T.Ord.cmp) c.self.view_is c.self.invariant) refl refl (none_drawn _ _ _) c.if-count-eq0.false (too_many g c)
 
 pub returns-in_err-least : goal.returns-in_err-least
@@ -77,7 +79,8 @@ returns-in_err-take_all g c =
     let kept = unchanged g (past.returns-in_err-take_all g c).In_err-take_all in
     let i = c.self.inside in
     let held = c.take_all.new.self in
-    updates_failed g.T.Ord.cmp g.B.RandomBits.bit g.B.RandomBits.next c.args.self.now (sketch_of held.k held.accuracy i.n held.levels i.min_item i.max_item) c.args.coins.now c.take_all.new.coins
+    updates_failed g.T.Ord.cmp g.B.RandomBits.bit g.B.RandomBits.next c.args.self.now (sketch_of held.k held.accuracy i.n held.levels i.min_item i.max_item)
+    c.args.coins.now c.take_all.new.coins
     c.from_residual-in_err-take_all.result c.args.items.now c.from_residual-in_err-take_all.ensures.1 c.in_err-take_all.ensures.memory
     (still_sound i.n i.min_item i.max_item kept c.self.invariant) (still_seen i.n i.min_item i.max_item kept c.self.view_is)
     (drawn g c) c.if-count-eq0.false (not_refused g (past.returns-in_err-take_all g c).In_ok-unless)
@@ -96,7 +99,8 @@ module _ (g : Over) (c : After-set_if_some-2 g) where
   copies_told : AllZip (IsLevelCopy g.T.Ord.cmp) old.levels c.in_ok-take_all.ensures.taken.copies
   copies_told = c.in_ok-take_all.ensures.taken.are_copies
 
-  taken : AreTakenInTurn g.T.Ord.cmp g.B.RandomBits.bit g.B.RandomBits.next c.args.coins.now c.take_all.new.coins old.k old.accuracy c.in_ok-take_all.ensures.taken.copies c.args.items.now c.take_all.new.self.levels
+  taken : AreTakenInTurn g.T.Ord.cmp g.B.RandomBits.bit g.B.RandomBits.next c.args.coins.now c.take_all.new.coins old.k old.accuracy
+      c.in_ok-take_all.ensures.taken.copies c.args.items.now c.take_all.new.self.levels
   taken = c.in_ok-take_all.ensures.taken.taken
 
   least_told : IsLeastOf g.T.Ord.cmp (option_to_list old.least ++ c.args.items.now) (newer_or c.in_ok-least.least old.least)
@@ -131,7 +135,8 @@ done : (g : Over) (c : After-set_if_some-2 g) → (c.is_full.result ≡ false) �
     (sketch_of held.k held.accuracy (i.n + length c.args.items.now) held.levels c.set_if_some.new.place c.set_if_some-2.new.place)
     c.args.coins.now c.take_all.new.coins (Ok (tt {0})) c.args.items.now
 done g c known =
-    updates_done g.T.Ord.cmp g.B.RandomBits.bit g.B.RandomBits.next c.args.self.now _ c.args.coins.now c.take_all.new.coins (tt {0}) c.args.items.now (made g c known) c.if-count-eq0.false
+    updates_done g.T.Ord.cmp g.B.RandomBits.bit g.B.RandomBits.next c.args.self.now _ c.args.coins.now c.take_all.new.coins (tt {0}) c.args.items.now
+    (made g c known) c.if-count-eq0.false
     (items_fit (ap (λ (s : Req g.row.T.Denot). s.n) c.self.view_is) known.1 c.is_full.ensures known.0)
 
 pub returns : goal.returns

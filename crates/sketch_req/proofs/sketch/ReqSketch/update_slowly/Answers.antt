@@ -17,12 +17,14 @@ use Rattle.sketch_req.proofs.sketch.ReqSketch.update_slowly.Goals.at as past
 pub returns-in_err-unless : goal.returns-in_err-unless
 returns-in_err-unless g c =
     let told = c.in_err-unless.ensures in
-    update_refused g.T.Ord.cmp g.B.RandomBits.bit g.B.RandomBits.next c.args.self.now c.args.self.now c.args.coins.now c.args.coins.now c.from_residual.result c.args.item c.from_residual.ensures.1 told.err
+    update_refused g.T.Ord.cmp g.B.RandomBits.bit g.B.RandomBits.next c.args.self.now c.args.self.now c.args.coins.now c.args.coins.now c.from_residual.result
+    c.args.item c.from_residual.ensures.1 told.err
     (subst (IsSound g.T.Ord.cmp) c.self.view_is c.self.invariant) refl refl (c.is_full.ensures.0 (flagged _ told.ok.1))
 
 pub returns-in_err-least : goal.returns-in_err-least
 returns-in_err-least g c =
-    update_failed g.T.Ord.cmp g.B.RandomBits.bit g.B.RandomBits.next c.args.self.now c.args.self.now c.args.coins.now c.args.coins.now c.from_residual-in_err-least.result c.args.item c.from_residual-in_err-least.ensures.1 refl
+    update_failed g.T.Ord.cmp g.B.RandomBits.bit g.B.RandomBits.next c.args.self.now c.args.self.now c.args.coins.now c.args.coins.now
+    c.from_residual-in_err-least.result c.args.item c.from_residual-in_err-least.ensures.1 refl
     (subst (IsSound g.T.Ord.cmp) c.self.view_is c.self.invariant) refl refl (not_flagged c.is_full.ensures (not-true _ (c.in_ok-unless.ensures.ok.0 refl)))
 
 -- nothing changed
@@ -34,7 +36,8 @@ returns-in_err-take_last g c =
     let i = c.self.inside in
     let held = c.take_last.new.self in
     let kept = unchanged g (past.returns-in_err-take_last g c).In_err-take_last in
-    update_failed g.T.Ord.cmp g.B.RandomBits.bit g.B.RandomBits.next c.args.self.now (sketch_of held.k held.accuracy i.n held.levels i.min_item i.max_item) c.args.coins.now c.take_last.new.coins
+    update_failed g.T.Ord.cmp g.B.RandomBits.bit g.B.RandomBits.next c.args.self.now (sketch_of held.k held.accuracy i.n held.levels i.min_item i.max_item)
+    c.args.coins.now c.take_last.new.coins
     c.from_residual-in_err-take_last.result c.args.item c.from_residual-in_err-take_last.ensures.1 c.in_err-take_last.ensures.memory
     (still_sound i.n i.min_item i.max_item kept.0 c.self.invariant) (still_seen i.n i.min_item i.max_item kept.0 c.self.view_is) kept.1
     (not_flagged c.is_full.ensures (not-true _ (c.in_ok-unless.ensures.ok.0 refl)))
@@ -81,8 +84,10 @@ made g c off =
 
 done : (g : Over) (c : After-set_if_some-2 g) → c.is_full.result ≡ false → let i = c.self.inside in let held = c.take_last.new.self in
     UpdateEnds g.T.Ord.cmp g.B.RandomBits.bit g.B.RandomBits.next c.args.self.now
-    (sketch_of held.k held.accuracy (i.n + 1) held.levels c.set_if_some.new.place c.set_if_some-2.new.place) c.args.coins.now c.take_last.new.coins (Ok (tt {0})) c.args.item
-done g c off = update_done g.T.Ord.cmp g.B.RandomBits.bit g.B.RandomBits.next c.args.self.now _ c.args.coins.now c.take_last.new.coins (tt {0}) c.args.item (made g c off) (not_flagged c.is_full.ensures off)
+    (sketch_of held.k held.accuracy (i.n + 1) held.levels c.set_if_some.new.place c.set_if_some-2.new.place) c.args.coins.now c.take_last.new.coins
+    (Ok (tt {0})) c.args.item
+done g c off = update_done g.T.Ord.cmp g.B.RandomBits.bit g.B.RandomBits.next c.args.self.now _ c.args.coins.now c.take_last.new.coins (tt {0}) c.args.item
+    (made g c off) (not_flagged c.is_full.ensures off)
 
 pub returns : goal.returns
 returns g c = done g (past.returns g c).After-set_if_some-2 (not-true _ (c.in_ok-unless.ensures.ok.0 refl))

@@ -27,12 +27,15 @@ returns-in-Empty g c =
 
 -- few items are written
 raw_are : (g : Over) (c : After-write_items g) → c.items_slice.result.now ≡ items_in c.args.self.now.levels
-raw_are g c = raw_items g.T.ReqValue.spelling c.args.self.now {x = c.index.result.now} c.in-Raw.ensures (ap (λ (s : Inside g.row.T.Denot). s.levels.levels) c.self-inside.view_is ∙ ap (λ (s : Req g.row.T.Denot). s.levels) c.self.view_is) c.index.ensures c.items_slice.ensures.value
+raw_are g c = raw_items g.T.ReqValue.spelling c.args.self.now {x = c.index.result.now} c.in-Raw.ensures
+    (ap (λ (s : Inside g.row.T.Denot). s.levels.levels) c.self-inside.view_is ∙ ap (λ (s : Req g.row.T.Denot). s.levels) c.self.view_is) c.index.ensures
+    c.items_slice.ensures.value
 
 pub returns-in-Raw : goal.returns-in-Raw
 returns-in-Raw g c = record {
   ok = on_ok_weaker c.write_items.result (λ told. written g.T.ReqValue.spelling c.args.self.now c.args.bytes.now c.in-Raw.ensures
-      (told ∙ ap (λ (xs : List g.row.T.Denot). c.args.bytes.now ++ items_text g.T.ReqValue.spelling xs) (raw_are g (past.returns-in-Raw g c).After-write_items))) c.write_items.ensures.ok;
+      (told ∙ ap (λ (xs : List g.row.T.Denot). c.args.bytes.now ++ items_text g.T.ReqValue.spelling xs)
+      (raw_are g (past.returns-in-Raw g c).After-write_items))) c.write_items.ensures.ok;
   memory = c.write_items.ensures.memory;
 }
 
@@ -83,13 +86,15 @@ module _ (g : Over) (c : After-write_levels-in-Several g) where
 
   high_written : c.write_option-in-Several.new.bytes ≡ c.write_option.new.bytes ++ items_text g.T.ReqValue.spelling (option_to_list c.args.self.now.greatest)
   high_written =
-      subst (λ (x : Option g.row.T.Denot). c.write_option-in-Several.new.bytes ≡ c.write_option.new.bytes ++ items_text g.T.ReqValue.spelling (option_to_list x)) greatest_is
+      subst (λ (x : Option g.row.T.Denot). c.write_option-in-Several.new.bytes ≡ c.write_option.new.bytes ++ items_text g.T.ReqValue.spelling
+      (option_to_list x)) greatest_is
       c.in_ok-write_option-in-Several-2.ensures.ok
 
   levels_are : c.as_slice-in-Several.result.now ≡ c.args.self.now.levels
   levels_are = subst (λ (ls : List (Level g.row.T.Denot)). c.as_slice-in-Several.result.now ≡ ls) levels_is c.as_slice-in-Several.ensures.value
 
-  all_written : OnOk c.write_levels-in-Several.result (c.write_levels-in-Several.new.bytes ≡ c.args.bytes.now ++ body_by g.T.ReqValue.spelling (form_of c.args.self.now) c.args.self.now)
+  all_written : OnOk c.write_levels-in-Several.result (c.write_levels-in-Several.new.bytes ≡ c.args.bytes.now ++ body_by g.T.ReqValue.spelling
+      (form_of c.args.self.now) c.args.self.now)
   all_written =
       on_ok_weaker c.write_levels-in-Several.result (λ told. written g.T.ReqValue.spelling c.args.self.now c.args.bytes.now c.in-Several.ensures
       (several_written g.T.ReqValue.spelling c.args.self.now c.args.bytes.now n_written low_written high_written

@@ -83,12 +83,14 @@ copied g c are =
 
 pub take_in_turn-requires-clause-fits : goal.take_in_turn-requires-clause-fits
 take_in_turn-requires-clause-fits g c =
-    let same = copied g (past.take_in_turn-requires-clause-fits g c).After-new-copy (are_copies g (past.take_in_turn-requires-clause-fits g c).In_ok-copy_levels) in
+    let same = copied g (past.take_in_turn-requires-clause-fits g c).After-new-copy
+    (are_copies g (past.take_in_turn-requires-clause-fits g c).In_ok-copy_levels) in
     omega (arith, c.requires.fits, ap weight_of same)
 
 pub take_in_turn-requires-clause-few : goal.take_in_turn-requires-clause-few
 take_in_turn-requires-clause-few g c =
-    let same = copied g (past.take_in_turn-requires-clause-few g c).After-new-copy (are_copies g (past.take_in_turn-requires-clause-few g c).In_ok-copy_levels) in
+    let same = copied g (past.take_in_turn-requires-clause-few g c).After-new-copy
+    (are_copies g (past.take_in_turn-requires-clause-few g c).In_ok-copy_levels) in
     omega (arith, c.requires.few, ap retained_of same)
 
 pub fill-requires-clause-room : goal.fill-requires-clause-room
@@ -141,20 +143,23 @@ returns-then-self-items g c =
 pub returns-in_err-fill : goal.returns-in_err-fill
 returns-in_err-fill g c =
     let told = c.in_err-fill.ensures in
-    all_failed g.T.Ord.cmp g.B.RandomBits.bit g.B.RandomBits.next c.args.self.now c.fill.new.self c.args.items.now c.args.coins.now c.args.coins.now c.from_residual.result
+    all_failed g.T.Ord.cmp g.B.RandomBits.bit g.B.RandomBits.next c.args.self.now c.fill.new.self c.args.items.now c.args.coins.now c.args.coins.now
+    c.from_residual.result
     c.from_residual.ensures refl told.kept told.err (none_drawn _ _ _)
 
 pub returns-in_err-take_in_turn : goal.returns-in_err-take_in_turn
 returns-in_err-take_in_turn g c =
     let same = layouts-copied g.met.T.Ord.total _ _ (are_copies g (past.returns-in_err-take_in_turn g c).In_ok-copy_levels) in
-    all_failed g.T.Ord.cmp g.B.RandomBits.bit g.B.RandomBits.next c.args.self.now c.args.self.now c.args.items.now c.args.coins.now c.take_in_turn.new.coins c.from_residual-in_err-take_in_turn.result
+    all_failed g.T.Ord.cmp g.B.RandomBits.bit g.B.RandomBits.next c.args.self.now c.args.self.now c.args.items.now c.args.coins.now c.take_in_turn.new.coins
+    c.from_residual-in_err-take_in_turn.result
     c.from_residual-in_err-take_in_turn.ensures c.in_err-take_in_turn.ensures.memory refl refl
     (copied-draws g.B.RandomBits.next c.args.coins.now c.take_in_turn.new.coins c.args.items.now _ _ _ _ c.self.view_is c.new-copy.ensures
     same c.in_err-take_in_turn.ensures.drawn)
 
 pub returns-in_err-copy_levels : goal.returns-in_err-copy_levels
 returns-in_err-copy_levels g c =
-    all_failed g.T.Ord.cmp g.B.RandomBits.bit g.B.RandomBits.next c.args.self.now c.args.self.now c.args.items.now c.args.coins.now c.args.coins.now c.from_residual-in_err-copy_levels.result
+    all_failed g.T.Ord.cmp g.B.RandomBits.bit g.B.RandomBits.next c.args.self.now c.args.self.now c.args.items.now c.args.coins.now c.args.coins.now
+    c.from_residual-in_err-copy_levels.result
     c.from_residual-in_err-copy_levels.ensures refl refl refl (none_drawn _ _ _)
 
 pub take_in_turn-requires-clause-clones : goal.take_in_turn-requires-clause-clones

@@ -29,15 +29,18 @@ module _ (g : Over) (c : After-min-count g) where
   all : length (take c.min-count.result c.args.items.now) ≡ c.min-count.result
   all = length-take-le c.min-count.result c.args.items.now within
 
-  room_taken : retained_of (layouts_of c.args.self.now.levels) + length (take c.min-count.result c.args.items.now) < nominal_sum c.args.self.now.k (layouts_of c.args.self.now.levels)
-  room_taken = subst (λ (n : ℕ). retained_of (layouts_of c.args.self.now.levels) + n < nominal_sum c.args.self.now.k (layouts_of c.args.self.now.levels)) (sym all) room
+  room_taken : retained_of (layouts_of c.args.self.now.levels) + length (take c.min-count.result c.args.items.now) < nominal_sum c.args.self.now.k
+      (layouts_of c.args.self.now.levels)
+  room_taken = subst (λ (n : ℕ). retained_of (layouts_of c.args.self.now.levels) + n < nominal_sum c.args.self.now.k (layouts_of c.args.self.now.levels))
+      (sym all) room
 
   some_taken : 0 < length (take c.min-count.result c.args.items.now)
   some_taken = subst (λ (n : ℕ). 0 < n) (sym all) some
 
 -- the part
 part : (g : Over) (c : In_ok-fill g) → IsHeld g.T.Ord.cmp c.self.inside.num_retained c.self.inside.capacity c.args.self.now →
-    retained_of (layouts_of c.args.self.now.levels) + length (take c.min-count.result c.args.items.now) < nominal_sum c.args.self.now.k (layouts_of c.args.self.now.levels) → let s = c.args.self.now in
+    retained_of (layouts_of c.args.self.now.levels) + length (take c.min-count.result c.args.items.now) < nominal_sum c.args.self.now.k
+    (layouts_of c.args.self.now.levels) → let s = c.args.self.now in
     AreTakenInTurn g.T.Ord.cmp g.B.RandomBits.bit g.B.RandomBits.next c.args.coins.now c.args.coins.now s.k s.accuracy s.levels
     (take c.min-count.result c.args.items.now) c.fill.new.self.levels
 part g c held room =
@@ -46,7 +49,8 @@ part g c held room =
     subst (λ (ls : List (Level g.row.T.Denot)). AreTakenInTurn g.T.Ord.cmp g.B.RandomBits.bit g.B.RandomBits.next c.args.coins.now c.args.coins.now s.k
     s.accuracy s.levels
     (take c.min-count.result c.args.items.now) ls) (sym h.levels_are)
-    (taken-filled g.met.T.Ord.total g.B.RandomBits.bit g.B.RandomBits.next s.k s.accuracy c.args.coins.now s.levels _ h.clones held.some held.placed h.same room)
+    (taken-filled g.met.T.Ord.total g.B.RandomBits.bit g.B.RandomBits.next s.k s.accuracy c.args.coins.now s.levels _ h.clones held.some held.placed h.same
+    room)
 
 -- one of them
 one : (g : Over) (c : In_ok-take_last g) → let s = c.args.self.now in
@@ -100,17 +104,20 @@ returns-then-room-eq0 g c =
 
 pub returns-in_err-fill : goal.returns-in_err-fill
 returns-in_err-fill g c =
-    some_failed g.T.Ord.cmp g.B.RandomBits.bit g.B.RandomBits.next c.args.self.now c.fill.new.self c.args.items.now c.args.coins.now c.args.coins.now c.from_residual-in_err-fill.result
+    some_failed g.T.Ord.cmp g.B.RandomBits.bit g.B.RandomBits.next c.args.self.now c.fill.new.self c.args.items.now c.args.coins.now c.args.coins.now
+    c.from_residual-in_err-fill.result
     c.from_residual-in_err-fill.ensures refl c.in_err-fill.ensures.kept refl
 
 pub returns-in_err-clone : goal.returns-in_err-clone
 returns-in_err-clone g c =
-    some_failed g.T.Ord.cmp g.B.RandomBits.bit g.B.RandomBits.next c.args.self.now c.args.self.now c.args.items.now c.args.coins.now c.args.coins.now c.from_residual.result c.from_residual.ensures refl refl refl
+    some_failed g.T.Ord.cmp g.B.RandomBits.bit g.B.RandomBits.next c.args.self.now c.args.self.now c.args.items.now c.args.coins.now c.args.coins.now
+    c.from_residual.result c.from_residual.ensures refl refl refl
 
 pub returns-in_err-take_last : goal.returns-in_err-take_last
 returns-in_err-take_last g c =
     let told = c.in_err-take_last.ensures in
-    some_failed g.T.Ord.cmp g.B.RandomBits.bit g.B.RandomBits.next c.args.self.now c.take_last.new.self c.args.items.now c.args.coins.now c.take_last.new.coins c.from_residual-in_err-take_last.result
+    some_failed g.T.Ord.cmp g.B.RandomBits.bit g.B.RandomBits.next c.args.self.now c.take_last.new.self c.args.items.now c.args.coins.now
+    c.take_last.new.coins c.from_residual-in_err-take_last.result
     c.from_residual-in_err-take_last.ensures told.memory told.kept told.err.1
 
 pub take_last-requires-clause-few : goal.take_last-requires-clause-few

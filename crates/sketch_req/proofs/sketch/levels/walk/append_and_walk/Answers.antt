@@ -24,7 +24,8 @@ module _ (g : Over) (c : After-walk-arg-2-1 g) where
   put : slice_set c.reserve_exact.new.self.items 0 c.append.new.self ≡ appended_first c.args.levels.now.items c.args.item
   put =
       let some = subst (λ (ls : List (Level g.row.T.Denot)). 0 < length ls) (sym held) c.requires.levels.some in
-      first-appended c.reserve_exact.new.self.items c.index_mut.result.now c.append.new.self c.args.item some c.index_mut.ensures.value c.in_ok-append.ensures.ok
+      first-appended c.reserve_exact.new.self.items c.index_mut.result.now c.append.new.self c.args.item some c.index_mut.ensures.value
+      c.in_ok-append.ensures.ok
       ∙ ap (λ (ls : List (Level g.row.T.Denot)). appended_first ls c.args.item) held
 
 -- space for a walk after an item came in is space for a walk over the levels with it

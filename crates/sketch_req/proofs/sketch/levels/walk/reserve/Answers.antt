@@ -194,7 +194,8 @@ part-within n m most l = omega (arith, l)
 -- all is reserved
 module _ (g : Over) (c : After-drop-blank-inside-2 g) where
   empty : OnOk c.reserve_exact-2.result (c.reserve_exact.new.self.items ≡ [])
-  empty = on_ok_weaker c.reserve_exact-2.result (λ _. ◌∙◌ {A = List g.row.T.Denot} c.reserve_exact.ensures.items c.clear.ensures.items) c.reserve_exact-2.ensures.ok
+  empty = on_ok_weaker c.reserve_exact-2.result (λ _. ◌∙◌ {A = List g.row.T.Denot} c.reserve_exact.ensures.items c.clear.ensures.items)
+      c.reserve_exact-2.ensures.ok
 
   nothing : OnOk c.reserve_exact-2.result (c.reserve_exact-2.new.self.items ≡ [])
   nothing = on_ok_weaker c.reserve_exact-2.result (λ _. c.reserve_exact-2.ensures.items ∙ c.clear-2.ensures.items) c.reserve_exact-2.ensures.ok

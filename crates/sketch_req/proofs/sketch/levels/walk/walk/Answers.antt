@@ -253,7 +253,8 @@ returns-then-not-is_empty g c =
     let walked = i.pending.some (some g before) (c.loop-level.level - 1) above upper new
     (c.index_mut-then-not-is_empty.ensures.value ∙ ap₂ (λ (l : List (Level g.row.T.Denot)) (n : ℕ). get_or l n upper) all ends) c.absorb.ensures.taken_in c.absorb.ensures.sound in
     let count : c.loop-level.level ≡ length (layouts_of ls) =
-    le_antisymm c.loop-level.auto.level-end c.loop-level-test.false ∙ (count_is g (past.returns-then-not-is_empty g c).After-len-count ∙ sym (length-layouts ls)) in
+    le_antisymm c.loop-level.auto.level-end c.loop-level-test.false ∙ (count_is g (past.returns-then-not-is_empty g c).After-len-count ∙ sym
+    (length-layouts ls)) in
     record {
       acted = walked-whole g.T.Ord.cmp g.B.RandomBits.bit g.B.RandomBits.next c.args.coins.now c.loop-level.coins (k_of ls) c.loop-level.level _
           (accuracy_of ls) ls _ _ count
@@ -264,7 +265,8 @@ pub returns-else-not-is_empty : goal.returns-else-not-is_empty
 returns-else-not-is_empty g c =
     let ls : List (Level g.row.T.Denot) = c.args.levels.now.items in
     let count : c.loop-level.level ≡ length (layouts_of ls) =
-    le_antisymm c.loop-level.auto.level-end c.loop-level-test.false ∙ (count_is g (past.returns-else-not-is_empty g c).After-len-count ∙ sym (length-layouts ls)) in
+    le_antisymm c.loop-level.auto.level-end c.loop-level-test.false ∙ (count_is g (past.returns-else-not-is_empty g c).After-len-count ∙ sym
+    (length-layouts ls)) in
     let none : c.loop-level.coming.items ≡ [] =
     nil_from_length c.loop-level.coming.items (grind (arith, c.if-not-is_empty.false, c.is_empty.ensures, c.loop-level.coming.ok.0)) in
     record {
