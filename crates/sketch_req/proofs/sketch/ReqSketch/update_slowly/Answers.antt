@@ -10,9 +10,13 @@ use Rattle.sketch_req.proofs.Outcomes.{IsDone, UpdateEnds, update_done, update_f
 use Rattle.sketch_req.proofs.Refusals.{flagged, next_fits, not_flagged}
 use Rattle.sketch_req.proofs.UpdatedLevels.{not-full}
 use Rattle.sketch_req.proofs.sketch.ReqSketch.update_slowly.Given.{Over}
-use Rattle.sketch_req.proofs.sketch.ReqSketch.update_slowly.Goals.{After-set_if_some-2, In_err-take_last}
+use Rattle.sketch_req.proofs.sketch.ReqSketch.update_slowly.Goals.{After-set_if_some-2, In_err-take_last, In_ok-unless}
 use Rattle.sketch_req.proofs.sketch.ReqSketch.update_slowly.Goals as goal
 use Rattle.sketch_req.proofs.sketch.ReqSketch.update_slowly.Goals.at as past
+
+-- the sketch isn't full
+granted : (g : Over) (c : In_ok-unless g) → c.is_full.result ≡ false
+granted g c = not-true _ (c.in_ok-unless.ensures.ok.0 refl)
 
 pub returns-in_err-unless : goal.returns-in_err-unless
 returns-in_err-unless g c =
@@ -25,7 +29,7 @@ pub returns-in_err-least : goal.returns-in_err-least
 returns-in_err-least g c =
     update_failed g.T.Ord.cmp g.B.RandomBits.bit g.B.RandomBits.next c.args.self.now c.args.self.now c.args.coins.now c.args.coins.now
     c.from_residual-in_err-least.result c.args.item c.from_residual-in_err-least.ensures.1 refl
-    (subst (IsSound g.T.Ord.cmp) c.self.view_is c.self.invariant) refl refl (not_flagged c.is_full.ensures (not-true _ (c.in_ok-unless.ensures.ok.0 refl)))
+    (subst (IsSound g.T.Ord.cmp) c.self.view_is c.self.invariant) refl refl (not_flagged c.is_full.ensures (granted g (past.returns-in_err-least g c).In_ok-unless))
 
 -- nothing changed
 unchanged : (g : Over) (c : In_err-take_last g) → (c.take_last.new.self ≡ c.self.inside.levels) × (c.take_last.new.coins ≡ c.args.coins.now)
@@ -40,7 +44,7 @@ returns-in_err-take_last g c =
     c.args.coins.now c.take_last.new.coins
     c.from_residual-in_err-take_last.result c.args.item c.from_residual-in_err-take_last.ensures.1 c.in_err-take_last.ensures.memory
     (still_sound i.n i.min_item i.max_item kept.0 c.self.invariant) (still_seen i.n i.min_item i.max_item kept.0 c.self.view_is) kept.1
-    (not_flagged c.is_full.ensures (not-true _ (c.in_ok-unless.ensures.ok.0 refl)))
+    (not_flagged c.is_full.ensures (granted g (past.returns-in_err-take_last g c).In_ok-unless))
 
 -- the extremes, and the levels but for what they hold
 module _ (g : Over) (c : After-set_if_some-2 g) where
@@ -90,7 +94,7 @@ done g c off = update_done g.T.Ord.cmp g.B.RandomBits.bit g.B.RandomBits.next c.
     (made g c off) (not_flagged c.is_full.ensures off)
 
 pub returns : goal.returns
-returns g c = done g (past.returns g c).After-set_if_some-2 (not-true _ (c.in_ok-unless.ensures.ok.0 refl))
+returns g c = done g (past.returns g c).After-set_if_some-2 (granted g (past.returns g c).In_ok-unless)
 
 pub invariant_of-self : goal.invariant_of-self
 invariant_of-self g c =
@@ -104,16 +108,16 @@ take_last-requires-clause-clones g c = c.requires.clones
 
 pub take_last-requires-clause-fits : goal.take_last-requires-clause-fits
 take_last-requires-clause-fits g c =
-    let known = not-full _ _ _ c.self.view_is c.self.invariant c.is_full.ensures (not-true _ (c.in_ok-unless.ensures.ok.0 refl)) in
+    let known = not-full _ _ _ c.self.view_is c.self.invariant c.is_full.ensures (granted g (past.take_last-requires-clause-fits g c).In_ok-unless) in
     subst (λ (w : ℕ). w < 2 ^ 64 - 1) (sym c.self.invariant.weighs_n) known.0
 
 pub take_last-requires-clause-few : goal.take_last-requires-clause-few
 take_last-requires-clause-few g c =
-    (not-full _ _ _ c.self.view_is c.self.invariant c.is_full.ensures (not-true _ (c.in_ok-unless.ensures.ok.0 refl))).1
+    (not-full _ _ _ c.self.view_is c.self.invariant c.is_full.ensures (granted g (past.take_last-requires-clause-few g c).In_ok-unless)).1
 
 pub overflow_add-self : goal.overflow_add-self
 overflow_add-self g c = record {
-  fits = next_fits (not-full _ _ _ c.self.view_is c.self.invariant c.is_full.ensures (not-true _ (c.in_ok-unless.ensures.ok.0 refl))).0;
+  fits = next_fits (not-full _ _ _ c.self.view_is c.self.invariant c.is_full.ensures (granted g (past.overflow_add-self g c).In_ok-unless)).0;
 }
 
 pub same-self-in_err-least : goal.same-self-in_err-least
