@@ -12,7 +12,7 @@ use Rattle.sketch_req.specs.Updates.{AreAllTaken, AreLeft, AreTakenInTurn, IsDra
 
 module _ {A S : Type 0} (cmp : A → A → Ordering) (bit : S → Bool) (next : S → S) (s new : Held A) (items : List A) (source after : S) where
   -- all items are taken in, or none
-  abbrev pub AllEnd : {T : Type 0} → Result T ErrorKind → Type 0
+  abbrev AllEnd : {T : Type 0} → Result T ErrorKind → Type 0
   AllEnd r = record {
     kept : new ≡ record s { levels = new.levels };
     taken : OnOk r (AreAllTaken cmp bit next source after s.k s.accuracy s.levels items new.levels);
@@ -28,7 +28,7 @@ module _ {A S : Type 0} (cmp : A → A → Ordering) (bit : S → Bool) (next : 
       record { kept = kept; taken = IfOk-from_err r _ h.0; err = on_error r same; drawn = on_error r drawn; memory = only_error r h.1 short }
 
   -- some items are taken in, or none
-  abbrev pub SomeEnd : Result ℕ ErrorKind → Type 0
+  abbrev SomeEnd : Result ℕ ErrorKind → Type 0
   SomeEnd r = record {
     kept : new ≡ record s { levels = new.levels };
     some : IfOk r (λ count. 0 < count);

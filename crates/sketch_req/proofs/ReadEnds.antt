@@ -6,7 +6,7 @@ use Rattle.sketch_base.proofs.Exits.{data_not_argument, no_found, returned, with
 use Rattle.sketch_req.specs.Sketch.{Req}
 
 module _ {A T : Type 0} (Found : T → Type 0) (IsBody : Req A → List ℕ → Type 0) (r : Result T ErrorKind) where
-  abbrev pub ReadEnds : Type 0
+  abbrev ReadEnds : Type 0
   ReadEnds = record {
     found : IfOk r Found;
     refused : IfErr r (λ e. e ≡ InvalidData → (s : Req A) (rest : List ℕ) → ¬ IsBody s rest);

@@ -29,7 +29,8 @@ pub returns-in_err-least : goal.returns-in_err-least
 returns-in_err-least g c =
     update_failed g.T.Ord.cmp g.B.RandomBits.bit g.B.RandomBits.next c.args.self.now c.args.self.now c.args.coins.now c.args.coins.now
     c.from_residual-in_err-least.result c.args.item c.from_residual-in_err-least.ensures.1 refl
-    (subst (IsSound g.T.Ord.cmp) c.self.view_is c.self.invariant) refl refl (not_flagged c.is_full.ensures (granted g (past.returns-in_err-least g c).In_ok-unless))
+    (subst (IsSound g.T.Ord.cmp) c.self.view_is c.self.invariant) refl refl (not_flagged c.is_full.ensures
+    (granted g (past.returns-in_err-least g c).In_ok-unless))
 
 -- nothing changed
 unchanged : (g : Over) (c : In_err-take_last g) → (c.take_last.new.self ≡ c.self.inside.levels) × (c.take_last.new.coins ≡ c.args.coins.now)
