@@ -1,25 +1,33 @@
-use Rattle.std.proofs.Common.{◌≡◌, ◌<◌, ◌^◌, List, ℕ, length, get_or, le_trans, rules, arith}
+use Rattle.std.proofs.Common.{◌++◌, ◌≡◌, ◌<◌, ◌^◌, List, ℕ, length, get_or, le_trans, rules, arith}
+use Rattle.std.specs.Prelude.{codes}
 use Rattle.std.proofs.lemmas.Grind.{common_steps}
-use Rattle.quantile_sketches.specs.LineWords.{BeginsWithItem}
 use Rattle.quantile_sketches.proofs.ShortNumbers.{item_back}
 use Rattle.quantile_sketches.proofs.UpdateLines.{begins-with_update, begins-same, behind-shorter, place-fits, shorter, begins-verb, begins-behind, behind, item-within, slot-is}
 use Rattle.quantile_sketches.proofs.words.update_ahead.Goals as goal
+use Rattle.quantile_sketches.proofs.words.update_ahead.Goals.{Start, In-117}
+use Rattle.quantile_sketches.proofs.words.update_ahead.Goals.at as past
+
+-- a text is shorter than 2^64
+few : (c : Start) → length c.args.text.now < 2 ^ 64
+few c = omega arith
+
+-- it begins with the verb
+verb : (c : In-117) → c.args.text.now ≡ codes "update " ++ behind 7 c.args.text.now
+verb c =
+    let bytes : (get_or c.args.text.now 0 0 ≡ 117) × (get_or c.args.text.now 1 0 ≡ 112) × (get_or c.args.text.now 2 0 ≡ 100) × (get_or c.args.text.now 3 0 ≡ 97)
+    × (get_or c.args.text.now 4 0 ≡ 116) × (get_or c.args.text.now 5 0 ≡ 101) × (get_or c.args.text.now 6 0 ≡ 32) = search rules in
+    begins-verb c.args.text.now c.in-117.len_at_least bytes.0 bytes.1 bytes.2 bytes.3 bytes.4 bytes.5 bytes.6
 
 pub returns : goal.returns
 returns c =
     let text : List ℕ = c.args.text.now in
     let numbers : List ℕ = behind 7 text in
     let word : List ℕ = behind 1 (behind c.in_ok-slot.slot_len numbers) in
-    let bytes : (get_or text 0 0 ≡ 117) × (get_or text 1 0 ≡ 112) × (get_or text 2 0 ≡ 100) × (get_or text 3 0 ≡ 97)
-    × (get_or text 4 0 ≡ 116) × (get_or text 5 0 ≡ 101) × (get_or text 6 0 ≡ 32) = search rules in
-    let verb = begins-verb text c.in-117.len_at_least bytes.0 bytes.1 bytes.2 bytes.3 bytes.4 bytes.5 bytes.6 in
     let space = begins-behind numbers c.in_ok-slot.slot_len c.in-32.len_at_least in
     let slot = slot-is c.in_ok-slot.slot c.in_ok-slot-2.slot c.try_from.result c.try_from.ensures c.in_ok-slot-2.ensures.value in
-    let item : BeginsWithItem word c.in_ok-item.item c.in_ok-item.len 10 = c.in_ok-item.ensures in
-    begins-same text c.in_ok-slot.slot c.in_ok-slot-2.slot _ c.in_ok-item.item _ slot.0 (item_back _ _ _ _ item)
-    (begins-with_update text numbers word c.in_ok-slot.slot c.in_ok-slot.slot_len c.in_ok-item.len c.in_ok-item.item verb space.0 c.in_ok-slot.ensures slot.1
-    space.1
-    (shorter _ _ (item-within _ _ _ _ item) c.if-len-word.false) item)
+    begins-same text c.in_ok-slot.slot c.in_ok-slot-2.slot _ c.in_ok-item.item _ slot.0 (item_back _ _ _ _ c.in_ok-item.ensures)
+    (begins-with_update text numbers word c.in_ok-slot.slot c.in_ok-slot.slot_len c.in_ok-item.len c.in_ok-item.item (verb (past.returns c).In-117) space.0
+    c.in_ok-slot.ensures slot.1 space.1 (shorter _ _ (item-within _ _ _ _ c.in_ok-item.ensures) c.if-len-word.false) c.in_ok-item.ensures)
 
 pub returns-in_err-slot : goal.returns-in_err-slot
 returns-in_err-slot c = grind (arith, common_steps)
@@ -37,13 +45,13 @@ pub returns-in_err-slot-2 : goal.returns-in_err-slot-2
 returns-in_err-slot-2 c = grind (arith, common_steps)
 
 pub overflow_sub-result : goal.overflow_sub-result
-overflow_sub-result c = grind (arith, common_steps)
+overflow_sub-result c =
+    le_trans (behind-shorter 1 _) (le_trans (behind-shorter c.in_ok-slot.slot_len _) (behind-shorter 7 c.args.text.now))
 
 pub overflow_add-result : goal.overflow_add-result
 overflow_add-result c =
-    let few : length c.args.text.now < 2 ^ 64 = omega arith in
     place-fits c.args.text.now _ c.in_ok-item.len (item-within _ _ _ _ c.in_ok-item.ensures)
-    (le_trans (behind-shorter 1 _) (le_trans (behind-shorter c.in_ok-slot.slot_len _) (behind-shorter 7 c.args.text.now))) few
+    (le_trans (behind-shorter 1 _) (le_trans (behind-shorter c.in_ok-slot.slot_len _) (behind-shorter 7 c.args.text.now))) (few (past.overflow_add-result c).Start)
 
 pub slice_bounds-numbers-count : goal.slice_bounds-numbers-count
 slice_bounds-numbers-count c = grind arith

@@ -1,0 +1,96 @@
+-- A line is answered: the run goes on by it, or ends where its answer can't be written.
+use Rattle.std.proofs.Common.{◌≡◌, ℕ, ℤ, ◌+◌, List, [], ◌∷◌, ◌++◌, length, take, refl, subst, Option, Some, IfSome, Result, Ok, Err, IsOk}
+use Rattle.std.proofs.lemmas.Option.{MatchOption-at_some}
+use Rattle.std.specs.Int.{w64}
+use Rattle.std.specs.Io.BufRead.{DropsConsumable}
+use Rattle.std.specs.Io.Buffered.{reader_buffer, reader_remaining}
+use Rattle.std.specs.Io.KnownBytes.{IsAtEnd}
+use Rattle.std.specs.Result.{IsErrAnd}
+use Rattle.std.specs.declared.io.buffered.BufReader.{BufReader}
+use Rattle.sketch_base.specs.Random.{next_state}
+use Rattle.quantile_sketches.specs.Answer.{answer_text}
+use Rattle.quantile_sketches.specs.Behaviour.{Behaviour, coin_of}
+use Rattle.quantile_sketches.specs.Command.{request_of}
+use Rattle.quantile_sketches.specs.LineSteps.{Answers, CarriesOutItem, Reply, Verdict, reply_of}
+use Rattle.quantile_sketches.specs.LineWords.{words, BeginsWithUpdate}
+use Rattle.quantile_sketches.specs.Lines.{Ends, TakesLine}
+use Rattle.quantile_sketches.specs.Output.{Writes}
+use Rattle.quantile_sketches.specs.Reader.{Grammar}
+use Rattle.quantile_sketches.specs.declared.audit.commands.Command.TheVariants.{Update}
+use Rattle.quantile_sketches.specs.declared.lines.Fault.{Fault}
+use Rattle.quantile_sketches.specs.declared.lines.Fault.TheVariants.{Input, Output}
+use Rattle.quantile_sketches.proofs.FirstLine.{takes_buffered}
+use Rattle.quantile_sketches.proofs.LineRuns.{Running, ends-broken, ends-unread, ends-well, running-flushed, running-line}
+use Rattle.quantile_sketches.proofs.Outputs.{writes-as}
+use Rattle.quantile_sketches.proofs.UpdateLines.{answers-update}
+use mir.Val.{to_z, of_z}
+
+abbrev done : Result Unit Unit
+done = Ok tt
+
+module _ {S C : Type 0} (grammar : Grammar C) (behaviour : Behaviour S ℤ C) where
+  -- a line is taken from what is left, and has this answer
+  abbrev pub AnswersLine : Option (List ℕ) → Option (List ℕ) → List (Option S) → ℕ → List (Option S) → ℕ → Reply → Type 0
+  AnswersLine left left' slots coins slots' coins' a =
+      (line : List ℕ) × TakesLine left line left' × Answers behaviour (request_of grammar (words line)) (words line) slots coins a slots' coins'
+
+  -- the line of an update that lies whole in the buffer
+  pub update-answered : {T A : Type 0} (remaining : T → Option (List ℕ)) (input : BufReader T A) (left : Option (List ℕ)) (text : List ℕ) {slot len : ℕ} {item : ℤ}
+      (slots slots' : List (Option S)) (coins coins' : ℕ) (v : Verdict) → text ≡ reader_buffer input → BeginsWithUpdate text slot item len →
+      DropsConsumable (reader_remaining remaining input) left (Some (length (reader_buffer input))) (len + 1) →
+      CarriesOutItem behaviour coin_of next_state (Update slot (to_z w64 (of_z w64 item))) slots coins v slots' coins' →
+      AnswersLine (reader_remaining remaining input) left slots coins slots' coins' (reply_of v)
+  update-answered remaining input left text {slot} {len} {item} slots slots' coins coins' v same begins dropped carried =
+      let ahead : BeginsWithUpdate (reader_buffer input) slot item len = subst (λ (t : List ℕ). BeginsWithUpdate t slot item len) same begins in (
+        take len (reader_buffer input),
+        takes_buffered _ (reader_buffer input) _ left len ahead.place ahead.within dropped,
+        answers-update grammar behaviour (reader_buffer input) slot item len ahead slots slots' coins coins' v carried,
+      )
+
+  module _ {T E T' E' : Type 0} {r : Result T E} {r' : Result T' E'} {t left w0 w w' : Option (List ℕ)} {waiting waiting' : List ℕ}
+      {slots slots' : List (Option S)} {coins coins' : ℕ} (left' : Option (List ℕ)) (slots'' : List (Option S)) (coins'' : ℕ) (a : Reply)
+      (run : Running grammar behaviour r t left w0 w waiting slots coins slots' coins') (ok : IsOk r)
+      (answered : AnswersLine left left' slots' coins' slots'' coins'' a) (out : Writes r' w w' (waiting ++ (answer_text a ++ (10 ∷ []))) waiting') where
+    -- its answer waits or is out
+    pub line-written : IsOk r' → Running grammar behaviour done t left' w0 w' waiting' slots coins slots'' coins''
+    line-written well = running-line grammar behaviour run answered.0 a ok answered.1 answered.2 (writes-as done out well)
+
+    -- the output fails, and its error is returned
+    pub line-unwritten : (ended : Result Unit Fault) (e : _) → IsErrAnd ended (λ f. f ≡ Output e) → IfSome t (Ends grammar behaviour slots coins ended w0 w')
+    line-unwritten ended e is =
+        ends-broken grammar behaviour (running-line grammar behaviour run answered.0 a ok answered.1 answered.2 out) ended e is
+
+  -- the same for a line that is read after what waits went out
+  module _ {T E T' E' T'' E'' X : Type 0} {r : Result T E} {r' : Result T' E'} {r'' : Result T'' E''} {t w0 w w' w'' : Option (List ℕ)} {waiting waiting' waiting'' : List ℕ}
+      {slots slots' slots'' : List (Option S)} {coins coins' coins'' : ℕ} (remaining : X → Option (List ℕ)) (x x' x'' : X) (slots''' : List (Option S)) (coins''' : ℕ)
+      {found : Option Reply} (a : Reply)
+      (run : Running grammar behaviour r t (remaining x) w0 w waiting slots coins slots' coins') (kept : (slots'' ≡ slots') × (coins'' ≡ coins') × (x' ≡ x)) (ok : IsOk r)
+      (flushed : Writes r' w w' waiting []) (nothing : waiting' ≡ []) (ok' : IsOk r') (is : found ≡ Some a)
+      (answered : IfSome found (AnswersLine (remaining x') (remaining x'') slots'' coins'' slots''' coins'''))
+      (out : Writes r'' w' w'' (waiting' ++ (answer_text a ++ (10 ∷ []))) waiting'') where
+    pub read-written : IsOk r'' → Running grammar behaviour done t (remaining x'') w0 w'' waiting'' slots coins slots''' coins'''
+    read-written well =
+        line-written (remaining x'') slots''' coins''' a (running-flushed grammar behaviour remaining x x' run kept ok flushed nothing) ok'
+        (MatchOption-at_some _ _ a is answered) out well
+
+    pub read-unwritten : (ended : Result Unit Fault) (e : _) → IsErrAnd ended (λ f. f ≡ Output e) → IfSome t (Ends grammar behaviour slots coins ended w0 w'')
+    read-unwritten ended e is_error =
+        line-unwritten (remaining x'') slots''' coins''' a (running-flushed grammar behaviour remaining x x' run kept ok flushed nothing) ok'
+        (MatchOption-at_some _ _ a is answered) out ended e is_error
+
+  -- what waits goes out, and nothing was read before
+  module _ {T E T' E' X : Type 0} {r : Result T E} {r' : Result T' E'} {t w0 w w' : Option (List ℕ)} {waiting : List ℕ}
+      {slots slots' slots'' : List (Option S)} {coins coins' coins'' : ℕ} (remaining : X → Option (List ℕ)) (x x' : X)
+      (run : Running grammar behaviour r t (remaining x) w0 w waiting slots coins slots' coins') (kept : (slots'' ≡ slots') × (coins'' ≡ coins') × (x' ≡ x)) (ok : IsOk r)
+      (flushed : Writes r' w w' waiting []) where
+    -- the output fails
+    pub flush-unwritten : (ended : Result Unit Fault) (e : _) → IsErrAnd ended (λ f. f ≡ Output e) → IfSome t (Ends grammar behaviour slots coins ended w0 w')
+    flush-unwritten ended e is = ends-broken grammar behaviour (running-flushed grammar behaviour remaining x x' run kept ok flushed refl) ended e is
+
+    -- the input is at its end
+    pub flush-ends : {waiting' : List ℕ} → waiting' ≡ [] → IsOk r' → IsAtEnd (remaining x') → IfSome t (Ends grammar behaviour slots coins (Ok tt) w0 w')
+    flush-ends nothing ok' end = ends-well grammar behaviour (running-flushed grammar behaviour remaining x x' run kept ok flushed nothing) ok' nothing end
+
+    -- the input fails
+    pub flush-unread : {waiting' : List ℕ} → waiting' ≡ [] → IsOk r' → (e : _) → IfSome t (Ends grammar behaviour slots coins (Err (Input e)) w0 w')
+    flush-unread nothing ok' e = ends-unread grammar behaviour (running-flushed grammar behaviour remaining x x' run kept ok flushed nothing) ok' nothing
