@@ -1,4 +1,4 @@
-use Rattle.std.proofs.Common.{◌++◌, ◌≡◌, ◌<◌, ◌^◌, List, ℕ, length, get_or, le_trans, rules, arith}
+use Rattle.std.proofs.Common.{◌++◌, ◌≡◌, ◌<◌, ◌^◌, List, ℕ, length, get_or, le_refl, le_trans, rules, arith}
 use Rattle.std.specs.Prelude.{codes}
 use Rattle.std.proofs.lemmas.Grind.{common_steps}
 use Rattle.quantile_sketches.proofs.ShortNumbers.{item_back}
@@ -33,10 +33,10 @@ pub returns-in_err-slot : goal.returns-in_err-slot
 returns-in_err-slot c = grind (arith, common_steps)
 
 pub slice_bounds-word-count : goal.slice_bounds-word-count
-slice_bounds-word-count c = grind (arith, common_steps)
+slice_bounds-word-count c = c.in-32.len_at_least
 
 pub slice_bounds-word-start : goal.slice_bounds-word-start
-slice_bounds-word-start c = grind (arith, common_steps)
+slice_bounds-word-start c = c.in-32.len_at_least
 
 pub returns-in_err-item : goal.returns-in_err-item
 returns-in_err-item c = grind (arith, common_steps)
@@ -63,7 +63,7 @@ pub slice_bounds-numbers-start : goal.slice_bounds-numbers-start
 slice_bounds-numbers-start c = grind arith
 
 pub slice_bounds-t-41-start : goal.slice_bounds-t-41-start
-slice_bounds-t-41-start c = grind arith
+slice_bounds-t-41-start c = c.in_ok-slot.ensures.within
 
 pub bounds-text-1 : goal.bounds-text-1
 bounds-text-1 c = grind arith
@@ -84,10 +84,19 @@ pub bounds-text-4 : goal.bounds-text-4
 bounds-text-4 c = grind arith
 
 pub slice_bounds-t-40-count : goal.slice_bounds-t-40-count
-slice_bounds-t-40-count c = grind arith
+slice_bounds-t-40-count c = c.in_ok-slot.ensures.within
 
 pub bounds-0 : goal.bounds-0
 bounds-0 c = grind arith
 
 pub bounds-text-6 : goal.bounds-text-6
 bounds-text-6 c = grind arith
+
+pub slice_bounds-word-end : goal.slice_bounds-word-end
+slice_bounds-word-end c = le_refl _
+
+pub slice_bounds-t-41-end : goal.slice_bounds-t-41-end
+slice_bounds-t-41-end c = le_refl _
+
+pub slice_bounds-numbers-end : goal.slice_bounds-numbers-end
+slice_bounds-numbers-end c = le_refl _
