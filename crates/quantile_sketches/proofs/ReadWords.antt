@@ -1,0 +1,24 @@
+-- What words say, read one after another.
+use Rattle.std.proofs.Common.{◌≡◌, Bool, true, false, List, [], ◌∷◌, ℕ, drop, Option, None, Some, slice_get, option_and_then, refl, ap, ◌∙◌}
+use Rattle.std.specs.Bool.{then_some}
+use Rattle.quantile_sketches.specs.LineWords.{then_word}
+
+module _ {A B : Type 0} (read : List ℕ → Option A) (next : A → List (List ℕ) → Option B) where
+  -- the first word is read
+  pub then-read : (ws ws' : List (List ℕ)) (a : A) {r : Option B} → Some a ≡ option_and_then read (slice_get ws 0) → ws' ≡ drop 1 ws → r ≡ next a ws' → r ≡ then_word read next ws
+  then-read [] ws' a is rest e = absurd cc
+  then-read (w ∷ ws) ws' a is rest e = e ∙ (ap (next a) rest ∙ ap (option_and_then (λ a. next a ws)) is)
+
+  -- there is none, or it can't be read
+  pub then-none : (ws : List (List ℕ)) {r : Option B} → r ≡ None → None ≡ option_and_then read (slice_get ws 0) → r ≡ then_word read next ws
+  then-none [] e none = e
+  then-none (w ∷ ws) e none = e ∙ ap (option_and_then (λ a. next a ws)) none
+
+-- a flag that is given, and one that isn't
+pub flagged : (told : Bool) {done : Unit {0}} → Some done ≡ then_some told tt → told ≡ true
+flagged true is = refl
+flagged false is = absurd cc
+
+pub not-flagged : (told : Bool) → None ≡ then_some told (tt {0}) → told ≡ false
+not-flagged true is = absurd cc
+not-flagged false is = refl
