@@ -1,10 +1,11 @@
 -- A line is answered: the run goes on by it, or ends where its answer can't be written.
-use Rattle.std.proofs.Common.{◌≡◌, ℕ, ℤ, ◌+◌, List, [], ◌∷◌, ◌++◌, length, take, refl, subst, Option, Some, IfSome, Result, Ok, Err, IsOk}
+use Rattle.std.proofs.Common.{◌≡◌, ◌∙◌, ℕ, ℤ, ◌+◌, ◌≤◌, ◌<◌, ◌==◌, List, [], ◌∷◌, ◌++◌, length, take, refl, sym, ap, subst, arith, length-take-le, Option, Some, IfSome, Result, Ok, Err, IsOk}
 use Rattle.std.proofs.lemmas.Option.{MatchOption-at_some}
 use Rattle.std.specs.Int.{w64}
 use Rattle.std.specs.Io.BufRead.{DropsConsumable}
 use Rattle.std.specs.Io.Buffered.{reader_buffer, reader_remaining}
 use Rattle.std.specs.Io.KnownBytes.{IsAtEnd}
+use Rattle.std.specs.List.{position_or_len}
 use Rattle.std.specs.Result.{IsErrAnd}
 use Rattle.std.specs.declared.io.buffered.BufReader.{BufReader}
 use Rattle.sketch_base.specs.Random.{next_state}
@@ -24,6 +25,14 @@ use Rattle.quantile_sketches.proofs.LineRuns.{Running, ends-broken, ends-unread,
 use Rattle.quantile_sketches.proofs.Outputs.{writes-as}
 use Rattle.quantile_sketches.proofs.UpdateLines.{answers-update}
 use mir.Val.{to_z, of_z}
+
+-- a place that isn't the end is before it
+inside : (n : ℕ) {k l m : ℕ} → n ≤ k → (n ≡ l → ⊥) → k ≡ m → l ≡ m → n < m
+inside n most ends e f = omega (arith, most, ends, e, f)
+
+-- the first n of the same bytes
+pub taken-whole : (n : ℕ) (b b' : List ℕ) {whole : List ℕ} → n ≤ length b → b ≡ whole → b' ≡ whole → n ≡ length (take n b')
+taken-whole n b b' most e f = sym (length-take-le n b' (subst (λ (xs : List ℕ). n ≤ length xs) (e ∙ sym f) most))
 
 abbrev done : Result Unit Unit
 done = Ok tt
@@ -46,6 +55,19 @@ module _ {S C : Type 0} (grammar : Grammar C) (behaviour : Behaviour S ℤ C) wh
         takes_buffered _ (reader_buffer input) _ left len ahead.place ahead.within dropped,
         answers-update grammar behaviour (reader_buffer input) slot item len ahead slots slots' coins coins' v carried,
       )
+
+  -- a line that lies whole in the buffer, which was read three times
+  pub buffered-answered : {T A : Type 0} (remaining : T → Option (List ℕ)) (input : BufReader T A) (left : Option (List ℕ)) (n : ℕ) {b b' b'' : List ℕ}
+      (slots slots' : List (Option S)) (coins coins' : ℕ) (a : Reply) → n ≡ position_or_len (λ x. x == 10) b → n ≤ length b → (n ≡ length b' → ⊥) →
+      b ≡ reader_buffer input → b' ≡ reader_buffer input → b'' ≡ reader_buffer input →
+      DropsConsumable (reader_remaining remaining input) left (Some (length (reader_buffer input))) (n + 1) →
+      Answers behaviour (request_of grammar (words (take n b''))) (words (take n b'')) slots coins a slots' coins' →
+      AnswersLine (reader_remaining remaining input) left slots coins slots' coins' a
+  buffered-answered remaining input left n slots slots' coins coins' a place most ends same same' same'' dropped answered = (
+    take n (reader_buffer input),
+    takes_buffered _ (reader_buffer input) _ left n (place ∙ ap (position_or_len (λ x. x == 10)) same) (inside n most ends (ap length same) (ap length same')) dropped,
+    subst (λ (b : List ℕ). Answers behaviour (request_of grammar (words (take n b))) (words (take n b)) slots coins a slots' coins') same'' answered,
+  )
 
   module _ {T E T' E' : Type 0} {r : Result T E} {r' : Result T' E'} {t left w0 w w' : Option (List ℕ)} {waiting waiting' : List ℕ}
       {slots slots' : List (Option S)} {coins coins' : ℕ} (left' : Option (List ℕ)) (slots'' : List (Option S)) (coins'' : ℕ) (a : Reply)
