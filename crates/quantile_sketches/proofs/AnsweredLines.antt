@@ -1,8 +1,8 @@
 -- A line is answered: the run goes on by it, or ends where its answer can't be written.
-use Rattle.std.proofs.Common.{◌≡◌, ◌∙◌, ℕ, ℤ, ◌+◌, ◌≤◌, ◌<◌, ◌==◌, List, [], ◌∷◌, ◌++◌, length, take, refl, sym, ap, subst, arith, length-take-le, Option, Some, IfSome, Result, Ok, Err, IsOk}
+use Rattle.std.proofs.Common.{◌≡◌, ◌∙◌, ℕ, ℤ, ◌+◌, ◌≤◌, ◌<◌, ◌==◌, List, [], ◌∷◌, ◌++◌, length, take, refl, sym, ap, subst, arith, length-take-le, Option, Some, None, IfSome, Result, Ok, Err, IsOk}
 use Rattle.std.proofs.lemmas.Option.{MatchOption-at_some}
 use Rattle.std.specs.Int.{w64}
-use Rattle.std.specs.Io.BufRead.{DropsConsumable}
+use Rattle.std.specs.Io.BufRead.{DropsConsumable, DropsThrough, strip_last, take_through}
 use Rattle.std.specs.Io.Buffered.{reader_buffer, reader_remaining}
 use Rattle.std.specs.Io.KnownBytes.{IsAtEnd}
 use Rattle.std.specs.List.{position_or_len}
@@ -20,7 +20,7 @@ use Rattle.quantile_sketches.specs.Reader.{Grammar}
 use Rattle.quantile_sketches.specs.declared.audit.commands.Command.TheVariants.{Update}
 use Rattle.quantile_sketches.specs.declared.lines.Fault.{Fault}
 use Rattle.quantile_sketches.specs.declared.lines.Fault.TheVariants.{Input, Output}
-use Rattle.quantile_sketches.proofs.FirstLine.{takes_buffered}
+use Rattle.quantile_sketches.proofs.FirstLine.{takes_buffered, takes_read}
 use Rattle.quantile_sketches.proofs.LineRuns.{Running, ends-broken, ends-unread, ends-well, running-flushed, running-line}
 use Rattle.quantile_sketches.proofs.Outputs.{writes-as}
 use Rattle.quantile_sketches.proofs.UpdateLines.{answers-update}
@@ -33,6 +33,14 @@ inside n most ends e f = omega (arith, most, ends, e, f)
 -- the first n of the same bytes
 pub taken-whole : (n : ℕ) (b b' : List ℕ) {whole : List ℕ} → n ≤ length b → b ≡ whole → b' ≡ whole → n ≡ length (take n b')
 taken-whole n b b' most e f = sym (length-take-le n b' (subst (λ (xs : List ℕ). n ≤ length xs) (e ∙ sym f) most))
+
+-- what was read isn't empty
+some-read : {k l m n : ℕ} → m ≡ l → m ≡ k + n → k ≡ 0 → (n ≡ 0 → ⊥) → 0 < l
+some-read long more none some = omega (arith, long, more, none, some)
+
+-- a value isn't none
+pub some-none : {A P : Type 0} {x : A} → Some x ≡ None → P
+some-none e = absurd cc
 
 abbrev done : Result Unit Unit
 done = Ok tt
@@ -67,6 +75,18 @@ module _ {S C : Type 0} (grammar : Grammar C) (behaviour : Behaviour S ℤ C) wh
     take n (reader_buffer input),
     takes_buffered _ (reader_buffer input) _ left n (place ∙ ap (position_or_len (λ x. x == 10)) same) (inside n most ends (ap length same) (ap length same')) dropped,
     subst (λ (b : List ℕ). Answers behaviour (request_of grammar (words (take n b))) (words (take n b)) slots coins a slots' coins') same'' answered,
+  )
+
+  -- a line that is read behind nothing, with its line feed
+  pub read-answered : (left left' : Option (List ℕ)) {line before cut : List ℕ} {m k n : ℕ} (bare : List ℕ) {slots slots' : List (Option S)} {coins coins' : ℕ} {a : Reply} →
+      m ≡ length line → m ≡ k + n → k ≡ 0 → (n ≡ 0 → ⊥) → IfSome left (λ xs. line ≡ before ++ take_through 10 xs) → before ≡ [] → DropsThrough left left' 10 →
+      bare ≡ strip_last 10 cut → cut ≡ line → Answers behaviour (request_of grammar (words bare)) (words bare) slots coins a slots' coins' →
+      AnswersLine left left' slots coins slots' coins' a
+  read-answered left left' {line} bare long more none some bytes nothing rest stripped whole answered = (
+    bare,
+    takes_read line bare left left' (some-read long more none some) (subst (λ (front : List ℕ). IfSome left (λ xs. line ≡ front ++ take_through 10 xs)) nothing bytes) rest
+        (stripped ∙ ap (strip_last 10) whole),
+    answered,
   )
 
   module _ {T E T' E' : Type 0} {r : Result T E} {r' : Result T' E'} {t left w0 w w' : Option (List ℕ)} {waiting waiting' : List ℕ}

@@ -1,24 +1,21 @@
-use Rattle.std.proofs.Common.{◌≡◌, None, Some, ◌∙◌, ap, arith}
+use Rattle.std.proofs.Common.{◌≡◌, None, Some}
 use Rattle.std.proofs.lemmas.Result.{IfOk-from_err}
-use Rattle.std.specs.Io.BufRead.{strip_last}
-use Rattle.quantile_sketches.proofs.FirstLine.{takes_read}
+use Rattle.quantile_sketches.proofs.AnsweredLines.{read-answered, some-none}
 use Rattle.quantile_sketches.proofs.lines.answer_read.Goals as goal
 
-some-none : {A P : Type 0} (x : A) → Some x ≡ None → P
-some-none x e = absurd cc
-
 pub returns : goal.returns
-returns g c =
-    let taken = takes_read c.read_until.new.buf.items c.without_line_feed-bare.result.now _ _
-    (omega (arith, c.in_ok-read_until.ensures.ok, c.clear.ensures.len, c.if-branch-eq0.false, c.read_until.new.buf.ok))
-    (rw c.clear.ensures.items at c.in_ok-read_until.ensures.bytes) c.in_ok-read_until.ensures.rest
-    (c.without_line_feed-bare.ensures ∙ ap (strip_last 10) c.as_slice.ensures.value) in
-    record { answered = (c.without_line_feed-bare.result.now, taken, c.answer.ensures); end = some-none c.answer.result }
+returns g c = record {
+  answered = read-answered g.S.Config.Config.grammar g.S.Family.behaviour _ _ c.without_line_feed-bare.result.now c.read_until.new.buf.ok.0
+      c.in_ok-read_until.ensures.ok c.clear.ensures.len c.if-branch-eq0.false c.in_ok-read_until.ensures.bytes c.clear.ensures.items c.in_ok-read_until.ensures.rest
+      c.without_line_feed-bare.ensures c.as_slice.ensures.value c.answer.ensures;
+  end = some-none;
+}
+
+pub returns-then-branch-eq0 : goal.returns-then-branch-eq0
+returns-then-branch-eq0 g c = record { answered = tt; end = λ none. c.in_ok-read_until.ensures.end c.if-branch-eq0.true }
 
 pub returns-in_err-read_until : goal.returns-in_err-read_until
-returns-in_err-read_until g c =
-    let fails = c.from_residual.ensures.0 in
-    record { answered = IfOk-from_err c.from_residual.result _ fails; end = IfOk-from_err c.from_residual.result _ fails }
-
-pub returns-then-branch-eq0-clause-end : goal.returns-then-branch-eq0-clause-end
-returns-then-branch-eq0-clause-end g c = grind arith
+returns-in_err-read_until g c = record {
+  answered = IfOk-from_err c.from_residual.result _ c.from_residual.ensures.0;
+  end = IfOk-from_err c.from_residual.result _ c.from_residual.ensures.0;
+}
