@@ -1,12 +1,32 @@
-use Rattle.std.proofs.Common.{arith}
-use Rattle.std.proofs.lemmas.Grind.{common_steps}
+use Rattle.std.proofs.Common.{◌∙◌, refl, sym}
+use Rattle.std.proofs.lemmas.Result.{IfOk-from_err}
+use Rattle.quantile_sketches.proofs.ReadItems.{read-all, read-onto, read-shorter, refuses-bad, refuses-good}
 use Rattle.quantile_sketches.proofs.words.Words.rising_items.Goals as goal
 
 pub loop-item-preserved : goal.loop-item-preserved
-loop-item-preserved c = grind (arith, common_steps)
+loop-item-preserved c =
+    read-onto c.loop-item.self c.item.new.self c.in-Some.item c.in-Some.ensures.value c.in-Some.ensures.rest _ c.loop-item.items.items c.push.new.self.items c.loop-item.invariant c.in_ok-push.ensures.items
 
 pub loop-item-smaller : goal.loop-item-smaller
-loop-item-smaller c = grind (arith, common_steps)
+loop-item-smaller c = read-shorter c.loop-item.self c.item.new.self c.in-Some.item c.in-Some.ensures.value c.in-Some.ensures.rest
 
-pub returns-clause-rise : goal.returns-clause-rise
-returns-clause-rise c = grind arith
+pub returns : goal.returns
+returns c = record {
+  items = read-all _ c.loop-item.items.items c.loop-item.self c.loop-item.invariant c.in_default.ensures.value;
+  rise = sym c.items_rise.ensures ∙ c.in_ok-unless.ensures.ok.0 refl;
+  refused = tt;
+}
+
+pub returns-in_err-push : goal.returns-in_err-push
+returns-in_err-push c = record {
+  items = IfOk-from_err c.from_residual-in_err-push.result _ c.from_residual-in_err-push.ensures.0;
+  rise = IfOk-from_err c.from_residual-in_err-push.result _ c.from_residual-in_err-push.ensures.0;
+  refused = refuses-good c.from_residual-in_err-push.result c.from_residual-in_err-push.ensures.1 (sym c.items_rise.ensures ∙ c.in_ok-unless.ensures.ok.0 refl);
+}
+
+pub returns-in_err-unless : goal.returns-in_err-unless
+returns-in_err-unless c = record {
+  items = IfOk-from_err c.from_residual.result _ c.from_residual.ensures.0;
+  rise = IfOk-from_err c.from_residual.result _ c.from_residual.ensures.0;
+  refused = refuses-bad c.from_residual.result c.from_residual.ensures.1 c.in_err-unless.ensures.err c.items_rise.ensures c.in_err-unless.ensures.ok.1;
+}

@@ -1,0 +1,60 @@
+-- Items that are read from words one after another.
+use Rattle.std.proofs.Common.{◌≡◌, ℤ, ℕ, ◌<◌, Bool, true, false, List, [], ◌∷◌, ◌++◌, drop, length, Option, None, Some, Result, IfErr, slice_get, option_and_then, refl, sym, ap, ◌∙◌, inl, inr, arith}
+use Rattle.std.specs.Int.{w64}
+use Rattle.std.specs.Result.{IsErrAnd}
+use Rattle.std.proofs.lemmas.Bool.{false_from_ne_true, false≢true}
+use Rattle.std.proofs.lemmas.Int.{to_z-of_z}
+use Rattle.std.proofs.lemmas.List.{append_assoc, append-nil}
+use Rattle.sketch_base.specs.declared.error.ErrorKind.{ErrorKind}
+use Rattle.sketch_base.specs.declared.error.ErrorKind.TheVariants.{InvalidArgument, OutOfMemory}
+use Rattle.sketch_base.proofs.Exits.{at_error}
+use Rattle.quantile_sketches.specs.LineSteps.{IsRefusal}
+use Rattle.quantile_sketches.specs.LineWords.{item_of, items_of, onto_items}
+use Rattle.quantile_sketches.proofs.DigitNumbers.{item_fits}
+use mir.Val.{to_z, of_z}
+
+-- the first word is an item
+module _ (ws ws' : List (List ℕ)) (x : ℤ) (is : Some x ≡ option_and_then item_of (slice_get ws 0)) (rest : ws' ≡ drop 1 ws) where
+  pub read-first : items_of ws ≡ x ∷ items_of ws'
+  read-first = go ws is rest
+    where
+      go : (ws : List (List ℕ)) → Some x ≡ option_and_then item_of (slice_get ws 0) → ws' ≡ drop 1 ws → items_of ws ≡ x ∷ items_of ws'
+      go [] is rest = absurd cc
+      go (w ∷ ws) is rest = ap (λ (o : Option ℤ). onto_items o (items_of ws)) (sym is) ∙ ap (λ (vs : List (List ℕ)). x ∷ items_of vs) (sym rest)
+
+  pub read-shorter : length ws' < length ws
+  read-shorter = go ws is rest
+    where
+      go : (ws : List (List ℕ)) → Some x ≡ option_and_then item_of (slice_get ws 0) → ws' ≡ drop 1 ws → length ws' < length ws
+      go [] is rest = absurd cc
+      go (w ∷ ws) is rest = let long : length ws' ≡ length ws = ap (λ (vs : List (List ℕ)). length vs) rest in omega (arith, long)
+
+  -- a signed word holds it
+  pub read-back : to_z w64 (of_z w64 x) ≡ x
+  read-back = go ws is
+    where
+      go : (ws : List (List ℕ)) → Some x ≡ option_and_then item_of (slice_get ws 0) → to_z w64 (of_z w64 x) ≡ x
+      go [] is = absurd cc
+      go (w ∷ ws) is = to_z-of_z w64 x (item_fits w x (sym is))
+
+  -- it is put behind those read before
+  pub read-onto : (all start items : List ℤ) → all ≡ start ++ items_of ws → items ≡ start ++ to_z w64 (of_z w64 x) ∷ [] → all ≡ items ++ items_of ws'
+  read-onto all start items held put =
+      held ∙ (ap (λ (xs : List ℤ). start ++ xs) read-first
+      ∙ sym (ap (λ (xs : List ℤ). xs ++ items_of ws') (put ∙ ap (λ (z : ℤ). start ++ z ∷ []) read-back) ∙ append_assoc start (x ∷ []) (items_of ws')))
+
+-- the first word is no item, or there is none
+pub read-none : (ws : List (List ℕ)) → None ≡ option_and_then item_of (slice_get ws 0) → items_of ws ≡ []
+read-none [] none = refl
+read-none (w ∷ ws) none = ap (λ (o : Option ℤ). onto_items o (items_of ws)) (sym none)
+
+pub read-all : (all start : List ℤ) (ws : List (List ℕ)) → all ≡ start ++ items_of ws → None ≡ option_and_then item_of (slice_get ws 0) → start ≡ all
+read-all all start ws held none = sym (held ∙ (ap (λ (xs : List ℤ). start ++ xs) (read-none ws none) ∙ append-nil start))
+
+-- an error for arguments that aren't good, and one for good ones
+module _ {T : Type 0} (r : Result T ErrorKind) where
+  pub refuses-bad : {x : ErrorKind} {told good : Bool} → IsErrAnd r (λ e. e ≡ x) → x ≡ InvalidArgument → told ≡ good → (told ≡ true → false ≡ true) → IfErr r (IsRefusal good)
+  refuses-bad fails is same bad = at_error r _ fails (λ e f. inl (f ∙ is, false_from_ne_true _ (λ h. false≢true (bad (same ∙ h)))))
+
+  pub refuses-good : {good : Bool} → IsErrAnd r (λ e. e ≡ OutOfMemory) → good ≡ true → IfErr r (IsRefusal good)
+  refuses-good fails good = at_error r _ fails (λ e f. inr (f, good))
