@@ -1,5 +1,6 @@
 -- What words say, read one after another.
-use Rattle.std.proofs.Common.{◌≡◌, Bool, true, false, List, [], ◌∷◌, ℕ, drop, Option, None, Some, slice_get, option_and_then, refl, ap, ◌∙◌}
+use Rattle.std.proofs.Common.{◌≡◌, Bool, true, false, cond, List, [], ◌∷◌, ℕ, drop, Option, None, Some, slice_get, option_and_then, refl, sym, ap, ◌∙◌}
+use Rattle.std.proofs.lemmas.Bool.{cond-true, cond-false}
 use Rattle.std.specs.Bool.{then_some}
 use Rattle.quantile_sketches.specs.LineWords.{then_word}
 
@@ -22,3 +23,22 @@ flagged false is = absurd cc
 pub not-flagged : (told : Bool) → None ≡ then_some told (tt {0}) → told ≡ false
 not-flagged true is = absurd cc
 not-flagged false is = refl
+
+-- a word that is read, and what it says
+pub word-read : {A : Type 0} (read : List ℕ → Option A) (ws : List (List ℕ)) {w : List ℕ} {r : Option A} → Some w ≡ slice_get ws 0 → r ≡ read w →
+    r ≡ option_and_then read (slice_get ws 0)
+word-read read ws is e = e ∙ ap (option_and_then read) is
+
+pub no-word : {A : Type 0} (read : List ℕ → Option A) (ws : List (List ℕ)) {r : Option A} → r ≡ None → None ≡ slice_get ws 0 → r ≡ option_and_then read (slice_get ws 0)
+no-word read ws e none = e ∙ ap (option_and_then read) none
+
+-- which of two names a word is
+module _ {A : Type 0} (x y : A) {a t : Bool} (b : Bool) (first : t ≡ a) where
+  pub first-name : t ≡ true → Some x ≡ cond a (Some x) (cond b (Some y) None)
+  first-name is = sym (cond-true a _ _ (sym first ∙ is))
+
+  pub second-name : t ≡ false → {u : Bool} → u ≡ b → u ≡ true → Some y ≡ cond a (Some x) (cond b (Some y) None)
+  second-name other second is = sym (cond-false a _ _ (sym first ∙ other) ∙ cond-true b _ _ (sym second ∙ is))
+
+  pub no-name : t ≡ false → {u : Bool} → u ≡ b → u ≡ false → None ≡ cond a (Some x) (cond b (Some y) None)
+  no-name other second none = sym (cond-false a _ _ (sym first ∙ other) ∙ cond-false b _ _ (sym second ∙ none))

@@ -1,22 +1,32 @@
 -- A line's command is what its verb and its slot ask for.
-use Rattle.std.proofs.Common.{◌≡◌, ℕ, ℤ, List, [], ◌∷◌, Some, drop, refl, slice_get}
+use Rattle.std.proofs.Common.{◌≡◌, ℕ, ℤ, List, [], ◌∷◌, Some, None, Option, drop, refl, ap, ◌∙◌, slice_get}
 use Rattle.std.specs.Prelude.{codes}
 use Rattle.std.specs.Option.{option_and_then}
 use Rattle.quantile_sketches.specs.Reader.{Grammar, parse_slot}
 use Rattle.quantile_sketches.specs.Command.{parse_asked, request_of}
 use Rattle.quantile_sketches.specs.LineWords.{unsigned_of, item_of}
 use Rattle.quantile_sketches.specs.declared.audit.commands.Command.TheVariants.{Update}
+use Rattle.quantile_sketches.specs.declared.command.Request.{Request}
 use Rattle.quantile_sketches.specs.declared.command.Request.TheVariants.{Run}
-
--- a line whose first word is a verb and whose second word is a slot
-pub asks_by_its_verb : {C : Type 0} (grammar : Grammar C) (ws : List (List ℕ)) (verb : List ℕ) (slot : ℕ) →
-    Some verb ≡ slice_get ws 0 → Some slot ≡ option_and_then parse_slot (slice_get (drop 1 ws) 0) →
-    parse_asked grammar verb slot (drop 1 (drop 1 ws)) ≡ request_of grammar ws
-asks_by_its_verb grammar [] verb slot is_verb is_slot = search
-asks_by_its_verb grammar (w ∷ []) verb slot is_verb is_slot = search
-asks_by_its_verb grammar (w ∷ s ∷ ws) verb slot is_verb is_slot = search
+use Rattle.quantile_sketches.proofs.ReadWords.{then-none, then-read}
 
 -- the words of an update
 pub asks_for_update : {C : Type 0} (grammar : Grammar C) (s i : List ℕ) (slot : ℕ) (item : ℤ) → unsigned_of 8 s ≡ Some slot → item_of i ≡ Some item →
     request_of grammar (codes "update" ∷ s ∷ i ∷ []) ≡ Some (Run (Update slot item))
 asks_for_update grammar s i slot item is_slot is_item = rw (is_slot, is_item) refl
+
+-- a verb and a slot are read one after the other
+pub asked-by : {C : Type 0} (grammar : Grammar C) (ws ws' : List (List ℕ)) {ws'' : List (List ℕ)} (verb : List ℕ) {slot : ℕ} {r : Option (Request C)} →
+    r ≡ parse_asked grammar verb slot ws'' → Some verb ≡ slice_get ws 0 → ws' ≡ drop 1 ws → Some slot ≡ option_and_then parse_slot (slice_get ws' 0) → ws'' ≡ drop 1 ws' →
+    r ≡ request_of grammar ws
+asked-by grammar [] ws' verb asks first rest second last = absurd cc
+asked-by grammar (w ∷ ws) ws' {ws''} verb {slot} asks first rest second last =
+    then-read parse_slot (parse_asked grammar w) ws _ slot (second ∙ ap (λ (vs : List (List ℕ)). option_and_then parse_slot (slice_get vs 0)) rest)
+    (last ∙ ap (drop 1) rest) (asks ∙ ap (λ (v : List ℕ). parse_asked grammar v slot ws'') (let same : verb ≡ w = cc in same))
+
+-- no slot is read after the verb
+pub asked-no-slot : {C : Type 0} (grammar : Grammar C) (ws ws' : List (List ℕ)) {r : Option (Request C)} → r ≡ None → ws' ≡ drop 1 ws →
+    None ≡ option_and_then parse_slot (slice_get ws' 0) → r ≡ request_of grammar ws
+asked-no-slot grammar [] ws' e rest none = e
+asked-no-slot grammar (w ∷ ws) ws' e rest none =
+    then-none parse_slot (parse_asked grammar w) ws e (none ∙ ap (λ (vs : List (List ℕ)). option_and_then parse_slot (slice_get vs 0)) rest)

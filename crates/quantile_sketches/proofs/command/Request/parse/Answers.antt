@@ -1,13 +1,15 @@
-use Rattle.std.proofs.Common.{rules, arith}
-use Rattle.std.proofs.lemmas.Grind.{common_steps}
-use Rattle.quantile_sketches.proofs.Verbs.{asks_by_its_verb}
+use Rattle.std.proofs.Common.{arith}
+use Rattle.quantile_sketches.proofs.Verbs.{asked-by, asked-no-slot}
 use Rattle.quantile_sketches.proofs.command.Request.parse.Goals as goal
 
 pub returns : goal.returns
-returns g c = search (rules, asks_by_its_verb)
+returns g c =
+    asked-by g.C.Config.grammar c.args.words.now c.word.new.self c.in_ok-verb.verb.now c.parse_asked.ensures c.in_ok-verb.ensures.word c.in_ok-verb.ensures.rest
+    c.in_ok-slot.ensures.value c.in_ok-slot.ensures.rest
 
 pub returns-in_err-slot : goal.returns-in_err-slot
-returns-in_err-slot g c = grind (arith, common_steps)
+returns-in_err-slot g c =
+    asked-no-slot g.C.Config.grammar c.args.words.now c.word.new.self c.from_residual-in_err-slot.ensures c.in_ok-verb.ensures.rest c.in_err-slot.ensures.value
 
 pub returns-in_err-verb : goal.returns-in_err-verb
 returns-in_err-verb g c = grind arith
