@@ -1,6 +1,5 @@
-use Rattle.std.proofs.Common.{◌≡◌, ℕ, ℤ, Bool, true, false, List, [], ◌∷◌, drop, Option, Some, slice_get, option_and_then, refl, sym, ap, ◌∙◌, subst, arith}
+use Rattle.std.proofs.Common.{◌≡◌, ℕ, ℤ, Bool, true, List, [], ◌∷◌, drop, Option, Some, slice_get, option_and_then, refl, sym, ap, ◌∙◌, subst, arith}
 use Rattle.std.proofs.lemmas.Grind.{common_steps}
-use Rattle.std.specs.Bool.{then_some}
 use Rattle.std.specs.Int.{w64}
 use Rattle.std.proofs.lemmas.Int.{to_z-of_z}
 use Rattle.quantile_sketches.specs.Command.{parse_update_weighted}
@@ -10,6 +9,7 @@ use Rattle.quantile_sketches.specs.declared.audit.commands.Command.TheVariants.{
 use Rattle.quantile_sketches.specs.declared.command.Request.TheVariants.{Run}
 use Rattle.quantile_sketches.specs.declared.command.Request.{Request}
 use Rattle.quantile_sketches.proofs.DigitNumbers.{item_fits}
+use Rattle.quantile_sketches.proofs.ReadWords.{flagged, not-flagged}
 use mir.Val.{to_z, of_z}
 use Rattle.quantile_sketches.proofs.command.Request.parse_update_weighted.Goals as goal
 
@@ -23,10 +23,6 @@ first-word : {A : Type 0} (read : List ℕ → Option A) (ws : List (List ℕ)) 
     (w : List ℕ) × (read w ≡ Some a)
 first-word read [] a is = absurd cc
 first-word read (w ∷ ws) a is = (w, sym is)
-
-weighs-so : (weighs told : Bool) (done : Unit {0}) → told ≡ weighs → Some done ≡ then_some told tt → true ≡ weighs
-weighs-so weighs true done same wanted = same
-weighs-so weighs false done same wanted = absurd cc
 
 weighs-parsed : {C : Type 0} (weighs : Bool) (slot : ℕ) (ws ws' ws'' : List (List ℕ)) (item : ℤ) (weight : ℕ) → true ≡ weighs →
     Some item ≡ option_and_then item_of (slice_get ws 0) → ws' ≡ drop 1 ws → Some weight ≡ option_and_then parse_number (slice_get ws' 0) → ws'' ≡ drop 1 ws' →
@@ -51,5 +47,10 @@ returns g c =
     let known = c.in_ok-weight.ensures in
     c.at_end.ensures ∙ weighs-parsed g.C.Config.grammar.weighs c.args.slot c.args.words.now c.item.new.self c.number.new.self c.in_ok-item.item
     c.in_ok-weight.weight
-    (weighs-so g.C.Config.grammar.weighs c.WEIGHS.result c.in_ok-then_some.field-0 (c.WEIGHS.ensures ∙ g.C.Config.weighs_so) c.in_ok-then_some.ensures)
+    (sym (flagged c.WEIGHS.result c.in_ok-then_some.ensures) ∙ (c.WEIGHS.ensures ∙ g.C.Config.weighs_so))
     c.in_ok-item.ensures.value c.in_ok-item.ensures.rest known.value known.rest
+
+pub returns-in_err-then_some : goal.returns-in_err-then_some
+returns-in_err-then_some g c =
+    c.from_residual.ensures ∙ ap (λ (b : Bool). parse_update_weighted {C = g.row.C.Denot} b c.args.slot c.args.words.now)
+    (sym (not-flagged c.WEIGHS.result c.in_err-then_some.ensures) ∙ (c.WEIGHS.ensures ∙ g.C.Config.weighs_so))
