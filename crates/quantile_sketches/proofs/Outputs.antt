@@ -1,8 +1,8 @@
 -- Writes one after another: what is out, what waits and what is left of what was owed.
-use Rattle.std.proofs.Common.{◌≡◌, ℕ, ◌+◌, ◌-◌, ◌≤◌, List, [], ◌++◌, length, take, drop, refl, sym, ap, ◌∙◌, arith, Option, Some, None, Result, Ok, Err, IsOk, IsErr, OnOk}
+use Rattle.std.proofs.Common.{◌≡◌, ℕ, ◌+◌, ◌-◌, ◌≤◌, List, [], ◌++◌, length, take, drop, refl, sym, ap, ◌∙◌, arith, Option, Some, None, Result, Ok, Err, IsOk, IsErr, OnOk, subst}
 use Rattle.std.proofs.Math.Seq.{take-add}
-use Rattle.std.specs.Io.KnownBytes.{Appends, Keeps}
-use Rattle.std.proofs.lemmas.Result.{IfOk-from_err}
+use Rattle.std.specs.Io.KnownBytes.{Appends, Keeps, WriteAppends}
+use Rattle.std.proofs.lemmas.Result.{IfOk-from_err, MatchResult-at_ok}
 use Rattle.std.proofs.lemmas.List.{append_assoc, append-nil, take-append-drop, take_rest, length-drop}
 use Rattle.quantile_sketches.specs.Output.{Writes}
 
@@ -111,3 +111,17 @@ writes-fail w first rest text waiting' r' e fails h =
 -- the same for another call that succeeds
 pub writes-as : {T E T' E' : Type 0} {r : Result T E} {c c' : Option (List ℕ)} {owed waiting : List ℕ} (r' : Result T' E') → Writes r c c' owed waiting → IsOk r → Writes r' c c' owed waiting
 writes-as {r = r} r' h ok = record { sent = h.sent; left = h.left; parts = h.parts; out = h.out; waits = ok-so r' (held-ok r ok h.waits) }
+
+-- known bytes that stay as they were have nothing behind them
+pub keeps-appends : (c c' : Option (List ℕ)) → Keeps c c' → Appends c c' []
+keeps-appends c c' k = appends_kept c c c' [] (appends_none c) k
+
+appends-keeps : (c c' : Option (List ℕ)) → Appends c c' [] → Keeps c c'
+appends-keeps None c' h = tt
+appends-keeps (Some xs) None h = absurd h
+appends-keeps (Some xs) (Some ys) h = h ∙ append-nil xs
+
+-- a write that took no byte
+pub write-keeps : {E : Type 0} (c c' : Option (List ℕ)) {r : Result ℕ E} {n : ℕ} (bytes : List ℕ) → WriteAppends c c' r bytes → r ≡ Ok n → n ≡ 0 → Keeps c c'
+write-keeps c c' {n = n} bytes h is none =
+    appends-keeps c c' (subst (λ (k : ℕ). Appends c c' (take k bytes)) none (MatchResult-at_ok _ _ n is h))

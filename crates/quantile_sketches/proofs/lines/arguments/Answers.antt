@@ -1,6 +1,9 @@
 use Rattle.std.proofs.lemmas.Grind.{common_steps}
-use Rattle.std.proofs.Common.{◌≡◌, ◌≤◌, ◌<◌, ℕ, List, [], ◌∷◌, length, get_or, map, sym, ap, ◌∙◌, arith, rules}
+use Rattle.std.proofs.Common.{◌≡◌, ◌≤◌, ◌<◌, ℕ, Bool, true, false, cond, Option, None, Some, bytes_eq, refl, List, [], ◌∷◌, length, get_or, map, sym, ap, ◌∙◌, arith, rules}
 use Rattle.std.specs.Prelude.{codes, string_bytes}
+use Rattle.std.specs.Option.{option_map}
+use Rattle.quantile_sketches.specs.Command.{arguments_of}
+use Rattle.quantile_sketches.specs.LineWords.{unsigned_of}
 use Rattle.quantile_sketches.proofs.lines.arguments.Goals as goal
 
 -- a list of two elements
@@ -8,6 +11,26 @@ two : {A : Type 0} (text : A → List ℕ) (ws : List A) (a b : A) → 2 ≤ len
     map text ws ≡ text a ∷ text b ∷ []
 two text (x ∷ y ∷ []) a b h k e t = ap (λ z. text z ∷ text y ∷ []) (sym e) ∙ ap (λ z. text a ∷ text z ∷ []) (sym t)
 two text ws a b h k e t = absurd (omega arith)
+
+-- without a seed nothing is asked for
+no-seed : {A : Type 0} (f g : ℕ → A) (a b : Bool) (o : Option ℕ) → None ≡ o → None ≡ cond a (option_map f o) (cond b (option_map g o) None)
+no-seed f g true b None none = refl
+no-seed f g false true None none = refl
+no-seed f g false false None none = refl
+no-seed f g a b (Some n) none = absurd cc
+
+-- the words that are read
+module _ {words : List (List ℕ)} (family seed read : List ℕ) (are : words ≡ family ∷ seed ∷ []) (same : read ≡ seed) where
+  asked-kll : (n : ℕ) → Some n ≡ unsigned_of 64 read → family ≡ codes "kll" → Some (false, n) ≡ arguments_of words
+  asked-kll n is kll =
+      ap (λ (o : Option ℕ). option_map (λ n. (false, n)) o) (is ∙ ap (unsigned_of 64) same) ∙ sym (ap arguments_of (are ∙ ap (λ (f : List ℕ). f ∷ seed ∷ []) kll))
+
+  asked-req : (n : ℕ) → Some n ≡ unsigned_of 64 read → family ≡ codes "req" → Some (true, n) ≡ arguments_of words
+  asked-req n is req =
+      ap (λ (o : Option ℕ). option_map (λ n. (true, n)) o) (is ∙ ap (unsigned_of 64) same) ∙ sym (ap arguments_of (are ∙ ap (λ (f : List ℕ). f ∷ seed ∷ []) req))
+
+  asked-none : {r : Option (Bool × ℕ)} → r ≡ None → None ≡ unsigned_of 64 read → r ≡ arguments_of words
+  asked-none e none = e ∙ (no-seed _ _ (bytes_eq family (codes "kll")) (bytes_eq family (codes "req")) _ (none ∙ ap (unsigned_of 64) same) ∙ sym (ap arguments_of are))
 
 pub returns-in_default-as_str : goal.returns-in_default-as_str
 returns-in_default-as_str c =
@@ -20,13 +43,22 @@ pub returns-in_default : goal.returns-in_default
 returns-in_default c = grind (arith, common_steps)
 
 pub returns-in_err-seed : goal.returns-in_err-seed
-returns-in_err-seed c = grind (arith, common_steps)
+returns-in_err-seed c =
+    asked-none (string_bytes c.family-item.result) (string_bytes c.seed-item.result) c.as_bytes.result.now
+    (two string_bytes c.args.words.now c.family-item.result c.seed-item.result c.in-len2.len_at_least c.in-len2.len_below c.family-item.is c.seed-item.is)
+    c.as_bytes.ensures.value c.from_residual.ensures c.in_err-seed.ensures
 
 pub returns-in-kll : goal.returns-in-kll
-returns-in-kll c = grind (arith, common_steps)
+returns-in-kll c =
+    asked-kll (string_bytes c.family-item.result) (string_bytes c.seed-item.result) c.as_bytes.result.now
+    (two string_bytes c.args.words.now c.family-item.result c.seed-item.result c.in-len2.len_at_least c.in-len2.len_below c.family-item.is c.seed-item.is)
+    c.as_bytes.ensures.value c.in_ok-seed.seed c.in_ok-seed.ensures (sym c.as_str.ensures.value ∙ c.in-kll.is)
 
 pub returns-in-req : goal.returns-in-req
-returns-in-req c = grind (arith, common_steps)
+returns-in-req c =
+    asked-req (string_bytes c.family-item.result) (string_bytes c.seed-item.result) c.as_bytes.result.now
+    (two string_bytes c.args.words.now c.family-item.result c.seed-item.result c.in-len2.len_at_least c.in-len2.len_below c.family-item.is c.seed-item.is)
+    c.as_bytes.ensures.value c.in_ok-seed.seed c.in_ok-seed.ensures (sym c.as_str.ensures.value ∙ c.in-req.is)
 
 pub returns-in_default-2 : goal.returns-in_default-2
 returns-in_default-2 c = grind (arith, common_steps)
