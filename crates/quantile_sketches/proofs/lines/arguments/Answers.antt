@@ -1,6 +1,8 @@
 use Rattle.std.proofs.lemmas.Grind.{common_steps}
-use Rattle.std.proofs.Common.{◌≡◌, ◌≤◌, ◌<◌, ℕ, Bool, true, false, cond, Option, None, Some, bytes_eq, refl, List, [], ◌∷◌, length, get_or, map, sym, ap, ◌∙◌, arith, rules}
+use Rattle.std.proofs.Common.{◌≡◌, ◌≤◌, ◌<◌, ℕ, Bool, true, false, cond, Option, None, Some, bytes_eq, refl, List, [], ◌∷◌, length, get_or, map, sym, ap, ◌∙◌, arith}
 use Rattle.std.specs.Prelude.{codes, string_bytes}
+use Rattle.std.proofs.lemmas.Bool.{cond-false, false_from_ne_true}
+use Rattle.std.proofs.lemmas.Slice.Eq.{bytes_eq-Decides}
 use Rattle.std.specs.Option.{option_map}
 use Rattle.quantile_sketches.specs.Command.{arguments_of}
 use Rattle.quantile_sketches.specs.LineWords.{unsigned_of}
@@ -32,12 +34,16 @@ module _ {words : List (List ℕ)} (family seed read : List ℕ) (are : words �
   asked-none : {r : Option (Bool × ℕ)} → r ≡ None → None ≡ unsigned_of 64 read → r ≡ arguments_of words
   asked-none e none = e ∙ (no-seed _ _ (bytes_eq family (codes "kll")) (bytes_eq family (codes "req")) _ (none ∙ ap (unsigned_of 64) same) ∙ sym (ap arguments_of are))
 
+  asked-other : (family ≡ codes "kll" → ⊥) → (family ≡ codes "req" → ⊥) → None ≡ arguments_of words
+  asked-other not_kll not_req =
+      sym (ap arguments_of are ∙ (cond-false _ _ _ (false_from_ne_true _ (λ h. not_kll ((bytes_eq-Decides family (codes "kll")).0 h)))
+      ∙ cond-false _ _ _ (false_from_ne_true _ (λ h. not_req ((bytes_eq-Decides family (codes "req")).0 h)))))
+
 pub returns-in_default-as_str : goal.returns-in_default-as_str
 returns-in_default-as_str c =
-    let w = two string_bytes c.args.words.now c.family-item.result c.seed-item.result c.in-len2.len_at_least c.in-len2.len_below c.family-item.is c.seed-item.is in
-    let n : string_bytes c.family-item.result ≡ codes "kll" → ⊥ = λ e. c.in_default-as_str.not-kll (c.as_str.ensures.value ∙ e) in
-    let m : string_bytes c.family-item.result ≡ codes "req" → ⊥ = λ e. c.in_default-as_str.not-req (c.as_str.ensures.value ∙ e) in
-    rw w (search (rules, n, m))
+    asked-other (string_bytes c.family-item.result) (string_bytes c.seed-item.result) c.as_bytes.result.now
+    (two string_bytes c.args.words.now c.family-item.result c.seed-item.result c.in-len2.len_at_least c.in-len2.len_below c.family-item.is c.seed-item.is)
+    c.as_bytes.ensures.value (λ e. c.in_default-as_str.not-kll (c.as_str.ensures.value ∙ e)) (λ e. c.in_default-as_str.not-req (c.as_str.ensures.value ∙ e))
 
 pub returns-in_default : goal.returns-in_default
 returns-in_default c = grind (arith, common_steps)
