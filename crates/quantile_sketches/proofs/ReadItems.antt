@@ -1,6 +1,7 @@
 -- Items that are read from words one after another.
-use Rattle.std.proofs.Common.{◌≡◌, ℤ, ℕ, ◌<◌, Bool, true, false, List, [], ◌∷◌, ◌++◌, drop, length, Option, None, Some, Result, IfErr, slice_get, option_and_then, refl, sym, ap, ◌∙◌, inl, inr, arith}
+use Rattle.std.proofs.Common.{Ordering, ◌≡◌, ℤ, ℕ, ◌<◌, ◌&&◌, Bool, true, false, List, [], ◌∷◌, ◌++◌, drop, length, Option, None, Some, Result, IfErr, slice_get, option_and_then, refl, sym, ap, ◌∙◌, inl, inr, arith}
 use Rattle.std.specs.Int.{w64}
+use Rattle.std.specs.Ordering.{int_cmp, is_lt}
 use Rattle.std.specs.Result.{IsErrAnd}
 use Rattle.std.proofs.lemmas.Bool.{false_from_ne_true, false≢true}
 use Rattle.std.proofs.lemmas.Int.{to_z-of_z}
@@ -9,7 +10,7 @@ use Rattle.sketch_base.specs.declared.error.ErrorKind.{ErrorKind}
 use Rattle.sketch_base.specs.declared.error.ErrorKind.TheVariants.{InvalidArgument, OutOfMemory}
 use Rattle.sketch_base.proofs.Exits.{at_error}
 use Rattle.quantile_sketches.specs.LineSteps.{IsRefusal}
-use Rattle.quantile_sketches.specs.LineWords.{item_of, items_of, onto_items}
+use Rattle.quantile_sketches.specs.LineWords.{item_of, items_of, onto_items, rise, rise_from}
 use Rattle.quantile_sketches.proofs.DigitNumbers.{item_fits}
 use mir.Val.{to_z, of_z}
 
@@ -43,6 +44,26 @@ module _ (ws ws' : List (List ℕ)) (x : ℤ) (is : Some x ≡ option_and_then i
       held ∙ (ap (λ (xs : List ℤ). start ++ xs) read-first
       ∙ sym (ap (λ (xs : List ℤ). xs ++ items_of ws') (put ∙ ap (λ (z : ℤ). start ++ z ∷ []) read-back) ∙ append_assoc start (x ∷ []) (items_of ws')))
 
+  -- whether items rise, after the first one was read
+  pub rise-first : (given : List (List ℕ)) → ws ≡ given → rise (items_of given) ≡ rise_from (to_z w64 (of_z w64 x)) (items_of ws')
+  rise-first given same =
+      sym (ap (λ (vs : List (List ℕ)). rise (items_of vs)) same) ∙ (ap rise read-first ∙ ap (λ (z : ℤ). rise_from z (items_of ws')) (sym read-back))
+
+  -- and after one more
+  module _ (z : ℤ) {all b : Bool} {o : Ordering} (held : all ≡ rise_from z (items_of ws)) (compared : o ≡ int_cmp z (to_z w64 (of_z w64 x))) (below : b ≡ is_lt o) where
+    with-next : all ≡ (is_lt (int_cmp z x) && rise_from x (items_of ws'))
+    with-next = held ∙ ap (rise_from z) read-first
+
+    lies-below : is_lt (int_cmp z x) ≡ b
+    lies-below = ap (λ (y : ℤ). is_lt (int_cmp z y)) (sym read-back) ∙ sym (below ∙ ap is_lt compared)
+
+    pub rise-on : b ≡ true → all ≡ rise_from (to_z w64 (of_z w64 x)) (items_of ws')
+    rise-on is =
+        with-next ∙ (ap (λ (c : Bool). c && rise_from x (items_of ws')) (lies-below ∙ is) ∙ ap (λ (y : ℤ). rise_from y (items_of ws')) (sym read-back))
+
+    pub rise-off : b ≡ false → false ≡ all
+    rise-off is = sym (with-next ∙ ap (λ (c : Bool). c && rise_from x (items_of ws')) (lies-below ∙ is))
+
 -- the first word is no item, or there is none
 pub read-none : (ws : List (List ℕ)) → None ≡ option_and_then item_of (slice_get ws 0) → items_of ws ≡ []
 read-none [] none = refl
@@ -50,6 +71,12 @@ read-none (w ∷ ws) none = ap (λ (o : Option ℤ). onto_items o (items_of ws))
 
 pub read-all : (all start : List ℤ) (ws : List (List ℕ)) → all ≡ start ++ items_of ws → None ≡ option_and_then item_of (slice_get ws 0) → start ≡ all
 read-all all start ws held none = sym (held ∙ (ap (λ (xs : List ℤ). start ++ xs) (read-none ws none) ∙ append-nil start))
+
+pub rise-none : (ws given : List (List ℕ)) → ws ≡ given → None ≡ option_and_then item_of (slice_get ws 0) → true ≡ rise (items_of given)
+rise-none ws given same none = sym (sym (ap (λ (vs : List (List ℕ)). rise (items_of vs)) same) ∙ ap rise (read-none ws none))
+
+pub rise-all : (ws : List (List ℕ)) (z : ℤ) {all : Bool} → all ≡ rise_from z (items_of ws) → None ≡ option_and_then item_of (slice_get ws 0) → true ≡ all
+rise-all ws z held none = sym (held ∙ ap (rise_from z) (read-none ws none))
 
 -- an error for arguments that aren't good, and one for good ones
 module _ {T : Type 0} (r : Result T ErrorKind) where

@@ -1,6 +1,25 @@
-use Rattle.std.proofs.Common.{arith}
-use Rattle.std.proofs.lemmas.Grind.{common_steps}
+use Rattle.quantile_sketches.specs.LineWords.{words}
+use Rattle.quantile_sketches.proofs.ReadItems.{read-shorter, rise-all, rise-first, rise-none, rise-off, rise-on}
 use Rattle.quantile_sketches.proofs.words.Words.items_rise.Goals as goal
 
 pub loop-item-smaller : goal.loop-item-smaller
-loop-item-smaller c = grind (arith, common_steps)
+loop-item-smaller c = read-shorter c.loop-item.words c.item-in-loop-item.new.self c.in-Some-item.item c.in-Some-item.ensures.value c.in-Some-item.ensures.rest
+
+pub returns-in_default : goal.returns-in_default
+returns-in_default c = rise-none (words c.self.inside.rest.now) c.args.self.now c.self.view_is c.in_default.ensures.value
+
+pub loop-item-init : goal.loop-item-init
+loop-item-init c = rise-first (words c.self.inside.rest.now) c.item.new.self c.in-Some.last c.in-Some.ensures.value c.in-Some.ensures.rest c.args.self.now c.self.view_is
+
+pub loop-item-preserved : goal.loop-item-preserved
+loop-item-preserved c =
+    rise-on c.loop-item.words c.item-in-loop-item.new.self c.in-Some-item.item c.in-Some-item.ensures.value c.in-Some-item.ensures.rest _ c.loop-item.invariant
+    c.cmp.ensures c.is_lt.ensures c.if-not-is_lt.false
+
+pub returns-then-not-is_lt : goal.returns-then-not-is_lt
+returns-then-not-is_lt c =
+    rise-off c.loop-item.words c.item-in-loop-item.new.self c.in-Some-item.item c.in-Some-item.ensures.value c.in-Some-item.ensures.rest _ c.loop-item.invariant
+    c.cmp.ensures c.is_lt.ensures c.if-not-is_lt.true
+
+pub returns : goal.returns
+returns c = rise-all c.loop-item.words _ c.loop-item.invariant c.in_default-item.ensures.value
