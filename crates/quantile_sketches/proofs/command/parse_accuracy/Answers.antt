@@ -1,4 +1,3 @@
-use Rattle.std.proofs.Common.{refl}
 use Rattle.sketch_req.specs.declared.RankAccuracy.TheVariants.{HighRank, LowRank}
 use Rattle.quantile_sketches.specs.Reader.{parse_accuracy}
 use Rattle.quantile_sketches.proofs.ReadWords.{first-name, no-name, no-word, second-name, word-read}

@@ -1,4 +1,3 @@
-use Rattle.std.proofs.Common.{refl}
 use Rattle.sketch_base.specs.declared.common.SearchCriteria.TheVariants.{Inclusive, Exclusive}
 use Rattle.quantile_sketches.specs.Reader.{parse_criteria}
 use Rattle.quantile_sketches.proofs.ReadWords.{first-name, no-name, no-word, second-name, word-read}

@@ -1,4 +1,3 @@
-use Rattle.std.proofs.Common.{◌≡◌, None, Some}
 use Rattle.std.proofs.lemmas.Result.{IfOk-from_err}
 use Rattle.quantile_sketches.proofs.AnsweredLines.{read-answered, some-none}
 use Rattle.quantile_sketches.proofs.lines.answer_read.Goals as goal
