@@ -3,9 +3,7 @@ use Rattle.std.specs.Bool.{then_some}
 use Rattle.std.proofs.lemmas.Bool.{eqb-true, ltb-true}
 use Rattle.quantile_sketches.specs.LineWords.{BeginsWithDigits}
 use Rattle.std.proofs.Math.Nat.{pow-le-pow_right}
-use Rattle.std.proofs.lemmas.Int.Digits.{digits_value_more}
-use Rattle.std.proofs.lemmas.Str.{digit_value_digit}
-use Rattle.quantile_sketches.proofs.ShortNumbers.{one_digit_more, all_digits_more}
+use Rattle.quantile_sketches.proofs.ShortNumbers.{one_read_more}
 use Rattle.quantile_sketches.proofs.words.short_number.Goals as goal
 use Rattle.quantile_sketches.proofs.words.short_number.Goals.{After-then_some, then-len-gt0+else-len-text, then-len-gt0+then-len-text, else-len-gt0}
 
@@ -21,14 +19,9 @@ overflow_add-number c =
 
 pub loop-len-preserved : goal.loop-len-preserved
 loop-len-preserved c =
-    let digit = digit_value_digit _ c.if-is_ascii_digit.ensures.cases in
-    let inside : c.loop-len.len < length c.args.text.now = omega (arith, c.loop-len-test.true, c.min.ensures) in record {
-      within = omega (arith, inside);
-      few = omega (arith, c.loop-len-test.true, c.min.ensures);
-      below = one_digit_more c.loop-len.number _ c.loop-len.len c.loop-len.invariant.below (omega (arith, c.if-is_ascii_digit.ensures.cases));
-      digits = all_digits_more c.args.text.now c.loop-len.len inside c.loop-len.invariant.digits (omega (arith, digit, c.if-is_ascii_digit.ensures.cases));
-      value = omega (arith, digit, c.loop-len.invariant.value, digits_value_more 10 c.args.text.now c.loop-len.len inside);
-    }
+    let more = one_read_more c.args.text.now c.loop-len.len c.loop-len.number c.min.result c.loop-len-test.true c.min.ensures c.if-is_ascii_digit.ensures.cases.0
+    c.if-is_ascii_digit.ensures.cases.1 c.loop-len.invariant.digits c.loop-len.invariant.value c.loop-len.invariant.below in
+    record { within = more.0; few = more.1; below = more.2; digits = more.3; value = more.4 }
 
 -- the number ends at the end of the text, or before the byte that ends it
 ends : (c : After-then_some) → c.if-len-gt0.is_number ≡ true → (0 < c.loop-len.len) × (c.loop-len.len < length c.args.text.now → get_or c.args.text.now c.loop-len.len 0 ≡ c.args.end)
@@ -64,7 +57,7 @@ pub loop-len-smaller : goal.loop-len-smaller
 loop-len-smaller c = grind arith
 
 pub overflow_sub-number : goal.overflow_sub-number
-overflow_sub-number c = grind arith
+overflow_sub-number c = c.if-is_ascii_digit.ensures.cases.0
 
 pub overflow_add-len : goal.overflow_add-len
 overflow_add-len c = grind arith
