@@ -23,12 +23,19 @@ loop-len-preserved c =
     c.if-is_ascii_digit.ensures.cases.1 c.loop-len.invariant.digits c.loop-len.invariant.value c.loop-len.invariant.below in
     record { within = more.0; few = more.1; below = more.2; digits = more.3; value = more.4 }
 
+-- a place can't be before itself, and a number can't be above 0 and not
+not-before : {m n : ℕ} → m ≡ n → m < n → ⊥
+not-before e h = omega (arith, e, h)
+
+not-both : {n : ℕ} → 0 < n → n ≤ 0 → ⊥
+not-both h k = omega (arith, h, k)
+
 -- the number ends at the end of the text, or before the byte that ends it
 ends : (c : After-then_some) → c.if-len-gt0.is_number ≡ true → (0 < c.loop-len.len) × (c.loop-len.len < length c.args.text.now → get_or c.args.text.now c.loop-len.len 0 ≡ c.args.end)
 ends c is = elim c.if-len-gt0.branch [
-  | then-len-gt0+then-len-text w ↦ (omega (arith, w.if-len-gt0.true), λ h. absurd (omega (arith, h, w.if-len-text.true)))
-  | then-len-gt0+else-len-text w ↦ (omega (arith, w.if-len-gt0.true), λ h. eqb-true _ _ (sym w.is_number-is ∙ is))
-  | else-len-gt0 w ↦ absurd (omega (arith, ltb-true _ _ (sym w.is_number-is ∙ is), w.if-len-gt0.false))
+  | then-len-gt0+then-len-text w ↦ (w.if-len-gt0.true, λ h. absurd (not-before w.if-len-text.true h))
+  | then-len-gt0+else-len-text w ↦ (w.if-len-gt0.true, λ h. eqb-true _ _ (sym w.is_number-is ∙ is))
+  | else-len-gt0 w ↦ absurd (not-both (ltb-true _ _ (sym w.is_number-is ∙ is)) w.if-len-gt0.false)
 ]
 
 found : (c : After-then_some) (b : Bool) → c.if-len-gt0.is_number ≡ b →
