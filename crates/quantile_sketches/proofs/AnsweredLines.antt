@@ -52,7 +52,8 @@ module _ {S C : Type 0} (grammar : Grammar C) (behaviour : Behaviour S ℤ C) wh
       (line : List ℕ) × TakesLine left line left' × Answers behaviour (request_of grammar (words line)) (words line) slots coins a slots' coins'
 
   -- the line of an update that lies whole in the buffer
-  pub update-answered : {T A : Type 0} (remaining : T → Option (List ℕ)) (input : BufReader T A) (left : Option (List ℕ)) (text : List ℕ) {slot len : ℕ} {item : ℤ}
+  pub update-answered : {T A : Type 0} (remaining : T → Option (List ℕ)) (input : BufReader T A) (left : Option (List ℕ)) (text : List ℕ) {slot len : ℕ}
+      {item : ℤ}
       (slots slots' : List (Option S)) (coins coins' : ℕ) (v : Verdict) → text ≡ reader_buffer input → BeginsWithUpdate text slot item len →
       DropsConsumable (reader_remaining remaining input) left (Some (length (reader_buffer input))) (len + 1) →
       CarriesOutItem behaviour coin_of next_state (Update slot (to_z w64 (of_z w64 item))) slots coins v slots' coins' →
@@ -73,18 +74,21 @@ module _ {S C : Type 0} (grammar : Grammar C) (behaviour : Behaviour S ℤ C) wh
       AnswersLine (reader_remaining remaining input) left slots coins slots' coins' a
   buffered-answered remaining input left n slots slots' coins coins' a place most ends same same' same'' dropped answered = (
     take n (reader_buffer input),
-    takes_buffered _ (reader_buffer input) _ left n (place ∙ ap (position_or_len (λ x. x == 10)) same) (inside n most ends (ap length same) (ap length same')) dropped,
+    takes_buffered _ (reader_buffer input) _ left n (place ∙ ap (position_or_len (λ x. x == 10)) same) (inside n most ends (ap length same) (ap length same'))
+        dropped,
     subst (λ (b : List ℕ). Answers behaviour (request_of grammar (words (take n b))) (words (take n b)) slots coins a slots' coins') same'' answered,
   )
 
   -- a line that is read behind nothing, with its line feed
-  pub read-answered : (left left' : Option (List ℕ)) {line before cut : List ℕ} {m k n : ℕ} (bare : List ℕ) {slots slots' : List (Option S)} {coins coins' : ℕ} {a : Reply} →
+  pub read-answered : (left left' : Option (List ℕ)) {line before cut : List ℕ} {m k n : ℕ} (bare : List ℕ) {slots slots' : List (Option S)} {coins coins' : ℕ}
+      {a : Reply} →
       m ≡ length line → m ≡ k + n → k ≡ 0 → (n ≡ 0 → ⊥) → IfSome left (λ xs. line ≡ before ++ take_through 10 xs) → before ≡ [] → DropsThrough left left' 10 →
       bare ≡ strip_last 10 cut → cut ≡ line → Answers behaviour (request_of grammar (words bare)) (words bare) slots coins a slots' coins' →
       AnswersLine left left' slots coins slots' coins' a
   read-answered left left' {line} bare long more none some bytes nothing rest stripped whole answered = (
     bare,
-    takes_read line bare left left' (some-read long more none some) (subst (λ (front : List ℕ). IfSome left (λ xs. line ≡ front ++ take_through 10 xs)) nothing bytes) rest
+    takes_read line bare left left' (some-read long more none some) (subst (λ (front : List ℕ). IfSome left (λ xs. line ≡ front ++ take_through 10 xs)) nothing
+        bytes) rest
         (stripped ∙ ap (strip_last 10) whole),
     answered,
   )
@@ -103,10 +107,13 @@ module _ {S C : Type 0} (grammar : Grammar C) (behaviour : Behaviour S ℤ C) wh
         ends-broken grammar behaviour (running-line grammar behaviour run answered.0 a ok answered.1 answered.2 out) ended e is
 
   -- the same for a line that is read after what waits went out
-  module _ {T E T' E' T'' E'' X : Type 0} {r : Result T E} {r' : Result T' E'} {r'' : Result T'' E''} {t w0 w w' w'' : Option (List ℕ)} {waiting waiting' waiting'' : List ℕ}
-      {slots slots' slots'' : List (Option S)} {coins coins' coins'' : ℕ} (remaining : X → Option (List ℕ)) (x x' x'' : X) (slots''' : List (Option S)) (coins''' : ℕ)
+  module _ {T E T' E' T'' E'' X : Type 0} {r : Result T E} {r' : Result T' E'} {r'' : Result T'' E''} {t w0 w w' w'' : Option (List ℕ)}
+      {waiting waiting' waiting'' : List ℕ}
+      {slots slots' slots'' : List (Option S)} {coins coins' coins'' : ℕ} (remaining : X → Option (List ℕ)) (x x' x'' : X) (slots''' : List (Option S))
+      (coins''' : ℕ)
       {found : Option Reply} (a : Reply)
-      (run : Running grammar behaviour r t (remaining x) w0 w waiting slots coins slots' coins') (kept : (slots'' ≡ slots') × (coins'' ≡ coins') × (x' ≡ x)) (ok : IsOk r)
+      (run : Running grammar behaviour r t (remaining x) w0 w waiting slots coins slots' coins') (kept : (slots'' ≡ slots') × (coins'' ≡ coins') × (x' ≡ x))
+      (ok : IsOk r)
       (flushed : Writes r' w w' waiting []) (nothing : waiting' ≡ []) (ok' : IsOk r') (is : found ≡ Some a)
       (answered : IfSome found (AnswersLine (remaining x') (remaining x'') slots'' coins'' slots''' coins'''))
       (out : Writes r'' w' w'' (waiting' ++ (answer_text a ++ (10 ∷ []))) waiting'') where
@@ -123,7 +130,8 @@ module _ {S C : Type 0} (grammar : Grammar C) (behaviour : Behaviour S ℤ C) wh
   -- what waits goes out, and nothing was read before
   module _ {T E T' E' X : Type 0} {r : Result T E} {r' : Result T' E'} {t w0 w w' : Option (List ℕ)} {waiting : List ℕ}
       {slots slots' slots'' : List (Option S)} {coins coins' coins'' : ℕ} (remaining : X → Option (List ℕ)) (x x' : X)
-      (run : Running grammar behaviour r t (remaining x) w0 w waiting slots coins slots' coins') (kept : (slots'' ≡ slots') × (coins'' ≡ coins') × (x' ≡ x)) (ok : IsOk r)
+      (run : Running grammar behaviour r t (remaining x) w0 w waiting slots coins slots' coins') (kept : (slots'' ≡ slots') × (coins'' ≡ coins') × (x' ≡ x))
+      (ok : IsOk r)
       (flushed : Writes r' w w' waiting []) where
     -- the output fails
     pub flush-unwritten : (ended : Result Unit Fault) (e : _) → IsErrAnd ended (λ f. f ≡ Output e) → IfSome t (Ends grammar behaviour slots coins ended w0 w')

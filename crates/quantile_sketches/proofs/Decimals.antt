@@ -47,7 +47,8 @@ before : (start : ℕ) → 0 < start → start - 1 + 1 ≡ start
 before start some = omega (arith, some)
 
 -- the text of a number and what follows it, from the place of its first digit or of its minus on
-module _ (z z' : ℤ) {n start' size : ℕ} {room' : List ℕ} (start : ℕ) (room rest : List ℕ) (same : z' ≡ z) (abs : n ≡ nat_abs z') (digits : drop start room ≡ decimal n ++ rest)
+module _ (z z' : ℤ) {n start' size : ℕ} {room' : List ℕ} (start : ℕ) (room rest : List ℕ) (same : z' ≡ z) (abs : n ≡ nat_abs z')
+    (digits : drop start room ≡ decimal n ++ rest)
     (long : length room ≡ size) where
   pub with_minus : lt_z z' (pos 0) ≡ true → 0 < start → start < size → room' ≡ set room (start - 1) 45 → start' ≡ start - 1 →
       take (size - start') (drop start' room') ≡ signed_decimal z ++ rest

@@ -50,7 +50,8 @@ module _ (ws ws' : List (List ℕ)) (x : ℤ) (is : Some x ≡ option_and_then i
       sym (ap (λ (vs : List (List ℕ)). rise (items_of vs)) same) ∙ (ap rise read-first ∙ ap (λ (z : ℤ). rise_from z (items_of ws')) (sym read-back))
 
   -- and after one more
-  module _ (z : ℤ) {all b : Bool} {o : Ordering} (held : all ≡ rise_from z (items_of ws)) (compared : o ≡ int_cmp z (to_z w64 (of_z w64 x))) (below : b ≡ is_lt o) where
+  module _ (z : ℤ) {all b : Bool} {o : Ordering} (held : all ≡ rise_from z (items_of ws)) (compared : o ≡ int_cmp z (to_z w64 (of_z w64 x)))
+      (below : b ≡ is_lt o) where
     with-next : all ≡ (is_lt (int_cmp z x) && rise_from x (items_of ws'))
     with-next = held ∙ ap (rise_from z) read-first
 
@@ -80,7 +81,8 @@ rise-all ws z held none = sym (held ∙ ap (rise_from z) (read-none ws none))
 
 -- an error for arguments that aren't good, and one for good ones
 module _ {T : Type 0} (r : Result T ErrorKind) where
-  pub refuses-bad : {x : ErrorKind} {told good : Bool} → IsErrAnd r (λ e. e ≡ x) → x ≡ InvalidArgument → told ≡ good → (told ≡ true → false ≡ true) → IfErr r (IsRefusal good)
+  pub refuses-bad : {x : ErrorKind} {told good : Bool} → IsErrAnd r (λ e. e ≡ x) → x ≡ InvalidArgument → told ≡ good → (told ≡ true → false ≡ true) →
+      IfErr r (IsRefusal good)
   refuses-bad fails is same bad = at_error r _ fails (λ e f. inl (f ∙ is, false_from_ne_true _ (λ h. false≢true (bad (same ∙ h)))))
 
   pub refuses-good : {good : Bool} → IsErrAnd r (λ e. e ≡ OutOfMemory) → good ≡ true → IfErr r (IsRefusal good)

@@ -17,7 +17,8 @@ asks_for_update grammar s i slot item is_slot is_item = rw (is_slot, is_item) re
 
 -- a verb and a slot are read one after the other
 pub asked-by : {C : Type 0} (grammar : Grammar C) (ws ws' : List (List ℕ)) {ws'' : List (List ℕ)} (verb : List ℕ) {slot : ℕ} {r : Option (Request C)} →
-    r ≡ parse_asked grammar verb slot ws'' → Some verb ≡ slice_get ws 0 → ws' ≡ drop 1 ws → Some slot ≡ option_and_then parse_slot (slice_get ws' 0) → ws'' ≡ drop 1 ws' →
+    r ≡ parse_asked grammar verb slot ws'' → Some verb ≡ slice_get ws 0 → ws' ≡ drop 1 ws → Some slot ≡ option_and_then parse_slot (slice_get ws' 0) →
+    ws'' ≡ drop 1 ws' →
     r ≡ request_of grammar ws
 asked-by grammar [] ws' verb asks first rest second last = absurd cc
 asked-by grammar (w ∷ ws) ws' {ws''} verb {slot} asks first rest second last =

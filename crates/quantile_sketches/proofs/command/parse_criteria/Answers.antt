@@ -17,12 +17,14 @@ returns-then-is c = record {
 
 pub returns-then-is-2 : goal.returns-then-is-2
 returns-then-is-2 c = record {
-  value = word-read parse_criteria c.args.words.now c.in_ok-word.ensures.word (second-name Inclusive Exclusive _ c.is.ensures c.if-is.false c.is-2.ensures c.if-is-2.true);
+  value = word-read parse_criteria c.args.words.now c.in_ok-word.ensures.word
+      (second-name Inclusive Exclusive _ c.is.ensures c.if-is.false c.is-2.ensures c.if-is-2.true);
   rest = c.in_ok-word.ensures.rest;
 }
 
 pub returns-else-is-2 : goal.returns-else-is-2
 returns-else-is-2 c = record {
-  value = word-read parse_criteria c.args.words.now c.in_ok-word.ensures.word (no-name Inclusive Exclusive _ c.is.ensures c.if-is.false c.is-2.ensures c.if-is-2.false);
+  value = word-read parse_criteria c.args.words.now c.in_ok-word.ensures.word
+      (no-name Inclusive Exclusive _ c.is.ensures c.if-is.false c.is-2.ensures c.if-is-2.false);
   rest = c.in_ok-word.ensures.rest;
 }

@@ -5,7 +5,8 @@ use Rattle.quantile_sketches.proofs.lines.answer_read.Goals as goal
 pub returns : goal.returns
 returns g c = record {
   answered = read-answered g.S.Config.Config.grammar g.S.Family.behaviour _ _ c.without_line_feed-bare.result.now c.read_until.new.buf.ok.0
-      c.in_ok-read_until.ensures.ok c.clear.ensures.len c.if-branch-eq0.false c.in_ok-read_until.ensures.bytes c.clear.ensures.items c.in_ok-read_until.ensures.rest
+      c.in_ok-read_until.ensures.ok c.clear.ensures.len c.if-branch-eq0.false c.in_ok-read_until.ensures.bytes c.clear.ensures.items
+      c.in_ok-read_until.ensures.rest
       c.without_line_feed-bare.ensures c.as_slice.ensures.value c.answer.ensures;
   end = some-none;
 }

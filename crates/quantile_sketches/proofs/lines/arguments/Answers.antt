@@ -25,14 +25,17 @@ no-seed f g a b (Some n) none = absurd cc
 module _ {words : List (List ℕ)} (family seed read : List ℕ) (are : words ≡ family ∷ seed ∷ []) (same : read ≡ seed) where
   asked-kll : (n : ℕ) → Some n ≡ unsigned_of 64 read → family ≡ codes "kll" → Some (false, n) ≡ arguments_of words
   asked-kll n is kll =
-      ap (λ (o : Option ℕ). option_map (λ n. (false, n)) o) (is ∙ ap (unsigned_of 64) same) ∙ sym (ap arguments_of (are ∙ ap (λ (f : List ℕ). f ∷ seed ∷ []) kll))
+      ap (λ (o : Option ℕ). option_map (λ n. (false, n)) o) (is ∙ ap (unsigned_of 64) same) ∙ sym
+      (ap arguments_of (are ∙ ap (λ (f : List ℕ). f ∷ seed ∷ []) kll))
 
   asked-req : (n : ℕ) → Some n ≡ unsigned_of 64 read → family ≡ codes "req" → Some (true, n) ≡ arguments_of words
   asked-req n is req =
-      ap (λ (o : Option ℕ). option_map (λ n. (true, n)) o) (is ∙ ap (unsigned_of 64) same) ∙ sym (ap arguments_of (are ∙ ap (λ (f : List ℕ). f ∷ seed ∷ []) req))
+      ap (λ (o : Option ℕ). option_map (λ n. (true, n)) o) (is ∙ ap (unsigned_of 64) same) ∙ sym
+      (ap arguments_of (are ∙ ap (λ (f : List ℕ). f ∷ seed ∷ []) req))
 
   asked-none : {r : Option (Bool × ℕ)} → r ≡ None → None ≡ unsigned_of 64 read → r ≡ arguments_of words
-  asked-none e none = e ∙ (no-seed _ _ (bytes_eq family (codes "kll")) (bytes_eq family (codes "req")) _ (none ∙ ap (unsigned_of 64) same) ∙ sym (ap arguments_of are))
+  asked-none e none =
+      e ∙ (no-seed _ _ (bytes_eq family (codes "kll")) (bytes_eq family (codes "req")) _ (none ∙ ap (unsigned_of 64) same) ∙ sym (ap arguments_of are))
 
   asked-other : (family ≡ codes "kll" → ⊥) → (family ≡ codes "req" → ⊥) → None ≡ arguments_of words
   asked-other not_kll not_req =

@@ -11,7 +11,8 @@ returns-then-is_ok g c =
 
 pub returns : goal.returns
 returns g c =
-    subst (λ (xs : List ℕ). Writes c.write_through.result (g.W.Write.contents c.args.output.now) (g.W.Write.contents c.write_through.new.output) (xs ++ c.args.bytes.now)
+    subst (λ (xs : List ℕ). Writes c.write_through.result (g.W.Write.contents c.args.output.now) (g.W.Write.contents c.write_through.new.output)
+    (xs ++ c.args.bytes.now)
     c.write_through.new.waiting.items)
     (elim c.else-is_room.branch [
       | else-is_room-via-then-is_room+else-is_ok w ↦

@@ -19,7 +19,8 @@ overflow_add-number c =
 
 pub loop-len-preserved : goal.loop-len-preserved
 loop-len-preserved c =
-    let more = one_read_more c.args.text.now c.loop-len.len c.loop-len.number c.min.result c.loop-len-test.true c.min.ensures c.if-is_ascii_digit.ensures.cases.0
+    let more = one_read_more c.args.text.now c.loop-len.len c.loop-len.number c.min.result c.loop-len-test.true c.min.ensures
+    c.if-is_ascii_digit.ensures.cases.0
     c.if-is_ascii_digit.ensures.cases.1 c.loop-len.invariant.digits c.loop-len.invariant.value c.loop-len.invariant.below in
     record { within = more.0; few = more.1; below = more.2; digits = more.3; value = more.4 }
 

@@ -51,7 +51,8 @@ overflow_sub-result c =
 pub overflow_add-result : goal.overflow_add-result
 overflow_add-result c =
     place-fits c.args.text.now _ c.in_ok-item.len (item-within _ _ _ _ c.in_ok-item.ensures)
-    (le_trans (behind-shorter 1 _) (le_trans (behind-shorter c.in_ok-slot.slot_len _) (behind-shorter 7 c.args.text.now))) (few (past.overflow_add-result c).Start)
+    (le_trans (behind-shorter 1 _) (le_trans (behind-shorter c.in_ok-slot.slot_len _) (behind-shorter 7 c.args.text.now)))
+    (few (past.overflow_add-result c).Start)
 
 pub slice_bounds-numbers-count : goal.slice_bounds-numbers-count
 slice_bounds-numbers-count c = grind arith

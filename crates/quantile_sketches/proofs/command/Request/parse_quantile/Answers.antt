@@ -19,7 +19,8 @@ pub returns : goal.returns
 returns g c =
     then-read parse_number _ c.args.words.now c.number.new.self c.in_ok-weight.weight c.in_ok-weight.ensures.value c.in_ok-weight.ensures.rest
     (then-read parse_number _ c.number.new.self c.number-2.new.self c.in_ok-total.total c.in_ok-total.ensures.value c.in_ok-total.ensures.rest
-    (then-read parse_criteria _ c.number-2.new.self c.parse_criteria.new.words c.in_ok-criteria.criteria c.in_ok-criteria.ensures.value c.in_ok-criteria.ensures.rest
+    (then-read parse_criteria _ c.number-2.new.self c.parse_criteria.new.words c.in_ok-criteria.criteria c.in_ok-criteria.ensures.value
+    c.in_ok-criteria.ensures.rest
     c.at_end.ensures))
 
 pub returns-in_err-weight : goal.returns-in_err-weight

@@ -16,7 +16,8 @@ returns-in_err-criteria g c =
 pub returns : goal.returns
 returns g c =
     then-read item_of _ c.args.words.now c.item.new.self c.in_ok-item.item c.in_ok-item.ensures.value c.in_ok-item.ensures.rest
-    (then-read parse_criteria _ c.item.new.self c.parse_criteria.new.words c.in_ok-criteria.criteria c.in_ok-criteria.ensures.value c.in_ok-criteria.ensures.rest
+    (then-read parse_criteria _ c.item.new.self c.parse_criteria.new.words c.in_ok-criteria.criteria c.in_ok-criteria.ensures.value
+    c.in_ok-criteria.ensures.rest
     (c.at_end.ensures ∙ ap (λ (z : ℤ). at_end {A = Request g.row.C.Denot} (Rank c.args.slot z c.in_ok-criteria.criteria) c.parse_criteria.new.words)
     (read-back c.args.words.now c.item.new.self c.in_ok-item.item c.in_ok-item.ensures.value c.in_ok-item.ensures.rest)))
 

@@ -9,7 +9,8 @@ pub returns-in_default : goal.returns-in_default
 returns-in_default c = rise-none (words c.self.inside.rest.now) c.args.self.now c.self.view_is c.in_default.ensures.value
 
 pub loop-item-init : goal.loop-item-init
-loop-item-init c = rise-first (words c.self.inside.rest.now) c.item.new.self c.in-Some.last c.in-Some.ensures.value c.in-Some.ensures.rest c.args.self.now c.self.view_is
+loop-item-init c =
+    rise-first (words c.self.inside.rest.now) c.item.new.self c.in-Some.last c.in-Some.ensures.value c.in-Some.ensures.rest c.args.self.now c.self.view_is
 
 pub loop-item-preserved : goal.loop-item-preserved
 loop-item-preserved c =
