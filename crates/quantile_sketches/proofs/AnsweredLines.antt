@@ -47,7 +47,7 @@ done = Ok tt
 
 module _ {S C : Type 0} (grammar : Grammar C) (behaviour : Behaviour S ℤ C) where
   -- a line is taken from what is left, and has this answer
-  abbrev pub AnswersLine : Option (List ℕ) → Option (List ℕ) → List (Option S) → ℕ → List (Option S) → ℕ → Reply → Type 0
+  abbrev AnswersLine : Option (List ℕ) → Option (List ℕ) → List (Option S) → ℕ → List (Option S) → ℕ → Reply → Type 0
   AnswersLine left left' slots coins slots' coins' a =
       (line : List ℕ) × TakesLine left line left' × Answers behaviour (request_of grammar (words line)) (words line) slots coins a slots' coins'
 

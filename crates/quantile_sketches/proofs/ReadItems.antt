@@ -16,7 +16,7 @@ use mir.Val.{to_z, of_z}
 
 -- the first word is an item
 module _ (ws ws' : List (List ℕ)) (x : ℤ) (is : Some x ≡ option_and_then item_of (slice_get ws 0)) (rest : ws' ≡ drop 1 ws) where
-  pub read-first : items_of ws ≡ x ∷ items_of ws'
+  read-first : items_of ws ≡ x ∷ items_of ws'
   read-first = go ws is rest
     where
       go : (ws : List (List ℕ)) → Some x ≡ option_and_then item_of (slice_get ws 0) → ws' ≡ drop 1 ws → items_of ws ≡ x ∷ items_of ws'
@@ -66,7 +66,7 @@ module _ (ws ws' : List (List ℕ)) (x : ℤ) (is : Some x ≡ option_and_then i
     rise-off is = sym (with-next ∙ ap (λ (c : Bool). c && rise_from x (items_of ws')) (lies-below ∙ is))
 
 -- the first word is no item, or there is none
-pub read-none : (ws : List (List ℕ)) → None ≡ option_and_then item_of (slice_get ws 0) → items_of ws ≡ []
+read-none : (ws : List (List ℕ)) → None ≡ option_and_then item_of (slice_get ws 0) → items_of ws ≡ []
 read-none [] none = refl
 read-none (w ∷ ws) none = ap (λ (o : Option ℤ). onto_items o (items_of ws)) (sym none)
 
