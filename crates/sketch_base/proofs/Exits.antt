@@ -1,5 +1,5 @@
 -- What holds where a call returns that has failed, or that hasn't.
-use Rattle.std.proofs.Common.{OnOk, IfOk, ◌≡◌, ◌-◌, ◌∙◌, false, Result, Ok, Err, IfErr, IsErr, IsErrAnd, is_ok, refl, sym, ap}
+use Rattle.std.proofs.Common.{OnOk, IfOk, ◌≡◌, ◌∙◌, false, Result, Ok, Err, IfErr, IsErr, IsErrAnd, is_ok, refl, sym, ap}
 use Rattle.sketch_base.specs.declared.error.ErrorKind.{ErrorKind}
 use Rattle.sketch_base.specs.declared.error.ErrorKind.TheVariants.{InvalidArgument, InvalidData, OutOfMemory}
 
@@ -39,7 +39,7 @@ module _ {T E : Type 0} where
   error_or x (Ok y) = x
   error_or x (Err e) = e
 
-  error_is : {x y : E} {r : Result T E} → r ≡ Err x → r ≡ Err y → x ≡ y
+  pub error_is : {x y : E} {r : Result T E} → r ≡ Err x → r ≡ Err y → x ≡ y
   error_is {x} e f = ap (error_or x) (sym e ∙ f)
 
   pub not_ok : (r : Result T E) → IsErr r → is_ok r ≡ false

@@ -11,7 +11,8 @@ use Rattle.sketch_req.specs.Sketch.{Req, IsSound, IsUpdated, coins_of_update}
 use Rattle.sketch_req.specs.Updates.{AreUpdated, IsDrawnFrom, coins_of_updates}
 use Rattle.std.specs.Cmp.{IsTotalOrder}
 use Rattle.sketch_req.proofs.MadeSketches.{none_taken}
-use Rattle.sketch_req.proofs.Refusals.{accepted_alone, no_memory, no_refusal, not_apart, not_both, not_full_both, refused_as}
+use Rattle.sketch_base.proofs.RefusedCalls.{accepted_alone, no_memory, no_refusal, refused_as}
+use Rattle.sketch_req.proofs.Refusals.{not_apart, not_both, not_full_both}
 use Rattle.sketch_req.proofs.UpdatesInTurn.{updates_none}
 
 -- ---- what is refused

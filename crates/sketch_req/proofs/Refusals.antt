@@ -7,23 +7,10 @@ use Rattle.sketch_base.specs.Answered.{IsRefusedUnless}
 use Rattle.sketch_base.specs.Views.{IsThere}
 use Rattle.sketch_base.specs.declared.error.ErrorKind.{ErrorKind}
 use Rattle.sketch_base.specs.declared.error.ErrorKind.TheVariants.{InvalidArgument, InvalidData, OutOfMemory}
-use Rattle.sketch_base.proofs.Exits.{accepted, memory_not_argument, memory_not_data, no_error, other_kind, with_error}
+use Rattle.sketch_base.proofs.Exits.{memory_not_argument, memory_not_data, no_error}
 use Rattle.sketch_req.specs.Held.{Held}
 use Rattle.sketch_req.specs.Sketch.{sketch_of}
 use Rattle.sketch_req.specs.Updates.{IsDrawnFrom}
-
--- a call that runs out of memory returns that and no other error
-pub no_memory : {T P : Type 0} {r : Result T ErrorKind} → r ≡ Err OutOfMemory → (P → ⊥) → (r ≡ Err InvalidArgument → P) × (P → r ≡ Err InvalidArgument)
-no_memory e never = (λ is. absurd (other_kind e is), λ p. absurd (never p))
-
-pub no_refusal : {T : Type 0} {r : Result T ErrorKind} (P : Type 0) → r ≡ Err OutOfMemory → r ≡ Err InvalidArgument → P
-no_refusal P e f = absurd (other_kind e f)
-
-pub accepted_alone : {T E : Type 0} {x : T} {e : E} (P : Type 0) → Ok x ≡ Err e → P
-accepted_alone P is = absurd (no_error is)
-
-pub refused_as : {T E P : Type 0} {r : Result T E} {x : E} → r ≡ Err x → P → (r ≡ Err x → P) × (P → r ≡ Err x)
-refused_as e p = (λ _. p, λ _. e)
 
 -- levels that are kept make the same sketch
 pub same_sketch : {A : Type 0} (n : ℕ) (least greatest : Option A) {held old : Held A} → held ≡ old →
@@ -65,13 +52,6 @@ pub not_full_both : {n r : ℕ} → (n ≡ 2 ^ 64 - 1) ⊎ (r ≡ 4294967295) �
 not_full_both (inl all) light few = omega (arith, all, light)
 not_full_both (inr most) light few = omega (arith, most, few)
 
--- another fits where the weight isn't the greatest one
-pub one_fits : {n : ℕ} → n < 2 ^ 64 → (n ≡ 2 ^ 64 - 1 → ⊥) → n + 1 < 2 ^ 64
-one_fits fits not_all = omega (arith, fits, not_all)
-
-pub below_greatest : {n : ℕ} → n < 2 ^ 64 → (n ≡ 2 ^ 64 - 1 → ⊥) → n < 2 ^ 64 - 1
-below_greatest fits not_all = omega (arith, fits, not_all)
-
 pub next_fits : {n : ℕ} → n < 2 ^ 64 - 1 → n + 1 < 2 ^ 64
 next_fits small = omega (arith, small)
 
@@ -90,18 +70,6 @@ pub not_apart : {A : Type 0} {a b : A} (x y : ℕ) → (a ≢ b) ⊎ ((2 ^ 64 �
 not_apart x y (inl other) same light few = other same
 not_apart x y (inr (inl heavy)) same light few = omega (arith, heavy, light)
 not_apart x y (inr (inr many)) same light few = omega (arith, many, few)
-
-pub some_of : {n : ℕ} → (n ≡ 0 → ⊥) → 0 < n
-some_of not_none = omega (arith, not_none)
-
-pub none_not : {n m : ℕ} → n ≡ m → n ≡ 0 → 0 < m → ⊥
-none_not e none some = omega (arith, e, none, some)
-
-pub some_now : {n m : ℕ} → n ≡ m → (n ≡ 0 → ⊥) → 0 < m
-some_now e not_none = omega (arith, e, not_none)
-
-pub not_heavy : {n : ℕ} → n < 2 ^ 64 → 2 ^ 64 ≤ n → ⊥
-not_heavy light heavy = omega (arith, light, heavy)
 
 -- an error that says out of memory says nothing of the data or the arguments
 pub no_refusal_of : {T : Type 0} (P : Type 0) (r : Result T ErrorKind) → IfErr r (λ e. e ≡ OutOfMemory) → IfErr r (λ e. e ≡ InvalidData → P)
@@ -161,9 +129,6 @@ both_fit e f fits = omega (arith, e, f, fits)
 pub no_weight : {text behind : List ℕ} (n : ℕ) → length text < 8 → text ≡ to_le_bytes w64 n ++ behind → ⊥
 no_weight n short e = omega (arith, short, ap length e)
 
-pub not_between : {n m : ℕ} → n < m → m ≤ n → ⊥
-not_between low high = omega (arith, low, high)
-
 pub none_counted : {n : ℕ} → n ≤ 0 → 1 ≤ n → ⊥
 none_counted none some = omega (arith, none, some)
 
@@ -194,16 +159,6 @@ pub none_there : {A : Type 0} (extreme : Option A) {n : ℕ} → IsThere extreme
 none_there None there none = refl
 none_there (Some x) there none = absurd (omega (arith, there, none))
 
-pub none_among : {n m : ℕ} → n ≡ m → n ≡ 0 → (false ≡ true → 0 < m) × (0 < m → false ≡ true)
-none_among e none = (λ is. absurd (false≢true is), λ some. absurd (none_not e none some))
-
-pub some_among : {n : ℕ} → 0 < n → (true ≡ true → 0 < n) × (0 < n → true ≡ true)
-some_among some = (λ _. some, λ _. refl)
-
--- an answer is no error, whatever number of entries there is
-pub fit_answer : {V P : Type 0} {x : V} → P → IsRefusedUnless P 0 (Ok x)
-fit_answer fit = (accepted (λ unfit. unfit fit), tt)
-
 -- an answer made of another one
 pub answered_too : {V W P : Type 0} {x : V} {y : W} → (Ok x ≡ Err InvalidArgument ↔ ¬ P) → IsRefusedUnless P 0 (Ok y)
 answered_too told = ((λ is. absurd (no_error is), λ no. absurd (no_error (told.1 no))), tt)
@@ -211,8 +166,3 @@ answered_too told = ((λ is. absurd (no_error is), λ no. absurd (no_error (told
 pub refusal_passed : {V P : Type 0} {r : Result V ErrorKind} {x : ErrorKind} (n : ℕ) → r ≡ Err x → IsRefusedUnless {V = V} P n (Err x) → IsRefusedUnless P n r
 refusal_passed n e told = rw e told
 
-pub unfit_refused : {V P : Type 0} {r : Result V ErrorKind} (n : ℕ) → r ≡ Err InvalidArgument → ¬ P → IsRefusedUnless P n r
-unfit_refused n e unfit = (refused_as e unfit, with_error _ e (λ fit. absurd (unfit fit)))
-
-pub fit_short : {V P : Type 0} {r : Result V ErrorKind} {n : ℕ} → r ≡ Err OutOfMemory → P → 0 < n → IsRefusedUnless P n r
-fit_short e fit some = (no_memory e (λ unfit. unfit fit), with_error _ e (λ _. (refl, some)))

@@ -11,7 +11,8 @@ use Rattle.sketch_kll.specs.Levels.{weight}
 use Rattle.sketch_kll.specs.Sketch.{IsSound, Kll, newer_or, sketch_of}
 use Rattle.sketch_kll.specs.Updates.{AreUpdated, coins_of_updates}
 use Rattle.sketch_kll.proofs.MergedSketches.{kept_levels}
-use Rattle.sketch_kll.proofs.SketchCalls.{no_memory, not_heavy, refused_as, still_seen, still_sound}
+use Rattle.sketch_base.proofs.RefusedCalls.{no_memory, not_heavy, refused_as}
+use Rattle.sketch_kll.proofs.SketchCalls.{still_seen, still_sound}
 use Rattle.sketch_kll.proofs.CompactedSizes.{length-same}
 use Rattle.sketch_kll.proofs.UpdatesInTurn.{UpdatesFields, updates_fields, updates_none, updates_seen}
 use Rattle.sketch_kll.proofs.sketch.KllSketch.update_all.Given.{Over}

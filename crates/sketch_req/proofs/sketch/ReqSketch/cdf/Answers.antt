@@ -9,7 +9,7 @@ use Rattle.sketch_req.specs.Actions.{bag_of}
 use Rattle.sketch_req.specs.Sketch.{Req}
 use Rattle.sketch_req.specs.declared.sketch.ReqSketch.TheInside.{Inside}
 use Rattle.sketch_base.proofs.Exits.{no_found, returned}
-use Rattle.sketch_req.proofs.Refusals.{fit_answer, fit_short, none_among, some_among, some_now, unfit_refused}
+use Rattle.sketch_base.proofs.RefusedCalls.{fit_answer, fit_short, none_among, some_among, some_now, unfit_refused}
 use Rattle.sketch_req.proofs.sketch.ReqSketch.cdf.Given.{Over}
 use Rattle.sketch_req.proofs.sketch.ReqSketch.cdf.Goals.{After-n-total, In_ok-push-2}
 use Rattle.sketch_req.proofs.sketch.ReqSketch.cdf.Goals as goal

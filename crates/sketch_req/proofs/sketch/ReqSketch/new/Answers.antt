@@ -8,7 +8,8 @@ use Rattle.sketch_req.specs.Walk.{AreLevels}
 use Rattle.sketch_req.proofs.Held.{first-levels}
 use Rattle.sketch_req.proofs.MadeSketches.{empty_sound}
 use Rattle.sketch_base.proofs.Exits.{accepted, no_found, returned, with_error}
-use Rattle.sketch_req.proofs.Refusals.{no_memory, one_counted, refused_as, same_sketch}
+use Rattle.sketch_base.proofs.RefusedCalls.{no_memory, refused_as}
+use Rattle.sketch_req.proofs.Refusals.{one_counted, same_sketch}
 use Rattle.sketch_req.proofs.sketch.ReqSketch.new.Given.{Over}
 use Rattle.sketch_req.proofs.sketch.ReqSketch.new.Goals.{After-from_levels, After-new-levels}
 use Rattle.sketch_req.proofs.sketch.ReqSketch.new.Goals as goal

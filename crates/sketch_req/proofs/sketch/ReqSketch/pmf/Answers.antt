@@ -5,7 +5,8 @@ use Rattle.sketch_base.proofs.Distributions.{differences-left, ranks-sum}
 use Rattle.sketch_base.proofs.SketchViews.{length-expanded}
 use Rattle.sketch_req.specs.Actions.{bag_of}
 use Rattle.sketch_base.proofs.Exits.{no_error, no_found, returned}
-use Rattle.sketch_req.proofs.Refusals.{answered_too, refusal_passed, some_among}
+use Rattle.sketch_base.proofs.RefusedCalls.{some_among}
+use Rattle.sketch_req.proofs.Refusals.{answered_too, refusal_passed}
 use Rattle.sketch_req.proofs.sketch.ReqSketch.pmf.Goals as goal
 
 -- points that do not fail to increase do increase, since comparisons decide it

@@ -6,7 +6,7 @@ use Rattle.sketch_base.specs.Answered.{IsFoundAmong, IsRefusedUnless}
 use Rattle.sketch_base.specs.Queries.{IsFraction}
 use Rattle.sketch_base.proofs.Entries.{SameAnswer-trans}
 use Rattle.sketch_base.proofs.Exits.{no_found, returned}
-use Rattle.sketch_req.proofs.Refusals.{fit_answer, fit_short, some_among, some_of, unfit_refused}
+use Rattle.sketch_base.proofs.RefusedCalls.{fit_answer, fit_short, some_among, some_of, unfit_refused}
 use Rattle.sketch_req.proofs.sketch.ReqSketch.quantile.Goals as goal
 
 pub returns-in_err-check_fraction : goal.returns-in_err-check_fraction

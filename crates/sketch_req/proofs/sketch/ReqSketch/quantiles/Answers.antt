@@ -4,7 +4,7 @@ use Rattle.sketch_req.specs.Actions.{bag_of}
 use Rattle.sketch_base.specs.Answered.{IsFoundAmong, IsRefusedUnless}
 use Rattle.sketch_base.specs.Queries.{IsFraction}
 use Rattle.sketch_base.proofs.Exits.{no_found, returned}
-use Rattle.sketch_req.proofs.Refusals.{fit_short, some_of, unfit_refused}
+use Rattle.sketch_base.proofs.RefusedCalls.{fit_short, some_of, unfit_refused}
 use Rattle.sketch_req.proofs.sketch.ReqSketch.quantiles.Goals as goal
 
 pub returns-in_err-check_fractions : goal.returns-in_err-check_fractions

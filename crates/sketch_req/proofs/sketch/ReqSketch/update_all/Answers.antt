@@ -12,7 +12,8 @@ use Rattle.sketch_req.specs.Updates.{AreTakenInTurn, IsDrawnFrom, coins_of_updat
 use Rattle.sketch_req.proofs.KeptSketches.{still_seen, still_sound}
 use Rattle.sketch_req.proofs.MadeSketches.{updates_make}
 use Rattle.sketch_req.proofs.Outcomes.{AreDone, UpdatesEnd, updates_done, updates_failed, updates_of_none, updates_refused}
-use Rattle.sketch_req.proofs.Refusals.{items_fit, light_still, none_drawn, none_fit, some_of, too_heavy, weight_fits}
+use Rattle.sketch_base.proofs.RefusedCalls.{some_of}
+use Rattle.sketch_req.proofs.Refusals.{items_fit, light_still, none_drawn, none_fit, too_heavy, weight_fits}
 use Rattle.sketch_req.proofs.UpdatedLevels.{not-full}
 use Rattle.sketch_req.proofs.sketch.ReqSketch.update_all.Given.{Over}
 use Rattle.sketch_req.proofs.sketch.ReqSketch.update_all.Goals.{After-from_residual, After-set_if_some-2, In_err-take_all, In_ok-unless, Joined-least, then-not-is_full, else-not-is_full}

@@ -1,0 +1,62 @@
+-- Calls that are refused or aren't: what their clauses say, and the numbers that decide it.
+use Rattle.std.proofs.Common.{◌≡◌, ◌+◌, ◌-◌, ◌<◌, ◌≤◌, ◌^◌, ℕ, true, false, Result, Ok, Err, refl, arith}
+use Rattle.std.proofs.lemmas.Bool.{false≢true}
+use Rattle.sketch_base.specs.Answered.{IsRefusedUnless}
+use Rattle.sketch_base.specs.declared.error.ErrorKind.{ErrorKind}
+use Rattle.sketch_base.specs.declared.error.ErrorKind.TheVariants.{InvalidArgument, OutOfMemory}
+use Rattle.sketch_base.proofs.Exits.{accepted, no_error, other_kind, with_error}
+
+-- a call that runs out of memory returns that and no other error
+pub no_memory : {T P : Type 0} {r : Result T ErrorKind} → r ≡ Err OutOfMemory → (P → ⊥) → (r ≡ Err InvalidArgument → P) × (P → r ≡ Err InvalidArgument)
+no_memory e never = (λ is. absurd (other_kind e is), λ p. absurd (never p))
+
+pub no_refusal : {T : Type 0} {r : Result T ErrorKind} (P : Type 0) → r ≡ Err OutOfMemory → r ≡ Err InvalidArgument → P
+no_refusal P e is = absurd (other_kind e is)
+
+pub refused_as : {T E P : Type 0} {r : Result T E} {x : E} → r ≡ Err x → P → (r ≡ Err x → P) × (P → r ≡ Err x)
+refused_as e p = (λ _. p, λ _. e)
+
+pub accepted_alone : {T E : Type 0} {x : T} {e : E} (P : Type 0) → Ok x ≡ Err e → P
+accepted_alone P is = absurd (no_error is)
+
+-- ---- numbers
+
+pub some_of : {n : ℕ} → (n ≡ 0 → ⊥) → 0 < n
+some_of none = omega (arith, none)
+
+pub some_now : {n m : ℕ} → n ≡ m → (n ≡ 0 → ⊥) → 0 < m
+some_now e none = omega (arith, e, none)
+
+pub none_not : {n m : ℕ} → n ≡ m → n ≡ 0 → 0 < m → ⊥
+none_not e none some = omega (arith, e, none, some)
+
+-- another fits where the weight isn't the greatest one
+pub one_fits : {n : ℕ} → n < 2 ^ 64 → (n ≡ 2 ^ 64 - 1 → ⊥) → n + 1 < 2 ^ 64
+one_fits fits not_greatest = omega (arith, fits, not_greatest)
+
+pub below_greatest : {n : ℕ} → n < 2 ^ 64 → (n ≡ 2 ^ 64 - 1 → ⊥) → n < 2 ^ 64 - 1
+below_greatest fits not_greatest = omega (arith, fits, not_greatest)
+
+pub not_between : {n m : ℕ} → n < m → m ≤ n → ⊥
+not_between low high = omega (arith, low, high)
+
+pub not_heavy : {n : ℕ} → n < 2 ^ 64 → 2 ^ 64 ≤ n → ⊥
+not_heavy light heavy = omega (arith, light, heavy)
+
+-- ---- queries
+
+pub none_among : {n m : ℕ} → n ≡ m → n ≡ 0 → (false ≡ true → 0 < m) × (0 < m → false ≡ true)
+none_among e none = (λ is. absurd (false≢true is), λ some. absurd (none_not e none some))
+
+pub some_among : {n : ℕ} → 0 < n → (true ≡ true → 0 < n) × (0 < n → true ≡ true)
+some_among some = (λ _. some, λ _. refl)
+
+-- an answer is no error, whatever number of entries there is
+pub fit_answer : {V P : Type 0} {x : V} → P → IsRefusedUnless P 0 (Ok x)
+fit_answer fit = (accepted (λ unfit. unfit fit), tt)
+
+pub unfit_refused : {V P : Type 0} {r : Result V ErrorKind} (n : ℕ) → r ≡ Err InvalidArgument → ¬ P → IsRefusedUnless P n r
+unfit_refused n e unfit = (refused_as e unfit, with_error _ e (λ fit. absurd (unfit fit)))
+
+pub fit_short : {V P : Type 0} {r : Result V ErrorKind} {n : ℕ} → r ≡ Err OutOfMemory → P → 0 < n → IsRefusedUnless P n r
+fit_short e fit some = (no_memory e (λ unfit. unfit fit), with_error _ e (λ _. (refl, some)))
