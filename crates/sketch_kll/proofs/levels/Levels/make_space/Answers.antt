@@ -1,4 +1,4 @@
-use Rattle.std.proofs.Common.{◌≡◌, ℕ, ◌+◌, ◌-◌, Bool, true, false, ◌&&◌, ◌==◌, cond, List, length, map, drop, reverse, refl, sym, ap, ◌∙◌, arith, le-leb}
+use Rattle.std.proofs.Common.{◌≡◌, ℕ, ◌+◌, ◌-◌, Bool, true, false, ◌&&◌, ◌==◌, cond, List, length, map, drop, reverse, refl, sym, ap, ◌∙◌, arith, le-leb, ◌≤◌, ◌<◌, le_refl}
 use Rattle.std.proofs.lemmas.Bool.{lt-leb}
 use Rattle.sketch_kll.specs.Capacity.{total_of}
 use Rattle.sketch_kll.specs.Levels.{retained, compacted, SameLevels}
@@ -24,9 +24,18 @@ held g c = retained-put (put g c) c.args.self.now.levels ∙ ap (λ (n : ℕ). r
 total : (g : _) (c : After-free g) → total_of c.args.self.now.k 8 (length (put_all (put g c) c.args.self.now.levels)) ≡ total_of c.args.self.now.k 8 (length c.args.self.now.levels)
 total g c = ap (total_of c.args.self.now.k 8) (length-put (put g c) c.args.self.now.levels c.requires.some)
 
-pub returns-then-taken-free-clause-space : goal.returns-then-taken-free-clause-space
-returns-then-taken-free-clause-space g c =
-    let before = (past.returns-then-taken-free-clause-space g c).After-free in
+fewer_still : (items : ℕ) {mid all now : ℕ} → mid + items ≡ all → now ≤ mid → now + items ≤ all
+fewer_still items whole fewer = omega (arith, whole, fewer)
+
+same_room : {old mid now : ℕ} → mid ≡ old → mid ≤ now → old ≤ now
+same_room same more = omega (arith, same, more)
+
+spare_still : {old n room now : ℕ} → n ≡ old → now ≡ room → old + 1 < room → n + 1 < now
+spare_still count same spare = omega (arith, count, same, spare)
+
+pub returns-then-taken-free : goal.returns-then-taken-free
+returns-then-taken-free g c =
+    let before = (past.returns-then-taken-free g c).After-free in
     let s = c.args.self.now in
     let new : List g.row.T.Denot = put g before in
     let n : length new ≡ c.args.taken = length-last c.args.items.now.items c.args.taken c.requires.within in
@@ -44,25 +53,39 @@ returns-then-taken-free-clause-space g c =
     let last : List g.row.T.Denot = reverse (drop (length rest - ready.left) rest) in
     let end : SameLevels cmp (put_all last mid) (put_all last c.compact.new.self.levels) = SameLevels-put_all cmp g.met.T.Ord.total last mid c.compact.new.self.levels c.compact.ensures.levels in
     record {
-      left = ready.left;
-      are_left = ready.are_left;
-      same = rw (with_room_full cmp s.k level flag coin (needs_sorting flag level) (put_all new s.levels) full lowest refl) (SameLevels-trans cmp g.met.T.Ord.total _ _ _ (ready.same coin) end);
-      source_is = c.compact.ensures.coins ∙ ap (λ (b : Bool). cond b (g.B.RandomBits.next c.args.coins.now) c.args.coins.now) full;
+      k = c.compact.ensures.kept.k_is ∙ c.put_body.ensures.k;
+      space = record {
+            left = ready.left;
+            are_left = ready.are_left;
+            same = rw (with_room_full cmp s.k level flag coin (needs_sorting flag level) (put_all new s.levels) full lowest refl) (SameLevels-trans cmp g.met.T.Ord.total _ _ _ (ready.same coin) end);
+            source_is = c.compact.ensures.coins ∙ ap (λ (b : Bool). cond b (g.B.RandomBits.next c.args.coins.now) c.args.coins.now) full;
+          };
+      sorted = c.compact.ensures.sorted;
+      shorter = fewer_still _ c.put_body.ensures.whole c.compact.ensures.shorter;
+      room = same_room c.put_body.ensures.room c.compact.ensures.kept.items_room;
+      bounds_room = same_room c.put_body.ensures.bounds_room c.compact.ensures.kept.bounds_room;
     }
 
-pub returns-else-taken-free-clause-space : goal.returns-else-taken-free-clause-space
-returns-else-taken-free-clause-space g c =
-    let before = (past.returns-else-taken-free-clause-space g c).After-free in
+pub returns-else-taken-free : goal.returns-else-taken-free
+returns-else-taken-free g c =
+    let before = (past.returns-else-taken-free g c).After-free in
     let s = c.args.self.now in
     let new : List g.row.T.Denot = put g before in
     let full : false ≡ is_full s.k (put_all new s.levels) = sym (lt-leb (total_of s.k 8 (length (put_all new s.levels))) (retained (put_all new s.levels))
     (omega (arith, held g before, total g before, c.free.ensures.room, c.if-taken-free.false))) in
     record {
-      left = c.args.taken;
-      are_left = record { within = c.requires.within; untaken = refl };
-      same = rw (with_room_spare g.T.Ord.cmp s.k (s.is_sorted && c.args.taken == 0) (g.B.RandomBits.bit c.args.coins.now) (put_all new s.levels) full)
-          (SameLevels-refl g.T.Ord.cmp g.met.T.Ord.total (put_all new s.levels));
-      source_is = ap (λ (b : Bool). cond b (g.B.RandomBits.next c.args.coins.now) c.args.coins.now) full;
+      k = refl;
+      space = record {
+            left = c.args.taken;
+            are_left = record { within = c.requires.within; untaken = refl };
+            same = rw (with_room_spare g.T.Ord.cmp s.k (s.is_sorted && c.args.taken == 0) (g.B.RandomBits.bit c.args.coins.now) (put_all new s.levels) full)
+                (SameLevels-refl g.T.Ord.cmp g.met.T.Ord.total (put_all new s.levels));
+            source_is = ap (λ (b : Bool). cond b (g.B.RandomBits.next c.args.coins.now) c.args.coins.now) full;
+          };
+      sorted = c.free.ensures.sorted;
+      shorter = le_refl _;
+      room = le_refl _;
+      bounds_room = le_refl _;
     }
 
 pub put_body-requires-clause-some : goal.put_body-requires-clause-some
@@ -70,3 +93,12 @@ put_body-requires-clause-some g c = grind arith
 
 pub compact-requires-clause-within : goal.compact-requires-clause-within
 compact-requires-clause-within g c = grind arith
+
+pub compact-requires-clause-flag : goal.compact-requires-clause-flag
+compact-requires-clause-flag g c = c.put_body.ensures.flag
+
+pub compact-requires-clause-few : goal.compact-requires-clause-few
+compact-requires-clause-few g c = c.level_to_compact-level.ensures.few
+
+pub compact-requires-clause-spare : goal.compact-requires-clause-spare
+compact-requires-clause-spare g c = spare_still c.put_body.ensures.counts c.put_body.ensures.bounds_room c.requires.spare
