@@ -1,18 +1,22 @@
 -- Levels as they are stored: empty, those of a sound sketch, with items put in, after a compaction, and after a merge.
-use Rattle.std.proofs.Common.{Option, ◌≡◌, ℕ, ◌-◌, ◌<◌, ◌≤◌, Bool, List, [], ◌∷◌, ◌++◌, length, drop, replicate, set, sym, ap, ◌∙◌, subst, arith, Ordering, length-drop}
+use Rattle.std.proofs.Common.{Option, ◌≡◌, ℕ, ◌-◌, ◌<◌, ◌≤◌, Bool, List, [], ◌∷◌, ◌++◌, length, drop, replicate, set, sym, ap, ◌∙◌, subst, arith, Ordering, length-drop, true, false, IsTrue, IsSorted, subst₂, ap₂}
 use Rattle.sketch_kll.specs.Capacity.{total_of}
 use Rattle.sketch_kll.specs.Flat.{levels_in, IsFlat}
 use Rattle.sketch_kll.specs.Join.{joined, joined_bounds}
-use Rattle.sketch_kll.specs.Levels.{compacted, SameLevels, UpperSorted}
+use Rattle.sketch_kll.specs.Levels.{compacted, first_level, SameLevels, UpperSorted}
 use Rattle.sketch_kll.specs.Sketch.{IsSound, sketch_of}
 use Rattle.sketch_kll.specs.Stored.{Stored, AreStored}
 use Rattle.sketch_kll.proofs.Flats.{is_flat, levels_of_flat, length-bounds}
 use Rattle.sketch_kll.proofs.JoinedLevels.{prepared}
 use Rattle.sketch_kll.proofs.Merged.{joined_size}
 use Rattle.sketch_kll.proofs.NoMoreLevels.{few_compacted}
-use Rattle.sketch_kll.specs.Steps.{put_all}
+use Rattle.sketch_kll.specs.Steps.{needs_sorting, put_all}
+use Rattle.std.specs.Cmp.{IsTotalOrder}
 use Rattle.sketch_kll.proofs.PutItems.{put_flat, length-put, UpperSorted-put}
-use Rattle.sketch_kll.proofs.RaisedLevels.{raised, raised_is}
+use Rattle.sketch_kll.proofs.RaisedLevels.{raised, raised_is, Raised}
+use Rattle.sketch_kll.proofs.CompactedRuns.{known_sorted, lowest_alone}
+use Rattle.sketch_kll.proofs.CompressWalks.{SameLevels-trans}
+use Rattle.sketch_kll.specs.Ordered.{IsOrdered}
 
 -- no items, between two bounds of 0, are one empty level
 pub new_levels : {A : Type 0} (items : List A) (bounds : List ℕ) → items ≡ [] → bounds ≡ 0 ∷ 0 ∷ [] →
@@ -118,3 +122,31 @@ joined_stored {A} {cmp} {k} {total} {total'} {items} {upper} {taken} {merged} {i
     let total : total' ≡ total_of k 8 (length (levels_in merged (joined_bounds wide runs))) = total_is ∙ ap (total_of k 8) (omega (arith, bounds_len, len_is, ap length bounds_are)) in
     let sizes = joined_size cmp ls us (levels_in merged (joined_bounds wide runs)) stored.some stored.few (omega (arith, upper_len, length-drop 1 runs, few)) same in
     rw (items_are, bounds_are) (record { stored = record { k_above = stored.k_above; flat = flat; total_is = total; some = sizes.some; few = sizes.few; sorted = sorted }; same = same })
+
+-- level 0 is sorted if it needs sorting, where the bounds are given as they were raised
+pub ordered_so : {A : Type 0} {cmp : A → A → Ordering} {needs is_sorted coin : Bool} {level : ℕ} {items new : List A} {bounds wide given : List ℕ} {ls : List (List A)} →
+    Raised cmp needs coin level items bounds wide → UpperSorted cmp (levels_in items bounds) → levels_in items bounds ≡ ls → given ≡ wide → needs ≡ needs_sorting is_sorted level →
+    (IsTrue is_sorted → level ≡ 0 → IsSorted cmp (first_level ls)) →
+    ((l : ℕ) → (needs ≡ true → l ≡ 0) → (needs ≡ false → IsSorted cmp (first_level (drop l (levels_in items given)))) → IsOrdered cmp needs l items new given) →
+    IsOrdered cmp needs level items new wide
+ordered_so {A} {cmp} {needs} {is_sorted} {coin} {level} {items} {new} {bounds} {wide} {given} {ls} up sorted own given_is needs_is flag order =
+    let first = up.first ∙ ap (λ (xs : List (List A)). first_level xs) own in
+    let known = λ (e : needs ≡ false). known_sorted cmp is_sorted level (levels_in items wide) (up.sorted sorted)
+    (λ t z. subst (λ (y : List A). IsSorted cmp y) (sym first) (flag t z)) (sym needs_is ∙ e) in
+    let at = subst (λ (bs : List ℕ). (l : ℕ) → (needs ≡ true → l ≡ 0) → (needs ≡ false → IsSorted cmp (first_level (drop l (levels_in items bs)))) → IsOrdered cmp needs l items new bs)
+    given_is order in
+    at level (λ e. lowest_alone is_sorted level (sym needs_is ∙ e)) known
+
+-- what a compaction leaves, where the vectors are given as they were ordered and raised, and what it leaves is cut off
+pub compacted_left : {A : Type 0} {cmp : A → A → Ordering} → IsTotalOrder cmp → {k total level : ℕ} {items ordered given cut items' : List A} {bounds wide given_bounds made bounds' : List ℕ}
+    {ls : List (List A)} (last coin : Bool) →
+    AreStored cmp k items bounds total → levels_in items bounds ≡ ls → level < length ls → level < 60 → wide ≡ raised level bounds → IsOrdered cmp last level items ordered wide →
+    given ≡ ordered → given_bounds ≡ wide → items' ≡ cut → bounds' ≡ made → IsFlat cut made →
+    SameLevels cmp (compacted cmp last coin level (levels_in given given_bounds)) (levels_in cut made) → UpperSorted cmp (levels_in cut made) →
+    CompactedStored cmp last coin k level ls items' bounds'
+compacted_left {A} {cmp} o {k} {level = level} {cut = cut} {items' = items'} {made = made} {bounds' = bounds'} {ls = ls} last coin stored own within low widened order given_is bounds_given cut_is made_is flat alike sorted =
+    let before = ap₂ levels_in given_is bounds_given in
+    let same = SameLevels-trans cmp o _ _ _ (order.same coin)
+    (subst (λ (xs : List (List A)). SameLevels cmp (compacted cmp last coin level xs) (levels_in cut made)) before alike) in
+    subst₂ (λ (xs : List A) (bs : List ℕ). CompactedStored cmp last coin k level ls xs bs) (sym cut_is) (sym made_is)
+    (compacted_stored last coin stored own within low widened flat same (λ _. sorted))

@@ -1,18 +1,16 @@
-use Rattle.std.proofs.Common.{◌≡◌, ◌+◌, ◌-◌, ◌<◌, ◌≤◌, ap₂, ℕ, Bool, List, Ordering, ◌++◌, take, drop, IsSorted, length, arith, sym, ap, subst, ◌∙◌, true}
-use Rattle.sketch_kll.specs.Levels.{retained, compacted, first_level, SameLevels}
-use Rattle.sketch_kll.specs.Flat.{levels_in}
+use Rattle.std.proofs.Common.{◌≡◌, ◌+◌, ◌-◌, ◌<◌, ◌≤◌, ap₂, ℕ, Bool, List, Ordering, ◌++◌, take, drop, length, arith, sym, ap, subst, ◌∙◌, true, ◌^◌}
+use Rattle.sketch_kll.specs.Levels.{retained, compacted, SameLevels, UpperSorted}
+use Rattle.sketch_kll.specs.Flat.{levels_in, IsFlat}
 use Rattle.sketch_kll.specs.Ordered.{IsOrdered}
 use Rattle.sketch_kll.specs.Steps.{needs_sorting}
 use Rattle.sketch_kll.specs.Stored.{Stored}
 use Rattle.sketch_kll.proofs.Flats.{length-bounds, length-items}
-use Rattle.sketch_kll.proofs.CompactedRuns.{known_sorted, lowest_alone}
-use Rattle.sketch_kll.proofs.CompressWalks.{SameLevels-trans}
-use Rattle.sketch_kll.proofs.RaisedLevels.{raised_is}
-use Rattle.sketch_kll.proofs.StoredLevels.{CompactedStored, known_total, compacted_stored}
+use Rattle.sketch_kll.proofs.RaisedLevels.{raised_is, Raised}
+use Rattle.sketch_kll.proofs.StoredLevels.{CompactedStored, known_total, compacted_left, ordered_so}
 use Rattle.sketch_kll.proofs.JoinedLevels.{whole_slice}
 use Rattle.sketch_kll.proofs.levels.Levels.compact.Goals as goal
 use Rattle.sketch_kll.proofs.levels.Levels.compact.Goals.at as past
-use Rattle.sketch_kll.proofs.levels.Levels.compact.Goals.{After-order_level, After-truncate}
+use Rattle.sketch_kll.proofs.levels.Levels.compact.Goals.{After-order_level, After-truncate, After-needs_sorting-needs_sorting}
 
 pub add_level_above-requires-clause-spare : goal.add_level_above-requires-clause-spare
 add_level_above-requires-clause-spare g c =
@@ -26,24 +24,33 @@ add_level_above-requires-clause-spare g c =
       c.self.inside.bounds.ok,
     )
 
-pub order_level-requires : goal.order_level-requires
-order_level-requires g c =
-    let up = raised_is c.needs_sorting-needs_sorting.result true c.self.invariant
-    (ap (λ (y : Stored g.row.T.Denot). y.levels) c.self.view_is) c.requires.within c.add_level_above.ensures.items in
-    rw c.deref.ensures.value (record { flat = up.flat; some = omega (arith, up.within); sorted = up.sorted c.self.invariant.sorted })
+own : (g : _) (c : After-needs_sorting-needs_sorting g) → levels_in c.self.inside.items.items c.self.inside.bounds.items ≡ c.args.self.now.levels
+own g c = ap (λ (y : Stored g.row.T.Denot). y.levels) c.self.view_is
+
+-- the levels with one above this one
+up : (g : _) (c : After-needs_sorting-needs_sorting g) (coin : Bool) →
+    Raised g.T.Ord.cmp c.needs_sorting-needs_sorting.result coin c.args.level c.self.inside.items.items c.self.inside.bounds.items c.add_level_above.new.bounds.items
+up g c coin = raised_is c.needs_sorting-needs_sorting.result coin c.self.invariant (own g c) c.requires.within c.add_level_above.ensures.items
 
 -- the levels after level 0 is sorted if it needs sorting
 ordered : (g : _) (c : After-order_level g) →
     IsOrdered g.T.Ord.cmp c.needs_sorting-needs_sorting.result c.args.level c.self.inside.items.items c.order_level.new.items.items c.add_level_above.new.bounds.items
 ordered g c =
-    let up = raised_is c.needs_sorting-needs_sorting.result true c.self.invariant
-    (ap (λ (y : Stored g.row.T.Denot). y.levels) c.self.view_is) c.requires.within c.add_level_above.ensures.items in
-    let needs = c.needs_sorting-needs_sorting.ensures ∙ ap (λ (y : Stored g.row.T.Denot). needs_sorting y.is_sorted c.args.level) c.self.view_is in
-    let first = up.first ∙ ap (λ (y : Stored g.row.T.Denot). first_level y.levels) c.self.view_is in
-    let order = rw c.deref.ensures.value at c.order_level.ensures.ordered in
-    order c.args.level (λ e. lowest_alone c.args.self.now.is_sorted c.args.level (sym needs ∙ e))
-    (λ e. known_sorted g.T.Ord.cmp c.args.self.now.is_sorted c.args.level (levels_in c.self.inside.items.items c.add_level_above.new.bounds.items)
-    (up.sorted c.self.invariant.sorted) (λ t z. subst (λ (y : List g.row.T.Denot). IsSorted g.T.Ord.cmp y) (sym first) (c.requires.flag t z)) (sym needs ∙ e))
+    let own = ap (λ (y : Stored g.row.T.Denot). y.levels) c.self.view_is in
+    ordered_so (raised_is c.needs_sorting-needs_sorting.result true c.self.invariant own c.requires.within c.add_level_above.ensures.items) c.self.invariant.sorted own c.deref.ensures.value
+    (c.needs_sorting-needs_sorting.ensures ∙ ap (λ (y : Stored g.row.T.Denot). needs_sorting y.is_sorted c.args.level) c.self.view_is) c.requires.flag c.order_level.ensures.ordered
+
+more_than : {n len now : ℕ} → now ≡ len → n < len → n < now
+more_than is more = omega (arith, is, more)
+
+low_of : {level : ℕ} → level < 60 → level + 2 < 2 ^ 64
+low_of low = omega (arith, low)
+
+most_of : {count len n : ℕ} → count ≤ n → len ≡ n → count ≤ len
+most_of most len = omega (arith, most, len)
+
+some_more : (level : ℕ) {len now : ℕ} → now ≡ len → level + 2 < len → 1 < now
+some_more level is more = omega (arith, is, more)
 
 ordered_in : {A : Type 0} {cmp : A → A → Ordering} {needs : Bool} {level : ℕ} {items xs xs' : List A} {bounds bounds' : List ℕ} → xs' ≡ xs → bounds' ≡ bounds →
     IsOrdered cmp needs level items xs bounds → IsOrdered cmp needs level items xs' bounds'
@@ -54,10 +61,7 @@ compact_level-count-requires-clause-flat g c =
     (ordered_in c.deref_mut.ensures.value c.deref_mut-2.ensures.value (ordered g (past.compact_level-count-requires-clause-flat g c).After-order_level)).flat
 
 pub compact_level-count-requires-clause-within : goal.compact_level-count-requires-clause-within
-compact_level-count-requires-clause-within g c =
-    let up = raised_is c.needs_sorting-needs_sorting.result c.random_bit-coin.result c.self.invariant
-    (ap (λ (y : Stored g.row.T.Denot). y.levels) c.self.view_is) c.requires.within c.add_level_above.ensures.items in
-    rw c.deref_mut-2.ensures.value up.within
+compact_level-count-requires-clause-within g c = more_than (ap length c.deref_mut-2.ensures.value) (up g (past.compact_level-count-requires-clause-within g c).After-needs_sorting-needs_sorting true).within
 
 pub compact_level-count-requires-clause-sorted : goal.compact_level-count-requires-clause-sorted
 compact_level-count-requires-clause-sorted g c =
@@ -80,7 +84,7 @@ shifted_bounds g c =
 bounds_are : (g : _) (c : After-truncate g) → shifted_bounds g c ≡ c.compact_level-count.new.bounds
 bounds_are g c =
     let wide = c.add_level_above.new.bounds in
-    whole_slice c.compact_level-count.new.bounds wide.items wide.len (omega (arith, c.compact_level-count.auto.bounds, c.deref_mut-2.ensures.len))
+    whole_slice c.compact_level-count.new.bounds wide.items wide.len (c.compact_level-count.auto.bounds ∙ c.deref_mut-2.ensures.len)
 
 bounds_len : (g : _) (c : After-truncate g) → length (shifted_bounds g c) ≡ c.add_level_above.new.bounds.len
 bounds_len g c = ap length (bounds_are g c) ∙ (c.compact_level-count.auto.bounds ∙ c.deref_mut-2.ensures.len)
@@ -96,14 +100,11 @@ left : (g : _) (c : After-truncate g) →
 left g c order =
     let made = c.compact_level-count.ensures in
     let items : List g.row.T.Denot = c.compact_level-count.new.items in
-    let items_are = whole_slice items c.order_level.new.items.items c.order_level.new.items.len (omega (arith, c.compact_level-count.auto.items, c.deref_mut.ensures.len)) in
-    let cut = c.truncate.ensures.items ∙ ap₂ (λ n xs. take (n - c.compact_level-count.result) xs) (c.len.ensures ∙ sym c.deref_mut.ensures.len) items_are in
-    let all = bounds_are g c in
-    let before = ap₂ levels_in c.deref_mut.ensures.value c.deref_mut-2.ensures.value in
-    compacted_stored c.needs_sorting-needs_sorting.result c.random_bit-coin.result c.self.invariant
-    (ap (λ (y : Stored g.row.T.Denot). y.levels) c.self.view_is) c.requires.within c.requires.few c.add_level_above.ensures.items
-    (rw (cut, all) made.flat)
-    (SameLevels-trans g.T.Ord.cmp g.met.T.Ord.total _ _ _ (order.same c.random_bit-coin.result) (rw (cut, all, ← before) made.alike)) (λ _. rw (cut, all) made.sorted)
+    let items_are = whole_slice items c.order_level.new.items.items c.order_level.new.items.len (c.compact_level-count.auto.items ∙ c.deref_mut.ensures.len) in
+    compacted_left g.met.T.Ord.total c.needs_sorting-needs_sorting.result c.random_bit-coin.result c.self.invariant (ap (λ (y : Stored g.row.T.Denot). y.levels) c.self.view_is) c.requires.within c.requires.few
+    c.add_level_above.ensures.items order c.deref_mut.ensures.value c.deref_mut-2.ensures.value
+    (c.truncate.ensures.items ∙ ap₂ (λ n xs. take (n - c.compact_level-count.result) xs) (c.len.ensures ∙ sym c.deref_mut.ensures.len) items_are)
+    (bounds_are g c) made.flat made.alike made.sorted
 
 few_of : {len n : ℕ} → len ≡ n → n ≤ 62 → len - 1 ≤ 61
 few_of is few = omega arith
@@ -156,10 +157,24 @@ pub total_at-self-inside-requires-clause-k : goal.total_at-self-inside-requires-
 total_at-self-inside-requires-clause-k g c = c.self.invariant.k_above
 
 pub overflow_sub-num_levels : goal.overflow_sub-num_levels
-overflow_sub-num_levels g c =
-    let up = raised_is c.needs_sorting-needs_sorting.result true c.self.invariant
-    (ap (λ (y : Stored g.row.T.Denot). y.levels) c.self.view_is) c.requires.within c.add_level_above.ensures.items in
-    some_of _ (c.len-num_levels.ensures ∙ c.add_level_above.new.bounds.ok.0) up.within
+overflow_sub-num_levels g c = some_of c.args.level (c.len-num_levels.ensures ∙ c.add_level_above.new.bounds.ok.0) (up g (past.overflow_sub-num_levels g c).After-needs_sorting-needs_sorting true).within
 
 pub overflow_sub-known : goal.overflow_sub-known
 overflow_sub-known g c = grind arith
+
+pub add_level_above-requires-clause-within : goal.add_level_above-requires-clause-within
+add_level_above-requires-clause-within g c = low_of c.requires.few
+
+pub overflow_sub-len : goal.overflow_sub-len
+overflow_sub-len g c = most_of c.compact_level-count.ensures.at_most (c.len.ensures ∙ sym c.deref_mut.ensures.len)
+
+pub order_level-requires-clause-flat : goal.order_level-requires-clause-flat
+order_level-requires-clause-flat g c =
+    subst (λ (bs : List ℕ). IsFlat c.self.inside.items.items bs) (sym c.deref.ensures.value) (up g (past.order_level-requires-clause-flat g c).After-needs_sorting-needs_sorting true).flat
+
+pub order_level-requires-clause-some : goal.order_level-requires-clause-some
+order_level-requires-clause-some g c = some_more c.args.level (ap length c.deref.ensures.value) (up g (past.order_level-requires-clause-some g c).After-needs_sorting-needs_sorting true).within
+
+pub order_level-requires-clause-sorted : goal.order_level-requires-clause-sorted
+order_level-requires-clause-sorted g c =
+    subst (λ (bs : List ℕ). UpperSorted g.T.Ord.cmp (levels_in c.self.inside.items.items bs)) (sym c.deref.ensures.value) ((up g (past.order_level-requires-clause-sorted g c).After-needs_sorting-needs_sorting true).sorted c.self.invariant.sorted)
