@@ -1,14 +1,22 @@
-use Rattle.std.proofs.Common.{◌≡◌, ◌+◌, ◌-◌, ◌^◌, ◌<◌, ◌≤◌, ◌++◌, ℕ, List, take, drop, length, vec_len, refl, sym, ap, ◌∙◌, arith}
-use Rattle.std.proofs.lemmas.Grind.{common_steps}
+use Rattle.std.proofs.Common.{◌≡◌, ◌+◌, ◌-◌, ◌^◌, ◌<◌, ◌≤◌, ◌++◌, ℕ, List, take, drop, length, vec_len, refl, sym, ap, ◌∙◌, arith, subst}
 use Rattle.sketch_kll.specs.Flat.{levels_in}
-use Rattle.sketch_kll.specs.Join.{joined_bounds}
-use Rattle.sketch_kll.specs.Levels.{retained}
+use Rattle.sketch_kll.specs.Join.{joined_bounds, joined}
+use Rattle.sketch_kll.specs.Levels.{retained, SameLevels}
 use Rattle.sketch_kll.specs.Stored.{Stored}
 use Rattle.sketch_kll.proofs.Flats.{length-items}
 use Rattle.sketch_kll.proofs.JoinedLevels.{prepared, joined_fit, whole_slice}
 use Rattle.sketch_kll.proofs.StoredLevels.{JoinedStored, known_total, joined_stored}
 use Rattle.sketch_kll.proofs.levels.Levels.merge_higher_levels.Goals as goal
 use Rattle.sketch_kll.proofs.levels.Levels.merge_higher_levels.Goals.{After-drop-upper}
+
+spare_of : {now own room : ℕ} → now ≡ own → own ≡ room → 63 ≤ room → 63 ≤ now
+spare_of now own room = omega (arith, now, own, room)
+
+some_of : {n len others : ℕ} → n ≡ len → 2 ≤ others → others ≤ len → 1 ≤ n
+some_of n some fewer = omega (arith, n, some, fewer)
+
+fit_of : {others room own : ℕ} → others ≤ 62 → own ≡ room → 63 ≤ room → others ≤ own
+fit_of few own room = omega (arith, few, own, room)
 
 -- what is stored in the end
 stored_in_the_end : (g : _) (c : After-drop-upper g) →
@@ -88,8 +96,8 @@ few_of is few = omega arith
 
 pub total_at-self-inside-requires-clause-few_levels : goal.total_at-self-inside-requires-clause-few_levels
 total_at-self-inside-requires-clause-few_levels g c =
-    let wide = prepared c.args.others.now c.self.invariant c.requires.upper c.requires.some c.requires.few (c.deref_mut.ensures.value ∙ c.add_levels.ensures.items) refl in
-    few_of (c.len-num_levels.ensures ∙ sym c.deref_mut.ensures.len) wide.few
+    few_of (c.len-num_levels.ensures ∙ c.add_levels.new.bounds.ok.0)
+    (prepared c.args.others.now c.self.invariant c.requires.upper c.requires.some c.requires.few c.add_levels.ensures.items refl).few
 
 pub total_at-self-inside-requires-clause-total : goal.total_at-self-inside-requires-clause-total
 total_at-self-inside-requires-clause-total g c = known_total c.self.invariant c.len-known.result (c.len-known.ensures ∙ c.self.inside.bounds.ok.0)
@@ -97,26 +105,28 @@ total_at-self-inside-requires-clause-total g c = known_total c.self.invariant c.
 pub invariant_of-self : goal.invariant_of-self
 invariant_of-self g c = (stored_in_the_end g c).stored
 
-pub returns-clause-levels : goal.returns-clause-levels
-returns-clause-levels g c = rw (← c.self.view_is) (stored_in_the_end g c).same
+pub returns : goal.returns
+returns g c =
+    record {
+      k = ap (λ (y : Stored g.row.T.Denot). y.k) c.self.view_is;
+      flag = ap (λ (y : Stored g.row.T.Denot). y.is_sorted) c.self.view_is;
+      levels = subst (λ (y : Stored g.row.T.Denot).
+          SameLevels g.T.Ord.cmp (joined g.T.Ord.cmp y.levels (levels_in c.args.upper.items (drop 1 c.args.others.now)))
+          (levels_in c.reverse.new.self.items (take c.add_levels.new.bounds.len (c.add_bounds.new.bounds ++ drop (length c.add_bounds.new.bounds) c.add_levels.new.bounds.items))))
+          c.self.view_is (stored_in_the_end g c).same;
+      spare = spare_of c.add_levels.ensures.capacity (ap (λ (y : Stored g.row.T.Denot). y.bounds_room) c.self.view_is) c.requires.spare;
+    }
 
 pub overflow_sub-num_levels : goal.overflow_sub-num_levels
-overflow_sub-num_levels g c = grind (arith, common_steps)
+overflow_sub-num_levels g c =
+    some_of (c.len-num_levels.ensures ∙ c.add_levels.new.bounds.ok.0) c.requires.some
+    (prepared c.args.others.now c.self.invariant c.requires.upper c.requires.some c.requires.few c.add_levels.ensures.items refl).fewer
 
 pub total_at-self-inside-requires-clause-k : goal.total_at-self-inside-requires-clause-k
 total_at-self-inside-requires-clause-k g c = c.self.invariant.k_above
 
-pub returns-clause-k : goal.returns-clause-k
-returns-clause-k g c = grind (arith, common_steps)
-
-pub returns-clause-flag : goal.returns-clause-flag
-returns-clause-flag g c = grind (arith, common_steps)
-
-pub returns-clause-spare : goal.returns-clause-spare
-returns-clause-spare g c = grind (arith, common_steps)
-
 pub add_levels-requires : goal.add_levels-requires
-add_levels-requires g c = grind (arith, common_steps)
+add_levels-requires g c = record { spare = fit_of c.requires.few (ap (λ (y : Stored g.row.T.Denot). y.bounds_room) c.self.view_is) c.requires.spare }
 
 pub overflow_sub-known : goal.overflow_sub-known
 overflow_sub-known g c = grind arith
