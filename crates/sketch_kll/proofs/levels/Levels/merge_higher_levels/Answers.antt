@@ -4,10 +4,11 @@ use Rattle.sketch_kll.specs.Join.{joined_bounds, joined}
 use Rattle.sketch_kll.specs.Levels.{retained, SameLevels}
 use Rattle.sketch_kll.specs.Stored.{Stored}
 use Rattle.sketch_kll.proofs.Flats.{length-items}
-use Rattle.sketch_kll.proofs.JoinedLevels.{prepared, joined_fit, whole_slice}
+use Rattle.sketch_kll.proofs.JoinedLevels.{prepared, joined_fit, whole_slice, Prepared}
 use Rattle.sketch_kll.proofs.StoredLevels.{JoinedStored, known_total, joined_stored}
 use Rattle.sketch_kll.proofs.levels.Levels.merge_higher_levels.Goals as goal
-use Rattle.sketch_kll.proofs.levels.Levels.merge_higher_levels.Goals.{After-drop-upper}
+use Rattle.sketch_kll.proofs.levels.Levels.merge_higher_levels.Goals.{After-drop-upper, After-add_levels}
+use Rattle.sketch_kll.proofs.levels.Levels.merge_higher_levels.Goals.at as past
 
 spare_of : {now own room : ℕ} → now ≡ own → own ≡ room → 63 ≤ room → 63 ≤ now
 spare_of now own room = omega (arith, now, own, room)
@@ -17,6 +18,12 @@ some_of n some fewer = omega (arith, n, some, fewer)
 
 fit_of : {others room own : ℕ} → others ≤ 62 → own ≡ room → 63 ≤ room → others ≤ own
 fit_of few own room = omega (arith, few, own, room)
+
+-- the bounds once there are enough
+wide : (g : _) (c : After-add_levels g) →
+    Prepared g.T.Ord.cmp c.self.inside.items.items c.self.inside.items.items c.self.inside.bounds.items c.args.others.now c.add_levels.new.bounds.items
+    (levels_in c.args.upper.items (drop 1 c.args.others.now))
+wide g c = prepared c.args.others.now c.self.invariant c.requires.upper c.requires.some c.requires.few c.add_levels.ensures.items refl
 
 -- what is stored in the end
 stored_in_the_end : (g : _) (c : After-drop-upper g) →
@@ -95,9 +102,7 @@ few_of : {len n : ℕ} → len ≡ n → n ≤ 62 → len - 1 ≤ 61
 few_of is few = omega arith
 
 pub total_at-self-inside-requires-clause-few_levels : goal.total_at-self-inside-requires-clause-few_levels
-total_at-self-inside-requires-clause-few_levels g c =
-    few_of (c.len-num_levels.ensures ∙ c.add_levels.new.bounds.ok.0)
-    (prepared c.args.others.now c.self.invariant c.requires.upper c.requires.some c.requires.few c.add_levels.ensures.items refl).few
+total_at-self-inside-requires-clause-few_levels g c = few_of (c.len-num_levels.ensures ∙ c.add_levels.new.bounds.ok.0) (wide g (past.total_at-self-inside-requires-clause-few_levels g c).After-add_levels).few
 
 pub total_at-self-inside-requires-clause-total : goal.total_at-self-inside-requires-clause-total
 total_at-self-inside-requires-clause-total g c = known_total c.self.invariant c.len-known.result (c.len-known.ensures ∙ c.self.inside.bounds.ok.0)
@@ -118,9 +123,7 @@ returns g c =
     }
 
 pub overflow_sub-num_levels : goal.overflow_sub-num_levels
-overflow_sub-num_levels g c =
-    some_of (c.len-num_levels.ensures ∙ c.add_levels.new.bounds.ok.0) c.requires.some
-    (prepared c.args.others.now c.self.invariant c.requires.upper c.requires.some c.requires.few c.add_levels.ensures.items refl).fewer
+overflow_sub-num_levels g c = some_of (c.len-num_levels.ensures ∙ c.add_levels.new.bounds.ok.0) c.requires.some (wide g (past.overflow_sub-num_levels g c).After-add_levels).fewer
 
 pub total_at-self-inside-requires-clause-k : goal.total_at-self-inside-requires-clause-k
 total_at-self-inside-requires-clause-k g c = c.self.invariant.k_above

@@ -1,4 +1,4 @@
-use Rattle.std.proofs.Common.{◌≡◌, ℕ, List, ◌+◌, ◌-◌, ◌<◌, ◌≤◌, ◌++◌, suc, length, get_or, take, drop, reverse, sym, ap, ap₂, subst, ◌∙◌, arith, length-append, length-drop, length-take-le}
+use Rattle.std.proofs.Common.{◌≡◌, ℕ, List, ◌+◌, ◌-◌, ◌<◌, ◌≤◌, ◌++◌, suc, length, get_or, take, drop, reverse, sym, ap, ap₂, subst, ◌∙◌, arith, length-append, length-drop, length-take-le, le_refl}
 use Rattle.std.proofs.lemmas.List.{length-reverse}
 use Rattle.sketch_base.proofs.Pourings.{reverse_back}
 use Rattle.sketch_kll.specs.Flat.{levels_in}
@@ -9,6 +9,46 @@ use Rattle.sketch_kll.proofs.levels.merging.merge_runs_back.Goals as goal
 pub move_back-requires-clause-within : goal.move_back-requires-clause-within
 move_back-requires-clause-within g c = bound_within c.args.items.now.items c.args.bounds.now c.requires.flat 1
 
+-- what is moved back is in both no more and no less
+moved_count : {A : Type 0} (keep : ℕ) (from to : List A) {from' to' : List A} → from' ≡ take keep from → to' ≡ to ++ reverse (drop keep from) →
+    keep ≤ length from →
+    length to' + length from' ≡ length to + length from
+moved_count keep from to e f within =
+    omega (
+      arith,
+      ap length e,
+      length-take-le keep from within,
+      ap length f,
+      length-append to (reverse (drop keep from)),
+      length-reverse (drop keep from),
+      length-drop keep from,
+    )
+
+first_moved : (u to from to' from' : ℕ) → to' + from' ≡ to + from → to ≡ 0 → to' + from' + u ≡ from + u
+first_moved u to from to' from' moved none = omega (arith, moved, none)
+
+some_levels : (l : ℕ) {n runs : ℕ} → n ≡ l + 1 → runs ≤ n → 2 ≤ runs → 0 < l
+some_levels l n fewer some = omega (arith, n, fewer, some)
+
+fewer_levels : (l u : ℕ) {n m runs : ℕ} → n ≡ l + 1 → m ≡ u + 1 → m ≡ runs - 1 → runs ≤ n → 2 ≤ runs → u < l
+fewer_levels l u n m runs fewer some = omega (arith, n, m, runs, fewer, some)
+
+all_joined : (u : ℕ) {m runs level : ℕ} → m ≡ u + 1 → m ≡ runs - 1 → runs - 1 ≤ level → 2 ≤ runs → u ≤ level - 1
+all_joined u m runs end some = omega (arith, m, runs, end, some)
+
+one_there : {runs : ℕ} → 2 ≤ runs → 1 ≤ runs
+one_there some = omega (arith, some)
+
+second_there : {runs n : ℕ} → 2 ≤ runs → runs ≤ n → 1 < n
+second_there some fewer = omega (arith, some, fewer)
+
+next_there : {level runs n : ℕ} → level < runs - 1 → runs ≤ n → level + 1 < n
+next_there lt fewer = omega (arith, lt, fewer)
+
+room_left : (keep right_keep merged items upper own up vto1 vleft1 : ℕ) {vto vleft vright vown vup room room1 : ℕ} → vleft1 + vto1 ≡ vleft + vto + (vright - right_keep) → vleft ≡ items → vto ≡ merged → vright ≡ upper → merged + items + upper ≡ own + up → vown ≡ own → vup ≡ up →
+    vown + vup ≤ room → room1 ≡ room → vto1 + (vleft1 - keep) ≤ room1
+room_left keep right_keep merged items upper own up vto1 vleft1 whole c d e count f h room same = omega (arith, whole, c, d, e, count, f, h, room, same)
+
 pub loop-level-init : goal.loop-level-init
 loop-level-init g c =
     let ls : List (List g.row.T.Denot) = levels_in c.args.items.now.items c.args.bounds.now in
@@ -18,20 +58,10 @@ loop-level-init g c =
     let r : IsRunAt 0 ls c.args.items.now.items b = run_at 0 ls c.args.items.now.items b (sym c.requires.flat.items_are) (bound_at c.args.items.now.items c.args.bounds.now c.requires.flat 1) in
     let e = c.move_back.ensures in
     record {
-      within = omega arith;
-      count = omega (
-        arith,
-        ap length e.from,
-        length-take-le b c.args.items.now.items r.within,
-        ap length e.to,
-        length-append c.args.merged.now.items (reverse first),
-        length-reverse first,
-        length-drop b c.args.items.now.items,
-        ap length c.requires.empty,
-        r.within,
-      );
+      within = le_refl 1;
+      count = first_moved _ _ _ _ _ (moved_count b c.args.items.now.items c.args.merged.now.items e.from e.to r.within) (ap length c.requires.empty);
       capacity = e.to_capacity;
-      joining = joining_start g.met.T.Ord.total (omega (arith, n, c.requires.fewer, c.requires.some)) (e.from ∙ r.rest) (sym c.requires.upper.items_are)
+      joining = joining_start g.met.T.Ord.total (some_levels _ n c.requires.fewer c.requires.some) (e.from ∙ r.rest) (sym c.requires.upper.items_are)
           (ap reverse e.to ∙ (reverse_back c.args.merged.now.items first ∙ ap₂ (λ (x y : List g.row.T.Denot). x ++ y) r.run (ap reverse c.requires.empty)));
     }
 
@@ -79,21 +109,6 @@ lower_of ls lt n fewer some = omega arith
 
 upper_of : (us runs : ℕ) {level uppers : ℕ} → level < runs - 1 → uppers ≡ us + 1 → uppers ≡ runs - 1 → 1 ≤ level → level - 1 < us
 upper_of us runs lt n m some = omega arith
-
--- what is moved back is in both no more and no less
-moved_count : {A : Type 0} (keep : ℕ) (from to : List A) {from' to' : List A} → from' ≡ take keep from → to' ≡ to ++ reverse (drop keep from) →
-    keep ≤ length from →
-    length to' + length from' ≡ length to + length from
-moved_count keep from to e f within =
-    omega (
-      arith,
-      ap length e,
-      length-take-le keep from within,
-      ap length f,
-      length-append to (reverse (drop keep from)),
-      length-reverse (drop keep from),
-      length-drop keep from,
-    )
 
 count_of : (to left right keep to1 left1 to2 left2 : ℕ) {all vto vleft vright vto1 vleft1 right1 : ℕ} → to + left + right ≡ all →
     vleft1 + vto1 ≡ vleft + vto + (vright - keep) →
@@ -143,8 +158,8 @@ returns g c =
     let n = length-bounds c.args.items.now.items c.args.bounds.now c.requires.flat in
     let m = length-bounds c.args.upper.now.items (drop 1 c.args.other_bounds.now) c.requires.upper in
     let d = length-drop 1 c.args.other_bounds.now in
-    let r = joining_end c.move_back-2.new.to.items c.args.other_bounds.now (omega (arith, m, d, c.requires.some)) (omega (arith, n, c.requires.fewer, c.requires.some))
-    (omega (arith, n, m, d, c.requires.fewer, c.requires.some)) c.requires.sorted c.requires.flat.bounds_are (sym c.requires.upper.bounds_are)
+    let r = joining_end c.move_back-2.new.to.items c.args.other_bounds.now (all_joined _ m d c.loop-level-test.false c.requires.some)
+    (some_levels _ n c.requires.fewer c.requires.some) (fewer_levels _ _ n m d c.requires.fewer c.requires.some) c.requires.sorted c.requires.flat.bounds_are (sym c.requires.upper.bounds_are)
     (ap reverse c.move_back-2.ensures.to ∙ reverse_back c.loop-level.merged.items c.loop-level.items.items) i.joining in
     record { flat = r.fits; levels = r.same; sorted = r.sorted }
 
@@ -155,4 +170,21 @@ pub move_back-requires-2-clause-room : goal.move_back-requires-2-clause-room
 move_back-requires-2-clause-room g c = grind arith
 
 pub move_back-requires-in-loop-level-clause-within : goal.move_back-requires-in-loop-level-clause-within
-move_back-requires-in-loop-level-clause-within g c = grind arith
+move_back-requires-in-loop-level-clause-within g c = c.merge_from_back.ensures.left_within
+
+pub overflow_sub-level-end : goal.overflow_sub-level-end
+overflow_sub-level-end g c = one_there c.requires.some
+
+pub bounds-bounds-1 : goal.bounds-bounds-1
+bounds-bounds-1 g c = second_there c.requires.some c.requires.fewer
+
+pub bounds-bounds-level : goal.bounds-bounds-level
+bounds-bounds-level g c = next_there c.loop-level-test.true c.requires.fewer
+
+pub bounds-other_bounds-level : goal.bounds-other_bounds-level
+bounds-other_bounds-level g c = next_there c.loop-level-test.true (le_refl _)
+
+pub move_back-requires-in-loop-level-clause-room : goal.move_back-requires-in-loop-level-clause-room
+move_back-requires-in-loop-level-clause-room g c =
+    room_left _ _ _ _ _ _ _ _ _ c.merge_from_back.ensures.whole c.loop-level.items.ok.0 c.loop-level.merged.ok.0
+    c.loop-level.upper.ok.0 c.loop-level.invariant.count c.args.items.now.ok.0 c.args.upper.now.ok.0 c.requires.room (c.merge_from_back.ensures.to_capacity ∙ c.loop-level.invariant.capacity)
