@@ -1,11 +1,12 @@
 -- Levels as they are stored: empty, those of a sound sketch, with items put in, after a compaction, and after a merge.
 use Rattle.std.proofs.Common.{Option, ◌≡◌, ℕ, ◌-◌, ◌<◌, ◌≤◌, Bool, List, [], ◌∷◌, ◌++◌, length, drop, replicate, set, sym, ap, ◌∙◌, subst, arith, Ordering, length-drop, true, false, IsTrue, IsSorted, subst₂, ap₂}
 use Rattle.sketch_kll.specs.Capacity.{total_of}
-use Rattle.sketch_kll.specs.Flat.{levels_in, IsFlat}
+use Rattle.sketch_kll.specs.Flat.{levels_in, marks, IsFlat}
 use Rattle.sketch_kll.specs.Join.{joined, joined_bounds}
 use Rattle.sketch_kll.specs.Levels.{compacted, first_level, SameLevels, UpperSorted}
 use Rattle.sketch_kll.specs.Sketch.{IsSound, sketch_of}
-use Rattle.sketch_kll.specs.Stored.{Stored, AreStored}
+use Rattle.sketch_kll.specs.Stored.{Stored, AreClones, AreStored, KeepsLevels, stored_of}
+use Rattle.sketch_kll.specs.declared.levels.merging.Incoming.{Incoming}
 use Rattle.sketch_kll.proofs.Flats.{is_flat, levels_of_flat, length-bounds}
 use Rattle.sketch_kll.proofs.JoinedLevels.{prepared}
 use Rattle.sketch_kll.proofs.Merged.{joined_size}
@@ -150,3 +151,27 @@ compacted_left {A} {cmp} o {k} {level = level} {cut = cut} {items' = items'} {ma
     (subst (λ (xs : List (List A)). SameLevels cmp (compacted cmp last coin level xs) (levels_in cut made)) before alike) in
     subst₂ (λ (xs : List A) (bs : List ℕ). CompactedStored cmp last coin k level ls xs bs) (sym cut_is) (sym made_is)
     (compacted_stored last coin stored own within low widened flat same (λ _. sorted))
+
+-- ---- vectors that hold what they held
+
+pub stored_still : {A : Type 0} {cmp : A → A → Ordering} {k total : ℕ} {items items' : List A} {bounds bounds' : List ℕ} → AreStored cmp k items bounds total → items' ≡ items → bounds' ≡ bounds →
+    AreStored cmp k items' bounds' total
+stored_still {A} {cmp} {k} {total} stored e f = subst₂ (λ (xs : List A) (bs : List ℕ). AreStored cmp k xs bs total) (sym e) (sym f) stored
+
+pub kept_still : {A : Type 0} {k room rooms room' rooms' : ℕ} {flag : Bool} {items items' : List A} {bounds bounds' : List ℕ} {seen : Stored A} → stored_of k flag items bounds room rooms ≡ seen →
+    items' ≡ items → bounds' ≡ bounds → KeepsLevels seen (stored_of k flag items' bounds' room' rooms')
+kept_still {A} view e f = record {
+  k_is = ap (λ (y : Stored A). y.k) view;
+  flag_is = ap (λ (y : Stored A). y.is_sorted) view;
+  levels_are = ap₂ levels_in e f ∙ ap (λ (y : Stored A). y.levels) view;
+}
+
+-- clones of the levels between these bounds
+pub clones_told : {A : Type 0} {cmp : A → A → Ordering} {items : List A} {bounds given : List ℕ} {ls : List (List A)} (y : Incoming A) → IsFlat items bounds → given ≡ bounds →
+    levels_in items bounds ≡ ls → SameLevels cmp (levels_in items given) (y.low.items ∷ levels_in y.upper.items (drop 1 given)) → IsFlat y.upper.items (drop 1 given) → AreClones cmp ls y
+clones_told {A} {cmp} {items} y flat given_is own same fits =
+    let marks_are = given_is ∙ (sym flat.bounds_are ∙ ap marks own) in
+    record {
+      same = subst₂ (λ (xs : List (List A)) (bs : List ℕ). SameLevels cmp xs (y.low.items ∷ levels_in y.upper.items (drop 1 bs))) (ap (levels_in items) given_is ∙ own) marks_are same;
+      flat = subst (λ (bs : List ℕ). IsFlat y.upper.items (drop 1 bs)) marks_are fits;
+    }
