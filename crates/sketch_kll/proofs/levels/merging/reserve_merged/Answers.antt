@@ -1,16 +1,25 @@
-use Rattle.std.proofs.Common.{arith, refl}
-use Rattle.std.proofs.lemmas.Grind.{common_steps}
-use Rattle.std.proofs.lemmas.Result.{IfOk-from_err}
+use Rattle.std.proofs.Common.{arith, refl, ℕ, ◌≡◌, ◌+◌, ◌-◌, ◌≤◌}
+use Rattle.std.proofs.lemmas.Result.{IfOk-from_err, IfOk-weaker}
 use Rattle.sketch_kll.proofs.levels.merging.reserve_merged.Goals as goal
 
-pub returns-clause-room : goal.returns-clause-room
-returns-clause-room c = grind (arith, common_steps)
+room_of : (low : ℕ) {v old len cap : ℕ} → v ≡ old → old ≡ len → v + low ≤ cap → len + low ≤ cap
+room_of low v old room = omega (arith, v, old, room)
 
-pub returns-clause-spare : goal.returns-clause-spare
-returns-clause-spare c = grind (arith, common_steps)
+bounds_of : {v old n len cap : ℕ} → v ≡ old → n ≡ old → old ≡ len → len ≤ 62 → v + (63 - n) ≤ cap → 63 ≤ cap
+bounds_of v n old few room = omega (arith, v, n, old, few, room)
 
-pub returns-clause-merged : goal.returns-clause-merged
-returns-clause-merged c = grind arith
+pub returns : goal.returns
+returns g c =
+    let r = c.with_capacity.result in
+    let made = c.with_capacity.ensures in
+    record {
+      items = c.reserve_exact.ensures.items;
+      bounds = c.reserve.ensures.items;
+      room = IfOk-weaker r _ _ (λ _ _. room_of c.args.low c.in_ok-reserve_exact.ensures.len c.args.items.now.ok.0 c.in_ok-reserve_exact.ensures.ok) made.len;
+      spare = IfOk-weaker r _ _ (λ _ _. bounds_of c.in_ok-reserve.ensures.len c.len-2.ensures c.args.bounds.now.ok.0 c.requires.few c.in_ok-reserve.ensures.ok) made.len;
+      empty = made.items;
+      merged = grind arith;
+    }
 
 pub returns-in_default : goal.returns-in_default
 returns-in_default g c =
