@@ -1,5 +1,4 @@
-use Rattle.std.proofs.Common.{◌≡◌, ◌+◌, ◌*◌, ◌^◌, ◌<◌, ◌≤◌, ℕ, List, Bool, IsTrue, drop, ap, subst, arith, ◌∙◌}
-use Rattle.std.proofs.lemmas.Grind.{common_steps}
+use Rattle.std.proofs.Common.{◌≡◌, ◌+◌, ◌*◌, ◌^◌, ◌<◌, ◌≤◌, ℕ, List, Bool, IsTrue, drop, ap, subst, arith, ◌∙◌, subst₂, sym, min}
 use Rattle.sketch_kll.specs.Flat.{levels_in}
 use Rattle.sketch_kll.specs.Join.{joined}
 use Rattle.sketch_kll.specs.Stored.{Stored}
@@ -7,6 +6,7 @@ use Rattle.sketch_kll.proofs.AlikeCompactions.{first-same}
 use Rattle.sketch_kll.proofs.LevelClones.{ClonedRuns, cloned_runs}
 use Rattle.sketch_kll.proofs.Merged.{merged_by_calls, merged_only, joined_size, joined-first}
 use Rattle.sketch_kll.proofs.MergedSketches.{merged_same}
+use Rattle.sketch_kll.specs.Merged.{HaveMerged}
 use Rattle.sketch_kll.proofs.levels.Levels.merge.Goals as goal
 use Rattle.sketch_kll.proofs.levels.Levels.merge.Goals.at as past
 use Rattle.sketch_kll.proofs.levels.Levels.merge.Goals.{After-as_slice-other_bounds}
@@ -16,6 +16,9 @@ cloned : (g : _) (c : After-as_slice-other_bounds g) → ClonedRuns g.T.Ord.cmp 
 cloned g c =
     let own = ap (λ (y : Stored g.row.T.Denot). y.levels) c.others.view_is in
     cloned_runs g.met.T.Ord.total c.others.invariant own c.as_slice-other_bounds.ensures.value c.requires.clones
+
+least_room : (most : ℕ) {n room : ℕ} → n ≤ room → min n most ≤ room
+least_room most within = omega (arith, within)
 
 pub take_items-requires-clause-light : goal.take_items-requires-clause-light
 take_items-requires-clause-light g c =
@@ -75,22 +78,40 @@ compress-requires-clause-flag g c =
 pub compress-requires-clause-spare : goal.compress-requires-clause-spare
 compress-requires-clause-spare g c = c.merge_higher_levels-old.ensures.spare
 
-pub returns-clause-merged : goal.returns-clause-merged
-returns-clause-merged g c =
-    let clones = cloned g (past.returns-clause-merged g c).After-as_slice-other_bounds in
+pub returns : goal.returns
+returns g c =
+    let clones = cloned g (past.returns g c).After-as_slice-other_bounds in
     let made = c.compress.ensures in
-    rw (c.give_back-2.ensures.kept.flag_is, c.give_back-2.ensures.kept.levels_are, c.move_to.ensures.kept.flag_is, c.move_to.ensures.kept.levels_are) (merged_same g.met.T.Ord.total g.B.RandomBits.bit g.B.RandomBits.next _ _ _ _ _ _ _ _ _ c.requires.kept.some clones.same
-    (merged_by_calls g.T.Ord.cmp g.met.T.Ord.total g.B.RandomBits.bit g.B.RandomBits.next _ _ _ _ _ _ _ _ _ _ _ _ _ _ _
-    (c.merge_higher_levels-old.ensures.k ∙ c.take_items.ensures.k) c.merge_higher_levels-old.ensures.flag made.kept.flag_is
-    c.take_items.ensures.taken c.merge_higher_levels-old.ensures.levels c.requires.kept.some (omega (arith, clones.upper_are, c.if-other_bounds-le2.false))
-    made.levels made.bag made.coins made.few made.below made.sorted))
+    record {
+      k = c.give_back-2.ensures.kept.k_is ∙ (c.move_to.ensures.kept.k_is ∙ (made.kept.k_is ∙ (c.merge_higher_levels-old.ensures.k ∙ c.take_items.ensures.k)));
+      merged = subst₂ (λ (f : Bool) (ms : List (List g.row.T.Denot)).
+          HaveMerged g.T.Ord.cmp g.B.RandomBits.bit g.B.RandomBits.next c.args.coins.now c.compress.new.coins c.args.self.now.k c.args.self.now.is_sorted f c.args.self.now.levels c.args.others.now.levels ms)
+          (sym (c.give_back-2.ensures.kept.flag_is ∙ c.move_to.ensures.kept.flag_is)) (sym (c.give_back-2.ensures.kept.levels_are ∙ c.move_to.ensures.kept.levels_are))
+          (merged_same g.met.T.Ord.total g.B.RandomBits.bit g.B.RandomBits.next _ _ _ _ _ _ _ _ _ c.requires.kept.some clones.same
+          (merged_by_calls g.T.Ord.cmp g.met.T.Ord.total g.B.RandomBits.bit g.B.RandomBits.next _ _ _ _ _ _ _ _ _ _ _ _ _ _ _
+          (c.merge_higher_levels-old.ensures.k ∙ c.take_items.ensures.k) c.merge_higher_levels-old.ensures.flag made.kept.flag_is
+          c.take_items.ensures.taken c.merge_higher_levels-old.ensures.levels c.requires.kept.some (omega (arith, clones.upper_are, c.if-other_bounds-le2.false))
+          made.levels made.bag made.coins made.few made.below made.sorted));
+    }
 
-pub returns-then-other_bounds-le2-clause-merged : goal.returns-then-other_bounds-le2-clause-merged
-returns-then-other_bounds-le2-clause-merged g c =
-    let clones = cloned g (past.returns-then-other_bounds-le2-clause-merged g c).After-as_slice-other_bounds in
-    rw (c.give_back.ensures.kept.flag_is, c.give_back.ensures.kept.levels_are) (merged_same g.met.T.Ord.total g.B.RandomBits.bit g.B.RandomBits.next _ _ _ _ _ _ _ _ _ c.requires.kept.some clones.same
-    (merged_only g.T.Ord.cmp g.met.T.Ord.total g.B.RandomBits.bit g.B.RandomBits.next _ _ _ _ _ _ _ _ _
-    c.take_items.ensures.taken (omega (arith, clones.upper_are, clones.some, c.if-other_bounds-le2.true))))
+pub returns-then-other_bounds-le2 : goal.returns-then-other_bounds-le2
+returns-then-other_bounds-le2 g c =
+    let clones = cloned g (past.returns-then-other_bounds-le2 g c).After-as_slice-other_bounds in
+    record {
+      k = c.give_back.ensures.kept.k_is ∙ c.take_items.ensures.k;
+      merged = subst₂ (λ (f : Bool) (ms : List (List g.row.T.Denot)).
+          HaveMerged g.T.Ord.cmp g.B.RandomBits.bit g.B.RandomBits.next c.args.coins.now c.take_items.new.coins c.args.self.now.k c.args.self.now.is_sorted f c.args.self.now.levels c.args.others.now.levels ms)
+          (sym c.give_back.ensures.kept.flag_is) (sym c.give_back.ensures.kept.levels_are)
+          (merged_same g.met.T.Ord.total g.B.RandomBits.bit g.B.RandomBits.next _ _ _ _ _ _ _ _ _ c.requires.kept.some clones.same
+          (merged_only g.T.Ord.cmp g.met.T.Ord.total g.B.RandomBits.bit g.B.RandomBits.next _ _ _ _ _ _ _ _ _
+          c.take_items.ensures.taken (omega (arith, clones.upper_are, clones.some, c.if-other_bounds-le2.true))));
+    }
 
 pub take_items-requires-clause-room : goal.take_items-requires-clause-room
-take_items-requires-clause-room g c = grind (arith, common_steps)
+take_items-requires-clause-room g c = least_room _ c.requires.ready.items_room
+
+pub take_items-requires-clause-spare : goal.take_items-requires-clause-spare
+take_items-requires-clause-spare g c = c.requires.ready.bounds_room
+
+pub take_items-requires-clause-kept : goal.take_items-requires-clause-kept
+take_items-requires-clause-kept g c = c.requires.kept

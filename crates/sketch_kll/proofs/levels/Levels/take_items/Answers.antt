@@ -1,4 +1,4 @@
-use Rattle.std.proofs.Common.{◌≡◌, ℕ, ◌+◌, ◌-◌, ◌^◌, ◌<◌, ◌≤◌, min, max, ◌&&◌, ◌==◌, Bool, List, length, reverse, take, drop, refl, sym, ap, ◌∙◌, subst, arith, length-append, length-drop, length-take-le}
+use Rattle.std.proofs.Common.{◌≡◌, ℕ, ◌+◌, ◌-◌, ◌^◌, ◌<◌, ◌≤◌, min, max, ◌&&◌, ◌==◌, Bool, List, length, reverse, take, drop, refl, sym, ap, ◌∙◌, subst, arith, length-append, length-drop, length-take-le, le_trans}
 use Rattle.std.proofs.lemmas.Bool.{and_right, ne_eqb}
 use Rattle.std.proofs.lemmas.List.{length-reverse}
 use Rattle.sketch_kll.specs.Capacity.{total_of}
@@ -38,6 +38,30 @@ held g c = retained-put (put g c) c.loop-taken.self.levels ∙ ap (λ (n : ℕ).
 
 count : (g : _) (c : After-len g) → length (put_all (put g c) c.loop-taken.self.levels) ≡ length c.loop-taken.self.levels
 count g c = length-put (put g c) c.loop-taken.self.levels c.loop-taken.invariant.some
+
+filled_len : (held put n items start : ℕ) {now len all v : ℕ} → now ≡ held + put → put ≡ len → len ≡ items - n → held + items ≤ start + all → v ≡ all → now ≤ start + v
+filled_len held put n items start now put_is len part v = omega (arith, now, put_is, len, part, v)
+
+shorter_len : (held items start : ℕ) {all v : ℕ} → held + items ≤ start + all → v ≡ all → held ≤ start + v
+shorter_len held items start part v = omega (arith, part, v)
+
+within_taken : {r v n taken : ℕ} → r ≡ v → v ≡ n → r ≤ taken → n ≤ taken
+within_taken r v within = omega (arith, r, v, within)
+
+over_is : (now total taken items : ℕ) → items ≤ taken → taken ≤ items → now + taken ≤ total → items - (total - now) ≡ items - taken
+over_is now total taken items none within room = omega (arith, none, within, room)
+
+room_all : (now taken : ℕ) {all most more own : ℕ} → all ≡ now + taken → all ≤ most → most ≡ more → own ≡ more → now + taken ≤ own
+room_all now taken held within same own = omega (arith, held, within, same, own)
+
+not_none : {n : ℕ} → 0 < n → n ≡ 0 → ⊥
+not_none some none = omega (arith, some, none)
+
+none_of : {n : ℕ} → n ≤ 0 → n ≡ 0
+none_of few = omega (arith, few)
+
+none_left : (taken : ℕ) {items : ℕ} → items ≤ taken → items - taken ≡ 0
+none_left taken none = omega (arith, none)
 
 light_of : (now before d r : ℕ) {w put taken all : ℕ} → w ≡ before + d → w ≡ now + put → put ≡ taken → all ≡ d + r → before + all < 2 ^ 64 →
     now + taken < 2 ^ 64
@@ -111,9 +135,9 @@ loop-taken-preserved g c =
       some = c.free.ensures.some;
       within = on.within;
       taking = on.taking;
-      len = omega (arith, i.len, c.make_space.ensures.shorter);
-      room = omega (arith, i.room, c.make_space.ensures.room);
-      spare = omega (arith, i.spare, c.make_space.ensures.bounds_room);
+      len = le_trans c.make_space.ensures.shorter i.len;
+      room = le_trans i.room c.make_space.ensures.room;
+      spare = le_trans i.spare c.make_space.ensures.bounds_room;
     }
 
 -- all items count as taken
@@ -130,7 +154,7 @@ all_taken g c h =
 room_for_all : (g : _) (c : After-len g) → retained c.loop-taken.self.levels + c.loop-taken.taken ≤ total_of c.loop-taken.self.k 8 (length c.loop-taken.self.levels)
 room_for_all g c =
     let i = c.loop-taken.invariant in
-    omega (arith, held g c, i.taking.taking.taken.kept.within, ap (total_of c.args.self.now.k 8) (count g c), ap (λ (k : ℕ). total_of k 8 (length c.loop-taken.self.levels)) i.k)
+    room_all _ _ (held g c) i.taking.taking.taken.kept.within (ap (total_of c.args.self.now.k 8) (count g c)) (ap (λ (k : ℕ). total_of k 8 (length c.loop-taken.self.levels)) i.k)
 
 fill_of : (now cap : ℕ) {v len taken room : ℕ} → len ≤ taken → len ≡ v → now + taken ≤ room → min (now + v) (max now cap) ≤ room
 fill_of now cap few v room = omega arith
@@ -138,55 +162,38 @@ fill_of now cap few v room = omega arith
 pub fill-requires : goal.fill-requires
 fill-requires g c = record { room = fill_of _ _ c.loop-taken-test.false c.len.ensures (room_there g (past.fill-requires g c).After-len) }
 
-pub returns-then-taken-gt0-clause-taken : goal.returns-then-taken-gt0-clause-taken
-returns-then-taken-gt0-clause-taken g c =
-    let before = (past.returns-then-taken-gt0-clause-taken g c).After-len in
+pub returns-then-taken-gt0 : goal.returns-then-taken-gt0
+returns-then-taken-gt0 g c =
+    let before = (past.returns-then-taken-gt0 g c).After-len in
     let i = c.loop-taken.invariant in
     let items : List g.row.T.Denot = c.loop-taken.items.items in
-    let none : length items ≤ c.loop-taken.taken = omega (arith, c.loop-taken-test.false, c.len.ensures, c.loop-taken.items.ok) in
-    let over : left_over c.loop-taken.self items ≡ length items - c.loop-taken.taken = omega (arith, none, i.within, room_for_all g before) in
+    let none : length items ≤ c.loop-taken.taken = within_taken c.len.ensures c.loop-taken.items.ok.0 c.loop-taken-test.false in
+    let over : left_over c.loop-taken.self items ≡ length items - c.loop-taken.taken = over_is _ _ _ _ none i.within (room_for_all g before) in
     let levels : with_last c.loop-taken.taken items c.loop-taken.self.levels ≡ c.fill.new.self.levels =
     ap (λ (n : ℕ). put_all (reverse (drop n items)) c.loop-taken.self.levels) (sym over) ∙ sym c.fill.ensures.levels in
     let flag : (c.loop-taken.self.is_sorted && c.loop-taken.taken == 0) ≡ c.fill.new.self.is_sorted =
-    and_right c.loop-taken.self.is_sorted (c.loop-taken.taken == 0) (ne_eqb c.loop-taken.taken 0 (omega (arith, c.if-taken-gt0.true))) ∙ sym c.fill.ensures.flag in
-    subst (λ (now : Bool). HaveTaken g.T.Ord.cmp g.B.RandomBits.bit g.B.RandomBits.next c.args.coins.now c.loop-taken.coins c.args.self.now.k c.args.self.now.is_sorted now c.args.self.now.levels
-    c.args.items.items c.fill.new.self.levels) flag
-    (subst (λ (ms : List (List g.row.T.Denot)). HaveTaken g.T.Ord.cmp g.B.RandomBits.bit g.B.RandomBits.next c.args.coins.now c.loop-taken.coins c.args.self.now.k c.args.self.now.is_sorted
-    (c.loop-taken.self.is_sorted && c.loop-taken.taken == 0) c.args.self.now.levels c.args.items.items ms) levels (all_taken g before none))
+    and_right c.loop-taken.self.is_sorted (c.loop-taken.taken == 0) (ne_eqb c.loop-taken.taken 0 (not_none c.if-taken-gt0.true)) ∙ sym c.fill.ensures.flag in
+    let n : ℕ = left_over c.loop-taken.self items in
+    record {
+      k = c.fill.ensures.k ∙ i.k;
+      taken = subst (λ (now : Bool). HaveTaken g.T.Ord.cmp g.B.RandomBits.bit g.B.RandomBits.next c.args.coins.now c.loop-taken.coins c.args.self.now.k c.args.self.now.is_sorted now c.args.self.now.levels
+          c.args.items.items c.fill.new.self.levels) flag
+          (subst (λ (ms : List (List g.row.T.Denot)). HaveTaken g.T.Ord.cmp g.B.RandomBits.bit g.B.RandomBits.next c.args.coins.now c.loop-taken.coins c.args.self.now.k c.args.self.now.is_sorted
+          (c.loop-taken.self.is_sorted && c.loop-taken.taken == 0) c.args.self.now.levels c.args.items.items ms) levels (all_taken g before none));
+      len = filled_len (retained c.loop-taken.self.levels) (length (reverse (drop n items))) n _ _ (ap retained c.fill.ensures.levels ∙ retained-put (reverse (drop n items)) c.loop-taken.self.levels)
+          (length-reverse (drop n items)) (length-drop n items) i.len c.args.items.ok.0;
+      spare = subst (λ (room : ℕ). 63 ≤ room) (sym c.fill.ensures.bounds_room) i.spare;
+    }
 
-pub returns-then-taken-gt0-clause-len : goal.returns-then-taken-gt0-clause-len
-returns-then-taken-gt0-clause-len g c =
+pub returns : goal.returns
+returns g c =
+    let before = (past.returns g c).After-len in
     let i = c.loop-taken.invariant in
-    let n : ℕ = left_over c.loop-taken.self c.loop-taken.items.items in
-    omega (
-      arith,
-      i.len,
-      ap retained c.fill.ensures.levels,
-      retained-put (reverse (drop n c.loop-taken.items.items)) c.loop-taken.self.levels,
-      length-reverse (drop n c.loop-taken.items.items),
-      length-drop n c.loop-taken.items.items,
-      c.args.items.ok,
-    )
-
-pub returns-clause-taken : goal.returns-clause-taken
-returns-clause-taken g c =
-    let before = (past.returns-clause-taken g c).After-len in
-    let i = c.loop-taken.invariant in
-    let none : length c.loop-taken.items.items ≤ c.loop-taken.taken = omega (arith, c.loop-taken-test.false, c.len.ensures, c.loop-taken.items.ok) in
-    taking_ends g.T.Ord.cmp g.B.RandomBits.bit g.B.RandomBits.next c.args.coins.now c.loop-taken.coins c.args.self.now.k c.args.self.now.is_sorted c.loop-taken.self.is_sorted c.args.self.now.levels
-    c.args.items.items c.loop-taken.items.items c.loop-taken.taken c.loop-taken.self.levels (all_taken g before none) (omega (arith, c.if-taken-gt0.false)) i.some
-
-pub returns-clause-len : goal.returns-clause-len
-returns-clause-len g c = grind arith
-
-pub returns-clause-k : goal.returns-clause-k
-returns-clause-k g c = grind arith
-
-pub returns-then-taken-gt0-clause-spare : goal.returns-then-taken-gt0-clause-spare
-returns-then-taken-gt0-clause-spare g c = grind arith
-
-pub returns-clause-spare : goal.returns-clause-spare
-returns-clause-spare g c = grind arith
-
-pub returns-then-taken-gt0-clause-k : goal.returns-then-taken-gt0-clause-k
-returns-then-taken-gt0-clause-k g c = grind arith
+    let none : length c.loop-taken.items.items ≤ c.loop-taken.taken = within_taken c.len.ensures c.loop-taken.items.ok.0 c.loop-taken-test.false in
+    record {
+      k = i.k;
+      taken = taking_ends g.T.Ord.cmp g.B.RandomBits.bit g.B.RandomBits.next c.args.coins.now c.loop-taken.coins c.args.self.now.k c.args.self.now.is_sorted c.loop-taken.self.is_sorted c.args.self.now.levels
+          c.args.items.items c.loop-taken.items.items c.loop-taken.taken c.loop-taken.self.levels (all_taken g before none) (none_of c.if-taken-gt0.false) i.some;
+      len = shorter_len (retained c.loop-taken.self.levels) _ _ i.len c.args.items.ok.0;
+      spare = i.spare;
+    }
