@@ -1,4 +1,4 @@
-use Rattle.std.proofs.Common.{◌≡◌, ◌≤◌, ◌+◌, ◌*◌, ◌-◌, List, [], length, drop, arith, refl}
+use Rattle.std.proofs.Common.{◌≡◌, ◌≤◌, ◌+◌, ◌*◌, ◌-◌, List, [], length, drop, arith, refl, ℕ, ◌<◌}
 use Rattle.std.proofs.lemmas.List.{drop_all}
 use Rattle.sketch_base.specs.Query.{counted}
 use Rattle.sketch_kll.specs.Flat.{levels_in}
@@ -9,6 +9,21 @@ use Rattle.sketch_kll.proofs.Legals.{upper_at}
 use Rattle.sketch_kll.proofs.Rank.{more_weight}
 use Rattle.sketch_kll.proofs.levels.weight_counted.Goals as goal
 use Rattle.sketch_kll.proofs.levels.weight_counted.Goals.{After-count_in_order-counted, After-count_all}
+
+place_within : {h n : ℕ} → 1 < h → h < n → h - 1 + 1 < n
+place_within some within = omega (arith, some, within)
+
+one_less : {h : ℕ} → 1 < h → h - 1 < h
+one_less some = omega (arith, some)
+
+some_there : {h : ℕ} → 1 < h → 1 ≤ h
+some_there some = omega (arith, some)
+
+below_within : {h n : ℕ} → h < n → h - 1 < n
+below_within within = omega (arith, within)
+
+above_first : {h : ℕ} → 1 < h → 0 < h - 1
+above_first some = omega (arith, some)
 
 pub overflow_sub-level : goal.overflow_sub-level
 overflow_sub-level g c = let n = length-bounds c.args.items.now c.args.bounds.now c.requires.flat in omega (arith, n)
@@ -42,7 +57,7 @@ pub overflow_add-weight : goal.overflow_add-weight
 overflow_add-weight g c = omega (arith, (counted_next g c).1, c.requires.fits)
 
 pub loop-level-preserved : goal.loop-level-preserved
-loop-level-preserved g c = record { within = omega arith; some = omega arith; so_far = (counted_next g c).0 }
+loop-level-preserved g c = record { within = below_within c.loop-level.invariant.within; some = above_first c.loop-level-test.true; so_far = (counted_next g c).0 }
 
 pub overflow_mul-result : goal.overflow_mul-result
 overflow_mul-result g c =
@@ -68,3 +83,21 @@ overflow_add-result g c = omega (arith, (counted_last g c).1, c.requires.fits)
 
 pub returns : goal.returns
 returns g c = (counted_last g c).0
+
+pub level_slice-requires-clause-within : goal.level_slice-requires-clause-within
+level_slice-requires-clause-within g c = place_within c.loop-level-test.true c.loop-level.invariant.within
+
+pub level_slice-requires-2-clause-within : goal.level_slice-requires-2-clause-within
+level_slice-requires-2-clause-within g c = c.requires.some_level
+
+pub level_slice-requires-clause-flat : goal.level_slice-requires-clause-flat
+level_slice-requires-clause-flat g c = c.requires.flat
+
+pub level_slice-requires-2-clause-flat : goal.level_slice-requires-2-clause-flat
+level_slice-requires-2-clause-flat g c = c.requires.flat
+
+pub loop-level-smaller : goal.loop-level-smaller
+loop-level-smaller g c = one_less c.loop-level-test.true
+
+pub overflow_sub-level-in-loop-level : goal.overflow_sub-level-in-loop-level
+overflow_sub-level-in-loop-level g c = some_there c.loop-level-test.true

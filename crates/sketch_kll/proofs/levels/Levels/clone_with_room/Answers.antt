@@ -39,3 +39,6 @@ returns-in_err-reserve_taken g c =
     let r = c.from_residual.result in
     let err = c.from_residual.ensures.0 in
     record { kept = kept_still c.self.view_is c.reserve_taken.ensures.items c.reserve_taken.ensures.bounds; clones = IfOk-from_err r _ err; room = IfOk-from_err r _ err; spare = IfOk-from_err r _ err }
+
+pub total_capacity-most-requires-clause-minimum : goal.total_capacity-most-requires-clause-minimum
+total_capacity-most-requires-clause-minimum g c = c.self.invariant.k_above

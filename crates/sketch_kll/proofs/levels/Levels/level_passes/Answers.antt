@@ -1,14 +1,26 @@
-use Rattle.std.proofs.Common.{◌≡◌, ◌<◌, ◌-◌, length, drop, sym, subst, true, ap, ◌∙◌, arith, nat_le, not, ap₂, get_or, ◌+◌}
+use Rattle.std.proofs.Common.{◌≡◌, ◌<◌, ◌-◌, length, sym, subst, true, ap, ◌∙◌, arith, nat_le, not, ap₂, get_or, ◌+◌, suc, List, ℕ, ◌≤◌}
 use Rattle.sketch_kll.specs.Capacity.{capacity_at}
-use Rattle.sketch_kll.specs.Levels.{first_level}
 use Rattle.sketch_kll.specs.Flat.{levels_in}
 use Rattle.sketch_kll.specs.Steps.{is_full}
 use Rattle.sketch_kll.specs.Stored.{Stored}
 use Rattle.sketch_kll.proofs.Flats.{bound_falls_to, length-bounds}
 use Rattle.sketch_kll.proofs.CompressWalks.{passes_is}
+use Rattle.sketch_kll.specs.Compress.{passes}
 use Rattle.sketch_kll.proofs.levels.Levels.level_passes.Goals as goal
 use Rattle.sketch_kll.proofs.levels.Levels.level_passes.Goals.at as past
 use Rattle.sketch_kll.proofs.levels.Levels.level_passes.Goals.{After-as_slice-bounds}
+
+depth_of : (l level : ℕ) {len n : ℕ} → len ≡ n → n ≡ l + 1 → len - 1 - 1 - level ≡ l - 1 - level
+depth_of l level len n = omega (arith, len, n)
+
+next_is : (level : ℕ) → suc level ≡ level + 1
+next_is level = omega arith
+
+gap_is : (n b : ℕ) {a : ℕ} → a ≡ n + b → a - b ≡ n
+gap_is n b a = omega (arith, a)
+
+below_is : (n b : ℕ) {a : ℕ} → a ≡ n + b → b ≤ a
+below_is n b a = omega (arith, a)
 
 within : (g : _) (c : After-as_slice-bounds g) → c.args.level + 1 < length c.as_slice-bounds.result.now
 within g c =
@@ -32,17 +44,19 @@ bounds-bounds-level-2 g c = omega (arith, within g (past.bounds-bounds-level-2 g
 
 pub overflow_sub-bounds : goal.overflow_sub-bounds
 overflow_sub-bounds g c =
-    rw c.as_slice-bounds.ensures.value (omega (arith, bound_falls_to c.self.inside.items.items c.self.inside.bounds.items c.self.invariant.flat c.args.level (c.args.level + 1) (omega arith)))
+    subst (λ (bs : List ℕ). get_or bs (c.args.level + 1) 0 ≤ get_or bs c.args.level 0) (sym c.as_slice-bounds.ensures.value)
+    (below_is _ _ (bound_falls_to c.self.inside.items.items c.self.inside.bounds.items c.self.invariant.flat c.args.level (c.args.level + 1) (next_is c.args.level)))
 
 pub returns : goal.returns
 returns g c =
     let x = c.self.inside in
-    let n = length-bounds x.items.items x.bounds.items c.self.invariant.flat in
-    let m : length x.bounds.items - 1 - 1 - c.args.level ≡ length (levels_in x.items.items x.bounds.items) - 1 - c.args.level = omega (arith, n) in
-    let f = bound_falls_to x.items.items x.bounds.items c.self.invariant.flat c.args.level (c.args.level + 1) (omega arith) in
-    let w : get_or x.bounds.items c.args.level 0 - get_or x.bounds.items (c.args.level + 1) 0 ≡ length (first_level (drop c.args.level (levels_in x.items.items x.bounds.items))) = omega (arith, f) in
+    let value = c.as_slice-bounds.ensures.value in
+    let count = ap (λ (bs : List ℕ). get_or bs c.args.level 0 - get_or bs (c.args.level + 1) 0) value
+    ∙ gap_is _ _ (bound_falls_to x.items.items x.bounds.items c.self.invariant.flat c.args.level (c.args.level + 1) (next_is c.args.level)) in
+    let depth = depth_of _ c.args.level (ap length value) (length-bounds x.items.items x.bounds.items c.self.invariant.flat) in
     let p = passes_is x.k c.args.level (levels_in x.items.items x.bounds.items) (subst (λ (y : Stored g.row.T.Denot). is_full y.k y.levels ≡ true) (sym c.self.view_is) c.requires.full) in
-    rw (← c.self.view_is, c.is_at_capacity.ensures, c.as_slice-bounds.ensures.value) (ap₂ (λ cap i. not (nat_le cap i)) (ap (capacity_at x.k 8) m) w ∙ sym p)
+    ap not c.is_at_capacity.ensures
+    ∙ (ap₂ (λ (most n : ℕ). not (nat_le most n)) (ap (capacity_at x.k 8) depth) count ∙ (sym p ∙ ap (λ (y : Stored g.row.T.Denot). passes y.k y.levels c.args.level) c.self.view_is))
 
 pub offset_bounds-bounds-level-2 : goal.offset_bounds-bounds-level-2
 offset_bounds-bounds-level-2 g c = grind arith

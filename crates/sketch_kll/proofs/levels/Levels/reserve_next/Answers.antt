@@ -1,25 +1,27 @@
-use Rattle.std.proofs.Common.{ap₂, ap, length, arith}
-use Rattle.std.proofs.lemmas.Grind.{common_steps}
+use Rattle.std.proofs.Common.{ap₂, ap, length, arith, ℕ, ◌≡◌, ◌+◌, ◌<◌}
 use Rattle.std.proofs.lemmas.Result.{on_ok_weaker}
 use Rattle.sketch_kll.specs.Flat.{levels_in}
 use Rattle.sketch_kll.specs.Levels.{retained}
 use Rattle.sketch_kll.proofs.Flats.{length-bounds, length-items}
+use Rattle.sketch_kll.proofs.StoredLevels.{stored_still, kept_still}
 use Rattle.sketch_kll.proofs.levels.Levels.reserve_next.Goals as goal
 
-pub returns-clause-room : goal.returns-clause-room
-returns-clause-room g c =
-    let same = ap retained (ap₂ levels_in c.reserve_both.ensures.items c.reserve_both.ensures.bounds) in
-    let n = length-items c.self.inside.items.items c.self.inside.bounds.items c.self.invariant.flat in
-    on_ok_weaker c.reserve_both.result (λ room. omega (arith, same, n, room)) c.reserve_both.ensures.room
+less_of : {now held len room : ℕ} → now ≡ held → len ≡ held → len < room → now < room
+less_of now len less = omega (arith, now, len, less)
 
-pub returns-clause-spare : goal.returns-clause-spare
-returns-clause-spare g c =
-    let same = ap length (ap₂ levels_in c.reserve_both.ensures.items c.reserve_both.ensures.bounds) in
-    let n = length-bounds c.self.inside.items.items c.self.inside.bounds.items c.self.invariant.flat in
-    on_ok_weaker c.reserve_both.result (λ room. omega (arith, same, n, room)) c.reserve_both.ensures.spare
+more_of : (l : ℕ) {now len room : ℕ} → now ≡ l → len ≡ l + 1 → len < room → now + 1 < room
+more_of l now len less = omega (arith, now, len, less)
+
+pub returns : goal.returns
+returns g c =
+    let made = c.reserve_both.ensures in
+    let x = c.self.inside in
+    let r = c.reserve_both.result in
+    record {
+      kept = kept_still c.self.view_is made.items made.bounds;
+      room = on_ok_weaker r (less_of (ap retained (ap₂ levels_in made.items made.bounds)) (length-items x.items.items x.bounds.items c.self.invariant.flat)) made.room;
+      spare = on_ok_weaker r (more_of _ (ap length (ap₂ levels_in made.items made.bounds)) (length-bounds x.items.items x.bounds.items c.self.invariant.flat)) made.spare;
+    }
 
 pub invariant_of-self : goal.invariant_of-self
-invariant_of-self g c = grind (arith, common_steps)
-
-pub returns-clause-kept : goal.returns-clause-kept
-returns-clause-kept g c = grind (arith, common_steps)
+invariant_of-self g c = stored_still c.self.invariant c.reserve_both.ensures.items c.reserve_both.ensures.bounds
