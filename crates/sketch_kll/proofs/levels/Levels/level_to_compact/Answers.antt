@@ -1,6 +1,6 @@
-use Rattle.std.proofs.Common.{◌≡◌, ℕ, ◌+◌, ◌-◌, ◌^◌, ◌<◌, ◌≤◌, List, length, map, arith, ap, ap₂, ◌∙◌}
+use Rattle.std.proofs.Common.{◌≡◌, ℕ, ◌+◌, ◌-◌, ◌^◌, ◌<◌, ◌≤◌, List, length, map, arith, ap, ap₂, ◌∙◌, subst₂, sym}
 use Rattle.sketch_kll.specs.Capacity.{total_of}
-use Rattle.sketch_kll.specs.Flat.{levels_in}
+use Rattle.sketch_kll.specs.Flat.{levels_in, IsFlat}
 use Rattle.sketch_kll.specs.Levels.{retained}
 use Rattle.sketch_kll.specs.Schedule.{lowest_full}
 use Rattle.sketch_kll.specs.Steps.{put_count}
@@ -22,7 +22,8 @@ pub find_level_to_compact-requires-clause-k : goal.find_level_to_compact-require
 find_level_to_compact-requires-clause-k g c = c.self.invariant.k_above
 
 pub find_level_to_compact-requires-clause-flat : goal.find_level_to_compact-requires-clause-flat
-find_level_to_compact-requires-clause-flat g c = rw (c.deref.ensures.value, c.deref-2.ensures.value) c.self.invariant.flat
+find_level_to_compact-requires-clause-flat g c = 
+    subst₂ (λ (xs : List g.row.T.Denot) (bs : List ℕ). IsFlat xs bs) (sym c.deref.ensures.value) (sym c.deref-2.ensures.value) c.self.invariant.flat
 
 some_of : {n l : ℕ} → n ≡ l + 1 → 0 < l → 1 < n
 some_of n some = omega arith
@@ -63,6 +64,18 @@ find_level_to_compact-requires-clause-full g c =
     (ap length c.deref.ensures.value ∙ length-items x.items.items x.bounds.items c.self.invariant.flat)
     (ap (λ (y : Stored g.row.T.Denot). retained y.levels) c.self.view_is) c.requires.full
 
+few_now : {n m : ℕ} → n ≡ m → n ≤ 61 → m ≤ 61
+few_now same few = omega (arith, same, few)
+
+some_now : {n m : ℕ} → n ≡ m → 0 < n → 0 < m
+some_now same some = omega (arith, same, some)
+
+within_now : (l : ℕ) {level n m : ℕ} → n ≡ l + 1 → l ≡ m → level + 1 < n → level < m
+within_now l n same within = omega (arith, n, same, within)
+
+low_now : {level lowest : ℕ} → level ≡ lowest → lowest < 60 → level < 60
+low_now same low = omega (arith, same, low)
+
 pub returns : goal.returns
 returns g c =
     let sliced = (past.returns g c).After-deref-2 in
@@ -70,5 +83,5 @@ returns g c =
     let n = ap length c.deref-2.ensures.value ∙ length-bounds x.items.items x.bounds.items c.self.invariant.flat in
     let m = ap (λ (y : Stored g.row.T.Denot). length y.levels) c.self.view_is in
     let level = c.find_level_to_compact.ensures.level ∙ seen g sliced (λ k ls. lowest_full k (put_count c.args.more (map length ls))) in
-    let low = lowest_full_low c.args.self.now.k c.args.more c.args.self.now.levels (omega (arith, m, c.self.invariant.some)) (omega (arith, m, c.self.invariant.few)) c.requires.light c.requires.full in
-    record { level = level; within = omega (arith, n, m, c.find_level_to_compact.ensures.within); few = omega (arith, level, low) }
+    let low = lowest_full_low c.args.self.now.k c.args.more c.args.self.now.levels (some_now m c.self.invariant.some) (few_now m c.self.invariant.few) c.requires.light c.requires.full in
+    record { level = level; within = within_now _ n m c.find_level_to_compact.ensures.within; few = low_now level low }
