@@ -10,7 +10,7 @@ use Rattle.sketch_kll.proofs.StoredLevels.{CompactedStored, known_total, compact
 use Rattle.sketch_kll.proofs.JoinedLevels.{whole_slice}
 use Rattle.sketch_kll.proofs.levels.Levels.compact.Goals as goal
 use Rattle.sketch_kll.proofs.levels.Levels.compact.Goals.at as past
-use Rattle.sketch_kll.proofs.levels.Levels.compact.Goals.{After-order_level, After-truncate, After-needs_sorting-needs_sorting}
+use Rattle.sketch_kll.proofs.levels.Levels.compact.Goals.{After-order_level, After-truncate, After-needs_sorting-needs_sorting, After-len-num_levels}
 
 pub add_level_above-requires-clause-spare : goal.add_level_above-requires-clause-spare
 add_level_above-requires-clause-spare g c =
@@ -92,6 +92,10 @@ bounds_len g c = ap length (bounds_are g c) ∙ (c.compact_level-count.auto.boun
 some_of : (level : ℕ) {len n : ℕ} → len ≡ n → level + 2 < n → 1 ≤ len
 some_of level is within = omega arith
 
+-- the number of bounds stays as it was
+len_is : (g : _) (c : After-len-num_levels g) → c.len-num_levels.result ≡ c.add_level_above.new.bounds.len
+len_is g c = c.len-num_levels.ensures
+
 -- what the compaction leaves in the vectors
 left : (g : _) (c : After-truncate g) →
     IsOrdered g.T.Ord.cmp c.needs_sorting-needs_sorting.result c.args.level c.self.inside.items.items c.order_level.new.items.items c.add_level_above.new.bounds.items →
@@ -113,12 +117,12 @@ pub total_at-self-inside-requires-clause-few_levels : goal.total_at-self-inside-
 total_at-self-inside-requires-clause-few_levels g c =
     let after = (past.total_at-self-inside-requires-clause-few_levels g c).After-truncate in
     let order = ordered g (past.total_at-self-inside-requires-clause-few_levels g c).After-order_level in
-    few_of (c.len-num_levels.ensures ∙ sym (bounds_len g after)) (left g after order).few
+    few_of (len_is g (past.total_at-self-inside-requires-clause-few_levels g c).After-len-num_levels ∙ sym (bounds_len g after)) (left g after order).few
 
 pub invariant_of-self : goal.invariant_of-self
 invariant_of-self g c =
     let after = (past.invariant_of-self g c).After-truncate in
-    (left g after (ordered g (past.invariant_of-self g c).After-order_level)).stored _ c.len-num_levels.result (c.len-num_levels.ensures ∙ sym (bounds_len g after)) c.total_at-self-inside.ensures
+    (left g after (ordered g (past.invariant_of-self g c).After-order_level)).stored _ c.len-num_levels.result (len_is g (past.invariant_of-self g c).After-len-num_levels ∙ sym (bounds_len g after)) c.total_at-self-inside.ensures
 
 same_room : {own now ordered cut : ℕ} → own ≡ now → ordered ≡ own → cut ≡ ordered → now ≤ cut
 same_room p q r = omega arith
@@ -157,7 +161,7 @@ pub total_at-self-inside-requires-clause-k : goal.total_at-self-inside-requires-
 total_at-self-inside-requires-clause-k g c = c.self.invariant.k_above
 
 pub overflow_sub-num_levels : goal.overflow_sub-num_levels
-overflow_sub-num_levels g c = some_of c.args.level (c.len-num_levels.ensures ∙ c.add_level_above.new.bounds.ok.0) (up g (past.overflow_sub-num_levels g c).After-needs_sorting-needs_sorting true).within
+overflow_sub-num_levels g c = some_of c.args.level (len_is g c ∙ c.add_level_above.new.bounds.ok.0) (up g (past.overflow_sub-num_levels g c).After-needs_sorting-needs_sorting true).within
 
 pub overflow_sub-known : goal.overflow_sub-known
 overflow_sub-known g c = grind arith
