@@ -10,7 +10,7 @@ use Rattle.sketch_kll.proofs.StoredLevels.{CompactedStored, known_total, compact
 use Rattle.sketch_kll.proofs.JoinedLevels.{whole_slice}
 use Rattle.sketch_kll.proofs.levels.Levels.compact.Goals as goal
 use Rattle.sketch_kll.proofs.levels.Levels.compact.Goals.at as past
-use Rattle.sketch_kll.proofs.levels.Levels.compact.Goals.{After-order_level, After-truncate, After-needs_sorting-needs_sorting, After-len-num_levels}
+use Rattle.sketch_kll.proofs.levels.Levels.compact.Goals.{After-order_level, After-truncate, After-needs_sorting-needs_sorting, After-len-num_levels, After-len}
 
 pub add_level_above-requires-clause-spare : goal.add_level_above-requires-clause-spare
 add_level_above-requires-clause-spare g c =
@@ -96,6 +96,19 @@ some_of level is within = omega arith
 len_is : (g : _) (c : After-len-num_levels g) → c.len-num_levels.result ≡ c.add_level_above.new.bounds.len
 len_is g c = c.len-num_levels.ensures
 
+-- what is left of the items
+held_is : (g : _) (c : After-len g) → c.len.result ≡ length c.deref_mut.result.now
+held_is g c = c.len.ensures ∙ sym c.deref_mut.ensures.len
+
+cut_is : (g : _) (c : After-truncate g) → c.truncate.new.self.items ≡ take (length c.deref_mut.result.now - c.compact_level-count.result) c.compact_level-count.new.items
+cut_is g c =
+    let items : List g.row.T.Denot = c.compact_level-count.new.items in
+    let made : c.truncate.new.self.items
+        ≡ take (c.len.result - c.compact_level-count.result) (take c.order_level.new.items.len (items ++ drop (length items) c.order_level.new.items.items)) = c.truncate.ensures.items in
+    let whole = whole_slice items c.order_level.new.items.items c.order_level.new.items.len (c.compact_level-count.auto.items ∙ c.deref_mut.ensures.len) in
+    let held : c.len.result ≡ length c.deref_mut.result.now = c.len.ensures ∙ sym c.deref_mut.ensures.len in
+    made ∙ ap₂ (λ n xs. take (n - c.compact_level-count.result) xs) held whole
+
 -- what the compaction leaves in the vectors
 left : (g : _) (c : After-truncate g) →
     IsOrdered g.T.Ord.cmp c.needs_sorting-needs_sorting.result c.args.level c.self.inside.items.items c.order_level.new.items.items c.add_level_above.new.bounds.items →
@@ -103,12 +116,9 @@ left : (g : _) (c : After-truncate g) →
     c.truncate.new.self.items (shifted_bounds g c)
 left g c order =
     let made = c.compact_level-count.ensures in
-    let items : List g.row.T.Denot = c.compact_level-count.new.items in
-    let items_are = whole_slice items c.order_level.new.items.items c.order_level.new.items.len (c.compact_level-count.auto.items ∙ c.deref_mut.ensures.len) in
     compacted_left g.met.T.Ord.total c.needs_sorting-needs_sorting.result c.random_bit-coin.result c.self.invariant (ap (λ (y : Stored g.row.T.Denot). y.levels) c.self.view_is) c.requires.within c.requires.few
     c.add_level_above.ensures.items order c.deref_mut.ensures.value c.deref_mut-2.ensures.value
-    (c.truncate.ensures.items ∙ ap₂ (λ n xs. take (n - c.compact_level-count.result) xs) (c.len.ensures ∙ sym c.deref_mut.ensures.len) items_are)
-    (bounds_are g c) made.flat made.alike made.sorted
+    (cut_is g c) (bounds_are g c) made.flat made.alike made.sorted
 
 few_of : {len n : ℕ} → len ≡ n → n ≤ 62 → len - 1 ≤ 61
 few_of is few = omega arith
@@ -170,7 +180,7 @@ pub add_level_above-requires-clause-within : goal.add_level_above-requires-claus
 add_level_above-requires-clause-within g c = low_of c.requires.few
 
 pub overflow_sub-len : goal.overflow_sub-len
-overflow_sub-len g c = most_of c.compact_level-count.ensures.at_most (c.len.ensures ∙ sym c.deref_mut.ensures.len)
+overflow_sub-len g c = most_of c.compact_level-count.ensures.at_most (held_is g c)
 
 pub order_level-requires-clause-flat : goal.order_level-requires-clause-flat
 order_level-requires-clause-flat g c =

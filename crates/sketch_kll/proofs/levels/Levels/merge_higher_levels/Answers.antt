@@ -7,7 +7,7 @@ use Rattle.sketch_kll.proofs.Flats.{length-items}
 use Rattle.sketch_kll.proofs.JoinedLevels.{prepared, joined_fit, whole_slice, Prepared}
 use Rattle.sketch_kll.proofs.StoredLevels.{JoinedStored, known_total, joined_stored}
 use Rattle.sketch_kll.proofs.levels.Levels.merge_higher_levels.Goals as goal
-use Rattle.sketch_kll.proofs.levels.Levels.merge_higher_levels.Goals.{After-drop-upper, After-add_levels}
+use Rattle.sketch_kll.proofs.levels.Levels.merge_higher_levels.Goals.{After-drop-upper, After-add_levels, After-len-num_levels}
 use Rattle.sketch_kll.proofs.levels.Levels.merge_higher_levels.Goals.at as past
 
 spare_of : {now own room : ℕ} → now ≡ own → own ≡ room → 63 ≤ room → 63 ≤ now
@@ -25,6 +25,10 @@ wide : (g : _) (c : After-add_levels g) →
     (levels_in c.args.upper.items (drop 1 c.args.others.now))
 wide g c = prepared c.args.others.now c.self.invariant c.requires.upper c.requires.some c.requires.few c.add_levels.ensures.items refl
 
+-- the number of bounds stays as it was
+len_is : (g : _) (c : After-len-num_levels g) → c.len-num_levels.result ≡ c.add_levels.new.bounds.len
+len_is g c = c.len-num_levels.ensures
+
 -- what is stored in the end
 stored_in_the_end : (g : _) (c : After-drop-upper g) →
     JoinedStored g.T.Ord.cmp c.self.inside.k
@@ -36,12 +40,12 @@ stored_in_the_end g c =
     let back = c.merge_runs_back.ensures in
     let added : c.add_bounds.new.bounds ≡ joined_bounds c.deref.result.now c.args.others.now =
     c.add_bounds.ensures ∙ ap (λ (b : List ℕ). joined_bounds b c.args.others.now) (c.deref_mut.ensures.value ∙ sym c.deref.ensures.value) in
-    let len_is = c.add_bounds.auto.bounds ∙ c.deref_mut.ensures.len in
-    let whole = whole_slice c.add_bounds.new.bounds wide.items wide.len len_is in
+    let count : c.len-num_levels.result ≡ wide.len = c.len-num_levels.ensures in
+    let long = c.add_bounds.auto.bounds ∙ c.deref_mut.ensures.len in
+    let whole = whole_slice c.add_bounds.new.bounds wide.items wide.len long in
     joined_stored c.args.others.now c.self.invariant c.requires.upper c.requires.some c.requires.few (c.deref.ensures.value ∙ c.add_levels.ensures.items)
     (ap (λ v. v.items) c.take_away-items.ensures.taken)
-    back.flat back.levels back.sorted c.reverse.ensures.items (whole ∙ added) c.len-num_levels.result (c.len-num_levels.ensures ∙ sym
-    (ap length whole ∙ len_is)) c.total_at-self-inside.ensures
+    back.flat back.levels back.sorted c.reverse.ensures.items (whole ∙ added) c.len-num_levels.result (count ∙ sym (ap length whole ∙ long)) c.total_at-self-inside.ensures
 
 pub merge_runs_back-requires-clause-flat : goal.merge_runs_back-requires-clause-flat
 merge_runs_back-requires-clause-flat g c =
@@ -102,7 +106,7 @@ few_of : {len n : ℕ} → len ≡ n → n ≤ 62 → len - 1 ≤ 61
 few_of is few = omega arith
 
 pub total_at-self-inside-requires-clause-few_levels : goal.total_at-self-inside-requires-clause-few_levels
-total_at-self-inside-requires-clause-few_levels g c = few_of (c.len-num_levels.ensures ∙ c.add_levels.new.bounds.ok.0) (wide g (past.total_at-self-inside-requires-clause-few_levels g c).After-add_levels).few
+total_at-self-inside-requires-clause-few_levels g c = few_of (len_is g (past.total_at-self-inside-requires-clause-few_levels g c).After-len-num_levels ∙ c.add_levels.new.bounds.ok.0) (wide g (past.total_at-self-inside-requires-clause-few_levels g c).After-add_levels).few
 
 pub total_at-self-inside-requires-clause-total : goal.total_at-self-inside-requires-clause-total
 total_at-self-inside-requires-clause-total g c = known_total c.self.invariant c.len-known.result (c.len-known.ensures ∙ c.self.inside.bounds.ok.0)
@@ -123,7 +127,7 @@ returns g c =
     }
 
 pub overflow_sub-num_levels : goal.overflow_sub-num_levels
-overflow_sub-num_levels g c = some_of (c.len-num_levels.ensures ∙ c.add_levels.new.bounds.ok.0) c.requires.some (wide g (past.overflow_sub-num_levels g c).After-add_levels).fewer
+overflow_sub-num_levels g c = some_of (len_is g c ∙ c.add_levels.new.bounds.ok.0) c.requires.some (wide g (past.overflow_sub-num_levels g c).After-add_levels).fewer
 
 pub total_at-self-inside-requires-clause-k : goal.total_at-self-inside-requires-clause-k
 total_at-self-inside-requires-clause-k g c = c.self.invariant.k_above
