@@ -96,18 +96,27 @@ some_of level is within = omega arith
 len_is : (g : _) (c : After-len-num_levels g) → c.len-num_levels.result ≡ c.add_level_above.new.bounds.len
 len_is g c = c.len-num_levels.ensures
 
+cut_off : {A : Type 0} (count : ℕ) (items old : List A) {cut : List A} {len kept lent : ℕ} → cut ≡ take (len - count) (take kept (items ++ drop (length items) old)) → len ≡ kept → lent ≡ kept →
+    length items ≡ lent → cut ≡ take (lent - count) items
+cut_off count items old {kept = kept} made left lent same =
+    made ∙ ap₂ (λ n xs. take (n - count) xs) (left ∙ sym lent) (whole_slice items old kept (same ∙ lent))
+
 -- what is left of the items
 held_is : (g : _) (c : After-len g) → c.len.result ≡ length c.deref_mut.result.now
-held_is g c = c.len.ensures ∙ sym c.deref_mut.ensures.len
+held_is g c =
+    let left : c.len.result ≡ c.order_level.new.items.len = c.len.ensures in
+    let lent : length c.deref_mut.result.now ≡ c.order_level.new.items.len = c.deref_mut.ensures.len in
+    left ∙ sym lent
 
 cut_is : (g : _) (c : After-truncate g) → c.truncate.new.self.items ≡ take (length c.deref_mut.result.now - c.compact_level-count.result) c.compact_level-count.new.items
 cut_is g c =
     let items : List g.row.T.Denot = c.compact_level-count.new.items in
-    let made : c.truncate.new.self.items
-        ≡ take (c.len.result - c.compact_level-count.result) (take c.order_level.new.items.len (items ++ drop (length items) c.order_level.new.items.items)) = c.truncate.ensures.items in
-    let whole = whole_slice items c.order_level.new.items.items c.order_level.new.items.len (c.compact_level-count.auto.items ∙ c.deref_mut.ensures.len) in
-    let held : c.len.result ≡ length c.deref_mut.result.now = c.len.ensures ∙ sym c.deref_mut.ensures.len in
-    made ∙ ap₂ (λ n xs. take (n - c.compact_level-count.result) xs) held whole
+    let old = c.order_level.new.items in
+    let made : c.truncate.new.self.items ≡ take (c.len.result - c.compact_level-count.result) (take old.len (items ++ drop (length items) old.items)) = c.truncate.ensures.items in
+    let left : c.len.result ≡ old.len = c.len.ensures in
+    let lent : length c.deref_mut.result.now ≡ old.len = c.deref_mut.ensures.len in
+    let same : length items ≡ length c.deref_mut.result.now = c.compact_level-count.auto.items in
+    cut_off c.compact_level-count.result items old.items made left lent same
 
 -- what the compaction leaves in the vectors
 left : (g : _) (c : After-truncate g) →
