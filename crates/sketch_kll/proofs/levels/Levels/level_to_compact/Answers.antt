@@ -22,7 +22,7 @@ pub find_level_to_compact-requires-clause-k : goal.find_level_to_compact-require
 find_level_to_compact-requires-clause-k g c = c.self.invariant.k_above
 
 pub find_level_to_compact-requires-clause-flat : goal.find_level_to_compact-requires-clause-flat
-find_level_to_compact-requires-clause-flat g c = 
+find_level_to_compact-requires-clause-flat g c =
     subst₂ (λ (xs : List g.row.T.Denot) (bs : List ℕ). IsFlat xs bs) (sym c.deref.ensures.value) (sym c.deref-2.ensures.value) c.self.invariant.flat
 
 some_of : {n l : ℕ} → n ≡ l + 1 → 0 < l → 1 < n

@@ -30,11 +30,11 @@ returns g c =
     record {
       kept = kept_still c.self.view_is c.reserve_merged.ensures.items c.reserve_merged.ensures.bounds;
       ready = record {
-            items_room = room_of made.room same n c.len.ensures;
-            bounds_room = made.spare;
-            merged_room = merged_of _ _ made.merged same n c.len-count.ensures c.in_ok-low.ensures.len;
-            merged_empty = made.empty;
-          };
+        items_room = room_of made.room same n c.len.ensures;
+        bounds_room = made.spare;
+        merged_room = merged_of _ _ made.merged same n c.len-count.ensures c.in_ok-low.ensures.len;
+        merged_empty = made.empty;
+      };
       clones = clones_told _ c.others.invariant.flat c.deref.ensures.value (ap (λ (y : Stored g.row.T.Denot). y.levels) c.others.view_is) c.in_ok-low.ensures.same c.in_ok-low.ensures.flat;
     }
 

@@ -64,12 +64,12 @@ returns-then-taken-free g c =
     record {
       k = c.compact.ensures.kept.k_is ∙ c.put_body.ensures.k;
       space = record {
-            left = ready.left;
-            are_left = ready.are_left;
-            same = subst (λ (ls : List (List g.row.T.Denot)). SameLevels cmp ls (put_all last c.compact.new.self.levels)) (sym (with_room_full cmp s.k level flag coin (needs_sorting flag level) (put_all new s.levels) full lowest refl))
-              (SameLevels-trans cmp g.met.T.Ord.total _ _ _ (ready.same coin) end);
-            source_is = c.compact.ensures.coins ∙ ap (λ (b : Bool). cond b (g.B.RandomBits.next c.args.coins.now) c.args.coins.now) full;
-          };
+        left = ready.left;
+        are_left = ready.are_left;
+        same = subst (λ (ls : List (List g.row.T.Denot)). SameLevels cmp ls (put_all last c.compact.new.self.levels)) (sym (with_room_full cmp s.k level flag coin (needs_sorting flag level) (put_all new s.levels) full lowest refl))
+            (SameLevels-trans cmp g.met.T.Ord.total _ _ _ (ready.same coin) end);
+        source_is = c.compact.ensures.coins ∙ ap (λ (b : Bool). cond b (g.B.RandomBits.next c.args.coins.now) c.args.coins.now) full;
+      };
       sorted = c.compact.ensures.sorted;
       shorter = fewer_still _ c.put_body.ensures.whole c.compact.ensures.shorter;
       room = same_room c.put_body.ensures.room c.compact.ensures.kept.items_room;
@@ -86,12 +86,12 @@ returns-else-taken-free g c =
     record {
       k = refl;
       space = record {
-            left = c.args.taken;
-            are_left = record { within = c.requires.within; untaken = refl };
-            same = subst (λ (ls : List (List g.row.T.Denot)). SameLevels g.T.Ord.cmp ls (put_all new s.levels)) (sym (with_room_spare g.T.Ord.cmp s.k (s.is_sorted && c.args.taken == 0) (g.B.RandomBits.bit c.args.coins.now) (put_all new s.levels) full))
-              (SameLevels-refl g.T.Ord.cmp g.met.T.Ord.total (put_all new s.levels));
-            source_is = ap (λ (b : Bool). cond b (g.B.RandomBits.next c.args.coins.now) c.args.coins.now) full;
-          };
+        left = c.args.taken;
+        are_left = record { within = c.requires.within; untaken = refl };
+        same = subst (λ (ls : List (List g.row.T.Denot)). SameLevels g.T.Ord.cmp ls (put_all new s.levels)) (sym (with_room_spare g.T.Ord.cmp s.k (s.is_sorted && c.args.taken == 0) (g.B.RandomBits.bit c.args.coins.now) (put_all new s.levels) full))
+            (SameLevels-refl g.T.Ord.cmp g.met.T.Ord.total (put_all new s.levels));
+        source_is = ap (λ (b : Bool). cond b (g.B.RandomBits.next c.args.coins.now) c.args.coins.now) full;
+      };
       sorted = c.free.ensures.sorted;
       shorter = le_refl _;
       room = le_refl _;
