@@ -125,8 +125,9 @@ joined_stored {A} {cmp} {k} {total} {total'} {items} {upper} {taken} {merged} {i
     rw (items_are, bounds_are) (record { stored = record { k_above = stored.k_above; flat = flat; total_is = total; some = sizes.some; few = sizes.few; sorted = sorted }; same = same })
 
 -- level 0 is sorted if it needs sorting, where the bounds are given as they were raised
-pub ordered_so : {A : Type 0} {cmp : A → A → Ordering} {needs is_sorted coin : Bool} {level : ℕ} {items new : List A} {bounds wide given : List ℕ} {ls : List (List A)} →
-    Raised cmp needs coin level items bounds wide → UpperSorted cmp (levels_in items bounds) → levels_in items bounds ≡ ls → given ≡ wide → needs ≡ needs_sorting is_sorted level →
+pub ordered_so : {A : Type 0} {cmp : A → A → Ordering} {needs is_sorted coin : Bool} {level : ℕ} {items new : List A} {bounds wide given : List ℕ}
+    {ls : List (List A)} → Raised cmp needs coin level items bounds wide → UpperSorted cmp (levels_in items bounds) → levels_in items bounds ≡ ls →
+    given ≡ wide → needs ≡ needs_sorting is_sorted level →
     (IsTrue is_sorted → level ≡ 0 → IsSorted cmp (first_level ls)) →
     ((l : ℕ) → (needs ≡ true → l ≡ 0) → (needs ≡ false → IsSorted cmp (first_level (drop l (levels_in items given)))) → IsOrdered cmp needs l items new given) →
     IsOrdered cmp needs level items new wide
@@ -134,18 +135,21 @@ ordered_so {A} {cmp} {needs} {is_sorted} {coin} {level} {items} {new} {bounds} {
     let first = up.first ∙ ap (λ (xs : List (List A)). first_level xs) own in
     let known = λ (e : needs ≡ false). known_sorted cmp is_sorted level (levels_in items wide) (up.sorted sorted)
     (λ t z. subst (λ (y : List A). IsSorted cmp y) (sym first) (flag t z)) (sym needs_is ∙ e) in
-    let at = subst (λ (bs : List ℕ). (l : ℕ) → (needs ≡ true → l ≡ 0) → (needs ≡ false → IsSorted cmp (first_level (drop l (levels_in items bs)))) → IsOrdered cmp needs l items new bs)
-    given_is order in
+    let at = subst
+    (λ (bs : List ℕ). (l : ℕ) → (needs ≡ true → l ≡ 0) → (needs ≡ false → IsSorted cmp (first_level (drop l (levels_in items bs)))) →
+    IsOrdered cmp needs l items new bs) given_is order in
     at level (λ e. lowest_alone is_sorted level (sym needs_is ∙ e)) known
 
 -- what a compaction leaves, where the vectors are given as they were ordered and raised, and what it leaves is cut off
-pub compacted_left : {A : Type 0} {cmp : A → A → Ordering} → IsTotalOrder cmp → {k total level : ℕ} {items ordered given cut items' : List A} {bounds wide given_bounds made bounds' : List ℕ}
-    {ls : List (List A)} (last coin : Bool) →
-    AreStored cmp k items bounds total → levels_in items bounds ≡ ls → level < length ls → level < 60 → wide ≡ raised level bounds → IsOrdered cmp last level items ordered wide →
+pub compacted_left : {A : Type 0} {cmp : A → A → Ordering} → IsTotalOrder cmp →
+    {k total level : ℕ} {items ordered given cut items' : List A} {bounds wide given_bounds made bounds' : List ℕ} {ls : List (List A)} (last coin : Bool) →
+    AreStored cmp k items bounds total → levels_in items bounds ≡ ls → level < length ls → level < 60 → wide ≡ raised level bounds →
+    IsOrdered cmp last level items ordered wide →
     given ≡ ordered → given_bounds ≡ wide → items' ≡ cut → bounds' ≡ made → IsFlat cut made →
     SameLevels cmp (compacted cmp last coin level (levels_in given given_bounds)) (levels_in cut made) → UpperSorted cmp (levels_in cut made) →
     CompactedStored cmp last coin k level ls items' bounds'
-compacted_left {A} {cmp} o {k} {level = level} {cut = cut} {items' = items'} {made = made} {bounds' = bounds'} {ls = ls} last coin stored own within low widened order given_is bounds_given cut_is made_is flat alike sorted =
+compacted_left {A} {cmp} o {k} {level = level} {cut = cut} {items' = items'} {made = made} {bounds' = bounds'} {ls = ls}
+    last coin stored own within low widened order given_is bounds_given cut_is made_is flat alike sorted =
     let before = ap₂ levels_in given_is bounds_given in
     let same = SameLevels-trans cmp o _ _ _ (order.same coin)
     (subst (λ (xs : List (List A)). SameLevels cmp (compacted cmp last coin level xs) (levels_in cut made)) before alike) in
@@ -154,12 +158,12 @@ compacted_left {A} {cmp} o {k} {level = level} {cut = cut} {items' = items'} {ma
 
 -- ---- vectors that hold what they held
 
-pub stored_still : {A : Type 0} {cmp : A → A → Ordering} {k total : ℕ} {items items' : List A} {bounds bounds' : List ℕ} → AreStored cmp k items bounds total → items' ≡ items → bounds' ≡ bounds →
-    AreStored cmp k items' bounds' total
+pub stored_still : {A : Type 0} {cmp : A → A → Ordering} {k total : ℕ} {items items' : List A} {bounds bounds' : List ℕ} →
+    AreStored cmp k items bounds total → items' ≡ items → bounds' ≡ bounds → AreStored cmp k items' bounds' total
 stored_still {A} {cmp} {k} {total} stored e f = subst₂ (λ (xs : List A) (bs : List ℕ). AreStored cmp k xs bs total) (sym e) (sym f) stored
 
-pub kept_still : {A : Type 0} {k room rooms room' rooms' : ℕ} {flag : Bool} {items items' : List A} {bounds bounds' : List ℕ} {seen : Stored A} → stored_of k flag items bounds room rooms ≡ seen →
-    items' ≡ items → bounds' ≡ bounds → KeepsLevels seen (stored_of k flag items' bounds' room' rooms')
+pub kept_still : {A : Type 0} {k room rooms room' rooms' : ℕ} {flag : Bool} {items items' : List A} {bounds bounds' : List ℕ}
+    {seen : Stored A} → stored_of k flag items bounds room rooms ≡ seen → items' ≡ items → bounds' ≡ bounds → KeepsLevels seen (stored_of k flag items' bounds' room' rooms')
 kept_still {A} view e f = record {
   k_is = ap (λ (y : Stored A). y.k) view;
   flag_is = ap (λ (y : Stored A). y.is_sorted) view;
@@ -167,11 +171,13 @@ kept_still {A} view e f = record {
 }
 
 -- clones of the levels between these bounds
-pub clones_told : {A : Type 0} {cmp : A → A → Ordering} {items : List A} {bounds given : List ℕ} {ls : List (List A)} (y : Incoming A) → IsFlat items bounds → given ≡ bounds →
-    levels_in items bounds ≡ ls → SameLevels cmp (levels_in items given) (y.low.items ∷ levels_in y.upper.items (drop 1 given)) → IsFlat y.upper.items (drop 1 given) → AreClones cmp ls y
+pub clones_told : {A : Type 0} {cmp : A → A → Ordering} {items : List A} {bounds given : List ℕ} {ls : List (List A)} (y : Incoming A) → IsFlat items bounds →
+    given ≡ bounds → levels_in items bounds ≡ ls → SameLevels cmp (levels_in items given) (y.low.items ∷ levels_in y.upper.items (drop 1 given)) →
+    IsFlat y.upper.items (drop 1 given) → AreClones cmp ls y
 clones_told {A} {cmp} {items} y flat given_is own same fits =
     let marks_are = given_is ∙ (sym flat.bounds_are ∙ ap marks own) in
     record {
-      same = subst₂ (λ (xs : List (List A)) (bs : List ℕ). SameLevels cmp xs (y.low.items ∷ levels_in y.upper.items (drop 1 bs))) (ap (levels_in items) given_is ∙ own) marks_are same;
+      same = subst₂ (λ (xs : List (List A)) (bs : List ℕ). SameLevels cmp xs (y.low.items ∷ levels_in y.upper.items (drop 1 bs)))
+          (ap (levels_in items) given_is ∙ own) marks_are same;
       flat = subst (λ (bs : List ℕ). IsFlat y.upper.items (drop 1 bs)) marks_are fits;
     }

@@ -38,14 +38,16 @@ loop-level-init g c =
 
 pub overflow_sub-end : goal.overflow_sub-end
 overflow_sub-end g c =
-    begins_below _ (c.loop-level.invariant.ends (within_of _ (length-bounds c.args.items.now c.args.bounds.now c.requires.flat) c.loop-level-test.true)) (ap (λ (i : ℕ). get_or c.args.bounds.now i 0) (one_on c.loop-level.level))
+    begins_below _ (c.loop-level.invariant.ends (within_of _ (length-bounds c.args.items.now c.args.bounds.now c.requires.flat) c.loop-level-test.true))
+    (ap (λ (i : ℕ). get_or c.args.bounds.now i 0) (one_on c.loop-level.level))
 
 pub returns-then-is_at_capacity-clause-level : goal.returns-then-is_at_capacity-clause-level
 returns-then-is_at_capacity-clause-level g c =
     let n = length-bounds c.args.items.now c.args.bounds.now c.requires.flat in
     let begin : ℕ = get_or c.args.bounds.now (c.loop-level.level + 1) 0 in
     let full = leb-true _ _ (sym c.is_at_capacity.ensures ∙ c.if-is_at_capacity.true) in
-    sym (sought_found c.args.k c.args.more c.args.items.now c.args.bounds.now c.requires.flat (some_of _ n c.requires.some_level) c.loop-level.level c.loop-level.end begin
+    sym (sought_found c.args.k c.args.more c.args.items.now c.args.bounds.now c.requires.flat (some_of _ n c.requires.some_level) c.loop-level.level
+    c.loop-level.end begin
     c.loop-level.invariant (within_of _ n c.loop-level-test.true) (ap (λ (i : ℕ). get_or c.args.bounds.now i 0) (one_on c.loop-level.level))
     (subst (λ (d : ℕ). capacity_at c.args.k 8 d ≤ c.loop-level.end - begin) (depth_of _ c.loop-level.level n) full))
 
@@ -57,7 +59,8 @@ loop-level-preserved g c =
     leb-false _ _ (sym c.is_at_capacity.ensures ∙ c.if-is_at_capacity.false) in
     let same = one_on c.loop-level.level in
     subst (λ (h : ℕ). IsSought c.args.k c.args.more c.args.items.now c.args.bounds.now h begin) (sym same)
-    (sought_next c.args.k c.args.more c.args.items.now c.args.bounds.now c.requires.flat (some_of _ n c.requires.some_level) c.loop-level.level c.loop-level.end begin
+    (sought_next c.args.k c.args.more c.args.items.now c.args.bounds.now c.requires.flat (some_of _ n c.requires.some_level) c.loop-level.level
+    c.loop-level.end begin
     c.loop-level.invariant (within_of _ n c.loop-level-test.true) (ap (λ (i : ℕ). get_or c.args.bounds.now i 0) same)
     (subst (λ (d : ℕ). c.loop-level.end - begin < capacity_at c.args.k 8 d) (depth_of _ c.loop-level.level n) below))
 

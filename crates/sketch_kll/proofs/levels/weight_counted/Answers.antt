@@ -57,7 +57,11 @@ pub overflow_add-weight : goal.overflow_add-weight
 overflow_add-weight g c = omega (arith, (counted_next g c).1, c.requires.fits)
 
 pub loop-level-preserved : goal.loop-level-preserved
-loop-level-preserved g c = record { within = below_within c.loop-level.invariant.within; some = above_first c.loop-level-test.true; so_far = (counted_next g c).0 }
+loop-level-preserved g c = record {
+  within = below_within c.loop-level.invariant.within;
+  some = above_first c.loop-level-test.true;
+  so_far = (counted_next g c).0;
+}
 
 pub overflow_mul-result : goal.overflow_mul-result
 overflow_mul-result g c =

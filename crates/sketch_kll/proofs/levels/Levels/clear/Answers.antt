@@ -20,13 +20,15 @@ index_mut-requires-2 g c =
 pub invariant_of-self : goal.invariant_of-self
 invariant_of-self g c =
     let n = length-bounds c.self.inside.items.items c.self.inside.bounds.items c.self.invariant.flat in
-    let bounds = ap (λ (x : List ℕ). set (set x 0 0) 1 0) c.truncate.ensures.items ∙ two_bounds c.self.inside.bounds.items (two_there _ n c.self.invariant.some) in
+    let bounds = ap (λ (x : List ℕ). set (set x 0 0) 1 0) c.truncate.ensures.items ∙ two_bounds c.self.inside.bounds.items
+    (two_there _ n c.self.invariant.some) in
     empty_stored g.T.Ord.cmp c.self.inside.k _ _ _ c.self.invariant.k_above c.clear.ensures.items bounds c.total_capacity-self-inside.ensures.value
 
 pub returns : goal.returns
 returns g c =
     let n = length-bounds c.self.inside.items.items c.self.inside.bounds.items c.self.invariant.flat in
-    let bounds = ap (λ (x : List ℕ). set (set x 0 0) 1 0) c.truncate.ensures.items ∙ two_bounds c.self.inside.bounds.items (two_there _ n c.self.invariant.some) in
+    let bounds = ap (λ (x : List ℕ). set (set x 0 0) 1 0) c.truncate.ensures.items ∙ two_bounds c.self.inside.bounds.items
+    (two_there _ n c.self.invariant.some) in
     record {
       k = ap (λ (y : Stored g.row.T.Denot). y.k) c.self.view_is;
       flag = refl;

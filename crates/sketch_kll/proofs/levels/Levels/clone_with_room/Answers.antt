@@ -21,7 +21,8 @@ returns g c =
     record {
       kept = kept_still c.self.view_is c.reserve_taken.ensures.items c.reserve_taken.ensures.bounds;
       clones = IfOk-weaker c.to_vec.result _ _ (λ v same. SameItems-clones g.T.Ord.cmp g.T.Clone.is_clone c.requires.clones _ _ same) c.to_vec.ensures.ok;
-      room = IfOk-weaker c.to_vec.result _ _ (λ v len. room_of c.in_ok-reserve_taken.ensures.room n same len c.total_capacity-most.ensures.value) c.to_vec.ensures.len;
+      room = IfOk-weaker c.to_vec.result _ _ (λ v len. room_of c.in_ok-reserve_taken.ensures.room n same len c.total_capacity-most.ensures.value)
+          c.to_vec.ensures.len;
       spare = IfOk-weaker c.to_vec.result _ _ (λ _ _. c.in_ok-reserve_taken.ensures.spare) c.to_vec.ensures.ok;
     }
 
@@ -38,7 +39,12 @@ pub returns-in_err-reserve_taken : goal.returns-in_err-reserve_taken
 returns-in_err-reserve_taken g c =
     let r = c.from_residual.result in
     let err = c.from_residual.ensures.0 in
-    record { kept = kept_still c.self.view_is c.reserve_taken.ensures.items c.reserve_taken.ensures.bounds; clones = IfOk-from_err r _ err; room = IfOk-from_err r _ err; spare = IfOk-from_err r _ err }
+    record {
+      kept = kept_still c.self.view_is c.reserve_taken.ensures.items c.reserve_taken.ensures.bounds;
+      clones = IfOk-from_err r _ err;
+      room = IfOk-from_err r _ err;
+      spare = IfOk-from_err r _ err;
+    }
 
 pub total_capacity-most-requires-clause-minimum : goal.total_capacity-most-requires-clause-minimum
 total_capacity-most-requires-clause-minimum g c = c.self.invariant.k_above

@@ -29,7 +29,8 @@ own g c = ap (λ (y : Stored g.row.T.Denot). y.levels) c.self.view_is
 
 -- the levels with one above this one
 up : (g : _) (c : After-needs_sorting-needs_sorting g) (coin : Bool) →
-    Raised g.T.Ord.cmp c.needs_sorting-needs_sorting.result coin c.args.level c.self.inside.items.items c.self.inside.bounds.items c.add_level_above.new.bounds.items
+    Raised g.T.Ord.cmp c.needs_sorting-needs_sorting.result coin c.args.level c.self.inside.items.items c.self.inside.bounds.items
+    c.add_level_above.new.bounds.items
 up g c coin = raised_is c.needs_sorting-needs_sorting.result coin c.self.invariant (own g c) c.requires.within c.add_level_above.ensures.items
 
 -- the levels after level 0 is sorted if it needs sorting
@@ -37,8 +38,10 @@ ordered : (g : _) (c : After-order_level g) →
     IsOrdered g.T.Ord.cmp c.needs_sorting-needs_sorting.result c.args.level c.self.inside.items.items c.order_level.new.items.items c.add_level_above.new.bounds.items
 ordered g c =
     let own = ap (λ (y : Stored g.row.T.Denot). y.levels) c.self.view_is in
-    ordered_so (raised_is c.needs_sorting-needs_sorting.result true c.self.invariant own c.requires.within c.add_level_above.ensures.items) c.self.invariant.sorted own c.deref.ensures.value
-    (c.needs_sorting-needs_sorting.ensures ∙ ap (λ (y : Stored g.row.T.Denot). needs_sorting y.is_sorted c.args.level) c.self.view_is) c.requires.flag c.order_level.ensures.ordered
+    ordered_so (raised_is c.needs_sorting-needs_sorting.result true c.self.invariant own c.requires.within c.add_level_above.ensures.items)
+    c.self.invariant.sorted own c.deref.ensures.value
+    (c.needs_sorting-needs_sorting.ensures ∙ ap (λ (y : Stored g.row.T.Denot). needs_sorting y.is_sorted c.args.level) c.self.view_is) c.requires.flag
+    c.order_level.ensures.ordered
 
 more_than : {n len now : ℕ} → now ≡ len → n < len → n < now
 more_than is more = omega (arith, is, more)
@@ -61,7 +64,8 @@ compact_level-count-requires-clause-flat g c =
     (ordered_in c.deref_mut.ensures.value c.deref_mut-2.ensures.value (ordered g (past.compact_level-count-requires-clause-flat g c).After-order_level)).flat
 
 pub compact_level-count-requires-clause-within : goal.compact_level-count-requires-clause-within
-compact_level-count-requires-clause-within g c = more_than (ap length c.deref_mut-2.ensures.value) (up g (past.compact_level-count-requires-clause-within g c).After-needs_sorting-needs_sorting true).within
+compact_level-count-requires-clause-within g c =
+    more_than (ap length c.deref_mut-2.ensures.value) (up g (past.compact_level-count-requires-clause-within g c).After-needs_sorting-needs_sorting true).within
 
 pub compact_level-count-requires-clause-sorted : goal.compact_level-count-requires-clause-sorted
 compact_level-count-requires-clause-sorted g c =
@@ -96,7 +100,8 @@ some_of level is within = omega arith
 len_is : (g : _) (c : After-len-num_levels g) → c.len-num_levels.result ≡ c.add_level_above.new.bounds.len
 len_is g c = c.len-num_levels.ensures
 
-cut_off : {A : Type 0} (count : ℕ) (items old : List A) {cut : List A} {len kept lent : ℕ} → cut ≡ take (len - count) (take kept (items ++ drop (length items) old)) → len ≡ kept → lent ≡ kept →
+cut_off : {A : Type 0} (count : ℕ) (items old : List A) {cut : List A} {len kept lent : ℕ} →
+    cut ≡ take (len - count) (take kept (items ++ drop (length items) old)) → len ≡ kept → lent ≡ kept →
     length items ≡ lent → cut ≡ take (lent - count) items
 cut_off count items old {kept = kept} made left lent same =
     made ∙ ap₂ (λ n xs. take (n - count) xs) (left ∙ sym lent) (whole_slice items old kept (same ∙ lent))
@@ -108,11 +113,13 @@ held_is g c =
     let lent : length c.deref_mut.result.now ≡ c.order_level.new.items.len = c.deref_mut.ensures.len in
     left ∙ sym lent
 
-cut_is : (g : _) (c : After-truncate g) → c.truncate.new.self.items ≡ take (length c.deref_mut.result.now - c.compact_level-count.result) c.compact_level-count.new.items
+cut_is : (g : _) (c : After-truncate g) →
+    c.truncate.new.self.items ≡ take (length c.deref_mut.result.now - c.compact_level-count.result) c.compact_level-count.new.items
 cut_is g c =
     let items : List g.row.T.Denot = c.compact_level-count.new.items in
     let old = c.order_level.new.items in
-    let made : c.truncate.new.self.items ≡ take (c.len.result - c.compact_level-count.result) (take old.len (items ++ drop (length items) old.items)) = c.truncate.ensures.items in
+    let made : c.truncate.new.self.items ≡ take (c.len.result - c.compact_level-count.result)
+    (take old.len (items ++ drop (length items) old.items)) = c.truncate.ensures.items in
     let left : c.len.result ≡ old.len = c.len.ensures in
     let lent : length c.deref_mut.result.now ≡ old.len = c.deref_mut.ensures.len in
     let same : length items ≡ length c.deref_mut.result.now = c.compact_level-count.auto.items in
@@ -125,7 +132,8 @@ left : (g : _) (c : After-truncate g) →
     c.truncate.new.self.items (shifted_bounds g c)
 left g c order =
     let made = c.compact_level-count.ensures in
-    compacted_left g.met.T.Ord.total c.needs_sorting-needs_sorting.result c.random_bit-coin.result c.self.invariant (ap (λ (y : Stored g.row.T.Denot). y.levels) c.self.view_is) c.requires.within c.requires.few
+    compacted_left g.met.T.Ord.total c.needs_sorting-needs_sorting.result c.random_bit-coin.result c.self.invariant
+    (ap (λ (y : Stored g.row.T.Denot). y.levels) c.self.view_is) c.requires.within c.requires.few
     c.add_level_above.ensures.items order c.deref_mut.ensures.value c.deref_mut-2.ensures.value
     (cut_is g c) (bounds_are g c) made.flat made.alike made.sorted
 
@@ -141,7 +149,8 @@ total_at-self-inside-requires-clause-few_levels g c =
 pub invariant_of-self : goal.invariant_of-self
 invariant_of-self g c =
     let after = (past.invariant_of-self g c).After-truncate in
-    (left g after (ordered g (past.invariant_of-self g c).After-order_level)).stored _ c.len-num_levels.result (len_is g (past.invariant_of-self g c).After-len-num_levels ∙ sym (bounds_len g after)) c.total_at-self-inside.ensures
+    (left g after (ordered g (past.invariant_of-self g c).After-order_level)).stored _ c.len-num_levels.result
+    (len_is g (past.invariant_of-self g c).After-len-num_levels ∙ sym (bounds_len g after)) c.total_at-self-inside.ensures
 
 same_room : {own now ordered cut : ℕ} → own ≡ now → ordered ≡ own → cut ≡ ordered → now ≤ cut
 same_room p q r = omega arith
@@ -180,7 +189,9 @@ pub total_at-self-inside-requires-clause-k : goal.total_at-self-inside-requires-
 total_at-self-inside-requires-clause-k g c = c.self.invariant.k_above
 
 pub overflow_sub-num_levels : goal.overflow_sub-num_levels
-overflow_sub-num_levels g c = some_of c.args.level (len_is g c ∙ c.add_level_above.new.bounds.ok.0) (up g (past.overflow_sub-num_levels g c).After-needs_sorting-needs_sorting true).within
+overflow_sub-num_levels g c =
+    some_of c.args.level (len_is g c ∙ c.add_level_above.new.bounds.ok.0)
+    (up g (past.overflow_sub-num_levels g c).After-needs_sorting-needs_sorting true).within
 
 pub overflow_sub-known : goal.overflow_sub-known
 overflow_sub-known g c = grind arith
@@ -193,11 +204,14 @@ overflow_sub-len g c = most_of c.compact_level-count.ensures.at_most (held_is g 
 
 pub order_level-requires-clause-flat : goal.order_level-requires-clause-flat
 order_level-requires-clause-flat g c =
-    subst (λ (bs : List ℕ). IsFlat c.self.inside.items.items bs) (sym c.deref.ensures.value) (up g (past.order_level-requires-clause-flat g c).After-needs_sorting-needs_sorting true).flat
+    subst (λ (bs : List ℕ). IsFlat c.self.inside.items.items bs) (sym c.deref.ensures.value)
+    (up g (past.order_level-requires-clause-flat g c).After-needs_sorting-needs_sorting true).flat
 
 pub order_level-requires-clause-some : goal.order_level-requires-clause-some
-order_level-requires-clause-some g c = some_more c.args.level (ap length c.deref.ensures.value) (up g (past.order_level-requires-clause-some g c).After-needs_sorting-needs_sorting true).within
+order_level-requires-clause-some g c =
+    some_more c.args.level (ap length c.deref.ensures.value) (up g (past.order_level-requires-clause-some g c).After-needs_sorting-needs_sorting true).within
 
 pub order_level-requires-clause-sorted : goal.order_level-requires-clause-sorted
 order_level-requires-clause-sorted g c =
-    subst (λ (bs : List ℕ). UpperSorted g.T.Ord.cmp (levels_in c.self.inside.items.items bs)) (sym c.deref.ensures.value) ((up g (past.order_level-requires-clause-sorted g c).After-needs_sorting-needs_sorting true).sorted c.self.invariant.sorted)
+    subst (λ (bs : List ℕ). UpperSorted g.T.Ord.cmp (levels_in c.self.inside.items.items bs)) (sym c.deref.ensures.value)
+    ((up g (past.order_level-requires-clause-sorted g c).After-needs_sorting-needs_sorting true).sorted c.self.invariant.sorted)

@@ -23,7 +23,8 @@ none_beside full = omega (arith, full)
 pub returns-then-free-eq0 : goal.returns-then-free-eq0
 returns-then-free-eq0 g c =
     let s = c.args.self.now in
-    let full : true ≡ is_full s.k s.levels = sym (le-leb (total_of s.k 8 (length s.levels)) (retained s.levels) (full_of c.free.ensures.room c.if-free-eq0.true)) in
+    let full : true ≡ is_full s.k s.levels = sym (le-leb (total_of s.k 8 (length s.levels)) (retained s.levels)
+    (full_of c.free.ensures.room c.if-free-eq0.true)) in
     let level : c.level_to_compact-level.result ≡ full_level s.k s.levels =
     c.level_to_compact-level.ensures.level ∙ (full_level_with s.k [] s.levels ∙ ap (full_level s.k) (put_all-none s.levels c.free.ensures.some)) in
     let room = with_room_full g.T.Ord.cmp s.k c.level_to_compact-level.result s.is_sorted (g.B.RandomBits.bit c.args.coins.now) _ s.levels full level refl in
@@ -38,10 +39,12 @@ returns-then-free-eq0 g c =
 pub returns-else-free-eq0 : goal.returns-else-free-eq0
 returns-else-free-eq0 g c =
     let s = c.args.self.now in
-    let full : false ≡ is_full s.k s.levels = sym (lt-leb (total_of s.k 8 (length s.levels)) (retained s.levels) (spare_of c.free.ensures.room c.if-free-eq0.false)) in
+    let full : false ≡ is_full s.k s.levels = sym (lt-leb (total_of s.k 8 (length s.levels)) (retained s.levels)
+    (spare_of c.free.ensures.room c.if-free-eq0.false)) in
     record {
       kept = record { k_is = refl; flag_is = refl; items_room = le_refl _; bounds_room = le_refl _ };
-      levels = subst (λ (ls : List (List g.row.T.Denot)). SameLevels g.T.Ord.cmp ls s.levels) (sym (with_room_spare g.T.Ord.cmp s.k s.is_sorted (g.B.RandomBits.bit c.args.coins.now) s.levels full))
+      levels = subst (λ (ls : List (List g.row.T.Denot)). SameLevels g.T.Ord.cmp ls s.levels)
+          (sym (with_room_spare g.T.Ord.cmp s.k s.is_sorted (g.B.RandomBits.bit c.args.coins.now) s.levels full))
           (SameLevels-refl g.T.Ord.cmp g.met.T.Ord.total s.levels);
       sorted = c.free.ensures.sorted;
       shorter = le_refl _;

@@ -50,7 +50,8 @@ compress_level-requires-clause-few g c =
 pub compress_level-requires-clause-flag : goal.compress_level-requires-clause-flag
 compress_level-requires-clause-flag g c = λ told first.
     let i = c.loop-self.invariant in
-    subst (λ (ls : List (List g.row.T.Denot)). IsSorted g.T.Ord.cmp (first_level ls)) (sym (i.start first)) (c.requires.flag (subst (λ (f : Bool). IsTrue f) i.kept.flag_is told))
+    subst (λ (ls : List (List g.row.T.Denot)). IsSorted g.T.Ord.cmp (first_level ls)) (sym (i.start first))
+    (c.requires.flag (subst (λ (f : Bool). IsTrue f) i.kept.flag_is told))
 
 pub compress_level-requires-clause-spare : goal.compress_level-requires-clause-spare
 compress_level-requires-clause-spare g c = spare_of c.loop-self-test.ensures.few c.loop-self.invariant.kept.bounds_room c.requires.spare

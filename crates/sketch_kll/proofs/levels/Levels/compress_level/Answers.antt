@@ -13,7 +13,8 @@ returns-else-not-level_passes g c =
     record {
       kept = record { k_is = refl; flag_is = refl; items_room = le_refl _; bounds_room = le_refl _ };
       levels = subst (λ (ls : List (List g.row.T.Denot)). SameLevels g.T.Ord.cmp ls x.levels)
-          (sym (stepped_passed g.T.Ord.cmp x.k x.is_sorted (g.B.RandomBits.bit c.args.coins.now) c.args.level x.levels p)) (SameLevels-refl g.T.Ord.cmp g.met.T.Ord.total x.levels);
+          (sym (stepped_passed g.T.Ord.cmp x.k x.is_sorted (g.B.RandomBits.bit c.args.coins.now) c.args.level x.levels p))
+          (SameLevels-refl g.T.Ord.cmp g.met.T.Ord.total x.levels);
       coins = ap (λ (b : Bool). cond b c.args.coins.now (g.B.RandomBits.next c.args.coins.now)) p;
     }
 
@@ -25,7 +26,8 @@ returns-then-not-level_passes g c =
     record {
       kept = c.compact.ensures.kept;
       levels = subst (λ (p : Bool).
-          SameLevels g.T.Ord.cmp (cond p x.levels (compacted g.T.Ord.cmp (needs_sorting x.is_sorted c.args.level) b c.args.level x.levels)) c.compact.new.self.levels)
+          SameLevels g.T.Ord.cmp (cond p x.levels (compacted g.T.Ord.cmp (needs_sorting x.is_sorted c.args.level) b c.args.level x.levels))
+          c.compact.new.self.levels)
           (sym stays) c.compact.ensures.levels;
       coins = c.compact.ensures.coins ∙ ap (λ (p : Bool). cond p c.args.coins.now (g.B.RandomBits.next c.args.coins.now)) (sym stays);
     }

@@ -45,7 +45,8 @@ bounds-bounds-level-2 g c = omega (arith, within g (past.bounds-bounds-level-2 g
 pub overflow_sub-bounds : goal.overflow_sub-bounds
 overflow_sub-bounds g c =
     subst (λ (bs : List ℕ). get_or bs (c.args.level + 1) 0 ≤ get_or bs c.args.level 0) (sym c.as_slice-bounds.ensures.value)
-    (below_is _ _ (bound_falls_to c.self.inside.items.items c.self.inside.bounds.items c.self.invariant.flat c.args.level (c.args.level + 1) (next_is c.args.level)))
+    (below_is _ _ (bound_falls_to c.self.inside.items.items c.self.inside.bounds.items c.self.invariant.flat c.args.level (c.args.level + 1)
+    (next_is c.args.level)))
 
 pub returns : goal.returns
 returns g c =
@@ -56,7 +57,8 @@ returns g c =
     let depth = depth_of _ c.args.level (ap length value) (length-bounds x.items.items x.bounds.items c.self.invariant.flat) in
     let p = passes_is x.k c.args.level (levels_in x.items.items x.bounds.items) (subst (λ (y : Stored g.row.T.Denot). is_full y.k y.levels ≡ true) (sym c.self.view_is) c.requires.full) in
     ap not c.is_at_capacity.ensures
-    ∙ (ap₂ (λ (most n : ℕ). not (nat_le most n)) (ap (capacity_at x.k 8) depth) count ∙ (sym p ∙ ap (λ (y : Stored g.row.T.Denot). passes y.k y.levels c.args.level) c.self.view_is))
+    ∙ (ap₂ (λ (most n : ℕ). not (nat_le most n)) (ap (capacity_at x.k 8) depth) count
+    ∙ (sym p ∙ ap (λ (y : Stored g.row.T.Denot). passes y.k y.levels c.args.level) c.self.view_is))
 
 pub offset_bounds-bounds-level-2 : goal.offset_bounds-bounds-level-2
 offset_bounds-bounds-level-2 g c = grind arith

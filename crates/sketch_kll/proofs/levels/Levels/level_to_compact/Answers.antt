@@ -83,5 +83,6 @@ returns g c =
     let n = ap length c.deref-2.ensures.value ∙ length-bounds x.items.items x.bounds.items c.self.invariant.flat in
     let m = ap (λ (y : Stored g.row.T.Denot). length y.levels) c.self.view_is in
     let level = c.find_level_to_compact.ensures.level ∙ seen g sliced (λ k ls. lowest_full k (put_count c.args.more (map length ls))) in
-    let low = lowest_full_low c.args.self.now.k c.args.more c.args.self.now.levels (some_now m c.self.invariant.some) (few_now m c.self.invariant.few) c.requires.light c.requires.full in
+    let low = lowest_full_low c.args.self.now.k c.args.more c.args.self.now.levels (some_now m c.self.invariant.some) (few_now m c.self.invariant.few)
+    c.requires.light c.requires.full in
     record { level = level; within = within_now _ n m c.find_level_to_compact.ensures.within; few = low_now level low }

@@ -35,7 +35,8 @@ returns g c =
         merged_room = merged_of _ _ made.merged same n c.len-count.ensures c.in_ok-low.ensures.len;
         merged_empty = made.empty;
       };
-      clones = clones_told _ c.others.invariant.flat c.deref.ensures.value (ap (λ (y : Stored g.row.T.Denot). y.levels) c.others.view_is) c.in_ok-low.ensures.same c.in_ok-low.ensures.flat;
+      clones = clones_told _ c.others.invariant.flat c.deref.ensures.value (ap (λ (y : Stored g.row.T.Denot). y.levels) c.others.view_is)
+          c.in_ok-low.ensures.same c.in_ok-low.ensures.flat;
     }
 
 pub invariant_of-self : goal.invariant_of-self
@@ -52,7 +53,11 @@ pub returns-in_err-merged : goal.returns-in_err-merged
 returns-in_err-merged g c =
     let r = c.from_residual-in_err-merged.result in
     let err = c.from_residual-in_err-merged.ensures.0 in
-    record { kept = kept_still c.self.view_is c.reserve_merged.ensures.items c.reserve_merged.ensures.bounds; ready = IfOk-from_err r _ err; clones = IfOk-from_err r _ err }
+    record {
+      kept = kept_still c.self.view_is c.reserve_merged.ensures.items c.reserve_merged.ensures.bounds;
+      ready = IfOk-from_err r _ err;
+      clones = IfOk-from_err r _ err;
+    }
 
 pub returns-in_err-low : goal.returns-in_err-low
 returns-in_err-low g c =

@@ -66,7 +66,8 @@ returns-then-taken-free g c =
       space = record {
         left = ready.left;
         are_left = ready.are_left;
-        same = subst (λ (ls : List (List g.row.T.Denot)). SameLevels cmp ls (put_all last c.compact.new.self.levels)) (sym (with_room_full cmp s.k level flag coin (needs_sorting flag level) (put_all new s.levels) full lowest refl))
+        same = subst (λ (ls : List (List g.row.T.Denot)). SameLevels cmp ls (put_all last c.compact.new.self.levels))
+            (sym (with_room_full cmp s.k level flag coin (needs_sorting flag level) (put_all new s.levels) full lowest refl))
             (SameLevels-trans cmp g.met.T.Ord.total _ _ _ (ready.same coin) end);
         source_is = c.compact.ensures.coins ∙ ap (λ (b : Bool). cond b (g.B.RandomBits.next c.args.coins.now) c.args.coins.now) full;
       };
@@ -88,7 +89,8 @@ returns-else-taken-free g c =
       space = record {
         left = c.args.taken;
         are_left = record { within = c.requires.within; untaken = refl };
-        same = subst (λ (ls : List (List g.row.T.Denot)). SameLevels g.T.Ord.cmp ls (put_all new s.levels)) (sym (with_room_spare g.T.Ord.cmp s.k (s.is_sorted && c.args.taken == 0) (g.B.RandomBits.bit c.args.coins.now) (put_all new s.levels) full))
+        same = subst (λ (ls : List (List g.row.T.Denot)). SameLevels g.T.Ord.cmp ls (put_all new s.levels))
+            (sym (with_room_spare g.T.Ord.cmp s.k (s.is_sorted && c.args.taken == 0) (g.B.RandomBits.bit c.args.coins.now) (put_all new s.levels) full))
             (SameLevels-refl g.T.Ord.cmp g.met.T.Ord.total (put_all new s.levels));
         source_is = ap (λ (b : Bool). cond b (g.B.RandomBits.next c.args.coins.now) c.args.coins.now) full;
       };
@@ -102,7 +104,8 @@ pub put_body-requires-clause-some : goal.put_body-requires-clause-some
 put_body-requires-clause-some g c = c.requires.some
 
 pub compact-requires-clause-within : goal.compact-requires-clause-within
-compact-requires-clause-within g c = subst (λ (n : ℕ). c.level_to_compact-level.result < n) (sym c.put_body.ensures.counts) c.level_to_compact-level.ensures.within
+compact-requires-clause-within g c =
+    subst (λ (n : ℕ). c.level_to_compact-level.result < n) (sym c.put_body.ensures.counts) c.level_to_compact-level.ensures.within
 
 pub compact-requires-clause-flag : goal.compact-requires-clause-flag
 compact-requires-clause-flag g c = c.put_body.ensures.flag

@@ -85,12 +85,15 @@ returns g c =
     record {
       k = c.give_back-2.ensures.kept.k_is ∙ (c.move_to.ensures.kept.k_is ∙ (made.kept.k_is ∙ (c.merge_higher_levels-old.ensures.k ∙ c.take_items.ensures.k)));
       merged = subst₂ (λ (f : Bool) (ms : List (List g.row.T.Denot)).
-          HaveMerged g.T.Ord.cmp g.B.RandomBits.bit g.B.RandomBits.next c.args.coins.now c.compress.new.coins c.args.self.now.k c.args.self.now.is_sorted f c.args.self.now.levels c.args.others.now.levels ms)
-          (sym (c.give_back-2.ensures.kept.flag_is ∙ c.move_to.ensures.kept.flag_is)) (sym (c.give_back-2.ensures.kept.levels_are ∙ c.move_to.ensures.kept.levels_are))
+          HaveMerged g.T.Ord.cmp g.B.RandomBits.bit g.B.RandomBits.next c.args.coins.now c.compress.new.coins c.args.self.now.k c.args.self.now.is_sorted f
+          c.args.self.now.levels c.args.others.now.levels ms)
+          (sym (c.give_back-2.ensures.kept.flag_is ∙ c.move_to.ensures.kept.flag_is))
+          (sym (c.give_back-2.ensures.kept.levels_are ∙ c.move_to.ensures.kept.levels_are))
           (merged_same g.met.T.Ord.total g.B.RandomBits.bit g.B.RandomBits.next _ _ _ _ _ _ _ _ _ c.requires.kept.some clones.same
           (merged_by_calls g.T.Ord.cmp g.met.T.Ord.total g.B.RandomBits.bit g.B.RandomBits.next _ _ _ _ _ _ _ _ _ _ _ _ _ _ _
           (c.merge_higher_levels-old.ensures.k ∙ c.take_items.ensures.k) c.merge_higher_levels-old.ensures.flag made.kept.flag_is
-          c.take_items.ensures.taken c.merge_higher_levels-old.ensures.levels c.requires.kept.some (omega (arith, clones.upper_are, c.if-other_bounds-le2.false))
+          c.take_items.ensures.taken c.merge_higher_levels-old.ensures.levels c.requires.kept.some
+          (omega (arith, clones.upper_are, c.if-other_bounds-le2.false))
           made.levels made.bag made.coins made.few made.below made.sorted));
     }
 
@@ -100,7 +103,8 @@ returns-then-other_bounds-le2 g c =
     record {
       k = c.give_back.ensures.kept.k_is ∙ c.take_items.ensures.k;
       merged = subst₂ (λ (f : Bool) (ms : List (List g.row.T.Denot)).
-          HaveMerged g.T.Ord.cmp g.B.RandomBits.bit g.B.RandomBits.next c.args.coins.now c.take_items.new.coins c.args.self.now.k c.args.self.now.is_sorted f c.args.self.now.levels c.args.others.now.levels ms)
+          HaveMerged g.T.Ord.cmp g.B.RandomBits.bit g.B.RandomBits.next c.args.coins.now c.take_items.new.coins c.args.self.now.k c.args.self.now.is_sorted f
+          c.args.self.now.levels c.args.others.now.levels ms)
           (sym c.give_back.ensures.kept.flag_is) (sym c.give_back.ensures.kept.levels_are)
           (merged_same g.met.T.Ord.total g.B.RandomBits.bit g.B.RandomBits.next _ _ _ _ _ _ _ _ _ c.requires.kept.some clones.same
           (merged_only g.T.Ord.cmp g.met.T.Ord.total g.B.RandomBits.bit g.B.RandomBits.next _ _ _ _ _ _ _ _ _

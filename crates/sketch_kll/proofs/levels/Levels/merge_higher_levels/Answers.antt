@@ -45,7 +45,8 @@ stored_in_the_end g c =
     let whole = whole_slice c.add_bounds.new.bounds wide.items wide.len long in
     joined_stored c.args.others.now c.self.invariant c.requires.upper c.requires.some c.requires.few (c.deref.ensures.value ∙ c.add_levels.ensures.items)
     (ap (λ v. v.items) c.take_away-items.ensures.taken)
-    back.flat back.levels back.sorted c.reverse.ensures.items (whole ∙ added) c.len-num_levels.result (count ∙ sym (ap length whole ∙ long)) c.total_at-self-inside.ensures
+    back.flat back.levels back.sorted c.reverse.ensures.items (whole ∙ added) c.len-num_levels.result (count ∙ sym (ap length whole ∙ long))
+    c.total_at-self-inside.ensures
 
 pub merge_runs_back-requires-clause-flat : goal.merge_runs_back-requires-clause-flat
 merge_runs_back-requires-clause-flat g c =
@@ -106,7 +107,9 @@ few_of : {len n : ℕ} → len ≡ n → n ≤ 62 → len - 1 ≤ 61
 few_of is few = omega arith
 
 pub total_at-self-inside-requires-clause-few_levels : goal.total_at-self-inside-requires-clause-few_levels
-total_at-self-inside-requires-clause-few_levels g c = few_of (len_is g (past.total_at-self-inside-requires-clause-few_levels g c).After-len-num_levels ∙ c.add_levels.new.bounds.ok.0) (wide g (past.total_at-self-inside-requires-clause-few_levels g c).After-add_levels).few
+total_at-self-inside-requires-clause-few_levels g c =
+    few_of (len_is g (past.total_at-self-inside-requires-clause-few_levels g c).After-len-num_levels ∙ c.add_levels.new.bounds.ok.0)
+    (wide g (past.total_at-self-inside-requires-clause-few_levels g c).After-add_levels).few
 
 pub total_at-self-inside-requires-clause-total : goal.total_at-self-inside-requires-clause-total
 total_at-self-inside-requires-clause-total g c = known_total c.self.invariant c.len-known.result (c.len-known.ensures ∙ c.self.inside.bounds.ok.0)
@@ -121,13 +124,15 @@ returns g c =
       flag = ap (λ (y : Stored g.row.T.Denot). y.is_sorted) c.self.view_is;
       levels = subst (λ (y : Stored g.row.T.Denot).
           SameLevels g.T.Ord.cmp (joined g.T.Ord.cmp y.levels (levels_in c.args.upper.items (drop 1 c.args.others.now)))
-          (levels_in c.reverse.new.self.items (take c.add_levels.new.bounds.len (c.add_bounds.new.bounds ++ drop (length c.add_bounds.new.bounds) c.add_levels.new.bounds.items))))
+          (levels_in c.reverse.new.self.items (take c.add_levels.new.bounds.len
+          (c.add_bounds.new.bounds ++ drop (length c.add_bounds.new.bounds) c.add_levels.new.bounds.items))))
           c.self.view_is (stored_in_the_end g c).same;
       spare = spare_of c.add_levels.ensures.capacity (ap (λ (y : Stored g.row.T.Denot). y.bounds_room) c.self.view_is) c.requires.spare;
     }
 
 pub overflow_sub-num_levels : goal.overflow_sub-num_levels
-overflow_sub-num_levels g c = some_of (len_is g c ∙ c.add_levels.new.bounds.ok.0) c.requires.some (wide g (past.overflow_sub-num_levels g c).After-add_levels).fewer
+overflow_sub-num_levels g c =
+    some_of (len_is g c ∙ c.add_levels.new.bounds.ok.0) c.requires.some (wide g (past.overflow_sub-num_levels g c).After-add_levels).fewer
 
 pub total_at-self-inside-requires-clause-k : goal.total_at-self-inside-requires-clause-k
 total_at-self-inside-requires-clause-k g c = c.self.invariant.k_above

@@ -6,7 +6,14 @@ pub returns : goal.returns
 returns g c =
     let made = c.in_ok-clones.ensures in
     let extremes = c.in_ok-least.ensures in
-    record { kept = c.clone_with_room.ensures.kept; clones = made.clones; room = made.room; spare = made.spare; least = extremes.least; greatest = extremes.greatest }
+    record {
+      kept = c.clone_with_room.ensures.kept;
+      clones = made.clones;
+      room = made.room;
+      spare = made.spare;
+      least = extremes.least;
+      greatest = extremes.greatest;
+    }
 
 pub returns-in_err-least : goal.returns-in_err-least
 returns-in_err-least g c =

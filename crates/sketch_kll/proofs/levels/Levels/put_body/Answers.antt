@@ -33,7 +33,8 @@ part_within r within = omega (arith, within)
 even_with : (taken low idx : ℕ) {len put : ℕ} → low + idx ≡ len → put ≡ taken - (len - idx + taken) % 2 → (taken ≡ 0 → ⊥) → (low + put) % 2 ≡ 0
 even_with taken low idx held put some = omega (arith, held, put, some)
 
-whole_of : (levels put taken r items : ℕ) {now old left : ℕ} → now ≡ levels + put → put ≡ taken - r → levels ≡ old → left ≡ min (items - (taken - r)) items → taken ≤ items →
+whole_of : (levels put taken r items : ℕ) {now old left : ℕ} → now ≡ levels + put → put ≡ taken - r → levels ≡ old → left ≡ min (items - (taken - r)) items →
+    taken ≤ items →
     now + left ≡ old + items
 whole_of levels put taken r items now put_is same left within = omega (arith, now, put_is, same, left, within)
 
@@ -49,7 +50,8 @@ returns-then-level-gt0 g c =
       k = refl;
       counts = refl;
       flag = λ told zero. c.requires.flag (none_there c.then-level-gt0.either zero) told;
-      ready = ready_as_is g.T.Ord.cmp g.met.T.Ord.total c.args.level c.args.taken c.args.items.now.items c.args.self.now c.requires.some c.requires.within c.then-level-gt0.either;
+      ready = ready_as_is g.T.Ord.cmp g.met.T.Ord.total c.args.level c.args.taken c.args.items.now.items c.args.self.now c.requires.some c.requires.within
+          c.then-level-gt0.either;
       whole = refl;
       room = refl;
       bounds_room = refl;
@@ -65,7 +67,8 @@ fits_in : (r taken : ℕ) {own held now room most : ℕ} → own ≡ held → he
 fits_in r taken own held same room = omega (arith, own, held, same, room)
 
 pub index-requires : goal.index-requires
-index-requires g c = bounds_more _ (c.self.inside.bounds.ok.0 ∙ length-bounds c.self.inside.items.items c.self.inside.bounds.items c.self.invariant.flat) c.self.invariant.some
+index-requires g c =
+    bounds_more _ (c.self.inside.bounds.ok.0 ∙ length-bounds c.self.inside.items.items c.self.inside.bounds.items c.self.invariant.flat) c.self.invariant.some
 
 -- how many items lie in level 0
 lowest : (g : _) (c : After-index g) → length (first_level c.args.self.now.levels) + c.index.result.now ≡ c.len.result
@@ -91,7 +94,8 @@ overflow_sub-len g c = omega (arith, lowest g (past.overflow_sub-len g c).After-
 
 pub move_last-is_sorted-requires-clause-room : goal.move_last-is_sorted-requires-clause-room
 move_last-is_sorted-requires-clause-room g c =
-    fits_in ((c.len.result - c.index.result.now + c.args.taken) % 2) c.args.taken (c.self.inside.items.ok.0 ∙ length-items c.self.inside.items.items c.self.inside.bounds.items c.self.invariant.flat)
+    fits_in ((c.len.result - c.index.result.now + c.args.taken) % 2) c.args.taken
+    (c.self.inside.items.ok.0 ∙ length-items c.self.inside.items.items c.self.inside.bounds.items c.self.invariant.flat)
     (ap (λ (y : Stored g.row.T.Denot). retained y.levels) c.self.view_is) (ap (λ (y : Stored g.row.T.Denot). y.items_room) c.self.view_is) c.requires.room
 
 -- level 0 with what was put there
@@ -136,9 +140,11 @@ returns g c =
             (moved.sorted w.if-is_sorted.true))
         | else-is_sorted w ↦ absurd (false≢true (sym w.if-is_sorted.false ∙ (sym w.self-is ∙ told)))
       ];
-      ready = ready_lowest g.T.Ord.cmp g.met.T.Ord.total c.args.level c.args.taken rest c.args.items.now.items _ put c.args.self.now _ c.if-level-gt0.false (some_of c.if-taken-eq0.false)
+      ready = ready_lowest g.T.Ord.cmp g.met.T.Ord.total c.args.level c.args.taken rest c.args.items.now.items _ put c.args.self.now _ c.if-level-gt0.false
+          (some_of c.if-taken-eq0.false)
           (rest_small _ _ c.if-taken-eq0.false) (rest_one (c.len.result - c.index.result.now + c.args.taken)) c.requires.within c.requires.some
-          (p.1 ∙ ap (λ (y : Stored g.row.T.Denot). put_all put y.levels) c.self.view_is) moved.moved (even_with _ _ _ low count c.if-taken-eq0.false) moved.left;
+          (p.1 ∙ ap (λ (y : Stored g.row.T.Denot). put_all put y.levels) c.self.view_is) moved.moved (even_with _ _ _ low count c.if-taken-eq0.false)
+          moved.left;
       whole = whole_of _ _ _ rest _ (ap retained p.1 ∙ retained-put put ls) count (ap (λ (y : Stored g.row.T.Denot). retained y.levels) c.self.view_is)
           (ap length moved.left ∙ length-take _ c.args.items.now.items) c.requires.within;
       room = moved.capacity ∙ ap (λ (y : Stored g.row.T.Denot). y.items_room) c.self.view_is;

@@ -19,8 +19,10 @@ returns g c =
     let r = c.reserve_both.result in
     record {
       kept = kept_still c.self.view_is made.items made.bounds;
-      room = on_ok_weaker r (less_of (ap retained (ap₂ levels_in made.items made.bounds)) (length-items x.items.items x.bounds.items c.self.invariant.flat)) made.room;
-      spare = on_ok_weaker r (more_of _ (ap length (ap₂ levels_in made.items made.bounds)) (length-bounds x.items.items x.bounds.items c.self.invariant.flat)) made.spare;
+      room = on_ok_weaker r (less_of (ap retained (ap₂ levels_in made.items made.bounds)) (length-items x.items.items x.bounds.items c.self.invariant.flat))
+          made.room;
+      spare = on_ok_weaker r (more_of _ (ap length (ap₂ levels_in made.items made.bounds)) (length-bounds x.items.items x.bounds.items c.self.invariant.flat))
+          made.spare;
     }
 
 pub invariant_of-self : goal.invariant_of-self

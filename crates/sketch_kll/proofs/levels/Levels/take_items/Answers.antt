@@ -39,7 +39,8 @@ held g c = retained-put (put g c) c.loop-taken.self.levels ∙ ap (λ (n : ℕ).
 count : (g : _) (c : After-len g) → length (put_all (put g c) c.loop-taken.self.levels) ≡ length c.loop-taken.self.levels
 count g c = length-put (put g c) c.loop-taken.self.levels c.loop-taken.invariant.some
 
-filled_len : (held put n items start : ℕ) {now len all v : ℕ} → now ≡ held + put → put ≡ len → len ≡ items - n → held + items ≤ start + all → v ≡ all → now ≤ start + v
+filled_len : (held put n items start : ℕ) {now len all v : ℕ} → now ≡ held + put → put ≡ len → len ≡ items - n → held + items ≤ start + all → v ≡ all →
+    now ≤ start + v
 filled_len held put n items start now put_is len part v = omega (arith, now, put_is, len, part, v)
 
 shorter_len : (held items start : ℕ) {all v : ℕ} → held + items ≤ start + all → v ≡ all → held ≤ start + v
@@ -154,7 +155,8 @@ all_taken g c h =
 room_for_all : (g : _) (c : After-len g) → retained c.loop-taken.self.levels + c.loop-taken.taken ≤ total_of c.loop-taken.self.k 8 (length c.loop-taken.self.levels)
 room_for_all g c =
     let i = c.loop-taken.invariant in
-    room_all _ _ (held g c) i.taking.taking.taken.kept.within (ap (total_of c.args.self.now.k 8) (count g c)) (ap (λ (k : ℕ). total_of k 8 (length c.loop-taken.self.levels)) i.k)
+    room_all _ _ (held g c) i.taking.taking.taken.kept.within (ap (total_of c.args.self.now.k 8) (count g c))
+    (ap (λ (k : ℕ). total_of k 8 (length c.loop-taken.self.levels)) i.k)
 
 fill_of : (now cap : ℕ) {v len taken room : ℕ} → len ≤ taken → len ≡ v → now + taken ≤ room → min (now + v) (max now cap) ≤ room
 fill_of now cap few v room = omega arith
@@ -176,11 +178,14 @@ returns-then-taken-gt0 g c =
     let n : ℕ = left_over c.loop-taken.self items in
     record {
       k = c.fill.ensures.k ∙ i.k;
-      taken = subst (λ (now : Bool). HaveTaken g.T.Ord.cmp g.B.RandomBits.bit g.B.RandomBits.next c.args.coins.now c.loop-taken.coins c.args.self.now.k c.args.self.now.is_sorted now c.args.self.now.levels
+      taken = subst (λ (now : Bool). HaveTaken g.T.Ord.cmp g.B.RandomBits.bit g.B.RandomBits.next c.args.coins.now c.loop-taken.coins c.args.self.now.k
+          c.args.self.now.is_sorted now c.args.self.now.levels
           c.args.items.items c.fill.new.self.levels) flag
-          (subst (λ (ms : List (List g.row.T.Denot)). HaveTaken g.T.Ord.cmp g.B.RandomBits.bit g.B.RandomBits.next c.args.coins.now c.loop-taken.coins c.args.self.now.k c.args.self.now.is_sorted
+          (subst (λ (ms : List (List g.row.T.Denot)). HaveTaken g.T.Ord.cmp g.B.RandomBits.bit g.B.RandomBits.next c.args.coins.now c.loop-taken.coins
+          c.args.self.now.k c.args.self.now.is_sorted
           (c.loop-taken.self.is_sorted && c.loop-taken.taken == 0) c.args.self.now.levels c.args.items.items ms) levels (all_taken g before none));
-      len = filled_len (retained c.loop-taken.self.levels) (length (reverse (drop n items))) n _ _ (ap retained c.fill.ensures.levels ∙ retained-put (reverse (drop n items)) c.loop-taken.self.levels)
+      len = filled_len (retained c.loop-taken.self.levels) (length (reverse (drop n items))) n _ _
+          (ap retained c.fill.ensures.levels ∙ retained-put (reverse (drop n items)) c.loop-taken.self.levels)
           (length-reverse (drop n items)) (length-drop n items) i.len c.args.items.ok.0;
       spare = subst (λ (room : ℕ). 63 ≤ room) (sym c.fill.ensures.bounds_room) i.spare;
     }
@@ -192,8 +197,10 @@ returns g c =
     let none : length c.loop-taken.items.items ≤ c.loop-taken.taken = within_taken c.len.ensures c.loop-taken.items.ok.0 c.loop-taken-test.false in
     record {
       k = i.k;
-      taken = taking_ends g.T.Ord.cmp g.B.RandomBits.bit g.B.RandomBits.next c.args.coins.now c.loop-taken.coins c.args.self.now.k c.args.self.now.is_sorted c.loop-taken.self.is_sorted c.args.self.now.levels
-          c.args.items.items c.loop-taken.items.items c.loop-taken.taken c.loop-taken.self.levels (all_taken g before none) (none_of c.if-taken-gt0.false) i.some;
+      taken = taking_ends g.T.Ord.cmp g.B.RandomBits.bit g.B.RandomBits.next c.args.coins.now c.loop-taken.coins c.args.self.now.k c.args.self.now.is_sorted
+          c.loop-taken.self.is_sorted c.args.self.now.levels
+          c.args.items.items c.loop-taken.items.items c.loop-taken.taken c.loop-taken.self.levels (all_taken g before none) (none_of c.if-taken-gt0.false)
+          i.some;
       len = shorter_len (retained c.loop-taken.self.levels) _ _ i.len c.args.items.ok.0;
       spare = i.spare;
     }

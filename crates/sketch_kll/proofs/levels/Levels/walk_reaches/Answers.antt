@@ -27,9 +27,12 @@ returns-then-level-len g c =
     let x = c.self.inside in
     let s = c.args.self.now in
     let most = c.self.invariant.total_is ∙ ap (λ (y : Stored g.row.T.Denot). total_of y.k 8 (length y.levels)) c.self.view_is in
-    let held = c.len-then-level-len.ensures ∙ (x.items.ok.0 ∙ (length-items x.items.items x.bounds.items c.self.invariant.flat ∙ ap (λ (y : Stored g.row.T.Denot). retained y.levels) c.self.view_is)) in
+    let held = c.len-then-level-len.ensures ∙ (x.items.ok.0 ∙ (length-items x.items.items x.bounds.items c.self.invariant.flat ∙ ap
+    (λ (y : Stored g.row.T.Denot). retained y.levels) c.self.view_is)) in
     record {
-      within = λ _. within_of _ c.if-level-len.true (c.len.ensures ∙ c.self.inside.bounds.ok.0) (length-bounds c.self.inside.items.items c.self.inside.bounds.items c.self.invariant.flat) (ap (λ (y : Stored g.row.T.Denot). length y.levels) c.self.view_is);
+      within = λ _. within_of _ c.if-level-len.true (c.len.ensures ∙ c.self.inside.bounds.ok.0)
+          (length-bounds c.self.inside.items.items c.self.inside.bounds.items c.self.invariant.flat)
+          (ap (λ (y : Stored g.row.T.Denot). length y.levels) c.self.view_is);
       full = λ h. le-leb (total_of s.k 8 (length s.levels)) (retained s.levels) (full_of (leb-true _ _ h) most held);
       over = λ h. inr (spare_of (leb-false _ _ h) most held);
       few = subst (λ (n : ℕ). n ≤ 61) (ap (λ (y : Stored g.row.T.Denot). length y.levels) c.self.view_is) c.self.invariant.few;
@@ -41,7 +44,9 @@ returns-else-level-len g c =
     record {
       within = λ told. absurd (beyond c.if-level-len.false (ltb-true _ _ told));
       full = λ told. absurd (beyond c.if-level-len.false (ltb-true _ _ told));
-      over = λ _. inl (past_of _ c.if-level-len.false (c.len.ensures ∙ c.self.inside.bounds.ok.0) (length-bounds c.self.inside.items.items c.self.inside.bounds.items c.self.invariant.flat) (ap (λ (y : Stored g.row.T.Denot). length y.levels) c.self.view_is));
+      over = λ _. inl (past_of _ c.if-level-len.false (c.len.ensures ∙ c.self.inside.bounds.ok.0)
+          (length-bounds c.self.inside.items.items c.self.inside.bounds.items c.self.invariant.flat)
+          (ap (λ (y : Stored g.row.T.Denot). length y.levels) c.self.view_is));
       few = subst (λ (n : ℕ). n ≤ 61) (ap (λ (y : Stored g.row.T.Denot). length y.levels) c.self.view_is) c.self.invariant.few;
       sorted = subst (λ (y : Stored g.row.T.Denot). UpperSorted g.T.Ord.cmp y.levels) c.self.view_is c.self.invariant.sorted;
     }

@@ -45,7 +45,8 @@ second_there some fewer = omega (arith, some, fewer)
 next_there : {level runs n : ℕ} → level < runs - 1 → runs ≤ n → level + 1 < n
 next_there lt fewer = omega (arith, lt, fewer)
 
-room_left : (keep right_keep merged items upper own up vto1 vleft1 : ℕ) {vto vleft vright vown vup room room1 : ℕ} → vleft1 + vto1 ≡ vleft + vto + (vright - right_keep) → vleft ≡ items → vto ≡ merged → vright ≡ upper → merged + items + upper ≡ own + up → vown ≡ own → vup ≡ up →
+room_left : (keep right_keep merged items upper own up vto1 vleft1 : ℕ) {vto vleft vright vown vup room room1 : ℕ} →
+    vleft1 + vto1 ≡ vleft + vto + (vright - right_keep) → vleft ≡ items → vto ≡ merged → vright ≡ upper → merged + items + upper ≡ own + up → vown ≡ own → vup ≡ up →
     vown + vup ≤ room → room1 ≡ room → vto1 + (vleft1 - keep) ≤ room1
 room_left keep right_keep merged items upper own up vto1 vleft1 whole c d e count f h room same = omega (arith, whole, c, d, e, count, f, h, room, same)
 
@@ -159,7 +160,8 @@ returns g c =
     let m = length-bounds c.args.upper.now.items (drop 1 c.args.other_bounds.now) c.requires.upper in
     let d = length-drop 1 c.args.other_bounds.now in
     let r = joining_end c.move_back-2.new.to.items c.args.other_bounds.now (all_joined _ m d c.loop-level-test.false c.requires.some)
-    (some_levels _ n c.requires.fewer c.requires.some) (fewer_levels _ _ n m d c.requires.fewer c.requires.some) c.requires.sorted c.requires.flat.bounds_are (sym c.requires.upper.bounds_are)
+    (some_levels _ n c.requires.fewer c.requires.some) (fewer_levels _ _ n m d c.requires.fewer c.requires.some) c.requires.sorted c.requires.flat.bounds_are
+    (sym c.requires.upper.bounds_are)
     (ap reverse c.move_back-2.ensures.to ∙ reverse_back c.loop-level.merged.items c.loop-level.items.items) i.joining in
     record { flat = r.fits; levels = r.same; sorted = r.sorted }
 
@@ -187,4 +189,5 @@ bounds-other_bounds-level g c = next_there c.loop-level-test.true (le_refl _)
 pub move_back-requires-in-loop-level-clause-room : goal.move_back-requires-in-loop-level-clause-room
 move_back-requires-in-loop-level-clause-room g c =
     room_left _ _ _ _ _ _ _ _ _ c.merge_from_back.ensures.whole c.loop-level.items.ok.0 c.loop-level.merged.ok.0
-    c.loop-level.upper.ok.0 c.loop-level.invariant.count c.args.items.now.ok.0 c.args.upper.now.ok.0 c.requires.room (c.merge_from_back.ensures.to_capacity ∙ c.loop-level.invariant.capacity)
+    c.loop-level.upper.ok.0 c.loop-level.invariant.count c.args.items.now.ok.0 c.args.upper.now.ok.0 c.requires.room
+    (c.merge_from_back.ensures.to_capacity ∙ c.loop-level.invariant.capacity)

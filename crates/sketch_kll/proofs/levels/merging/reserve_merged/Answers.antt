@@ -16,7 +16,8 @@ returns g c =
       items = c.reserve_exact.ensures.items;
       bounds = c.reserve.ensures.items;
       room = IfOk-weaker r _ _ (λ _ _. room_of c.args.low c.in_ok-reserve_exact.ensures.len c.args.items.now.ok.0 c.in_ok-reserve_exact.ensures.ok) made.len;
-      spare = IfOk-weaker r _ _ (λ _ _. bounds_of c.in_ok-reserve.ensures.len c.len-2.ensures c.args.bounds.now.ok.0 c.requires.few c.in_ok-reserve.ensures.ok) made.len;
+      spare = IfOk-weaker r _ _ (λ _ _. bounds_of c.in_ok-reserve.ensures.len c.len-2.ensures c.args.bounds.now.ok.0 c.requires.few c.in_ok-reserve.ensures.ok)
+          made.len;
       empty = made.items;
       merged = grind arith;
     }
