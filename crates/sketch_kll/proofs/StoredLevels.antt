@@ -163,7 +163,8 @@ pub stored_still : {A : Type 0} {cmp : A → A → Ordering} {k total : ℕ} {it
 stored_still {A} {cmp} {k} {total} stored e f = subst₂ (λ (xs : List A) (bs : List ℕ). AreStored cmp k xs bs total) (sym e) (sym f) stored
 
 pub kept_still : {A : Type 0} {k room rooms room' rooms' : ℕ} {flag : Bool} {items items' : List A} {bounds bounds' : List ℕ}
-    {seen : Stored A} → stored_of k flag items bounds room rooms ≡ seen → items' ≡ items → bounds' ≡ bounds → KeepsLevels seen (stored_of k flag items' bounds' room' rooms')
+    {seen : Stored A} → stored_of k flag items bounds room rooms ≡ seen → items' ≡ items → bounds' ≡ bounds →
+    KeepsLevels seen (stored_of k flag items' bounds' room' rooms')
 kept_still {A} view e f = record {
   k_is = ap (λ (y : Stored A). y.k) view;
   flag_is = ap (λ (y : Stored A). y.is_sorted) view;

@@ -61,9 +61,6 @@ not_none some none = omega (arith, some, none)
 none_of : {n : ℕ} → n ≤ 0 → n ≡ 0
 none_of few = omega (arith, few)
 
-none_left : (taken : ℕ) {items : ℕ} → items ≤ taken → items - taken ≡ 0
-none_left taken none = omega (arith, none)
-
 light_of : (now before d r : ℕ) {w put taken all : ℕ} → w ≡ before + d → w ≡ now + put → put ≡ taken → all ≡ d + r → before + all < 2 ^ 64 →
     now + taken < 2 ^ 64
 light_of now before d r e f g h light = omega arith

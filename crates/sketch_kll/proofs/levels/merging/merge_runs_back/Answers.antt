@@ -46,8 +46,8 @@ next_there : {level runs n : ℕ} → level < runs - 1 → runs ≤ n → level 
 next_there lt fewer = omega (arith, lt, fewer)
 
 room_left : (keep right_keep merged items upper own up vto1 vleft1 : ℕ) {vto vleft vright vown vup room room1 : ℕ} →
-    vleft1 + vto1 ≡ vleft + vto + (vright - right_keep) → vleft ≡ items → vto ≡ merged → vright ≡ upper → merged + items + upper ≡ own + up → vown ≡ own → vup ≡ up →
-    vown + vup ≤ room → room1 ≡ room → vto1 + (vleft1 - keep) ≤ room1
+    vleft1 + vto1 ≡ vleft + vto + (vright - right_keep) → vleft ≡ items → vto ≡ merged → vright ≡ upper → merged + items + upper ≡ own + up →
+    vown ≡ own → vup ≡ up → vown + vup ≤ room → room1 ≡ room → vto1 + (vleft1 - keep) ≤ room1
 room_left keep right_keep merged items upper own up vto1 vleft1 whole c d e count f h room same = omega (arith, whole, c, d, e, count, f, h, room, same)
 
 pub loop-level-init : goal.loop-level-init
