@@ -27,6 +27,9 @@ some_of none = omega (arith, none)
 pub some_now : {n m : ℕ} → n ≡ m → (n ≡ 0 → ⊥) → 0 < m
 some_now e none = omega (arith, e, none)
 
+pub none_or_some : {n : ℕ} → n ≡ 0 → 0 < n → ⊥
+none_or_some none some = omega (arith, none, some)
+
 pub none_not : {n m : ℕ} → n ≡ m → n ≡ 0 → 0 < m → ⊥
 none_not e none some = omega (arith, e, none, some)
 

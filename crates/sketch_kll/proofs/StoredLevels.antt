@@ -141,8 +141,8 @@ ordered_so {A} {cmp} {needs} {is_sorted} {coin} {level} {items} {new} {bounds} {
     at level (λ e. lowest_alone is_sorted level (sym needs_is ∙ e)) known
 
 -- what a compaction leaves, where the vectors are given as they were ordered and raised, and what it leaves is cut off
-pub compacted_left : {A : Type 0} {cmp : A → A → Ordering} → IsTotalOrder cmp →
-    {k total level : ℕ} {items ordered given cut items' : List A} {bounds wide given_bounds made bounds' : List ℕ} {ls : List (List A)} (last coin : Bool) →
+pub compacted_left : {A : Type 0} {cmp : A → A → Ordering} → IsTotalOrder cmp → {k total level : ℕ}
+    {items ordered given cut items' : List A} {bounds wide given_bounds made bounds' : List ℕ} {ls : List (List A)} (last coin : Bool) →
     AreStored cmp k items bounds total → levels_in items bounds ≡ ls → level < length ls → level < 60 → wide ≡ raised level bounds →
     IsOrdered cmp last level items ordered wide →
     given ≡ ordered → given_bounds ≡ wide → items' ≡ cut → bounds' ≡ made → IsFlat cut made →

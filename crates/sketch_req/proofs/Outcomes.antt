@@ -1,5 +1,5 @@
 -- What updates and merges come to, as their contracts tell it: they fail, they are refused, or they are done.
-use Rattle.std.proofs.Common.{◌≡◌, ◌≢◌, ◌⊎◌, ◌↔◌, ◌+◌, ◌-◌, ◌^◌, ◌<◌, ◌≤◌, ◌∙◌, ℕ, Bool, List, [], length, Result, Ok, Err, Ordering, IsErrAnd, IsOk, IfErr, OnOk, OnErr, ap, arith, refl}
+use Rattle.std.proofs.Common.{◌≡◌, ◌≢◌, ◌⊎◌, ◌↔◌, ◌+◌, ◌-◌, ◌^◌, ◌<◌, ◌≤◌, ◌∙◌, Bool, List, [], length, Result, Ok, Err, Ordering, IsErrAnd, IsOk, IfErr, OnOk, OnErr, ap, refl}
 use Rattle.sketch_base.specs.Bag.{retained}
 use Rattle.sketch_base.specs.Random.{after_draws, bits_from}
 use Rattle.sketch_base.specs.declared.error.ErrorKind.{ErrorKind}
@@ -11,7 +11,7 @@ use Rattle.sketch_req.specs.Sketch.{Req, IsSound, IsUpdated, coins_of_update}
 use Rattle.sketch_req.specs.Updates.{AreUpdated, IsDrawnFrom, coins_of_updates}
 use Rattle.std.specs.Cmp.{IsTotalOrder}
 use Rattle.sketch_req.proofs.MadeSketches.{none_taken}
-use Rattle.sketch_base.proofs.RefusedCalls.{accepted_alone, no_memory, no_refusal, refused_as}
+use Rattle.sketch_base.proofs.RefusedCalls.{accepted_alone, no_memory, no_refusal, none_or_some, refused_as}
 use Rattle.sketch_req.proofs.Refusals.{not_apart, not_both, not_full_both}
 use Rattle.sketch_req.proofs.UpdatesInTurn.{updates_none}
 
@@ -213,16 +213,13 @@ module _ {A S T : Type 0} (cmp : A → A → Ordering) (bit : S → Bool) (next 
   pub merge_none : (redraws : Bool) (t : Req A) → t.n ≡ 0 → IsSound cmp s → (AreApart s t → ⊥) → MergeEnds cmp bit next s s source source (Ok v) redraws t
   merge_none redraws t none sound near = record {
     empty = λ _ _. (refl, refl, refl);
-    ok = λ some. absurd (nothing none some);
+    ok = λ some. absurd (none_or_some none some);
     sound = sound;
-    coins = λ some. absurd (nothing none some);
+    coins = λ some. absurd (none_or_some none some);
     err = tt;
     refused = accepted near;
     memory = tt;
   }
-    where
-      nothing : {n : ℕ} → n ≡ 0 → 0 < n → ⊥
-      nothing none some = omega (arith, none, some)
 
   pub updates_of_none : IsTotalOrder cmp → (xs : List A) → length xs ≡ 0 → IsSound cmp s → (AreTooMany s xs → ⊥) → UpdatesEnd cmp bit next s s source source
       (Ok v) xs

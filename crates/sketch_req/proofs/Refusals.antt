@@ -165,4 +165,3 @@ answered_too told = ((λ is. absurd (no_error is), λ no. absurd (no_error (told
 
 pub refusal_passed : {V P : Type 0} {r : Result V ErrorKind} {x : ErrorKind} (n : ℕ) → r ≡ Err x → IsRefusedUnless {V = V} P n (Err x) → IsRefusedUnless P n r
 refusal_passed n e told = rw e told
-
