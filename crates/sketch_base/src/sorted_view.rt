@@ -259,7 +259,7 @@ impl<T: Clone + Ord> SortedView<T> {
     {
         let mut found = Vec::with_capacity(*self.items.allocator(), fractions.len())?;
         for fraction in fractions {
-            found.push(self.clone_of_entry(fraction, criteria)?)?;
+            found.push_reserved(self.clone_of_entry(fraction, criteria)?);
         }
         Ok(found)
     }
