@@ -27,6 +27,16 @@ module _ {V : Type 0} (IsFit : Type 0) (n : ℕ) where
       let memory : is_argument refused ≡ false = ap (λ (y : ErrorKind). let r : Result V ErrorKind = Err y in is_argument r) h in
       ((λ k. absurd (false≢true (sym memory ∙ ap is_argument k)), λ unfit. absurd (unfit fit)), λ k. (h, some))
 
+  -- what a call refuses, one that passes its errors on refuses too
+  pub refusal-passed : (r : Result V ErrorKind) (e : ErrorKind) → IsErrAnd r (λ x. x ≡ e) → (let told : Result V ErrorKind = Err e in IsRefusedUnless IsFit n told) →
+      IsRefusedUnless IsFit n r
+  refusal-passed (Ok x) e h told = absurd h
+  refusal-passed (Err x) e h told = subst (λ (y : ErrorKind). let r : Result V ErrorKind = Err y in IsRefusedUnless IsFit n r) (sym h) told
+
+  -- arguments that weren't refused can't be unfit
+  pub fits-told : (x : V) → (let r : Result V ErrorKind = Ok x in IsRefusedUnless IsFit n r) → ¬ (¬ IsFit)
+  fits-told x told unfit = false≢true (ap is_err (told.0.1 unfit))
+
   pub refused-nothing : (x : V) → IsFit → (let r : Result V ErrorKind = Ok x in IsRefusedUnless IsFit n r)
   refused-nothing x fit = ((λ k. absurd (false≢true (ap is_err k)), λ unfit. absurd (unfit fit)), tt)
 

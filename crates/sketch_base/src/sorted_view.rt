@@ -224,13 +224,11 @@ impl<T: Clone + Ord> SortedView<T> {
         ensures refused { IsRefusedUnless (IsIncreasing T.cmp points.now)
             (length self.now.entries) result }
     {
-        queries::check_points(points)?;
-        if self.items.is_empty() {
+        let Some(mut ranks) = self.cdf(points, criteria)? else {
             return Ok(None);
-        }
-        let alloc = *self.items.allocator();
-        let (items, cumulated) = (self.items.as_slice(), self.cumulated.as_slice());
-        Ok(Some(queries::pmf_among(alloc, items, cumulated, points, criteria)?))
+        };
+        queries::take_differences(ranks.as_mut_slice());
+        Ok(Some(ranks))
     }
 
     /// Returns a view of clones of the items.
