@@ -1,14 +1,6 @@
 -- What a reader takes from a list of bytes, and how few there are if it can't.
-use Rattle.std.proofs.Common.{◌≡◌, ℕ, ◌-◌, ◌<◌, ◌≤◌, true, false, leb, le-leb, List, [], ◌∷◌, length, get_or, take, drop, sym, ap, ◌∙◌, arith, take_all, inl, inr}
-use Rattle.std.proofs.lemmas.Bool.{cases_lt, false≢true}
+use Rattle.std.proofs.Common.{◌≡◌, ℕ, ◌-◌, ◌<◌, ◌≤◌, List, [], ◌∷◌, length, get_or, take, drop, sym, ap, ◌∙◌, arith, take_all}
 use Rattle.std.proofs.lemmas.List.{nil_from_length}
-
--- a test for k bytes that failed
-pub too-few : (n k : ℕ) → (leb k n ≡ true → false ≡ true) → n < k
-too-few n k h = elim (cases_lt n k) [
-  | inl u ↦ u
-  | inr u ↦ absurd (false≢true (h (le-leb k n u)))
-]
 
 -- the first byte, and the slice after it
 pub first-taken : (bytes seen : List ℕ) → bytes ≡ seen → 1 ≤ length bytes → seen ≡ get_or bytes 0 0 ∷ take (length bytes - 1) (drop 1 bytes)
@@ -23,6 +15,3 @@ pub eight-taken : {s0 s1 s2 s3 s4 s5 s6 s7 : List ℕ} {a b c d e f g h : ℕ} �
     s6 ≡ h ∷ s7 → s0 ≡ a ∷ b ∷ c ∷ d ∷ e ∷ f ∷ g ∷ h ∷ s7
 eight-taken {a} {b} {c} {d} {e} {f} {g} e0 e1 e2 e3 e4 e5 e6 =
     e0 ∙ ap (λ xs. a ∷ xs) (e1 ∙ ap (λ xs. b ∷ xs) (e2 ∙ ap (λ xs. c ∷ xs) (e3 ∙ ap (λ xs. d ∷ xs) (e4 ∙ ap (λ xs. e ∷ f ∷ xs) (e5 ∙ ap (λ xs. g ∷ xs) e6)))))
-
-pub is-within : (n m k : ℕ) → n ≡ m → k < m → k < n
-is-within n m k e h = omega arith

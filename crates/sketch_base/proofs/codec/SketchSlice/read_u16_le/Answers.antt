@@ -1,27 +1,8 @@
-use Rattle.std.proofs.Common.{ℕ, ◌<◌, List, length, refl, subst, arith, ltb-true}
-use Rattle.std.proofs.lemmas.Result.{IfOk-from_err}
-use Rattle.sketch_base.proofs.Exits.{on_error, only_error}
-use Rattle.sketch_base.proofs.TakenBytes.{too-few, is-within}
+use Rattle.std.proofs.Common.{List, ℕ, length, ◌<◌, refl, arith, subst}
 use Rattle.sketch_base.proofs.codec.SketchSlice.read_u16_le.Goals as goal
-
-pub split_at-requires : goal.split_at-requires
-split_at-requires c = grind arith
 
 pub returns : goal.returns
 returns c = record { ok = grind arith; err = tt; short = tt; kind = tt }
 
-pub returns-in_err-unless : goal.returns-in_err-unless
-returns-in_err-unless c =
-    let r = c.from_residual.result in
-    record {
-      ok = IfOk-from_err r _ c.from_residual.ensures.0;
-      err = on_error r refl;
-      short = on_error r (subst (λ (bytes : List ℕ). length bytes < 2) c.self.view_is (too-few _ 2 c.in_err-unless.ensures.ok.1));
-      kind = only_error r c.from_residual.ensures.1 c.in_err-unless.ensures.err;
-    }
-
-pub bounds-front-0 : goal.bounds-front-0
-bounds-front-0 c = is-within _ 2 0 c.split_at.ensures.front_len (ltb-true 0 2 refl)
-
-pub bounds-front-1 : goal.bounds-front-1
-bounds-front-1 c = is-within _ 2 1 c.split_at.ensures.front_len (ltb-true 1 2 refl)
+pub returns-in_default : goal.returns-in_default
+returns-in_default c = record { ok = tt; err = refl; short = subst (λ (bytes : List ℕ). length bytes < 2) c.self.view_is c.in_default.ensures.cases; kind = c.new.ensures }
