@@ -1,11 +1,11 @@
 -- What the calls on a view answer: what they refuse, and whether they find anything.
-use Rattle.std.proofs.Common.{◌≡◌, ℕ, ◌<◌, ◌≤◌, Bool, true, false, nat_eq, List, length, sym, ap, ◌∙◌, subst, arith, Result, Ok, Err}
-use Rattle.std.specs.Prelude.{Option, IsErrAnd, is_err}
+use Rattle.std.proofs.Common.{◌≡◌, ℕ, ◌<◌, ◌≤◌, Bool, true, false, nat_eq, List, length, sym, ap, ◌∙◌, subst, arith, Result, Ok, Err, Bor, Ordering, Equal}
+use Rattle.std.specs.Prelude.{Option, Some, IsErrAnd, is_err, option_copied}
 use Rattle.std.proofs.lemmas.Bool.{false≢true}
 use Rattle.sketch_base.specs.declared.error.ErrorKind.{ErrorKind}
 use Rattle.sketch_base.specs.declared.error.ErrorKind.TheVariants.{InvalidArgument, OutOfMemory}
 use Rattle.sketch_base.specs.Answered.{IsRefusedUnless}
-use Rattle.sketch_base.specs.Queries.{spread_out}
+use Rattle.sketch_base.specs.Queries.{SameAnswer, spread_out}
 use Rattle.sketch_base.specs.Views.{View, view_of}
 use Rattle.sketch_base.proofs.MovedCounts.{emptied, some-unless_empty}
 
@@ -61,3 +61,8 @@ pub at-entries : {A : Type 0} (P : List A → Type 0) (v : View A) (ys xs : List
     P (spread_out ys ns) → P v.entries
 at-entries {A} P v ys xs ns cumulated least greatest is e f h =
     subst (λ (w : View A). P w.entries) (sym is) (subst (λ (zs : List A). P (spread_out zs cumulated)) e (subst (λ (ms : List ℕ). P (spread_out ys ms)) f h))
+
+-- the clone of an entry that was found
+pub clone-answers : {A : Type 0} (cmp : A → A → Ordering) (found : Option (Bor A)) (entry : Bor A) (x : A) (q : Option A) → found ≡ Some entry → option_copied found ≡ q →
+    cmp entry.now x ≡ Equal → SameAnswer cmp q (Some x)
+clone-answers {A} cmp found entry x q is same e = subst (λ (o : Option A). SameAnswer cmp o (Some x)) (sym (ap option_copied is) ∙ same) e

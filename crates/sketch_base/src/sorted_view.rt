@@ -1,6 +1,6 @@
 //! A sorted snapshot of a sketch's items, for many queries. Each family builds it from what its
 //! sketches hold.
-ghost use Rattle.std.specs.Prelude.{◌≡◌, ◌↔◌, ◌<◌, ◌^◌, length, map, sum_by, IsTrue, IsSome, IsSorted, IfOk, IfErr, IfSome, Some, option_copied};
+ghost use Rattle.std.specs.Prelude.{◌≡◌, ◌↔◌, ◌<◌, ◌^◌, length, map, sum_by, IsTrue, IsSome, IsSorted, IfOk, IfErr, IfSome, option_copied};
 ghost use Rattle.std.specs.declared.cmp.Ordering.TheVariants.{Equal};
 ghost use Rattle.std.specs.List.{All};
 ghost use Rattle.std.specs.List.Sorted.{IsNonDecreasing};
@@ -257,20 +257,10 @@ impl<T: Clone + Ord> SortedView<T> {
     {
         let mut found = Vec::with_capacity(*self.items.allocator(), fractions.len())?;
         for fraction in fractions {
-            found.push_reserved(self.clone_of_entry(fraction, criteria)?);
+            let entry = self.entry_of(*fraction, criteria).unwrap();
+            found.push_reserved(entry.clone()?);
         }
         Ok(found)
-    }
-
-    /// Returns a clone of the entry at the quantile given by `fraction`.
-    fn clone_of_entry(&self, fraction: &Rank, criteria: SearchCriteria) -> Result<T, AllocError>
-        requires clones { (x y : T) → T.is_clone x y → T.cmp x y ≡ Equal }
-        requires fraction { IsFraction fraction.now }
-        requires some { 0 < length self.now.entries }
-        ensures { IfOk result (λ x.
-            SameAnswer T.cmp (quantile_of self.now fraction.now criteria) (Some x)) }
-    {
-        self.entry_of(*fraction, criteria).unwrap().clone()
     }
 
     /// Returns the entry at the quantile given by `fraction`.

@@ -3,9 +3,8 @@
 ghost use Rattle.std.specs.Prelude.{◌≡◌, ◌<◌, ◌++◌, length, IfOk, IsOk, IsTrue, IsSorted, None, option_copied};
 ghost use Rattle.std.specs.List.{AllByRecursion};
 ghost use Rattle.std.specs.Option.{option_to_list};
-ghost use Rattle.std.specs.Ordering.{is_gt, is_lt};
 ghost use Rattle.std.specs.declared.cmp.Ordering.TheVariants.{Equal};
-ghost use Rattle.sketch_base.specs.Extremes.{IsAtMost, IsBetween, IsExtreme, IsFrom, IsGreatestOf, IsLeastOf, IsUpTo, Ties, greatest_with, is_new, least_with, newer_or};
+ghost use Rattle.sketch_base.specs.Extremes.{IsAtMost, IsBetween, IsExtreme, IsFrom, IsGreatestOf, IsLeastOf, IsUpTo, Ties, greatest_with, least_with, newer_or};
 ghost use Rattle.sketch_base.specs.Queries.{SameAnswer};
 
 use std::alloc::AllocError;
@@ -94,33 +93,17 @@ fn are_ends_between<T: Ord>(items: &[T], least: &T, greatest: &T) -> bool
     !least.cmp(&items[0]).is_gt() && !items[count - 1].cmp(greatest).is_gt()
 }
 
-/// Returns whether an item is below the least item so far.
-fn is_new_least<T: Ord>(item: &T, least: &Option<T>) -> bool
-    ensures { result ≡ is_new is_lt T.cmp item.now least.now }
-{
-    match least {
-        Some(least) => item.cmp(least).is_lt(),
-        None => true,
-    }
-}
-
-/// Returns whether an item is above the greatest item so far.
-fn is_new_greatest<T: Ord>(item: &T, greatest: &Option<T>) -> bool
-    ensures { result ≡ is_new is_gt T.cmp item.now greatest.now }
-{
-    match greatest {
-        Some(greatest) => item.cmp(greatest).is_gt(),
-        None => true,
-    }
-}
-
 /// Clones the item if it is below the least item so far.
 pub fn clone_if_least<T: Clone + Ord>(item: &T, least: &Option<T>) -> Result<Option<T>, AllocError>
     requires clones { (x y : T) → T.is_clone x y → T.cmp x y ≡ Equal }
     ensures { IfOk result (λ new.
         Ties T.cmp (least_with T.cmp item.now least.now) (newer_or new least.now)) }
 {
-    clone_found(is_new_least(item, least).then_some(item))
+    let is_least = match least {
+        Some(least) => item.cmp(least).is_lt(),
+        None => true,
+    };
+    clone_found(is_least.then_some(item))
 }
 
 /// Clones the item if it is above the greatest item so far.
@@ -132,7 +115,11 @@ pub fn clone_if_greatest<T: Clone + Ord>(
     ensures { IfOk result (λ new.
         Ties T.cmp (greatest_with T.cmp item.now greatest.now) (newer_or new greatest.now)) }
 {
-    clone_found(is_new_greatest(item, greatest).then_some(item))
+    let is_greatest = match greatest {
+        Some(greatest) => item.cmp(greatest).is_gt(),
+        None => true,
+    };
+    clone_found(is_greatest.then_some(item))
 }
 
 /// Clones the item once for each new extreme that it is.

@@ -24,9 +24,6 @@ returns-then-is_empty g c = record {
   total = tt;
 }
 
-pub entries_of-total-requires : goal.entries_of-total-requires
-entries_of-total-requires g c = seen-cumulated _ _ _ _ c.as_slice-items.ensures.value c.as_slice-cumulated.ensures.value c.self.invariant.cumulates
-
 pub rank_among-weight-requires-clause-sorted : goal.rank_among-weight-requires-clause-sorted
 rank_among-weight-requires-clause-sorted g c = seen-sorted g.T.Ord.cmp _ _ c.as_slice-items.ensures.value c.self.invariant.sorted
 
