@@ -10,7 +10,7 @@ ghost use Rattle.sketch_base.specs.Bag.{SameItems, sort};
 ghost use Rattle.sketch_base.specs.Pairs.{copies, distinct, extreme_among};
 ghost use Rattle.sketch_base.specs.Query.{true_rank};
 ghost use Rattle.sketch_base.specs.Queries.{IsFraction, IsIncreasing, SameAnswer, cdf_of, pmf_of};
-ghost use Rattle.sketch_base.specs.Views.{AreQuantiles, IsView, SameView, quantile_of, view_of};
+ghost use Rattle.sketch_base.specs.Views.{IsView, SameView, quantile_of, view_of};
 ghost use Rattle.sketch_base.specs.Weighted.{items_of, pairs_in};
 
 use crate::common::extremes::clone_found;
@@ -191,7 +191,12 @@ impl<T: Clone + Ord> SortedView<T> {
         if self.items.is_empty() {
             return Ok(None);
         }
-        Ok(Some(self.entries_of_all(fractions, criteria)?))
+        let mut found = Vec::with_capacity(*self.items.allocator(), fractions.len())?;
+        for fraction in fractions {
+            let entry = self.entry_of(*fraction, criteria).unwrap();
+            found.push_reserved(entry.clone()?);
+        }
+        Ok(Some(found))
     }
 
     /// Returns the rank of each split point, followed by the whole, or None if there are no
@@ -242,25 +247,6 @@ impl<T: Clone + Ord> SortedView<T> {
             min_item: clone_found(self.min_item.as_ref())?,
             max_item: clone_found(self.max_item.as_ref())?,
         })
-    }
-
-    /// Returns the entries at the quantiles given by `fractions`.
-    fn entries_of_all(
-        &self,
-        fractions: &[Rank],
-        criteria: SearchCriteria,
-    ) -> Result<Vec<T>, AllocError>
-        requires clones { (x y : T) → T.is_clone x y → T.cmp x y ≡ Equal }
-        requires fractions { All IsFraction fractions.now }
-        requires some { 0 < length self.now.entries }
-        ensures { IfOk result (λ xs. AreQuantiles T.cmp self.now criteria fractions.now xs.items) }
-    {
-        let mut found = Vec::with_capacity(*self.items.allocator(), fractions.len())?;
-        for fraction in fractions {
-            let entry = self.entry_of(*fraction, criteria).unwrap();
-            found.push_reserved(entry.clone()?);
-        }
-        Ok(found)
     }
 
     /// Returns the entry at the quantile given by `fraction`.
