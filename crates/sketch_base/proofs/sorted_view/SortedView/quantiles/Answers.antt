@@ -41,12 +41,6 @@ loop-fraction-init g c =
 pub bounds-fractions-fraction-index : goal.bounds-fractions-fraction-index
 bounds-fractions-fraction-index g c = grind arith
 
-pub offset_bounds-fractions-fraction-index : goal.offset_bounds-fractions-fraction-index
-offset_bounds-fractions-fraction-index g c = grind arith
-
-pub entry_of-requires : goal.entry_of-requires
-entry_of-requires g c = c.in_ok-check_fractions.ensures.good c.loop-fraction.fraction-index _ c.loop-fraction-test.true
-
 pub loop-fraction-preserved : goal.loop-fraction-preserved
 loop-fraction-preserved g c =
     let put = c.push_reserved.ensures in
