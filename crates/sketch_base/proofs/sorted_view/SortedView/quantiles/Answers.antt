@@ -52,12 +52,6 @@ loop-fraction-preserved g c =
       room = room-after_next _ _ _ _ _ _ c.loop-fraction-test.true put.len put.capacity c.loop-fraction.invariant.room;
     }
 
-pub unwrap-entry-requires : goal.unwrap-entry-requires
-unwrap-entry-requires g c =
-    let some = entries-there _ _ _ _ _ (sym c.self.view_is) c.is_empty.result _ c.is_empty.ensures c.self.inside.items.ok.0 c.if-is_empty.false
-    c.self.invariant.each_counts in
-    c.entry_of.ensures.there.1 some
-
 pub returns-in_err-found : goal.returns-in_err-found
 returns-in_err-found g c =
     let r = c.from_residual-in_err-found.result in
