@@ -13,6 +13,7 @@ ghost use Rattle.sketch_base.specs.Queries.{IsFraction, IsIncreasing, SameAnswer
 ghost use Rattle.sketch_base.specs.Views.{IsView, SameView, quantile_of, view_of};
 ghost use Rattle.sketch_base.specs.Weighted.{items_of, pairs_in};
 
+use crate::common::counting::count_from;
 use crate::common::extremes::clone_found;
 use crate::common::{Rank, SearchCriteria, queries};
 use crate::error::Error;
@@ -214,9 +215,18 @@ impl<T: Clone + Ord> SortedView<T> {
         if self.items.is_empty() {
             return Ok(None);
         }
-        let alloc = *self.items.allocator();
         let (items, cumulated) = (self.items.as_slice(), self.cumulated.as_slice());
-        Ok(Some(queries::cdf_among(alloc, items, cumulated, points, criteria)?))
+        let total = queries::entries_of(items, cumulated);
+        let mut ranks = Vec::with_capacity(*self.items.allocator(), points.len().saturating_add(1))?;
+        let mut count = 0;
+        for point in points {
+            count = count_from(items, count, point, criteria);
+            let weight = queries::entries_before(cumulated, count);
+            ranks.push_reserved(Rank { weight, total });
+        }
+        let weight = total;
+        ranks.push(Rank { weight, total })?;
+        Ok(Some(ranks))
     }
 
     /// Returns the numbers of entries between the split points, or None if there are no entries.

@@ -1,21 +1,70 @@
-use Rattle.std.proofs.Common.{◌≡◌, List, refl, sym, length}
+use Rattle.std.proofs.Common.{◌≡◌, ℕ, List, [], ◌∷◌, ◌++◌, ◌≤◌, length, ap, refl, sym, subst, ◌∙◌, arith, zero-le}
 use Rattle.std.proofs.lemmas.Bool.{false≢true}
 use Rattle.std.proofs.lemmas.Result.{IfOk-from_err}
-use Rattle.sketch_base.specs.Queries.{IsIncreasing, cdf_of, ranks_of}
+use Rattle.sketch_base.specs.declared.common.Rank.{Rank}
+use Rattle.sketch_base.specs.Query.{counted, true_rank}
+use Rattle.sketch_base.specs.Queries.{IsIncreasing, cdf_of, ranks_of, spread_out}
+use Rattle.sketch_base.proofs.Distributions.{next-rank-more, ranks-more, ranks-last, ranks-rise}
+use Rattle.sketch_base.proofs.SpreadOut.{count-spread_out}
 use Rattle.sketch_base.proofs.ViewAnswers.{at-entries, entries-there, no-entries, refused-argument, refused-memory, refused-nothing}
 use Rattle.sketch_base.proofs.SeenViews.{seen-cumulated, seen-sorted}
+use Rattle.sketch_base.proofs.WeightedItems.{room-after_next}
 use Rattle.sketch_base.proofs.sorted_view.SortedView.cdf.Goals as goal
+
+pub entries_of-total-requires : goal.entries_of-total-requires
+entries_of-total-requires g c = seen-cumulated _ _ _ _ c.as_slice-items.ensures.value c.as_slice-cumulated.ensures.value c.self.invariant.cumulates
+
+pub loop-point-init : goal.loop-point-init
+loop-point-init g c =
+    record {
+      ranks = c.in_ok-ranks.ensures.items;
+      known = λ d l. zero-le;
+      cumulates = seen-cumulated _ _ _ _ c.as_slice-items.ensures.value c.as_slice-cumulated.ensures.value c.self.invariant.cumulates;
+      sorted = seen-sorted g.T.Ord.cmp _ _ c.as_slice-items.ensures.value c.self.invariant.sorted;
+      room = grind arith;
+    }
+
+pub loop-point-preserved : goal.loop-point-preserved
+loop-point-preserved g c =
+    let entries = spread_out c.as_slice-items.result.now c.as_slice-cumulated.result.now in
+    let count = c.count_from-count in
+    let weight = c.entries_before-weight.ensures
+    ∙ sym (count-spread_out (counted g.T.Ord.cmp c.point-item.result c.args.criteria) c.as_slice-items.result.now c.as_slice-cumulated.result.now count.result count.ensures.within c.loop-point.invariant.cumulates
+    count.ensures.parts) in
+    record {
+      ranks = ranks-more (λ (y : g.row.T.Denot). true_rank g.T.Ord.cmp y c.args.criteria entries) (length entries) c.args.points.now c.loop-point.point-index c.entries_before-weight.result
+          c.point-item.result c.loop-point.ranks.items c.push_reserved.new.self.items c.loop-point-test.true c.loop-point.invariant.ranks c.point-item.is weight
+          (c.push_reserved.ensures.items ∙ ap (λ (n : ℕ). let rank : Rank = record { weight = c.entries_before-weight.result; total = n } in c.loop-point.ranks.items ++ rank ∷ []) c.entries_of-total.ensures);
+      known = λ d l. next-rank-more g.met.T.Ord.total c.args.criteria c.as_slice-items.result.now c.args.points.now c.loop-point.point-index c.point-item.result d count.result c.in_ok-check_points.ensures.good l
+          c.point-item.is count.ensures.count;
+      cumulates = c.loop-point.invariant.cumulates;
+      sorted = c.loop-point.invariant.sorted;
+      room = room-after_next _ _ _ _ _ _ c.loop-point-test.true c.push_reserved.ensures.len c.push_reserved.ensures.capacity c.loop-point.invariant.room;
+    }
+
+pub count_from-count-requires-clause-known : goal.count_from-count-requires-clause-known
+count_from-count-requires-clause-known g c =
+    subst (λ z. c.loop-point.count ≤ true_rank g.T.Ord.cmp z c.args.criteria c.as_slice-items.result.now) (sym c.point-item.is) (c.loop-point.invariant.known c.point-item.result c.loop-point-test.true)
+
+pub offset_bounds-points-point-index : goal.offset_bounds-points-point-index
+offset_bounds-points-point-index g c = grind arith
+
+pub count_from-count-requires-clause-sorted : goal.count_from-count-requires-clause-sorted
+count_from-count-requires-clause-sorted g c = c.loop-point.invariant.sorted
 
 pub returns : goal.returns
 returns g c =
     let some = entries-there _ _ _ _ _ (sym c.self.view_is) c.is_empty.result _ c.is_empty.ensures c.self.inside.items.ok.0 c.if-is_empty.false
     c.self.invariant.each_counts in
+    let entries = spread_out c.as_slice-items.result.now c.as_slice-cumulated.result.now in
+    let ranks = ranks-last (λ (y : g.row.T.Denot). true_rank g.T.Ord.cmp y c.args.criteria entries) (length entries) c.args.points.now c.loop-point.point-index
+    c.loop-point.ranks.items
+    c.push.new.self.items c.loop-point-test.false c.loop-point.invariant.ranks
+    (c.in_ok-push.ensures.items ∙ ap (λ (n : ℕ). let rank : Rank = record { weight = n; total = n } in c.loop-point.ranks.items ++ rank ∷ []) c.entries_of-total.ensures) in
     record {
-      found = at-entries
-          (λ (es : List g.row.T.Denot). c.in_ok-cdf_among.field-0.items ≡ ranks_of (length es) (cdf_of g.T.Ord.cmp c.args.criteria es c.args.points.now)) _ _ _
-          _ _ _ _ (sym c.self.view_is) c.as_slice-items.ensures.value c.as_slice-cumulated.ensures.value
-          c.in_ok-cdf_among.ensures.ranks;
-      rises = c.in_ok-cdf_among.ensures.rises;
+      found = at-entries (λ (es : List g.row.T.Denot). c.push.new.self.items ≡ ranks_of (length es) (cdf_of g.T.Ord.cmp c.args.criteria es c.args.points.now)) _ _ _
+          _ _ _ _ (sym c.self.view_is) c.as_slice-items.ensures.value c.as_slice-cumulated.ensures.value ranks;
+      rises = ranks-rise g.met.T.Ord.total c.args.criteria entries c.args.points.now (length entries) c.push.new.self.items c.in_ok-check_points.ensures.good ranks;
       there = (λ t. some, λ t. refl);
       refused = refused-nothing (IsIncreasing g.T.Ord.cmp c.args.points.now) (length c.args.self.now.entries) _ c.in_ok-check_points.ensures.good;
     }
@@ -27,20 +76,6 @@ returns-then-is_empty g c = record {
   there = (λ t. absurd (false≢true t), no-entries _ _ _ _ _ (sym c.self.view_is) c.is_empty.result _ c.is_empty.ensures c.self.inside.items.ok.0 c.if-is_empty.true);
   refused = refused-nothing (IsIncreasing g.T.Ord.cmp c.args.points.now) (length c.args.self.now.entries) _ c.in_ok-check_points.ensures.good;
 }
-
-pub returns-in_err-cdf_among : goal.returns-in_err-cdf_among
-returns-in_err-cdf_among g c =
-    let r = c.from_residual-in_err-cdf_among.result in
-    let err = c.from_residual-in_err-cdf_among.ensures.0 in
-    let some = entries-there _ _ _ _ _ (sym c.self.view_is) c.is_empty.result _ c.is_empty.ensures c.self.inside.items.ok.0 c.if-is_empty.false
-    c.self.invariant.each_counts in
-    record {
-      found = IfOk-from_err r _ err;
-      rises = IfOk-from_err r _ err;
-      there = IfOk-from_err r _ err;
-      refused = refused-memory (IsIncreasing g.T.Ord.cmp c.args.points.now) (length c.args.self.now.entries) r c.from_residual-in_err-cdf_among.ensures.1
-          c.in_ok-check_points.ensures.good some;
-    }
 
 pub returns-in_err-check_points : goal.returns-in_err-check_points
 returns-in_err-check_points g c =
@@ -54,11 +89,30 @@ returns-in_err-check_points g c =
           c.in_err-check_points.ensures.kind c.in_err-check_points.ensures.bad;
     }
 
-pub cdf_among-requires-clause-increasing : goal.cdf_among-requires-clause-increasing
-cdf_among-requires-clause-increasing g c = c.in_ok-check_points.ensures.good
+pub returns-in_err-ranks : goal.returns-in_err-ranks
+returns-in_err-ranks g c =
+    let r = c.from_residual-in_err-ranks.result in
+    let err = c.from_residual-in_err-ranks.ensures.0 in
+    let some = entries-there _ _ _ _ _ (sym c.self.view_is) c.is_empty.result _ c.is_empty.ensures c.self.inside.items.ok.0 c.if-is_empty.false
+    c.self.invariant.each_counts in
+    record {
+      found = IfOk-from_err r _ err;
+      rises = IfOk-from_err r _ err;
+      there = IfOk-from_err r _ err;
+      refused = refused-memory (IsIncreasing g.T.Ord.cmp c.args.points.now) (length c.args.self.now.entries) r c.from_residual-in_err-ranks.ensures.1
+          c.in_ok-check_points.ensures.good some;
+    }
 
-pub cdf_among-requires-clause-cumulated : goal.cdf_among-requires-clause-cumulated
-cdf_among-requires-clause-cumulated g c = seen-cumulated _ _ _ _ c.as_slice-items.ensures.value c.as_slice-cumulated.ensures.value c.self.invariant.cumulates
-
-pub cdf_among-requires-clause-sorted : goal.cdf_among-requires-clause-sorted
-cdf_among-requires-clause-sorted g c = seen-sorted g.T.Ord.cmp _ _ c.as_slice-items.ensures.value c.self.invariant.sorted
+pub returns-in_err-push : goal.returns-in_err-push
+returns-in_err-push g c =
+    let r = c.from_residual-in_err-push.result in
+    let err = c.from_residual-in_err-push.ensures.0 in
+    let some = entries-there _ _ _ _ _ (sym c.self.view_is) c.is_empty.result _ c.is_empty.ensures c.self.inside.items.ok.0 c.if-is_empty.false
+    c.self.invariant.each_counts in
+    record {
+      found = IfOk-from_err r _ err;
+      rises = IfOk-from_err r _ err;
+      there = IfOk-from_err r _ err;
+      refused = refused-memory (IsIncreasing g.T.Ord.cmp c.args.points.now) (length c.args.self.now.entries) r c.from_residual-in_err-push.ensures.1
+          c.in_ok-check_points.ensures.good some;
+    }
