@@ -15,3 +15,9 @@ returns-in_err-new_least g c =
     let r = c.from_residual.result in
     let err = c.from_residual.ensures.0 in
     record { least = IfOk-from_err r _ err; greatest = IfOk-from_err r _ err }
+
+pub clone_if_least-requires : goal.clone_if_least-requires
+clone_if_least-requires g c = record { clones = c.requires.clones }
+
+pub clone_if_greatest-requires : goal.clone_if_greatest-requires
+clone_if_greatest-requires g c = record { clones = c.requires.clones }

@@ -1,4 +1,4 @@
-use Rattle.std.proofs.Common.{◌≡◌, ℕ, List, [], ◌∷◌, ◌++◌, ◌≤◌, length, ap, refl, sym, subst, ◌∙◌, arith, zero-le}
+use Rattle.std.proofs.Common.{◌≡◌, ◌+◌, ◌-◌, ◌≤◌, ℕ, List, [], ◌∷◌, ◌++◌, length, vec_capacity, vec_len, ap, refl, sym, subst, ◌∙◌, arith, zero-le}
 use Rattle.std.proofs.lemmas.Bool.{false≢true}
 use Rattle.std.proofs.lemmas.Result.{IfOk-from_err}
 use Rattle.sketch_base.specs.declared.common.Rank.{Rank}
@@ -9,10 +9,16 @@ use Rattle.sketch_base.proofs.SpreadOut.{count-spread_out}
 use Rattle.sketch_base.proofs.ViewAnswers.{at-entries, entries-there, no-entries, refused-argument, refused-memory, refused-nothing}
 use Rattle.sketch_base.proofs.SeenViews.{seen-cumulated, seen-sorted}
 use Rattle.sketch_base.proofs.WeightedItems.{room-after_next}
+use Rattle.sketch_base.proofs.sorted_view.SortedView.cdf.Given.{Over}
+use Rattle.sketch_base.proofs.sorted_view.SortedView.cdf.Goals.{In_ok-push, In_ok-ranks}
 use Rattle.sketch_base.proofs.sorted_view.SortedView.cdf.Goals as goal
+use Rattle.sketch_base.proofs.sorted_view.SortedView.cdf.Goals.at as past
 
 pub entries_of-total-requires : goal.entries_of-total-requires
 entries_of-total-requires g c = seen-cumulated _ _ _ _ c.as_slice-items.ensures.value c.as_slice-cumulated.ensures.value c.self.invariant.cumulates
+
+room : (g : Over) (c : In_ok-ranks g) → vec_len c.in_ok-ranks.ranks + (length c.args.points.now - 0) ≤ vec_capacity c.in_ok-ranks.ranks
+room g c = grind arith
 
 pub loop-point-init : goal.loop-point-init
 loop-point-init g c =
@@ -21,7 +27,7 @@ loop-point-init g c =
       known = λ d l. zero-le;
       cumulates = seen-cumulated _ _ _ _ c.as_slice-items.ensures.value c.as_slice-cumulated.ensures.value c.self.invariant.cumulates;
       sorted = seen-sorted g.T.Ord.cmp _ _ c.as_slice-items.ensures.value c.self.invariant.sorted;
-      room = grind arith;
+      room = room g (past.loop-point-init g c).In_ok-ranks;
     }
 
 pub loop-point-preserved : goal.loop-point-preserved
@@ -52,19 +58,26 @@ offset_bounds-points-point-index g c = grind arith
 pub count_from-count-requires-clause-sorted : goal.count_from-count-requires-clause-sorted
 count_from-count-requires-clause-sorted g c = c.loop-point.invariant.sorted
 
+-- what the vector holds in the end
+ranks : (g : Over) (c : In_ok-push g) → let entries = spread_out c.as_slice-items.result.now c.as_slice-cumulated.result.now in
+    c.push.new.self.items ≡ ranks_of (length entries) (cdf_of g.T.Ord.cmp c.args.criteria entries c.args.points.now)
+ranks g c =
+    let entries = spread_out c.as_slice-items.result.now c.as_slice-cumulated.result.now in
+    ranks-last (λ (y : g.row.T.Denot). true_rank g.T.Ord.cmp y c.args.criteria entries) (length entries) c.args.points.now c.loop-point.point-index
+    c.loop-point.ranks.items
+    c.push.new.self.items c.loop-point-test.false c.loop-point.invariant.ranks
+    (c.in_ok-push.ensures.items ∙ ap (λ (n : ℕ). let rank : Rank = record { weight = n; total = n } in c.loop-point.ranks.items ++ rank ∷ []) c.entries_of-total.ensures)
+
 pub returns : goal.returns
 returns g c =
     let some = entries-there _ _ _ _ _ (sym c.self.view_is) c.is_empty.result _ c.is_empty.ensures c.self.inside.items.ok.0 c.if-is_empty.false
     c.self.invariant.each_counts in
-    let entries = spread_out c.as_slice-items.result.now c.as_slice-cumulated.result.now in
-    let ranks = ranks-last (λ (y : g.row.T.Denot). true_rank g.T.Ord.cmp y c.args.criteria entries) (length entries) c.args.points.now c.loop-point.point-index
-    c.loop-point.ranks.items
-    c.push.new.self.items c.loop-point-test.false c.loop-point.invariant.ranks
-    (c.in_ok-push.ensures.items ∙ ap (λ (n : ℕ). let rank : Rank = record { weight = n; total = n } in c.loop-point.ranks.items ++ rank ∷ []) c.entries_of-total.ensures) in
+    let is = ranks g (past.returns g c).In_ok-push in
     record {
       found = at-entries (λ (es : List g.row.T.Denot). c.push.new.self.items ≡ ranks_of (length es) (cdf_of g.T.Ord.cmp c.args.criteria es c.args.points.now)) _ _ _
-          _ _ _ _ (sym c.self.view_is) c.as_slice-items.ensures.value c.as_slice-cumulated.ensures.value ranks;
-      rises = ranks-rise g.met.T.Ord.total c.args.criteria entries c.args.points.now (length entries) c.push.new.self.items c.in_ok-check_points.ensures.good ranks;
+          _ _ _ _ (sym c.self.view_is) c.as_slice-items.ensures.value c.as_slice-cumulated.ensures.value is;
+      rises = ranks-rise g.met.T.Ord.total c.args.criteria (spread_out c.as_slice-items.result.now c.as_slice-cumulated.result.now) c.args.points.now _ c.push.new.self.items
+          c.in_ok-check_points.ensures.good is;
       there = (λ t. some, λ t. refl);
       refused = refused-nothing (IsIncreasing g.T.Ord.cmp c.args.points.now) (length c.args.self.now.entries) _ c.in_ok-check_points.ensures.good;
     }

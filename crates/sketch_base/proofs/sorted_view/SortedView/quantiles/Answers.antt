@@ -41,6 +41,12 @@ loop-fraction-init g c =
 pub bounds-fractions-fraction-index : goal.bounds-fractions-fraction-index
 bounds-fractions-fraction-index g c = grind arith
 
+pub offset_bounds-fractions-fraction-index : goal.offset_bounds-fractions-fraction-index
+offset_bounds-fractions-fraction-index g c = grind arith
+
+pub entry_of-requires : goal.entry_of-requires
+entry_of-requires g c = c.in_ok-check_fractions.ensures.good c.loop-fraction.fraction-index _ c.loop-fraction-test.true
+
 pub loop-fraction-preserved : goal.loop-fraction-preserved
 loop-fraction-preserved g c =
     let put = c.push_reserved.ensures in
@@ -51,6 +57,12 @@ loop-fraction-preserved g c =
           (c.requires.clones c.unwrap-entry.result.now c.in_ok-clone.field-0 c.in_ok-clone.ensures.cases)) c.loop-fraction-test.true c.loop-fraction.invariant.found put.items;
       room = room-after_next _ _ _ _ _ _ c.loop-fraction-test.true put.len put.capacity c.loop-fraction.invariant.room;
     }
+
+pub unwrap-entry-requires : goal.unwrap-entry-requires
+unwrap-entry-requires g c =
+    let some = entries-there _ _ _ _ _ (sym c.self.view_is) c.is_empty.result _ c.is_empty.ensures c.self.inside.items.ok.0 c.if-is_empty.false
+    c.self.invariant.each_counts in
+    c.entry_of.ensures.there.1 some
 
 pub returns-in_err-found : goal.returns-in_err-found
 returns-in_err-found g c =

@@ -29,3 +29,6 @@ rank_among-weight-requires-clause-sorted g c = seen-sorted g.T.Ord.cmp _ _ c.as_
 
 pub rank_among-weight-requires-clause-cumulated : goal.rank_among-weight-requires-clause-cumulated
 rank_among-weight-requires-clause-cumulated g c = seen-cumulated _ _ _ _ c.as_slice-items.ensures.value c.as_slice-cumulated.ensures.value c.self.invariant.cumulates
+
+pub entries_of-total-requires : goal.entries_of-total-requires
+entries_of-total-requires g c = seen-cumulated _ _ _ _ c.as_slice-items.ensures.value c.as_slice-cumulated.ensures.value c.self.invariant.cumulates
