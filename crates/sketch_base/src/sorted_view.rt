@@ -217,7 +217,8 @@ impl<T: Clone + Ord> SortedView<T> {
         }
         let (items, cumulated) = (self.items.as_slice(), self.cumulated.as_slice());
         let total = queries::entries_of(items, cumulated);
-        let mut ranks = Vec::with_capacity(*self.items.allocator(), points.len().saturating_add(1))?;
+        let alloc = *self.items.allocator();
+        let mut ranks = Vec::with_capacity(alloc, points.len().saturating_add(1))?;
         let mut count = 0;
         for point in points {
             count = count_from(items, count, point, criteria);
