@@ -39,7 +39,7 @@ loop-fraction-init g c =
     }
 
 pub bounds-fractions-fraction-index : goal.bounds-fractions-fraction-index
-bounds-fractions-fraction-index g c = grind arith
+bounds-fractions-fraction-index g c = c.loop-fraction-test.true
 
 pub offset_bounds-fractions-fraction-index : goal.offset_bounds-fractions-fraction-index
 offset_bounds-fractions-fraction-index g c = grind arith
