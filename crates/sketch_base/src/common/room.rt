@@ -46,10 +46,10 @@ pub fn reserve_more<T>(items: &mut Vec<T>, more: usize) -> Result<(), AllocError
         ≤ max (vec_capacity items.old) (vec_len items.old + max more (vec_len items.old / 4))) }
 {
     let len = items.len();
-    if items.capacity() - len < more {
-        items.reserve_exact(more.max(len / 4))?;
+    if items.capacity() - len >= more {
+        return Ok(());
     }
-    Ok(())
+    items.reserve_exact(more.max(len / 4))
 }
 
 /// Swaps two vectors if the first has room for over a quarter more items, but leaves its items in

@@ -1,5 +1,5 @@
 use Rattle.std.proofs.Common.{◌≡◌, ℕ, ◌+◌, ◌≤◌, ap, refl, ◌∙◌, arith, not-le_of_lt}
-use Rattle.std.proofs.lemmas.Result.{IfOk-from_err}
+use Rattle.std.proofs.lemmas.Result.{on_ok_weaker}
 use Rattle.sketch_base.specs.Buffers.{Space}
 use Rattle.sketch_base.proofs.common.buffers.Buffers.reserve.Goals as goal
 
@@ -14,16 +14,8 @@ space-for l n m h = omega arith
 pub invariant_of-self : goal.invariant_of-self
 invariant_of-self g c = c.reserve_exact.ensures.items ∙ c.self.invariant
 
-pub invariant_of-self-in_err-reserve_exact : goal.invariant_of-self-in_err-reserve_exact
-invariant_of-self-in_err-reserve_exact g c = c.reserve_exact.ensures.items ∙ c.self.invariant
+pub returns : goal.returns
+returns g c = record { rest = with_space _ _ c.self.view_is _; space = on_ok_weaker c.reserve_exact.result (λ h more. space-for _ _ _ h) c.reserve_exact.ensures.ok }
 
-pub returns-in_err-reserve_exact : goal.returns-in_err-reserve_exact
-returns-in_err-reserve_exact g c =
-    let r = c.from_residual.result in
-    record { rest = with_space _ _ c.self.view_is _; space = IfOk-from_err r _ c.from_residual.ensures.0 }
-
-pub returns-in_ok-reserve_exact : goal.returns-in_ok-reserve_exact
-returns-in_ok-reserve_exact g c = record { rest = with_space _ _ c.self.view_is _; space = λ _. space-for _ _ _ c.in_ok-reserve_exact.ensures.ok }
-
-pub returns-else-coming-going : goal.returns-else-coming-going
-returns-else-coming-going g c = record { rest = refl; space = λ more. absurd (not-le_of_lt more c.if-coming-going.false) }
+pub returns-then-coming-going : goal.returns-then-coming-going
+returns-then-coming-going g c = record { rest = refl; space = λ more. absurd (not-le_of_lt more c.if-coming-going.true) }
