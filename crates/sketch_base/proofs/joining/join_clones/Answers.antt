@@ -110,3 +110,6 @@ overflow_add-place g c = grind arith
 
 pub offset_bounds-entries-place-in-loop-place : goal.offset_bounds-entries-place-in-loop-place
 offset_bounds-entries-place-in-loop-place g c = grind arith
+
+pub slice_bounds-is_below_first-end : goal.slice_bounds-is_below_first-end
+slice_bounds-is_below_first-end g c = grind arith

@@ -10,3 +10,9 @@ returns c = record { ok = first-taken _ _ c.self.view_is c.in-len1-up.len_at_lea
 
 pub returns-in_default : goal.returns-in_default
 returns-in_default c = record { ok = tt; err = refl; short = none-to_take _ _ c.self.view_is c.in_default.len_below; kind = c.new.ensures }
+
+pub slice_bounds-rest-count : goal.slice_bounds-rest-count
+slice_bounds-rest-count c = grind arith
+
+pub slice_bounds-rest-start : goal.slice_bounds-rest-start
+slice_bounds-rest-start c = grind arith

@@ -1,4 +1,4 @@
-use Rattle.std.proofs.Common.{◌-◌, length, ap, sym, ◌∙◌, zero-le}
+use Rattle.std.proofs.Common.{arith, ◌-◌, length, ap, sym, ◌∙◌, zero-le}
 use Rattle.std.proofs.lemmas.List.Sums.{count_by-le-length}
 use Rattle.sketch_base.specs.Query.{counted}
 use Rattle.sketch_base.proofs.Entries.{counted-parted}
@@ -30,3 +30,6 @@ returns-else-is_counted g c =
           c.requires.half;
       within = within-half _ _ c.requires.within;
     }
+
+pub overflow_add-result : goal.overflow_add-result
+overflow_add-result g c = grind arith

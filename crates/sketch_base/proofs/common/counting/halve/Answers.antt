@@ -19,3 +19,6 @@ returns g c =
 
 pub overflow_add-result : goal.overflow_add-result
 overflow_add-result g c = grind arith
+
+pub bounds-items-known : goal.bounds-items-known
+bounds-items-known g c = grind arith

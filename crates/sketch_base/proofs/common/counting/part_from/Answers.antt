@@ -44,3 +44,9 @@ returns g c =
 
 pub bounds-items-start : goal.bounds-items-start
 bounds-items-start g c = step-within _ _ _ c.loop-step-test.true c.loop-step.invariant.1.0 c.loop-step.invariant.1.1
+
+pub overflow_add-start-in-loop-step : goal.overflow_add-start-in-loop-step
+overflow_add-start-in-loop-step g c = grind arith
+
+pub overflow_add-result : goal.overflow_add-result
+overflow_add-result g c = grind arith

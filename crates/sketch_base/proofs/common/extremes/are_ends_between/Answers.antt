@@ -47,3 +47,6 @@ returns-else-not-is_gt g c =
       no = λ all. absurd (false≢true (sym (ap (λ x. is_gt (g.T.Ord.cmp least x)) c.index-items-0.is
           ∙ (All-get_or (IsBetween g.T.Ord.cmp least greatest) items 0 c.index-items-0.result some all).0) ∙ above));
     }
+
+pub offset_bounds-items-count : goal.offset_bounds-items-count
+offset_bounds-items-count g c = grind arith

@@ -7,3 +7,6 @@ loop-buffers-smaller g c = grind (arith, common_steps)
 
 pub returns : goal.returns
 returns g c = grind arith
+
+pub loop-buffers-init : goal.loop-buffers-init
+loop-buffers-init g c = grind arith
