@@ -68,3 +68,6 @@ loop-shift-preserved g c =
 
 pub returns : goal.returns
 returns g c = c.count_by_last_steps.ensures
+
+pub first_count-count-requires-clause-half : goal.first_count-count-requires-clause-half
+first_count-count-requires-clause-half g c = grind arith

@@ -24,3 +24,15 @@ loop-shift-preserved g c = grind arith
 
 pub halve-count-requires-clause-sorted : goal.halve-count-requires-clause-sorted
 halve-count-requires-clause-sorted g c = c.requires.sorted
+
+pub halve-count-requires-clause-shift : goal.halve-count-requires-clause-shift
+halve-count-requires-clause-shift g c = grind arith
+
+pub loop-shift-smaller-then-shift-steps : goal.loop-shift-smaller-then-shift-steps
+loop-shift-smaller-then-shift-steps g c = grind arith
+
+pub loop-shift-smaller : goal.loop-shift-smaller
+loop-shift-smaller g c = grind arith
+
+pub halve-count-requires-clause-starts : goal.halve-count-requires-clause-starts
+halve-count-requires-clause-starts g c = grind arith
