@@ -135,16 +135,15 @@ pub(super) fn walk<T: Clone + Ord, B: RandomBits>(
     ensures acted { AreWalkedOver T.cmp B.bit B.next coins.old coins.new (k_of levels.old.items)
         (accuracy_of levels.old.items) levels.old.items levels.new.items }
 {
-    let MergeRoom { coming, up, rooms } = room;
     let count = levels.len();
     for level in 0..count {
-        levels[level].turn(coming, up, &mut rooms[level].merged, coins);
-        std::mem::swap(coming, up);
+        levels[level].turn(&mut room.coming, &mut room.up, &mut room.rooms[level].merged, coins);
+        std::mem::swap(&mut room.coming, &mut room.up);
     }
-    if !coming.is_empty() {
+    if !room.coming.is_empty() {
         let (k, rank_accuracy) = levels[0].parameters();
         add_level(levels, count, k, rank_accuracy);
-        levels[count].absorb(coming, up);
+        levels[count].absorb(&mut room.coming, &mut room.up);
     }
 }
 

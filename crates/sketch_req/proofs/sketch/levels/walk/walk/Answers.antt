@@ -45,7 +45,7 @@ module _ (g : _) (c : After-index_mut-in-loop-level g) where
   spaces = merged_spaces c.args.room.now.rooms.items
 
   ready : IsReady g.met.T.Ord.total g.B.RandomBits.bit g.B.RandomBits.next c.args.coins.now (k_of c.args.levels.now.items) (accuracy_of c.args.levels.now.items) c.args.levels.now.items
-      spaces c.loop-level.level c.loop-level.coins c.loop-level.levels.items c.index_mut.result.now c.loop-level.coming.items
+      spaces c.loop-level.level c.loop-level.coins c.loop-level.levels.items c.index_mut.result.now c.loop-level.room.coming.items
   ready = is-ready g.met.T.Ord.total _ _ _ _ _ _ _ _ _ _ _ _ _ c.requires.few_items c.loop-level.invariant.pending within c.index_mut.ensures.value
 
   inside : c.loop-level.level < length (layouts_of c.args.levels.now.items)
@@ -58,7 +58,7 @@ module _ (g : _) (c : After-index_mut-in-loop-level g) where
   own-there_is =
       let i = c.loop-level.invariant in
       sym (i.merged c.loop-level.level (le_refl _))
-      ∙ read-there (λ b. b.merged_space) 0 c.loop-level.rooms.items c.loop-level.level c.index_mut-in-loop-level.result.now
+      ∙ read-there (λ b. b.merged_space) 0 c.loop-level.room.rooms.items c.loop-level.level c.index_mut-in-loop-level.result.now
       (lt_of_lt_of_le c.loop-level-test.true i.enough) c.index_mut-in-loop-level.ensures.value
 
   -- the level has the sketch's k and accuracy
@@ -84,10 +84,10 @@ pub turn-requires-clause-space : goal.turn-requires-clause-space
 turn-requires-clause-space g c =
     let at = (past.turn-requires-clause-space g c).After-index_mut-in-loop-level in
     le_trans (space-told _ _ _ _ _ _ _ (own-told g at).0 (own-told g at).1 ((ready g at).own (inside g at)))
-    (le_of_eq (own-there_is g at ∙ sym (ap (λ (b : Space g.row.T.Denot). b.merged_space) c.behind-rooms.view_is)))
+    (le_of_eq (own-there_is g at ∙ sym (ap (λ (b : Space g.row.T.Denot). b.merged_space) c.behind-room.view_is)))
 
 pub turn-requires-clause-empty : goal.turn-requires-clause-empty
-turn-requires-clause-empty g c = c.behind-rooms.invariant
+turn-requires-clause-empty g c = c.behind-room.invariant
 
 pub turn-requires-clause-nothing : goal.turn-requires-clause-nothing
 turn-requires-clause-nothing g c = c.loop-level.invariant.empty
@@ -114,7 +114,7 @@ loop-level-preserved g c =
     let at = (past.loop-level-preserved g c).After-index_mut-in-loop-level in
     let legal = (own-levels g.T.Ord.cmp _ _ _ c.requires.levels.some c.requires.levels.placed).legal in
     let i = c.loop-level.invariant in
-    let buffers = c.loop-level.rooms.items in
+    let buffers = c.loop-level.room.rooms.items in
     let ls : List (Level g.row.T.Denot) = c.args.levels.now.items in
     let most = vec_capacity c.args.room.now.coming in
     record {
@@ -123,7 +123,7 @@ loop-level-preserved g c =
           (set c.loop-level.levels.items c.loop-level.level c.turn.new.self)) _ _ (swapped g c).0
           (next-pending g.met.T.Ord.total g.B.RandomBits.bit g.B.RandomBits.next c.args.coins.now (k_of ls) (accuracy_of ls) ls
           (spaces g at) c.loop-level.level most c.loop-level.coins
-          c.turn.new.coins c.loop-level.levels.items c.index_mut.result.now c.turn.new.self c.loop-level.coming.items _ c.requires.few_items i.pending
+          c.turn.new.coins c.loop-level.levels.items c.index_mut.result.now c.turn.new.self c.loop-level.room.coming.items _ c.requires.few_items i.pending
           (within g at) c.index_mut.ensures.value
           c.requires.fits legal (c.requires.fit.promoted c.loop-level.level (inside g at)) (c.requires.fit.own c.loop-level.level) c.turn.ensures.turned
           c.turn.ensures.sound c.turn.ensures.coins);
@@ -146,8 +146,8 @@ module _ (g : _) (c : After-parameters-k g) where
   abbrev accuracy : RankAccuracy
   accuracy = accuracy_of c.args.levels.now.items
 
-  some : 0 < length c.loop-level.coming.items
-  some = grind (arith, c.if-not-is_empty.true, c.is_empty.ensures, c.loop-level.coming.ok.0)
+  some : 0 < length c.loop-level.room.coming.items
+  some = grind (arith, c.if-not-is_empty.true, c.is_empty.ensures, c.loop-level.room.coming.ok.0)
 
   ends : c.len-count.result ≡ (c.loop-level.level - 1) + 1
   ends = le_antisymm c.loop-level-test.false c.loop-level.auto.level-end
@@ -267,13 +267,13 @@ returns-else-not-is_empty g c =
     let count : c.loop-level.level ≡ length (layouts_of ls) =
     le_antisymm c.loop-level.auto.level-end c.loop-level-test.false ∙ (count_is g (past.returns-else-not-is_empty g c).After-len-count ∙ sym
     (length-layouts ls)) in
-    let none : c.loop-level.coming.items ≡ [] =
-    nil_from_length c.loop-level.coming.items (grind (arith, c.if-not-is_empty.false, c.is_empty.ensures, c.loop-level.coming.ok.0)) in
+    let none : c.loop-level.room.coming.items ≡ [] =
+    nil_from_length c.loop-level.room.coming.items (grind (arith, c.if-not-is_empty.false, c.is_empty.ensures, c.loop-level.room.coming.ok.0)) in
     record {
       acted = walked-whole g.T.Ord.cmp g.B.RandomBits.bit g.B.RandomBits.next c.args.coins.now c.loop-level.coins (k_of ls) c.loop-level.level _
           (accuracy_of ls) ls _ _ count refl
           (c.loop-level.invariant.pending.none none);
     }
 
-pub invariant_of-behind-rooms : goal.invariant_of-behind-rooms
-invariant_of-behind-rooms g c = grind arith
+pub invariant_of-behind-room : goal.invariant_of-behind-room
+invariant_of-behind-room g c = grind arith
