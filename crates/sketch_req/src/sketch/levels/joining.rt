@@ -43,11 +43,11 @@ fn join_levels<T: Clone + Ord>(
     ensures nothing { room.new.up.items ≡ [] }
     ensures up { vec_capacity room.new.up ≡ vec_capacity room.old.up }
 {
-    let MergeRoom { coming, up, rooms } = room;
     let (k, rank_accuracy) = levels[0].parameters();
     for level in 0..others.len() {
         add_level(levels, level, k, rank_accuracy);
-        levels[level].join(&others[level], coming, up, &mut rooms[level]);
+        let own = &mut room.rooms[level];
+        levels[level].join(&others[level], &mut room.coming, &mut room.up, own);
     }
 }
 

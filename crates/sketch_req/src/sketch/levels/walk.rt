@@ -69,29 +69,30 @@ pub(super) fn reserve<T: Clone + Ord>(
         (with_more more (joined_layouts (k_of levels.now) (layouts_of levels.now)
         (layouts_of others.now))) room.new.rooms.items (vec_capacity room.new.coming)) }
 {
-    let MergeRoom { coming, up, rooms } = room;
-    let (k, rank_accuracy) = levels[0].parameters();
-    let blank = Compactor::new(*up.allocator(), 0, k, rank_accuracy);
-    let is_high = rank_accuracy == RankAccuracy::HighRank;
     let count = levels.len().max(others.len());
-    Buffers::for_levels(rooms, count)?;
+    Buffers::for_levels(&mut room.rooms, count)?;
+    let (k, rank_accuracy) = levels[0].parameters();
+    let blank = Compactor::new(*room.up.allocator(), 0, k, rank_accuracy);
     let (mut came, mut most) = (more, 0);
     for level in 0..count {
         let here = count_at(levels, level) + count_at(others, level) + came;
         let taken = count_to_take_at(levels, others, level, came, &blank);
-        let own = &mut rooms[level];
+        let own = &mut room.rooms[level];
         if level < others.len() {
             own.take_clones(others[level].items_slice(), here)?;
         }
-        let going = if is_high { taken } else { 0 };
+        let going = match rank_accuracy {
+            RankAccuracy::HighRank => taken,
+            RankAccuracy::LowRank => 0,
+        };
         own.reserve(here - going, came, going)?;
         most = most.max(here);
         came = taken / 2;
     }
-    coming.clear();
-    up.clear();
-    coming.reserve_exact(most)?;
-    up.reserve_exact(coming.capacity())
+    room.coming.clear();
+    room.up.clear();
+    room.coming.reserve_exact(most)?;
+    room.up.reserve_exact(room.coming.capacity())
 }
 
 /// Adds a level at a place if there is none. The place is at most the next one.

@@ -59,7 +59,7 @@ module _ (g : Over) (c : After-index_mut-in-loop-level g) (added : let ls = c.ar
   ready : IsReady g.T.Ord.cmp c.args.levels.now.items c.args.others.now c.index_mut.result.now other c.index_mut-in-loop-level.result.now (vec_capacity c.args.room.now.coming)
   ready =
       let i = c.loop-level.invariant in
-      is-ready _ _ _ _ _ _ c.loop-level.rooms.items _ _ _ _ copied c.loop-level-test.true is (lt_of_lt_of_le c.loop-level-test.true i.enough)
+      is-ready _ _ _ _ _ _ c.loop-level.room.rooms.items _ _ _ _ copied c.loop-level-test.true is (lt_of_lt_of_le c.loop-level-test.true i.enough)
       c.index_mut-in-loop-level.ensures.value (i.cloned c.loop-level.level (le_refl c.loop-level.level) c.loop-level-test.true)
 
 pub add_level-requires-clause-legal : goal.add_level-requires-clause-legal
@@ -122,7 +122,7 @@ loop-level-preserved g c =
     let before = at.After-index_mut-in-loop-level in
     let new = added g at.After-add_level in
     let i = c.loop-level.invariant in
-    let buffers = c.loop-level.rooms.items in
+    let buffers = c.loop-level.room.rooms.items in
     let old = c.index_mut-in-loop-level.result.now in
     let own = c.join.new.buffers in
     let merged = λ (b : Space g.row.T.Denot). b.merged_space in

@@ -11,11 +11,11 @@ invariant-loop-level g l =
     record {
       joined : AreJoinedTo g.T.Ord.cmp (k_of ls) (accuracy_of ls) l.level ls l.others l.levels.items;
       spare : max (length ls) (length l.others) < vec_capacity l.levels;
-      enough : length l.others ≤ length l.rooms.items;
-      cloned : (h : ℕ) → l.level ≤ h → h < length l.others → HasClones g.T.Ord.cmp ls l.others l.rooms.items (vec_capacity l.initial.coming) h;
-      merged_spaces : merged_spaces l.rooms.items ≡ merged_spaces l.initial.rooms.items;
-      empty : l.coming.items ≡ [];
-      coming : vec_capacity l.coming ≡ vec_capacity l.initial.coming;
-      nothing : l.up.items ≡ [];
-      up : vec_capacity l.up ≡ vec_capacity l.initial.up;
+      enough : length l.others ≤ length l.room.rooms.items;
+      cloned : (h : ℕ) → l.level ≤ h → h < length l.others → HasClones g.T.Ord.cmp ls l.others l.room.rooms.items (vec_capacity l.initial.room.coming) h;
+      merged_spaces : merged_spaces l.room.rooms.items ≡ merged_spaces l.initial.room.rooms.items;
+      empty : l.room.coming.items ≡ [];
+      coming : vec_capacity l.room.coming ≡ vec_capacity l.initial.room.coming;
+      nothing : l.room.up.items ≡ [];
+      up : vec_capacity l.room.up ≡ vec_capacity l.initial.room.up;
     }

@@ -10,8 +10,6 @@ use Rattle.sketch_req.specs.Level.{Level, fresh}
 use Rattle.sketch_req.specs.Merged.{AreCloned, item_lists}
 use Rattle.sketch_req.specs.Schedule.{Layout, layouts_of, layout_at, joined_layouts, filled, steps_layouts}
 use Rattle.sketch_req.specs.Walk.{HaveSpace, accuracy_of, given_up, k_of, own_space, taken_if_full, with_more}
-use denote.Enum.Bare.{sameb}
-use Rattle.sketch_req.specs.contracts.RankAccuracy.{the_type}
 use Rattle.sketch_req.specs.declared.RankAccuracy.{RankAccuracy}
 use Rattle.sketch_req.specs.declared.RankAccuracy.TheVariants.{HighRank, LowRank}
 use Rattle.sketch_req.proofs.Buffers.{own-more, read-there}
@@ -24,7 +22,7 @@ use Rattle.sketch_req.proofs.WalkSteps.{own-there}
 use Rattle.sketch_req.proofs.sketch.levels.walk.reserve.Given.{Over}
 use Rattle.sketch_req.proofs.sketch.levels.walk.reserve.Goals as goal
 use Rattle.sketch_req.proofs.sketch.levels.walk.reserve.Goals.at as past
-use Rattle.sketch_req.proofs.sketch.levels.walk.reserve.Goals.{After-count_at-in-loop-level, After-max-most, After-parameters-k, After-drop-blank-inside-2, In_ok-for_levels, Joined-level-others, Joined-is_high, then-level-others+in_ok-take_clones, else-level-others, then-is_high, else-is_high}
+use Rattle.sketch_req.proofs.sketch.levels.walk.reserve.Goals.{After-count_at-in-loop-level, After-max-most, After-parameters-k, After-drop-blank-inside-2, In_ok-for_levels, Joined-level-others, After-row_known-1, then-level-others+in_ok-take_clones, else-level-others, in-HighRank, in-LowRank}
 
 -- the greater of two numbers
 at-most-greater : (greater m n : ℕ) → greater ≡ ord_max nat_cmp m n → (m ≤ greater) × (n ≤ greater)
@@ -101,26 +99,25 @@ told g c =
     ]
 
 -- how many items the level gives up
-of-kind : (k n : ℕ) (l : Layout) (accuracy : RankAccuracy) → n ≡ taken_if_full k l → (if sameb the_type accuracy HighRank then n else 0) ≡ given_up k accuracy l
-of-kind k n l HighRank e = e
-of-kind k n l LowRank e = refl
+of-high : (k n : ℕ) (l : Layout) (accuracy : RankAccuracy) → accuracy ≡ HighRank → n ≡ taken_if_full k l → n ≡ given_up k accuracy l
+of-high k n l accuracy e f = subst (λ (a : RankAccuracy). n ≡ given_up k a l) (sym e) f
 
-going : (g : Over) (c : Joined-is_high g) → c.parameters-k.result ≡ (k_of c.args.levels.now, accuracy_of c.args.levels.now) →
-    c.if-is_high.going ≡ given_up (k_of c.args.levels.now) (accuracy_of c.args.levels.now) (filled c.loop-level.came (layout_at
+of-low : (k : ℕ) (l : Layout) (accuracy : RankAccuracy) → accuracy ≡ LowRank → 0 ≡ given_up k accuracy l
+of-low k l accuracy e = subst (λ (a : RankAccuracy). 0 ≡ given_up k a l) (sym e) refl
+
+going : (g : Over) (c : After-row_known-1 g) → c.parameters-k.result ≡ (k_of c.args.levels.now, accuracy_of c.args.levels.now) →
+    c.match-rank_accuracy.going ≡ given_up (k_of c.args.levels.now) (accuracy_of c.args.levels.now) (filled c.loop-level.came (layout_at
     (joined_layouts (k_of c.args.levels.now) (layouts_of c.args.levels.now) (layouts_of c.args.others.now)) c.loop-level.level))
 going g c told =
-    let kind = of-kind (k_of c.args.levels.now) c.count_to_take_at-taken.result _ (accuracy_of c.args.levels.now) c.count_to_take_at-taken.ensures in
-    let is : c.eq-is_high.result ≡ sameb the_type (accuracy_of c.args.levels.now) HighRank = c.eq-is_high.ensures ∙ ap (λ (p : ℕ × RankAccuracy). sameb the_type p.1 HighRank) told in
-    let taken : c.if-is_high.going ≡ (if c.eq-is_high.result then c.count_to_take_at-taken.result else 0) =
-    elim c.if-is_high.branch [
-      | then-is_high w ↦ w.going-is ∙ ap (λ (b : Bool). if b then c.count_to_take_at-taken.result else 0) (sym w.if-is_high.true)
-      | else-is_high w ↦ w.going-is ∙ ap (λ (b : Bool). if b then c.count_to_take_at-taken.result else 0) (sym w.if-is_high.false)
-    ] in
-    taken ∙ (ap (λ (b : Bool). if b then c.count_to_take_at-taken.result else 0) is ∙ kind)
+    let kind : accuracy_of c.args.levels.now ≡ c.parameters-k.result.1 = sym (ap (λ (p : ℕ × RankAccuracy). p.1) told) in
+    elim c.match-rank_accuracy.branch [
+      | in-HighRank w ↦ w.going-is ∙ of-high _ _ _ _ (kind ∙ w.in-HighRank.is) c.count_to_take_at-taken.ensures
+      | in-LowRank w ↦ w.going-is ∙ of-low _ _ _ (kind ∙ w.in-LowRank.is)
+    ]
 
 pub overflow_sub-here : goal.overflow_sub-here
 overflow_sub-here g c =
-    let goes = going g (past.overflow_sub-here g c).Joined-is_high (own g (past.overflow_sub-here g c).After-parameters-k) in
+    let goes = going g (past.overflow_sub-here g c).After-row_known-1 (own g (past.overflow_sub-here g c).After-parameters-k) in
     let at = (past.overflow_sub-here g c).After-count_at-in-loop-level in
     omega (arith, goes, given-within (k_of c.args.levels.now) (accuracy_of c.args.levels.now) (filled c.loop-level.came (layout_at (both g at) c.loop-level.level)), here g at)
 
@@ -151,17 +148,17 @@ loop-level-preserved g c =
     let both : List Layout = joined_layouts k (layouts_of c.args.levels.now) (layouts_of c.args.others.now) in
     let start : List Layout = with_more c.args.more both in
     let told = told g (past.loop-level-preserved g c).Joined-level-others in
-    let goes = going g (past.loop-level-preserved g c).Joined-is_high (own g (past.loop-level-preserved g c).After-parameters-k) in
+    let goes = going g (past.loop-level-preserved g c).After-row_known-1 (own g (past.loop-level-preserved g c).After-parameters-k) in
     let held = here g (past.loop-level-preserved g c).After-count_at-in-loop-level in
     let own = c.reserve.new.self in
     let rest = c.reserve.ensures.rest in
     let count = c.count_at.result + c.count_at-in-loop-level.result + c.loop-level.came in
     let most = most_is g (past.loop-level-preserved g c).After-max-most in
-    let inside : at < length c.loop-level.rooms.items = lt_of_lt_of_le c.loop-level-test.true i.enough in
+    let inside : at < length c.loop-level.room.rooms.items = lt_of_lt_of_le c.loop-level-test.true i.enough in
     record {
-      enough = subst (λ (n : ℕ). c.max-count.result ≤ n) (sym (length-set c.loop-level.rooms.items at own)) i.enough;
+      enough = subst (λ (n : ℕ). c.max-count.result ≤ n) (sym (length-set c.loop-level.room.rooms.items at own)) i.enough;
       planned = planned-more k at c.loop-level.came c.count_to_take_at-taken.result start both c.count_to_take_at-taken.ensures i.planned;
-      cloned = cloned-more g.T.Ord.cmp _ _ c.loop-level.rooms.items at own _ _ inside most.0 i.cloned
+      cloned = cloned-more g.T.Ord.cmp _ _ c.loop-level.room.rooms.items at own _ _ inside most.0 i.cloned
           (λ there. record {
             same = subst (λ (b : Space g.row.T.Denot). SameItems g.T.Ord.cmp (level_at (item_lists c.args.others.now) at) b.clones) (sym rest)
                 (told.same there);
@@ -172,9 +169,9 @@ loop-level-preserved g c =
       promoted = none-holds-more (λ (h : ℕ). (layout_at (steps_layouts k h 0 start) h).count) at _ _ most.0
           (subst (λ (l : Layout). l.count ≤ c.max-most.result) (sym i.planned.next) (subst (λ (n : ℕ). n + c.loop-level.came ≤ c.max-most.result) held most.1))
           i.promoted;
-      own = own-more (λ h. own_space k accuracy (taken_if_full k (layout_at (steps_layouts k h 0 start) h) / 2) (layout_at (steps_layouts k h 0 start) (suc h))) c.loop-level.rooms.items own at inside i.own
+      own = own-more (λ h. own_space k accuracy (taken_if_full k (layout_at (steps_layouts k h 0 start) h) / 2) (layout_at (steps_layouts k h 0 start) (suc h))) c.loop-level.room.rooms.items own at inside i.own
           (planned-space k at c.loop-level.came own.merged_space accuracy start both i.planned
-          (own-reserved k c.loop-level.came count c.if-is_high.going own.merged_space accuracy (layout_at both at)
+          (own-reserved k c.loop-level.came count c.match-rank_accuracy.going own.merged_space accuracy (layout_at both at)
           (ap (λ (n : ℕ). n + c.loop-level.came) held) goes c.in_ok-reserve.ensures.space));
     }
 
@@ -214,14 +211,14 @@ module _ (g : Over) (c : After-drop-blank-inside-2 g) where
   lengths : (length all ≤ c.max-count.result) × (length c.args.others.now ≤ c.max-count.result)
   lengths = all-places (k_of c.args.levels.now) c.args.more _ c.args.levels.now c.args.others.now c.requires.levels.some c.max-count.ensures
 
-  cloned : AreCloned g.T.Ord.cmp c.args.levels.now c.args.others.now c.loop-level.rooms.items (vec_capacity c.reserve_exact.new.self)
+  cloned : AreCloned g.T.Ord.cmp c.args.levels.now c.args.others.now c.loop-level.room.rooms.items (vec_capacity c.reserve_exact.new.self)
   cloned = record {
     enough = le_trans lengths.1 c.loop-level.invariant.enough;
     cloned = λ h l. cloned-grown g.T.Ord.cmp _ _ _ _ _ _ most
         (c.loop-level.invariant.cloned h (lt_of_lt_of_le l (le_trans lengths.1 c.loop-level-test.false)) l);
   }
 
-  fit : HaveSpace (k_of c.args.levels.now) (accuracy_of c.args.levels.now) all c.loop-level.rooms.items (vec_capacity c.reserve_exact.new.self)
+  fit : HaveSpace (k_of c.args.levels.now) (accuracy_of c.args.levels.now) all c.loop-level.room.rooms.items (vec_capacity c.reserve_exact.new.self)
   fit =
       let i = c.loop-level.invariant in
       let done = c.loop-level-test.false in
@@ -281,7 +278,7 @@ enough g c = subst (λ (n : ℕ). c.max-count.result ≤ n) c.for_levels.new.buf
 
 pub loop-level-init : goal.loop-level-init
 loop-level-init g c = record {
-  enough = enough g c;
+  enough = enough g (past.loop-level-init g c).In_ok-for_levels;
   planned = planned-start _ _ _;
   cloned = λ h l. absurd (not-suc-le-zero l);
   promoted = λ h l. absurd (not-suc-le-zero l);

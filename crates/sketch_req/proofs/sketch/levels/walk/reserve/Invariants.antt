@@ -12,13 +12,13 @@ invariant-loop-level g l =
     let both = joined_layouts k (layouts_of l.levels) (layouts_of l.others) in
     let start = with_more l.more both in
     record {
-      enough : l.count ≤ length l.rooms.items;
+      enough : l.count ≤ length l.room.rooms.items;
       planned : IsPlanned k l.level l.came start both;
-      cloned : (h : ℕ) → h < l.level → h < length l.others → HasClones g.T.Ord.cmp l.levels l.others l.rooms.items l.most h;
+      cloned : (h : ℕ) → h < l.level → h < length l.others → HasClones g.T.Ord.cmp l.levels l.others l.room.rooms.items l.most h;
       promoted : (h : ℕ) → h < l.level → (layout_at (steps_layouts k h 0 start) h).count ≤ l.most;
       own :
           (h : ℕ) →
           suc h < l.level →
           own_space k (accuracy_of l.levels) (taken_if_full k (layout_at (steps_layouts k h 0 start) h) / 2) (layout_at (steps_layouts k h 0 start) (suc h))
-          ≤ get_or (merged_spaces l.rooms.items) (suc h) 0;
+          ≤ get_or (merged_spaces l.room.rooms.items) (suc h) 0;
     }
