@@ -46,8 +46,7 @@ fn join_levels<T: Clone + Ord>(
     let (k, rank_accuracy) = levels[0].parameters();
     for level in 0..others.len() {
         add_level(levels, level, k, rank_accuracy);
-        let own = &mut room.rooms[level];
-        levels[level].join(&others[level], &mut room.coming, &mut room.up, own);
+        levels[level].join(&others[level], &mut room.coming, &mut room.up, &mut room.rooms[level]);
     }
 }
 
