@@ -315,7 +315,7 @@ pub(super) fn copy_levels<T: Clone + Ord>(
 {
     let mut copies = Vec::with_capacity(*levels.allocator(), levels.len())?;
     for level in levels.as_slice() {
-        copies.push(level.clone()?)?;
+        copies.push_reserved(level.clone()?);
     }
     Ok(copies)
 }
