@@ -177,7 +177,8 @@ pub(super) fn append_and_walk<T: Clone + Ord, B: RandomBits>(
 {
     levels.reserve_exact(1)?;
     let mut room = MergeRoom::new(*levels.allocator());
-    reserve(levels.as_slice(), &levels[..0], 1, &mut room)?;
+    let own = levels.as_slice();
+    reserve(own, &own[..0], 1, &mut room)?;
     levels[0].append(item)?;
     walk(levels, &mut room, coins);
     Ok(())

@@ -116,15 +116,15 @@ walk-requires-clause-fit g c =
     subst (λ (xs : List (Level g.row.T.Denot)). HaveSpace (k_of xs) (accuracy_of xs) (layouts_of xs) rooms most) (sym (put g c))
     (space-appended c.args.levels.now.items c.args.item rooms most c.requires.levels.some
     (subst (λ (xs : List (Level g.row.T.Denot)). HaveSpace (k_of xs) (accuracy_of xs) (with_more 1 (layouts_of xs)) rooms most)
-    (c.as_slice.ensures.value ∙ c.reserve_exact.ensures.items)
+    (c.as_slice-own.ensures.value ∙ c.reserve_exact.ensures.items)
     c.in_ok-reserve.ensures.fit))
 
 pub reserve-requires-clause-levels : goal.reserve-requires-clause-levels
-reserve-requires-clause-levels g c = subst (AreHeld g.T.Ord.cmp) (sym (c.as_slice.ensures.value ∙ c.reserve_exact.ensures.items)) c.requires.levels
+reserve-requires-clause-levels g c = subst (AreHeld g.T.Ord.cmp) (sym (c.as_slice-own.ensures.value ∙ c.reserve_exact.ensures.items)) c.requires.levels
 
 pub reserve-requires-clause-few : goal.reserve-requires-clause-few
 reserve-requires-clause-few g c =
-    let all = ap (λ (ls : List (Level g.row.T.Denot)). retained_of (layouts_of ls)) (c.as_slice.ensures.value ∙ c.reserve_exact.ensures.items) in
+    let all = ap (λ (ls : List (Level g.row.T.Denot)). retained_of (layouts_of ls)) (c.as_slice-own.ensures.value ∙ c.reserve_exact.ensures.items) in
     omega (arith, all, c.requires.few)
 
 pub walk-requires-clause-nothing : goal.walk-requires-clause-nothing
