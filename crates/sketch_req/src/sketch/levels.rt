@@ -24,14 +24,14 @@ mod walk;
 
 use crate::RankAccuracy;
 use crate::compactor::Compactor;
-use joining::join_and_walk;
+use joining::{join_levels, move_back};
 use sketch_base::common::SearchCriteria;
 use sketch_base::common::buffers::MergeRoom;
 use sketch_base::common::random::RandomBits;
 use sketch_base::error::Error;
 use std::alloc::AllocError;
 use std::marker::Model;
-use walk::{add_level, append_and_walk, give_back};
+use walk::{add_level, append_and_walk, give_back, reserve, walk};
 
 /// The levels of a sketch, from level 0 up, and the sums over them. A contract sees them as the
 /// record `Held` of specs/Held.
@@ -235,7 +235,17 @@ impl<T: Clone + Ord> Levels<T> {
         ensures err { OnErr result ((self.new ≡ self.old) × (coins.new ≡ coins.old)) }
     {
         let more = others.compactors.as_slice();
-        join_and_walk(&mut self.compactors, more, redraws, coins, room)?;
+        reserve(self.compactors.as_slice(), more, 0, room)?;
+        let new = more.len().saturating_sub(self.compactors.len());
+        self.compactors.reserve_exact(new + 1)?;
+        join_levels(&mut self.compactors, more, room);
+        redraw_if(redraws, &mut self.compactors, coins);
+        let (num_retained, capacity) = sums(self.compactors.as_slice());
+        if num_retained >= capacity {
+            walk(&mut self.compactors, room, coins);
+        }
+        move_back(&mut self.compactors, &mut room.rooms);
+        give_back(&mut self.compactors, 0);
         (self.num_retained, self.capacity) = sums(self.compactors.as_slice());
         Ok(())
     }

@@ -1,22 +1,18 @@
-//! Joins other levels into a sketch's. What can fail comes first, in `reserve`.
-ghost use Rattle.std.specs.Prelude.{◌≡◌, ℕ, ◌+◌, ◌^◌, ◌<◌, ◌≤◌, [], max, length, vec_len, vec_capacity, IfOk, OnOk, OnErr};
-ghost use Rattle.std.specs.declared.cmp.Ordering.TheVariants.{Equal};
+//! Joins other levels into a sketch's, where all that can fail is done.
+ghost use Rattle.std.specs.Prelude.{◌≡◌, ℕ, ◌+◌, ◌^◌, ◌<◌, ◌≤◌, [], max, length, vec_len, vec_capacity};
 ghost use Rattle.sketch_base.specs.Bag.{SameItems, level_at};
 ghost use Rattle.sketch_base.specs.Buffers.{merged_spaces};
-ghost use Rattle.sketch_req.specs.Merged.{AreJoined, AreCloned, AreTakenIn, item_lists};
-ghost use Rattle.sketch_req.specs.Schedule.{layouts_of, joined_layouts, retained_of, weight_of};
-ghost use Rattle.sketch_req.specs.Walk.{AreHeld, AreLevels, HaveSpace, accuracy_of, k_of};
+ghost use Rattle.sketch_req.specs.Merged.{AreJoined, AreCloned, item_lists};
+ghost use Rattle.sketch_req.specs.Schedule.{layouts_of, retained_of};
+ghost use Rattle.sketch_req.specs.Walk.{AreHeld, AreLevels, accuracy_of, k_of};
 
-use super::walk::{add_level, give_back, reserve, walk};
-use super::{redraw_if, sums};
+use super::walk::add_level;
 use crate::compactor::Compactor;
 use sketch_base::common::buffers::{Buffers, MergeRoom};
-use sketch_base::common::random::RandomBits;
-use std::alloc::AllocError;
 
 /// Joins clones of the other levels' items into the levels at the same places. Missing levels are
 /// added.
-fn join_levels<T: Clone + Ord>(
+pub(super) fn join_levels<T: Clone + Ord>(
     levels: &mut Vec<Compactor<T>>,
     others: &[Compactor<T>],
     room: &mut MergeRoom<T>,
@@ -51,46 +47,13 @@ fn join_levels<T: Clone + Ord>(
 }
 
 /// Moves levels with too much room back into the vectors that they had before a join.
-fn move_back<T: Clone + Ord>(levels: &mut Vec<Compactor<T>>, rooms: &mut Vec<Buffers<T>>)
+pub(super) fn move_back<T: Clone + Ord>(
+    levels: &mut Vec<Compactor<T>>,
+    rooms: &mut Vec<Buffers<T>>,
+)
     ensures { levels.new.items ≡ levels.old.items }
 {
     for level in 0..levels.len().min(rooms.len()) {
         levels[level].move_if_loose(&mut rooms[level].clones);
     }
-}
-
-/// Joins other levels in, redraws coins if `redraws` says so, and walks if the levels together are
-/// then at or over their nominal capacities.
-pub(super) fn join_and_walk<T: Clone + Ord, B: RandomBits>(
-    levels: &mut Vec<Compactor<T>>,
-    others: &[Compactor<T>],
-    redraws: bool,
-    coins: &mut B,
-    room: &mut MergeRoom<T>,
-) -> Result<(), AllocError>
-    requires clones { (x y : T) → T.is_clone x y → T.cmp x y ≡ Equal }
-    requires levels { AreHeld T.cmp levels.old.items }
-    requires others { AreLevels T.cmp (k_of others.now) (accuracy_of levels.old.items) 0
-        others.now }
-    requires fits { weight_of (layouts_of levels.old.items) + weight_of (layouts_of others.now)
-        < 2 ^ 64 }
-    requires few { retained_of (layouts_of levels.old.items)
-        + retained_of (layouts_of others.now) < 2 ^ 32 }
-    ensures taken_in { OnOk result (AreTakenIn T.cmp B.bit B.next coins.old coins.new
-        (k_of levels.old.items) (accuracy_of levels.old.items) redraws
-        levels.old.items others.now levels.new.items) }
-    ensures err { OnErr result ((levels.new.items ≡ levels.old.items)
-        × (coins.new ≡ coins.old)) }
-{
-    reserve(levels.as_slice(), others, 0, room)?;
-    levels.reserve_exact(others.len().saturating_sub(levels.len()) + 1)?;
-    join_levels(levels, others, room);
-    redraw_if(redraws, levels, coins);
-    let (num_retained, capacity) = sums(levels.as_slice());
-    if num_retained >= capacity {
-        walk(levels, room, coins);
-    }
-    move_back(levels, &mut room.rooms);
-    give_back(levels, 0);
-    Ok(())
 }

@@ -1,5 +1,5 @@
 -- The loop keeps what is known of the next level's turn, and that there are clones, and room for the turns so far.
-use Rattle.std.proofs.Common.{OnOk, nat_cmp, true, Ordering, inl, inr, ◌≡◌, ℕ, suc, ◌+◌, ◌/◌, ◌<◌, ◌≤◌, Bool, if◌then◌else◌, List, [], length, length-set, refl, sym, ap, ap₂, ◌∙◌, subst, arith, get_or, le_trans, lt_of_lt_of_le, max, not-le_of_lt, not-suc-le-zero, vec_capacity}
+use Rattle.std.proofs.Common.{OnOk, nat_cmp, true, Ordering, inl, inr, ◌≡◌, ℕ, suc, ◌+◌, ◌/◌, ◌<◌, ◌≤◌, List, [], length, length-set, refl, sym, ap, ap₂, ◌∙◌, subst, arith, get_or, le_trans, lt_of_lt_of_le, max, not-le_of_lt, not-suc-le-zero, vec_capacity}
 use Rattle.std.specs.Ordering.{ord_max}
 use Rattle.std.proofs.lemmas.Bool.{cases_lt}
 use Rattle.std.proofs.lemmas.Result.{on_ok_weaker, IfOk-from_err}
