@@ -1,4 +1,4 @@
-//! Joins other levels into a sketch's, where all that can fail is done.
+//! Joins other levels into a sketch's. What can fail comes before, in `reserve`.
 ghost use Rattle.std.specs.Prelude.{◌≡◌, ℕ, ◌+◌, ◌^◌, ◌<◌, ◌≤◌, [], max, length, vec_len, vec_capacity};
 ghost use Rattle.sketch_base.specs.Bag.{SameItems, level_at};
 ghost use Rattle.sketch_base.specs.Buffers.{merged_spaces};
