@@ -1,5 +1,6 @@
 -- What calls on levels come to that fail, as their contracts tell it.
-use Rattle.std.proofs.Common.{◌≡◌, ◌≤◌, ◌<◌, ℕ, Bool, List, Result, Ordering, IsErr, IsErrAnd, IfErr, IfOk, OnErr, OnOk, length, take}
+use Rattle.std.proofs.Common.{◌≡◌, ◌≤◌, ◌∙◌, ℕ, Bool, List, Result, Ordering, IsErr, IsErrAnd, IfErr, IfOk, OnErr, OnOk, drop, subst, take}
+use Rattle.std.proofs.lemmas.List.{take-append-drop}
 use Rattle.std.proofs.lemmas.Result.{IfOk-from_err}
 use Rattle.sketch_base.specs.Trace.{draws_of}
 use Rattle.sketch_base.specs.declared.error.ErrorKind.{ErrorKind}
@@ -9,6 +10,8 @@ use Rattle.sketch_req.specs.Held.{Held}
 use Rattle.sketch_req.specs.Schedule.{layouts_of}
 use Rattle.sketch_req.specs.ScheduleLaws.{updates_actions}
 use Rattle.sketch_req.specs.Updates.{AreAllTaken, AreLeft, AreTakenInTurn, IsDrawnFrom}
+use Rattle.sketch_req.proofs.Held.{with-levels}
+use Rattle.sketch_req.proofs.TakenInTurn.{draws-few}
 
 module _ {A S : Type 0} (cmp : A → A → Ordering) (bit : S → Bool) (next : S → S) (s new : Held A) (items : List A) (source after : S) where
   -- all items are taken in, or none
@@ -27,26 +30,32 @@ module _ {A S : Type 0} (cmp : A → A → Ordering) (bit : S → Bool) (next : 
   all_failed r h short kept same drawn =
       record { kept = kept; taken = IfOk-from_err r _ h.0; err = on_error r same; drawn = on_error r drawn; memory = only_error r h.1 short }
 
-  -- some items are taken in, or none
-  abbrev SomeEnd : Result ℕ ErrorKind → Type 0
-  SomeEnd r = record {
+  -- a part of the items takes no more coins than all
+  draws-part : (n : ℕ) → draws_of (updates_actions s.k s.accuracy (layouts_of s.levels) (take n items)) ≤ draws_of (updates_actions s.k s.accuracy (layouts_of s.levels) items)
+  draws-part n =
+      let first = draws_of (updates_actions s.k s.accuracy (layouts_of s.levels) (take n items)) in
+      subst (λ (xs : List A). first ≤ draws_of (updates_actions s.k s.accuracy (layouts_of s.levels) xs)) (take-append-drop n items)
+      (draws-few s.k s.accuracy (layouts_of s.levels) (take n items) (drop n items))
+
+  -- one part of the items after another is taken in
+  abbrev TurnEnd : {T : Type 0} → Result T ErrorKind → Type 0
+  TurnEnd r = record {
     kept : new ≡ record s { levels = new.levels };
-    some : IfOk r (λ count. 0 < count);
-    within : IfOk r (λ count. count ≤ length items);
-    taken : IfOk r (λ count. AreTakenInTurn cmp bit next source after s.k s.accuracy s.levels (take count items) new.levels);
-    left : IfOk r (λ count. AreLeft next source after s.k s.accuracy s.levels (take count items) new.levels);
-    err : OnErr r (after ≡ source);
+    taken : OnOk r (AreTakenInTurn cmp bit next source after s.k s.accuracy s.levels items new.levels);
+    drawn : OnErr r (IsDrawnFrom next (draws_of (updates_actions s.k s.accuracy (layouts_of s.levels) items)) source after);
     memory : IfErr r (λ e. e ≡ OutOfMemory);
   }
 
-  pub some_failed : {x : ErrorKind} (r : Result ℕ ErrorKind) → IsErr r × IsErrAnd r (λ e. e ≡ x) → x ≡ OutOfMemory → new ≡ record s { levels = new.levels } →
-      after ≡ source → SomeEnd r
-  some_failed r h short kept still = record {
-    kept = kept;
-    some = IfOk-from_err r _ h.0;
-    within = IfOk-from_err r _ h.0;
+  pub turn_failed : {T : Type 0} {x : ErrorKind} (r : Result T ErrorKind) (own : Held A) (middle : S) (n : ℕ) → IsErr r × IsErrAnd r (λ e. e ≡ x) → x ≡ OutOfMemory →
+      own ≡ record s { levels = own.levels } → AreLeft next source middle s.k s.accuracy s.levels (take n items) own.levels →
+      new ≡ record own { levels = new.levels } → after ≡ middle → TurnEnd r
+  turn_failed r own middle n h short so_far left kept still = record {
+    kept = kept ∙ with-levels _ _ new.levels so_far;
     taken = IfOk-from_err r _ h.0;
-    left = IfOk-from_err r _ h.0;
-    err = on_error r still;
+    drawn = on_error r (record {
+      count = draws_of (updates_actions s.k s.accuracy (layouts_of s.levels) (take n items));
+      few = draws-part n;
+      after_is = still ∙ left.source_is;
+    });
     memory = only_error r h.1 short;
   }

@@ -1,7 +1,8 @@
 -- Levels that take in clones of items, one after another.
-use Rattle.std.proofs.Common.{◌≡◌, ℕ, suc, ◌+◌, ◌<◌, ◌≤◌, Bool, false, nat_lt, ◌&&◌, ◌==◌, List, [], ◌∷◌, ◌++◌, length, get_or, set, take, refl, sym, ap, ◌∙◌, subst, arith, append-nil, append_assoc, length-append, inl, inr, Ordering, Equal}
+use Rattle.std.proofs.Common.{◌≡◌, ℕ, suc, ◌+◌, ◌<◌, ◌≤◌, Bool, false, nat_lt, ◌&&◌, ◌==◌, List, [], ◌∷◌, ◌++◌, length, get_or, set, take, drop, refl, sym, ap, ◌∙◌, subst, arith, append-nil, append_assoc, length-append, inl, inr, Ordering, Equal}
 use Rattle.std.specs.Cmp.{IsTotalOrder}
 use Rattle.std.proofs.lemmas.Bool.{le-ltb, lt-leb, ne_eqb, and_right}
+use Rattle.std.proofs.lemmas.List.{drop_more}
 use Rattle.std.proofs.lemmas.List.Elements.{length_all_zip}
 use Rattle.std.proofs.lemmas.List.Sums.{sum_by-cons}
 use Rattle.sketch_base.specs.Bag.{SameItems}
@@ -222,10 +223,9 @@ held-filled cmp k n capacity accuracy ls (x ∷ xs) held few =
     let rest = held-filled cmp k (n + 1) capacity accuracy (appended_first ls x) xs one (omega (arith, few, more)) in
     subst (λ (m : ℕ). IsHeld cmp m capacity (held_of k accuracy (all_appended_first (appended_first ls x) xs))) (omega arith) rest
 
--- the first of some items
-pub first-item : {A : Type 0} (xs : List A) (x : A) → 0 < length xs → x ≡ get_or xs 0 x → take 1 xs ≡ x ∷ []
-first-item [] x some e = absurd (omega (arith, some))
-first-item {A} (y ∷ xs) x some e = ap (λ (z : A). z ∷ []) (sym e)
+-- the next of some items
+pub next-item : {A : Type 0} (xs : List A) (n : ℕ) (x : A) → n < length xs → x ≡ get_or xs n x → take 1 (drop n xs) ≡ x ∷ []
+next-item {A} xs n x l e = ap (take 1) (drop_more xs n x l) ∙ ap (λ (z : A). z ∷ []) (sym e)
 
 -- if an item was appended to level 0, it was appended to the levels as a whole
 pub first-appended : {A : Type 0} (ls : List (Level A)) (first new : Level A) (x : A) → 0 < length ls → first ≡ get_or ls 0 first → new ≡ appended first x →

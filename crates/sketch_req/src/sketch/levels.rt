@@ -150,7 +150,8 @@ impl<T: Clone + Ord> Levels<T> {
         Ok(())
     }
 
-    /// Takes in clones of the items, one part after another.
+    /// Takes in clones of the items, one part after another: as many as there is room for before
+    /// the next walk, or one with its walk.
     fn take_in_turn<B: RandomBits>(&mut self, items: &[T], coins: &mut B) -> Result<(), Error>
         requires clones { (x y : T) → T.is_clone x y → T.cmp x y ≡ Equal }
         requires fits { weight_of (layouts_of self.old.levels) + length items.now < 2 ^ 64 }
@@ -165,37 +166,17 @@ impl<T: Clone + Ord> Levels<T> {
     {
         let mut taken = 0;
         while taken < items.len() {
-            taken += self.take_some(&items[taken..], coins)?;
+            let room = self.capacity.saturating_sub(self.num_retained + 1);
+            if room == 0 {
+                self.take_last(items[taken].clone()?, coins)?;
+                taken += 1;
+            } else {
+                let end = taken + room.min(items.len() - taken);
+                self.fill(&items[taken..end])?;
+                taken = end;
+            }
         }
         Ok(())
-    }
-
-    /// Takes in clones of the first items, and returns their number: as many as there is room for
-    /// before the next walk, or one with its walk.
-    fn take_some<B: RandomBits>(&mut self, items: &[T], coins: &mut B) -> Result<usize, Error>
-        requires clones { (x y : T) → T.is_clone x y → T.cmp x y ≡ Equal }
-        requires some { 0 < length items.now }
-        requires fits { weight_of (layouts_of self.old.levels) + length items.now < 2 ^ 64 }
-        requires few { retained_of (layouts_of self.old.levels) < 4294967295 }
-        ensures kept { self.new ≡ record self.old { levels = self.new.levels } }
-        ensures some { IfOk result (λ count. 0 < count) }
-        ensures within { IfOk result (λ count. count ≤ length items.now) }
-        ensures taken { IfOk result (λ count. AreTakenInTurn T.cmp B.bit B.next
-            coins.old coins.new self.old.k self.old.accuracy self.old.levels
-            (take count items.now) self.new.levels) }
-        ensures left { IfOk result (λ count. AreLeft B.next coins.old coins.new self.old.k
-            self.old.accuracy self.old.levels (take count items.now) self.new.levels) }
-        ensures err { OnErr result (coins.new ≡ coins.old) }
-        ensures memory { IfErr result (λ e. e ≡ OutOfMemory) }
-    {
-        let room = self.capacity.saturating_sub(self.num_retained + 1);
-        if room == 0 {
-            self.take_last(items[0].clone()?, coins)?;
-            return Ok(1);
-        }
-        let count = room.min(items.len());
-        self.fill(&items[..count])?;
-        Ok(count)
     }
 
     /// Appends clones of items to level 0, where these make no walk.
