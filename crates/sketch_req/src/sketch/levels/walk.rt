@@ -20,7 +20,10 @@ use std::alloc::{AllocError, Global};
 pub(super) fn count_at<T: Clone + Ord>(levels: &[Compactor<T>], level: usize) -> usize
     ensures { result ≡ (layout_at (layouts_of levels.now) level).count }
 {
-    levels.get(level).map_or(0, |it| it.num_items() as usize)
+    match levels.get(level) {
+        Some(own) => own.num_items() as usize,
+        None => 0,
+    }
 }
 
 /// How many items a walk takes from a level, after any other level at the same place is joined in
