@@ -1,6 +1,6 @@
 //! The levels of a sketch with the sums over them, and how they take items in. The steps in
 //! between, on a vector of levels without its sums, are in `walk` and `joining`.
-ghost use Rattle.std.specs.Prelude.{◌≡◌, ℕ, ◌+◌, ◌-◌, ◌^◌, ◌<◌, ◌≤◌, true, [], ◌∷◌, length, take, vec_capacity, IfErr, IfOk, OnOk, OnErr};
+ghost use Rattle.std.specs.Prelude.{◌≡◌, ℕ, ◌+◌, ◌-◌, ◌^◌, ◌<◌, ◌≤◌, true, [], ◌∷◌, length, vec_capacity, IfErr, IfOk, OnOk, OnErr};
 ghost use Rattle.std.specs.List.{AllZip};
 ghost use Rattle.std.specs.declared.cmp.Ordering.TheVariants.{Equal};
 ghost use Rattle.sketch_base.specs.Query.{counted};
@@ -15,7 +15,7 @@ ghost use Rattle.sketch_req.specs.Rank.{counted_weight};
 ghost use Rattle.sketch_req.specs.Redrawn.{redrawn};
 ghost use Rattle.sketch_req.specs.Schedule.{layouts_of, retained_of, weight_of, nominal_sum, turning_levels};
 ghost use Rattle.sketch_req.specs.ScheduleLaws.{updates_actions};
-ghost use Rattle.sketch_req.specs.Updates.{AreAllTaken, AreLeft, AreTakenInTurn, HaveClones, IsDrawnFrom};
+ghost use Rattle.sketch_req.specs.Updates.{AreAllTaken, AreTakenInTurn, HaveClones, IsDrawnFrom};
 ghost use Rattle.sketch_req.specs.Walk.{AreLevels, AreWalkedIfFull, appended_first};
 ghost use Rattle.sketch_req.specs.declared.RankAccuracy.{RankAccuracy};
 

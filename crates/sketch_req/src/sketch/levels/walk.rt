@@ -116,7 +116,7 @@ pub(super) fn add_level<T: Clone + Ord>(
 {
     if level == levels.len() {
         let top = Compactor::new(*levels.allocator(), level as u8, k, rank_accuracy);
-        levels.push(top).unwrap();
+        levels.push_reserved(top);
     }
 }
 
