@@ -75,10 +75,10 @@ returns-in_err-fill g c =
 -- how long a part is, and that there is room for it
 part-room : {A : Type 0} (n m room num cap retained capacity : ℕ) (items : List A) → n < length items → m ≡ min room (length items - n) → num ≡ retained → cap ≡ capacity →
     room ≡ cap - (num + 1) → room ≢ 0 → let part = take (n + m - n) (drop n items) in
-    (0 < length part) × ((retained + length part < capacity) × (n + m ≤ length items))
+    (0 < length part) × ((retained + length part < capacity) × ((n + m ≤ length items) × (length items - (n + m) < length items - n)))
 part-room {A} n m room num cap retained capacity items low m_is e f room_is some =
     let long : length (take (n + m - n) (drop n items)) ≡ m = omega (arith, length-take (n + m - n) (drop n items), length-drop n items, low, m_is) in
-    (omega (arith, long, low, m_is, some), (omega (arith, long, m_is, room_is, some, e, f), omega (arith, m_is, low)))
+    (omega (arith, long, low, m_is, some), (omega (arith, long, m_is, room_is, some, e, f), (omega (arith, m_is, low), omega (arith, m_is, low, some))))
 
 -- the part that the levels have room for
 module _ (g : Over) (c : After-min g) where
@@ -87,7 +87,8 @@ module _ (g : Over) (c : After-min g) where
 
   told : let part = take (c.loop-taken.taken + c.min.result - c.loop-taken.taken) (drop c.loop-taken.taken c.args.items.now) in let s = c.loop-taken.self in
       (0 < length part) × ((retained_of (layouts_of s.levels) + length part < nominal_sum s.k (layouts_of s.levels))
-      × (c.loop-taken.taken + c.min.result ≤ length c.args.items.now))
+      × ((c.loop-taken.taken + c.min.result ≤ length c.args.items.now)
+      × (length c.args.items.now - (c.loop-taken.taken + c.min.result) < length c.args.items.now - c.loop-taken.taken)))
   told = part-room c.loop-taken.taken c.min.result c.saturating_sub-room.result c.self.inside.num_retained c.self.inside.capacity _ _ c.args.items.now
       c.loop-taken-test.true c.min.ensures held.retained_is held.capacity_is c.saturating_sub-room.ensures c.if-room-eq0.false
 
@@ -127,13 +128,16 @@ loop-taken-preserved g c =
     let n = c.loop-taken.taken in
     let held = held g at in
     let part = filled g c held (told g at).1.0 in
-    let kept = are-kept g.met.T.Ord.total g.B.RandomBits.bit g.B.RandomBits.next s.k s.accuracy _ _ s.levels _ _ held.some held.placed i.left.few part in
+    let kept = are-kept g.met.T.Ord.total g.B.RandomBits.bit g.B.RandomBits.next s.k s.accuracy c.loop-taken.coins c.loop-taken.coins s.levels
+    c.fill.new.self.levels (take c.min.result (drop n items)) held.some held.placed i.left.few part in
     record {
-      within = (told g at).1.1;
+      within = (told g at).1.1.0;
       kept = c.in_ok-fill.ensures.kept ∙ with-levels _ _ c.fill.new.self.levels i.kept;
-      so_far = taken-more g.met.T.Ord.total g.B.RandomBits.bit g.B.RandomBits.next _ _ _ c.args.self.now s n c.min.result items (drop n items) _ i.kept refl
+      so_far = taken-more g.met.T.Ord.total g.B.RandomBits.bit g.B.RandomBits.next c.args.coins.now c.loop-taken.coins c.loop-taken.coins
+          c.args.self.now s n c.min.result items (drop n items) c.fill.new.self.levels i.kept refl
           i.so_far part;
-      left = left-more g.met.T.Ord.total g.B.RandomBits.bit g.B.RandomBits.next _ _ _ c.args.self.now s n c.min.result items (drop n items) _ i.kept refl i.left
+      left = left-more g.met.T.Ord.total g.B.RandomBits.bit g.B.RandomBits.next c.args.coins.now c.loop-taken.coins c.loop-taken.coins
+          c.args.self.now s n c.min.result items (drop n items) c.fill.new.self.levels i.kept refl i.left
           kept.left;
     }
 
@@ -162,12 +166,15 @@ loop-taken-preserved-then-room-eq0 g c =
     let n = c.loop-taken.taken in
     let held = subst (IsHeld g.T.Ord.cmp c.self.inside.num_retained c.self.inside.capacity) c.self.view_is c.self.invariant in
     let one = one g c in
-    let kept = are-kept g.met.T.Ord.total g.B.RandomBits.bit g.B.RandomBits.next s.k s.accuracy _ _ s.levels _ _ held.some held.placed i.left.few one in
+    let kept = are-kept g.met.T.Ord.total g.B.RandomBits.bit g.B.RandomBits.next s.k s.accuracy c.loop-taken.coins c.take_last.new.coins s.levels
+    c.take_last.new.self.levels (take 1 (drop n items)) held.some held.placed i.left.few one in
     record {
       within = up-to n _ c.loop-taken-test.true;
       kept = c.in_ok-take_last.ensures.kept ∙ with-levels _ _ c.take_last.new.self.levels i.kept;
-      so_far = taken-more g.met.T.Ord.total g.B.RandomBits.bit g.B.RandomBits.next _ _ _ c.args.self.now s n 1 items (drop n items) _ i.kept refl i.so_far one;
-      left = left-more g.met.T.Ord.total g.B.RandomBits.bit g.B.RandomBits.next _ _ _ c.args.self.now s n 1 items (drop n items) _ i.kept refl i.left kept.left;
+      so_far = taken-more g.met.T.Ord.total g.B.RandomBits.bit g.B.RandomBits.next c.args.coins.now c.loop-taken.coins c.take_last.new.coins
+          c.args.self.now s n 1 items (drop n items) c.take_last.new.self.levels i.kept refl i.so_far one;
+      left = left-more g.met.T.Ord.total g.B.RandomBits.bit g.B.RandomBits.next c.args.coins.now c.loop-taken.coins c.take_last.new.coins
+          c.args.self.now s n 1 items (drop n items) c.take_last.new.self.levels i.kept refl i.left kept.left;
     }
 
 pub take_last-requires-clause-few : goal.take_last-requires-clause-few
@@ -191,7 +198,7 @@ pub overflow_add-taken : goal.overflow_add-taken
 overflow_add-taken g c = grind arith
 
 pub loop-taken-smaller : goal.loop-taken-smaller
-loop-taken-smaller g c = grind arith
+loop-taken-smaller g c = (told g (past.loop-taken-smaller g c).After-min).1.1.1
 
 pub loop-taken-smaller-then-room-eq0 : goal.loop-taken-smaller-then-room-eq0
 loop-taken-smaller-then-room-eq0 g c = smaller-by-one _ _ c.loop-taken-test.true
