@@ -154,6 +154,10 @@ many_counted f e many = omega (arith, e, f, many)
 pub more_than_none : {n m a b p : ℕ} → 0 < a → a ≡ b → p ≡ b → p ≤ n → n ≡ m → m ≡ 0 → ⊥
 more_than_none some e f most g none = omega (arith, some, e, f, most, g, none)
 
+-- levels of few items have few entries
+pub pairs_fit : {n m l r : ℕ} → n ≡ m → m ≡ l → r < 2 ^ 32 → l ≡ r → n < 2 ^ 64
+pairs_fit e f few long = omega (arith, e, f, few, long)
+
 -- no entries have no extremes
 pub none_there : {A : Type 0} (extreme : Option A) {n : ℕ} → IsThere extreme n → n ≡ 0 → extreme ≡ None
 none_there None there none = refl

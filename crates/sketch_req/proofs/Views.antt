@@ -96,6 +96,18 @@ module _ {A : Type 0} where
           (IsPermutation-trans (pairs_of lower ++ pairs_of upper) (pairs_in xs ++ pairs_in ys) (pairs_in zs)
           (IsPermutation-append (pairs_of lower) (pairs_in xs) (pairs_of upper) (pairs_in ys) low high) on)
 
+-- a sketch of no weight has no weighted items
+pub none-weighed : {A : Type 0} {cmp : A → A → Ordering} (s : Req A) → IsSound cmp s → {count : ℕ} → count ≡ length (pairs_of s.levels) → 0 < count → s.n ≡ 0 → ⊥
+none-weighed {cmp = cmp} s sound e some none = omega (
+  arith,
+  e,
+  some,
+  none,
+  weigh-enough (pairs_of s.levels) (pairs-weigh s.levels),
+  weigh-pairs cmp s.k s.accuracy s.levels sound.placed,
+  sound.weighs_n,
+)
+
 -- the weighted items of a sketch in another order
 module _ {A : Type 0} {cmp : A → A → Ordering} (order : IsTotalOrder cmp) (s : Req A) (pairs : List (A × ℕ)) (sound : IsSound cmp s) (same : IsPermutation (pairs_of s.levels) pairs) where
   -- each weighs something

@@ -39,19 +39,10 @@ impl<T: Clone + Ord> ReqSketch<T> {
     {
         let least = clone_found(self.min_item.as_ref())?;
         let greatest = clone_found(self.max_item.as_ref())?;
-        let entries = self.entries()?;
-        SortedView::from_weighted(*entries.allocator(), entries.as_slice(), least, greatest)
-    }
-
-    /// The retained items with their weights, sorted.
-    fn entries(&self) -> Result<Vec<Weighted<'_, T>>, AllocError>
-        ensures moved { IfOk result (λ v.
-            IsPermutation (pairs_of self.now.levels) (pairs_in v.items)) }
-        ensures sorted { IfOk result (λ v. IsSorted T.cmp (items_of v.items)) }
-        ensures some { IfErr result (λ e. self.now.n ≢ 0) }
-    {
         let levels = &self.levels;
-        Self::merged(*levels.compactors.allocator(), levels.compactors.as_slice())
+        let alloc = *levels.compactors.allocator();
+        let entries = Self::merged(alloc, levels.compactors.as_slice())?;
+        SortedView::from_weighted(alloc, entries.as_slice(), least, greatest)
     }
 
     /// The items of levels with their weights, sorted: those of the two halves of the levels are
@@ -116,8 +107,13 @@ impl<T: Clone + Ord> ReqSketch<T> {
         ensures { IfSome result (λ x. SameAnswer T.cmp
             (slice_get (expanded T.cmp (bag_of self.now.levels)) place) (Some x.now)) }
     {
-        let mut levels = self.levels.compactors.iter().rev();
-        levels.find_map(|level| find_in(self, level.items_slice(), place))
+        for level in self.levels.compactors.iter().rev() {
+            let found = find_in(self, level.items_slice(), place);
+            if found.is_some() {
+                return found;
+            }
+        }
+        None
     }
 
     /// The items that fractions name, one for each; None for an empty sketch. Errors as for one
@@ -161,8 +157,7 @@ impl<T: Clone + Ord> ReqSketch<T> {
             let weight = self.rank_weight(point, criteria);
             ranks.push(Rank { weight, total })?;
         }
-        let weight = total;
-        ranks.push(Rank { weight, total })?;
+        ranks.push(Rank { weight: total, total })?;
         Ok(Some(ranks))
     }
 

@@ -1,4 +1,4 @@
-use Rattle.std.specs.Int.{w16, w32, w64, to_le_bytes}
+use Rattle.std.specs.Int.{w32, w64, to_le_bytes}
 use Rattle.std.proofs.Common.{◌∷◌, [], refl}
 use Rattle.std.proofs.lemmas.Result.{IfErr-weaker, IfOk-from_err, IfOk-weaker}
 use Rattle.sketch_base.proofs.Exits.{on_error, only_error}
@@ -9,14 +9,12 @@ pub returns : goal.returns
 returns g c =
     let s = c.self.inside in
     let begun = extended c.args.bytes.now (to_le_bytes w64 s.state) (not_extended refl) c.in_ok-write_u64_le.ensures.ok in
-    let further = extended c.args.bytes.now (to_le_bytes w32 c.section_size.result) begun c.in_ok-write_u32_le.ensures.ok in
-    let then = extended c.args.bytes.now (s.lg_weight ∷ c.num_sections.result ∷ []) further c.in_ok-write.ensures.ok in
-    let last = extended c.args.bytes.now (to_le_bytes w16 0) then c.in_ok-write_u16_le.ensures.ok in
+    let further = extended c.args.bytes.now (to_le_bytes w32 s.section_size) begun c.in_ok-write_u32_le.ensures.ok in
+    let last = extended c.args.bytes.now (s.lg_weight ∷ c.num_sections.result ∷ 0 ∷ 0 ∷ []) further c.in_ok-write.ensures.ok in
     record {
       ok = IfOk-weaker c.write_u32_le-2.result _ _
-          (λ _ last. front_written c.args.bytes.now c.self.view_is c.section_size.ensures.value c.num_sections.ensures c.num_items.ensures
-          c.in_ok-write_u64_le.ensures.ok c.in_ok-write_u32_le.ensures.ok
-          c.in_ok-write.ensures.ok c.in_ok-write_u16_le.ensures.ok last) c.write_u32_le-2.ensures.ok;
+          (λ _ last. front_written c.args.bytes.now c.self.view_is c.self.invariant.size_is c.num_sections.ensures c.num_items.ensures
+          c.in_ok-write_u64_le.ensures.ok c.in_ok-write_u32_le.ensures.ok c.in_ok-write.ensures.ok last) c.write_u32_le-2.ensures.ok;
       err = IfErr-weaker c.write_u32_le-2.result _ _ (λ _ same. as_extended c.args.bytes.now last same) c.write_u32_le-2.ensures.err;
       memory = c.write_u32_le-2.ensures.memory;
     }
@@ -44,21 +42,9 @@ pub returns-in_err-write : goal.returns-in_err-write
 returns-in_err-write g c =
     let e = c.from_residual-in_err-write.ensures in
     let begun = extended c.args.bytes.now (to_le_bytes w64 c.self.inside.state) (not_extended refl) c.in_ok-write_u64_le.ensures.ok in
-    let further = extended c.args.bytes.now (to_le_bytes w32 c.section_size.result) begun c.in_ok-write_u32_le.ensures.ok in
+    let further = extended c.args.bytes.now (to_le_bytes w32 c.self.inside.section_size) begun c.in_ok-write_u32_le.ensures.ok in
     record {
       ok = IfOk-from_err c.from_residual-in_err-write.result _ e.0;
       err = on_error c.from_residual-in_err-write.result (as_extended c.args.bytes.now further c.in_err-write.ensures.err);
       memory = only_error c.from_residual-in_err-write.result e.1 c.in_err-write.ensures.memory;
-    }
-
-pub returns-in_err-write_u16_le : goal.returns-in_err-write_u16_le
-returns-in_err-write_u16_le g c =
-    let e = c.from_residual-in_err-write_u16_le.ensures in
-    let begun = extended c.args.bytes.now (to_le_bytes w64 c.self.inside.state) (not_extended refl) c.in_ok-write_u64_le.ensures.ok in
-    let further = extended c.args.bytes.now (to_le_bytes w32 c.section_size.result) begun c.in_ok-write_u32_le.ensures.ok in
-    let then = extended c.args.bytes.now (c.self.inside.lg_weight ∷ c.num_sections.result ∷ []) further c.in_ok-write.ensures.ok in
-    record {
-      ok = IfOk-from_err c.from_residual-in_err-write_u16_le.result _ e.0;
-      err = on_error c.from_residual-in_err-write_u16_le.result (as_extended c.args.bytes.now then c.in_err-write_u16_le.ensures.err);
-      memory = only_error c.from_residual-in_err-write_u16_le.result e.1 c.in_err-write_u16_le.ensures.memory;
     }

@@ -1,5 +1,4 @@
-use Rattle.std.proofs.Common.{arith}
 use Rattle.sketch_req.proofs.sketch.ReqSketch.find_at.Goals as goal
 
-pub returns : goal.returns
-returns g c = grind arith
+pub returns-then-is_some : goal.returns-then-is_some
+returns-then-is_some g c = c.find_in-found.ensures
