@@ -155,7 +155,7 @@ impl<T: Clone + Ord> ReqSketch<T> {
         let mut ranks = Vec::with_capacity(alloc, points.len().saturating_add(1))?;
         for point in points {
             let weight = self.rank_weight(point, criteria);
-            ranks.push(Rank { weight, total })?;
+            ranks.push_reserved(Rank { weight, total });
         }
         ranks.push(Rank { weight: total, total })?;
         Ok(Some(ranks))

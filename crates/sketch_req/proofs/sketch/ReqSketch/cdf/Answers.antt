@@ -1,4 +1,4 @@
-use Rattle.std.proofs.Common.{ℕ, ◌<◌, ◌≡◌, ◌++◌, [], ◌∷◌, Err, length, map, arith, ap, sym, ◌∙◌}
+use Rattle.std.proofs.Common.{ℕ, ◌+◌, ◌<◌, ◌≤◌, ◌≡◌, ◌++◌, [], ◌∷◌, Err, length, map, arith, ap, subst, sym, ◌∙◌}
 use Rattle.sketch_base.specs.declared.error.ErrorKind.TheVariants.{OutOfMemory}
 use Rattle.sketch_base.specs.Bag.{expanded}
 use Rattle.sketch_base.specs.Query.{true_rank}
@@ -6,12 +6,13 @@ use Rattle.sketch_base.specs.Queries.{ranks_of}
 use Rattle.sketch_base.proofs.Distributions.{ranks-more, ranks-last, ranks-rise}
 use Rattle.sketch_base.proofs.SketchViews.{length-expanded}
 use Rattle.sketch_req.specs.Actions.{bag_of}
+use Rattle.sketch_req.proofs.Equations.{same_number}
 use Rattle.sketch_req.specs.Sketch.{Req}
 use Rattle.sketch_req.specs.declared.sketch.ReqSketch.TheInside.{Inside}
 use Rattle.sketch_base.proofs.Exits.{no_found, returned}
 use Rattle.sketch_base.proofs.RefusedCalls.{fit_answer, fit_short, none_among, some_among, some_now, unfit_refused}
 use Rattle.sketch_req.proofs.sketch.ReqSketch.cdf.Given.{Over}
-use Rattle.sketch_req.proofs.sketch.ReqSketch.cdf.Goals.{After-n-total, In_ok-push-2}
+use Rattle.sketch_req.proofs.sketch.ReqSketch.cdf.Goals.{After-n-total, In_ok-push}
 use Rattle.sketch_req.proofs.sketch.ReqSketch.cdf.Goals as goal
 use Rattle.sketch_req.proofs.sketch.ReqSketch.cdf.Goals.at as past
 
@@ -19,10 +20,15 @@ pub loop-point-preserved : goal.loop-point-preserved
 loop-point-preserved g c =
     let s = c.args.self.now in
     let rank : g.row.T.Denot → ℕ = λ y. true_rank g.T.Ord.cmp y c.args.criteria (expanded g.T.Ord.cmp (bag_of s.levels)) in
-    ranks-more rank s.n _ c.loop-point.point-index _ c.point-item.result _ _ c.loop-point-test.true c.loop-point.invariant c.point-item.is
-    c.rank_weight-weight.ensures
-    (c.in_ok-push.ensures.items
-    ∙ ap (λ (t : ℕ). c.loop-point.ranks.items ++ record { weight = c.rank_weight-weight.result; total = t } ∷ []) c.n-total.ensures.value)
+    let i = c.loop-point.invariant in
+    let pushed = c.push_reserved.ensures in
+    record {
+      told = ranks-more rank s.n _ c.loop-point.point-index _ c.point-item.result _ _ c.loop-point-test.true i.told c.point-item.is
+          c.rank_weight-weight.ensures
+          (pushed.items ∙ ap (λ (t : ℕ). c.loop-point.ranks.items ++ record { weight = c.rank_weight-weight.result; total = t } ∷ []) c.n-total.ensures.value);
+      len = same_number pushed.len (ap (λ (n : ℕ). n + 1) i.len);
+      room = subst (λ (n : ℕ). length c.args.points.now ≤ n) (sym pushed.capacity) i.room;
+    }
 
 pub returns-in_err-check_points : goal.returns-in_err-check_points
 returns-in_err-check_points g c =
@@ -57,29 +63,23 @@ returns-in_err-push g c =
     let some = some g (past.returns-in_err-push g c).After-n-total in
     record { found = no_found _ e; rises = no_found _ e; there = no_found _ e; refused = fit_short e c.in_ok-check_points.ensures.good some }
 
-pub returns-in_err-push-2 : goal.returns-in_err-push-2
-returns-in_err-push-2 g c =
-    let e = returned c.from_residual-in_err-push-2.result OutOfMemory c.from_residual-in_err-push-2.ensures.1 in
-    let some = some g (past.returns-in_err-push-2 g c).After-n-total in
-    record { found = no_found _ e; rises = no_found _ e; there = no_found _ e; refused = fit_short e c.in_ok-check_points.ensures.good some }
-
 -- the ranks
-found : (g : Over) (c : In_ok-push-2 g) → let entries = expanded g.T.Ord.cmp (bag_of c.args.self.now.levels) in
-    c.push-2.new.self.items
+found : (g : Over) (c : In_ok-push g) → let entries = expanded g.T.Ord.cmp (bag_of c.args.self.now.levels) in
+    c.push.new.self.items
     ≡ ranks_of c.args.self.now.n (map (λ y. true_rank g.T.Ord.cmp y c.args.criteria entries) c.args.points.now ++ length entries ∷ [])
 found g c =
     let s = c.args.self.now in
     let entries = expanded g.T.Ord.cmp (bag_of s.levels) in
     let rank : g.row.T.Denot → ℕ = λ y. true_rank g.T.Ord.cmp y c.args.criteria entries in
     let whole : length entries ≡ s.n = length-expanded g.T.Ord.cmp (bag_of s.levels) ∙ (sym c.n-total.ensures.weight ∙ c.n-total.ensures.value) in
-    ranks-last rank s.n c.args.points.now c.loop-point.point-index _ c.push-2.new.self.items c.loop-point-test.false c.loop-point.invariant
-    (c.in_ok-push-2.ensures.items ∙ ap (λ (t : ℕ). c.loop-point.ranks.items ++ record { weight = t; total = t } ∷ []) c.n-total.ensures.value)
+    ranks-last rank s.n c.args.points.now c.loop-point.point-index _ c.push.new.self.items c.loop-point-test.false c.loop-point.invariant.told
+    (c.in_ok-push.ensures.items ∙ ap (λ (t : ℕ). c.loop-point.ranks.items ++ record { weight = t; total = t } ∷ []) c.n-total.ensures.value)
     ∙ ap (λ (m : ℕ). ranks_of s.n (map rank c.args.points.now ++ m ∷ [])) (sym whole)
 
 pub returns : goal.returns
 returns g c =
     let good = c.in_ok-check_points.ensures.good in
-    let found = found g (past.returns g c).In_ok-push-2 in
+    let found = found g (past.returns g c).In_ok-push in
     let entries = expanded g.T.Ord.cmp (bag_of c.args.self.now.levels) in
     record {
       found = found;
@@ -89,7 +89,11 @@ returns g c =
     }
 
 pub loop-point-init : goal.loop-point-init
-loop-point-init g c = grind arith
+loop-point-init g c = record {
+  told = c.in_ok-ranks.ensures.items;
+  len = c.in_ok-ranks.ensures.len;
+  room = grind arith;
+}
 
 pub offset_bounds-points-point-index : goal.offset_bounds-points-point-index
 offset_bounds-points-point-index g c = grind arith
