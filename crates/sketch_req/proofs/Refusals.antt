@@ -110,6 +110,10 @@ sum_some some e f long = omega (arith, some, e, f, long)
 pub two_some : {n m : ℕ} → n ≡ m → 2 ≤ m → 0 < n
 two_some e some = omega (arith, e, some)
 
+-- an item alone in a list
+pub pushed_alone : {A : Type 0} {xs ys : List A} {x : A} → ys ≡ xs ++ x ∷ [] → xs ≡ [] → ys ≡ x ∷ []
+pushed_alone {A} {x = x} e none = e ∙ ap (λ (zs : List A). zs ++ x ∷ []) none
+
 pub one_counted : {A : Type 0} {xs : List A} {x : A} → xs ≡ x ∷ [] → 0 < length xs
 one_counted e = omega (arith, ap length e)
 

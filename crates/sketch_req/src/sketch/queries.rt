@@ -57,9 +57,8 @@ impl<T: Clone + Ord> ReqSketch<T> {
         ensures some { IfErr result (λ e. 0 < length (pairs_of levels.now)) }
     {
         if levels.len() == 1 {
-            let level = &levels[0];
-            let (items, is_sorted) = (level.items_slice(), level.is_sorted());
-            return weigh_in_order(alloc, items, level.weight(), is_sorted);
+            let only = &levels[0];
+            return weigh_in_order(alloc, only.items_slice(), only.weight(), only.is_sorted());
         }
         let (lower, upper) = levels.split_at(levels.len() / 2);
         let lower = Self::merged(alloc, lower)?;

@@ -8,7 +8,7 @@ use Rattle.sketch_req.specs.Walk.{AreLevels}
 use Rattle.sketch_req.specs.Held.{held_of}
 use Rattle.sketch_req.specs.declared.RankAccuracy.{RankAccuracy}
 use Rattle.sketch_base.proofs.Exits.{no_found, returned, with_error}
-use Rattle.sketch_req.proofs.Refusals.{one_counted, same_sketch}
+use Rattle.sketch_req.proofs.Refusals.{one_counted, pushed_alone, same_sketch}
 use Rattle.sketch_req.proofs.Sounds.{IsRebuilt, rebuilt}
 use Rattle.sketch_req.proofs.sketch.ReqSketch.from_level.Given.{Over}
 use Rattle.sketch_req.proofs.sketch.ReqSketch.from_level.Goals.{After-from_levels, After-new-levels}
@@ -20,7 +20,7 @@ module _ (g : Over) (c : After-new-levels g) where
   abbrev sketch : Req g.row.T.Denot
   sketch =
       let h = c.args.header.now in
-      sketch_of h.k (accuracy_in h.flags) c.num_items-n.result c.in_ok-vec.field-0.items (Some c.in_ok-least.least) (Some c.in_ok-greatest.greatest)
+      sketch_of h.k (accuracy_in h.flags) c.num_items-n.result c.push_reserved.new.self.items (Some c.in_ok-least.least) (Some c.in_ok-greatest.greatest)
 
   made : IsRebuilt g.T.Ord.cmp sketch
   made =
@@ -30,12 +30,12 @@ module _ (g : Over) (c : After-new-levels g) where
       let y = c.greatest_of.result.now in
       let low = subst (λ (l : List g.row.T.Denot). IsExtreme cmp (λ x y. IsAtMost cmp x y) l x) c.items_slice.ensures.value c.least_of.ensures in
       let high = subst (λ (l : List g.row.T.Denot). IsExtreme cmp (λ x y. IsAtMost cmp y x) l y) c.items_slice-2.ensures.value c.greatest_of.ensures in
-      rebuilt o sketch c.args.level x c.in_ok-least.least y c.in_ok-greatest.greatest c.in_ok-vec.ensures.items refl refl
+      rebuilt o sketch c.args.level x c.in_ok-least.least y c.in_ok-greatest.greatest (pushed_alone c.push_reserved.ensures.items c.in_ok-levels.ensures.items) refl refl
       c.requires.legal c.requires.placed c.num_items-n.ensures c.requires.some c.requires.fresh
       low (c.requires.clones _ _ c.in_ok-least.ensures.cases) high (c.requires.clones _ _ c.in_ok-greatest.ensures.cases)
 
-  held_is : c.new-levels.result ≡ held_of c.args.header.now.k (accuracy_in c.args.header.now.flags) c.in_ok-vec.field-0.items
-  held_is = subst (λ (a : RankAccuracy). c.new-levels.result ≡ held_of c.args.header.now.k a c.in_ok-vec.field-0.items) c.rank_accuracy.ensures
+  held_is : c.new-levels.result ≡ held_of c.args.header.now.k (accuracy_in c.args.header.now.flags) c.push_reserved.new.self.items
+  held_is = subst (λ (a : RankAccuracy). c.new-levels.result ≡ held_of c.args.header.now.k a c.push_reserved.new.self.items) c.rank_accuracy.ensures
       c.new-levels.ensures
 
   same : sketch_of c.new-levels.result.k c.new-levels.result.accuracy c.num_items-n.result c.new-levels.result.levels
@@ -55,9 +55,9 @@ returns-in_err-greatest g c =
     let e = returned c.from_residual-in_err-greatest.result OutOfMemory c.from_residual-in_err-greatest.ensures.1 in
     record { told = no_found _ e; memory = with_error _ e refl }
 
-pub returns-in_err-vec : goal.returns-in_err-vec
-returns-in_err-vec g c =
-    let e = returned c.from_residual-in_err-vec.result OutOfMemory c.from_residual-in_err-vec.ensures.1 in
+pub returns-in_err-levels : goal.returns-in_err-levels
+returns-in_err-levels g c =
+    let e = returned c.from_residual-in_err-levels.result OutOfMemory c.from_residual-in_err-levels.ensures.1 in
     record { told = no_found _ e; memory = with_error _ e refl }
 
 pub from_levels-requires : goal.from_levels-requires
@@ -74,12 +74,12 @@ made_is g c = c.from_levels.ensures
 -- it is of this level
 found : (g : Over) (c : After-from_levels g) →
     let h = c.args.header.now in
-    let made = sketch_of h.k (accuracy_in h.flags) c.num_items-n.result c.in_ok-vec.field-0.items (Some c.in_ok-least.least) (Some c.in_ok-greatest.greatest) in
+    let made = sketch_of h.k (accuracy_in h.flags) c.num_items-n.result c.push_reserved.new.self.items (Some c.in_ok-least.least) (Some c.in_ok-greatest.greatest) in
     sketch_of c.new-levels.result.k c.new-levels.result.accuracy c.num_items-n.result c.new-levels.result.levels
     (Some c.in_ok-least.least) (Some c.in_ok-greatest.greatest) ≡ made → IsTold g.T.Ord.cmp h made →
     (c.from_levels.result.levels ≡ c.args.level ∷ []) × IsTold g.T.Ord.cmp h c.from_levels.result
 found g c same told = (
-  ap (λ (s : Req g.row.T.Denot). s.levels) (made_is g c ∙ same) ∙ c.in_ok-vec.ensures.items,
+  ap (λ (s : Req g.row.T.Denot). s.levels) (made_is g c ∙ same) ∙ (pushed_alone c.push_reserved.ensures.items c.in_ok-levels.ensures.items),
   subst (IsTold g.T.Ord.cmp c.args.header.now) (sym (made_is g c ∙ same)) told,
 )
 
@@ -91,14 +91,14 @@ returns g c =
 pub new-levels-requires-clause-levels : goal.new-levels-requires-clause-levels
 new-levels-requires-clause-levels g c =
     let h = c.args.header.now in
-    subst (λ (a : RankAccuracy). AreLevels g.T.Ord.cmp h.k a 0 c.in_ok-vec.field-0.items) (sym c.rank_accuracy.ensures)
-    (subst (λ (ls : List (Level g.row.T.Denot)). AreLevels g.T.Ord.cmp h.k (accuracy_in h.flags) 0 ls) (sym c.in_ok-vec.ensures.items) (c.requires.placed, tt))
+    subst (λ (a : RankAccuracy). AreLevels g.T.Ord.cmp h.k a 0 c.push_reserved.new.self.items) (sym c.rank_accuracy.ensures)
+    (subst (λ (ls : List (Level g.row.T.Denot)). AreLevels g.T.Ord.cmp h.k (accuracy_in h.flags) 0 ls) (sym (pushed_alone c.push_reserved.ensures.items c.in_ok-levels.ensures.items)) (c.requires.placed, tt))
 
 pub same-level : goal.same-level
 same-level g c = refl
 
 pub new-levels-requires-clause-some : goal.new-levels-requires-clause-some
-new-levels-requires-clause-some g c = one_counted c.in_ok-vec.ensures.items
+new-levels-requires-clause-some g c = one_counted (pushed_alone c.push_reserved.ensures.items c.in_ok-levels.ensures.items)
 
 pub least_of-requires : goal.least_of-requires
 least_of-requires g c = subst (λ (xs : List g.row.T.Denot). 0 < length xs) (sym c.items_slice.ensures.value) c.requires.some

@@ -1,4 +1,4 @@
-use Rattle.std.proofs.Common.{◌≡◌, true, ◌∙◌, List, [], ◌∷◌, None, Err, ap, arith, refl, subst, sym}
+use Rattle.std.proofs.Common.{◌≡◌, true, ◌∙◌, List, [], ◌∷◌, None, Err, ap, refl, subst, sym}
 use Rattle.std.proofs.lemmas.Bool.{false≢true}
 use Rattle.sketch_base.specs.declared.error.ErrorKind.TheVariants.{OutOfMemory}
 use Rattle.sketch_req.specs.Held.{held_of}
@@ -9,25 +9,25 @@ use Rattle.sketch_req.proofs.Held.{first-levels}
 use Rattle.sketch_req.proofs.MadeSketches.{empty_sound}
 use Rattle.sketch_base.proofs.Exits.{accepted, no_found, returned, with_error}
 use Rattle.sketch_base.proofs.RefusedCalls.{no_memory, refused_as}
-use Rattle.sketch_req.proofs.Refusals.{one_counted, same_sketch}
+use Rattle.sketch_req.proofs.Refusals.{one_counted, pushed_alone, same_sketch}
 use Rattle.sketch_req.proofs.sketch.ReqSketch.new.Given.{Over}
 use Rattle.sketch_req.proofs.sketch.ReqSketch.new.Goals.{After-from_levels, After-new-levels}
 use Rattle.sketch_req.proofs.sketch.ReqSketch.new.Goals as goal
 use Rattle.sketch_req.proofs.sketch.ReqSketch.new.Goals.at as past
 
 pub new-levels-requires-clause-some : goal.new-levels-requires-clause-some
-new-levels-requires-clause-some g c = one_counted c.in_ok-vec.ensures.items
+new-levels-requires-clause-some g c = one_counted (pushed_alone c.push_reserved.ensures.items c.in_ok-levels.ensures.items)
 
 pub new-levels-requires-clause-levels : goal.new-levels-requires-clause-levels
 new-levels-requires-clause-levels g c =
-    let levels = c.in_ok-vec.ensures.items ∙ ap (λ (l : Level g.row.T.Denot). l ∷ []) c.new-first.ensures.value in
+    let levels = (pushed_alone c.push_reserved.ensures.items c.in_ok-levels.ensures.items) ∙ ap (λ (l : Level g.row.T.Denot). l ∷ []) c.new.ensures.value in
     subst (λ (ls : List (Level g.row.T.Denot)). AreLevels g.T.Ord.cmp c.args.k c.args.rank_accuracy 0 ls) (sym levels)
     (first-levels g.T.Ord.cmp _ _ (c.is_legal_k.ensures.legal (c.in_ok-unless.ensures.ok.0 refl)))
 
 -- one empty level
 module _ (g : Over) (c : After-new-levels g) where
-  levels_are : c.in_ok-vec.field-0.items ≡ fresh [] true 0 c.args.k c.args.rank_accuracy ∷ []
-  levels_are = c.in_ok-vec.ensures.items ∙ ap (λ (l : Level g.row.T.Denot). l ∷ []) c.new-first.ensures.value
+  levels_are : c.push_reserved.new.self.items ≡ fresh [] true 0 c.args.k c.args.rank_accuracy ∷ []
+  levels_are = (pushed_alone c.push_reserved.ensures.items c.in_ok-levels.ensures.items) ∙ ap (λ (l : Level g.row.T.Denot). l ∷ []) c.new.ensures.value
 
   held_is : c.new-levels.result ≡ held_of c.args.k c.args.rank_accuracy (fresh [] true 0 c.args.k c.args.rank_accuracy ∷ [])
   held_is = subst (λ (ls : List (Level g.row.T.Denot)). c.new-levels.result ≡ held_of c.args.k c.args.rank_accuracy ls) levels_are c.new-levels.ensures
@@ -51,9 +51,9 @@ returns-in_err-unless g c =
       memory = with_error _ e (λ legal. absurd (false≢true (told.ok.1 (c.is_legal_k.ensures.illegal legal))));
     }
 
-pub returns-in_err-vec : goal.returns-in_err-vec
-returns-in_err-vec g c =
-    let e = returned c.from_residual-in_err-vec.result OutOfMemory c.from_residual-in_err-vec.ensures.1 in
+pub returns-in_err-levels : goal.returns-in_err-levels
+returns-in_err-levels g c =
+    let e = returned c.from_residual-in_err-levels.result OutOfMemory c.from_residual-in_err-levels.ensures.1 in
     let legal = c.is_legal_k.ensures.legal (c.in_ok-unless.ensures.ok.0 refl) in
     record { empty = no_found _ e; sound = no_found _ e; illegal = no_memory e (λ illegal. illegal legal); memory = with_error _ e (λ _. refl) }
 
@@ -73,5 +73,5 @@ returns g c =
       memory = tt;
     }
 
-pub new-first-requires-clause-legal : goal.new-first-requires-clause-legal
-new-first-requires-clause-legal c = grind arith
+pub new-requires-clause-legal : goal.new-requires-clause-legal
+new-requires-clause-legal g c = c.is_legal_k.ensures.legal (c.in_ok-unless.ensures.ok.0 refl)

@@ -19,7 +19,7 @@ read : (g : Over) (c : In_ok-level g) →
     BeginsLevel g.T.Ord.cmp g.T.ReqValue.spelling (first_place c.args.header.now) c.args.text.now c.in_ok-level.level c.deserialize.new.input
 read g c =
     subst (λ (p : Place). BeginsLevel g.T.Ord.cmp g.T.ReqValue.spelling p c.args.text.now c.in_ok-level.level c.deserialize.new.input)
-    (ap₂ (λ (a : RankAccuracy) (z : Bool). place_at c.args.header.now.k a 0 z) c.rank_accuracy-accuracy.ensures c.has_flag-sorted.ensures)
+    (ap₂ (λ (a : RankAccuracy) (z : Bool). place_at c.args.header.now.k a 0 z) c.rank_accuracy.ensures c.has_flag-said.ensures)
     c.in_ok-level.ensures.found
 
 pub returns-in_err-unless : goal.returns-in_err-unless
@@ -33,7 +33,7 @@ returns-in_err-level g c =
     let told = c.in_err-level.ensures in
     let f = g.T.ReqValue.spelling in
     let text = c.args.text.now in
-    let place = ap₂ (λ (a : RankAccuracy) (z : Bool). place_at c.args.header.now.k a 0 z) c.rank_accuracy-accuracy.ensures c.has_flag-sorted.ensures in
+    let place = ap₂ (λ (a : RankAccuracy) (z : Bool). place_at c.args.header.now.k a 0 z) c.rank_accuracy.ensures c.has_flag-said.ensures in
     read_failed _ (IsOneBody g.T.Ord.cmp g.T.ReqValue.spelling c.args.header.now c.args.text.now) c.from_residual-in_err-level.result
     c.from_residual-in_err-level.ensures.1
     (λ k s rest b.

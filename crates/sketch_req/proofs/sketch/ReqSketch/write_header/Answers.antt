@@ -31,8 +31,8 @@ overflow_cast-form g c = grind arith
 pub overflow_cast-levels : goal.overflow_cast-levels
 overflow_cast-levels g c = grind arith
 
-pub overflow_add-flags-2 : goal.overflow_add-flags-2
-overflow_add-flags-2 g c = grind arith
+pub overflow_add-form-3 : goal.overflow_add-form-3
+overflow_add-form-3 g c = grind arith
 
-pub overflow_add-flags : goal.overflow_add-flags
-overflow_add-flags g c = grind arith
+pub overflow_add-form-2 : goal.overflow_add-form-2
+overflow_add-form-2 g c = grind arith
