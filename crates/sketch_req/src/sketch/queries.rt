@@ -107,9 +107,8 @@ impl<T: Clone + Ord> ReqSketch<T> {
             (slice_get (expanded T.cmp (bag_of self.now.levels)) place) (Some x.now)) }
     {
         for level in self.levels.compactors.iter().rev() {
-            let found = find_in(self, level.items_slice(), place);
-            if found.is_some() {
-                return found;
+            if let Some(item) = find_in(self, level.items_slice(), place) {
+                return Some(item);
             }
         }
         None

@@ -1,4 +1,4 @@
 use Rattle.sketch_req.proofs.sketch.ReqSketch.find_at.Goals as goal
 
-pub returns-then-is_some : goal.returns-then-is_some
-returns-then-is_some g c = c.find_in-found.ensures
+pub returns-in-Some-find_in : goal.returns-in-Some-find_in
+returns-in-Some-find_in g c = c.in-Some-find_in.ensures
