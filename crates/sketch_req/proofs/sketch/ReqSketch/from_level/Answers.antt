@@ -20,7 +20,7 @@ module _ (g : Over) (c : After-new-levels g) where
   abbrev sketch : Req g.row.T.Denot
   sketch =
       let h = c.args.header.now in
-      sketch_of h.k (accuracy_in h.flags) c.num_items-n.result c.push_reserved.new.self.items (Some c.in_ok-least.least) (Some c.in_ok-greatest.greatest)
+      sketch_of h.k (accuracy_in h.flags) (length c.items_slice-items.result.now) c.push_reserved.new.self.items (Some c.in_ok-least.least) (Some c.in_ok-greatest.greatest)
 
   made : IsRebuilt g.T.Ord.cmp sketch
   made =
@@ -28,19 +28,19 @@ module _ (g : Over) (c : After-new-levels g) where
       let cmp = g.T.Ord.cmp in
       let x = c.least_of.result.now in
       let y = c.greatest_of.result.now in
-      let low = subst (λ (l : List g.row.T.Denot). IsExtreme cmp (λ x y. IsAtMost cmp x y) l x) c.items_slice.ensures.value c.least_of.ensures in
-      let high = subst (λ (l : List g.row.T.Denot). IsExtreme cmp (λ x y. IsAtMost cmp y x) l y) c.items_slice-2.ensures.value c.greatest_of.ensures in
+      let low = subst (λ (l : List g.row.T.Denot). IsExtreme cmp (λ x y. IsAtMost cmp x y) l x) c.items_slice-items.ensures.value c.least_of.ensures in
+      let high = subst (λ (l : List g.row.T.Denot). IsExtreme cmp (λ x y. IsAtMost cmp y x) l y) c.items_slice-items.ensures.value c.greatest_of.ensures in
       rebuilt o sketch c.args.level x c.in_ok-least.least y c.in_ok-greatest.greatest (pushed_alone c.push_reserved.ensures.items c.in_ok-levels.ensures.items) refl refl
-      c.requires.legal c.requires.placed c.num_items-n.ensures c.requires.some c.requires.fresh
+      c.requires.legal c.requires.placed (ap length c.items_slice-items.ensures.value) c.requires.some c.requires.fresh
       low (c.requires.clones _ _ c.in_ok-least.ensures.cases) high (c.requires.clones _ _ c.in_ok-greatest.ensures.cases)
 
   held_is : c.new-levels.result ≡ held_of c.args.header.now.k (accuracy_in c.args.header.now.flags) c.push_reserved.new.self.items
   held_is = subst (λ (a : RankAccuracy). c.new-levels.result ≡ held_of c.args.header.now.k a c.push_reserved.new.self.items) c.rank_accuracy.ensures
       c.new-levels.ensures
 
-  same : sketch_of c.new-levels.result.k c.new-levels.result.accuracy c.num_items-n.result c.new-levels.result.levels
+  same : sketch_of c.new-levels.result.k c.new-levels.result.accuracy (length c.items_slice-items.result.now) c.new-levels.result.levels
       (Some c.in_ok-least.least) (Some c.in_ok-greatest.greatest) ≡ sketch
-  same = same_sketch c.num_items-n.result (Some c.in_ok-least.least) (Some c.in_ok-greatest.greatest) held_is
+  same = same_sketch (length c.items_slice-items.result.now) (Some c.in_ok-least.least) (Some c.in_ok-greatest.greatest) held_is
 
   told : IsTold g.T.Ord.cmp c.args.header.now sketch
   told = record { k_is = refl; accuracy_is = refl; n_is = made.n_is; least_is = made.least_is; greatest_is = made.greatest_is }
@@ -67,15 +67,15 @@ from_levels-requires g c =
 
 -- the sketch that is made
 made_is : (g : Over) (c : After-from_levels g) → c.from_levels.result
-    ≡ sketch_of c.new-levels.result.k c.new-levels.result.accuracy c.num_items-n.result c.new-levels.result.levels (Some c.in_ok-least.least)
+    ≡ sketch_of c.new-levels.result.k c.new-levels.result.accuracy (length c.items_slice-items.result.now) c.new-levels.result.levels (Some c.in_ok-least.least)
     (Some c.in_ok-greatest.greatest)
 made_is g c = c.from_levels.ensures
 
 -- it is of this level
 found : (g : Over) (c : After-from_levels g) →
     let h = c.args.header.now in
-    let made = sketch_of h.k (accuracy_in h.flags) c.num_items-n.result c.push_reserved.new.self.items (Some c.in_ok-least.least) (Some c.in_ok-greatest.greatest) in
-    sketch_of c.new-levels.result.k c.new-levels.result.accuracy c.num_items-n.result c.new-levels.result.levels
+    let made = sketch_of h.k (accuracy_in h.flags) (length c.items_slice-items.result.now) c.push_reserved.new.self.items (Some c.in_ok-least.least) (Some c.in_ok-greatest.greatest) in
+    sketch_of c.new-levels.result.k c.new-levels.result.accuracy (length c.items_slice-items.result.now) c.new-levels.result.levels
     (Some c.in_ok-least.least) (Some c.in_ok-greatest.greatest) ≡ made → IsTold g.T.Ord.cmp h made →
     (c.from_levels.result.levels ≡ c.args.level ∷ []) × IsTold g.T.Ord.cmp h c.from_levels.result
 found g c same told = (
@@ -101,7 +101,7 @@ pub new-levels-requires-clause-some : goal.new-levels-requires-clause-some
 new-levels-requires-clause-some g c = one_counted (pushed_alone c.push_reserved.ensures.items c.in_ok-levels.ensures.items)
 
 pub least_of-requires : goal.least_of-requires
-least_of-requires g c = subst (λ (xs : List g.row.T.Denot). 0 < length xs) (sym c.items_slice.ensures.value) c.requires.some
+least_of-requires g c = subst (λ (xs : List g.row.T.Denot). 0 < length xs) (sym c.items_slice-items.ensures.value) c.requires.some
 
 pub greatest_of-requires : goal.greatest_of-requires
-greatest_of-requires g c = subst (λ (xs : List g.row.T.Denot). 0 < length xs) (sym c.items_slice-2.ensures.value) c.requires.some
+greatest_of-requires g c = subst (λ (xs : List g.row.T.Denot). 0 < length xs) (sym c.items_slice-items.ensures.value) c.requires.some
