@@ -145,11 +145,11 @@ impl<T: Clone + Ord> ReqSketch<T> {
         ensures refused { IsRefusedUnless (IsIncreasing T.cmp points.now) self.now.n result }
     {
         queries::check_points(points)?;
-        if self.n == 0 {
+        let total = self.n();
+        if total == 0 {
             return Ok(None);
         }
         let alloc = *self.levels.compactors.allocator();
-        let total = self.n();
         let mut ranks = Vec::with_capacity(alloc, points.len().saturating_add(1))?;
         for point in points {
             let weight = self.rank_weight(point, criteria);

@@ -1,4 +1,3 @@
-use Rattle.std.proofs.lemmas.Bool.{eq-eqb, eqb-true, false≢true}
 use Rattle.std.proofs.lemmas.List.{nil_from_length}
 use Rattle.sketch_req.specs.Level.{Level}
 use Rattle.sketch_req.specs.Pairs.{weighed, pairs_of}
@@ -13,17 +12,17 @@ at_none Q (Some x) e p = absurd cc
 one_less : {A : Type 0} {x : A} {xs ys : List A} → xs ≡ x ∷ ys → length ys < length xs
 one_less e = omega (arith, ap length e)
 
-pub loop-self-preserved : goal.loop-self-preserved
-loop-self-preserved g c =
-    let i = c.loop-self.self-inside in
-    let none : length i.items.now ≡ 0 = eqb-true _ 0 (sym c.is_empty.ensures ∙ c.loop-self-test.true) in
+pub loop-item-preserved : goal.loop-item-preserved
+loop-item-preserved g c =
+    let i = c.loop-item.self-inside in
+    let none : length i.items.now ≡ 0 = c.in_default.ensures.cases in
     let there : i.levels.now ≡ c.in_ok-level.level.now ∷ c.in_ok-level.above.now = c.in_ok-level.ensures.cases.0 in
     let same = next-level i.levels.now c.in_ok-level.above.now c.in_ok-level.level.now i.items.now c.items_slice-self-inside.result.now i.weight c.weight-self-inside.result none
     there c.items_slice-self-inside.ensures.value c.weight-self-inside.ensures in
-    record { same = same ∙ c.loop-self.invariant.same; left = c.loop-self.invariant.left ∙ ap length (sym same) }
+    record { same = same ∙ c.loop-item.invariant.same; left = c.loop-item.invariant.left ∙ ap length (sym same) }
 
-pub loop-self-smaller : goal.loop-self-smaller
-loop-self-smaller g c = one_less c.in_ok-level.ensures.cases.0
+pub loop-item-smaller : goal.loop-item-smaller
+loop-item-smaller g c = one_less c.in_ok-level.ensures.cases.0
 
 some_left : {A : Type 0} {left : ℕ} {x : A} {xs ys : List A} → left ≡ length xs → xs ≡ x ∷ ys → 1 ≤ left
 some_left e more = omega (arith, e, ap length more)
@@ -33,25 +32,18 @@ others_left e more = omega (arith, e, ap length more)
 
 pub overflow_sub-self : goal.overflow_sub-self
 overflow_sub-self g c =
-    let i = c.loop-self.self-inside in
-    some_left c.loop-self.invariant.left (ap (λ (xs : List g.row.T.Denot). weighed i.weight xs ++ pairs_of i.levels.now) c.in_ok-item.ensures.cases.0)
+    let i = c.loop-item.self-inside in
+    some_left c.loop-item.invariant.left (ap (λ (xs : List g.row.T.Denot). weighed i.weight xs ++ pairs_of i.levels.now) c.in-Some.ensures.cases.0)
 
-pub invariant_of-self-2 : goal.invariant_of-self-2
-invariant_of-self-2 g c =
-    let i = c.loop-self.self-inside in
-    others_left c.loop-self.invariant.left (ap (λ (xs : List g.row.T.Denot). weighed i.weight xs ++ pairs_of i.levels.now) c.in_ok-item.ensures.cases.0)
+pub invariant_of-self : goal.invariant_of-self
+invariant_of-self g c =
+    let i = c.loop-item.self-inside in
+    others_left c.loop-item.invariant.left (ap (λ (xs : List g.row.T.Denot). weighed i.weight xs ++ pairs_of i.levels.now) c.in-Some.ensures.cases.0)
 
-pub invariant_of-self-in_err-item : goal.invariant_of-self-in_err-item
-invariant_of-self-in_err-item g c = absurd (false≢true (sym c.loop-self-test.false ∙ c.is_empty.ensures ∙ eq-eqb _ 0 c.in_err-item.ensures.cases))
-
--- an item is left, so the iterator doesn't end
-pub returns-in_err-item : goal.returns-in_err-item
-returns-in_err-item g c = absurd (false≢true (sym c.loop-self-test.false ∙ c.is_empty.ensures ∙ eq-eqb _ 0 c.in_err-item.ensures.cases))
-
-pub returns : goal.returns
-returns g c =
-    let i = c.loop-self.self-inside in
-    let steps = sym c.loop-self.invariant.same ∙ ap (λ (xs : List g.row.T.Denot). weighed i.weight xs ++ pairs_of i.levels.now) c.in_ok-item.ensures.cases.0 in
+pub returns-in-Some : goal.returns-in-Some
+returns-in-Some g c =
+    let i = c.loop-item.self-inside in
+    let steps = sym c.loop-item.invariant.same ∙ ap (λ (xs : List g.row.T.Denot). weighed i.weight xs ++ pairs_of i.levels.now) c.in-Some.ensures.cases.0 in
     record {
       steps = steps;
       goes = record { on = λ _. (tt, tt, one_less steps); keeps = tt; rests = λ _. tt };
@@ -59,12 +51,12 @@ returns g c =
 
 pub returns-in_err-level : goal.returns-in_err-level
 returns-in_err-level g c =
-    let i = c.loop-self.self-inside in
-    let no_items = nil_from_length i.items.now (eqb-true _ 0 (sym c.is_empty.ensures ∙ c.loop-self-test.true)) in
+    let i = c.loop-item.self-inside in
+    let no_items = nil_from_length i.items.now c.in_default.ensures.cases in
     let no_levels = nil_from_length i.levels.now c.in_err-level.ensures.cases in
     let none = ap₂ (λ (xs : List g.row.T.Denot) (ls : List (Level g.row.T.Denot)). weighed i.weight xs ++ pairs_of ls) no_items no_levels in
     record {
-      steps = at_none _ c.from_residual.result c.from_residual.ensures (sym c.loop-self.invariant.same ∙ none, none);
+      steps = at_none _ c.from_residual.result c.from_residual.ensures (sym c.loop-item.invariant.same ∙ none, none);
       goes = record {
         on = λ _. at_none _ c.from_residual.result c.from_residual.ensures tt;
         keeps = at_none _ c.from_residual.result c.from_residual.ensures tt;
@@ -72,5 +64,5 @@ returns-in_err-level g c =
       };
     }
 
-pub invariant_of-self : goal.invariant_of-self
-invariant_of-self g c = c.loop-self.invariant.left
+pub invariant_of-self-in_err-level : goal.invariant_of-self-in_err-level
+invariant_of-self-in_err-level g c = c.loop-item.invariant.left

@@ -7,12 +7,10 @@ use Rattle.sketch_base.proofs.Distributions.{ranks-more, ranks-last, ranks-rise}
 use Rattle.sketch_base.proofs.SketchViews.{length-expanded}
 use Rattle.sketch_req.specs.Actions.{bag_of}
 use Rattle.sketch_req.proofs.Equations.{same_number}
-use Rattle.sketch_req.specs.Sketch.{Req}
-use Rattle.sketch_req.specs.declared.sketch.ReqSketch.TheInside.{Inside}
 use Rattle.sketch_base.proofs.Exits.{no_found, returned}
 use Rattle.sketch_base.proofs.RefusedCalls.{fit_answer, fit_short, none_among, some_among, some_now, unfit_refused}
 use Rattle.sketch_req.proofs.sketch.ReqSketch.cdf.Given.{Over}
-use Rattle.sketch_req.proofs.sketch.ReqSketch.cdf.Goals.{After-n-total, In_ok-push}
+use Rattle.sketch_req.proofs.sketch.ReqSketch.cdf.Goals.{After-allocator-alloc, In_ok-push}
 use Rattle.sketch_req.proofs.sketch.ReqSketch.cdf.Goals as goal
 use Rattle.sketch_req.proofs.sketch.ReqSketch.cdf.Goals.at as past
 
@@ -36,31 +34,29 @@ returns-in_err-check_points g c =
     let e = returned c.from_residual.result _ c.from_residual.ensures.1 ∙ ap Err told.kind in
     record { found = no_found _ e; rises = no_found _ e; there = no_found _ e; refused = unfit_refused _ e told.bad }
 
-pub returns-then-self-eq0 : goal.returns-then-self-eq0
-returns-then-self-eq0 g c =
-    let same_n = ap (λ (s : Inside g.row.T.Denot). s.n) c.self-inside.view_is ∙ ap (λ (s : Req g.row.T.Denot). s.n) c.self.view_is in
+pub returns-then-total-eq0 : goal.returns-then-total-eq0
+returns-then-total-eq0 g c =
     record {
       found = tt;
       rises = tt;
-      there = none_among same_n c.if-self-eq0.true;
+      there = none_among c.n-total.ensures.value c.if-total-eq0.true;
       refused = fit_answer c.in_ok-check_points.ensures.good;
     }
 
 -- the sketch has items
-some : (g : Over) (c : After-n-total g) → 0 < c.args.self.now.n
-some g c =
-    some_now (ap (λ (s : Inside g.row.T.Denot). s.n) c.self-inside.view_is ∙ ap (λ (s : Req g.row.T.Denot). s.n) c.self.view_is) c.if-self-eq0.false
+some : (g : Over) (c : After-allocator-alloc g) → 0 < c.args.self.now.n
+some g c = some_now c.n-total.ensures.value c.if-total-eq0.false
 
 pub returns-in_err-ranks : goal.returns-in_err-ranks
 returns-in_err-ranks g c =
     let e = returned c.from_residual-in_err-ranks.result OutOfMemory c.from_residual-in_err-ranks.ensures.1 in
-    let some = some g (past.returns-in_err-ranks g c).After-n-total in
+    let some = some g (past.returns-in_err-ranks g c).After-allocator-alloc in
     record { found = no_found _ e; rises = no_found _ e; there = no_found _ e; refused = fit_short e c.in_ok-check_points.ensures.good some }
 
 pub returns-in_err-push : goal.returns-in_err-push
 returns-in_err-push g c =
     let e = returned c.from_residual-in_err-push.result OutOfMemory c.from_residual-in_err-push.ensures.1 in
-    let some = some g (past.returns-in_err-push g c).After-n-total in
+    let some = some g (past.returns-in_err-push g c).After-allocator-alloc in
     record { found = no_found _ e; rises = no_found _ e; there = no_found _ e; refused = fit_short e c.in_ok-check_points.ensures.good some }
 
 -- the ranks
@@ -84,7 +80,7 @@ returns g c =
     record {
       found = found;
       rises = ranks-rise g.met.T.Ord.total c.args.criteria entries c.args.points.now _ _ good found;
-      there = some_among (some g (past.returns g c).After-n-total);
+      there = some_among (some g (past.returns g c).After-allocator-alloc);
       refused = fit_answer good;
     }
 
