@@ -9,6 +9,7 @@ use Rattle.sketch_req.specs.Imaged.{items_in, retained_in, weight_in}
 use Rattle.sketch_req.specs.Level.{Level}
 use Rattle.sketch_req.specs.Schedule.{layouts_of, retained_of}
 use Rattle.sketch_req.specs.declared.RankAccuracy.{RankAccuracy}
+use Rattle.sketch_base.proofs.RefusedCalls.{none_or_some, some_of}
 use Rattle.sketch_req.proofs.ReadLevels.{retained_told}
 use Rattle.sketch_req.proofs.sketch.image.is_legal.Goals as goal
 use Rattle.sketch_req.proofs.sketch.image.is_legal.Goals.{then-n-eq0-via-then-n-eq0, then-n-eq0-via-else-n-eq0+then-levels-gt-MAX_ITEMS, then-n-eq0-via-else-n-eq0+else-levels-gt-MAX_ITEMS+then-is_gt}
@@ -40,7 +41,7 @@ returns-then-eq g c =
     let cmp = g.T.Ord.cmp in
     record {
       yes = λ t. record {
-        some_weight = omega (arith, c.if-n-eq0.false);
+        some_weight = some_of c.if-n-eq0.false;
         n_fits = c.ranges.n.fits;
         weighs_n = ap (λ (ls : List (Level g.row.T.Denot)). weight_in ls) (sym weighed) ∙ weighs _ c.weigh.result c.weigh.ensures c.if-eq.ensures;
         few_items = few_held (held_retained c.levels.inside.compactors.items c.levels.view_is) c.levels.invariant.retained_is c.if-levels-gt-MAX_ITEMS.false;
@@ -61,7 +62,7 @@ returns-then-n-eq0 g c = record {
   no = λ h.
       let held = held_retained c.levels.inside.compactors.items c.levels.view_is in
       elim c.then-n-eq0.branch as (λ _. IsTrue false) [
-        | then-n-eq0-via-then-n-eq0 w ↦ absurd (omega (arith, h.some_weight, w.if-n-eq0.true))
+        | then-n-eq0-via-then-n-eq0 w ↦ absurd (none_or_some w.if-n-eq0.true h.some_weight)
         | then-n-eq0-via-else-n-eq0+then-levels-gt-MAX_ITEMS w ↦ absurd
             (many_held held c.levels.invariant.retained_is w.if-levels-gt-MAX_ITEMS.true h.few_items)
         | then-n-eq0-via-else-n-eq0+else-levels-gt-MAX_ITEMS+then-is_gt w ↦
