@@ -101,6 +101,11 @@ returns-in_err-entries g c =
       some = with_error _ e (λ none. none-weighed _ c.self.invariant (all ∙ held) c.in_err-entries.ensures.some (ap (λ (s : Req g.row.T.Denot). s.n) c.self.view_is ∙ none));
     }
 
+pub merged-requires-clause-some : goal.merged-requires-clause-some
+merged-requires-clause-some g c =
+    let levels = c.as_slice.ensures.value ∙ ap (λ (h : Held g.row.T.Denot). h.levels) c.levels.view_is in
+    subst (λ (ls : List (Level g.row.T.Denot)). 0 < length ls) (sym levels) c.self.invariant.has_level
+
 pub merged-requires-clause-few : goal.merged-requires-clause-few
 merged-requires-clause-few g c =
     let held = ap (λ (h : Held g.row.T.Denot). length (pairs_of h.levels)) c.levels.view_is in
