@@ -1,5 +1,5 @@
 use Rattle.std.proofs.Common.{◌≡◌, ◌≢◌, ◌<◌, ◌^◌, ◌∙◌, IfOk, List, length, refl, subst, sym, ap, arith, IsPermutation, IsSorted}
-use Rattle.std.specs.Prelude.{Option}
+use Rattle.std.specs.Prelude.{Option, IsSome}
 use Rattle.std.proofs.lemmas.Bool.{false≢true}
 use Rattle.std.proofs.lemmas.Result.{IfErr-weaker}
 use Rattle.sketch_base.specs.declared.error.ErrorKind.TheVariants.{OutOfMemory}
@@ -58,13 +58,15 @@ from_weighted-requires-clause-fits g c =
 pub from_weighted-requires-clause-least : goal.from_weighted-requires-clause-least
 from_weighted-requires-clause-least g c =
     let before = (past.from_weighted-requires-clause-least g c).In_ok-entries in
-    rw c.as_slice-2.ensures.value (extreme-there g.met.T.Ord.total (sketch g before) (pairs_in c.in_ok-entries.entries.items) c.self.invariant (moved g before)
+    subst (λ (xs : List (Weighted g.row.T.Denot)). 0 < length xs → IsSome c.in_ok-least.least) (sym c.as_slice-2.ensures.value)
+    (extreme-there g.met.T.Ord.total (sketch g before) (pairs_in c.in_ok-entries.entries.items) c.self.invariant (moved g before)
     c.in_ok-entries.entries.items (sym (length-pairs_in c.in_ok-entries.entries.items)) c.self.inside.min_item c.in_ok-least.least c.self.invariant.least_there (least g before))
 
 pub from_weighted-requires-clause-greatest : goal.from_weighted-requires-clause-greatest
 from_weighted-requires-clause-greatest g c =
     let before = (past.from_weighted-requires-clause-greatest g c).In_ok-entries in
-    rw c.as_slice-2.ensures.value (extreme-there g.met.T.Ord.total (sketch g before) (pairs_in c.in_ok-entries.entries.items) c.self.invariant (moved g before)
+    subst (λ (xs : List (Weighted g.row.T.Denot)). 0 < length xs → IsSome c.in_ok-greatest.greatest) (sym c.as_slice-2.ensures.value)
+    (extreme-there g.met.T.Ord.total (sketch g before) (pairs_in c.in_ok-entries.entries.items) c.self.invariant (moved g before)
     c.in_ok-entries.entries.items (sym (length-pairs_in c.in_ok-entries.entries.items)) c.self.inside.max_item c.in_ok-greatest.greatest c.self.invariant.greatest_there (greatest g before))
 
 pub returns-in_err-least : goal.returns-in_err-least
