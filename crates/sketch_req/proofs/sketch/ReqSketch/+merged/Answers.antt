@@ -1,4 +1,4 @@
-use Rattle.std.proofs.Common.{◌+◌, ◌<◌, ◌^◌, ◌++◌, ℕ, IfOk, List, length, ap, subst, sym, arith, IsPermutation, IsSorted}
+use Rattle.std.proofs.Common.{◌≡◌, ◌+◌, ◌<◌, ◌^◌, ◌++◌, ℕ, IfOk, List, length, ap, ap₂, subst, sym, arith, IsPermutation, IsSorted}
 use Rattle.std.proofs.lemmas.Grind.{common_steps}
 use Rattle.sketch_base.specs.Weighted.{items_of, pairs_in}
 use Rattle.sketch_base.specs.declared.weighted.Weighted.{Weighted}
@@ -61,6 +61,9 @@ returns-then-levels-eq1 g t c =
 pub merge_weighted-requires-clause-few : goal.merge_weighted-requires-clause-few
 merge_weighted-requires-clause-few g c = grind arith
 
+moved_both : {A : Type 0} {us vs xs ys zs : List A} → us ≡ xs → vs ≡ ys → IsPermutation (us ++ vs) zs → IsPermutation (xs ++ ys) zs
+moved_both {A} {zs = zs} e f same = subst (λ (all : List A). IsPermutation all zs) (ap₂ (λ (xs ys : List A). xs ++ ys) e f) same
+
 pub returns : goal.returns
 returns g t c =
     let all = c.args.levels.now in
@@ -70,7 +73,7 @@ returns g t c =
       moved = ok-weaker c.merge_weighted.result (λ v. IsPermutation (c.as_slice.result.now ++ c.as_slice-2.result.now) v.items)
           (λ v. IsPermutation (pairs_of all) (pairs_in v.items))
           (λ v same. both-moved _ all low high c.split_at.ensures.front c.split_at.ensures.back c.in_ok-lower.lower.items c.in_ok-upper.upper.items
-          c.in_ok-lower.ensures.moved c.in_ok-upper.ensures.moved v.items (rw (c.as_slice.ensures.value, c.as_slice-2.ensures.value) at same))
+          c.in_ok-lower.ensures.moved c.in_ok-upper.ensures.moved v.items (moved_both c.as_slice.ensures.value c.as_slice-2.ensures.value same))
           c.merge_weighted.ensures.moved;
       sorted = c.merge_weighted.ensures.sorted;
       some = IfErr-weaker c.merge_weighted.result (λ e. 0 < length c.as_slice.result.now + length c.as_slice-2.result.now) (λ e. 0 < length (pairs_of all))
