@@ -1,4 +1,5 @@
-use Rattle.std.proofs.Common.{◌≡◌, List, length, sym, ◌∙◌, Ordering, Less, Equal, Greater, refl, ap, is_some, arith}
+use Rattle.std.proofs.Common.{◌≡◌, List, length, subst, sym, ◌∙◌, Ordering, Less, Equal, Greater, refl, ap, is_some, arith}
+use Rattle.sketch_base.specs.Answered.{FindsRanks}
 use Rattle.sketch_base.specs.Bag.{expanded}
 use Rattle.sketch_base.specs.Queries.{IsIncreasing, cdf_of}
 use Rattle.sketch_base.proofs.Distributions.{differences-left, ranks-sum}
@@ -30,7 +31,7 @@ returns g c =
     let whole : length entries ≡ s.n = length-expanded g.T.Ord.cmp (bag_of s.levels) ∙ (sym c.n-n.ensures.weight ∙ c.n-n.ensures.value) in
     let cdf = cdf_of g.T.Ord.cmp c.args.criteria entries c.args.points.now in
     let told = c.in_ok-ranks.ensures in
-    let ranks = rw c.in-Some.is at told.found in
+    let ranks = subst (FindsRanks s.n cdf) c.in-Some.is told.found in
     let found = differences-left s.n c.in-Some.ranks.len cdf c.in-Some.ranks.items c.as_mut_slice.result.now c.take_differences.new.ranks ranks
     c.as_mut_slice.ensures.value c.take_differences.ensures c.in-Some.ranks.ok.0 in
     record {
