@@ -23,7 +23,7 @@ returns-in_err-clone g c =
 
 pub returns-in-Some : goal.returns-in-Some
 returns-in-Some g c = record {
-  found = SameAnswer-trans g.met.T.Ord.total _ _ _ (rw c.in-Some.is at c.find.ensures.same) (c.requires.clones _ _ c.in_ok-clone.ensures.cases);
+  found = SameAnswer-trans g.met.T.Ord.total _ _ _ c.in-Some.ensures.same (c.requires.clones _ _ c.in_ok-clone.ensures.cases);
   there = some_among (some_of (c.find.ensures.some (ap (λ o. is_some o) c.in-Some.is)));
   refused = fit_answer c.in_ok-check_fraction.ensures.good;
 }
