@@ -1,6 +1,5 @@
 -- A line is answered: the run goes on by it, or ends where its answer can't be written.
-use Rattle.std.proofs.Common.{◌≡◌, ◌∙◌, ℕ, ℤ, ◌+◌, ◌≤◌, ◌<◌, ◌==◌, List, [], ◌∷◌, ◌++◌, length, take, refl, sym, ap, subst, arith, length-take-le, Option, Some, None, IfSome, Result, Ok, Err, IsOk}
-use Rattle.std.proofs.lemmas.Option.{MatchOption-at_some}
+use Rattle.std.proofs.Common.{◌≡◌, ◌∙◌, ℕ, ℤ, ◌+◌, ◌≤◌, ◌<◌, ◌==◌, List, [], ◌∷◌, ◌++◌, length, take, sym, ap, subst, arith, length-take-le, Option, Some, None, IfSome, Result, Ok, Err, IfErr, IsOk}
 use Rattle.std.specs.Int.{w64}
 use Rattle.std.specs.Io.BufRead.{DropsConsumable, DropsThrough, strip_last, take_through}
 use Rattle.std.specs.Io.Buffered.{reader_buffer, reader_remaining}
@@ -21,7 +20,7 @@ use Rattle.quantile_sketches.specs.declared.audit.commands.Command.TheVariants.{
 use Rattle.quantile_sketches.specs.declared.lines.Fault.{Fault}
 use Rattle.quantile_sketches.specs.declared.lines.Fault.TheVariants.{Input, Output}
 use Rattle.quantile_sketches.proofs.FirstLine.{takes_buffered, takes_read}
-use Rattle.quantile_sketches.proofs.LineRuns.{Running, ends-broken, ends-unread, ends-well, running-flushed, running-line}
+use Rattle.quantile_sketches.proofs.LineRuns.{Running, ends-broken, running-line}
 use Rattle.quantile_sketches.proofs.Outputs.{writes-as}
 use Rattle.quantile_sketches.proofs.UpdateLines.{answers-update}
 use mir.Val.{to_z, of_z}
@@ -41,6 +40,19 @@ some-read long more none some = omega (arith, long, more, none, some)
 -- a value isn't none
 pub some-none : {A P : Type 0} {x : A} → Some x ≡ None → P
 some-none e = absurd cc
+
+-- the end of the input, where nothing was taken before
+pub end-kept : {A B X : Type 0} {a a' : A} {b b' : B} (remaining : X → Option (List ℕ)) (x x' : X) → (a' ≡ a) × (b' ≡ b) × (x' ≡ x) → IsAtEnd (remaining x') →
+    IsAtEnd (remaining x)
+end-kept remaining x x' (same, same', same_left) end = rw (← same_left) end
+
+output-no-input : {e e' : _} → Output e ≡ Input e' → ⊥
+output-no-input is = cc
+
+-- the output failed, and not the input
+pub not-input : {T : Type 0} (P : Type 0) (r : Result T Fault) (e : _) → IsErrAnd r (λ f. f ≡ Output e) → IfErr r (λ f. (e' : _) → f ≡ Input e' → P)
+not-input P (Ok x) e is = absurd is
+not-input P (Err f) e is = λ e' same. absurd (output-no-input (sym is ∙ same))
 
 abbrev done : Result Unit Unit
 done = Ok tt
@@ -79,6 +91,12 @@ module _ {S C : Type 0} (grammar : Grammar C) (behaviour : Behaviour S ℤ C) wh
     subst (λ (b : List ℕ). Answers behaviour (request_of grammar (words (take n b))) (words (take n b)) slots coins a slots' coins') same'' answered,
   )
 
+  -- a line is taken where nothing was taken before
+  pub line-kept : {X : Type 0} (remaining : X → Option (List ℕ)) (x x' : X) (left' : Option (List ℕ)) {slots slots' slots'' : List (Option S)}
+      {coins coins' coins'' : ℕ} (a : Reply) → (slots' ≡ slots) × (coins' ≡ coins) × (x' ≡ x) →
+      AnswersLine (remaining x') left' slots' coins' slots'' coins'' a → AnswersLine (remaining x) left' slots coins slots'' coins'' a
+  line-kept remaining x x' left' a (same_slots, same_coins, same_left) answered = rw (← same_left, ← same_slots, ← same_coins) answered
+
   -- a line that is read behind nothing, with its line feed
   pub read-answered : (left left' : Option (List ℕ)) {line before cut : List ℕ} {m k n : ℕ} (bare : List ℕ) {slots slots' : List (Option S)} {coins coins' : ℕ}
       {a : Reply} →
@@ -105,42 +123,3 @@ module _ {S C : Type 0} (grammar : Grammar C) (behaviour : Behaviour S ℤ C) wh
     pub line-unwritten : (ended : Result Unit Fault) (e : _) → IsErrAnd ended (λ f. f ≡ Output e) → IfSome t (Ends grammar behaviour slots coins ended w0 w')
     line-unwritten ended e is =
         ends-broken grammar behaviour (running-line grammar behaviour run answered.0 a ok answered.1 answered.2 out) ended e is
-
-  -- the same for a line that is read after what waits went out
-  module _ {T E T' E' T'' E'' X : Type 0} {r : Result T E} {r' : Result T' E'} {r'' : Result T'' E''} {t w0 w w' w'' : Option (List ℕ)}
-      {waiting waiting' waiting'' : List ℕ}
-      {slots slots' slots'' : List (Option S)} {coins coins' coins'' : ℕ} (remaining : X → Option (List ℕ)) (x x' x'' : X) (slots''' : List (Option S))
-      (coins''' : ℕ)
-      {found : Option Reply} (a : Reply)
-      (run : Running grammar behaviour r t (remaining x) w0 w waiting slots coins slots' coins') (kept : (slots'' ≡ slots') × (coins'' ≡ coins') × (x' ≡ x))
-      (ok : IsOk r)
-      (flushed : Writes r' w w' waiting []) (nothing : waiting' ≡ []) (ok' : IsOk r') (is : found ≡ Some a)
-      (answered : IfSome found (AnswersLine (remaining x') (remaining x'') slots'' coins'' slots''' coins'''))
-      (out : Writes r'' w' w'' (waiting' ++ (answer_text a ++ (10 ∷ []))) waiting'') where
-    pub read-written : IsOk r'' → Running grammar behaviour done t (remaining x'') w0 w'' waiting'' slots coins slots''' coins'''
-    read-written well =
-        line-written (remaining x'') slots''' coins''' a (running-flushed grammar behaviour remaining x x' run kept ok flushed nothing) ok'
-        (MatchOption-at_some _ _ a is answered) out well
-
-    pub read-unwritten : (ended : Result Unit Fault) (e : _) → IsErrAnd ended (λ f. f ≡ Output e) → IfSome t (Ends grammar behaviour slots coins ended w0 w'')
-    read-unwritten ended e is_error =
-        line-unwritten (remaining x'') slots''' coins''' a (running-flushed grammar behaviour remaining x x' run kept ok flushed nothing) ok'
-        (MatchOption-at_some _ _ a is answered) out ended e is_error
-
-  -- what waits goes out, and nothing was read before
-  module _ {T E T' E' X : Type 0} {r : Result T E} {r' : Result T' E'} {t w0 w w' : Option (List ℕ)} {waiting : List ℕ}
-      {slots slots' slots'' : List (Option S)} {coins coins' coins'' : ℕ} (remaining : X → Option (List ℕ)) (x x' : X)
-      (run : Running grammar behaviour r t (remaining x) w0 w waiting slots coins slots' coins') (kept : (slots'' ≡ slots') × (coins'' ≡ coins') × (x' ≡ x))
-      (ok : IsOk r)
-      (flushed : Writes r' w w' waiting []) where
-    -- the output fails
-    pub flush-unwritten : (ended : Result Unit Fault) (e : _) → IsErrAnd ended (λ f. f ≡ Output e) → IfSome t (Ends grammar behaviour slots coins ended w0 w')
-    flush-unwritten ended e is = ends-broken grammar behaviour (running-flushed grammar behaviour remaining x x' run kept ok flushed refl) ended e is
-
-    -- the input is at its end
-    pub flush-ends : {waiting' : List ℕ} → waiting' ≡ [] → IsOk r' → IsAtEnd (remaining x') → IfSome t (Ends grammar behaviour slots coins (Ok tt) w0 w')
-    flush-ends nothing ok' end = ends-well grammar behaviour (running-flushed grammar behaviour remaining x x' run kept ok flushed nothing) ok' nothing end
-
-    -- the input fails
-    pub flush-unread : {waiting' : List ℕ} → waiting' ≡ [] → IsOk r' → (e : _) → IfSome t (Ends grammar behaviour slots coins (Err (Input e)) w0 w')
-    flush-unread nothing ok' e = ends-unread grammar behaviour (running-flushed grammar behaviour remaining x x' run kept ok flushed nothing) ok' nothing

@@ -57,6 +57,10 @@ writes-stop c c' c'' waiting r written bytes fails a k = record {
 pub writes-none : {T E : Type 0} (c : Option (List ℕ)) (r : Result T E) (owed waiting : List ℕ) → owed ≡ waiting → Writes r c c owed waiting
 writes-none c r owed waiting e = record { sent = []; left = owed; parts = refl; out = appends_none c; waits = ok-so r e }
 
+-- all that was owed is out, and nothing waits
+pub writes-all : {E : Type 0} {c c' : Option (List ℕ)} (owed : List ℕ) → Appends c c' owed → Writes {T = Unit} {E = E} (Ok tt) c c' owed []
+writes-all owed h = record { sent = owed; left = []; parts = sym (append-nil owed); out = h; waits = refl }
+
 -- all that was owed is out, and then a flush succeeds or fails
 pub writes-flushed : {T E T' E' : Type 0} {done : T} {c c' : Option (List ℕ)} {owed : List ℕ} (c'' : Option (List ℕ)) (text : List ℕ) (r' : Result T' E') →
     text ≡ owed → Writes {T = T} {E = E} (Ok done) c c' owed [] → Keeps c' c'' → Writes r' c c'' text []
@@ -111,6 +115,15 @@ writes-fail w first rest text waiting' r' e fails h =
 -- the same for another call that succeeds
 pub writes-as : {T E T' E' : Type 0} {r : Result T E} {c c' : Option (List ℕ)} {owed waiting : List ℕ} (r' : Result T' E') → Writes r c c' owed waiting → IsOk r → Writes r' c c' owed waiting
 writes-as {r = r} r' h ok = record { sent = h.sent; left = h.left; parts = h.parts; out = h.out; waits = ok-so r' (held-ok r ok h.waits) }
+
+-- the same where nothing waits any more
+pub writes-passed : {T E T' E' : Type 0} {r : Result T E} {c c' : Option (List ℕ)} {owed waiting : List ℕ} (r' : Result T' E') → Writes r c c' owed [] → IsOk r →
+    waiting ≡ [] → Writes r' c c' owed waiting
+writes-passed r' h ok nothing = rw nothing (writes-as r' h ok)
+
+-- all that was owed is out if nothing waits
+pub all-out : {T E : Type 0} {r : Result T E} {c c' : Option (List ℕ)} {owed waiting : List ℕ} → Writes r c c' owed waiting → IsOk r → waiting ≡ [] → Appends c c' owed
+all-out {r = r} h ok nothing = rw (h.parts, held-ok r ok h.waits ∙ nothing, append-nil h.sent) h.out
 
 -- known bytes that stay as they were have nothing behind them
 pub keeps-appends : (c c' : Option (List ℕ)) → Keeps c c' → Appends c c' []

@@ -27,24 +27,11 @@ returns-in-Ok g c =
       broken_off = tt;
     }
 
-pub returns-in-Err-Input : goal.returns-in-Err-Input
-returns-in-Err-Input g c =
+pub returns-clause-broken_off : goal.returns-clause-broken_off
+returns-clause-broken_off g c =
     let known =
     nothing_ahead (λ (r : MutBor g.row.R.Denot). g.R.Read.remaining r.now) c.in_ok-input.input _ c.in_ok-input.ensures.inner c.in_ok-input.ensures.empty
     c.in_ok-input.ensures.capacity in
-    record {
-      served = tt;
-      broken_off = begins-after g.S.Config.Config.grammar g.S.Family.behaviour (replicate SLOTS None) c.args.seed _ _
-          (g.W.Write.contents c.args.output.now) (g.W.Write.contents c.answer_lines.new.output) c.in-Err-Input.field-0 known c.in-Err-Input.ensures;
-    }
-
-pub returns : goal.returns
-returns g c =
-    let known =
-    nothing_ahead (λ (r : MutBor g.row.R.Denot). g.R.Read.remaining r.now) c.in_ok-input.input _ c.in_ok-input.ensures.inner c.in_ok-input.ensures.empty
-    c.in_ok-input.ensures.capacity in
-    record {
-      served = tt;
-      broken_off = begins-after g.S.Config.Config.grammar g.S.Family.behaviour (replicate SLOTS None) c.args.seed _ _
-          (g.W.Write.contents c.args.output.now) (g.W.Write.contents c.answer_lines.new.output) c.in-Err-Output.field-0 known c.in-Err-Output.ensures;
-    }
+    OnErr-from c.match-this.result
+    (begins-after g.S.Config.Config.grammar g.S.Family.behaviour (replicate SLOTS None) c.args.seed _ _ (g.W.Write.contents c.args.output.now)
+    (g.W.Write.contents c.answer_lines.new.output) c.answer_lines.result known c.answer_lines.ensures)
