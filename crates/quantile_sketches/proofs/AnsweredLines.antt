@@ -1,5 +1,6 @@
 -- A line is answered: the run goes on by it, or ends where its answer can't be written.
 use Rattle.std.proofs.Common.{◌≡◌, ◌∙◌, ℕ, ℤ, ◌+◌, ◌≤◌, ◌<◌, ◌==◌, List, [], ◌∷◌, ◌++◌, length, take, sym, ap, subst, arith, length-take-le, Option, Some, None, IfSome, Result, Ok, Err, IfErr, IsOk}
+use Rattle.std.proofs.lemmas.Option.{MatchOption-at_some}
 use Rattle.std.specs.Int.{w64}
 use Rattle.std.specs.Io.BufRead.{DropsConsumable, DropsThrough, strip_last, take_through}
 use Rattle.std.specs.Io.Buffered.{reader_buffer, reader_remaining}
@@ -90,6 +91,11 @@ module _ {S C : Type 0} (grammar : Grammar C) (behaviour : Behaviour S ℤ C) wh
         dropped,
     subst (λ (b : List ℕ). Answers behaviour (request_of grammar (words (take n b))) (words (take n b)) slots coins a slots' coins') same'' answered,
   )
+
+  -- the answer that a line was found to have
+  pub line-found : (left left' : Option (List ℕ)) (slots slots' : List (Option S)) (coins coins' : ℕ) (found : Option Reply) (a : Reply) → found ≡ Some a →
+      IfSome found (AnswersLine left left' slots coins slots' coins') → AnswersLine left left' slots coins slots' coins' a
+  line-found left left' slots slots' coins coins' found a is answered = MatchOption-at_some _ _ a is answered
 
   -- a line is taken where nothing was taken before
   pub line-kept : {X : Type 0} (remaining : X → Option (List ℕ)) (x x' : X) (left' : Option (List ℕ)) {slots slots' slots'' : List (Option S)}

@@ -4,6 +4,7 @@ use Rattle.quantile_sketches.specs.declared.table.TheConstants.{SLOTS}
 use Rattle.quantile_sketches.proofs.FirstLine.{nothing_ahead}
 use Rattle.quantile_sketches.proofs.LineRuns.{begins-after, begins-unstarted, serves-after}
 use denote.MutBor.{MutBor}
+use Rattle.quantile_sketches.proofs.lines.serve_family.Goals.{in-Err-Input, in-Err-Input-2}
 use Rattle.quantile_sketches.proofs.lines.serve_family.Goals as goal
 
 OnErr-from : {T E P : Type 0} (r : Result T E) → P → OnErr r P
@@ -35,3 +36,9 @@ returns-clause-broken_off g c =
     OnErr-from c.match-this.result
     (begins-after g.S.Config.Config.grammar g.S.Family.behaviour (replicate SLOTS None) c.args.seed _ _ (g.W.Write.contents c.args.output.now)
     (g.W.Write.contents c.answer_lines.new.output) c.answer_lines.result known c.answer_lines.ensures)
+
+pub returns-clause-served : goal.returns-clause-served
+returns-clause-served g c = elim c.match-this.branch [
+  | in-Err-Input w ↦ rw w.result-is tt
+  | in-Err-Input-2 w ↦ rw w.result-is tt
+]

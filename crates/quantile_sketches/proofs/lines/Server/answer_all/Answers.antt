@@ -1,9 +1,8 @@
 use Rattle.std.proofs.Common.{Ok, refl, arith}
 use Rattle.std.proofs.lemmas.Grind.{common_steps}
-use Rattle.std.proofs.lemmas.Option.{MatchOption-at_some}
 use Rattle.std.specs.Io.Buffered.{reader_remaining}
 use Rattle.quantile_sketches.specs.LineSteps.{reply_of}
-use Rattle.quantile_sketches.proofs.AnsweredLines.{line-written, line-unwritten, update-answered}
+use Rattle.quantile_sketches.proofs.AnsweredLines.{line-found, line-written, line-unwritten, update-answered}
 use Rattle.quantile_sketches.proofs.LineRuns.{ends-broken, ends-fault, ends-unread, ends-well, running-out, running-start, running-with}
 use Rattle.quantile_sketches.proofs.lines.Server.answer_all.Goals.{in-Some+in_ok-write_done, in_default+in_ok-answer+in-Some-2+in_ok-write_answer+in-Ok+in-Ranks+in-Some-1, in_default+in_ok-answer+in-Some-2+in_ok-write_answer+in-Ok+in-Ranks+in-None-1, in_default+in_ok-answer+in-Some-2+in_ok-write_answer+in-Ok+in-Image-1, in_default+in_ok-answer+in-Some-2+in_ok-write_answer+in-Ok+in-Done-1, in_default+in_ok-answer+in-Some-2+in_ok-write_answer+in-Err-1}
 use Rattle.quantile_sketches.proofs.lines.Server.answer_all.Goals as goal
@@ -35,9 +34,11 @@ returns-in_default-2 g c =
 
 pub returns-in_err-write_answer : goal.returns-in_err-write_answer
 returns-in_err-write_answer g c =
-    line-unwritten g.S.Config.Config.grammar g.S.Family.behaviour _ c.answer_line.new.self.table c.answer_line.new.self.coins c.in-Some-2.answer
+    line-unwritten g.S.Config.Config.grammar g.S.Family.behaviour (reader_remaining g.R.Read.remaining c.answer_line.new.input) c.answer_line.new.self.table c.answer_line.new.self.coins c.in-Some-2.answer
     (running-out g.S.Config.Config.grammar g.S.Family.behaviour c.loop.invariant refl c.in_ok-answer.ensures.written) refl
-    (MatchOption-at_some _ _ c.in-Some-2.answer c.in-Some-2.is c.in_ok-answer.ensures.answered) c.in_err-write_answer.ensures
+    (line-found g.S.Config.Config.grammar g.S.Family.behaviour (reader_remaining g.R.Read.remaining c.loop.input) (reader_remaining g.R.Read.remaining c.answer_line.new.input)
+      c.loop.self.table c.answer_line.new.self.table c.loop.self.coins c.answer_line.new.self.coins c.in_ok-answer.field-0 c.in-Some-2.answer
+      c.in-Some-2.is c.in_ok-answer.ensures.answered) c.in_err-write_answer.ensures
     c.from_residual-in_err-write_answer.result c.in_err-write_answer.field-0.0 c.from_residual-in_err-write_answer.ensures.1
 
 pub loop-preserved : goal.loop-preserved
@@ -54,33 +55,43 @@ loop-preserved g c = elim c.match-update_ahead.branch [
   | in_default+in_ok-answer+in-Some-2+in_ok-write_answer+in-Ok+in-Ranks+in-Some-1 w ↦
       running-with g.S.Config.Config.grammar g.S.Family.behaviour (reader_remaining g.R.Read.remaining) g.W.Write.contents (λ (s : _). s.waiting.items)
       (λ (s : _). s.table) (λ (s : _). s.coins) c.match-update_ahead.input c.match-update_ahead.output c.match-update_ahead.self w.input-is w.output-is w.self-is
-      (line-written g.S.Config.Config.grammar g.S.Family.behaviour _ w.answer_line.new.self.table w.answer_line.new.self.coins w.in-Some-2.answer
+      (line-written g.S.Config.Config.grammar g.S.Family.behaviour (reader_remaining g.R.Read.remaining w.answer_line.new.input) w.answer_line.new.self.table w.answer_line.new.self.coins w.in-Some-2.answer
       (running-out g.S.Config.Config.grammar g.S.Family.behaviour c.loop.invariant refl w.in_ok-answer.ensures.written) refl
-      (MatchOption-at_some _ _ w.in-Some-2.answer w.in-Some-2.is w.in_ok-answer.ensures.answered) w.in_ok-write_answer.ensures refl)
+      (line-found g.S.Config.Config.grammar g.S.Family.behaviour (reader_remaining g.R.Read.remaining c.loop.input) (reader_remaining g.R.Read.remaining w.answer_line.new.input)
+      c.loop.self.table w.answer_line.new.self.table c.loop.self.coins w.answer_line.new.self.coins w.in_ok-answer.field-0 w.in-Some-2.answer
+      w.in-Some-2.is w.in_ok-answer.ensures.answered) w.in_ok-write_answer.ensures refl)
   | in_default+in_ok-answer+in-Some-2+in_ok-write_answer+in-Ok+in-Ranks+in-None-1 w ↦
       running-with g.S.Config.Config.grammar g.S.Family.behaviour (reader_remaining g.R.Read.remaining) g.W.Write.contents (λ (s : _). s.waiting.items)
       (λ (s : _). s.table) (λ (s : _). s.coins) c.match-update_ahead.input c.match-update_ahead.output c.match-update_ahead.self w.input-is w.output-is w.self-is
-      (line-written g.S.Config.Config.grammar g.S.Family.behaviour _ w.answer_line.new.self.table w.answer_line.new.self.coins w.in-Some-2.answer
+      (line-written g.S.Config.Config.grammar g.S.Family.behaviour (reader_remaining g.R.Read.remaining w.answer_line.new.input) w.answer_line.new.self.table w.answer_line.new.self.coins w.in-Some-2.answer
       (running-out g.S.Config.Config.grammar g.S.Family.behaviour c.loop.invariant refl w.in_ok-answer.ensures.written) refl
-      (MatchOption-at_some _ _ w.in-Some-2.answer w.in-Some-2.is w.in_ok-answer.ensures.answered) w.in_ok-write_answer.ensures refl)
+      (line-found g.S.Config.Config.grammar g.S.Family.behaviour (reader_remaining g.R.Read.remaining c.loop.input) (reader_remaining g.R.Read.remaining w.answer_line.new.input)
+      c.loop.self.table w.answer_line.new.self.table c.loop.self.coins w.answer_line.new.self.coins w.in_ok-answer.field-0 w.in-Some-2.answer
+      w.in-Some-2.is w.in_ok-answer.ensures.answered) w.in_ok-write_answer.ensures refl)
   | in_default+in_ok-answer+in-Some-2+in_ok-write_answer+in-Ok+in-Image-1 w ↦
       running-with g.S.Config.Config.grammar g.S.Family.behaviour (reader_remaining g.R.Read.remaining) g.W.Write.contents (λ (s : _). s.waiting.items)
       (λ (s : _). s.table) (λ (s : _). s.coins) c.match-update_ahead.input c.match-update_ahead.output c.match-update_ahead.self w.input-is w.output-is w.self-is
-      (line-written g.S.Config.Config.grammar g.S.Family.behaviour _ w.answer_line.new.self.table w.answer_line.new.self.coins w.in-Some-2.answer
+      (line-written g.S.Config.Config.grammar g.S.Family.behaviour (reader_remaining g.R.Read.remaining w.answer_line.new.input) w.answer_line.new.self.table w.answer_line.new.self.coins w.in-Some-2.answer
       (running-out g.S.Config.Config.grammar g.S.Family.behaviour c.loop.invariant refl w.in_ok-answer.ensures.written) refl
-      (MatchOption-at_some _ _ w.in-Some-2.answer w.in-Some-2.is w.in_ok-answer.ensures.answered) w.in_ok-write_answer.ensures refl)
+      (line-found g.S.Config.Config.grammar g.S.Family.behaviour (reader_remaining g.R.Read.remaining c.loop.input) (reader_remaining g.R.Read.remaining w.answer_line.new.input)
+      c.loop.self.table w.answer_line.new.self.table c.loop.self.coins w.answer_line.new.self.coins w.in_ok-answer.field-0 w.in-Some-2.answer
+      w.in-Some-2.is w.in_ok-answer.ensures.answered) w.in_ok-write_answer.ensures refl)
   | in_default+in_ok-answer+in-Some-2+in_ok-write_answer+in-Ok+in-Done-1 w ↦
       running-with g.S.Config.Config.grammar g.S.Family.behaviour (reader_remaining g.R.Read.remaining) g.W.Write.contents (λ (s : _). s.waiting.items)
       (λ (s : _). s.table) (λ (s : _). s.coins) c.match-update_ahead.input c.match-update_ahead.output c.match-update_ahead.self w.input-is w.output-is w.self-is
-      (line-written g.S.Config.Config.grammar g.S.Family.behaviour _ w.answer_line.new.self.table w.answer_line.new.self.coins w.in-Some-2.answer
+      (line-written g.S.Config.Config.grammar g.S.Family.behaviour (reader_remaining g.R.Read.remaining w.answer_line.new.input) w.answer_line.new.self.table w.answer_line.new.self.coins w.in-Some-2.answer
       (running-out g.S.Config.Config.grammar g.S.Family.behaviour c.loop.invariant refl w.in_ok-answer.ensures.written) refl
-      (MatchOption-at_some _ _ w.in-Some-2.answer w.in-Some-2.is w.in_ok-answer.ensures.answered) w.in_ok-write_answer.ensures refl)
+      (line-found g.S.Config.Config.grammar g.S.Family.behaviour (reader_remaining g.R.Read.remaining c.loop.input) (reader_remaining g.R.Read.remaining w.answer_line.new.input)
+      c.loop.self.table w.answer_line.new.self.table c.loop.self.coins w.answer_line.new.self.coins w.in_ok-answer.field-0 w.in-Some-2.answer
+      w.in-Some-2.is w.in_ok-answer.ensures.answered) w.in_ok-write_answer.ensures refl)
   | in_default+in_ok-answer+in-Some-2+in_ok-write_answer+in-Err-1 w ↦
       running-with g.S.Config.Config.grammar g.S.Family.behaviour (reader_remaining g.R.Read.remaining) g.W.Write.contents (λ (s : _). s.waiting.items)
       (λ (s : _). s.table) (λ (s : _). s.coins) c.match-update_ahead.input c.match-update_ahead.output c.match-update_ahead.self w.input-is w.output-is w.self-is
-      (line-written g.S.Config.Config.grammar g.S.Family.behaviour _ w.answer_line.new.self.table w.answer_line.new.self.coins w.in-Some-2.answer
+      (line-written g.S.Config.Config.grammar g.S.Family.behaviour (reader_remaining g.R.Read.remaining w.answer_line.new.input) w.answer_line.new.self.table w.answer_line.new.self.coins w.in-Some-2.answer
       (running-out g.S.Config.Config.grammar g.S.Family.behaviour c.loop.invariant refl w.in_ok-answer.ensures.written) refl
-      (MatchOption-at_some _ _ w.in-Some-2.answer w.in-Some-2.is w.in_ok-answer.ensures.answered) w.in_ok-write_answer.ensures refl)
+      (line-found g.S.Config.Config.grammar g.S.Family.behaviour (reader_remaining g.R.Read.remaining c.loop.input) (reader_remaining g.R.Read.remaining w.answer_line.new.input)
+      c.loop.self.table w.answer_line.new.self.table c.loop.self.coins w.answer_line.new.self.coins w.in_ok-answer.field-0 w.in-Some-2.answer
+      w.in-Some-2.is w.in_ok-answer.ensures.answered) w.in_ok-write_answer.ensures refl)
 ]
 
 pub returns-in_err-write_out : goal.returns-in_err-write_out
