@@ -1,5 +1,5 @@
 -- Which errors a call may return, by the reasons for which it is refused.
-use Rattle.std.proofs.Common.{◌≡◌, ◌⊎◌, ℕ, ◌<◌, ◌≤◌, ◌==◌, nat_lt, Bool, true, false, Result, Ok, Err, IfErr, IsErrAnd, refl, inl, inr, arith, eqb-true}
+use Rattle.std.proofs.Common.{◌≡◌, ◌⊎◌, ℕ, ◌<◌, ◌≤◌, ◌==◌, nat_lt, Bool, true, false, Result, Ok, Err, refl, inl, inr, arith, eqb-true}
 use Rattle.std.proofs.lemmas.Bool.{cases_Bool, eqb-false, ltb-true, ltb-false}
 use Rattle.std.specs.Prelude.{IsErrOf, ◌↔◌}
 use Rattle.sketch_base.specs.declared.error.ErrorKind.{ErrorKind}
@@ -8,11 +8,6 @@ use Rattle.quantile_sketches.specs.Behaviour.{Change}
 use Rattle.quantile_sketches.specs.Rules.{none_if}
 use Rattle.quantile_sketches.specs.RunSteps.{Refuses}
 use Rattle.quantile_sketches.proofs.SameRuns.{IsOne, IsSettled, no-err, same-err}
-
--- an error of which a fact is known
-pub IfErr-from_err_and : {T E : Type 0} {Q : E → Type 0} (r : Result T E) (P : E → Type 0) → IsErrAnd r Q → ((e : E) → Q e → P e) → IfErr r P
-IfErr-from_err_and (Ok x) P is h = absurd is
-IfErr-from_err_and (Err e) P is h = h e is
 
 -- if the test holds, the call is refused, and if not, memory ran out
 pub refuses-by : {Shape : Type 0} (b : Bool) (shape : Shape) (e : ErrorKind) → (b ≡ true → e ≡ InvalidArgument) → (b ≡ false → e ≡ OutOfMemory) → Refuses (none_if b shape) e

@@ -4,7 +4,7 @@ use Rattle.std.proofs.lemmas.Bool.{false≢true}
 use Rattle.sketch_base.specs.declared.error.ErrorKind.{ErrorKind}
 use Rattle.sketch_base.specs.declared.error.ErrorKind.TheVariants.{InvalidArgument}
 use Rattle.quantile_sketches.specs.Behaviour.{Behaviour, Change, Masses}
-use Rattle.quantile_sketches.specs.LineSteps.{Verdict, Reply, Turns, Joins, JoinsCopy, IsRefusal, AnswersMasses}
+use Rattle.quantile_sketches.specs.LineSteps.{Verdict, Reply, Asks, Turns, Joins, JoinsCopy, IsRefusal, AnswersMasses}
 use Rattle.quantile_sketches.specs.LineWords.{rise}
 use Rattle.quantile_sketches.specs.declared.answer.Answer.TheVariants.{Ranks}
 use Rattle.quantile_sketches.specs.declared.answer.Refusal.TheVariants.{AbsentSlot, Sketch}
@@ -31,6 +31,14 @@ module _ {S Source : Type 0} (joined : S → Change Source S) (source slot : Opt
   pub joins-other : (p : S) (coins coins' : Source) (r : Verdict) (slot' : Option S) → source ≡ Some p → Turns (joined p) slot coins r slot' coins' →
       Joins joined source slot coins r slot' coins'
   joins-other p coins coins' r slot' is turns = subst (λ (o : Option S). Joins joined o slot coins r slot' coins') (sym is) turns
+
+-- what comes of a question, by what the slot holds
+module _ {S : Type 0} (told : S → Reply → Type 0) (slot : Option S) where
+  pub asks-absent : slot ≡ None → Asks told slot (Err AbsentSlot)
+  asks-absent is = subst (λ (o : Option S). Asks told o (Err AbsentSlot)) (sym is) refl
+
+  pub asks-held : (s : S) (r : Reply) → slot ≡ Some s → told s r → Asks told slot r
+  asks-held s r is h = subst (λ (o : Option S). Asks told o r) (sym is) h
 
 -- a merge with a copy that the sketch refuses
 pub copy_refused : {S A C Source : Type 0} (behaviour : Behaviour S A C) (bit : Source → Bool) (next : Source → Source) (redraws refused : Bool)

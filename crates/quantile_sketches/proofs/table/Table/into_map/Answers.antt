@@ -9,21 +9,21 @@ pub loop-slot-preserved : goal.loop-slot-preserved
 loop-slot-preserved g c =
     let l = c.loop-slot in
     let was = c.index_mut.result.now in
-    let inside = within_all l.slots l.slot l.invariant.0 c.loop-slot-test.true in
+    let inside = within_all l.self-inside.slots l.slot l.invariant.0 c.loop-slot-test.true in
     elim c.match-take.branch [
       | in-Some+in_ok-insert+in-Some-1 w ↦ (
         l.invariant.0,
-        moved-one c.args.self l.slots.items l.slot l.map w.insert.new.self c.match-take.map was c.take.new.self (Some w.in-Some.sketch) l.invariant.1 inside
+        moved-one c.args.self l.self-inside.slots.items l.slot l.map w.insert.new.self c.match-take.map was c.take.new.self (Some w.in-Some.sketch) l.invariant.1 inside
             c.index_mut.ensures.value w.map-is w.in_ok-insert.ensures.updates.1 (sym w.in-Some.is ∙ c.take.ensures.value) w.in_ok-insert.ensures.updates.2,
       )
       | in-Some+in_ok-insert+in-None-1 w ↦ (
         l.invariant.0,
-        moved-one c.args.self l.slots.items l.slot l.map w.insert.new.self c.match-take.map was c.take.new.self (Some w.in-Some.sketch) l.invariant.1 inside
+        moved-one c.args.self l.self-inside.slots.items l.slot l.map w.insert.new.self c.match-take.map was c.take.new.self (Some w.in-Some.sketch) l.invariant.1 inside
             c.index_mut.ensures.value w.map-is w.in_ok-insert.ensures.updates.1 (sym w.in-Some.is ∙ c.take.ensures.value) w.in_ok-insert.ensures.updates.2,
       )
       | in_default w ↦ (
         l.invariant.0,
-        moved-one c.args.self l.slots.items l.slot l.map l.map c.match-take.map was c.take.new.self None l.invariant.1 inside c.index_mut.ensures.value w.map-is
+        moved-one c.args.self l.self-inside.slots.items l.slot l.map l.map c.match-take.map was c.take.new.self None l.invariant.1 inside c.index_mut.ensures.value w.map-is
             (l.invariant.1.none l.slot (le_refl _)) (sym w.in_default.is ∙ c.take.ensures.value) (λ q ne. refl),
       )
     ]
@@ -33,7 +33,7 @@ loop-slot-init g c = (c.self.invariant, none-moved c.args.self c.self.inside.slo
 
 pub returns : goal.returns
 returns g c =
-    all-moved c.args.self c.loop-slot.slots c.loop-slot.slot (sketch_at c.loop-slot.map) c.loop-slot.invariant.0 c.loop-slot.invariant.1 c.loop-slot-test.false
+    all-moved c.args.self c.loop-slot.self-inside.slots c.loop-slot.slot (sketch_at c.loop-slot.map) c.loop-slot.invariant.0 c.loop-slot.invariant.1 c.loop-slot-test.false
 
 pub returns-in_err-insert : goal.returns-in_err-insert
 returns-in_err-insert g c = IfOk-from_err c.from_residual.result _ c.from_residual.ensures.0

@@ -5,4 +5,4 @@ use Rattle.quantile_sketches.proofs.Slots.{IsMoved}
 use Rattle.quantile_sketches.proofs.table.Table.into_map.Given as goal
 
 abbrev pub invariant-loop-slot : goal.invariant-loop-slot
-invariant-loop-slot g l = (vec_len l.slots ≡ 256) × IsMoved l.fn.self l.slots.items l.slot (sketch_at l.map)
+invariant-loop-slot g l = (vec_len l.self-inside.slots ≡ 256) × IsMoved l.fn.self l.self-inside.slots.items l.slot (sketch_at l.map)
