@@ -1,5 +1,6 @@
 -- What comes of a call on a slot, by what the slot holds and what the call returns, and the replies of split points and images.
-use Rattle.std.proofs.Common.{◌≡◌, Bool, true, false, ℤ, List, Option, Some, None, Ok, Err, IsTrue, not, refl, sym, ap, subst, inl, inr, ◌∙◌}
+use Rattle.std.proofs.Common.{◌≡◌, Bool, true, false, ℤ, List, Option, Some, None, Result, Ok, Err, IsErrAnd, IsTrue, not, refl, sym, ap, subst, inl, inr, ◌∙◌}
+use Rattle.std.specs.Prelude.{MatchResult}
 use Rattle.std.proofs.lemmas.Bool.{false≢true}
 use Rattle.sketch_base.specs.declared.error.ErrorKind.{ErrorKind}
 use Rattle.sketch_base.specs.declared.error.ErrorKind.TheVariants.{InvalidArgument}
@@ -8,6 +9,7 @@ use Rattle.quantile_sketches.specs.LineSteps.{Verdict, Reply, Asks, Turns, Joins
 use Rattle.quantile_sketches.specs.LineWords.{rise}
 use Rattle.quantile_sketches.specs.declared.answer.Answer.TheVariants.{Ranks}
 use Rattle.quantile_sketches.specs.declared.answer.Refusal.TheVariants.{AbsentSlot, Sketch}
+use Rattle.quantile_sketches.proofs.Slots.{error_is}
 
 module _ {S Source : Type 0} (changed : Change Source S) (slot : Option S) where
   -- the slot holds no sketch
@@ -17,6 +19,13 @@ module _ {S Source : Type 0} (changed : Change Source S) (slot : Option S) where
   -- its sketch changes
   pub turns-done : (s t : S) (coins coins' : Source) → slot ≡ Some s → changed s coins (Ok tt) t coins' → Turns changed slot coins (Ok tt) (Some t) coins'
   turns-done s t coins coins' is done = subst (λ (o : Option S). Turns changed o coins (Ok tt) (Some t) coins') (sym is) (t, refl, done)
+
+  -- what its sketch tells is the verdict
+  pub turns-told : (s t : S) (coins coins' : Source) (told : Result Unit ErrorKind) (r : Verdict) → slot ≡ Some s →
+      MatchResult told (λ done. r ≡ Ok done) (λ e. IsErrAnd r (λ refusal. refusal ≡ Sketch e)) → changed s coins told t coins' →
+      Turns changed slot coins r (Some t) coins'
+  turns-told s t coins coins' (Ok done) r is same h = rw (same, is) (t, refl, h)
+  turns-told s t coins coins' (Err e) r is same h = rw (error_is r (Sketch e) same, is) (t, refl, h)
 
   -- its sketch refuses
   pub turns-refused : (s t : S) (coins coins' : Source) (e : ErrorKind) (r : Verdict) → slot ≡ Some s → r ≡ Err (Sketch e) → changed s coins (Err e) t coins' →

@@ -1,27 +1,19 @@
 use Rattle.std.proofs.Common.{refl}
 use Rattle.quantile_sketches.specs.declared.answer.Refusal.TheVariants.{Sketch}
 use Rattle.quantile_sketches.specs.LineSteps.{JoinsCopy}
-use Rattle.quantile_sketches.proofs.SlotCalls.{turns-absent, copy_refused}
-use Rattle.quantile_sketches.proofs.Slots.{error_is, copy_joins, copy_stays, copy_fails}
+use Rattle.quantile_sketches.proofs.SlotCalls.{turns-absent, turns-told, copy_refused}
+use Rattle.quantile_sketches.proofs.Slots.{error_is, copy_tried, copy_fails}
 use Rattle.quantile_sketches.proofs.table.merge_copy.Goals as goal
 
 pub returns : goal.returns
 returns g c =
-    copy_joins g.S.Family.behaviour g.B.RandomBits.bit g.B.RandomBits.next c.args.redraws c.refuses.result c.args.slot.now c.in-Some.sketch
+    turns-told (JoinsCopy g.S.Family.behaviour g.B.RandomBits.bit g.B.RandomBits.next c.args.redraws) c.args.slot.now c.in-Some.sketch c.merge.new.self
+    c.args.coins.now c.merge.new.coins c.merge.result c.map_err.result c.in-Some.is c.map_err.ensures.cases
+    (copy_tried g.S.Family.behaviour g.B.RandomBits.bit g.B.RandomBits.next c.args.redraws c.refuses.result c.args.slot.now c.in-Some.sketch
     c.args.coins.now
     c.in-Some.is c.refuses.ensures
     (c.in_ok-unless.ensures.ok.0 refl)
-    c.in_ok-copy.copy _ c.merge.new.coins c.in_ok-copy.ensures c.in_ok-merge.ensures
-
-pub returns-in_err-merge : goal.returns-in_err-merge
-returns-in_err-merge g c =
-    copy_stays g.S.Family.behaviour g.B.RandomBits.bit g.B.RandomBits.next c.args.redraws c.refuses.result c.args.slot.now c.in-Some.sketch
-    c.args.coins.now
-    c.in-Some.is c.refuses.ensures
-    (c.in_ok-unless.ensures.ok.0 refl)
-    c.in_ok-copy.copy c.merge.new.self c.merge.new.coins c.in_err-merge.field-0.0 c.from_residual-in_err-merge.result c.in_ok-copy.ensures
-    c.in_err-merge.ensures
-    (error_is c.from_residual-in_err-merge.result (Sketch c.in_err-merge.field-0.0) c.from_residual-in_err-merge.ensures.1)
+    c.in_ok-copy.copy c.merge.new.self c.merge.new.coins c.merge.result c.in_ok-copy.ensures c.merge.ensures)
 
 pub returns-in_err-copy : goal.returns-in_err-copy
 returns-in_err-copy g c =

@@ -1,9 +1,9 @@
-use Rattle.std.proofs.Common.{Err, refl, ap, ◌∙◌}
+use Rattle.std.proofs.Common.{Err, refl, inl, ap, ◌∙◌}
 use Rattle.sketch_base.specs.declared.error.ErrorKind.TheVariants.{InvalidArgument, OutOfMemory}
 use Rattle.quantile_sketches.specs.declared.answer.Refusal.TheVariants.{Sketch}
 use Rattle.quantile_sketches.specs.LineSteps.{Cloned}
-use Rattle.quantile_sketches.proofs.SlotCalls.{turns-absent}
-use Rattle.quantile_sketches.proofs.Slots.{refused_early, error_is, refused_for, fails_for, clone_taken, clone_refused}
+use Rattle.quantile_sketches.proofs.SlotCalls.{turns-absent, turns-told}
+use Rattle.quantile_sketches.proofs.Slots.{refused_early, error_is, refused_for, fails_for}
 use Rattle.quantile_sketches.proofs.table.update.Goals as goal
 
 pub returns-in_err-unless : goal.returns-in_err-unless
@@ -25,21 +25,9 @@ returns-in_err-clone g c =
 
 pub returns : goal.returns
 returns g c =
-    clone_taken g.S.Family.behaviour (g.S.Item.Clone.is_clone c.args.item.now)
-    (λ x. g.S.Family.behaviour.taken x g.row.B.Denot g.B.RandomBits.bit g.B.RandomBits.next)
-    c.args.slot.now c.in-Some.sketch _ c.in_ok-clone.field-0 c.args.coins.now c.update.new.coins
-    c.in-Some.is
-    c.in_ok-clone.ensures.cases c.in_ok-update.ensures
-
-pub returns-in_err-update : goal.returns-in_err-update
-returns-in_err-update g c =
-    clone_refused g.S.Family.behaviour (g.S.Item.Clone.is_clone c.args.item.now)
-    (λ x. g.S.Family.behaviour.taken x g.row.B.Denot g.B.RandomBits.bit g.B.RandomBits.next)
-    c.args.slot.now c.in-Some.sketch _ c.in_ok-clone.field-0 c.in_err-update.field-0.0 c.from_residual-in_err-update.result c.args.coins.now
-    c.update.new.coins
-    c.in-Some.is
-    c.in_ok-clone.ensures.cases (error_is c.from_residual-in_err-update.result (Sketch c.in_err-update.field-0.0) c.from_residual-in_err-update.ensures.1)
-    c.in_err-update.ensures
+    turns-told (Cloned (g.S.Item.Clone.is_clone c.args.item.now) (λ x. g.S.Family.behaviour.taken x g.row.B.Denot g.B.RandomBits.bit g.B.RandomBits.next))
+    c.args.slot.now c.in-Some.sketch c.update.new.self c.args.coins.now c.update.new.coins c.update.result c.map_err.result
+    c.in-Some.is c.map_err.ensures.cases (inl (c.in_ok-clone.field-0, c.in_ok-clone.ensures.cases, c.update.ensures))
 
 pub returns-in_default : goal.returns-in_default
 returns-in_default g c =
