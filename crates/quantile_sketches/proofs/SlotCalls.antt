@@ -1,7 +1,6 @@
 -- What comes of a call on a slot, by what the slot holds and what the call returns, and the replies of split points and images.
-use Rattle.std.proofs.Common.{◌≡◌, Bool, true, false, ℤ, List, Option, Some, None, Result, Ok, Err, IsErrAnd, IsTrue, not, refl, sym, ap, subst, inl, inr, ◌∙◌}
+use Rattle.std.proofs.Common.{◌≡◌, Bool, true, ℤ, List, Option, Some, None, Result, Ok, Err, IsErrAnd, refl, sym, ap, subst, inl, inr, ◌∙◌}
 use Rattle.std.specs.Prelude.{MatchResult}
-use Rattle.std.proofs.lemmas.Bool.{false≢true}
 use Rattle.sketch_base.specs.declared.error.ErrorKind.{ErrorKind}
 use Rattle.sketch_base.specs.declared.error.ErrorKind.TheVariants.{InvalidArgument}
 use Rattle.quantile_sketches.specs.Behaviour.{Behaviour, Change, Masses}
@@ -52,11 +51,11 @@ module _ {S : Type 0} (told : S → Reply → Type 0) (slot : Option S) where
 -- a merge with a copy that the sketch refuses
 pub copy_refused : {S A C Source : Type 0} (behaviour : Behaviour S A C) (bit : Source → Bool) (next : Source → Source) (redraws refused : Bool)
     (slot : Option S) (s : S)
-    (coins : Source) (e : ErrorKind) (r : Verdict) → slot ≡ Some s → behaviour.refuses redraws s s refused → (IsTrue (not refused) → false ≡ true) →
-    e ≡ InvalidArgument → r ≡ Err (Sketch e) → Turns (JoinsCopy behaviour bit next redraws) slot coins r (Some s) coins
-copy_refused behaviour bit next redraws true slot s coins e r is told unfit kind err =
-    turns-refused (JoinsCopy behaviour bit next redraws) slot s s coins coins e r is err (inl (told, ap (λ e. Err e) kind, refl, refl))
-copy_refused behaviour bit next redraws false slot s coins e r is told unfit kind err = absurd (false≢true (unfit refl))
+    (coins : Source) → slot ≡ Some s → behaviour.refuses redraws s s refused → refused ≡ true →
+    Turns (JoinsCopy behaviour bit next redraws) slot coins (Err (Sketch InvalidArgument)) (Some s) coins
+copy_refused behaviour bit next redraws refused slot s coins is told full =
+    turns-refused (JoinsCopy behaviour bit next redraws) slot s s coins coins InvalidArgument (Err (Sketch InvalidArgument)) is refl
+    (inl (subst (behaviour.refuses redraws s s) full told, refl, refl, refl))
 
 -- what comes of split points
 module _ {S C : Type 0} (behaviour : Behaviour S ℤ C) (points : List ℤ) where

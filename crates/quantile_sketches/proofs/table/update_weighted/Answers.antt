@@ -1,27 +1,25 @@
-use Rattle.std.proofs.Common.{Err, refl, inl, ap, ◌∙◌}
+use Rattle.std.proofs.Common.{if◌then◌else◌, refl, inl, ap}
 use Rattle.sketch_base.specs.declared.error.ErrorKind.TheVariants.{InvalidArgument, OutOfMemory}
 use Rattle.quantile_sketches.specs.declared.answer.Refusal.TheVariants.{Sketch}
 use Rattle.quantile_sketches.specs.LineSteps.{Cloned}
 use Rattle.quantile_sketches.proofs.SlotCalls.{turns-absent, turns-told}
-use Rattle.quantile_sketches.proofs.Slots.{refused_early, error_is, refused_for, fails_for}
+use Rattle.quantile_sketches.proofs.Slots.{refused_early, error_is}
 use Rattle.quantile_sketches.proofs.table.update_weighted.Goals as goal
 
-pub returns-in_err-unless : goal.returns-in_err-unless
-returns-in_err-unless g c =
+pub returns-then-refuses_weight : goal.returns-then-refuses_weight
+returns-then-refuses_weight g c =
     refused_early g.S.Family.behaviour (g.S.Item.Clone.is_clone c.args.item.now) (λ x. g.S.Family.behaviour.taken_weighted x c.args.weight g.row.B.Denot g.B.RandomBits.bit g.B.RandomBits.next)
-    c.args.slot.now c.in-Some.sketch c.refuses_weight.result c.from_residual.result c.args.coins.now
+    c.args.slot.now c.in-Some.sketch c.refuses_weight.result _ c.args.coins.now
     c.in-Some.is
-    c.refuses_weight.ensures InvalidArgument (refused_for c.refuses_weight.result c.in_err-unless.ensures.ok.1)
-    (error_is c.from_residual.result (Sketch c.in_err-unless.field-0.0) c.from_residual.ensures.1
-    ∙ ap (λ e. Err (Sketch e)) c.in_err-unless.ensures.err)
+    c.refuses_weight.ensures InvalidArgument (ap (λ b. if b then InvalidArgument else OutOfMemory) c.if-refuses_weight.true) refl
 
 pub returns-in_err-clone : goal.returns-in_err-clone
 returns-in_err-clone g c =
+    let r = c.from_residual in
     refused_early g.S.Family.behaviour (g.S.Item.Clone.is_clone c.args.item.now) (λ x. g.S.Family.behaviour.taken_weighted x c.args.weight g.row.B.Denot g.B.RandomBits.bit g.B.RandomBits.next)
-    c.args.slot.now c.in-Some.sketch c.refuses_weight.result c.from_residual-in_err-clone.result c.args.coins.now
+    c.args.slot.now c.in-Some.sketch c.refuses_weight.result r.result c.args.coins.now
     c.in-Some.is
-    c.refuses_weight.ensures OutOfMemory (fails_for c.refuses_weight.result (c.in_ok-unless.ensures.ok.0 refl))
-    (error_is c.from_residual-in_err-clone.result (Sketch OutOfMemory) c.from_residual-in_err-clone.ensures.1)
+    c.refuses_weight.ensures OutOfMemory (ap (λ b. if b then InvalidArgument else OutOfMemory) c.if-refuses_weight.false) (error_is r.result (Sketch OutOfMemory) r.ensures.1)
 
 pub returns : goal.returns
 returns g c =

@@ -10,7 +10,7 @@ pub returns : goal.returns
 returns g c =
     let same = c.in_ok-image_text.ensures.text ∙ ap encode_lower c.deref.ensures.value in
     asks-held (Shows g.S.Family.behaviour) c.args.slot.now c.in-Some.sketch _ c.in-Some.is
-    (inl (c.in_ok-bytes.bytes, c.in_ok-image_text.field-0, c.in_ok-bytes.ensures, same, refl))
+    (inl (c.in_ok-image.field-0, c.in_ok-image_text.field-0, c.in_ok-image.ensures, same, refl))
 
 pub returns-in_err-image_text : goal.returns-in_err-image_text
 returns-in_err-image_text g c =
@@ -18,12 +18,12 @@ returns-in_err-image_text g c =
     asks-held (Shows g.S.Family.behaviour) c.args.slot.now c.in-Some.sketch r.result c.in-Some.is
     (inr (inr (error_is r.result (Sketch c.in_err-image_text.field-0.0) r.ensures.1 ∙ ap (λ e. Err (Sketch e)) c.in_err-image_text.ensures.memory)))
 
-pub returns-in_err-bytes : goal.returns-in_err-bytes
-returns-in_err-bytes g c =
+pub returns-in_err-image : goal.returns-in_err-image
+returns-in_err-image g c =
     let r = c.from_residual in
-    let e = c.in_err-bytes.field-0.0 in
+    let e = c.in_err-image.field-0.0 in
     asks-held (Shows g.S.Family.behaviour) c.args.slot.now c.in-Some.sketch r.result c.in-Some.is
-    (inr (inl (e, c.in_err-bytes.ensures, error_is r.result (Sketch e) r.ensures.1)))
+    (inr (inl (e, c.in_err-image.ensures, error_is r.result (Sketch e) r.ensures.1)))
 
 pub returns-in_default : goal.returns-in_default
 returns-in_default g c = asks-absent (Shows g.S.Family.behaviour) c.args.slot.now c.in_default.is
