@@ -1,29 +1,20 @@
-use Rattle.std.proofs.Common.{◌≡◌, ℤ, SFits, Ok, refl, sym, ap, subst, ◌∙◌, arith}
+use Rattle.std.proofs.Common.{◌≡◌, ℤ, SFits, Ok, refl, subst, ◌∙◌, arith}
 use Rattle.std.specs.Int.{w64}
 use Rattle.std.proofs.lemmas.Int.{to_z-of_z}
 use Rattle.sketch_base.specs.Random.{next_state}
 use Rattle.quantile_sketches.specs.Behaviour.{coin_of}
-use Rattle.quantile_sketches.specs.LineSteps.{Asks, reply_of}
+use Rattle.quantile_sketches.specs.LineSteps.{Asks}
 use Rattle.quantile_sketches.specs.LineWords.{words}
 use Rattle.quantile_sketches.specs.declared.answer.Answer.TheVariants.{Rank}
-use Rattle.quantile_sketches.proofs.Slots.{executed_as, item_of_clone, error_is}
+use Rattle.quantile_sketches.proofs.Slots.{executed_as, item_of_clone, done_is}
 use Rattle.quantile_sketches.proofs.table.Table.reply.Goals as goal
 
-pub returns-in_ok-execute-in-Run : goal.returns-in_ok-execute-in-Run
-returns-in_ok-execute-in-Run g c =
+pub returns-in-Run : goal.returns-in-Run
+returns-in-Run g c =
     let done = item_of_clone g.S.Family.behaviour coin_of next_state _ (λ x y e. e) c.in-Run.command c.args.self.now c.args.coins.now c.execute.result
     c.execute.new.self c.execute.new.coins c.execute.ensures in
-    executed_as g.S.Family.behaviour c.args.request _ (words c.args.line.now) c.args.self.now c.args.coins.now _ c.execute.new.self
-    c.execute.new.coins c.in-Run.is (c.execute.result, sym (ap reply_of c.in_ok-execute-in-Run.was), done)
-
-pub returns-in_err-execute-in-Run : goal.returns-in_err-execute-in-Run
-returns-in_err-execute-in-Run g c =
-    let done = item_of_clone g.S.Family.behaviour coin_of next_state _ (λ x y e. e) c.in-Run.command c.args.self.now c.args.coins.now c.execute.result
-    c.execute.new.self c.execute.new.coins c.execute.ensures in
-    let r = c.from_residual in
-    executed_as g.S.Family.behaviour c.args.request _ (words c.args.line.now) c.args.self.now c.args.coins.now r.result c.execute.new.self
-    c.execute.new.coins c.in-Run.is
-    (c.execute.result, error_is r.result c.in_err-execute-in-Run.field-0.0 r.ensures.1 ∙ sym (ap reply_of c.in_err-execute-in-Run.was), done)
+    executed_as g.S.Family.behaviour c.args.request _ (words c.args.line.now) c.args.self.now c.args.coins.now c.and.result c.execute.new.self
+    c.execute.new.coins c.in-Run.is (c.execute.result, c.and.ensures ∙ done_is c.execute.result, done)
 
 pub returns-in-Load : goal.returns-in-Load
 returns-in-Load g c =
