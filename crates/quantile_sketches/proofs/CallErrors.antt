@@ -1,13 +1,21 @@
 -- Which errors a call may return, by the reasons for which it is refused.
-use Rattle.std.proofs.Common.{◌≡◌, ◌⊎◌, ℕ, ◌<◌, ◌≤◌, ◌==◌, nat_lt, Bool, true, false, Result, Ok, Err, refl, inl, inr, arith, eqb-true}
+use Rattle.std.proofs.Common.{◌≡◌, ◌⊎◌, ℕ, ◌<◌, ◌≤◌, ◌==◌, nat_lt, Bool, true, false, Result, Ok, Err, IfOk, IfErr, IsErrAnd, refl, inl, inr, arith, eqb-true}
 use Rattle.std.proofs.lemmas.Bool.{cases_Bool, eqb-false, ltb-true, ltb-false}
-use Rattle.std.specs.Prelude.{IsErrOf, ◌↔◌}
+use Rattle.std.specs.Prelude.{IsErrOf, MatchResult, ◌↔◌}
 use Rattle.sketch_base.specs.declared.error.ErrorKind.{ErrorKind}
 use Rattle.sketch_base.specs.declared.error.ErrorKind.TheVariants.{InvalidArgument, InvalidData, OutOfMemory}
 use Rattle.quantile_sketches.specs.Behaviour.{Change}
 use Rattle.quantile_sketches.specs.Rules.{none_if}
 use Rattle.quantile_sketches.specs.RunSteps.{Refuses}
 use Rattle.quantile_sketches.proofs.SameRuns.{IsOne, IsSettled, no-err, same-err}
+
+-- a call that may run out of memory, with that as a sketch's error
+pub memory_told : {T D : Type 0} (P Q : T → Type 0) (o : Result T D) (r : Result T ErrorKind) →
+    MatchResult o (λ x. r ≡ Ok x) (λ _. IsErrAnd r (λ e. e ≡ OutOfMemory)) → IfOk o P → IfOk o Q →
+    IfOk r (λ x. P x × Q x) × IfErr r (λ e. e ≡ OutOfMemory)
+memory_told P Q (Ok x) r is p q = rw is ((p, q), tt)
+memory_told P Q (Err d) (Ok x) is p q = absurd is
+memory_told P Q (Err d) (Err e) is p q = (tt, is)
 
 -- if the test holds, the call is refused, and if not, memory ran out
 pub refuses-by : {Shape : Type 0} (b : Bool) (shape : Shape) (e : ErrorKind) → (b ≡ true → e ≡ InvalidArgument) → (b ≡ false → e ≡ OutOfMemory) → Refuses (none_if b shape) e

@@ -36,7 +36,7 @@ impl<T: KllValue + Ord> Family for KllSketch<T> {
     }
 
     fn copy(&self) -> Result<Self, Error> {
-        Ok(self.clone()?)
+        self.clone().map_err(Error::from)
     }
 
     fn reset(&mut self) {
@@ -80,7 +80,9 @@ impl<T: KllValue + Ord> Family for KllSketch<T> {
         coins: &mut B,
         _room: &mut (),
     ) -> Outcome {
-        ErrorKind::InvalidArgument.unless(!redraws)?;
+        if redraws {
+            return Err(Error::new(ErrorKind::InvalidArgument));
+        }
         self.merge(other, coins)
     }
 

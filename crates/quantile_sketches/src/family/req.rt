@@ -39,7 +39,7 @@ impl<T: ReqValue + Clone + Ord> Family for ReqSketch<T> {
     }
 
     fn copy(&self) -> Result<Self, Error> {
-        Ok(self.clone()?)
+        self.clone().map_err(Error::from)
     }
 
     fn reset(&mut self) {
