@@ -1,5 +1,5 @@
 -- Which errors a call may return, by the reasons for which it is refused.
-use Rattle.std.proofs.Common.{◌≡◌, ◌⊎◌, ℕ, ◌<◌, ◌≤◌, ◌==◌, nat_lt, Bool, true, false, Result, Ok, Err, IfOk, IfErr, IsErrAnd, refl, inl, inr, arith, eqb-true}
+use Rattle.std.proofs.Common.{◌≡◌, ◌⊎◌, ℕ, ◌<◌, ◌≤◌, ◌==◌, nat_lt, Bool, true, false, Result, Ok, Err, IfOk, IfErr, OnOk, IsErrAnd, is_ok, if◌then◌else◌, refl, inl, inr, arith, eqb-true}
 use Rattle.std.proofs.lemmas.Bool.{cases_Bool, eqb-false, ltb-true, ltb-false}
 use Rattle.std.specs.Prelude.{IsErrOf, MatchResult, ◌↔◌}
 use Rattle.sketch_base.specs.declared.error.ErrorKind.{ErrorKind}
@@ -16,6 +16,14 @@ pub memory_told : {T D : Type 0} (P Q : T → Type 0) (o : Result T D) (r : Resu
 memory_told P Q (Ok x) r is p q = rw is ((p, q), tt)
 memory_told P Q (Err d) (Ok x) is p q = absurd is
 memory_told P Q (Err d) (Err e) is p q = (tt, is)
+
+-- the same of a call that leaves a list as it was where memory ran out
+pub push_told : {T D A : Type 0} (list more same : A) (o : Result T D) (r : Result T ErrorKind) →
+    MatchResult o (λ x. r ≡ Ok x) (λ _. IsErrAnd r (λ e. e ≡ OutOfMemory)) → list ≡ (if is_ok o then more else same) →
+    OnOk r (list ≡ more) × IfErr r (λ e. e ≡ OutOfMemory)
+push_told list more same (Ok x) r is p = rw is (p, tt)
+push_told list more same (Err d) (Ok x) is p = absurd is
+push_told list more same (Err d) (Err e) is p = (tt, is)
 
 -- if the test holds, the call is refused, and if not, memory ran out
 pub refuses-by : {Shape : Type 0} (b : Bool) (shape : Shape) (e : ErrorKind) → (b ≡ true → e ≡ InvalidArgument) → (b ≡ false → e ≡ OutOfMemory) → Refuses (none_if b shape) e
