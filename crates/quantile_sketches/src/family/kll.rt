@@ -80,9 +80,7 @@ impl<T: KllValue + Ord> Family for KllSketch<T> {
         coins: &mut B,
         _room: &mut (),
     ) -> Outcome {
-        if redraws {
-            return Err(Error::new(ErrorKind::InvalidArgument));
-        }
+        ErrorKind::InvalidArgument.unless(!redraws)?;
         self.merge(other, coins)
     }
 

@@ -24,8 +24,8 @@ returns-in_err-clone g c =
 pub returns : goal.returns
 returns g c =
     turns-told (Cloned (g.S.Item.Clone.is_clone c.args.item.now) (λ x. g.S.Family.behaviour.taken_weighted x c.args.weight g.row.B.Denot g.B.RandomBits.bit g.B.RandomBits.next))
-    c.args.slot.now c.in-Some.sketch c.update_weighted.new.self c.args.coins.now c.update_weighted.new.coins c.update_weighted.result c.map_err.result
-    c.in-Some.is c.map_err.ensures.cases (inl (c.in_ok-clone.field-0, c.in_ok-clone.ensures.cases, c.update_weighted.ensures))
+    c.args.slot.now c.in-Some.sketch c.update_weighted-outcome.new.self c.args.coins.now c.update_weighted-outcome.new.coins c.update_weighted-outcome.result c.map_err.result
+    c.in-Some.is c.map_err.ensures.cases (inl (c.in_ok-clone.field-0, c.in_ok-clone.ensures.cases, c.update_weighted-outcome.ensures))
 
 pub returns-in_default : goal.returns-in_default
 returns-in_default g c =

@@ -6,20 +6,20 @@ use Rattle.quantile_sketches.proofs.table.Table.merge.Goals as goal
 
 pub returns-then-into-source : goal.returns-then-into-source
 returns-then-into-source g c =
-    let was = c.index_mut.result.now in
+    let was = c.index_mut-slot.result.now in
     merged_as g.S.Family.behaviour g.B.RandomBits.bit g.B.RandomBits.next c.args.redraws (c.args.into == c.args.source) true c.args.into c.args.source
     c.args.self.now c.args.coins.now c.merge_copy.result _ c.merge_copy.new.coins
     (eq-eqb c.args.into c.args.source c.if-into-source.true)
     (changed-slot (Turns (JoinsCopy g.S.Family.behaviour g.B.RandomBits.bit g.B.RandomBits.next c.args.redraws)) c.self.inside.slots c.args.self.now
     c.args.into was
     c.merge_copy.new.slot c.args.coins.now c.merge_copy.new.coins c.merge_copy.result c.self.invariant c.self.view_is c.ranges.into.fits
-    c.index_mut.ensures.value c.merge_copy.ensures)
+    c.index_mut-slot.ensures.value c.merge_copy.ensures)
 
 pub returns : goal.returns
 returns g c =
-    let t = emptied_for_a_while c.self.inside.slots c.args.self.now c.args.into c.args.source c.index_mut-2.result.now c.take-sketch.result c.take-sketch.new.self
+    let t = emptied_for_a_while c.self.inside.slots c.args.self.now c.args.into c.args.source c.index_mut.result.now c.take-sketch.result c.take-sketch.new.self
     c.merge-outcome.new.slot c.index-source.result.now c.self.invariant c.self.view_is c.ranges.into.fits c.ranges.source.fits c.if-into-source.false
-    c.index_mut-2.ensures.value c.take-sketch.ensures.value c.index-source.ensures in
+    c.index_mut.ensures.value c.take-sketch.ensures.value c.index-source.ensures in
     merged_as g.S.Family.behaviour g.B.RandomBits.bit g.B.RandomBits.next c.args.redraws (c.args.into == c.args.source) false c.args.into c.args.source
     c.args.self.now c.args.coins.now c.merge-outcome.result _ c.merge-outcome.new.coins
     (ne_eqb c.args.into c.args.source c.if-into-source.false)
