@@ -98,7 +98,8 @@ impl<T: Ord + Drop> Levels<T> {
         ensures spare { OnOk result (length self.new.levels + 1 < self.new.bounds_room) }
     {
         let most = self.total_capacity as usize;
-        reserve_both(&mut self.items, &mut self.bounds, most)
+        reserve_next(&mut self.items, most)?;
+        self.bounds.reserve(1)
     }
 
     /// Returns whether an item can be added with neither a compaction nor an allocation.
@@ -126,7 +127,8 @@ impl<T: Ord + Drop> Levels<T> {
     pub(crate) fn give_back(&mut self)
         ensures kept { KeepsLevels self.old self.new }
     {
-        shrink_both(&mut self.items, &mut self.bounds);
+        give_back(&mut self.items);
+        self.bounds.shrink_to(self.bounds.len() + 1);
     }
 
     /// Calls `give_back` if there is memory for over a quarter more items, more than a growing
@@ -332,28 +334,4 @@ fn add_level_above(bounds: &mut Vec<usize>, level: usize)
     if level + 2 == bounds.len() {
         bounds.push(0).unwrap();
     }
-}
-
-/// Makes room for one more item, and for one more bound.
-fn reserve_both<T: Drop>(
-    items: &mut Vec<T>,
-    bounds: &mut Vec<usize>,
-    most: usize,
-) -> Result<(), AllocError>
-    ensures items { items.new.items ≡ items.old.items }
-    ensures bounds { bounds.new.items ≡ bounds.old.items }
-    ensures room { OnOk result (length items.old.items < vec_capacity items.new) }
-    ensures spare { OnOk result (length bounds.old.items < vec_capacity bounds.new) }
-{
-    reserve_next(items, most)?;
-    bounds.reserve(1)
-}
-
-/// Frees room beyond an eighth more items and one more bound.
-fn shrink_both<T>(items: &mut Vec<T>, bounds: &mut Vec<usize>)
-    ensures items { items.new.items ≡ items.old.items }
-    ensures bounds { bounds.new.items ≡ bounds.old.items }
-{
-    give_back(items);
-    bounds.shrink_to(bounds.len() + 1);
 }
