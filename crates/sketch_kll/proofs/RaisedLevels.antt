@@ -1,6 +1,5 @@
 -- Levels with empty ones added above the top, as a compaction of the top level and a merge need them.
-use Rattle.std.proofs.Common.{eqb, eqb-true, ◌≡◌, ℕ, zero, suc, ◌+◌, ◌<◌, Bool, cond, List, [], ◌∷◌, ◌++◌, length, refl, sym, ap, ap₂, ◌∙◌, arith, Ordering, length-append, append-nil, replicate, inl, inr}
-use Rattle.std.proofs.lemmas.Bool.{cases_Bool, eqb-false}
+use Rattle.std.proofs.Common.{◌≡◌, ◌⊎◌, ℕ, zero, suc, ◌+◌, ◌<◌, Bool, List, [], ◌∷◌, ◌++◌, length, refl, sym, ap, ap₂, ◌∙◌, arith, Ordering, length-append, append-nil, replicate, inl, inr}
 use Rattle.sketch_kll.specs.Levels.{retained, first_level, compacted, AllSorted, UpperSorted}
 use Rattle.sketch_kll.specs.Stored.{AreStored}
 use Rattle.sketch_kll.specs.Flat.{flat, marks, levels_in, IsFlat}
@@ -57,8 +56,8 @@ AllSorted-none cmp zero = tt
 AllSorted-none cmp (suc j) = ((λ k d l b. absurd (omega arith)), AllSorted-none cmp j)
 
 -- the bounds with a level above the one that is compacted, added if there is none
-abbrev pub raised : ℕ → List ℕ → List ℕ
-raised level bounds = cond (eqb (level + 2) (length bounds)) (bounds ++ 0 ∷ []) bounds
+abbrev pub Raises : ℕ → List ℕ → List ℕ → Type 0
+Raises level old new = ((level + 2 ≡ length old) × (new ≡ old ++ 0 ∷ [])) ⊎ ((level + 2 ≡ length old → ⊥) × (new ≡ old))
 
 pub record Raised {A : Type 0} (cmp : A → A → Ordering) (last coin : Bool) (level : ℕ) (items : List A) (old new : List ℕ) : Type 0 where
   pub flat : IsFlat items new
@@ -71,24 +70,21 @@ first-top : {A : Type 0} (ls : List (List A)) → 0 < length ls → first_level 
 first-top [] some = absurd (omega arith)
 first-top (l ∷ ls) some = refl
 
--- what `add_level_above` makes of the bounds
+-- what such bounds are for a compaction
 pub raised_is : {A : Type 0} {cmp : A → A → Ordering} {k total level : ℕ} {items : List A} {old new : List ℕ} {ls : List (List A)} (last coin : Bool) →
-    AreStored cmp k items old total → levels_in items old ≡ ls → level < length ls → new ≡ raised level old → Raised cmp last coin level items old new
-raised_is {A} {cmp} {k} {total} {level} {items} {old} {new} {ls} last coin stored own inside new_is =
+    AreStored cmp k items old total → levels_in items old ≡ ls → level < length ls → Raises level old new → Raised cmp last coin level items old new
+raised_is {A} {cmp} {k} {total} {level} {items} {old} {new} {ls} last coin stored own inside raises =
     let bounds_len = length-bounds items old stored.flat in
-    rw new_is (
-    elim (cases_Bool (eqb (level + 2) (length old))) [
-      | inl is_top ↦
-          let top = eqb-true (level + 2) (length old) is_top in
+    elim raises [
+      | inl top ↦
           let above = levels_with_tops 1 items old stored.flat in
-          rw is_top (record {
+          rw top.1 (record {
             flat = above.0;
-            within = omega (arith, length-append old (0 ∷ []), top);
-            same = rw above.1 (compacted-top cmp last coin level (levels_in items old) (omega (arith, top, bounds_len)));
+            within = omega (arith, length-append old (0 ∷ []), top.0);
+            same = rw above.1 (compacted-top cmp last coin level (levels_in items old) (omega (arith, top.0, bounds_len)));
             sorted = λ u. rw above.1 (UpperSorted-append cmp (levels_in items old) (replicate 1 []) stored.some u (AllSorted-none cmp 1));
             first = rw above.1 (first-top (levels_in items old) stored.some);
           })
-      | inr is_below ↦
-          let below = eqb-false (level + 2) (length old) is_below in
-          rw is_below (record { flat = stored.flat; within = omega (arith, inside, bounds_len, ap length own, below); same = refl; sorted = λ u. u; first = refl })
-    ])
+      | inr below ↦
+          rw below.1 (record { flat = stored.flat; within = omega (arith, inside, bounds_len, ap length own, below.0); same = refl; sorted = λ u. u; first = refl })
+    ]

@@ -1,6 +1,6 @@
 //! The levels of a sketch in one vector, the highest first, and how updates change them.
 //! What a compaction does to a slice is in `compaction`, merges are in `levels::merging`.
-ghost use Rattle.std.specs.Prelude.{◌≡◌, ℕ, ◌+◌, ◌-◌, ◌*◌, ◌/◌, ◌^◌, ◌<◌, ◌≤◌, [], ◌∷◌, ◌++◌, length, map, max, IfOk, OnOk, vec_len, vec_capacity, if◌then◌else◌, ◌==◌, drop, true, false, IsSorted, IsTrue, nat_le};
+ghost use Rattle.std.specs.Prelude.{◌≡◌, ℕ, ◌+◌, ◌-◌, ◌*◌, ◌/◌, ◌^◌, ◌<◌, ◌≤◌, [], ◌∷◌, length, map, max, IfOk, OnOk, vec_capacity, if◌then◌else◌, drop, true, false, IsSorted, IsTrue, nat_le};
 ghost use Rattle.std.specs.declared.cmp.Ordering.TheVariants.{Equal};
 ghost use Rattle.std.specs.List.{between};
 ghost use Rattle.sketch_base.specs.Query.{counted};
@@ -18,7 +18,7 @@ pub(crate) mod merging;
 mod taking;
 
 use crate::capacity::{MINIMUM_CAPACITY, is_surely_least, level_capacity, total_capacity};
-use crate::compaction::{compact_level, order_level};
+use crate::compaction::{compact_level, order_body};
 use sketch_base::common::SearchCriteria;
 use sketch_base::common::counting::{count_all, count_in_order};
 use sketch_base::common::random::RandomBits;
@@ -195,16 +195,18 @@ impl<T: Ord + Drop> Levels<T> {
         ensures shorter { retained self.new.levels ≤ retained self.old.levels }
         ensures coins { coins.new ≡ B.next coins.old }
     {
-        let known = self.bounds.len() - 1;
-        add_level_above(&mut self.bounds, level);
+        if level + 2 == self.bounds.len() {
+            self.bounds.push_reserved(0);
+            self.total_capacity = total_capacity(self.k, MINIMUM_CAPACITY, level + 2);
+        }
         let needs_sorting = needs_sorting(self.is_level_zero_sorted, level);
-        order_level(&mut self.items, &self.bounds, needs_sorting);
+        if needs_sorting {
+            order_body(&mut self.items, self.bounds[1]);
+        }
         let coin = coins.random_bit();
         let (items, bounds) = (&mut self.items, &mut self.bounds);
         let count = compact_level(items, bounds, level, needs_sorting, coin);
         self.items.truncate(self.items.len() - count);
-        let num_levels = self.bounds.len() - 1;
-        self.total_capacity = total_at(self.k, self.total_capacity, known, num_levels);
     }
 
     /// Appends an item to level 0.
@@ -321,17 +323,4 @@ fn needs_sorting(is_sorted: bool, level: usize) -> bool
     ensures { result ≡ needs_sorting is_sorted level }
 {
     level == 0 && !is_sorted
-}
-
-/// Adds a level above `level` if there is none.
-fn add_level_above(bounds: &mut Vec<usize>, level: usize)
-    requires spare { vec_len bounds.old < vec_capacity bounds.old }
-    requires within { level + 2 < 2 ^ 64 }
-    ensures items { bounds.new.items ≡ (if level + 2 == length bounds.old.items
-        then bounds.old.items ++ 0 ∷ [] else bounds.old.items) }
-    ensures capacity { vec_capacity bounds.old ≤ vec_capacity bounds.new }
-{
-    if level + 2 == bounds.len() {
-        bounds.push(0).unwrap();
-    }
 }
