@@ -1,5 +1,5 @@
 //! Levels that take items one after another.
-ghost use Rattle.std.specs.Prelude.{◌≡◌, ◌+◌, ◌<◌, ◌≤◌, ◌++◌, ◌^◌, drop, length, max, min, reverse, take, vec_len, vec_capacity, false, IsSorted, IsTrue, IfOk, OnOk};
+ghost use Rattle.std.specs.Prelude.{◌≡◌, ◌+◌, ◌<◌, ◌≤◌, ◌++◌, ◌^◌, drop, length, max, min, reverse, take, vec_len, false, IsSorted, IsTrue, IfOk, OnOk};
 ghost use Rattle.std.specs.declared.cmp.Ordering.TheVariants.{Equal};
 ghost use Rattle.std.specs.Option.{option_to_list};
 ghost use Rattle.sketch_base.specs.Bag.{SameItems};
@@ -174,26 +174,9 @@ impl<T: Clone + Ord> Levels<T> {
         ensures spare { OnOk result (63 ≤ self.new.bounds_room) }
     {
         let most = total_capacity(self.k, MINIMUM_CAPACITY, MAX_LEVELS) as usize;
-        reserve_taken(&mut self.items, &mut self.bounds, items.len(), most)?;
+        let count = items.len().min(most.saturating_sub(self.items.len()));
+        self.items.reserve_exact(count)?;
+        self.bounds.reserve_exact(MAX_BOUNDS - self.bounds.len())?;
         items.to_vec(*self.items.allocator())
     }
-}
-
-/// Makes room for `count` more items, or up to `most` items if that is less, and for all bounds
-/// that levels may need.
-fn reserve_taken<T: Drop>(
-    items: &mut Vec<T>,
-    bounds: &mut Vec<usize>,
-    count: usize,
-    most: usize,
-) -> Result<(), AllocError>
-    requires few { length bounds.old.items ≤ 62 }
-    ensures items { items.new.items ≡ items.old.items }
-    ensures bounds { bounds.new.items ≡ bounds.old.items }
-    ensures room { OnOk result
-        (min (length items.old.items + count) most ≤ vec_capacity items.new) }
-    ensures spare { OnOk result (63 ≤ vec_capacity bounds.new) }
-{
-    items.reserve_exact(count.min(most.saturating_sub(items.len())))?;
-    bounds.reserve_exact(MAX_BOUNDS - bounds.len())
 }

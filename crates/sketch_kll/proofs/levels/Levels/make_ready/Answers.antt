@@ -1,42 +1,83 @@
-use Rattle.std.proofs.Common.{◌≡◌, ◌+◌, ◌≤◌, ℕ, length, ap, ap₂, arith, subst, sym, refl, List}
-use Rattle.sketch_kll.specs.Flat.{levels_in, IsFlat}
-use Rattle.sketch_kll.specs.Levels.{retained}
-use Rattle.sketch_kll.proofs.Flats.{length-bounds, length-items}
+use Rattle.std.proofs.Common.{◌≡◌, ◌+◌, ◌<◌, ◌≤◌, ℕ, List, length, get_or, take, drop, ap, ap₂, arith, refl, ◌∙◌, length-append, take-append-drop}
+use Rattle.std.proofs.lemmas.Grind.{get_or_default_zero}
 use Rattle.std.proofs.lemmas.Result.{IfOk-from_err}
+use Rattle.sketch_kll.specs.Flat.{levels_in}
+use Rattle.sketch_kll.specs.Levels.{retained}
 use Rattle.sketch_kll.specs.Stored.{Stored}
+use Rattle.sketch_kll.proofs.Flats.{bound_within, length-bounds, length-items}
+use Rattle.sketch_kll.proofs.LevelClones.{same_clones, cloned}
 use Rattle.sketch_kll.proofs.StoredLevels.{stored_still, kept_still, clones_told}
 use Rattle.sketch_kll.proofs.levels.Levels.make_ready.Goals as goal
 
-pub clone_levels-requires-clause-some_level : goal.clone_levels-requires-clause-some_level
-clone_levels-requires-clause-some_level g c =
-    omega (arith, length-bounds c.others.inside.items.items c.others.inside.bounds.items c.others.invariant.flat, c.others.invariant.some, ap length c.deref.ensures.value)
+some_of : {len n : ℕ} → len ≡ n + 1 → 0 < n → 1 < len
+some_of is some = omega (arith, is, some)
+
+some_held : {own len n : ℕ} → own ≡ len → len ≡ n + 1 → 0 < n → 1 < own
+some_held own is some = omega (arith, own, is, some)
+
+few_of : {len n : ℕ} → len ≡ n + 1 → n ≤ 61 → len ≤ 62
+few_of is few = omega (arith, is, few)
+
+within_of : {at from held len own : ℕ} → at ≡ from → from ≤ held → len ≡ own → own ≡ held → at ≤ len
+within_of at within len own = omega (arith, at, within, len, own)
 
 pub reserve_merged-requires : goal.reserve_merged-requires
 reserve_merged-requires g c =
-    record { few = omega (arith, length-bounds c.self.inside.items.items c.self.inside.bounds.items c.self.invariant.flat, c.self.invariant.few) }
+    record { few = few_of (length-bounds c.self.inside.items.items c.self.inside.bounds.items c.self.invariant.flat) c.self.invariant.few }
 
 room_of : {items count now own low room : ℕ} → items + count ≤ room → now ≡ own → items ≡ own → count ≡ low → now + low ≤ room
-room_of room now items low = omega arith
+room_of room now items low = omega (arith, room, now, items, low)
 
 merged_of : (low upper : ℕ) {items count now own all room : ℕ} → items + count ≤ room → now ≡ own → items ≡ own → count ≡ all → low + upper ≡ all →
     now + low + upper ≤ room
-merged_of low upper room now items count both = omega arith
+merged_of low upper room now items count both = omega (arith, room, now, items, count, both)
+
+-- where level 0 begins
+begins_at : {from : ℕ} (bounds : List ℕ) {n : ℕ} → length bounds ≡ n + 1 → 0 < n → from ≡ get_or bounds 1 from → from ≡ get_or bounds 1 0
+begins_at {from} bounds is some from_is = from_is ∙ get_or_default_zero bounds 1 from (some_of is some)
+
+parts_of : {A : Type 0} (n : ℕ) (copy : List A) {xs ys : List A} {low upper len all : ℕ} → low ≡ length xs → xs ≡ drop n copy → upper ≡ length ys →
+    ys ≡ take n copy → len ≡ length copy → len ≡ all →
+    low + upper ≡ all
+parts_of n copy low xs upper ys len all =
+    omega (arith, low, ap length xs, upper, ap length ys, length-append (take n copy) (drop n copy), ap length (take-append-drop n copy), len, all)
+
+pub index-requires : goal.index-requires
+index-requires g c =
+    let x = c.others.inside in
+    some_held x.bounds.ok.0 (length-bounds x.items.items x.bounds.items c.others.invariant.flat) c.others.invariant.some
+
+pub split_off-requires : goal.split_off-requires
+split_off-requires g c =
+    let x = c.others.inside in
+    let flat = c.others.invariant.flat in
+    let from = begins_at x.bounds.items (length-bounds x.items.items x.bounds.items flat) c.others.invariant.some c.index.ensures in
+    within_of from (bound_within x.items.items x.bounds.items flat 1) c.in_ok-upper.ensures.cases.1 x.items.ok.0
 
 pub returns : goal.returns
 returns g c =
     let made = c.in_ok-merged.ensures in
     let same = ap retained (ap₂ levels_in c.reserve_merged.ensures.items c.reserve_merged.ensures.bounds) in
     let n = length-items c.self.inside.items.items c.self.inside.bounds.items c.self.invariant.flat in
+    let x = c.others.inside in
+    let flat = c.others.invariant.flat in
+    let long = length-bounds x.items.items x.bounds.items flat in
+    let from = begins_at x.bounds.items long c.others.invariant.some c.index.ensures in
+    let copy : List g.row.T.Denot = c.in_ok-upper.upper.items in
+    let alike = same_clones g.T.Ord.cmp g.T.Clone.is_clone c.requires.clones x.items.items copy c.in_ok-upper.ensures.cases.0 in
+    let split = cloned g.T.Ord.cmp x.items.items copy x.bounds.items c.in_ok-low.low.items c.split_off.new.self.items flat (some_of long c.others.invariant.some)
+    alike (c.in_ok-low.ensures.tail ∙ ap (λ (n : ℕ). drop n copy) from) (c.in_ok-low.ensures.items ∙ ap (λ (n : ℕ). take n copy) from) in
     record {
       kept = kept_still c.self.view_is c.reserve_merged.ensures.items c.reserve_merged.ensures.bounds;
       ready = record {
         items_room = room_of made.room same n c.len.ensures;
         bounds_room = made.spare;
-        merged_room = merged_of _ _ made.merged same n c.len-count.ensures c.in_ok-low.ensures.len;
+        merged_room = merged_of _ _ made.merged same n c.len-count.ensures
+            (parts_of c.index.result.now copy c.in_ok-low.low.ok.0 c.in_ok-low.ensures.tail c.split_off.new.self.ok.0 c.in_ok-low.ensures.items
+            c.in_ok-upper.upper.ok.0 c.in_ok-upper.ensures.cases.1);
         merged_empty = made.empty;
       };
-      clones = clones_told _ c.others.invariant.flat c.deref.ensures.value (ap (λ (y : Stored g.row.T.Denot). y.levels) c.others.view_is)
-          c.in_ok-low.ensures.same c.in_ok-low.ensures.flat;
+      clones = clones_told _ flat refl (ap (λ (y : Stored g.row.T.Denot). y.levels) c.others.view_is) split.same split.fits;
     }
 
 pub invariant_of-self : goal.invariant_of-self
@@ -44,10 +85,6 @@ invariant_of-self g c = stored_still c.self.invariant c.reserve_merged.ensures.i
 
 pub invariant_of-self-2 : goal.invariant_of-self-2
 invariant_of-self-2 g c = stored_still c.self.invariant c.reserve_merged.ensures.items c.reserve_merged.ensures.bounds
-
-pub clone_levels-requires-clause-flat : goal.clone_levels-requires-clause-flat
-clone_levels-requires-clause-flat g c =
-    subst (λ (bs : List ℕ). IsFlat c.others.inside.items.items bs) (sym c.deref.ensures.value) c.others.invariant.flat
 
 pub returns-in_err-merged : goal.returns-in_err-merged
 returns-in_err-merged g c =
@@ -61,6 +98,12 @@ returns-in_err-merged g c =
 
 pub returns-in_err-low : goal.returns-in_err-low
 returns-in_err-low g c =
+    let r = c.from_residual-in_err-low.result in
+    let err = c.from_residual-in_err-low.ensures.0 in
+    record { kept = record { k_is = refl; flag_is = refl; levels_are = refl }; ready = IfOk-from_err r _ err; clones = IfOk-from_err r _ err }
+
+pub returns-in_err-upper : goal.returns-in_err-upper
+returns-in_err-upper g c =
     let r = c.from_residual.result in
     let err = c.from_residual.ensures.0 in
     record { kept = record { k_is = refl; flag_is = refl; levels_are = refl }; ready = IfOk-from_err r _ err; clones = IfOk-from_err r _ err }
