@@ -1,9 +1,9 @@
 //! General compress: a walk over the levels from 0 up.
-ghost use Rattle.std.specs.Prelude.{◌≡◌, ℕ, ◌+◌, ◌-◌, ◌^◌, ◌<◌, ◌≤◌, length, IsTrue, IsSorted, true, false, ◌⊎◌, vec_capacity, vec_len, if◌then◌else◌};
+ghost use Rattle.std.specs.Prelude.{◌≡◌, ℕ, ◌+◌, ◌-◌, ◌^◌, ◌<◌, ◌≤◌, length, IsTrue, IsSorted, true, false, ◌⊎◌, vec_capacity, vec_len};
 ghost use Rattle.sketch_base.specs.Random.{after_draws};
 ghost use Rattle.sketch_base.specs.Trace.{draws_of};
 ghost use Rattle.sketch_kll.specs.Capacity.{total_of};
-ghost use Rattle.sketch_kll.specs.Compress.{walked, passes, stepped, compress_of, IsCompressed};
+ghost use Rattle.sketch_kll.specs.Compress.{walked, passes, compress_of, IsCompressed};
 ghost use Rattle.sketch_kll.specs.Levels.{retained, weight, first_level, SameLevels, UpperSorted};
 ghost use Rattle.sketch_kll.specs.Steps.{is_full};
 ghost use Rattle.sketch_kll.specs.Stored.{KeepsRoom};
@@ -38,26 +38,6 @@ impl<T: Ord + Drop> Levels<T> {
         !is_at_capacity(self.k, num_levels, level, bounds[level] - bounds[level + 1])
     }
 
-    /// Does one step of the walk, given levels at or over their total capacity.
-    fn compress_level<B: RandomBits>(&mut self, level: usize, coins: &mut B)
-        requires full { is_full self.old.k self.old.levels ≡ true }
-        requires within { level < length self.old.levels }
-        requires few { level < 60 }
-        requires flag { IsTrue self.old.is_sorted → level ≡ 0
-            → IsSorted T.cmp (first_level self.old.levels) }
-        requires spare { length self.old.levels + 1 < self.old.bounds_room }
-        ensures kept { KeepsRoom self.old self.new }
-        ensures levels { SameLevels T.cmp
-            (stepped T.cmp self.old.k self.old.is_sorted (B.bit coins.old) level self.old.levels)
-            self.new.levels }
-        ensures coins { coins.new ≡ (if passes self.old.k self.old.levels level
-            then coins.old else B.next coins.old) }
-    {
-        if !self.level_passes(level) {
-            self.compact(level, coins);
-        }
-    }
-
     /// General compress: compacts, from level 0 up, each level that is at or over its capacity,
     /// until the levels are below their total capacity. The walk continues into a level that is added.
     pub(crate) fn compress<B: RandomBits>(&mut self, coins: &mut B)
@@ -81,7 +61,9 @@ impl<T: Ord + Drop> Levels<T> {
         let _k = self.k;
         let mut level = 0;
         while self.walk_reaches(level) {
-            self.compress_level(level, coins);
+            if !self.level_passes(level) {
+                self.compact(level, coins);
+            }
             level += 1;
         }
     }

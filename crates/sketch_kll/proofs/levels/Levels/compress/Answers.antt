@@ -1,13 +1,17 @@
-use Rattle.std.proofs.Common.{◌≡◌, ℕ, Bool, List, ◌+◌, ◌<◌, ◌≤◌, ◌⊎◌, inl, inr, suc, ◌^◌, length, arith, ap, sym, subst, ◌∙◌, refl, IsTrue, subst₂, le_refl, IsSorted}
+use Rattle.std.proofs.Common.{◌≡◌, ℕ, Bool, List, Ordering, true, false, cond, ◌+◌, ◌<◌, ◌≤◌, ◌⊎◌, inl, inr, suc, ◌^◌, length, arith, ap, sym, subst, ◌∙◌, refl, IsTrue, subst₂, le_refl, IsSorted}
 use Rattle.std.proofs.lemmas.Bool.{cases_eq, leb-true}
 use Rattle.sketch_kll.specs.Capacity.{total_of}
-use Rattle.sketch_kll.specs.Levels.{retained, SameLevels, UpperSorted, first_level}
-use Rattle.sketch_kll.specs.Compress.{stepped, stepped_source}
-use Rattle.sketch_kll.specs.Stored.{Stored}
+use Rattle.std.specs.Cmp.{IsTotalOrder}
+use Rattle.sketch_kll.specs.Levels.{retained, compacted, SameLevels, UpperSorted, first_level}
+use Rattle.sketch_kll.specs.Compress.{passes, stepped, stepped_source}
+use Rattle.sketch_kll.specs.Steps.{needs_sorting}
+use Rattle.sketch_kll.specs.Stored.{KeepsRoom, Stored}
 use Rattle.sketch_kll.proofs.Flats.{SameLevels-refl}
-use Rattle.sketch_kll.proofs.CompressWalks.{behind_start, no_62nd_level, walk_step, walk_more, WalkStep, Behind}
+use Rattle.sketch_kll.proofs.CompressWalks.{behind_start, no_62nd_level, stepped_passed, walk_step, walk_more, WalkStep, Behind}
 use Rattle.sketch_kll.proofs.Compresses.{walk_ended}
 use Rattle.sketch_kll.proofs.levels.Levels.compress.Goals as goal
+use Rattle.sketch_kll.proofs.levels.Levels.compress.Goals.at as past
+use Rattle.sketch_kll.proofs.levels.Levels.compress.Goals.{Joined-not-level_passes, then-not-level_passes, else-not-level_passes}
 
 none_yet : (l : ℕ) {n : ℕ} → n ≡ l → 0 < n → l ≤ 0 → ⊥
 none_yet l same some none = omega (arith, same, some, none)
@@ -33,8 +37,8 @@ loop-self-init g c = record {
   source = refl;
 }
 
-pub compress_level-requires-clause-few : goal.compress_level-requires-clause-few
-compress_level-requires-clause-few g c =
+pub compact-requires-clause-few : goal.compact-requires-clause-few
+compact-requires-clause-few g c =
     let x = c.loop-self.self in
     let i = c.loop-self.invariant in
     let within = c.loop-self-test.ensures.within refl in
@@ -47,14 +51,14 @@ compress_level-requires-clause-few g c =
       | inr e ↦ low_still within few e
     ]
 
-pub compress_level-requires-clause-flag : goal.compress_level-requires-clause-flag
-compress_level-requires-clause-flag g c = λ told first.
+pub compact-requires-clause-flag : goal.compact-requires-clause-flag
+compact-requires-clause-flag g c = λ told first.
     let i = c.loop-self.invariant in
     subst (λ (ls : List (List g.row.T.Denot)). IsSorted g.T.Ord.cmp (first_level ls)) (sym (i.start first))
     (c.requires.flag (subst (λ (f : Bool). IsTrue f) i.kept.flag_is told))
 
-pub compress_level-requires-clause-spare : goal.compress_level-requires-clause-spare
-compress_level-requires-clause-spare g c = spare_of c.loop-self-test.ensures.few c.loop-self.invariant.kept.bounds_room c.requires.spare
+pub compact-requires-clause-spare : goal.compact-requires-clause-spare
+compact-requires-clause-spare g c = spare_of c.loop-self-test.ensures.few c.loop-self.invariant.kept.bounds_room c.requires.spare
 
 more_room : {before now after : ℕ} → before ≤ now → now ≤ after → before ≤ after
 more_room now after = omega arith
@@ -71,12 +75,50 @@ next_few lt few = omega arith
 one_on : (level : ℕ) → level + 1 ≡ suc level
 one_on level = omega arith
 
+-- one step of the walk: it leaves a level as it is, or compacts it
+record HasStepped {A S : Type 0} (cmp : A → A → Ordering) (bit : S → Bool) (next : S → S) (level : ℕ) (x y : Stored A) (coins coins' : S) : Type 0 where
+  kept : KeepsRoom x y
+  levels : SameLevels cmp (stepped cmp x.k x.is_sorted (bit coins) level x.levels) y.levels
+  source : coins' ≡ stepped_source next x.k level coins x.levels
+
+has_stayed : {A S : Type 0} {cmp : A → A → Ordering} → IsTotalOrder cmp → {bit : S → Bool} {next : S → S} {level : ℕ} {x y : Stored A} {coins coins' : S} →
+    passes x.k x.levels level ≡ true → y ≡ x → coins' ≡ coins → HasStepped cmp bit next level x y coins coins'
+has_stayed {A} {S} {cmp} o {bit} {next} {level} {x} {y} {coins} {coins'} stays same drawn =
+    rw (same, drawn) (record {
+      kept = record { k_is = refl; flag_is = refl; items_room = le_refl _; bounds_room = le_refl _ };
+      levels = subst (λ (ls : List (List A)). SameLevels cmp ls x.levels) (sym (stepped_passed cmp x.k x.is_sorted (bit coins) level x.levels (sym stays)))
+          (SameLevels-refl cmp o x.levels);
+      source = ap (λ (b : Bool). cond b coins (next coins)) (sym stays);
+    })
+
+has_compacted : {A S : Type 0} {cmp : A → A → Ordering} {bit : S → Bool} {next : S → S} {level : ℕ} {x y y' : Stored A} {coins coins' next' : S} →
+    passes x.k x.levels level ≡ false → y ≡ y' → coins' ≡ next' → KeepsRoom x y' →
+    SameLevels cmp (compacted cmp (needs_sorting x.is_sorted level) (bit coins) level x.levels) y'.levels → next' ≡ next coins →
+    HasStepped cmp bit next level x y coins coins'
+has_compacted {A} {S} {cmp} {bit} {next} {level} {x} {y} {y'} {coins} moves is drawn kept levels after =
+    rw (is, drawn) (record {
+      kept = kept;
+      levels = subst (λ (p : Bool). SameLevels cmp (cond p x.levels (compacted cmp (needs_sorting x.is_sorted level) (bit coins) level x.levels)) y'.levels)
+          (sym moves) levels;
+      source = after ∙ ap (λ (b : Bool). cond b coins (next coins)) (sym moves);
+    })
+
+has_stepped : (g : _) (c : Joined-not-level_passes g) →
+    HasStepped g.T.Ord.cmp g.B.RandomBits.bit g.B.RandomBits.next c.loop-self.level c.loop-self.self c.if-not-level_passes.self c.loop-self.coins c.if-not-level_passes.coins
+has_stepped g c = elim c.if-not-level_passes.branch [
+  | then-not-level_passes w ↦
+      let e = w.compact.ensures in
+      has_compacted (sym c.level_passes.ensures ∙ w.if-not-level_passes.true) w.self-is w.coins-is e.kept e.levels e.coins
+  | else-not-level_passes w ↦
+      has_stayed g.met.T.Ord.total (sym c.level_passes.ensures ∙ w.if-not-level_passes.false) w.self-is w.coins-is
+]
+
 pub loop-self-preserved : goal.loop-self-preserved
 loop-self-preserved g c =
     let x = c.loop-self.self in
     let i = c.loop-self.invariant in
-    let y = c.compress_level.new.self in
-    let e = c.compress_level.ensures in
+    let y = c.if-not-level_passes.self in
+    let e = has_stepped g (past.loop-self-preserved g c).Joined-not-level_passes in
     let k : ℕ = c.args.self.now.k in
     let flag : Bool = c.args.self.now.is_sorted in
     let ls : List (List g.row.T.Denot) = x.levels in
@@ -87,10 +129,10 @@ loop-self-preserved g c =
     let b : Bool = g.B.RandomBits.bit c.loop-self.coins in
     let levels : SameLevels g.T.Ord.cmp (stepped g.T.Ord.cmp k flag b c.loop-self.level ls) ms =
     subst₂ (λ (n : ℕ) (f : Bool). SameLevels g.T.Ord.cmp (stepped g.T.Ord.cmp n f b c.loop-self.level ls) ms) i.kept.k_is i.kept.flag_is e.levels in
-    let source : c.compress_level.new.coins ≡ stepped_source g.B.RandomBits.next k c.loop-self.level c.loop-self.coins ls =
-    subst (λ (n : ℕ). c.compress_level.new.coins ≡ stepped_source g.B.RandomBits.next n c.loop-self.level c.loop-self.coins ls) i.kept.k_is e.coins in
+    let source : c.if-not-level_passes.coins ≡ stepped_source g.B.RandomBits.next k c.loop-self.level c.loop-self.coins ls =
+    subst (λ (n : ℕ). c.if-not-level_passes.coins ≡ stepped_source g.B.RandomBits.next n c.loop-self.level c.loop-self.coins ls) i.kept.k_is e.source in
     let s : WalkStep k c.loop-self.level ls ms = walk_step g.T.Ord.cmp k c.loop-self.level flag b ls ms above t few i.weighs i.behind levels in
-    let w = walk_more g.T.Ord.cmp g.met.T.Ord.total g.B.RandomBits.bit g.B.RandomBits.next k flag c.loop-self.level c.loop-self.coins c.compress_level.new.coins _ ls ms _
+    let w = walk_more g.T.Ord.cmp g.met.T.Ord.total g.B.RandomBits.bit g.B.RandomBits.next k flag c.loop-self.level c.loop-self.coins c.if-not-level_passes.coins _ ls ms _
     (few_of t few) source levels i.levels i.source in
     let one = one_on c.loop-self.level in
     record {
@@ -135,8 +177,11 @@ returns g c =
       sorted = c.loop-self-test.ensures.sorted;
     }
 
-pub compress_level-requires-clause-within : goal.compress_level-requires-clause-within
-compress_level-requires-clause-within g c = c.loop-self-test.ensures.within refl
+pub level_passes-requires-clause-within : goal.level_passes-requires-clause-within
+level_passes-requires-clause-within g c = c.loop-self-test.ensures.within refl
+
+pub compact-requires-clause-within : goal.compact-requires-clause-within
+compact-requires-clause-within g c = c.loop-self-test.ensures.within refl
 
 pub loop-self-smaller : goal.loop-self-smaller
 loop-self-smaller g c = grind arith
@@ -144,5 +189,5 @@ loop-self-smaller g c = grind arith
 pub overflow_add-level : goal.overflow_add-level
 overflow_add-level g c = grind arith
 
-pub compress_level-requires-clause-full : goal.compress_level-requires-clause-full
-compress_level-requires-clause-full g c = c.loop-self-test.ensures.full refl
+pub level_passes-requires-clause-full : goal.level_passes-requires-clause-full
+level_passes-requires-clause-full g c = c.loop-self-test.ensures.full refl
