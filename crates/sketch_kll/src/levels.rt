@@ -86,8 +86,7 @@ impl<T: Ord + Drop> Levels<T> {
         self.is_level_zero_sorted = false;
         self.items.clear();
         self.bounds.truncate(2);
-        self.bounds[0] = 0;
-        self.bounds[1] = 0;
+        self.bounds.fill(0);
         self.total_capacity = total_capacity(self.k, MINIMUM_CAPACITY, 1);
     }
 
