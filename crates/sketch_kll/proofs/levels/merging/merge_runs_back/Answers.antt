@@ -1,13 +1,12 @@
-use Rattle.std.proofs.Common.{◌≡◌, ℕ, List, ◌+◌, ◌-◌, ◌<◌, ◌≤◌, ◌++◌, suc, length, get_or, take, drop, reverse, sym, ap, ap₂, subst, ◌∙◌, arith, length-append, length-drop, length-take-le, le_refl}
+use Rattle.std.proofs.Common.{◌≡◌, ℕ, List, ◌+◌, ◌-◌, ◌<◌, ◌≤◌, ◌++◌, suc, length, get_or, take, drop, reverse, refl, sym, ap, ap₂, subst, subst₂, ◌∙◌, arith, append_assoc, length-append, length-drop, length-take-le, le_refl, take-append-drop}
 use Rattle.std.proofs.lemmas.List.{length-reverse}
 use Rattle.sketch_base.proofs.Pourings.{reverse_back}
 use Rattle.sketch_kll.specs.Flat.{levels_in}
 use Rattle.sketch_kll.proofs.Flats.{bound_at, bound_within, length-bounds}
-use Rattle.sketch_kll.proofs.JoinedLevels.{AreJoining, IsRunAt, run_at, next_runs, joining_start, joining_more, joining_end, moved_run}
+use Rattle.sketch_kll.proofs.JoinedLevels.{AreJoining, IsRunAt, NextRuns, run_at, next_runs, joining_start, joining_more, joining_end, moved_run}
 use Rattle.sketch_kll.proofs.levels.merging.merge_runs_back.Goals as goal
-
-pub move_back-requires-clause-within : goal.move_back-requires-clause-within
-move_back-requires-clause-within g c = bound_within c.args.items.now.items c.args.bounds.now c.requires.flat 1
+use Rattle.sketch_kll.proofs.levels.merging.merge_runs_back.Goals.at as past
+use Rattle.sketch_kll.proofs.levels.merging.merge_runs_back.Goals.{After-move_back}
 
 -- what is moved back is in both no more and no less
 moved_count : {A : Type 0} (keep : ℕ) (from to : List A) {from' to' : List A} → from' ≡ take keep from → to' ≡ to ++ reverse (drop keep from) →
@@ -24,9 +23,6 @@ moved_count keep from to e f within =
       length-drop keep from,
     )
 
-first_moved : (u to from to' from' : ℕ) → to' + from' ≡ to + from → to ≡ 0 → to' + from' + u ≡ from + u
-first_moved u to from to' from' moved none = omega (arith, moved, none)
-
 some_levels : (l : ℕ) {n runs : ℕ} → n ≡ l + 1 → runs ≤ n → 2 ≤ runs → 0 < l
 some_levels l n fewer some = omega (arith, n, fewer, some)
 
@@ -39,16 +35,40 @@ all_joined u m runs end some = omega (arith, m, runs, end, some)
 one_there : {runs : ℕ} → 2 ≤ runs → 1 ≤ runs
 one_there some = omega (arith, some)
 
-second_there : {runs n : ℕ} → 2 ≤ runs → runs ≤ n → 1 < n
-second_there some fewer = omega (arith, some, fewer)
+there : {level runs n : ℕ} → level < runs - 1 → runs ≤ n → level < n
+there lt fewer = omega (arith, lt, fewer)
 
 next_there : {level runs n : ℕ} → level < runs - 1 → runs ≤ n → level + 1 < n
 next_there lt fewer = omega (arith, lt, fewer)
 
-room_left : (keep right_keep merged items upper own up vto1 vleft1 : ℕ) {vto vleft vright vown vup room room1 : ℕ} →
-    vleft1 + vto1 ≡ vleft + vto + (vright - right_keep) → vleft ≡ items → vto ≡ merged → vright ≡ upper → merged + items + upper ≡ own + up →
-    vown ≡ own → vup ≡ up → vown + vup ≤ room → room1 ≡ room → vto1 + (vleft1 - keep) ≤ room1
-room_left keep right_keep merged items upper own up vto1 vleft1 whole c d e count f h room same = omega (arith, whole, c, d, e, count, f, h, room, same)
+-- what is left to join after the items of a level are moved
+joining : (g : _) (c : After-move_back g) →
+    AreJoining g.T.Ord.cmp (c.loop-level.level - 1) (levels_in c.args.items.now.items c.args.bounds.now) (levels_in c.args.upper.now.items (drop 1 c.args.other_bounds.now))
+    c.move_back.new.from.items c.loop-level.upper.items c.move_back.new.to.items
+joining g c =
+    subst₂
+    (λ (xs ys : List g.row.T.Denot).
+    AreJoining g.T.Ord.cmp (c.loop-level.level - 1) (levels_in c.args.items.now.items c.args.bounds.now) (levels_in c.args.upper.now.items (drop 1 c.args.other_bounds.now))
+    xs c.loop-level.upper.items ys) (sym c.move_back.ensures.from) (sym c.move_back.ensures.to) c.loop-level.invariant.joining
+
+-- the next runs
+runs : (g : _) (c : After-move_back g) →
+    NextRuns g.T.Ord.cmp (c.loop-level.level - 1) (levels_in c.args.items.now.items c.args.bounds.now)
+    (levels_in c.args.upper.now.items (drop 1 c.args.other_bounds.now)) c.move_back.new.from.items c.loop-level.upper.items
+    (get_or c.args.bounds.now (c.loop-level.level + 1) 0) (get_or c.args.other_bounds.now (c.loop-level.level + 1) 0)
+runs g c =
+    next_runs c.loop-level.level c.args.other_bounds.now c.requires.flat c.requires.upper c.requires.sorted c.requires.upper_sorted
+    c.loop-level.invariant.within (joining g c)
+
+-- how many items there are then
+counted : (g : _) (c : After-move_back g) →
+    length c.move_back.new.to.items + length c.move_back.new.from.items ≡ length c.loop-level.merged.items + length c.loop-level.items.items
+counted g c =
+    moved_count (get_or c.args.bounds.now c.loop-level.level 0) c.loop-level.items.items c.loop-level.merged.items c.move_back.ensures.from
+    c.move_back.ensures.to c.loop-level.invariant.below
+
+none_moved : (own up : ℕ) {to : ℕ} → to ≡ 0 → to + own + up ≡ own + up
+none_moved own up none = omega (arith, none)
 
 pub loop-level-init : goal.loop-level-init
 loop-level-init g c =
@@ -57,74 +77,76 @@ loop-level-init g c =
     let b : ℕ = get_or c.args.bounds.now 1 0 in
     let first : List g.row.T.Denot = drop b c.args.items.now.items in
     let r : IsRunAt 0 ls c.args.items.now.items b = run_at 0 ls c.args.items.now.items b (sym c.requires.flat.items_are) (bound_at c.args.items.now.items c.args.bounds.now c.requires.flat 1) in
-    let e = c.move_back.ensures in
     record {
       within = le_refl 1;
-      count = first_moved _ _ _ _ _ (moved_count b c.args.items.now.items c.args.merged.now.items e.from e.to r.within) (ap length c.requires.empty);
-      capacity = e.to_capacity;
-      joining = joining_start g.met.T.Ord.total (some_levels _ n c.requires.fewer c.requires.some) (e.from ∙ r.rest) (sym c.requires.upper.items_are)
-          (ap reverse e.to ∙ (reverse_back c.args.merged.now.items first ∙ ap₂ (λ (x y : List g.row.T.Denot). x ++ y) r.run (ap reverse c.requires.empty)));
+      below = bound_within c.args.items.now.items c.args.bounds.now c.requires.flat 1;
+      count = none_moved _ _ (ap length c.requires.empty);
+      capacity = refl;
+      joining = joining_start g.met.T.Ord.total (some_levels _ n c.requires.fewer c.requires.some) r.rest (sym c.requires.upper.items_are)
+          (reverse_back c.args.merged.now.items first ∙ ap₂ (λ (x y : List g.row.T.Denot). x ++ y) r.run (ap reverse c.requires.empty));
     }
 
+room_of : (to left keep upper own up : ℕ) {vto vleft vown vup room room1 : ℕ} → to + left + upper ≡ own + up → vto ≡ to → vleft ≡ left → vown ≡ own →
+    vup ≡ up → vown + vup ≤ room → room1 ≡ room → vto + (vleft - keep) ≤ room1
+room_of to left keep upper own up count v w y z room same = omega (arith, count, v, w, y, z, room, same)
+
+room_for : (to left upper keep upper_keep own up to0 left0 : ℕ) {vto vleft vupper vown vup room room0 room1 : ℕ} → to + left ≡ to0 + left0 →
+    to0 + left0 + upper ≡ own + up → vto ≡ to → vleft ≡ left → vupper ≡ upper → vown ≡ own → vup ≡ up → vown + vup ≤ room → room0 ≡ room → room1 ≡ room0 →
+    vto + (vleft - keep) + (vupper - upper_keep) ≤ room1
+room_for to left upper keep upper_keep own up to0 left0 moved count v w x y z room same still =
+    omega (arith, moved, count, v, w, x, y, z, room, same, still)
+
+pub move_back-requires-clause-within : goal.move_back-requires-clause-within
+move_back-requires-clause-within g c = c.loop-level.invariant.below
+
+pub move_back-requires-clause-room : goal.move_back-requires-clause-room
+move_back-requires-clause-room g c =
+    room_of _ _ _ _ _ _ c.loop-level.invariant.count c.loop-level.merged.ok.0 c.loop-level.items.ok.0 c.args.items.now.ok.0 c.args.upper.now.ok.0 c.requires.room
+    c.loop-level.invariant.capacity
+
+pub move_back-requires-2-clause-room : goal.move_back-requires-2-clause-room
+move_back-requires-2-clause-room g c =
+    room_of _ _ _ _ _ _ c.loop-level.invariant.count c.loop-level.merged.ok.0 c.loop-level.items.ok.0 c.args.items.now.ok.0 c.args.upper.now.ok.0 c.requires.room
+    c.loop-level.invariant.capacity
+
 pub merge_from_back-requires-clause-left : goal.merge_from_back-requires-clause-left
-merge_from_back-requires-clause-left g c =
-    let r = next_runs c.loop-level.level c.args.other_bounds.now c.requires.flat c.requires.upper c.requires.sorted c.requires.upper_sorted
-    c.loop-level.invariant.within
-    c.loop-level.invariant.joining in
-    r.left_at.within
+merge_from_back-requires-clause-left g c = (runs g (past.merge_from_back-requires-clause-left g c).After-move_back).left_at.within
 
 pub merge_from_back-requires-clause-right : goal.merge_from_back-requires-clause-right
-merge_from_back-requires-clause-right g c =
-    let r = next_runs c.loop-level.level c.args.other_bounds.now c.requires.flat c.requires.upper c.requires.sorted c.requires.upper_sorted
-    c.loop-level.invariant.within
-    c.loop-level.invariant.joining in
-    r.right_at.within
+merge_from_back-requires-clause-right g c = (runs g (past.merge_from_back-requires-clause-right g c).After-move_back).right_at.within
 
 pub merge_from_back-requires-clause-left_sorted : goal.merge_from_back-requires-clause-left_sorted
-merge_from_back-requires-clause-left_sorted g c =
-    let r = next_runs c.loop-level.level c.args.other_bounds.now c.requires.flat c.requires.upper c.requires.sorted c.requires.upper_sorted
-    c.loop-level.invariant.within
-    c.loop-level.invariant.joining in
-    r.left_sorted
+merge_from_back-requires-clause-left_sorted g c = (runs g (past.merge_from_back-requires-clause-left_sorted g c).After-move_back).left_sorted
 
 pub merge_from_back-requires-clause-right_sorted : goal.merge_from_back-requires-clause-right_sorted
-merge_from_back-requires-clause-right_sorted g c =
-    let r = next_runs c.loop-level.level c.args.other_bounds.now c.requires.flat c.requires.upper c.requires.sorted c.requires.upper_sorted
-    c.loop-level.invariant.within
-    c.loop-level.invariant.joining in
-    r.right_sorted
-
-room_of : (to left right keep right_keep own upper : ℕ) {vto vleft vright vown vupper room room1 : ℕ} → to + left + right ≡ own + upper → vto ≡ to →
-    vleft ≡ left → vright ≡ right →
-    vown ≡ own → vupper ≡ upper → vown + vupper ≤ room → room1 ≡ room → vto + (vleft - keep) + (vright - right_keep) ≤ room1
-room_of to left right keep right_keep own upper count v w x y z room same = omega arith
+merge_from_back-requires-clause-right_sorted g c = (runs g (past.merge_from_back-requires-clause-right_sorted g c).After-move_back).right_sorted
 
 pub merge_from_back-requires-clause-room : goal.merge_from_back-requires-clause-room
 merge_from_back-requires-clause-room g c =
-    room_of _ _ _ _ _ _ _ c.loop-level.invariant.count c.loop-level.merged.ok.0 c.loop-level.items.ok.0 c.loop-level.upper.ok.0 c.args.items.now.ok.0
-    c.args.upper.now.ok.0 c.requires.room
-    c.loop-level.invariant.capacity
+    room_for _ _ _ _ _ _ _ _ _ (counted g (past.merge_from_back-requires-clause-room g c).After-move_back) c.loop-level.invariant.count
+    c.move_back.new.to.ok.0 c.move_back.new.from.ok.0 c.loop-level.upper.ok.0 c.args.items.now.ok.0 c.args.upper.now.ok.0 c.requires.room
+    c.loop-level.invariant.capacity c.move_back.ensures.to_capacity
 
 lower_of : (ls : ℕ) {level runs bounds : ℕ} → level < runs - 1 → bounds ≡ ls + 1 → runs ≤ bounds → 1 ≤ level → suc (level - 1) < ls
-lower_of ls lt n fewer some = omega arith
+lower_of ls lt n fewer some = omega (arith, lt, n, fewer, some)
 
 upper_of : (us runs : ℕ) {level uppers : ℕ} → level < runs - 1 → uppers ≡ us + 1 → uppers ≡ runs - 1 → 1 ≤ level → level - 1 < us
-upper_of us runs lt n m some = omega arith
+upper_of us runs lt n m some = omega (arith, lt, n, m, some)
 
-count_of : (to left right keep to1 left1 to2 left2 : ℕ) {all vto vleft vright vto1 vleft1 right1 : ℕ} → to + left + right ≡ all →
-    vleft1 + vto1 ≡ vleft + vto + (vright - keep) →
-    vleft ≡ left → vto ≡ to → vright ≡ right → vleft1 ≡ left1 → vto1 ≡ to1 → right1 ≡ keep → keep ≤ right → to2 + left2 ≡ to1 + left1 →
-    to2 + left2 + right1 ≡ all
-count_of to left right keep to1 left1 to2 left2 count whole v w x y z kept within moved = omega arith
+count_of : (to0 left0 to left right keep to1 left1 : ℕ) {all vto vleft vright vto1 vleft1 right1 : ℕ} → to0 + left0 + right ≡ all → to + left ≡ to0 + left0 →
+    vleft1 + vto1 ≡ vleft + vto + (vright - keep) → vleft ≡ left → vto ≡ to → vright ≡ right → vleft1 ≡ left1 → vto1 ≡ to1 → right1 ≡ keep → keep ≤ right →
+    to1 + left1 + right1 ≡ all
+count_of to0 left0 to left right keep to1 left1 count moved whole v w x y z kept within = omega (arith, count, moved, whole, v, w, x, y, z, kept, within)
 
 within_of : (level : ℕ) → 1 ≤ level + 1
 within_of level = omega arith
 
 one_of : (level : ℕ) → 1 ≤ level → suc (level - 1) ≡ level + 1 - 1
-one_of level some = omega arith
+one_of level some = omega (arith, some)
 
 pub loop-level-preserved : goal.loop-level-preserved
 loop-level-preserved g c =
+    let at = (past.loop-level-preserved g c).After-move_back in
     let i = c.loop-level.invariant in
     let ls : List (List g.row.T.Denot) = levels_in c.args.items.now.items c.args.bounds.now in
     let us : List (List g.row.T.Denot) = levels_in c.args.upper.now.items (drop 1 c.args.other_bounds.now) in
@@ -132,26 +154,31 @@ loop-level-preserved g c =
     let m = length-bounds c.args.upper.now.items (drop 1 c.args.other_bounds.now) c.requires.upper in
     let d = length-drop 1 c.args.other_bounds.now in
     let e = c.merge_from_back.ensures in
-    let f = c.move_back-in-loop-level.ensures in
-    let moved = c.move_back-in-loop-level.new in
     let kl : ℕ = get_or c.args.bounds.now (c.loop-level.level + 1) 0 in
     let kr : ℕ = get_or c.args.other_bounds.now (c.loop-level.level + 1) 0 in
     let left : List g.row.T.Denot = c.merge_from_back.new.left.items in
     let to : List g.row.T.Denot = c.merge_from_back.new.to.items in
-    let rest : List g.row.T.Denot = drop kl left in
-    let r = next_runs c.loop-level.level c.args.other_bounds.now c.requires.flat c.requires.upper c.requires.sorted c.requires.upper_sorted i.within i.joining in
+    let r = runs g at in
     record {
       within = within_of c.loop-level.level;
-      count = count_of _ _ _ _ _ _ _ _ i.count e.whole c.loop-level.items.ok.0 c.loop-level.merged.ok.0 c.loop-level.upper.ok.0 c.merge_from_back.new.left.ok.0
-          c.merge_from_back.new.to.ok.0 (ap length e.right ∙ length-take-le kr c.loop-level.upper.items r.right_at.within) r.right_at.within
-          (moved_count kl left to f.from f.to e.left_within);
-      capacity = f.to_capacity ∙ (e.to_capacity ∙ i.capacity);
-      joining = subst (λ (j : ℕ). AreJoining g.T.Ord.cmp j ls us moved.from.items c.merge_from_back.new.right.items moved.to.items)
+      below = e.left_within;
+      count = count_of _ _ _ _ _ _ _ _ i.count (counted g at) e.whole c.move_back.new.from.ok.0 c.move_back.new.to.ok.0 c.loop-level.upper.ok.0
+          c.merge_from_back.new.left.ok.0 c.merge_from_back.new.to.ok.0 (ap length e.right ∙ length-take-le kr c.loop-level.upper.items r.right_at.within)
+          r.right_at.within;
+      capacity = e.to_capacity ∙ (c.move_back.ensures.to_capacity ∙ i.capacity);
+      joining = subst (λ (j : ℕ). AreJoining g.T.Ord.cmp j ls us (take kl left) c.merge_from_back.new.right.items (to ++ reverse (drop kl left)))
           (one_of c.loop-level.level i.within)
           (joining_more g.met.T.Ord.total (lower_of _ c.loop-level-test.true n c.requires.fewer i.within) (upper_of _ _ c.loop-level-test.true m d i.within)
-          (f.from ∙ (e.left ∙ r.left_at.rest)) (e.right ∙ r.right_at.rest)
-          (moved_run c.loop-level.merged.items to moved.to.items rest e.to f.to) r.left_at.run r.right_at.run e.moved e.sorted i.joining);
+          (e.left ∙ r.left_at.rest) (e.right ∙ r.right_at.rest)
+          (moved_run c.move_back.new.to.items to (to ++ reverse (drop kl left)) (drop kl left) e.to refl) r.left_at.run r.right_at.run e.moved e.sorted (joining g at));
     }
+
+-- all that is left is moved at once
+last_moved : {A : Type 0} (b : ℕ) (items merged : List A) {all : List A} → all ≡ merged ++ reverse items →
+    reverse all ≡ take b items ++ reverse (merged ++ reverse (drop b items))
+last_moved b items merged all_is =
+    ap reverse all_is ∙ (reverse_back merged items ∙ (ap (λ xs. xs ++ reverse merged) (sym (take-append-drop b items))
+    ∙ (append_assoc (take b items) (drop b items) (reverse merged) ∙ ap (λ xs. take b items ++ xs) (sym (reverse_back merged (drop b items))))))
 
 pub returns : goal.returns
 returns g c =
@@ -162,32 +189,29 @@ returns g c =
     let r = joining_end c.move_back-2.new.to.items c.args.other_bounds.now (all_joined _ m d c.loop-level-test.false c.requires.some)
     (some_levels _ n c.requires.fewer c.requires.some) (fewer_levels _ _ n m d c.requires.fewer c.requires.some) c.requires.sorted c.requires.flat.bounds_are
     (sym c.requires.upper.bounds_are)
-    (ap reverse c.move_back-2.ensures.to ∙ reverse_back c.loop-level.merged.items c.loop-level.items.items) i.joining in
+    (last_moved (get_or c.args.bounds.now c.loop-level.level 0) c.loop-level.items.items c.loop-level.merged.items c.move_back-2.ensures.to) i.joining in
     record { flat = r.fits; levels = r.same; sorted = r.sorted }
-
-pub move_back-requires-clause-room : goal.move_back-requires-clause-room
-move_back-requires-clause-room g c = grind arith
-
-pub move_back-requires-2-clause-room : goal.move_back-requires-2-clause-room
-move_back-requires-2-clause-room g c = grind arith
-
-pub move_back-requires-in-loop-level-clause-within : goal.move_back-requires-in-loop-level-clause-within
-move_back-requires-in-loop-level-clause-within g c = c.merge_from_back.ensures.left_within
 
 pub overflow_sub-level-end : goal.overflow_sub-level-end
 overflow_sub-level-end g c = one_there c.requires.some
 
-pub bounds-bounds-1 : goal.bounds-bounds-1
-bounds-bounds-1 g c = second_there c.requires.some c.requires.fewer
-
 pub bounds-bounds-level : goal.bounds-bounds-level
-bounds-bounds-level g c = next_there c.loop-level-test.true c.requires.fewer
+bounds-bounds-level g c = there c.loop-level-test.true c.requires.fewer
+
+pub bounds-bounds-level-in-loop-level : goal.bounds-bounds-level-in-loop-level
+bounds-bounds-level-in-loop-level g c = next_there c.loop-level-test.true c.requires.fewer
 
 pub bounds-other_bounds-level : goal.bounds-other_bounds-level
 bounds-other_bounds-level g c = next_there c.loop-level-test.true (le_refl _)
 
-pub move_back-requires-in-loop-level-clause-room : goal.move_back-requires-in-loop-level-clause-room
-move_back-requires-in-loop-level-clause-room g c =
-    room_left _ _ _ _ _ _ _ _ _ c.merge_from_back.ensures.whole c.loop-level.items.ok.0 c.loop-level.merged.ok.0
-    c.loop-level.upper.ok.0 c.loop-level.invariant.count c.args.items.now.ok.0 c.args.upper.now.ok.0 c.requires.room
-    (c.merge_from_back.ensures.to_capacity ∙ c.loop-level.invariant.capacity)
+pub overflow_add-level : goal.overflow_add-level
+overflow_add-level g c = grind arith
+
+pub overflow_add-level-in-loop-level : goal.overflow_add-level-in-loop-level
+overflow_add-level-in-loop-level g c = grind arith
+
+pub offset_bounds-bounds-level-in-loop-level : goal.offset_bounds-bounds-level-in-loop-level
+offset_bounds-bounds-level-in-loop-level g c = grind arith
+
+pub offset_bounds-other_bounds-level : goal.offset_bounds-other_bounds-level
+offset_bounds-other_bounds-level g c = grind arith
