@@ -1,14 +1,13 @@
 //! Levels that take items one after another.
-ghost use Rattle.std.specs.Prelude.{◌≡◌, ◌+◌, ◌<◌, ◌≤◌, ◌++◌, ◌^◌, drop, length, max, min, reverse, take, vec_len, false, IsSorted, IsTrue, IfOk, OnOk};
+ghost use Rattle.std.specs.Prelude.{◌≡◌, ◌+◌, ◌<◌, ◌≤◌, ◌++◌, ◌^◌, length, min, reverse, take, vec_len, false, IsSorted, IsTrue, IfOk, OnOk};
 ghost use Rattle.std.specs.declared.cmp.Ordering.TheVariants.{Equal};
 ghost use Rattle.std.specs.Option.{option_to_list};
 ghost use Rattle.sketch_base.specs.Bag.{SameItems};
 ghost use Rattle.sketch_base.specs.Extremes.{IsGreatestOf, IsLeastOf, newer_or};
 ghost use Rattle.sketch_kll.specs.Capacity.{total_of};
 ghost use Rattle.sketch_kll.specs.Levels.{retained, weight, first_level, UpperSorted};
-ghost use Rattle.sketch_kll.specs.Steps.{put_all};
 ghost use Rattle.sketch_kll.specs.Stored.{KeepsLevels};
-ghost use Rattle.sketch_kll.specs.Take.{AreKept, HaveSpace, HaveTaken, IsReadyAt, left_over};
+ghost use Rattle.sketch_kll.specs.Take.{AreKept, HaveSpace, HaveTaken, IsReadyAt};
 
 use super::{Levels, MAX_BOUNDS};
 use crate::capacity::{MAX_LEVELS, MINIMUM_CAPACITY, total_capacity};
@@ -56,7 +55,9 @@ impl<T: Ord + Drop> Levels<T> {
             taken = items.len().min(self.free());
         }
         if taken > 0 {
-            self.fill(&mut items);
+            move_back(&mut items, 0, &mut self.items);
+            self.bounds[0] = self.items.len();
+            self.is_level_zero_sorted = false;
         }
     }
 
@@ -113,26 +114,6 @@ impl<T: Ord + Drop> Levels<T> {
         let is_sorted = move_last(items, count, &mut self.items);
         self.bounds[0] = self.items.len();
         self.is_level_zero_sorted = is_sorted && len == 0;
-    }
-
-    /// Appends as many items to level 0 as the total capacity has room for, last item first.
-    fn fill(&mut self, items: &mut Vec<T>)
-        requires room { min (retained self.old.levels + vec_len items.old)
-            (max (retained self.old.levels) (total_of self.old.k 8 (length self.old.levels)))
-            ≤ self.old.items_room }
-        ensures k { self.new.k ≡ self.old.k }
-        ensures flag { self.new.is_sorted ≡ false }
-        ensures levels { self.new.levels ≡ put_all
-            (reverse (drop (left_over self.old items.old.items) items.old.items)) self.old.levels }
-        ensures items { items.new.items
-            ≡ take (left_over self.old items.old.items) items.old.items }
-        ensures room { self.new.items_room ≡ self.old.items_room }
-        ensures bounds_room { self.new.bounds_room ≡ self.old.bounds_room }
-    {
-        let keep = items.len().saturating_sub(self.free());
-        move_back(items, keep, &mut self.items);
-        self.bounds[0] = self.items.len();
-        self.is_level_zero_sorted = false;
     }
 }
 

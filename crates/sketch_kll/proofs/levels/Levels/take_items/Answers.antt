@@ -1,12 +1,15 @@
-use Rattle.std.proofs.Common.{◌≡◌, ℕ, ◌+◌, ◌-◌, ◌^◌, ◌<◌, ◌≤◌, min, max, ◌&&◌, ◌==◌, Bool, List, length, reverse, take, drop, refl, sym, ap, ◌∙◌, subst, arith, length-append, length-drop, length-take-le, le_trans}
+use Rattle.std.proofs.Common.{◌≡◌, ℕ, ◌+◌, ◌-◌, ◌^◌, ◌<◌, ◌≤◌, min, ◌&&◌, ◌==◌, Bool, List, length, reverse, take, drop, set, false, refl, sym, ap, ◌∙◌, subst, subst₂, arith, length-append, length-take-le, le_trans}
 use Rattle.std.proofs.lemmas.Bool.{and_right, ne_eqb}
 use Rattle.std.proofs.lemmas.List.{length-reverse}
-use Rattle.sketch_kll.specs.Capacity.{total_of}
+use Rattle.sketch_kll.specs.Flat.{levels_in}
 use Rattle.sketch_kll.specs.Levels.{retained}
 use Rattle.sketch_kll.specs.Steps.{put_all}
-use Rattle.sketch_kll.specs.Take.{HaveTaken, left_over, with_last}
+use Rattle.sketch_kll.specs.Stored.{Stored}
+use Rattle.sketch_kll.specs.Take.{HaveTaken, with_last}
+use Rattle.sketch_kll.proofs.Flats.{length-bounds, length-items}
 use Rattle.sketch_kll.proofs.NoMoreLevels.{total_up_to}
 use Rattle.sketch_kll.proofs.PutItems.{length-put, retained-put, weight-put}
+use Rattle.sketch_kll.proofs.StoredLevels.{put_stored}
 use Rattle.sketch_kll.proofs.TakenLevels.{GoesOn, flag_alone, length-last, taking_ends, taking_goes_on, taking_starts}
 use Rattle.sketch_kll.proofs.Takes.{taken_all, taking_from}
 use Rattle.sketch_kll.proofs.levels.Levels.take_items.Goals as goal
@@ -39,21 +42,14 @@ held g c = retained-put (put g c) c.loop-taken.self.levels ∙ ap (λ (n : ℕ).
 count : (g : _) (c : After-len g) → length (put_all (put g c) c.loop-taken.self.levels) ≡ length c.loop-taken.self.levels
 count g c = length-put (put g c) c.loop-taken.self.levels c.loop-taken.invariant.some
 
-filled_len : (held put n items start : ℕ) {now len all v : ℕ} → now ≡ held + put → put ≡ len → len ≡ items - n → held + items ≤ start + all → v ≡ all →
-    now ≤ start + v
-filled_len held put n items start now put_is len part v = omega (arith, now, put_is, len, part, v)
+filled_len : (held items start : ℕ) {now put all v : ℕ} → now ≡ held + put → put ≡ items → held + items ≤ start + all → v ≡ all → now ≤ start + v
+filled_len held items start now put part v = omega (arith, now, put, part, v)
 
 shorter_len : (held items start : ℕ) {all v : ℕ} → held + items ≤ start + all → v ≡ all → held ≤ start + v
 shorter_len held items start part v = omega (arith, part, v)
 
 within_taken : {r v n taken : ℕ} → r ≡ v → v ≡ n → r ≤ taken → n ≤ taken
 within_taken r v within = omega (arith, r, v, within)
-
-over_is : (now total taken items : ℕ) → items ≤ taken → taken ≤ items → now + taken ≤ total → items - (total - now) ≡ items - taken
-over_is now total taken items none within room = omega (arith, none, within, room)
-
-room_all : (now taken : ℕ) {all most more own : ℕ} → all ≡ now + taken → all ≤ most → most ≡ more → own ≡ more → now + taken ≤ own
-room_all now taken held within same own = omega (arith, held, within, same, own)
 
 not_none : {n : ℕ} → 0 < n → n ≡ 0 → ⊥
 not_none some none = omega (arith, some, none)
@@ -148,18 +144,29 @@ all_taken g c h =
     c.args.self.now.levels c.args.items.items rest (with_last c.loop-taken.taken c.loop-taken.items.items c.loop-taken.self.levels) c.loop-taken.invariant.taking
     (omega (arith, h, length-take-le (length c.loop-taken.items.items - c.loop-taken.taken) c.loop-taken.items.items (omega arith)))
 
--- and there is room for them
-room_for_all : (g : _) (c : After-len g) → retained c.loop-taken.self.levels + c.loop-taken.taken ≤ total_of c.loop-taken.self.k 8 (length c.loop-taken.self.levels)
-room_for_all g c =
-    let i = c.loop-taken.invariant in
-    room_all _ _ (held g c) i.taking.taking.taken.kept.within (ap (total_of c.args.self.now.k 8) (count g c))
-    (ap (λ (k : ℕ). total_of k 8 (length c.loop-taken.self.levels)) i.k)
+fits_in : (now : ℕ) {own held taken len read room most : ℕ} → own ≡ held → held ≡ now → read ≡ len → read ≤ taken → now + taken ≤ room → most ≡ room → own + (len - 0) ≤ most
+fits_in now own held len few room most = omega (arith, own, held, len, few, room, most)
 
-fill_of : (now cap : ℕ) {v len taken room : ℕ} → len ≤ taken → len ≡ v → now + taken ≤ room → min (now + v) (max now cap) ≤ room
-fill_of now cap few v room = omega arith
+pub move_back-requires-clause-room : goal.move_back-requires-clause-room
+move_back-requires-clause-room g c =
+    fits_in (retained c.loop-taken.self.levels)
+    (c.self.inside.items.ok.0 ∙ length-items c.self.inside.items.items c.self.inside.bounds.items c.self.invariant.flat)
+    (ap (λ (y : Stored g.row.T.Denot). retained y.levels) c.self.view_is) c.len.ensures c.loop-taken-test.false
+    (room_there g (past.move_back-requires-clause-room g c).After-len) (ap (λ (y : Stored g.row.T.Denot). y.items_room) c.self.view_is)
 
-pub fill-requires : goal.fill-requires
-fill-requires g c = record { room = fill_of _ _ c.loop-taken-test.false c.len.ensures (room_there g (past.fill-requires g c).After-len) }
+some_held : (l : ℕ) {own len : ℕ} → own ≡ len → len ≡ l + 1 → 0 < own
+some_held l own len = omega (arith, own, len)
+
+pub index_mut-requires : goal.index_mut-requires
+index_mut-requires g c =
+    some_held _ c.self.inside.bounds.ok.0 (length-bounds c.self.inside.items.items c.self.inside.bounds.items c.self.invariant.flat)
+
+pub invariant_of-self : goal.invariant_of-self
+invariant_of-self g c =
+    (put_stored (reverse c.loop-taken.items.items) c.self.invariant c.move_back.ensures.to (c.len-then-taken-gt0.ensures ∙ c.move_back.new.to.ok.0)).0
+
+none_left : {n taken : ℕ} → n ≤ taken → n - taken ≡ 0
+none_left none = omega (arith, none)
 
 pub returns-then-taken-gt0 : goal.returns-then-taken-gt0
 returns-then-taken-gt0 g c =
@@ -167,24 +174,24 @@ returns-then-taken-gt0 g c =
     let i = c.loop-taken.invariant in
     let items : List g.row.T.Denot = c.loop-taken.items.items in
     let none : length items ≤ c.loop-taken.taken = within_taken c.len.ensures c.loop-taken.items.ok.0 c.loop-taken-test.false in
-    let over : left_over c.loop-taken.self items ≡ length items - c.loop-taken.taken = over_is _ _ _ _ none i.within (room_for_all g before) in
-    let levels : with_last c.loop-taken.taken items c.loop-taken.self.levels ≡ c.fill.new.self.levels =
-    ap (λ (n : ℕ). put_all (reverse (drop n items)) c.loop-taken.self.levels) (sym over) ∙ sym c.fill.ensures.levels in
-    let flag : (c.loop-taken.self.is_sorted && c.loop-taken.taken == 0) ≡ c.fill.new.self.is_sorted =
-    and_right c.loop-taken.self.is_sorted (c.loop-taken.taken == 0) (ne_eqb c.loop-taken.taken 0 (not_none c.if-taken-gt0.true)) ∙ sym c.fill.ensures.flag in
-    let n : ℕ = left_over c.loop-taken.self items in
+    let own : levels_in c.self.inside.items.items c.self.inside.bounds.items ≡ c.loop-taken.self.levels = ap (λ (y : Stored g.row.T.Denot). y.levels) c.self.view_is in
+    let put : levels_in c.move_back.new.to.items (set c.self.inside.bounds.items 0 c.len-then-taken-gt0.result)
+    ≡ put_all (reverse items) (levels_in c.self.inside.items.items c.self.inside.bounds.items) =
+    (put_stored (reverse items) c.self.invariant c.move_back.ensures.to (c.len-then-taken-gt0.ensures ∙ c.move_back.new.to.ok.0)).1 in
+    let filled : levels_in c.move_back.new.to.items (set c.self.inside.bounds.items 0 c.len-then-taken-gt0.result) ≡ put_all (reverse items) c.loop-taken.self.levels =
+    put ∙ ap (put_all (reverse items)) own in
+    let levels : with_last c.loop-taken.taken items c.loop-taken.self.levels ≡ levels_in c.move_back.new.to.items (set c.self.inside.bounds.items 0 c.len-then-taken-gt0.result) =
+    ap (λ (n : ℕ). put_all (reverse (drop n items)) c.loop-taken.self.levels) (none_left none) ∙ sym filled in
+    let flag : (c.loop-taken.self.is_sorted && c.loop-taken.taken == 0) ≡ false =
+    and_right c.loop-taken.self.is_sorted (c.loop-taken.taken == 0) (ne_eqb c.loop-taken.taken 0 (not_none c.if-taken-gt0.true)) in
     record {
-      k = c.fill.ensures.k ∙ i.k;
-      taken = subst (λ (now : Bool). HaveTaken g.T.Ord.cmp g.B.RandomBits.bit g.B.RandomBits.next c.args.coins.now c.loop-taken.coins c.args.self.now.k
-          c.args.self.now.is_sorted now c.args.self.now.levels
-          c.args.items.items c.fill.new.self.levels) flag
-          (subst (λ (ms : List (List g.row.T.Denot)). HaveTaken g.T.Ord.cmp g.B.RandomBits.bit g.B.RandomBits.next c.args.coins.now c.loop-taken.coins
-          c.args.self.now.k c.args.self.now.is_sorted
-          (c.loop-taken.self.is_sorted && c.loop-taken.taken == 0) c.args.self.now.levels c.args.items.items ms) levels (all_taken g before none));
-      len = filled_len (retained c.loop-taken.self.levels) (length (reverse (drop n items))) n _ _
-          (ap retained c.fill.ensures.levels ∙ retained-put (reverse (drop n items)) c.loop-taken.self.levels)
-          (length-reverse (drop n items)) (length-drop n items) i.len c.args.items.ok.0;
-      spare = subst (λ (room : ℕ). 63 ≤ room) (sym c.fill.ensures.bounds_room) i.spare;
+      k = ap (λ (y : Stored g.row.T.Denot). y.k) c.self.view_is ∙ i.k;
+      taken = subst₂ (λ (now : Bool) (ms : List (List g.row.T.Denot)). HaveTaken g.T.Ord.cmp g.B.RandomBits.bit g.B.RandomBits.next c.args.coins.now
+          c.loop-taken.coins c.args.self.now.k c.args.self.now.is_sorted now c.args.self.now.levels c.args.items.items ms) flag levels (all_taken g before none);
+      len = filled_len (retained c.loop-taken.self.levels) _ _
+          (ap retained filled ∙ retained-put (reverse items) c.loop-taken.self.levels) (length-reverse items) i.len
+          c.args.items.ok.0;
+      spare = subst (λ (room : ℕ). 63 ≤ room) (sym (ap (λ (y : Stored g.row.T.Denot). y.bounds_room) c.self.view_is)) i.spare;
     }
 
 pub returns : goal.returns
