@@ -2,7 +2,6 @@
 //! What a compaction does to a slice is in `compaction`, merges are in `levels::merging`.
 ghost use Rattle.std.specs.Prelude.{◌≡◌, ℕ, ◌+◌, ◌-◌, ◌*◌, ◌/◌, ◌^◌, ◌<◌, ◌≤◌, [], ◌∷◌, length, map, max, IfOk, OnOk, vec_capacity, if◌then◌else◌, drop, true, false, IsSorted, IsTrue, nat_le};
 ghost use Rattle.std.specs.declared.cmp.Ordering.TheVariants.{Equal};
-ghost use Rattle.std.specs.List.{between};
 ghost use Rattle.sketch_base.specs.Query.{counted};
 ghost use Rattle.sketch_kll.specs.Capacity.{capacity_at, total_of};
 ghost use Rattle.sketch_kll.specs.Flat.{levels_in, IsFlat};
@@ -229,15 +228,7 @@ pub(crate) fn level_slice<'a, T>(items: &'a [T], bounds: &[usize], level: usize)
     requires within { level + 1 < length bounds.now }
     ensures { result.now ≡ first_level (drop level (levels_in items.now bounds.now)) }
 {
-    run_between(items, bounds[level + 1], bounds[level])
-}
-
-fn run_between<T>(items: &[T], start: usize, end: usize) -> &[T]
-    requires ordered { start ≤ end }
-    requires within { end ≤ length items.now }
-    ensures { result.now ≡ between start end items.now }
-{
-    &items[start..end]
+    &items[bounds[level + 1]..bounds[level]]
 }
 
 /// Returns the weight of the items that a query counts.

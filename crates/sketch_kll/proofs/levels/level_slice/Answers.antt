@@ -1,18 +1,36 @@
-use Rattle.std.proofs.Common.{◌≡◌, ℕ, suc, ◌+◌, arith, ap, ◌∙◌, get_or}
+use Rattle.std.proofs.Common.{◌≡◌, ℕ, suc, ◌+◌, ◌<◌, arith, ap, ◌∙◌, get_or, le_trans}
 use Rattle.std.specs.List.{between}
-use Rattle.sketch_kll.proofs.Flats.{bound_within, bound_falls_to, level_between}
+use Rattle.sketch_kll.proofs.CompactedPlaces.{rise}
+use Rattle.sketch_kll.proofs.Flats.{level_between}
 use Rattle.sketch_kll.proofs.levels.level_slice.Goals as goal
 
-pub run_between-requires-clause-ordered : goal.run_between-requires-clause-ordered
-run_between-requires-clause-ordered g c =
-    omega (arith, bound_falls_to c.args.items.now c.args.bounds.now c.requires.flat c.args.level (c.args.level + 1) (omega arith))
+one_on : (level : ℕ) → level + 1 ≡ suc level
+one_on level = omega arith
 
-pub run_between-requires-clause-within : goal.run_between-requires-clause-within
-run_between-requires-clause-within g c = bound_within c.args.items.now c.args.bounds.now c.requires.flat c.args.level
+there : (level : ℕ) {n : ℕ} → level + 1 < n → level < n
+there level within = omega (arith, within)
+
+pub bounds-bounds-level : goal.bounds-bounds-level
+bounds-bounds-level g c = c.requires.within
+
+pub bounds-bounds-level-2 : goal.bounds-bounds-level-2
+bounds-bounds-level-2 g c = there c.args.level c.requires.within
+
+pub offset_bounds-items-bounds : goal.offset_bounds-items-bounds
+offset_bounds-items-bounds g c =
+    let at = rise c.requires.flat c.args.level in
+    le_trans at.below at.ends
+
+pub slice_bounds-result-count : goal.slice_bounds-result-count
+slice_bounds-result-count g c = (rise c.requires.flat c.args.level).below
+
+pub slice_bounds-result-start : goal.slice_bounds-result-start
+slice_bounds-result-start g c = (rise c.requires.flat c.args.level).below
+
+pub slice_bounds-result-end : goal.slice_bounds-result-end
+slice_bounds-result-end g c = (rise c.requires.flat c.args.level).ends
 
 pub returns : goal.returns
 returns g c =
-    let e : c.args.level + 1 ≡ suc c.args.level = omega arith in
-    c.run_between.ensures
-    ∙ (ap (λ (i : ℕ). between (get_or c.args.bounds.now i 0) (get_or c.args.bounds.now c.args.level 0) c.args.items.now) e
-    ∙ level_between c.args.items.now c.args.bounds.now c.requires.flat c.args.level)
+    ap (λ (i : ℕ). between (get_or c.args.bounds.now i 0) (get_or c.args.bounds.now c.args.level 0) c.args.items.now) (one_on c.args.level)
+    ∙ level_between c.args.items.now c.args.bounds.now c.requires.flat c.args.level
