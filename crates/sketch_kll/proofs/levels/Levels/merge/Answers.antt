@@ -1,4 +1,4 @@
-use Rattle.std.proofs.Common.{◌≡◌, ◌+◌, ◌*◌, ◌^◌, ◌<◌, ◌≤◌, ℕ, List, Bool, IsTrue, drop, ap, subst, arith, ◌∙◌, subst₂, sym, min}
+use Rattle.std.proofs.Common.{◌≡◌, ◌+◌, ◌*◌, ◌^◌, ◌<◌, ◌≤◌, ℕ, List, Bool, IsTrue, drop, ap, subst, arith, ◌∙◌, subst₂, refl, sym, min}
 use Rattle.sketch_kll.specs.Flat.{levels_in}
 use Rattle.sketch_kll.specs.Join.{joined}
 use Rattle.sketch_kll.specs.Stored.{Stored}
@@ -7,6 +7,7 @@ use Rattle.sketch_kll.proofs.LevelClones.{ClonedRuns, cloned_runs}
 use Rattle.sketch_kll.proofs.Merged.{merged_by_calls, merged_only, joined_size, joined-first}
 use Rattle.sketch_kll.proofs.MergedSketches.{merged_same}
 use Rattle.sketch_kll.specs.Merged.{HaveMerged}
+use Rattle.sketch_kll.proofs.StoredLevels.{stored_still}
 use Rattle.sketch_kll.proofs.levels.Levels.merge.Goals as goal
 use Rattle.sketch_kll.proofs.levels.Levels.merge.Goals.at as past
 use Rattle.sketch_kll.proofs.levels.Levels.merge.Goals.{After-as_slice-other_bounds}
@@ -78,17 +79,23 @@ compress-requires-clause-flag g c =
 pub compress-requires-clause-spare : goal.compress-requires-clause-spare
 compress-requires-clause-spare g c = c.merge_higher_levels-old.ensures.spare
 
+pub invariant_of-self : goal.invariant_of-self
+invariant_of-self g c = stored_still c.self.invariant c.move_if_loose.ensures refl
+
 pub returns : goal.returns
 returns g c =
     let clones = cloned g (past.returns g c).After-as_slice-other_bounds in
     let made = c.compress.ensures in
+    let seen = c.self.view_is in
+    let levels_are = ap (λ (xs : List g.row.T.Denot). levels_in xs c.self.inside.bounds.items) c.move_if_loose.ensures
+    ∙ ap (λ (y : Stored g.row.T.Denot). y.levels) seen in
     record {
-      k = c.give_back-2.ensures.kept.k_is ∙ (c.move_to.ensures.kept.k_is ∙ (made.kept.k_is ∙ (c.merge_higher_levels-old.ensures.k ∙ c.take_items.ensures.k)));
+      k = c.give_back-2.ensures.kept.k_is ∙ (ap (λ (y : Stored g.row.T.Denot). y.k) seen ∙ (made.kept.k_is ∙ (c.merge_higher_levels-old.ensures.k ∙ c.take_items.ensures.k)));
       merged = subst₂ (λ (f : Bool) (ms : List (List g.row.T.Denot)).
           HaveMerged g.T.Ord.cmp g.B.RandomBits.bit g.B.RandomBits.next c.args.coins.now c.compress.new.coins c.args.self.now.k c.args.self.now.is_sorted f
           c.args.self.now.levels c.args.others.now.levels ms)
-          (sym (c.give_back-2.ensures.kept.flag_is ∙ c.move_to.ensures.kept.flag_is))
-          (sym (c.give_back-2.ensures.kept.levels_are ∙ c.move_to.ensures.kept.levels_are))
+          (sym (c.give_back-2.ensures.kept.flag_is ∙ ap (λ (y : Stored g.row.T.Denot). y.is_sorted) seen))
+          (sym (c.give_back-2.ensures.kept.levels_are ∙ levels_are))
           (merged_same g.met.T.Ord.total g.B.RandomBits.bit g.B.RandomBits.next _ _ _ _ _ _ _ _ _ c.requires.kept.some clones.same
           (merged_by_calls g.T.Ord.cmp g.met.T.Ord.total g.B.RandomBits.bit g.B.RandomBits.next _ _ _ _ _ _ _ _ _ _ _ _ _ _ _
           (c.merge_higher_levels-old.ensures.k ∙ c.take_items.ensures.k) c.merge_higher_levels-old.ensures.flag made.kept.flag_is
