@@ -1,4 +1,4 @@
-use Rattle.std.proofs.Common.{◌≡◌, ◌+◌, ◌*◌, ◌^◌, ◌<◌, ◌≤◌, ℕ, List, Bool, IsTrue, drop, ap, subst, arith, ◌∙◌, subst₂, refl, sym, min}
+use Rattle.std.proofs.Common.{◌≡◌, ◌∷◌, ◌+◌, ◌*◌, ◌^◌, ◌<◌, ◌≤◌, ℕ, List, Bool, IsTrue, drop, ap, subst, arith, ◌∙◌, subst₂, refl, sym, min}
 use Rattle.sketch_kll.specs.Flat.{levels_in}
 use Rattle.sketch_kll.specs.Join.{joined}
 use Rattle.sketch_kll.specs.Stored.{Stored}
@@ -79,6 +79,12 @@ compress-requires-clause-flag g c =
 pub compress-requires-clause-spare : goal.compress-requires-clause-spare
 compress-requires-clause-spare g c = c.merge_higher_levels-old.ensures.spare
 
+some_upper : {levels runs : ℕ} → levels + 2 ≡ runs → 2 < runs → 0 < levels
+some_upper are more = omega (arith, are, more)
+
+none_upper : {levels runs : ℕ} → levels + 2 ≡ runs → 2 ≤ runs → runs ≤ 2 → levels ≡ 0
+none_upper are some few = omega (arith, are, some, few)
+
 pub invariant_of-self : goal.invariant_of-self
 invariant_of-self g c = stored_still c.self.invariant c.move_if_loose.ensures refl
 
@@ -86,6 +92,7 @@ pub returns : goal.returns
 returns g c =
     let clones = cloned g (past.returns g c).After-as_slice-other_bounds in
     let made = c.compress.ensures in
+    let upper : List (List g.row.T.Denot) = levels_in c.args.parts.upper.items (drop 1 c.as_slice-other_bounds.result.now) in
     let seen = c.self.view_is in
     let levels_are = ap (λ (xs : List g.row.T.Denot). levels_in xs c.self.inside.bounds.items) c.move_if_loose.ensures
     ∙ ap (λ (y : Stored g.row.T.Denot). y.levels) seen in
@@ -96,26 +103,35 @@ returns g c =
           c.args.self.now.levels c.args.others.now.levels ms)
           (sym (c.give_back-2.ensures.kept.flag_is ∙ ap (λ (y : Stored g.row.T.Denot). y.is_sorted) seen))
           (sym (c.give_back-2.ensures.kept.levels_are ∙ levels_are))
-          (merged_same g.met.T.Ord.total g.B.RandomBits.bit g.B.RandomBits.next _ _ _ _ _ _ _ _ _ c.requires.kept.some clones.same
-          (merged_by_calls g.T.Ord.cmp g.met.T.Ord.total g.B.RandomBits.bit g.B.RandomBits.next _ _ _ _ _ _ _ _ _ _ _ _ _ _ _
+          (merged_same g.met.T.Ord.total g.B.RandomBits.bit g.B.RandomBits.next c.args.coins.now c.compress.new.coins c.args.self.now.k
+          c.args.self.now.is_sorted c.compress.new.self.is_sorted c.args.self.now.levels c.args.others.now.levels (c.args.parts.low.items ∷ upper)
+          c.compress.new.self.levels c.requires.kept.some clones.same
+          (merged_by_calls g.T.Ord.cmp g.met.T.Ord.total g.B.RandomBits.bit g.B.RandomBits.next c.args.coins.now c.take_items.new.coins c.compress.new.coins
+          c.args.self.now.k c.merge_higher_levels-old.new.self.k c.args.self.now.is_sorted c.take_items.new.self.is_sorted
+          c.merge_higher_levels-old.new.self.is_sorted c.compress.new.self.is_sorted c.args.self.now.levels c.args.parts.low.items upper
+          c.take_items.new.self.levels c.merge_higher_levels-old.new.self.levels c.compress.new.self.levels
           (c.merge_higher_levels-old.ensures.k ∙ c.take_items.ensures.k) c.merge_higher_levels-old.ensures.flag made.kept.flag_is
           c.take_items.ensures.taken c.merge_higher_levels-old.ensures.levels c.requires.kept.some
-          (omega (arith, clones.upper_are, c.if-other_bounds-le2.false))
+          (some_upper clones.upper_are c.if-other_bounds-le2.false)
           made.levels made.bag made.coins made.few made.below made.sorted));
     }
 
 pub returns-then-other_bounds-le2 : goal.returns-then-other_bounds-le2
 returns-then-other_bounds-le2 g c =
     let clones = cloned g (past.returns-then-other_bounds-le2 g c).After-as_slice-other_bounds in
+    let upper : List (List g.row.T.Denot) = levels_in c.args.parts.upper.items (drop 1 c.as_slice-other_bounds.result.now) in
     record {
       k = c.give_back.ensures.kept.k_is ∙ c.take_items.ensures.k;
       merged = subst₂ (λ (f : Bool) (ms : List (List g.row.T.Denot)).
           HaveMerged g.T.Ord.cmp g.B.RandomBits.bit g.B.RandomBits.next c.args.coins.now c.take_items.new.coins c.args.self.now.k c.args.self.now.is_sorted f
           c.args.self.now.levels c.args.others.now.levels ms)
           (sym c.give_back.ensures.kept.flag_is) (sym c.give_back.ensures.kept.levels_are)
-          (merged_same g.met.T.Ord.total g.B.RandomBits.bit g.B.RandomBits.next _ _ _ _ _ _ _ _ _ c.requires.kept.some clones.same
-          (merged_only g.T.Ord.cmp g.met.T.Ord.total g.B.RandomBits.bit g.B.RandomBits.next _ _ _ _ _ _ _ _ _
-          c.take_items.ensures.taken (omega (arith, clones.upper_are, clones.some, c.if-other_bounds-le2.true))));
+          (merged_same g.met.T.Ord.total g.B.RandomBits.bit g.B.RandomBits.next c.args.coins.now c.take_items.new.coins c.args.self.now.k
+          c.args.self.now.is_sorted c.take_items.new.self.is_sorted c.args.self.now.levels c.args.others.now.levels (c.args.parts.low.items ∷ upper)
+          c.take_items.new.self.levels c.requires.kept.some clones.same
+          (merged_only g.T.Ord.cmp g.met.T.Ord.total g.B.RandomBits.bit g.B.RandomBits.next c.args.coins.now c.take_items.new.coins c.args.self.now.k
+          c.args.self.now.is_sorted c.take_items.new.self.is_sorted c.args.self.now.levels c.args.parts.low.items upper c.take_items.new.self.levels
+          c.take_items.ensures.taken (none_upper clones.upper_are clones.some c.if-other_bounds-le2.true)));
     }
 
 pub take_items-requires-clause-room : goal.take_items-requires-clause-room
