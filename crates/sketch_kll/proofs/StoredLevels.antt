@@ -134,10 +134,10 @@ pub ordered_anew : {A : Type 0} {cmp : A → A → Ordering} → IsTotalOrder cm
 ordered_anew {A} {cmp} o is_sorted {needs} {level = level} {items = items} {new = new} {wide = wide} up sorted needs_is anew from_is given_is =
     let within : 1 < length wide = omega (arith, up.within) in
     rw (anew, lowest_alone is_sorted level (sym needs_is ∙ anew)) (
-      subst₂
-      (λ (from : ℕ) (xs : List A). take from new ≡ take from xs → IsPermutation (body_of true (drop from xs)) (body_of true (drop from new)) →
-      IsSorted cmp (body_of true (drop from new)) → leftover_of true (drop from new) ≡ leftover_of true (drop from xs) → length new ≡ length xs →
-      IsOrdered cmp true 0 items new wide) (sym from_is) (sym given_is) (ordered_level cmp o items new wide up.flat within (up.sorted sorted))
+    subst₂
+    (λ (from : ℕ) (xs : List A). take from new ≡ take from xs → IsPermutation (body_of true (drop from xs)) (body_of true (drop from new)) →
+    IsSorted cmp (body_of true (drop from new)) → leftover_of true (drop from new) ≡ leftover_of true (drop from xs) → length new ≡ length xs →
+    IsOrdered cmp true 0 items new wide) (sym from_is) (sym given_is) (ordered_level cmp o items new wide up.flat within (up.sorted sorted))
     )
 
 -- a level that needn't be sorted, whose items are left as they were

@@ -80,7 +80,7 @@ begins_at {from = from} {new = new} above from_is = from_is ∙ get_or_default_z
 record HasOrder (g : _) (c : After-random_bit-arg-1 g) : Type 0 where
   needs_is : c.needs_sorting-needs_sorting.result ≡ needs_sorting c.args.self.now.is_sorted c.args.level
   order : IsOrdered g.T.Ord.cmp c.needs_sorting-needs_sorting.result c.args.level c.self.inside.items.items c.if-needs_sorting.self-inside.items.items
-    c.if-level-len.self-inside.bounds.items
+      c.if-level-len.self-inside.bounds.items
   k_is : c.if-needs_sorting.self-inside.k ≡ c.self.inside.k
   flag_is : c.if-needs_sorting.self-inside.is_level_zero_sorted ≡ c.self.inside.is_level_zero_sorted
   bounds_are : c.if-needs_sorting.self-inside.bounds ≡ c.if-level-len.self-inside.bounds

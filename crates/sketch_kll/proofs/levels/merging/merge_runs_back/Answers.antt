@@ -207,8 +207,8 @@ bounds-other_bounds-level g c = next_there c.loop-level-test.true (le_refl _)
 pub overflow_add-level : goal.overflow_add-level
 overflow_add-level g c = grind arith
 
-pub overflow_add-level-in-loop-level : goal.overflow_add-level-in-loop-level
-overflow_add-level-in-loop-level g c = grind arith
+pub overflow_add-keep : goal.overflow_add-keep
+overflow_add-keep g c = grind arith
 
 pub offset_bounds-bounds-level-in-loop-level : goal.offset_bounds-bounds-level-in-loop-level
 offset_bounds-bounds-level-in-loop-level g c = grind arith

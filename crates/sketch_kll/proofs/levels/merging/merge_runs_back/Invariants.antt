@@ -10,5 +10,5 @@ invariant-loop-level g l = record {
   count : length l.merged.items + length l.items.items + length l.upper.items ≡ length l.fn.items.items + length l.fn.upper.items;
   capacity : vec_capacity l.merged ≡ vec_capacity l.fn.merged;
   joining : AreJoining g.T.Ord.cmp (l.level - 1) (levels_in l.fn.items.items l.bounds) (levels_in l.fn.upper.items (drop 1 l.other_bounds))
-    (take (get_or l.bounds l.level 0) l.items.items) l.upper.items (l.merged.items ++ reverse (drop (get_or l.bounds l.level 0) l.items.items));
+      (take (get_or l.bounds l.level 0) l.items.items) l.upper.items (l.merged.items ++ reverse (drop (get_or l.bounds l.level 0) l.items.items));
 }
