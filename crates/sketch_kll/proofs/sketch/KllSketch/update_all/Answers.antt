@@ -1,6 +1,5 @@
 -- The goals at the return are what updates by all items make of the fields.
-use Rattle.std.proofs.Common.{◌≡◌, ◌<◌, ◌≤◌, ◌^◌, ◌+◌, ◌-◌, ◌∙◌, ℕ, zero, suc, Bool, Ordering, Result, Ok, Err, true, false, eqb, List, [], ◌∷◌, length, ap, refl, subst, sym, arith}
-use Rattle.std.proofs.lemmas.Bool.{eqb-true, true≢false}
+use Rattle.std.proofs.Common.{◌≡◌, ◌<◌, ◌≤◌, ◌^◌, ◌+◌, ◌-◌, ◌∙◌, ℕ, Bool, Ordering, Result, Ok, Err, List, [], ◌∷◌, length, ap, refl, subst, arith}
 use Rattle.std.specs.Cmp.{IsTotalOrder}
 use Rattle.std.specs.Prelude.{◌↔◌, IfErr, IsErrOf, IsOk, OnErr, OnOk}
 use Rattle.sketch_base.specs.declared.error.ErrorKind.{ErrorKind}
@@ -20,15 +19,11 @@ use Rattle.sketch_kll.proofs.sketch.KllSketch.update_all.Goals.{After-set_if_som
 use Rattle.sketch_kll.proofs.sketch.KllSketch.update_all.Goals as goal
 use Rattle.sketch_kll.proofs.sketch.KllSketch.update_all.Goals.at as past
 
-none_of : (n : ℕ) {is_none : Bool} → is_none ≡ eqb n 0 → is_none ≡ true → n ≡ 0
-none_of n e f = eqb-true n 0 (sym e ∙ f)
-
 over_all : {x a : ℕ} (n : ℕ) → 2 ^ 64 - 1 - x < n → x ≡ a → 2 ^ 64 ≤ a + n
 over_all n over e = omega (arith, over, e)
 
-some_of : (n : ℕ) {is_none : Bool} → is_none ≡ eqb n 0 → is_none ≡ false → 0 < n
-some_of zero e f = absurd (true≢false (sym e ∙ f))
-some_of (suc n) e f = omega arith
+some_of : (n : ℕ) → (n ≡ 0 → ⊥) → 0 < n
+some_of n some = omega arith
 
 -- the sum of both fits
 sum_of : (x : ℕ) {n : ℕ} → n ≤ 2 ^ 64 - 1 - x → 0 < n → x + n < 2 ^ 64
@@ -119,7 +114,7 @@ take_all-requires-clause-light g c =
     let same = length-same g.T.Ord.cmp c.args.items.now clones c.in_ok-clones.ensures.clones in
     levels_light x.levels.levels c.prepare_all.new.self.levels x.n (length c.args.items.now) (length clones)
     c.prepare_all.ensures.kept.levels_are c.self.invariant.weighs_n same
-    (sum_of _ c.if-count-self.false (some_of _ c.is_empty.ensures c.if-is_empty.false))
+    (sum_of _ c.if-count-self.false (some_of _ c.if-count-eq0.false))
 
 -- what the updates make of the fields
 made : (g : Over) (c : After-set_if_some-2 g) → let x = c.self.inside in let new = c.take_all.new.self in
@@ -136,7 +131,7 @@ made g c =
     {items = c.args.items.now} {clones = c.in_ok-clones.clones.items} {k = new.k} {old_k = old.k} {old_flag = old.is_sorted} {flag = new.is_sorted}
     {rows = old.levels} {ms = new.levels} {least = newer_or c.in_ok-clones.least x.min_item} {greatest = newer_or c.in_ok-clones.greatest x.max_item}
     {kept_least = c.set_if_some.new.place} {kept_greatest = c.set_if_some-2.new.place}
-    c.self.invariant (some_of _ c.is_empty.ensures c.if-is_empty.false) told.clones kept.k_is kept.flag_is kept.levels_are c.take_all.ensures.k
+    c.self.invariant (some_of _ c.if-count-eq0.false) told.clones kept.k_is kept.flag_is kept.levels_are c.take_all.ensures.k
     c.take_all.ensures.taken told.least c.set_if_some.ensures told.greatest c.set_if_some-2.ensures
 
 pub returns : goal.returns
@@ -144,7 +139,7 @@ returns g c =
     let x = c.self.inside in
     let new = c.take_all.new.self in
     let count = length c.args.items.now in
-    let some = some_of _ c.is_empty.ensures c.if-is_empty.false in
+    let some = some_of _ c.if-count-eq0.false in
     some_taken g.T.Ord.cmp g.B.RandomBits.bit g.B.RandomBits.next c.args.self.now c.args.items.now c.args.coins.now {o = g.met.T.Ord.total}
     (sketch_of new.k x.min_k (x.n + count) new.is_sorted new.levels c.set_if_some.new.place c.set_if_some-2.new.place) c.take_all.new.coins
     (updates_seen g.met.T.Ord.total c.self.view_is (made g (past.returns g c).After-set_if_some-2)) some
@@ -157,10 +152,10 @@ returns-then-count-self g c =
     (over_all {x = c.self.inside.n} (length c.args.items.now) c.if-count-self.true n_is) (subst (λ (n : ℕ). n < 2 ^ 64) n_is c.self.ranges.1.0.1)
     (subst (IsSound g.T.Ord.cmp) c.self.view_is c.self.invariant)
 
-pub returns-then-is_empty : goal.returns-then-is_empty
-returns-then-is_empty g c =
+pub returns-then-count-eq0 : goal.returns-then-count-eq0
+returns-then-count-eq0 g c =
     none_taken g.T.Ord.cmp g.B.RandomBits.bit g.B.RandomBits.next c.args.self.now c.args.items.now c.args.coins.now g.met.T.Ord.total
-    (none_of (length c.args.items.now) c.is_empty.ensures c.if-is_empty.true)
+    c.if-count-eq0.true
     (subst (λ (n : ℕ). n < 2 ^ 64) (ap (λ (k : Kll g.row.T.Denot). k.n) c.self.view_is) c.self.ranges.1.0.1)
     (subst (IsSound g.T.Ord.cmp) c.self.view_is c.self.invariant)
 
@@ -171,7 +166,7 @@ returns-in_err-clones g c =
     let kept = c.prepare_all.ensures.kept in
     let count = length c.args.items.now in
     let r = c.from_residual.result in
-    let some = some_of count c.is_empty.ensures c.if-is_empty.false in
+    let some = some_of count c.if-count-eq0.false in
     ran_out g.T.Ord.cmp g.B.RandomBits.bit g.B.RandomBits.next c.args.self.now c.args.items.now c.args.coins.now r
     (sketch_of y.k x.min_k x.n y.is_sorted y.levels x.min_item x.max_item) (returned r OutOfMemory c.from_residual.ensures.1) some
     (heavy_not {x = x.n} {a = c.args.self.now.n} count (sum_of x.n c.if-count-self.false some) (ap (λ (k : Kll g.row.T.Denot). k.n) c.self.view_is))
@@ -199,10 +194,10 @@ pub take_all-requires-clause-spare : goal.take_all-requires-clause-spare
 take_all-requires-clause-spare g c = c.in_ok-clones.ensures.spare
 
 pub prepare_all-requires-clause-some : goal.prepare_all-requires-clause-some
-prepare_all-requires-clause-some g c = some_of _ c.is_empty.ensures c.if-is_empty.false
+prepare_all-requires-clause-some g c = some_of _ c.if-count-eq0.false
 
 pub overflow_add-self : goal.overflow_add-self
-overflow_add-self g c = record { fits = sum_of _ c.if-count-self.false (some_of _ c.is_empty.ensures c.if-is_empty.false) }
+overflow_add-self g c = record { fits = sum_of _ c.if-count-self.false (some_of _ c.if-count-eq0.false) }
 
 pub prepare_all-requires-clause-clones : goal.prepare_all-requires-clause-clones
 prepare_all-requires-clause-clones g c = c.requires.clones
