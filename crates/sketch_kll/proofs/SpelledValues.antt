@@ -1,0 +1,112 @@
+-- What a call says that returns what a write of an item's spelling or a read of one returns.
+use Rattle.std.proofs.Common.{◌≡◌, ◌≢◌, ◌∙◌, ◌<◌, ◌^◌, ℕ, ℤ, List, [], ◌++◌, length, Option, Some, None, Result, Ok, Err, ap, refl, sym, append-nil, append_assoc, unwrap_or}
+use Rattle.std.specs.Int.{cast_unsigned, to_le_bytes, w32, w64}
+use Rattle.std.specs.Prelude.{◌↔◌, FitsSigned, IfErr, IfOk, IsErrOf, IsSome, OnErr, OnOk, is_some}
+use Rattle.std.specs.Option.{option_to_list}
+use Rattle.std.proofs.lemmas.Result.{on_err_weaker, on_ok_weaker}
+use Rattle.sketch_base.specs.Spelling.{AllSpelled, Begins, bytes_of, i64_spelling, items_text, text_spelling}
+use Rattle.sketch_base.specs.SpellingLaws.{begins_by, i64_short, i64_spelled, no_memory, ok_spelled, text_spelled}
+use Rattle.sketch_base.specs.declared.error.ErrorKind.{ErrorKind}
+use Rattle.sketch_base.specs.declared.error.ErrorKind.TheVariants.{InvalidArgument, InvalidData, OutOfMemory}
+use Rattle.sketch_base.proofs.Exits.{data_not_argument, memory_not_data}
+
+-- the bytes of a spelling are written, or a part of them if memory runs out
+pub value_written : (r : Result Unit ErrorKind) (spelling : Option (List ℕ)) (bytes part before after : List ℕ) → spelling ≡ Some bytes →
+    OnOk r (after ≡ before ++ bytes) → OnErr r (after ≡ before ++ part) → IfErr r (λ e. e ≡ OutOfMemory) → record {
+      spelled : OnOk r (IsSome spelling);
+      appended : OnOk r (after ≡ before ++ unwrap_or spelling []);
+      err : OnErr r ((more : List ℕ) × (after ≡ before ++ more));
+      refused : IsErrOf r InvalidArgument ↔ (spelling ≡ None);
+      kind : IfErr r (λ e. e ≢ InvalidData);
+    }
+value_written (Ok x) spelling bytes part before after is ok err memory = record {
+  spelled = ap is_some is;
+  appended = ok ∙ ap (λ (o : Option (List ℕ)). before ++ unwrap_or o []) (sym is);
+  err = tt;
+  refused = ok_spelled x spelling bytes is;
+  kind = tt;
+}
+value_written (Err e) spelling bytes part before after is ok err memory = record {
+  spelled = tt;
+  appended = tt;
+  err = (part, err);
+  refused = no_memory (Err e) e spelling bytes refl memory is;
+  kind = λ is_data. memory_not_data (sym memory ∙ is_data);
+}
+
+-- an i64 is written
+pub i64_written : (r : Result Unit ErrorKind) (y z : ℤ) (before after : List ℕ) → y ≡ z → FitsSigned w64 z →
+    OnOk r (after ≡ before ++ to_le_bytes w64 (cast_unsigned w64 y)) → OnErr r (after ≡ before) → IfErr r (λ e. e ≡ OutOfMemory) → record {
+      spelled : OnOk r (IsSome (i64_spelling z));
+      appended : OnOk r (after ≡ before ++ bytes_of i64_spelling z);
+      err : OnErr r ((more : List ℕ) × (after ≡ before ++ more));
+      refused : IsErrOf r InvalidArgument ↔ (i64_spelling z ≡ None);
+      kind : IfErr r (λ e. e ≢ InvalidData);
+    }
+i64_written r y z before after is fits ok err memory =
+    value_written r (i64_spelling z) (to_le_bytes w64 (cast_unsigned w64 y)) [] before after
+    (i64_spelled z fits ∙ ap (λ (z : ℤ). Some (to_le_bytes w64 (cast_unsigned w64 z))) (sym is)) ok
+    (on_err_weaker r (λ same. same ∙ sym (append-nil before)) err) memory
+
+-- a text is written, after its length
+pub text_written : (r : Result Unit ErrorKind) (text before between after : List ℕ) (len : ℕ) (bytes : List ℕ) → len ≡ length text → length text < 2 ^ 32 →
+    between ≡ before ++ to_le_bytes w32 len → bytes ≡ text → OnOk r (after ≡ between ++ bytes) → OnErr r (after ≡ between) → IfErr r (λ e. e ≡ OutOfMemory) → record {
+      spelled : OnOk r (IsSome (text_spelling text));
+      appended : OnOk r (after ≡ before ++ unwrap_or (text_spelling text) []);
+      err : OnErr r ((more : List ℕ) × (after ≡ before ++ more));
+      refused : IsErrOf r InvalidArgument ↔ (text_spelling text ≡ None);
+      kind : IfErr r (λ e. e ≢ InvalidData);
+    }
+text_written r text before between after len bytes len_is fits first bytes_are ok err memory =
+    let begun : between ≡ before ++ to_le_bytes w32 (length text) = first ∙ ap (λ (n : ℕ). before ++ to_le_bytes w32 n) len_is in
+    let whole : between ++ bytes ≡ before ++ (to_le_bytes w32 (length text) ++ text) =
+    ap (λ (xs : List ℕ). between ++ xs) bytes_are ∙ ap (λ (xs : List ℕ). xs ++ text) begun ∙ append_assoc before (to_le_bytes w32 (length text)) text in
+    value_written r (text_spelling text) (to_le_bytes w32 (length text) ++ text) (to_le_bytes w32 (length text)) before after (text_spelled text fits)
+    (on_ok_weaker r (λ is. is ∙ whole) ok) (on_err_weaker r (λ same. same ∙ begun) err) memory
+
+-- the bytes of an i64 are read, or there are too few
+pub i64_read : (r : Result ℤ ErrorKind) (text rest : List ℕ) → IfOk r (FitsSigned w64) → IfOk r (λ z. text ≡ to_le_bytes w64 (cast_unsigned w64 z) ++ rest) →
+    OnErr r (length text < 8) → IfErr r (λ e. e ≡ InvalidData) → record {
+      found : IfOk r (λ z. Begins i64_spelling text z rest);
+      refused : IfErr r (λ e. e ≡ InvalidData → (z : ℤ) (rest : List ℕ) → ¬ Begins i64_spelling text z rest);
+      kind : IfErr r (λ e. e ≢ InvalidArgument);
+    }
+i64_read (Ok z) text rest fits ok short kind = record {
+  found = begins_by i64_spelling text z (to_le_bytes w64 (cast_unsigned w64 z)) rest (i64_spelled z fits) ok;
+  refused = tt;
+  kind = tt;
+}
+i64_read (Err e) text rest fits ok short kind = record {
+  found = tt;
+  refused = λ _. i64_short text short;
+  kind = λ argument. data_not_argument (sym kind ∙ argument);
+}
+
+-- no item is written
+pub none_written : {A : Type 0} (spelling : A → Option (List ℕ)) (found : Option A) (before : List ℕ) → found ≡ None →
+    (before ≡ before ++ items_text spelling (option_to_list found)) × AllSpelled spelling (option_to_list found)
+none_written spelling found before is = rw is (sym (append-nil before), tt)
+
+-- one item is written
+pub item_written : {A : Type 0} (spelling : A → Option (List ℕ)) (x : A) (found : Option A) (r : Result Unit ErrorKind) (before after : List ℕ) → found ≡ Some x →
+    OnOk r (IsSome (spelling x)) → OnOk r (after ≡ before ++ bytes_of spelling x) → (IsErrOf r InvalidArgument ↔ (spelling x ≡ None)) →
+    IfErr r (λ e. e ≢ InvalidData) → record {
+      ok : OnOk r (after ≡ before ++ items_text spelling (option_to_list found));
+      spelled : OnOk r (AllSpelled spelling (option_to_list found));
+      refused : IfErr r (λ e. e ≡ InvalidArgument → ¬ AllSpelled spelling (option_to_list found));
+      kind : IfErr r (λ e. e ≢ InvalidData);
+    }
+item_written spelling x found (Ok y) before after is spelled appended refused kind = record {
+  ok = rw is (appended ∙ ap (λ (bytes : List ℕ). before ++ bytes) (sym (append-nil (bytes_of spelling x))));
+  spelled = rw is (spelled, tt);
+  refused = tt;
+  kind = tt;
+}
+item_written spelling x found (Err e) before after is spelled appended refused kind = record {
+  ok = tt;
+  spelled = tt;
+  refused = λ argument. rw is (λ all. not_some (spelling x) (refused.0 (ap Err argument)) all.0);
+  kind = kind;
+} where
+  not_some : (o : Option (List ℕ)) → o ≡ None → IsSome o → ⊥
+  not_some o none some = cc
