@@ -1,5 +1,5 @@
 -- The goals at the return are what updates by all items make of the fields.
-use Rattle.std.proofs.Common.{◌≡◌, ◌<◌, ◌≤◌, ◌^◌, ◌+◌, ◌-◌, ◌∙◌, ℕ, Bool, Ordering, Result, Ok, Err, List, [], ◌∷◌, length, ap, refl, subst, arith}
+use Rattle.std.proofs.Common.{◌≡◌, ◌<◌, ◌≤◌, ◌^◌, ◌+◌, ◌-◌, ℕ, Bool, Ordering, Result, Ok, Err, List, [], ◌∷◌, length, ap, refl, subst, arith}
 use Rattle.std.specs.Cmp.{IsTotalOrder}
 use Rattle.std.specs.Prelude.{◌↔◌, IfErr, IsErrOf, IsOk, OnErr, OnOk}
 use Rattle.sketch_base.specs.declared.error.ErrorKind.{ErrorKind}
