@@ -11,14 +11,13 @@ use Rattle.sketch_kll.proofs.Flats.{is_flat, levels_of_flat, length-bounds}
 use Rattle.sketch_kll.proofs.JoinedLevels.{prepared}
 use Rattle.sketch_kll.proofs.Merged.{joined_size}
 use Rattle.sketch_kll.proofs.NoMoreLevels.{few_compacted}
-use Rattle.sketch_kll.proofs.OrderedLevels.{ordered_level, same_level}
+use Rattle.sketch_kll.proofs.OrderedLevels.{ordered_level, same_level, IsOrdered}
 use Rattle.sketch_kll.specs.Steps.{needs_sorting, put_all}
 use Rattle.std.specs.Cmp.{IsTotalOrder}
 use Rattle.sketch_kll.proofs.PutItems.{put_flat, length-put, UpperSorted-put}
 use Rattle.sketch_kll.proofs.RaisedLevels.{raised_is, Raised, Raises}
 use Rattle.sketch_kll.proofs.CompactedRuns.{known_sorted, lowest_alone}
 use Rattle.sketch_kll.proofs.CompressWalks.{SameLevels-trans}
-use Rattle.sketch_kll.specs.Ordered.{IsOrdered}
 
 -- no items, between two bounds of 0, are one empty level
 pub new_levels : {A : Type 0} (items : List A) (bounds : List ℕ) → items ≡ [] → bounds ≡ 0 ∷ 0 ∷ [] →

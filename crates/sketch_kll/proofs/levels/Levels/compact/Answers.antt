@@ -3,7 +3,6 @@ use Rattle.std.proofs.lemmas.Grind.{get_or_default_zero}
 use Rattle.sketch_kll.specs.Capacity.{total_of}
 use Rattle.sketch_kll.specs.Levels.{retained, compacted, SameLevels}
 use Rattle.sketch_kll.specs.Flat.{levels_in}
-use Rattle.sketch_kll.specs.Ordered.{IsOrdered}
 use Rattle.sketch_kll.specs.Steps.{needs_sorting}
 use Rattle.sketch_kll.specs.Stored.{AreStored, Stored}
 use Rattle.sketch_kll.proofs.Flats.{bound_within, length-bounds, length-items}
@@ -12,6 +11,7 @@ use Rattle.sketch_kll.proofs.StoredLevels.{CompactedStored, known_total, compact
 use Rattle.sketch_kll.proofs.JoinedLevels.{whole_slice}
 use Rattle.sketch_kll.proofs.levels.Levels.compact.Goals as goal
 use Rattle.sketch_kll.proofs.levels.Levels.compact.Goals.at as past
+use Rattle.sketch_kll.proofs.OrderedLevels.{IsOrdered}
 use Rattle.sketch_kll.proofs.levels.Levels.compact.Goals.{After-random_bit-arg-1, After-truncate, After-len-2, Joined-level-len, then-level-len, else-level-len, then-needs_sorting, else-needs_sorting}
 
 room_of : (now : ℕ) {own len room most : ℕ} → own ≡ len → len ≡ now + 1 → room ≡ most → now + 1 < most → own < room
