@@ -155,7 +155,10 @@ impl<T: Clone + Ord> ReqSketch<T> {
             let weight = self.rank_weight(point, criteria);
             ranks.push_reserved(Rank { weight, total });
         }
-        ranks.push(Rank { weight: total, total })?;
+        ranks.push(Rank {
+            weight: total,
+            total,
+        })?;
         Ok(Some(ranks))
     }
 

@@ -24,8 +24,8 @@ returns c =
     let numbers : List ℕ = behind 7 text in
     let word : List ℕ = behind 1 (behind c.in_ok-slot.slot_len numbers) in
     let space = begins-behind numbers c.in_ok-slot.slot_len c.in-32.len_at_least in
-    let slot = slot-is c.in_ok-slot.slot c.in_ok-ok.field-0 c.try_from.result c.try_from.ensures c.in_ok-ok.ensures.value in
-    begins-same text c.in_ok-slot.slot c.in_ok-ok.field-0 _ c.in_ok-item.item _ slot.0 (item_back _ _ _ _ c.in_ok-item.ensures)
+    let slot = slot-is c.in_ok-slot.slot c.in_ok-slot-2.slot c.try_from.result c.try_from.ensures c.in_ok-slot-2.ensures.value in
+    begins-same text c.in_ok-slot.slot c.in_ok-slot-2.slot _ c.in_ok-item.item _ slot.0 (item_back _ _ _ _ c.in_ok-item.ensures)
     (begins-with_update text numbers word c.in_ok-slot.slot c.in_ok-slot.slot_len c.in_ok-item.len c.in_ok-item.item (verb (past.returns c).In-117) space.0
     c.in_ok-slot.ensures slot.1 space.1 (shorter _ _ (item-within _ _ _ _ c.in_ok-item.ensures) c.if-len-word.false) c.in_ok-item.ensures)
 
@@ -41,8 +41,8 @@ slice_bounds-word-start c = c.in-32.len_at_least
 pub returns-in_err-item : goal.returns-in_err-item
 returns-in_err-item c = grind (arith, common_steps)
 
-pub returns-in_err-ok : goal.returns-in_err-ok
-returns-in_err-ok c = grind (arith, common_steps)
+pub returns-in_err-slot-2 : goal.returns-in_err-slot-2
+returns-in_err-slot-2 c = grind (arith, common_steps)
 
 pub overflow_sub-result : goal.overflow_sub-result
 overflow_sub-result c =
@@ -63,8 +63,8 @@ bounds-text-2 c = grind arith
 pub slice_bounds-numbers-start : goal.slice_bounds-numbers-start
 slice_bounds-numbers-start c = grind arith
 
-pub slice_bounds-t-43-start : goal.slice_bounds-t-43-start
-slice_bounds-t-43-start c = c.in_ok-slot.ensures.within
+pub slice_bounds-t-41-start : goal.slice_bounds-t-41-start
+slice_bounds-t-41-start c = c.in_ok-slot.ensures.within
 
 pub bounds-text-1 : goal.bounds-text-1
 bounds-text-1 c = grind arith
@@ -84,8 +84,8 @@ bounds-text-0 c = grind arith
 pub bounds-text-4 : goal.bounds-text-4
 bounds-text-4 c = grind arith
 
-pub slice_bounds-t-42-count : goal.slice_bounds-t-42-count
-slice_bounds-t-42-count c = c.in_ok-slot.ensures.within
+pub slice_bounds-t-40-count : goal.slice_bounds-t-40-count
+slice_bounds-t-40-count c = c.in_ok-slot.ensures.within
 
 pub bounds-0 : goal.bounds-0
 bounds-0 c = grind arith
@@ -96,8 +96,8 @@ bounds-text-6 c = grind arith
 pub slice_bounds-word-end : goal.slice_bounds-word-end
 slice_bounds-word-end c = le_refl _
 
-pub slice_bounds-t-43-end : goal.slice_bounds-t-43-end
-slice_bounds-t-43-end c = le_refl _
+pub slice_bounds-t-41-end : goal.slice_bounds-t-41-end
+slice_bounds-t-41-end c = le_refl _
 
 pub slice_bounds-numbers-end : goal.slice_bounds-numbers-end
 slice_bounds-numbers-end c = le_refl _

@@ -42,15 +42,17 @@ pub(super) fn join_levels<T: Clone + Ord>(
     let (k, rank_accuracy) = levels[0].parameters();
     for level in 0..others.len() {
         add_level(levels, level, k, rank_accuracy);
-        levels[level].join(&others[level], &mut room.coming, &mut room.up, &mut room.rooms[level]);
+        levels[level].join(
+            &others[level],
+            &mut room.coming,
+            &mut room.up,
+            &mut room.rooms[level],
+        );
     }
 }
 
 /// Moves levels with too much room back into the vectors that they had before a join.
-pub(super) fn move_back<T: Clone + Ord>(
-    levels: &mut Vec<Compactor<T>>,
-    rooms: &mut Vec<Buffers<T>>,
-)
+pub(super) fn move_back<T: Clone + Ord>(levels: &mut Vec<Compactor<T>>, rooms: &mut Vec<Buffers<T>>)
     ensures { levels.new.items ≡ levels.old.items }
 {
     for level in 0..levels.len().min(rooms.len()) {

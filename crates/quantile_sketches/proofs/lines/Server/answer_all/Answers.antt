@@ -37,8 +37,8 @@ returns-in_err-write_answer g c =
     line-unwritten g.S.Config.Config.grammar g.S.Family.behaviour (reader_remaining g.R.Read.remaining c.answer_line.new.input) c.answer_line.new.self.table c.answer_line.new.self.coins c.in-Some-2.answer
     (running-out g.S.Config.Config.grammar g.S.Family.behaviour c.loop.invariant refl c.in_ok-answer.ensures.written) refl
     (line-found g.S.Config.Config.grammar g.S.Family.behaviour (reader_remaining g.R.Read.remaining c.loop.input) (reader_remaining g.R.Read.remaining c.answer_line.new.input)
-      c.loop.self.table c.answer_line.new.self.table c.loop.self.coins c.answer_line.new.self.coins c.in_ok-answer.field-0 c.in-Some-2.answer
-      c.in-Some-2.is c.in_ok-answer.ensures.answered) c.in_err-write_answer.ensures
+    c.loop.self.table c.answer_line.new.self.table c.loop.self.coins c.answer_line.new.self.coins c.in_ok-answer.field-0 c.in-Some-2.answer
+    c.in-Some-2.is c.in_ok-answer.ensures.answered) c.in_err-write_answer.ensures
     c.from_residual-in_err-write_answer.result c.in_err-write_answer.field-0.0 c.from_residual-in_err-write_answer.ensures.1
 
 pub loop-preserved : goal.loop-preserved

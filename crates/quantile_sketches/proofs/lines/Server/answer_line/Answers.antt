@@ -31,8 +31,11 @@ returns-in-Ok g c =
 pub returns-in-Ok-eq0 : goal.returns-in-Ok-eq0
 returns-in-Ok-eq0 g c = record {
   answered = tt;
-  end = λ none. (end-kept (reader_remaining g.R.Read.remaining) c.args.input.now c.answer_buffered.new.input (c.in_default.ensures.kept refl)
-      (c.in-Ok-eq0.ensures.end c.in-Ok-eq0.field-0-test), c.in_ok-write_out.ensures.nothing_waits);
+  end = λ none. (
+    end-kept (reader_remaining g.R.Read.remaining) c.args.input.now c.answer_buffered.new.input (c.in_default.ensures.kept refl)
+        (c.in-Ok-eq0.ensures.end c.in-Ok-eq0.field-0-test),
+    c.in_ok-write_out.ensures.nothing_waits,
+  );
   written = writes-passed _ c.in_ok-write_out.ensures.written refl c.in_ok-write_out.ensures.nothing_waits;
   unread = tt;
 }
