@@ -73,11 +73,10 @@ function file_name(   it) {
 }
 
 # This line's file, number and text.
-function line_told(   it) {
-    it = quoted_at == NR ? quoted : $0
-    if (length(it) > 200) it = substr(it, 1, 200) ".."
-    return file_name() ", line " FNR ": " it
-}
+function line_told() { return file_name() ", line " FNR ": " cut(quoted_at == NR ? quoted : $0) }
+
+# A text as a message shows it.
+function cut(text) { return length(text) > 200 ? substr(text, 1, 200) ".." : text }
 
 # The seed of a process: each process has its own, and other given seeds lead to others.
 function seed_of(process) { return ENVIRON["seed"] sprintf("%04d", process % 10000) }
@@ -255,7 +254,7 @@ function refuse(key, why,   where) {
 }
 
 function tell_refused(where, key, why) {
-    printf "%s: %s, key '%s': %s; it is left out\n", ENVIRON["name"], where, key, why > "/dev/stderr"
+    printf "%s: %s, key '%s': %s; it is left out\n", ENVIRON["name"], where, cut(key), why > "/dev/stderr"
     bad_images++
 }
 

@@ -70,7 +70,7 @@ check_fields() {
 
 check_rest() {
     is_among "$decimals" 0 9 || wrong "-d takes 0 to 9, and '$decimals' is none of these"
-    matches "$points" "$percent(,$percent)*" || wrong "-p takes percentiles from 0 to 100, and '$points' isn't that"
+    matches "$points" "$percent(,$percent)*" || wrong "-p takes percentiles from 0 to 100, with at most 12 decimals, and '$points' isn't that"
     columns=$(printf '%s\n' "$points" | tr ',' '\n' | wc -l)
     case $family in
         req) accuracy="${k:=50} high"; is_among "$k" 4 1024 && [ "$((k % 2))" = 0 ] || wrong "-k of req is even, from 4 to 1024" ;;

@@ -56,7 +56,11 @@ function shown(text) {
     return text == "" ? "\"\"" : text
 }
 
-function padded(text, width) { return sprintf("%" width - places(text) "s", "") }
+# The spaces that fill a text up to a width. (sprintf has a limit in mawk: 8191 characters.)
+function padded(text, width,   it) {
+    for (it = " "; length(it) < width;) it = it it
+    return substr(it, 1, width - places(text))
+}
 
 function print_table(   r, i, wide, width, line, text) {
     wide = 5
