@@ -7,6 +7,8 @@
 set -eu
 # shellcheck disable=SC3040
 if (set -o pipefail) 2> /dev/null; then set -o pipefail; fi
+# (with standard error closed, messages are lost, and the status is still the right one)
+[ -e /dev/fd/2 ] || exec 2> /dev/null
 export LC_ALL=C
 name=${0##*/}
 AWK=${AWK:-awk}

@@ -15,7 +15,7 @@ use Rattle.sketch_base.proofs.Gains.{ScratchGoesOn, scratch_obeys, gained, lost,
 use Rattle.sketch_base.proofs.MirroredWorlds.{MirroredWorlds}
 use Rattle.sketch_base.proofs.Evens.{evens}
 
--- the ranks sum to their number times the true rank if gains and losses have the same sum over all words
+-- the ranks sum to the number of words times the true rank if gains and losses have the same sum over all words
 equal_sums : (w ranks losses gains t consts left right : ℕ) →
     left ≡ right → left ≡ ranks + losses → right ≡ consts + gains → consts ≡ w * t → gains ≡ losses → {m : ℕ} → t ≡ m → ranks ≡ w * m
 equal_sums w ranks losses gains t consts left right a b c d e g = omega (arith, a, b, c, d, e, ap (λ n. w * n) g)
