@@ -45,7 +45,7 @@ use Rattle.sketch_req.specs.Relative.{off_protected_end, IsRelative, Reaches}
 use Rattle.quantile_sketches.specs.ReqFair.{is_fair_slot}
 use Rattle.quantile_sketches.specs.ReqReady.{stays_fair}
 use Rattle.quantile_sketches.specs.ReqUpdated.{was_only_updated, compacted_in, squared_errors}
-use Rattle.quantile_sketches.specs.Run.{stream_of, RunIsUnbiasedWhere, RunIsWithinLoad}
+use Rattle.quantile_sketches.specs.Run.{stream_of, RunIsUnbiasedWhere, PlaysAreUnbiasedWhere, RunIsWithinLoad}
 use Rattle.quantile_sketches.proofs.AllWords.{led-left-out, led-rank}
 use Rattle.quantile_sketches.proofs.LeftOut.{IsLeftOut, left-out}
 use Rattle.quantile_sketches.proofs.LegalPlans.{run-legal, steady-start, steady-from, along-even}
@@ -97,6 +97,10 @@ updated-shed : {A : Type 0} (cmp : A → A → Ordering) (own : List (ReqCommand
     Sheds (trace_of req_rules own) fewer → (word : List Bool) →
     ((play cmp (trace_of req_rules own) word start).slots slot).levels ≡ ((play cmp fewer word start).slots slot).levels
 updated-shed cmp own slot only fewer sheds word = ap (λ bag. bag.levels) (sym (bag-shed cmp own slot only fewer sheds word))
+
+-- a slot that was only updated is unbiased
+pub unbiased-updated : {A : Type 0} (cmp : A → A → Ordering) → RunIsUnbiasedWhere req_rules cmp was_only_updated
+unbiased-updated cmp test commands bits slot only enough = run-unbiased cmp commands slot only bits enough test
 
 -- ---- for a run
 
@@ -167,6 +171,13 @@ module _ {A : Type 0} {cmp : A → A → Ordering} (o : IsTotalOrder cmp) (spell
         let tails : tails_of commands slot ≡ tails_of fewer slot = ap (λ (f : ℕ → ℕ). f slot) t.tails in
         let enough = rw (streams, tails) at few in
         alike-exact o fewer word slot s shape (played slot s held) y criteria enough ∙ sym (ap (true_rank cmp y criteria) streams)
+
+    -- in the plays of the accepted commands a slot is unbiased where a law says so
+    pub plays-unbiased : coins (trace_of req_rules commands) ≤ length word → (shows : List (ReqCommand A) → ℕ → Bool) → RunIsUnbiasedWhere req_rules cmp shows →
+        PlaysAreUnbiasedWhere req_rules cmp (accepted_of refused commands) (length word) shows
+    plays-unbiased enough shows law slot test show =
+        let l = left-out (req_kind_lawful o spelling) word commands refused are in
+        law test (accepted_of refused commands) (length word) slot show (omega (arith, enough, l.drawn))
 
   -- ---- for the runs under all words
 
@@ -242,7 +253,7 @@ module _ {A : Type 0} {cmp : A → A → Ordering} (o : IsTotalOrder cmp) (spell
 
     -- slots that were only updated are unbiased
     pub runs-unbiased : AreUnbiasedWhere (req_kind cmp spelling) commands word slots was_only_updated
-    runs-unbiased runs slot show = by-law was_only_updated (updated-shed cmp) runs slot show (λ test own bits slot only enough. run-unbiased cmp own slot only bits enough test)
+    runs-unbiased runs slot show = by-law was_only_updated (updated-shed cmp) runs slot show (unbiased-updated cmp)
 
     -- so are fair slots
     pub runs-fair : AreUnbiasedWhere (req_kind cmp spelling) commands word slots is_fair_slot

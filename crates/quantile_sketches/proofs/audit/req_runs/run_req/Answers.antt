@@ -1,8 +1,13 @@
 use Rattle.std.proofs.Common.{◌<◌, ◌-◌, ◌^◌, length, arith}
+use Rattle.quantile_sketches.specs.ReqFair.{is_fair_slot}
+use Rattle.quantile_sketches.specs.ReqReady.{stays_fair}
+use Rattle.quantile_sketches.specs.ReqUpdated.{was_only_updated}
 use Rattle.quantile_sketches.proofs.Given.{given, both, three}
 use Rattle.quantile_sketches.proofs.AfterCommands.{close-by}
+use Rattle.quantile_sketches.proofs.ReqFair.{run-unbiased_where_fair}
 use Rattle.quantile_sketches.proofs.ReqKind.{req_kind_lawful}
-use Rattle.quantile_sketches.proofs.ReqRuns.{req-load, run-ordered, run-levels, run-small, run-tail, run-tails-own, run-images, runs-unbiased, runs-fair, runs-redrawn, runs-relative, runs-relative_to_counts}
+use Rattle.quantile_sketches.proofs.ReqReady.{run-unbiased_where_redrawn}
+use Rattle.quantile_sketches.proofs.ReqRuns.{req-load, run-ordered, run-levels, run-small, run-tail, run-tails-own, run-images, runs-unbiased, runs-fair, runs-redrawn, runs-relative, runs-relative_to_counts, unbiased-updated, plays-unbiased}
 use Rattle.quantile_sketches.proofs.audit.req_runs.run_req.Goals as goal
 
 pub run_family-requires-clause-lawful : goal.run_family-requires-clause-lawful
@@ -46,6 +51,21 @@ returns g c =
       redrawn =
           given c.run_family.result (λ run enough. runs-redrawn g.met.T.Ord.total g.T.ReqValue.spelling c.args.commands.now run.slots c.args.word.now enough
           few) c.run_family.ensures.enough;
+      plays =
+          both c.run_family.result
+          (λ run refused enough.
+          plays-unbiased g.met.T.Ord.total g.T.ReqValue.spelling c.args.commands.now run.slots c.args.word.now run.refused.items refused enough was_only_updated (unbiased-updated g.T.Ord.cmp))
+          c.run_family.ensures.refused c.run_family.ensures.enough;
+      fair_plays =
+          both c.run_family.result
+          (λ run refused enough.
+          plays-unbiased g.met.T.Ord.total g.T.ReqValue.spelling c.args.commands.now run.slots c.args.word.now run.refused.items refused enough is_fair_slot (run-unbiased_where_fair g.T.Ord.cmp))
+          c.run_family.ensures.refused c.run_family.ensures.enough;
+      redrawn_plays =
+          both c.run_family.result
+          (λ run refused enough.
+          plays-unbiased g.met.T.Ord.total g.T.ReqValue.spelling c.args.commands.now run.slots c.args.word.now run.refused.items refused enough stays_fair (run-unbiased_where_redrawn g.T.Ord.cmp))
+          c.run_family.ensures.refused c.run_family.ensures.enough;
       images =
           given c.run_family.result
           (λ run. run-images g.met.T.Ord.total g.T.ReqValue.spelling c.args.commands.now run.slots g.met.T.ReqValue.is_prefix_free c.requires.codec)
