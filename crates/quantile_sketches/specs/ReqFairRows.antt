@@ -1,19 +1,14 @@
 -- Worked examples of REQ runs that are fair to a slot, and of runs that aren't.
-use Rattle.std.specs.Prelude.{◌≡◌, ℕ, zero, suc, true, false, List, [], ◌∷◌, ◌++◌}
+use Rattle.std.specs.Prelude.{◌≡◌, ℕ, true, false, List, [], ◌∷◌, ◌++◌}
 use Rattle.sketch_base.specs.Trace.{coins}
 use Rattle.sketch_base.specs.Words.{sum_over_words}
 use Rattle.sketch_req.specs.declared.RankAccuracy.TheVariants.{HighRank}
-use Rattle.quantile_sketches.specs.declared.audit.commands.Command.TheVariants.{New, Update, Merge}
+use Rattle.quantile_sketches.specs.declared.audit.commands.Command.TheVariants.{New, Merge}
 use Rattle.quantile_sketches.specs.Plan.{trace_of}
 use Rattle.quantile_sketches.specs.ReqFair.{is_fair_slot}
 use Rattle.quantile_sketches.specs.ReqPlan.{ReqCommand}
-use Rattle.quantile_sketches.specs.ReqRows.{with_trip, weight_under}
+use Rattle.quantile_sketches.specs.ReqRows.{taking, with_trip, weight_under}
 use Rattle.quantile_sketches.specs.ReqRules.{req_rules}
-
--- `count` updates of a slot by ascending items
-abbrev pub taking : (slot first count : ℕ) → List (ReqCommand ℕ)
-taking slot first zero = []
-taking slot first (suc more) = Update slot first ∷ taking slot (suc first) more
 
 -- two sketches of k 4: slot `first` takes 1 to 27 and draws its first coin; slot `second` takes 28 to 50 and draws none; then
 -- slot `source` is merged into slot `into`

@@ -5,10 +5,10 @@ use Rattle.sketch_base.specs.Words.{sum_over_words}
 use Rattle.sketch_req.specs.declared.RankAccuracy.TheVariants.{HighRank, LowRank}
 use Rattle.quantile_sketches.specs.declared.audit.commands.Command.TheVariants.{New, Update, Merge, RoundTrip, Redraw, MergeRedrawn}
 use Rattle.quantile_sketches.specs.Plan.{trace_of}
-use Rattle.quantile_sketches.specs.ReqFairRows.{taking, undrawn}
+use Rattle.quantile_sketches.specs.ReqFairRows.{undrawn}
 use Rattle.quantile_sketches.specs.ReqPlan.{ReqCommand}
 use Rattle.quantile_sketches.specs.ReqReady.{stays_fair}
-use Rattle.quantile_sketches.specs.ReqRows.{with_trip, weight_under}
+use Rattle.quantile_sketches.specs.ReqRows.{taking, with_trip, weight_under}
 use Rattle.quantile_sketches.specs.ReqRules.{req_rules}
 
 -- a sketch of k 4 that takes 1 to 50, with a round trip and then a Redraw after 24
