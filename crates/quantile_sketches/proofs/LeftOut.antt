@@ -13,9 +13,10 @@ use Rattle.quantile_sketches.specs.RuleLaws.{IsLawful}
 use Rattle.quantile_sketches.specs.Plan.{Plan, start_plan, is_refused, accepted_shapes, accepted_events, events_of, plan_after, after_command, after_commands, plan_of, trace_of}
 use Rattle.quantile_sketches.specs.Refused.{is_among, accepted_of, IsRefusedExactly, AreRefused}
 use Rattle.quantile_sketches.specs.Rules.{Rules, Kind}
-use Rattle.quantile_sketches.specs.Run.{accepted_streams, streams_after, stream_of}
+use Rattle.quantile_sketches.specs.Run.{accepted_streams, stream_of}
 use Rattle.quantile_sketches.proofs.LegalPlans.{plan-append, after-append, trace-more, coins-more}
 use Rattle.quantile_sketches.proofs.Refusals.{without-more}
+use Rattle.quantile_sketches.proofs.Streams.{streams_after}
 
 -- what stays the same if only refused commands are left out; so does the trace if a round trip has no actions
 pub record IsLeftOut {A C Shape : Type 0} (rules : Rules A C Shape) (commands fewer : List (Command A C)) : Type 0 where

@@ -7,15 +7,19 @@ use Rattle.sketch_req.specs.Schedule.{Layout, merge_layouts}
 use Rattle.sketch_req.proofs.ByUpdates.{none_drawn as new-drawn}
 use Rattle.sketch_req.proofs.FairSlots.{Stands, stands-end, stands-same, stands-clear, stands-forget, stands-redraw, stands-update, stands-merge, stands-merge_redrawn}
 use Rattle.quantile_sketches.specs.declared.audit.commands.Command.TheVariants.{New, Update, UpdateWeighted, Merge, Reset, RoundTrip, Redraw, MergeRedrawn}
-use Rattle.quantile_sketches.specs.Plan.{Plan, start_plan, events_of, plan_after, trace_from}
+use Rattle.quantile_sketches.specs.Plan.{Plan, start_plan, events_of, after_command, plan_after, trace_from}
 use Rattle.quantile_sketches.specs.ReqFair.{is_fair_slot}
 use Rattle.quantile_sketches.specs.ReqPlan.{ReqCommand, shape_in}
-use Rattle.quantile_sketches.specs.ReqReady.{Fairness, new_fairness, updated_fairness, with_ready, merged_fairness, fairness_in, accepted_fairness, fairness_after, fairness_from, stays_fair}
+use Rattle.quantile_sketches.specs.ReqReady.{Fairness, new_fairness, updated_fairness, with_ready, merged_fairness, fairness_in, accepted_fairness, fairness_from, stays_fair}
 use Rattle.quantile_sketches.specs.ReqRules.{ReqShape, new_shape, req_rules}
 use Rattle.quantile_sketches.specs.Run.{RunIsUnbiasedWhere}
 use Rattle.quantile_sketches.proofs.ReqFair.{run-unbiased_where_fair}
 use Rattle.quantile_sketches.proofs.ReqShapes.{updated_shape, events_merged, req_merge_events, accepted_req_events, req_merge_shapes, accepted_req_shapes, either-way}
 use Rattle.quantile_sketches.proofs.ReqRuleLaws.{merged_as}
+
+-- the fairness of all slots after one command, refused or not
+abbrev fairness_after : {A : Type 0} → Plan ReqShape → (ℕ → Fairness) → ReqCommand A → ℕ → Fairness
+fairness_after = after_command req_rules (λ plan. accepted_fairness plan.shapes)
 
 abbrev layouts_in : (ℕ → Option ReqShape) → ℕ → List Layout
 layouts_in shapes j = (shape_in (shapes j)).layouts

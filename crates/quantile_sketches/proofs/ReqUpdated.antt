@@ -21,17 +21,21 @@ use Rattle.sketch_req.specs.Sections.{IsLegalK}
 use Rattle.sketch_req.specs.declared.RankAccuracy.{RankAccuracy}
 use Rattle.sketch_req.proofs.Unbiased.{AreCompacts, room_compacts, unbiased_list}
 use Rattle.quantile_sketches.specs.declared.audit.commands.Command.TheVariants.{New, Update, UpdateWeighted, Merge, Reset, RoundTrip, Redraw, MergeRedrawn}
-use Rattle.quantile_sketches.specs.Plan.{Plan, start_plan, count_of, events_of, plan_after, plan_from, trace_from, trace_of, plan_of}
+use Rattle.quantile_sketches.specs.Plan.{Plan, start_plan, count_of, events_of, after_command, plan_after, plan_from, trace_from, trace_of, plan_of}
 use Rattle.quantile_sketches.specs.ReqPlan.{ReqCommand, shape_in, shape_at}
 use Rattle.quantile_sketches.specs.ReqRules.{ReqShape, new_shape, merge_actions_by, req_rules}
 use Rattle.quantile_sketches.specs.ReqRun.{merged_in}
-use Rattle.quantile_sketches.specs.ReqUpdated.{accepted_only_updated, only_updated_after, only_updated_from, was_only_updated, compacted_in, off_tail_at, squared_errors}
-use Rattle.quantile_sketches.specs.Run.{accepted_streams, streams_after, streams_from, stream_of, IsUnbiased}
+use Rattle.quantile_sketches.specs.ReqUpdated.{accepted_only_updated, only_updated_from, was_only_updated, compacted_in, off_tail_at, squared_errors}
+use Rattle.quantile_sketches.specs.Run.{accepted_streams, streams_from, stream_of, IsUnbiased}
 use Rattle.quantile_sketches.proofs.LegalPlans.{at_slot, changed-away}
 use Rattle.quantile_sketches.proofs.ReqShapes.{events_merged, req_merge_events, accepted_req_events, req_merge_shapes, accepted_req_shapes, updated_shape, either-way}
 use Rattle.quantile_sketches.proofs.ReqPlanFits.{run-fits}
 use Rattle.quantile_sketches.proofs.ReqRuleLaws.{req_lawful, merged_as}
-use Rattle.quantile_sketches.proofs.Streams.{AreCounted, counts-after, streams-fit}
+use Rattle.quantile_sketches.proofs.Streams.{AreCounted, streams_after, counts-after, streams-fit}
+
+-- which slots were only updated after one command, refused or not
+abbrev only_updated_after : {A : Type 0} → Plan ReqShape → (ℕ → Bool) → ReqCommand A → ℕ → Bool
+only_updated_after = after_command req_rules (λ plan. accepted_only_updated plan.shapes)
 
 -- ---- updates one after another
 

@@ -3,7 +3,7 @@ use Rattle.std.specs.Prelude.{ℕ, ◌==◌, ◌&&◌, not, Bool, true, false, I
 use Rattle.sketch_base.specs.Trace.{changed}
 use Rattle.sketch_req.specs.Schedule.{joined_layouts, are_full}
 use Rattle.quantile_sketches.specs.declared.audit.commands.Command.TheVariants.{New, Update, UpdateWeighted, Merge, Reset, RoundTrip, Redraw, MergeRedrawn}
-use Rattle.quantile_sketches.specs.Plan.{Plan, start_plan, after_command, after_commands}
+use Rattle.quantile_sketches.specs.Plan.{Plan, start_plan, after_commands}
 use Rattle.quantile_sketches.specs.ReqFair.{is_fair_slot}
 use Rattle.quantile_sketches.specs.ReqPlan.{ReqCommand, shape_in}
 use Rattle.quantile_sketches.specs.ReqRules.{ReqShape, req_rules}
@@ -56,10 +56,7 @@ accepted_fairness shapes fairs (RoundTrip slot) = changed fairs slot (with_ready
 accepted_fairness shapes fairs (Redraw slot) = changed fairs slot (with_ready (fairs slot) true)
 accepted_fairness shapes fairs (MergeRedrawn into source) = fairness_in true shapes fairs into source
 
--- after one command, refused or not, and after several
-abbrev pub fairness_after : {A : Type 0} → Plan ReqShape → (ℕ → Fairness) → ReqCommand A → ℕ → Fairness
-fairness_after = after_command req_rules (λ plan. accepted_fairness plan.shapes)
-
+-- after several commands, refused or not
 abbrev pub fairness_from : {A : Type 0} → Plan ReqShape → (ℕ → Fairness) → List (ReqCommand A) → ℕ → Fairness
 fairness_from = after_commands req_rules (λ plan. accepted_fairness plan.shapes)
 

@@ -8,7 +8,7 @@ use Rattle.sketch_base.specs.Trace.{changed, play, start, coins}
 use Rattle.sketch_base.specs.Words.{sum_over_words, distance, square}
 use Rattle.sketch_req.specs.Relative.{off_protected_end, IsRelative, Reaches}
 use Rattle.quantile_sketches.specs.declared.audit.commands.Command.TheVariants.{New, Update, UpdateWeighted, Merge, Reset, RoundTrip, Redraw, MergeRedrawn}
-use Rattle.quantile_sketches.specs.Plan.{Plan, start_plan, after_command, after_commands, trace_of}
+use Rattle.quantile_sketches.specs.Plan.{Plan, start_plan, after_commands, trace_of}
 use Rattle.quantile_sketches.specs.ReqPlan.{ReqCommand, shape_at}
 use Rattle.quantile_sketches.specs.ReqRules.{ReqShape, req_rules}
 use Rattle.quantile_sketches.specs.ReqRun.{merged_in}
@@ -27,10 +27,7 @@ accepted_only_updated shapes only (RoundTrip slot) = changed only slot false
 accepted_only_updated shapes only (Redraw slot) = changed only slot false
 accepted_only_updated shapes only (MergeRedrawn into source) = merged_in shapes only into source
 
--- after one command, refused or not, and after several
-abbrev pub only_updated_after : {A : Type 0} → Plan ReqShape → (ℕ → Bool) → ReqCommand A → ℕ → Bool
-only_updated_after = after_command req_rules (λ plan. accepted_only_updated plan.shapes)
-
+-- after several commands, refused or not
 abbrev pub only_updated_from : {A : Type 0} → Plan ReqShape → (ℕ → Bool) → List (ReqCommand A) → ℕ → Bool
 only_updated_from = after_commands req_rules (λ plan. accepted_only_updated plan.shapes)
 
