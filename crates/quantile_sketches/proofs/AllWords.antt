@@ -6,12 +6,11 @@ use Rattle.sketch_base.specs.Trace.{play, start, coins}
 use Rattle.sketch_base.proofs.Alikes.{rank-alike}
 use Rattle.quantile_sketches.specs.declared.audit.commands.Command.{Command}
 use Rattle.quantile_sketches.specs.AllWords.{rank_of}
-use Rattle.quantile_sketches.specs.Audit.{rank_under}
 use Rattle.quantile_sketches.specs.Plan.{count_of, plan_of, trace_of}
 use Rattle.quantile_sketches.specs.Refused.{accepted_of, LeadTo}
 use Rattle.quantile_sketches.specs.RuleLaws.{IsLawful}
 use Rattle.quantile_sketches.specs.Rules.{Kind}
-use Rattle.quantile_sketches.specs.Run.{stream_of}
+use Rattle.quantile_sketches.specs.Run.{stream_of, rank_under}
 use Rattle.quantile_sketches.specs.RunSteps.{Held}
 use Rattle.quantile_sketches.proofs.AfterCommands.{Arrives, arrives, going-stand}
 use Rattle.quantile_sketches.proofs.Audits.{rank-nothing}

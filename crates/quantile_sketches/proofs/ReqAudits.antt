@@ -9,15 +9,15 @@ use Rattle.sketch_base.specs.Trace.{coins}
 use Rattle.sketch_base.specs.Words.{sum_over_words, distance, square}
 use Rattle.sketch_req.specs.Relative.{IsRelative}
 use Rattle.sketch_req.proofs.Relatives.{updates_relative}
-use Rattle.quantile_sketches.specs.Audit.{word_of, rank_under, AreWeights, AreRunWeights}
+use Rattle.quantile_sketches.specs.Audit.{word_of, AreWeights, AreRunWeights}
 use Rattle.quantile_sketches.specs.Plan.{trace_of}
 use Rattle.quantile_sketches.specs.Refused.{accepted_of}
 use Rattle.quantile_sketches.specs.ReqKind.{req_kind}
 use Rattle.quantile_sketches.specs.ReqPlan.{ReqCommand, shape_at}
 use Rattle.quantile_sketches.specs.ReqRules.{req_rules}
-use Rattle.quantile_sketches.specs.ReqUpdated.{was_only_updated, compacted_in, off_tail_at, squared_errors}
-use Rattle.quantile_sketches.specs.Run.{stream_of}
-use Rattle.quantile_sketches.specs.Scatter.{scatter_of}
+use Rattle.quantile_sketches.specs.ReqUpdated.{was_only_updated, compacted_in, off_tail_at}
+use Rattle.quantile_sketches.specs.Run.{stream_of, rank_under}
+use Rattle.quantile_sketches.specs.Scatter.{squared_errors, scatter_of}
 use Rattle.quantile_sketches.proofs.Audits.{weights-measured, weights-total}
 use Rattle.quantile_sketches.proofs.ReqLeftOut.{req-left-out}
 use Rattle.quantile_sketches.proofs.ReqUpdated.{bag-shed, run-unbiased, run-relative}
@@ -47,7 +47,7 @@ module _ {A : Type 0} {cmp : A → A → Ordering} (o : IsTotalOrder cmp) (spell
   pub weights-relative : (rank : ℕ) → rank ≡ true_rank cmp y criteria (stream_of req_rules commands slot) →
       IsRelative (shape_at commands slot).k (compacted_in (shape_at commands slot)) bits (scatter_of weights rank) (off_tail_at cmp y criteria commands slot)
   weights-relative rank is =
-      let same : scatter_of weights rank ≡ squared_errors cmp y criteria commands bits slot =
+      let same : scatter_of weights rank ≡ squared_errors req_rules cmp y criteria commands bits slot =
       weights-measured req_rules cmp y criteria commands slot weights words weights-are (λ weight. square (distance weight rank))
       ∙ ap (λ (n : ℕ). sum_over_words bits (λ word. square (distance (under word) n))) is in
       subst (λ (n : ℕ). let s = shape_at commands slot in IsRelative s.k (compacted_in s) bits n (off_tail_at cmp y criteria commands slot)) (sym same)

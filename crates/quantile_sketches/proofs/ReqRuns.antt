@@ -33,7 +33,6 @@ use Rattle.sketch_req.proofs.Rank.{retained_is}
 use Rattle.sketch_req.proofs.Relatives.{updates_relative, updates_relative_to_counts}
 use Rattle.sketch_req.proofs.WrittenSketches.{written_lem}
 use Rattle.quantile_sketches.specs.AllWords.{rank_of, AllRuns, ShowIn, IsUnbiasedIn, squares_in, AreUnbiasedWhere}
-use Rattle.quantile_sketches.specs.Audit.{rank_under}
 use Rattle.quantile_sketches.specs.Outcome.{Slots, sketch_at, ArePlanned, ArePlayed, AreSound}
 use Rattle.quantile_sketches.specs.Plan.{Plan, start_plan, plan_of, trace_of}
 use Rattle.quantile_sketches.specs.Refused.{accepted_of, AreRefused}
@@ -44,8 +43,9 @@ use Rattle.quantile_sketches.specs.ReqRules.{ReqShape, req_rules}
 use Rattle.sketch_req.specs.Relative.{off_protected_end, IsRelative, Reaches}
 use Rattle.quantile_sketches.specs.ReqFair.{is_fair_slot}
 use Rattle.quantile_sketches.specs.ReqReady.{stays_fair}
-use Rattle.quantile_sketches.specs.ReqUpdated.{was_only_updated, compacted_in, squared_errors}
-use Rattle.quantile_sketches.specs.Run.{stream_of, RunIsUnbiasedWhere, PlaysAreUnbiasedWhere, RunIsWithinLoad}
+use Rattle.quantile_sketches.specs.ReqUpdated.{was_only_updated, compacted_in}
+use Rattle.quantile_sketches.specs.Run.{stream_of, rank_under, RunIsUnbiasedWhere, PlaysAreUnbiasedWhere, RunIsWithinLoad}
+use Rattle.quantile_sketches.specs.Scatter.{squared_errors}
 use Rattle.quantile_sketches.proofs.AllWords.{led-left-out, led-rank}
 use Rattle.quantile_sketches.proofs.LeftOut.{IsLeftOut, left-out}
 use Rattle.quantile_sketches.proofs.LegalPlans.{run-legal, steady-start, steady-from, along-even}
@@ -245,7 +245,7 @@ module _ {A : Type 0} {cmp : A → A → Ordering} (o : IsTotalOrder cmp) (spell
 
       -- the squares of its errors are those of the commands accepted under the given word
       same-squares : (y : A) (criteria : SearchCriteria) →
-          squared_errors cmp y criteria (accepted runs word) (length word) slot ≡ squares_in (req_kind cmp spelling) commands word slots runs slot y criteria
+          squared_errors req_rules cmp y criteria (accepted runs word) (length word) slot ≡ squares_in (req_kind cmp spelling) commands word slots runs slot y criteria
       same-squares y criteria =
           ap (λ (l : List A). sum_over_words (length word) (λ other. square
           (distance (rank_under req_rules cmp y criteria (accepted runs word) slot other) (true_rank cmp y criteria l)))) accepted-stream
@@ -275,12 +275,12 @@ module _ {A : Type 0} {cmp : A → A → Ordering} (o : IsTotalOrder cmp) (spell
 
       -- what holds for shape, stream and squares under the accepted commands holds for those of the run
       as-run : (P : ReqShape → List A → ℕ → Type 0) →
-          P (shape_in ((plan_of req_rules (accepted runs word)).shapes slot)) (stream_of req_rules (accepted runs word) slot) (squared_errors cmp y criteria (accepted runs word) (length word) slot) →
+          P (shape_in ((plan_of req_rules (accepted runs word)).shapes slot)) (stream_of req_rules (accepted runs word) slot) (squared_errors req_rules cmp y criteria (accepted runs word) (length word) slot) →
           P (req_shape s) (stream_of req_rules commands slot) squares
       as-run P is =
           subst (P (req_shape s) (stream_of req_rules commands slot)) (same-squares was_only_updated (updated-shed cmp) runs slot show y criteria)
-          (subst (λ (l : List A). P (req_shape s) l (squared_errors cmp y criteria (accepted runs word) (length word) slot)) (accepted-stream was_only_updated (updated-shed cmp) runs slot show)
-          (subst (λ (shape : ReqShape). P shape (stream_of req_rules (accepted runs word) slot) (squared_errors cmp y criteria (accepted runs word) (length word) slot)) accepted-shape is))
+          (subst (λ (l : List A). P (req_shape s) l (squared_errors req_rules cmp y criteria (accepted runs word) (length word) slot)) (accepted-stream was_only_updated (updated-shed cmp) runs slot show)
+          (subst (λ (shape : ReqShape). P shape (stream_of req_rules (accepted runs word) slot) (squared_errors req_rules cmp y criteria (accepted runs word) (length word) slot)) accepted-shape is))
 
       -- the errors of a slot that was only updated are relative
       pub runs-relative : IsRelative s.k (length s.levels - 1) (length word) squares (off_protected_end cmp s.accuracy y criteria (stream_of req_rules commands slot))

@@ -25,8 +25,9 @@ use Rattle.quantile_sketches.specs.Plan.{Plan, start_plan, count_of, events_of, 
 use Rattle.quantile_sketches.specs.ReqPlan.{ReqCommand, shape_in, shape_at}
 use Rattle.quantile_sketches.specs.ReqRules.{ReqShape, new_shape, merge_actions_by, req_rules}
 use Rattle.quantile_sketches.specs.ReqRun.{merged_in}
-use Rattle.quantile_sketches.specs.ReqUpdated.{accepted_only_updated, only_updated_from, was_only_updated, compacted_in, off_tail_at, squared_errors}
+use Rattle.quantile_sketches.specs.ReqUpdated.{accepted_only_updated, only_updated_from, was_only_updated, compacted_in, off_tail_at}
 use Rattle.quantile_sketches.specs.Run.{accepted_streams, streams_from, stream_of, IsUnbiased}
+use Rattle.quantile_sketches.specs.Scatter.{squared_errors}
 use Rattle.quantile_sketches.proofs.LegalPlans.{at_slot, changed-away}
 use Rattle.quantile_sketches.proofs.ReqShapes.{events_merged, req_merge_events, accepted_req_events, req_merge_shapes, accepted_req_shapes, updated_shape, either-way}
 use Rattle.quantile_sketches.proofs.ReqPlanFits.{run-fits}
@@ -298,20 +299,20 @@ module _ {A : Type 0} (cmp : A → A → Ordering) (commands : List (ReqCommand 
     count = off_tail_at cmp y criteria commands slot
 
     relative-by : (levels : ℕ) → IsRelative shape.k levels (draws_of updates) (sum_over_words (draws_of updates) (λ word. error (fresh_bag word))) count →
-        IsRelative shape.k levels bits (squared_errors cmp y criteria commands bits slot) count
+        IsRelative shape.k levels bits (squared_errors req_rules cmp y criteria commands bits slot) count
     relative-by levels relative =
         let s = share bits enough error in
-        subst (λ (n : ℕ). IsRelative shape.k levels n (squared_errors cmp y criteria commands bits slot) count) (sym s.all)
+        subst (λ (n : ℕ). IsRelative shape.k levels n (squared_errors req_rules cmp y criteria commands bits slot) count) (sym s.all)
         (rw s.sums (more_words shape.k levels s.others (draws_of updates) (sum_over_words (draws_of updates) (λ word. error (fresh_bag word))) count relative))
 
     -- its errors are relative
-    pub run-relative : UpdatesAreRelative cmp → IsRelative shape.k (compacted_in shape) bits (squared_errors cmp y criteria commands bits slot) count
+    pub run-relative : UpdatesAreRelative cmp → IsRelative shape.k (compacted_in shape) bits (squared_errors req_rules cmp y criteria commands bits slot) count
     run-relative relative =
-        subst (λ (ls : List Layout). IsRelative shape.k (length ls - 1) bits (squared_errors cmp y criteria commands bits slot) count) (sym fresh.layouts_are)
+        subst (λ (ls : List Layout). IsRelative shape.k (length ls - 1) bits (squared_errors req_rules cmp y criteria commands bits slot) count) (sym fresh.layouts_are)
         (relative-by (length (updates_layouts shape.k (new_layout ∷ []) stream) - 1) (relative y criteria slot shape.k (draws_of updates) shape.accuracy stream legal short drawn))
 
     -- for a k of at least 24 they are relative to counts alone
     pub run-relative_to_counts : UpdatesAreRelativeToCounts cmp → (levels : ℕ) → 24 ≤ shape.k → Reaches shape.k count levels →
-        IsRelative shape.k levels bits (squared_errors cmp y criteria commands bits slot) count
+        IsRelative shape.k levels bits (squared_errors req_rules cmp y criteria commands bits slot) count
     run-relative_to_counts relative levels great reaches =
         relative-by levels (relative y criteria slot shape.k (draws_of updates) levels shape.accuracy stream legal great short drawn reaches)

@@ -2,10 +2,7 @@
 use Rattle.std.specs.Prelude.{ℕ, ◌-◌, ◌≤◌, Bool, true, false, IsTrue, List, length, Option}
 use Rattle.std.specs.declared.cmp.Ordering.{Ordering}
 use Rattle.sketch_base.specs.declared.common.SearchCriteria.{SearchCriteria}
-use Rattle.sketch_base.specs.Bag.{weighted_rank}
-use Rattle.sketch_base.specs.Query.{counted, true_rank}
-use Rattle.sketch_base.specs.Trace.{changed, play, start, coins}
-use Rattle.sketch_base.specs.Words.{sum_over_words, distance, square}
+use Rattle.sketch_base.specs.Trace.{changed, coins}
 use Rattle.sketch_req.specs.Relative.{off_protected_end, IsRelative, Reaches}
 use Rattle.quantile_sketches.specs.declared.audit.commands.Command.TheVariants.{New, Update, UpdateWeighted, Merge, Reset, RoundTrip, Redraw, MergeRedrawn}
 use Rattle.quantile_sketches.specs.Plan.{Plan, start_plan, after_commands, trace_of}
@@ -13,7 +10,7 @@ use Rattle.quantile_sketches.specs.ReqPlan.{ReqCommand, shape_at}
 use Rattle.quantile_sketches.specs.ReqRules.{ReqShape, req_rules}
 use Rattle.quantile_sketches.specs.ReqRun.{merged_in}
 use Rattle.quantile_sketches.specs.Run.{stream_of}
-use Rattle.quantile_sketches.specs.Scatter.{scatter_of}
+use Rattle.quantile_sketches.specs.Scatter.{squared_errors, scatter_of}
 
 -- which slots were only updated since their New or Reset, after an accepted command: a merge of a sketch that holds items ends
 -- that, and so do a round trip, which loses the kept coins, and a Redraw
@@ -44,19 +41,13 @@ abbrev pub off_tail_at : {A : Type 0} → (A → A → Ordering) → A → Searc
 off_tail_at cmp y criteria commands slot =
     let s = shape_at commands slot in off_protected_end cmp s.accuracy y criteria (stream_of req_rules commands slot)
 
--- the squares of a slot's errors at a query, summed over the plays under all words of `bits` bits
-abbrev pub squared_errors : {A : Type 0} → (A → A → Ordering) → A → SearchCriteria → List (ReqCommand A) → (bits slot : ℕ) → ℕ
-squared_errors cmp y criteria commands bits slot = sum_over_words bits (λ word. square (distance
-    (weighted_rank cmp (counted cmp y criteria) ((play cmp (trace_of req_rules commands) word start).slots slot))
-    (true_rank cmp y criteria (stream_of req_rules commands slot))))
-
 -- if the slot was only updated, its errors are relative to the number of items on the query's accurate side, whatever the other
 -- slots took
 abbrev pub ReqRunIsRelative : {A : Type 0} → (A → A → Ordering) → Type 0
 ReqRunIsRelative {A} cmp = (y : A) (criteria : SearchCriteria) (commands : List (ReqCommand A)) (bits slot : ℕ) →
     IsTrue (was_only_updated commands slot) → coins (trace_of req_rules commands) ≤ bits →
     let s = shape_at commands slot in
-    IsRelative s.k (compacted_in s) bits (squared_errors cmp y criteria commands bits slot) (off_tail_at cmp y criteria commands slot)
+    IsRelative s.k (compacted_in s) bits (squared_errors req_rules cmp y criteria commands bits slot) (off_tail_at cmp y criteria commands slot)
 
 -- and for a k of at least 24 the bound depends on k and that count alone
 abbrev pub ReqRunIsRelativeToCounts : {A : Type 0} → (A → A → Ordering) → Type 0
@@ -64,7 +55,7 @@ ReqRunIsRelativeToCounts {A} cmp = (y : A) (criteria : SearchCriteria) (commands
     IsTrue (was_only_updated commands slot) → coins (trace_of req_rules commands) ≤ bits →
     let s = shape_at commands slot in
     24 ≤ s.k → Reaches s.k (off_tail_at cmp y criteria commands slot) levels →
-    IsRelative s.k levels bits (squared_errors cmp y criteria commands bits slot) (off_tail_at cmp y criteria commands slot)
+    IsRelative s.k levels bits (squared_errors req_rules cmp y criteria commands bits slot) (off_tail_at cmp y criteria commands slot)
 
 -- if the slot of an audit was only updated, the squares of its weights' distances from the true rank are relative
 abbrev pub WeightsAreRelative : {A : Type 0} → (A → A → Ordering) → A → SearchCriteria → List (ReqCommand A) → ℕ → List ℕ → ℕ → Type 0
