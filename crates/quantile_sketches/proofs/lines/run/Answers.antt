@@ -26,6 +26,7 @@ returns-in-Some g c =
     record {
       served = asked-served _ _ _ c.serve.result _ is c.serve.ensures.served;
       broken_off = asked-served _ _ _ c.serve.result _ is c.serve.ensures.broken_off;
+      silent = asked-served _ _ _ c.serve.result _ is refl;
       misused = asked-used _ _ _ _ _ is;
     }
 
@@ -35,5 +36,6 @@ returns-in-None g c =
     record {
       served = unasked-served _ _ _ is;
       broken_off = unasked-served _ _ _ is;
+      silent = unasked-served _ _ _ is;
       misused = unasked-misused _ c.write_bytes.result _ is (refl, refl, c.write_bytes.ensures);
     }
