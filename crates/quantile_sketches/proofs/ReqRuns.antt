@@ -93,7 +93,7 @@ req-weight {A} {cmp} order commands word slot =
     ∙ (run-ranks (req_lawful {A = A}) any commands slot ∙ all-counted (stream_of req_rules commands slot))))
 
 -- the items of a slot that was only updated don't depend on round trips
-updated-shed : {A : Type 0} (cmp : A → A → Ordering) (own : List (ReqCommand A)) (slot : ℕ) → was_only_updated own slot ≡ true → (fewer : List (Event A)) →
+pub updated-shed : {A : Type 0} (cmp : A → A → Ordering) (own : List (ReqCommand A)) (slot : ℕ) → was_only_updated own slot ≡ true → (fewer : List (Event A)) →
     Sheds (trace_of req_rules own) fewer → (word : List Bool) →
     ((play cmp (trace_of req_rules own) word start).slots slot).levels ≡ ((play cmp fewer word start).slots slot).levels
 updated-shed cmp own slot only fewer sheds word = ap (λ bag. bag.levels) (sym (bag-shed cmp own slot only fewer sheds word))

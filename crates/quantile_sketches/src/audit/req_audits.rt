@@ -1,5 +1,5 @@
 //! An audit of commands on REQ sketches.
-ghost use Rattle.std.specs.Prelude.{◌≡◌, ◌≤◌, ◌<◌, ◌*◌, ◌^◌, ◌⊎◌, IfOk, IfErr, IsTrue, length, sum};
+ghost use Rattle.std.specs.Prelude.{◌≡◌, ◌≤◌, ◌<◌, ◌*◌, ◌^◌, ◌⊎◌, IfOk, IfErr, IsTrue, All, length, sum};
 ghost use Rattle.std.specs.declared.cmp.Ordering.TheVariants.{Equal};
 ghost use Rattle.sketch_base.specs.declared.error.ErrorKind.TheVariants.{InvalidArgument, OutOfMemory};
 ghost use Rattle.sketch_base.specs.Query.{true_rank as rank_in};
@@ -7,9 +7,12 @@ ghost use Rattle.sketch_base.specs.Spelling.{SpellingsTie};
 ghost use Rattle.sketch_base.specs.Trace.{coins as taken};
 ghost use Rattle.quantile_sketches.specs.Audit.{AreRunWeights};
 ghost use Rattle.quantile_sketches.specs.Plan.{trace_of};
+ghost use Rattle.quantile_sketches.specs.ReqFair.{is_fair_slot};
 ghost use Rattle.quantile_sketches.specs.ReqKind.{req_kind};
+ghost use Rattle.quantile_sketches.specs.ReqPlan.{tails_of};
+ghost use Rattle.quantile_sketches.specs.ReqReady.{stays_fair};
 ghost use Rattle.quantile_sketches.specs.ReqRules.{req_rules};
-ghost use Rattle.quantile_sketches.specs.ReqUpdated.{was_only_updated, WeightsAreRelative};
+ghost use Rattle.quantile_sketches.specs.ReqUpdated.{was_only_updated, off_tail_at, WeightsAreRelative};
 ghost use Rattle.quantile_sketches.specs.Run.{stream_of};
 
 use super::audits::audit_family;
@@ -26,7 +29,11 @@ use std::alloc::Global;
 ///
 /// Where the slot was only updated since its New or Reset, the weights average to the true rank,
 /// and their standard error is relative: small where few items lie between the item and the
-/// protected end.
+/// protected end. They average to it too where coins are redrawn, by `MergeRedrawn`s of such slots
+/// and a `Redraw` after each round trip. On the protected tail of `3t` items, t being the slot's
+/// tail number, each weight is the true rank.
+///
+/// A round trip that is refused for the length of its image counts here as one that was accepted.
 ///
 /// Values with the same spelling must compare equal, and so must an item and its clone.
 /// `InvalidArgument` exactly where more than 16 coins are taken; any other error is `OutOfMemory`.
@@ -51,6 +58,13 @@ pub fn audit_req<T: ReqValue + Clone + Ord>(
         audit.true_rank ≡ rank_in T.cmp item.now criteria (stream_of req_rules commands.now slot)) }
     ensures sum { IsTrue (was_only_updated commands.now slot) → IfOk result (λ audit.
         sum audit.weights.items ≡ length audit.weights.items * audit.true_rank) }
+    ensures fair { IsTrue (is_fair_slot commands.now slot) → IfOk result (λ audit.
+        sum audit.weights.items ≡ length audit.weights.items * audit.true_rank) }
+    ensures redrawn { IsTrue (stays_fair commands.now slot) → IfOk result (λ audit.
+        sum audit.weights.items ≡ length audit.weights.items * audit.true_rank) }
+    ensures tail { off_tail_at T.cmp item.now criteria commands.now slot
+        ≤ 3 * tails_of commands.now slot
+        → IfOk result (λ audit. All (λ weight. weight ≡ audit.true_rank) audit.weights.items) }
     ensures relative { IfOk result (λ audit. WeightsAreRelative
         T.cmp item.now criteria commands.now slot audit.weights.items audit.true_rank) }
 {

@@ -1,7 +1,7 @@
 use Rattle.std.proofs.Common.{◌*◌, ℕ, length, sym, ap, ◌∙◌}
 use Rattle.quantile_sketches.proofs.Given.{three}
 use Rattle.quantile_sketches.proofs.ReqKind.{req_kind_lawful}
-use Rattle.quantile_sketches.proofs.ReqAudits.{weights-sum, weights-relative}
+use Rattle.quantile_sketches.proofs.ReqAudits.{sum-updated, sum-fair, sum-redrawn, weights-relative, weights-exact}
 use Rattle.quantile_sketches.proofs.audit.req_audits.audit_req.Goals as goal
 
 pub audit_family-requires-clause-lawful : goal.audit_family-requires-clause-lawful
@@ -19,14 +19,35 @@ returns g c =
       sum = λ only.
           three c.audit_family.result
           (λ audit words weights rank.
-          weights-sum g.met.T.Ord.total g.T.ReqValue.spelling c.args.item.now c.args.criteria c.args.commands.now c.args.slot audit.weights.items only words
-          weights
+          sum-updated g.met.T.Ord.total g.T.ReqValue.spelling c.args.item.now c.args.criteria c.args.commands.now c.args.slot audit.weights.items words weights
+          only
           ∙ ap (λ (n : ℕ). length audit.weights.items * n) (sym rank))
+          c.audit_family.ensures.words c.audit_family.ensures.weights c.audit_family.ensures.true_rank;
+      fair = λ fair.
+          three c.audit_family.result
+          (λ audit words weights rank.
+          sum-fair g.met.T.Ord.total g.T.ReqValue.spelling c.args.item.now c.args.criteria c.args.commands.now c.args.slot audit.weights.items words weights
+          fair
+          ∙ ap (λ (n : ℕ). length audit.weights.items * n) (sym rank))
+          c.audit_family.ensures.words c.audit_family.ensures.weights c.audit_family.ensures.true_rank;
+      redrawn = λ stays.
+          three c.audit_family.result
+          (λ audit words weights rank.
+          sum-redrawn g.met.T.Ord.total g.T.ReqValue.spelling c.args.item.now c.args.criteria c.args.commands.now c.args.slot audit.weights.items words weights
+          stays
+          ∙ ap (λ (n : ℕ). length audit.weights.items * n) (sym rank))
+          c.audit_family.ensures.words c.audit_family.ensures.weights c.audit_family.ensures.true_rank;
+      tail = λ few.
+          three c.audit_family.result
+          (λ audit words weights rank number d inside.
+          weights-exact g.met.T.Ord.total g.T.ReqValue.spelling c.args.item.now c.args.criteria c.args.commands.now c.args.slot audit.weights.items words weights
+          few number d inside
+          ∙ sym rank)
           c.audit_family.ensures.words c.audit_family.ensures.weights c.audit_family.ensures.true_rank;
       relative =
           three c.audit_family.result
           (λ audit words weights rank only.
-          weights-relative g.met.T.Ord.total g.T.ReqValue.spelling c.args.item.now c.args.criteria c.args.commands.now c.args.slot audit.weights.items only
-          words weights audit.true_rank rank)
+          weights-relative g.met.T.Ord.total g.T.ReqValue.spelling c.args.item.now c.args.criteria c.args.commands.now c.args.slot audit.weights.items
+          words weights only audit.true_rank rank)
           c.audit_family.ensures.words c.audit_family.ensures.weights c.audit_family.ensures.true_rank;
     }
