@@ -1,5 +1,5 @@
 -- The same commands make the same sketches, if each accepted call makes only one sketch from a sketch.
-use Rattle.std.proofs.Common.{◌≡◌, ◌≢◌, ◌==◌, ℕ, Bool, true, false, List, [], ◌∷◌, Option, None, Some, Result, Ok, Err, slice_set, refl, sym, ap, ◌∙◌, subst, inl, inr}
+use Rattle.std.proofs.Common.{◌≡◌, ◌≢◌, ◌==◌, ℕ, Bool, true, false, List, [], ◌∷◌, ◌++◌, Option, None, Some, Result, Ok, Err, slice_set, refl, sym, ap, ◌∙◌, subst, inl, inr}
 use Rattle.std.specs.Prelude.{IsErrOf}
 use Rattle.std.proofs.lemmas.Option.{same_Some}
 use Rattle.std.specs.declared.alloc.Global.{Global}
@@ -10,7 +10,7 @@ use Rattle.quantile_sketches.specs.Behaviour.{Behaviour, Change}
 use Rattle.quantile_sketches.specs.declared.answer.Refusal.TheVariants.{Sketch}
 use Rattle.quantile_sketches.specs.declared.audit.commands.Command.{Command}
 use Rattle.quantile_sketches.specs.declared.audit.commands.Command.TheVariants.{New, Update, UpdateWeighted, Merge, Reset, RoundTrip, Redraw, MergeRedrawn}
-use Rattle.quantile_sketches.specs.SameRun.{CommandsMakeOne}
+use Rattle.quantile_sketches.specs.SameRun.{AreCarriedOut, CommandsMakeOne}
 use Rattle.quantile_sketches.specs.LineSteps.{Slots, Verdict, Turns, Joins, Changes, Makes, Empties, RoundTrips, JoinsCopy, Merges, CarriesOutItem}
 
 -- memory does not run out
@@ -102,6 +102,18 @@ module _ {A C S Source : Type 0} (behaviour : Behaviour S A C) (bit : Source →
     pub imaged_refuses : (s : S) (e : ErrorKind) → behaviour.imaged s (Err e) → (e ≡ OutOfMemory → ⊥) → e ≡ InvalidArgument
     pub read : (bytes : List ℕ) (t u : S) → behaviour.loaded bytes (Ok t) → behaviour.loaded bytes (Ok u) → t ≡ u
     pub read_memory : (s : S) (v : Vec ℕ Global) (e : ErrorKind) → behaviour.imaged s (Ok v) → behaviour.loaded v.items (Err e) → e ≡ OutOfMemory
+
+  -- commands that are carried out, and one more after them
+  pub carried-more : (commands : List (Command A C)) (slots : Slots S) (coins : Source) (between : Slots S) (left : Source) → AreCarriedOut behaviour bit next commands slots coins between left →
+      (command : Command A C) (verdict : Verdict) → Ample verdict → (slots' : Slots S) (coins' : Source) → CarriesOutItem behaviour bit next command between left verdict slots' coins' →
+      AreCarriedOut behaviour bit next (commands ++ command ∷ []) slots coins slots' coins'
+  carried-more [] slots coins between left (same, stays) command verdict n slots' coins' h =
+      let own =
+      subst (λ (s : Slots S). CarriesOutItem behaviour bit next command s coins verdict slots' coins') same
+      (subst (λ (c : Source). CarriesOutItem behaviour bit next command between c verdict slots' coins') stays h) in
+      (verdict, n, slots', coins', own, (refl, refl))
+  carried-more (first ∷ rest) slots coins between left (v, m, next', mid, h, on) command verdict n slots' coins' last =
+      (v, m, next', mid, h, carried-more rest next' mid between left on command verdict n slots' coins' last)
 
   module _ (one : MakesOne) where
     settled-reset : IsSettled {Source = Source} (Empties behaviour)

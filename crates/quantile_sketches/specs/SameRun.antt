@@ -1,14 +1,18 @@
 -- The same commands, under the same coins, make the same sketches.
-use Rattle.std.specs.Prelude.{◌≡◌, ◌≢◌, ℕ, ℤ, Bool, List, [], ◌∷◌, ◌++◌, Err}
+use Rattle.std.specs.Prelude.{◌≡◌, ◌≢◌, ℕ, ℤ, Bool, List, [], ◌∷◌, ◌++◌, Err, None, replicate}
 use Rattle.sketch_base.specs.declared.error.ErrorKind.TheVariants.{OutOfMemory}
+use Rattle.sketch_base.specs.Random.{WordSource}
 use Rattle.quantile_sketches.specs.Answer.{answer_text}
 use Rattle.quantile_sketches.specs.Behaviour.{Behaviour}
 use Rattle.quantile_sketches.specs.Command.{request_of}
 use Rattle.quantile_sketches.specs.declared.answer.Refusal.TheVariants.{Sketch}
 use Rattle.quantile_sketches.specs.declared.audit.commands.Command.{Command}
 use Rattle.quantile_sketches.specs.Reader.{Grammar}
-use Rattle.quantile_sketches.specs.LineSteps.{Slots, Verdict, Reply, Answers, CarriesOutItem}
+use Rattle.quantile_sketches.specs.LineSteps.{Slots, in_slot, Verdict, Reply, Answers, CarriesOutItem}
 use Rattle.quantile_sketches.specs.LineWords.{words}
+use Rattle.quantile_sketches.specs.Refused.{word_bit, word_next}
+use Rattle.quantile_sketches.specs.RunSteps.{Held}
+use Rattle.quantile_sketches.specs.declared.table.TheConstants.{SLOTS}
 
 module _ {S A C Source : Type 0} (behaviour : Behaviour S A C) (bit : Source → Bool) (next : Source → Source) where
   -- commands are carried out one after the other, and lead from some sketches and coins to others; some may be refused, but none
@@ -23,6 +27,13 @@ module _ {S A C Source : Type 0} (behaviour : Behaviour S A C) (bit : Source →
   abbrev pub CommandsMakeOne : Type 0
   CommandsMakeOne = (commands : List (Command A C)) (slots ts us : Slots S) (coins left left' : Source) →
       AreCarriedOut commands slots coins ts left → AreCarriedOut commands slots coins us left' → (ts ≡ us) × (left ≡ left')
+
+-- commands are so carried out from empty slots and the beginning of a word on, and these sketches are left
+abbrev pub CarryTo : {S A C : Type 0} → Behaviour S A C → List Bool → List (Command A C) → Held S → Type 0
+CarryTo {S} behaviour word commands held =
+    (slots : Slots S) × (left : WordSource)
+    × AreCarriedOut behaviour word_bit word_next commands (replicate SLOTS None) (record { word = word; drawn = 0 }) slots left
+    × ((slot : ℕ) → held slot ≡ in_slot slots slot)
 
 module _ {S C : Type 0} (grammar : Grammar C) (behaviour : Behaviour S ℤ C) where
   -- what is written for lines, as `Serves` says, if memory never runs out

@@ -21,6 +21,7 @@ returns g c =
       errors = c.run_family.ensures.errors;
       refused = c.run_family.ensures.refused;
       executed = c.run_family.ensures.executed;
+      carried_out = c.run_family.ensures.carried_out;
       coins = c.run_family.ensures.coins;
       planned = c.run_family.ensures.planned;
       played = c.run_family.ensures.played;
