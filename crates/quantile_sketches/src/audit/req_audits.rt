@@ -36,7 +36,8 @@ use std::alloc::Global;
 /// A round trip that is refused for the length of its image counts here as one that was accepted.
 ///
 /// Values with the same spelling must compare equal, and so must an item and its clone.
-/// `InvalidArgument` exactly where more than 16 coins are taken; any other error is `OutOfMemory`.
+/// An error is `InvalidArgument` only where more than 16 coins are taken, and else `OutOfMemory`.
+/// With more than 16 the call is never Ok.
 pub fn audit_req<T: ReqValue + Clone + Ord>(
     alloc: Global,
     commands: &[Command<T, (u16, RankAccuracy)>],
