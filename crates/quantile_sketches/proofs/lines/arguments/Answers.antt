@@ -43,31 +43,35 @@ module _ {words : List (List ℕ)} (family seed read : List ℕ) (are : words �
       ∙ cond-false _ _ _ (false_from_ne_true _ (λ h. not_req ((bytes_eq-Decides family (codes "req")).0 h)))))
 
 pub returns-in_default-as_str : goal.returns-in_default-as_str
-returns-in_default-as_str c =
-    asked-other (string_bytes c.family-item.result) (string_bytes c.seed-item.result) c.as_bytes.result.now
-    (two string_bytes c.args.words.now c.family-item.result c.seed-item.result c.in-len2.len_at_least c.in-len2.len_below c.family-item.is c.seed-item.is)
-    c.as_bytes.ensures.value (λ e. c.in_default-as_str.not-kll (c.as_str.ensures.value ∙ e)) (λ e. c.in_default-as_str.not-req (c.as_str.ensures.value ∙ e))
+returns-in_default-as_str c = record {
+  value = asked-other (string_bytes c.family-item.result) (string_bytes c.seed-item.result) c.as_bytes.result.now
+      (two string_bytes c.args.words.now c.family-item.result c.seed-item.result c.in-len2.len_at_least c.in-len2.len_below c.family-item.is c.seed-item.is)
+      c.as_bytes.ensures.value (λ e. c.in_default-as_str.not-kll (c.as_str.ensures.value ∙ e)) (λ e. c.in_default-as_str.not-req (c.as_str.ensures.value ∙ e));
+}
 
 pub returns-in_default : goal.returns-in_default
 returns-in_default c = grind (arith, common_steps)
 
 pub returns-in_err-seed : goal.returns-in_err-seed
-returns-in_err-seed c =
-    asked-none (string_bytes c.family-item.result) (string_bytes c.seed-item.result) c.as_bytes.result.now
-    (two string_bytes c.args.words.now c.family-item.result c.seed-item.result c.in-len2.len_at_least c.in-len2.len_below c.family-item.is c.seed-item.is)
-    c.as_bytes.ensures.value c.from_residual.ensures c.in_err-seed.ensures
+returns-in_err-seed c = record {
+  value = asked-none (string_bytes c.family-item.result) (string_bytes c.seed-item.result) c.as_bytes.result.now
+      (two string_bytes c.args.words.now c.family-item.result c.seed-item.result c.in-len2.len_at_least c.in-len2.len_below c.family-item.is c.seed-item.is)
+      c.as_bytes.ensures.value c.from_residual.ensures c.in_err-seed.ensures;
+}
 
 pub returns-in-kll : goal.returns-in-kll
-returns-in-kll c =
-    asked-kll (string_bytes c.family-item.result) (string_bytes c.seed-item.result) c.as_bytes.result.now
-    (two string_bytes c.args.words.now c.family-item.result c.seed-item.result c.in-len2.len_at_least c.in-len2.len_below c.family-item.is c.seed-item.is)
-    c.as_bytes.ensures.value c.in_ok-seed.seed c.in_ok-seed.ensures (sym c.as_str.ensures.value ∙ c.in-kll.is)
+returns-in-kll c = record {
+  value = asked-kll (string_bytes c.family-item.result) (string_bytes c.seed-item.result) c.as_bytes.result.now
+      (two string_bytes c.args.words.now c.family-item.result c.seed-item.result c.in-len2.len_at_least c.in-len2.len_below c.family-item.is c.seed-item.is)
+      c.as_bytes.ensures.value c.in_ok-seed.seed c.in_ok-seed.ensures (sym c.as_str.ensures.value ∙ c.in-kll.is);
+}
 
 pub returns-in-req : goal.returns-in-req
-returns-in-req c =
-    asked-req (string_bytes c.family-item.result) (string_bytes c.seed-item.result) c.as_bytes.result.now
-    (two string_bytes c.args.words.now c.family-item.result c.seed-item.result c.in-len2.len_at_least c.in-len2.len_below c.family-item.is c.seed-item.is)
-    c.as_bytes.ensures.value c.in_ok-seed.seed c.in_ok-seed.ensures (sym c.as_str.ensures.value ∙ c.in-req.is)
+returns-in-req c = record {
+  value = asked-req (string_bytes c.family-item.result) (string_bytes c.seed-item.result) c.as_bytes.result.now
+      (two string_bytes c.args.words.now c.family-item.result c.seed-item.result c.in-len2.len_at_least c.in-len2.len_below c.family-item.is c.seed-item.is)
+      c.as_bytes.ensures.value c.in_ok-seed.seed c.in_ok-seed.ensures (sym c.as_str.ensures.value ∙ c.in-req.is);
+}
 
 pub returns-in_default-2 : goal.returns-in_default-2
 returns-in_default-2 c = grind (arith, common_steps)

@@ -22,7 +22,7 @@ unasked-misused o said So is h = rw is h
 
 pub returns-in-Some : goal.returns-in-Some
 returns-in-Some g c =
-    let is = sym c.arguments.ensures ∙ c.in-Some.is in
+    let is = sym c.arguments.ensures.value ∙ c.in-Some.is in
     record {
       served = asked-served _ _ _ c.serve.result _ is c.serve.ensures.served;
       broken_off = asked-served _ _ _ c.serve.result _ is c.serve.ensures.broken_off;
@@ -32,7 +32,7 @@ returns-in-Some g c =
 
 pub returns-in-None : goal.returns-in-None
 returns-in-None g c =
-    let is = sym c.arguments.ensures ∙ c.in-None.is in
+    let is = sym c.arguments.ensures.value ∙ c.in-None.is in
     record {
       served = unasked-served _ _ _ is;
       broken_off = unasked-served _ _ _ is;
