@@ -1,6 +1,6 @@
 //! How bytes are written: they wait in a vector, and go out together. At all times a beginning of
 //! what is owed is out and the rest waits, even if memory or the output fails.
-ghost use Rattle.std.specs.Prelude.{◌≡◌, ◌≤◌, ◌<◌, ◌+◌, ◌++◌, ◌∷◌, length, take, drop, [], IfOk, OnOk, OnErr, IsTrue, false};
+ghost use Rattle.std.specs.Prelude.{◌≡◌, ◌≤◌, ◌<◌, ◌+◌, ◌++◌, length, take, drop, [], IfOk, OnOk, OnErr};
 ghost use Rattle.std.specs.Io.KnownBytes.{Appends, Keeps};
 ghost use Rattle.std.specs.Fmt.{decimal};
 ghost use Rattle.quantile_sketches.specs.Output.{Writes};
