@@ -1,13 +1,17 @@
 -- The counts of the slots when a command is counted: one slot's count is set, or all stay.
-use Rattle.std.proofs.Common.{◌≡◌, ℕ, ◌+◌, ◌<◌, ◌^◌, Bool, List, length, set, get_or, ◌⊎◌, inl, inr, sym, ap, ap₂, ◌∙◌, subst, arith, Fits, w64}
-use Rattle.std.specs.Prelude.{slice_index}
-use Rattle.std.proofs.lemmas.Bool.{cases_eq}
-use Rattle.std.proofs.lemmas.List.{get_or-set_same, get_or-set_other}
+use Rattle.std.proofs.Common.{◌≡◌, ℕ, ◌+◌, ◌<◌, ◌≤◌, ◌^◌, Bool, List, length, count_by, refl, set, get_or, ◌⊎◌, inl, inr, sym, ap, ap₂, ◌∙◌, subst, arith, Fits, w64}
+use Rattle.std.specs.Prelude.{⊤, slice_index}
+use Rattle.std.proofs.lemmas.Bool.{cases_eq, cases_lt}
+use Rattle.std.proofs.lemmas.List.{get_or_past, get_or-set_same, get_or-set_other}
+use Rattle.std.proofs.lemmas.List.Sums.{count_by-le-length}
 use Rattle.sketch_base.specs.Trace.{changed}
 use Rattle.sketch_base.proofs.Changes.{changed-there, changed-other}
 use Rattle.quantile_sketches.specs.declared.audit.commands.Command.{Command}
 use Rattle.quantile_sketches.specs.declared.audit.commands.Command.TheVariants.{New, Merge, Reset, RoundTrip, Redraw, MergeRedrawn}
-use Rattle.quantile_sketches.specs.Audit.{counts_after, HasFewSlots}
+use Rattle.quantile_sketches.specs.Audit.{CountStreams}
+use Rattle.quantile_sketches.specs.Run.{accepted_streams}
+use Rattle.quantile_sketches.proofs.LegalPlans.{counts_after}
+use Rattle.quantile_sketches.proofs.Streams.{NamesSlots, tallied-after, names-any}
 
 set-changes : (counts : List ℕ) (slot value : ℕ) → slot < length counts → (q : ℕ) →
     slice_index (set counts slot value) q ≡ changed (slice_index counts) slot value q
@@ -18,6 +22,36 @@ set-changes counts slot value inside q =
           ∙ (get_or-set_same counts slot value 0 inside ∙ sym (ap (changed (slice_index counts) slot value) e ∙ changed-there (slice_index counts) slot value))
       | inr ne ↦ get_or-set_other counts slot q value 0 ne ∙ sym (changed-other (slice_index counts) slot value q ne)
     ]
+
+-- these slots are below 256
+abbrev pub HasFewSlots : {A C : Type 0} → Command A C → Type 0
+HasFewSlots = NamesSlots (λ slot. slot < 256)
+
+-- ---- what counts after a command say of its streams
+
+module _ {A C : Type 0} (test : A → Bool) (command : Command A C) (counts : List ℕ) where
+  -- the counts fit if the streams after the command do
+  pub counts-fit : length counts ≡ 256 →
+      (streams : ℕ → List A) × CountStreams test counts streams × ((q : ℕ) → length (accepted_streams streams command q) < 2 ^ 64) →
+      (q : ℕ) → counts_after test command (slice_index counts) q < 2 ^ 64
+  counts-fit long (streams, h, fits) q =
+      let below : (i : ℕ) → slice_index counts i ≤ count_by test (streams i) = λ i.
+      elim (cases_lt i 256) [
+        | inl inside ↦ omega (arith, h i inside)
+        | inr beyond ↦ omega (arith, get_or_past counts i 0 (omega (arith, long, beyond)))
+      ] in
+      let most = tallied-after test (λ i. ⊤) (λ n m. n ≤ m) (λ n. omega arith) (λ a b c d e f. omega (arith, e, f)) (slice_index counts) streams
+      (λ i u. below i) command (names-any command) q tt in
+      omega (arith, most, count_by-le-length test (accepted_streams streams command q), fits q)
+
+  -- counts as `counts_after` says are those of the streams after the command
+  pub counts-follow : (counts' : List ℕ) → HasFewSlots command → ((q : ℕ) → q < 256 → slice_index counts' q ≡ counts_after test command (slice_index counts) q) →
+      (streams : ℕ → List A) → CountStreams test counts streams → CountStreams test counts' (accepted_streams streams command)
+  counts-follow counts' few goes streams h q inside =
+      goes q inside
+      ∙ tallied-after test (λ i. i < 256) (λ n m. n ≡ m) (λ n. refl) (λ a b c d e f. omega (arith, e, f)) (slice_index counts) streams h command few q inside
+
+-- ---- the counts after a command
 
 -- the slot's count is set, at an index that is the slot
 module _ {A C : Type 0} (test : A → Bool) (command : Command A C) (counts : List ℕ) (slot value : ℕ) {at new : ℕ}
