@@ -5,7 +5,7 @@ use Rattle.std.proofs.lemmas.Bool.{cases_Bool, cases_eq, and_left, and_right, fa
 use Rattle.sketch_base.specs.Fair.{reaches}
 use Rattle.sketch_base.specs.Trace.{Action, Forget, Clear, Event, Snap, At, changed, joins_actions, events_at}
 use Rattle.sketch_base.proofs.Changes.{changed-there, changed-other, changed-itself}
-use Rattle.sketch_req.specs.Schedule.{Layout, new_layout, joined_layouts, are_full, redraw_actions, actions_if_full, walk_actions, update_actions, update_layouts, merge_redrawn_actions, merge_layouts}
+use Rattle.sketch_req.specs.Schedule.{Layout, new_layout, joined_layouts, are_full, redraw_actions, actions_if_full, walk_actions, update_actions, update_layouts, merge_layouts}
 use Rattle.sketch_req.specs.ScheduleLaws.{merge_events, AreDrawn}
 use Rattle.sketch_req.specs.Walk.{AreOwn}
 use Rattle.sketch_req.specs.declared.RankAccuracy.{RankAccuracy}
@@ -150,7 +150,7 @@ module _ {A : Type 0} (slot : ℕ) where
   -- a merge that redraws coins
   pub stands-merge_redrawn : (k : ℕ) (accuracy : RankAccuracy) (source into : ℕ) (layouts : ℕ → List Layout) (ready fair : ℕ → Bool) (rest : List (Event A)) →
       Stands (changed layouts into (merge_layouts k (layouts into) (layouts source))) (changed ready into true) (changed fair into (fair into && fair source)) rest →
-      Stands layouts ready fair (Snap source into ∷ events_at into (merge_redrawn_actions k accuracy (layouts into) (layouts source)) ++ rest)
+      Stands layouts ready fair (merge_events true k accuracy source into (layouts into) (layouts source) ++ rest)
   stands-merge_redrawn k accuracy source into layouts ready fair rest n = record {
     fairs = λ drawn a. fair-merge_redrawn slot k accuracy into rest (layouts into) (layouts source) drawn
         (λ more up d. n.fairs more (ready-after into layouts _ ready true drawn more a (λ j _. up j) (λ _. d)));
@@ -166,7 +166,7 @@ module _ {A : Type 0} (slot : ℕ) where
   pub stands-merge : (k : ℕ) (accuracy : RankAccuracy) (source into : ℕ) (layouts : ℕ → List Layout) (ready fair : ℕ → Bool) (rest : List (Event A)) →
       Stands (changed layouts into (merge_layouts k (layouts into) (layouts source))) (changed ready into false)
       (changed fair into (not (are_full k (joined_layouts k (layouts into) (layouts source))) && (fair into && fair source))) rest →
-      Stands layouts ready fair (merge_events k accuracy source into (layouts into) (layouts source) ++ rest)
+      Stands layouts ready fair (merge_events false k accuracy source into (layouts into) (layouts source) ++ rest)
   stands-merge k accuracy source into layouts ready fair rest n = record {
     fairs = fairs;
     apart = merged-apart source into fair kept (actions_if_full k accuracy joined) rest (own-room A k accuracy joined) (length (layouts source))
@@ -188,7 +188,7 @@ module _ {A : Type 0} (slot : ℕ) where
       goes : (drawn more : ℕ → ℕ → Bool) → AreReady layouts ready drawn → Rises drawn more → IsFair slot rest more
       goes drawn more a up = n.fairs more (ready-after into layouts _ ready false drawn more a (λ j _. up j) (λ r. absurd (false≢true r)))
 
-      fairs : (drawn : ℕ → ℕ → Bool) → AreReady layouts ready drawn → IsFair slot (merge_events k accuracy source into (layouts into) (layouts source) ++ rest) drawn
+      fairs : (drawn : ℕ → ℕ → Bool) → AreReady layouts ready drawn → IsFair slot (merge_events false k accuracy source into (layouts into) (layouts source) ++ rest) drawn
       fairs drawn a =
           fair-joins slot into (length (layouts source)) 0 room rest drawn
           ∙ elim (cases_Bool (are_full k joined)) [
