@@ -13,7 +13,7 @@ returns g c =
     let last = extended c.args.bytes.now (s.lg_weight ∷ c.num_sections.result ∷ 0 ∷ 0 ∷ []) further c.in_ok-write.ensures.ok in
     record {
       ok = IfOk-weaker c.write_u32_le-2.result _ _
-          (λ _ last. front_written c.args.bytes.now c.self.view_is c.self.invariant.size_is c.num_sections.ensures c.num_items.ensures
+          (λ _ last. front_written c.args.bytes.now c.self.view_is c.self.invariant.size_is c.num_sections.ensures.value c.num_items.ensures.value
           c.in_ok-write_u64_le.ensures.ok c.in_ok-write_u32_le.ensures.ok c.in_ok-write.ensures.ok last) c.write_u32_le-2.ensures.ok;
       err = IfErr-weaker c.write_u32_le-2.result _ _ (λ _ same. as_extended c.args.bytes.now last same) c.write_u32_le-2.ensures.err;
       memory = c.write_u32_le-2.ensures.memory;

@@ -18,7 +18,7 @@ loop-item-preserved g c =
     let none : length i.items.now ≡ 0 = c.in_default.ensures.cases in
     let there : i.levels.now ≡ c.in_ok-level.level.now ∷ c.in_ok-level.above.now = c.in_ok-level.ensures.cases.0 in
     let same = next-level i.levels.now c.in_ok-level.above.now c.in_ok-level.level.now i.items.now c.items_slice-self-inside.result.now i.weight c.weight-self-inside.result none
-    there c.items_slice-self-inside.ensures.value c.weight-self-inside.ensures in
+    there c.items_slice-self-inside.ensures.value c.weight-self-inside.ensures.value in
     record { same = same ∙ c.loop-item.invariant.same; left = c.loop-item.invariant.left ∙ ap length (sym same) }
 
 pub loop-item-smaller : goal.loop-item-smaller

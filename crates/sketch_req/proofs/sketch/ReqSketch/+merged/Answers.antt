@@ -50,7 +50,7 @@ merge_weighted-requires-clause-second g t c =
 pub returns-then-levels-eq1 : goal.returns-then-levels-eq1
 returns-then-levels-eq1 g t c =
     let pairs = pairs-alone c.args.levels.now c.index-levels-0.result c.weight.result c.items_slice.result.now c.if-levels-eq1.true c.index-levels-0.is
-    c.weight.ensures c.items_slice.ensures.value in
+    c.weight.ensures.value c.items_slice.ensures.value in
     record {
       moved = subst (λ (ps : List (g.row.T.Denot × ℕ)). IfOk c.weigh_in_order.result (λ v. IsPermutation ps (pairs_in v.items)))
           pairs c.weigh_in_order.ensures.moved;

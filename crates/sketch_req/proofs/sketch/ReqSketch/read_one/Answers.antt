@@ -53,7 +53,7 @@ returns-in_err-unless-2 g c =
     (c.deserialize.new.input, level, refl) b.levels in
     let n = same_numbers g.T.ReqValue.spelling xs s.levels same.0 in
     let its = ap length (alone xs c.in_ok-level.level refl).items in
-    false≢true (told.ok.1 (lt-ltb _ _ (still_many n.items its b.many_items c.num_items.ensures))))
+    false≢true (told.ok.1 (lt-ltb _ _ (still_many n.items its b.many_items c.num_items.ensures.value))))
 
 pub from_level-requires-clause-clones : goal.from_level-requires-clause-clones
 from_level-requires-clause-clones g c = c.requires.clones
@@ -67,11 +67,11 @@ from_level-requires-clause-placed g c =
     imaged_at _ (first_place c.args.header.now) _ c.requires.head.legal_k (omega arith) (λ above. absurd (omega (arith, above))) level.imaged
 
 pub from_level-requires-clause-some : goal.from_level-requires-clause-some
-from_level-requires-clause-some g c = five_some c.num_items.ensures (ltb-true _ _ (c.in_ok-unless-2.ensures.ok.0 refl))
+from_level-requires-clause-some g c = five_some c.num_items.ensures.value (ltb-true _ _ (c.in_ok-unless-2.ensures.ok.0 refl))
 
 pub from_level-requires-clause-fresh : goal.from_level-requires-clause-fresh
 from_level-requires-clause-fresh g c =
-    λ few. absurd (over_four c.num_items.ensures (ltb-true _ _ (c.in_ok-unless-2.ensures.ok.0 refl)) few)
+    λ few. absurd (over_four c.num_items.ensures.value (ltb-true _ _ (c.in_ok-unless-2.ensures.ok.0 refl)) few)
 
 -- the sketch that is made has such a body
 found : (g : Over) (c : After-from_level g) →
@@ -86,7 +86,7 @@ found g c level many =
       one_level = ap length t.0;
       levels = subst (λ (ls : List (Level g.row.T.Denot)). BeginsLevels g.T.Ord.cmp g.T.ReqValue.spelling place c.args.text.now ls rest)
           (sym t.0) (rest, level, refl);
-      many_items = many_counted (ap length (alone _ c.in_ok-level.level t.0).items) c.num_items.ensures many;
+      many_items = many_counted (ap length (alone _ c.in_ok-level.level t.0).items) c.num_items.ensures.value many;
       told = t.1;
     }) c.from_level.ensures.told
 

@@ -33,7 +33,7 @@ not_refused : (g : Over) (c : In_ok-unless g) → let s = c.args.self.now in let
     ((2 ^ 64 ≤ s.n + count) ⊎ ((0 < count) × (retained (bag_of s.levels) ≡ 4294967295))) → ⊥
 not_refused g c =
     let known = allowed g c in
-    items_fit (ap (λ (s : Req g.row.T.Denot). s.n) c.self.view_is) known.1 c.is_full.ensures known.0
+    items_fit (ap (λ (s : Req g.row.T.Denot). s.n) c.self.view_is) known.1 c.is_full.ensures.value known.0
 
 pub returns-then-count-eq0 : goal.returns-then-count-eq0
 returns-then-count-eq0 g c =
@@ -46,7 +46,7 @@ too_many : (g : Over) (c : After-from_residual g) → let s = c.args.self.now in
     (2 ^ 64 ≤ s.n + count) ⊎ ((0 < count) × (retained (bag_of s.levels) ≡ 4294967295))
 too_many g c = elim c.if-not-is_full.branch [
   | then-not-is_full w ↦ inl (too_heavy _ _ (ap (λ (s : Req g.row.T.Denot). s.n) c.self.view_is) w.unless-is c.in_err-unless.ensures.ok.1)
-  | else-not-is_full w ↦ none_fit c.is_full.ensures w.if-not-is_full.false c.if-count-eq0.false
+  | else-not-is_full w ↦ none_fit c.is_full.ensures.value w.if-not-is_full.false c.if-count-eq0.false
 ]
 
 pub returns-in_err-unless : goal.returns-in_err-unless
@@ -126,7 +126,7 @@ made : (g : Over) (c : After-set_if_some-2 g) → (c.is_full.result ≡ false) �
     (sketch_of held.k held.accuracy (i.n + length c.args.items.now) held.levels c.set_if_some.new.place c.set_if_some-2.new.place)
     c.args.coins.now c.take_all.new.coins c.args.items.now
 made g c known =
-    let few = not-full _ _ _ (seen g c) (sound g c) c.is_full.ensures known.0 in
+    let few = not-full _ _ _ (seen g c) (sound g c) c.is_full.ensures.value known.0 in
     updates_make g.met.T.Ord.total g.B.RandomBits.bit g.B.RandomBits.next (seen g c) (sound g c) _ _ _ known.1 few.1
     (kept g c) (copies_told g c) (taken g c) (least_told g c) (least_is g c) (greatest_told g c) (greatest_is g c)
 
@@ -138,7 +138,7 @@ done : (g : Over) (c : After-set_if_some-2 g) → (c.is_full.result ≡ false) �
 done g c known =
     updates_done g.T.Ord.cmp g.B.RandomBits.bit g.B.RandomBits.next c.args.self.now _ c.args.coins.now c.take_all.new.coins (tt {0}) c.args.items.now
     (made g c known) c.if-count-eq0.false
-    (items_fit (ap (λ (s : Req g.row.T.Denot). s.n) c.self.view_is) known.1 c.is_full.ensures known.0)
+    (items_fit (ap (λ (s : Req g.row.T.Denot). s.n) c.self.view_is) known.1 c.is_full.ensures.value known.0)
 
 pub returns : goal.returns
 returns g c = done g (past.returns g c).After-set_if_some-2 (allowed g (past.returns g c).In_ok-unless)
@@ -152,7 +152,7 @@ invariant_of-self-2 g c = (returns g c).sound
 
 pub take_all-requires-clause-few : goal.take_all-requires-clause-few
 take_all-requires-clause-few g c =
-    (not-full _ _ _ c.self.view_is c.self.invariant c.is_full.ensures (allowed g (past.take_all-requires-clause-few g c).In_ok-unless).0).1
+    (not-full _ _ _ c.self.view_is c.self.invariant c.is_full.ensures.value (allowed g (past.take_all-requires-clause-few g c).In_ok-unless).0).1
 
 pub take_all-requires-clause-fits : goal.take_all-requires-clause-fits
 take_all-requires-clause-fits g c =

@@ -23,13 +23,13 @@ returns-in_err-unless g c =
     let told = c.in_err-unless.ensures in
     update_refused g.T.Ord.cmp g.B.RandomBits.bit g.B.RandomBits.next c.args.self.now c.args.self.now c.args.coins.now c.args.coins.now c.from_residual.result
     c.args.item c.from_residual.ensures.1 told.err
-    (subst (IsSound g.T.Ord.cmp) c.self.view_is c.self.invariant) refl refl (c.is_full.ensures.0 (flagged _ told.ok.1))
+    (subst (IsSound g.T.Ord.cmp) c.self.view_is c.self.invariant) refl refl (c.is_full.ensures.value.0 (flagged _ told.ok.1))
 
 pub returns-in_err-least : goal.returns-in_err-least
 returns-in_err-least g c =
     update_failed g.T.Ord.cmp g.B.RandomBits.bit g.B.RandomBits.next c.args.self.now c.args.self.now c.args.coins.now c.args.coins.now
     c.from_residual-in_err-least.result c.args.item c.from_residual-in_err-least.ensures.1 refl
-    (subst (IsSound g.T.Ord.cmp) c.self.view_is c.self.invariant) refl refl (not_flagged c.is_full.ensures
+    (subst (IsSound g.T.Ord.cmp) c.self.view_is c.self.invariant) refl refl (not_flagged c.is_full.ensures.value
     (granted g (past.returns-in_err-least g c).In_ok-unless))
 
 -- nothing changed
@@ -45,7 +45,7 @@ returns-in_err-take_last g c =
     c.args.coins.now c.take_last.new.coins
     c.from_residual-in_err-take_last.result c.args.item c.from_residual-in_err-take_last.ensures.1 c.in_err-take_last.ensures.memory
     (still_sound i.n i.min_item i.max_item kept.0 c.self.invariant) (still_seen i.n i.min_item i.max_item kept.0 c.self.view_is) kept.1
-    (not_flagged c.is_full.ensures (granted g (past.returns-in_err-take_last g c).In_ok-unless))
+    (not_flagged c.is_full.ensures.value (granted g (past.returns-in_err-take_last g c).In_ok-unless))
 
 -- the extremes, and the levels but for what they hold
 module _ (g : Over) (c : After-set_if_some-2 g) where
@@ -83,7 +83,7 @@ made : (g : Over) (c : After-set_if_some-2 g) → c.is_full.result ≡ false →
     IsDone g.T.Ord.cmp g.B.RandomBits.bit g.B.RandomBits.next c.args.self.now
     (sketch_of held.k held.accuracy (i.n + 1) held.levels c.set_if_some.new.place c.set_if_some-2.new.place) c.args.coins.now c.take_last.new.coins c.args.item
 made g c off =
-    let known = not-full _ _ _ (seen g c) (sound g c) c.is_full.ensures off in
+    let known = not-full _ _ _ (seen g c) (sound g c) c.is_full.ensures.value off in
     update_makes g.met.T.Ord.total g.B.RandomBits.bit g.B.RandomBits.next (seen g c) (sound g c) _ _ known.0 known.1
     (kept g c) (acted g c) (least_told g c) (least_is g c) (greatest_told g c) (greatest_is g c)
 
@@ -92,7 +92,7 @@ done : (g : Over) (c : After-set_if_some-2 g) → c.is_full.result ≡ false →
     (sketch_of held.k held.accuracy (i.n + 1) held.levels c.set_if_some.new.place c.set_if_some-2.new.place) c.args.coins.now c.take_last.new.coins
     (Ok (tt {0})) c.args.item
 done g c off = update_done g.T.Ord.cmp g.B.RandomBits.bit g.B.RandomBits.next c.args.self.now _ c.args.coins.now c.take_last.new.coins (tt {0}) c.args.item
-    (made g c off) (not_flagged c.is_full.ensures off)
+    (made g c off) (not_flagged c.is_full.ensures.value off)
 
 pub returns : goal.returns
 returns g c = done g (past.returns g c).After-set_if_some-2 (granted g (past.returns g c).In_ok-unless)
@@ -109,16 +109,16 @@ take_last-requires-clause-clones g c = c.requires.clones
 
 pub take_last-requires-clause-fits : goal.take_last-requires-clause-fits
 take_last-requires-clause-fits g c =
-    let known = not-full _ _ _ c.self.view_is c.self.invariant c.is_full.ensures (granted g (past.take_last-requires-clause-fits g c).In_ok-unless) in
+    let known = not-full _ _ _ c.self.view_is c.self.invariant c.is_full.ensures.value (granted g (past.take_last-requires-clause-fits g c).In_ok-unless) in
     subst (λ (w : ℕ). w < 2 ^ 64 - 1) (sym c.self.invariant.weighs_n) known.0
 
 pub take_last-requires-clause-few : goal.take_last-requires-clause-few
 take_last-requires-clause-few g c =
-    (not-full _ _ _ c.self.view_is c.self.invariant c.is_full.ensures (granted g (past.take_last-requires-clause-few g c).In_ok-unless)).1
+    (not-full _ _ _ c.self.view_is c.self.invariant c.is_full.ensures.value (granted g (past.take_last-requires-clause-few g c).In_ok-unless)).1
 
 pub overflow_add-self : goal.overflow_add-self
 overflow_add-self g c = record {
-  fits = next_fits (not-full _ _ _ c.self.view_is c.self.invariant c.is_full.ensures (granted g (past.overflow_add-self g c).In_ok-unless)).0;
+  fits = next_fits (not-full _ _ _ c.self.view_is c.self.invariant c.is_full.ensures.value (granted g (past.overflow_add-self g c).In_ok-unless)).0;
 }
 
 pub same-self-in_err-least : goal.same-self-in_err-least

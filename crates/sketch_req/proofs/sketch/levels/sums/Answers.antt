@@ -24,11 +24,11 @@ loop-level-preserved g c =
     let i = c.loop-level.invariant in
     let m = sum-more (λ (l : Layout). l.count) _ _ _ _ refl c.loop-level-test.true c.level-item.is in
     record {
-      count = one-more _ _ _ _ _ _ m i.count c.num_items.ensures refl;
+      count = one-more _ _ _ _ _ _ m i.count c.num_items.ensures.value refl;
       sum = λ k accuracy levels.
           let s = sum-more (nominal k) _ _ _ _ refl c.loop-level-test.true c.level-item.is in
           let n = nominal-there g.T.Ord.cmp _ _ _ _ _ _ levels refl c.loop-level-test.true c.level-item.is in
-          one-more _ _ _ _ _ _ s (i.sum k accuracy levels) c.nominal_capacity.ensures n.0;
+          one-more _ _ _ _ _ _ s (i.sum k accuracy levels) c.nominal_capacity.ensures.value n.0;
       few = few-more _ _ _ i.few c.num_items.type_inv;
       small = few-more _ _ _ i.small c.nominal_capacity.type_inv;
     }
