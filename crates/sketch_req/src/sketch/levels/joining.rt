@@ -1,8 +1,7 @@
 //! Joins other levels into a sketch's. What can fail comes before, in `reserve`.
-ghost use Rattle.std.specs.Prelude.{◌≡◌, ℕ, ◌+◌, ◌^◌, ◌<◌, ◌≤◌, [], max, length, vec_len, vec_capacity};
-ghost use Rattle.sketch_base.specs.Bag.{SameItems, level_at};
+ghost use Rattle.std.specs.Prelude.{◌≡◌, ◌+◌, ◌^◌, ◌<◌, [], max, length, vec_len, vec_capacity};
 ghost use Rattle.sketch_base.specs.Buffers.{merged_spaces};
-ghost use Rattle.sketch_req.specs.Merged.{AreJoined, AreCloned, item_lists};
+ghost use Rattle.sketch_req.specs.Merged.{AreJoined, AreCloned};
 ghost use Rattle.sketch_req.specs.Schedule.{layouts_of, retained_of};
 ghost use Rattle.sketch_req.specs.Walk.{AreHeld, AreLevels, accuracy_of, k_of};
 
