@@ -5,18 +5,17 @@ use Rattle.std.specs.Option.{option_eq}
 use Rattle.std.specs.Prelude.{IsTrue}
 use Rattle.sketch_base.specs.Extremes.{IsBetween}
 use Rattle.sketch_req.specs.Held.{Held, held_of}
-use Rattle.sketch_req.specs.Imaged.{items_in, retained_in, weight_in}
+use Rattle.sketch_req.specs.Imaged.{items_in}
 use Rattle.sketch_req.specs.Level.{Level}
-use Rattle.sketch_req.specs.Schedule.{layouts_of, retained_of}
+use Rattle.sketch_req.specs.Schedule.{layouts_of, retained_of, weight_of}
 use Rattle.sketch_req.specs.declared.RankAccuracy.{RankAccuracy}
 use Rattle.sketch_base.proofs.RefusedCalls.{none_or_some, some_of}
-use Rattle.sketch_req.proofs.ReadLevels.{retained_told}
 use Rattle.sketch_req.proofs.sketch.image.is_legal.Goals as goal
 use Rattle.sketch_req.proofs.sketch.image.is_legal.Goals.{then-n-eq0-via-then-n-eq0, then-n-eq0-via-else-n-eq0+then-levels-gt-MAX_ITEMS, then-n-eq0-via-else-n-eq0+else-levels-gt-MAX_ITEMS+then-is_gt}
 
 -- the stored sum is the number of items
-held_retained : {A : Type 0} {k : ℕ} {accuracy : RankAccuracy} (ls : List (Level A)) {h : Held A} → held_of k accuracy ls ≡ h → retained_of (layouts_of ls) ≡ retained_in h.levels
-held_retained {A} ls e = retained_told ls ∙ ap (λ (x : Held A). retained_in x.levels) e
+held_retained : {A : Type 0} {k : ℕ} {accuracy : RankAccuracy} (ls : List (Level A)) {h : Held A} → held_of k accuracy ls ≡ h → retained_of (layouts_of ls) ≡ retained_of (layouts_of h.levels)
+held_retained {A} ls e = ap (λ (x : Held A). retained_of (layouts_of x.levels)) e
 
 -- the weight that was found
 weighs : (P : Type 0) {w n : ℕ} (o : Option ℕ) → SomeIff o P w → true ≡ option_eq eqb o (Some n) → w ≡ n
@@ -43,7 +42,7 @@ returns-then-eq g c =
       yes = λ t. record {
         some_weight = some_of c.if-n-eq0.false;
         n_fits = c.ranges.n.fits;
-        weighs_n = ap (λ (ls : List (Level g.row.T.Denot)). weight_in ls) (sym weighed) ∙ weighs _ c.weigh.result c.weigh.ensures c.if-eq.ensures;
+        weighs_n = ap (λ (ls : List (Level g.row.T.Denot)). weight_of (layouts_of ls)) (sym weighed) ∙ weighs _ c.weigh.result c.weigh.ensures c.if-eq.ensures;
         few_items = few_held (held_retained c.levels.inside.compactors.items c.levels.view_is) c.levels.invariant.retained_is c.if-levels-gt-MAX_ITEMS.false;
         ends = record {
           in_order = ap is_gt (sym c.cmp.ensures) ∙ sym c.is_gt.ensures ∙ c.if-is_gt.false;
@@ -76,6 +75,6 @@ returns-else-eq g c =
     record {
       yes = λ t. absurd (false≢true (sym c.if-eq.false ∙ t));
       no = λ h.
-          let same = ap (λ (ls : List (Level g.row.T.Denot)). weight_in ls) weighed ∙ h.weighs_n in
+          let same = ap (λ (ls : List (Level g.row.T.Denot)). weight_of (layouts_of ls)) weighed ∙ h.weighs_n in
           absurd (weighs_other c.weigh.result c.weigh.ensures c.if-eq.ensures (subst (λ (n : ℕ). n < 2 ^ 64) (sym same) h.n_fits) same);
     }
