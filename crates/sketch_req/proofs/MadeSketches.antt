@@ -8,7 +8,7 @@ use Rattle.std.specs.declared.cmp.Ordering.{Ordering}
 use Rattle.sketch_base.specs.Extremes.{IsLeastOf, IsGreatestOf}
 use Rattle.sketch_base.specs.Queries.{SameAnswer}
 use Rattle.sketch_base.specs.Random.{bits_from, after_draws}
-use Rattle.sketch_req.specs.Copy.{IsCopy, IsLevelCopy}
+use Rattle.sketch_req.specs.Imaged.{IsSameLevel, IsSameSketch}
 use Rattle.sketch_req.specs.Held.{Held, held_of}
 use Rattle.sketch_req.specs.Level.{Level}
 use Rattle.sketch_req.specs.Merged.{AreTakenIn, IsMergedBy, coins_of_merge_by}
@@ -63,7 +63,7 @@ module _ {A S : Type 0} {cmp : A → A → Ordering} (order : IsTotalOrder cmp) 
 
   pub updates_make : (source after : S) (copies : List (Level A)) {xs : List A} → s.n + length xs < 2 ^ 64 →
       retained_of (layouts_of s.levels) < 4294967295 → held ≡ with_levels s held.levels →
-      AllZip (IsLevelCopy cmp) s.levels copies → AreTakenInTurn cmp bit next source after s.k s.accuracy copies xs held.levels →
+      AllZip (IsSameLevel cmp) s.levels copies → AreTakenInTurn cmp bit next source after s.k s.accuracy copies xs held.levels →
       IsLeastOf cmp (option_to_list s.least ++ xs) least → kept_least ≡ least →
       IsGreatestOf cmp (option_to_list s.greatest ++ xs) greatest → kept_greatest ≡ greatest →
       IsSound cmp (sketch_of held.k held.accuracy (s.n + length xs) held.levels kept_least kept_greatest)
@@ -91,15 +91,15 @@ module _ {A S : Type 0} {cmp : A → A → Ordering} (order : IsTotalOrder cmp) 
 pub clone_makes : {A : Type 0} {cmp : A → A → Ordering} (order : IsTotalOrder cmp) {old kept made : Held A} {s t : Req A} {n : ℕ}
     {least greatest least' greatest' : Option A} (copies : List (Level A)) →
     old ≡ kept → sketch_of kept.k kept.accuracy n kept.levels least greatest ≡ s → IsSound cmp (sketch_of kept.k kept.accuracy n kept.levels least greatest) →
-    made ≡ held_of old.k old.accuracy copies → AllZip (IsLevelCopy cmp) old.levels copies → SameAnswer cmp least least' → SameAnswer cmp greatest greatest' →
-    t ≡ sketch_of made.k made.accuracy n made.levels least' greatest' → IsCopy cmp s t × IsSound cmp t
+    made ≡ held_of old.k old.accuracy copies → AllZip (IsSameLevel cmp) old.levels copies → SameAnswer cmp least least' → SameAnswer cmp greatest greatest' →
+    t ≡ sketch_of made.k made.accuracy n made.levels least' greatest' → IsSameSketch cmp s t × IsSound cmp t
 clone_makes {A} {cmp} order {old} {kept} {made} {s} {t} {n} {least} {greatest} {least'} {greatest'} copies view seen sound made_is are_copies low high t_is =
     let before : Req A = sketch_of old.k old.accuracy n old.levels least greatest in
     let after : Req A = sketch_of old.k old.accuracy n copies least' greatest' in
     let from : before ≡ s = same_sketch n least greatest view ∙ seen in
     let to : after ≡ t = sym (t_is ∙ same_sketch n least' greatest' made_is) in
-    let copy : IsCopy cmp before after = record { k = refl; accuracy = refl; n = refl; levels = are_copies; least = low; greatest = high } in
+    let copy : IsSameSketch cmp before after = record { k = refl; accuracy = refl; n = refl; levels = are_copies; least = low; greatest = high } in
     let sound_before = subst (IsSound cmp) (sym (same_sketch n least greatest view)) sound in (
-      subst (λ (u : Req A). IsCopy cmp u t) from (subst (IsCopy cmp before) to copy),
+      subst (λ (u : Req A). IsSameSketch cmp u t) from (subst (IsSameSketch cmp before) to copy),
       subst (IsSound cmp) to (copied_sketch order _ _ _ _ _ _ _ _ _ sound_before are_copies low high),
     )

@@ -12,7 +12,7 @@ use Rattle.sketch_base.proofs.Items.{SameItems-refl}
 use Rattle.sketch_base.proofs.OneExtreme.{one_least, one_greatest}
 use Rattle.sketch_base.proofs.Tied.{same-items, same-sorted, same-answers}
 use Rattle.sketch_req.specs.Actions.{bag_of}
-use Rattle.sketch_req.specs.Copy.{IsCopy, IsLevelCopy}
+use Rattle.sketch_req.specs.Imaged.{IsSameLevel, IsSameSketch}
 use Rattle.sketch_req.specs.Level.{Level, IsMerged as IsLevelMerged}
 use Rattle.sketch_req.specs.Merged.{IsMergedBy, item_lists, merge_by, redrawn_if}
 use Rattle.sketch_req.specs.Moved.{AreMoved, AreMergedIn, is_moved}
@@ -121,14 +121,14 @@ module _ {A : Type 0} {cmp : A → A → Ordering} (order : IsTotalOrder cmp) (t
       (same-answers order tied t.greatest u.greatest (one_greatest order tops tops t.greatest u.greatest (SameItems-refl cmp order tops) p.greatest q.greatest))
 
   -- a copy is the sketch itself
-  levels-same : (ls ms : List (Level A)) → AllZip (IsLevelCopy cmp) ls ms → ms ≡ ls
+  levels-same : (ls ms : List (Level A)) → AllZip (IsSameLevel cmp) ls ms → ms ≡ ls
   levels-same [] [] c = refl
   levels-same (l ∷ ls) (m ∷ ms) c =
       let items : m.items ≡ l.items = sym (same-items order tied l.items m.items c.0.items) in
       ap₂ (λ (x : Level A) (xs : List (Level A)). x ∷ xs) (c.0.rest ∙ ap (λ (is : List A). record l { items = is }) items) (levels-same ls ms c.1)
   levels-same ls ms c = absurd c
 
-  copy-same : (s t : Req A) → IsCopy cmp s t → t ≡ s
+  copy-same : (s t : Req A) → IsSameSketch cmp s t → t ≡ s
   copy-same s t c =
       same-sketch t s c.k c.accuracy c.n (levels-same s.levels t.levels c.levels)
       (sym (same-answers order tied s.least t.least c.least)) (sym (same-answers order tied s.greatest t.greatest c.greatest))

@@ -225,7 +225,7 @@ module _ {A S T : Type 0} (cmp : A → A → Ordering) (bit : S → Bool) (next 
       (Ok v) xs
   updates_of_none order xs none sound few = record {
     empty = λ _. (refl, refl, refl);
-    ok = updates_none order _ _ _ sound none;
+    ok = updates_none order _ _ _ none;
     sound = sound;
     coins = none_taken _ _ s _ none;
     err = tt;

@@ -19,16 +19,16 @@ use Rattle.sketch_base.proofs.OneExtreme.{one_least, one_greatest}
 use Rattle.sketch_base.proofs.PlaysInParts.{in_turn-append}
 use Rattle.sketch_base.proofs.Sorting.{SameItems-sort}
 use Rattle.sketch_req.specs.Actions.{bag_of, coins_of}
-use Rattle.sketch_req.specs.Copy.{IsCopy, IsLevelCopy}
+use Rattle.sketch_req.specs.Imaged.{IsSameLevel, IsSameSketch}
 use Rattle.sketch_req.specs.Level.{Level}
 use Rattle.sketch_req.specs.Schedule.{Layout, layouts_of, retained_of, put_layouts, actions_if_full, update_actions, update_layouts}
 use Rattle.sketch_req.specs.ScheduleLaws.{updates_actions, updates_layouts}
 use Rattle.sketch_req.specs.Sketch.{Req, IsSound, IsUpdated, coins_of_update, greatest_with, least_with, sketch_of, update_of}
 use Rattle.sketch_req.specs.Updates.{AreUpdated, AreUpdatedInTurn, IsUpdatedFirst, AreTakenInTurn, OneUpdates, UpdatesGoOn, coins_of_updates, updates_by}
-use Rattle.sketch_req.specs.Walk.{AreLevels, AreOwn}
+use Rattle.sketch_req.specs.Walk.{AreOwn}
 use Rattle.sketch_req.specs.declared.RankAccuracy.{RankAccuracy}
 use Rattle.sketch_req.proofs.Bags.{AlikeLevels, alike-refl, alike-trans}
-use Rattle.sketch_req.proofs.Copies.{copied_sketch, layouts-copied}
+use Rattle.sketch_req.proofs.Copies.{copied_sketch, layouts-copied, levels-itself}
 use Rattle.sketch_req.proofs.FairWalks.{own-room, own-update}
 use Rattle.sketch_req.proofs.HeldExtremes.{Moves, greatest-moved, least-moved}
 use Rattle.sketch_req.proofs.TakenInTurn.{are-kept, taken-one}
@@ -38,18 +38,12 @@ use Rattle.sketch_req.proofs.Walks.{own-append, own-bag, own-req}
 module _ {A : Type 0} {cmp : A → A → Ordering} (order : IsTotalOrder cmp) where
   -- ---- copies
 
-  -- levels are copies of themselves
-  pub levels-itself : (k : ℕ) (accuracy : RankAccuracy) (h : ℕ) (ls : List (Level A)) → AreLevels cmp k accuracy h ls → AllZip (IsLevelCopy cmp) ls ls
-  levels-itself k accuracy h [] a = tt
-  levels-itself k accuracy h (l ∷ ls) a = (record { items = SameItems-refl cmp order l.items; rest = refl; sound = a.0.sound }, levels-itself k accuracy (suc h) ls a.1)
-
-  levels-copied : (ls ms ns : List (Level A)) → AllZip (IsLevelCopy cmp) ls ms → AllZip (IsLevelCopy cmp) ms ns → AllZip (IsLevelCopy cmp) ls ns
+  levels-copied : (ls ms ns : List (Level A)) → AllZip (IsSameLevel cmp) ls ms → AllZip (IsSameLevel cmp) ms ns → AllZip (IsSameLevel cmp) ls ns
   levels-copied [] [] ns c d = d
   levels-copied (l ∷ ls) (m ∷ ms) (n ∷ ns) c d = (
     record {
       items = SameItems-trans cmp order l.items m.items n.items c.0.items d.0.items;
       rest = d.0.rest ∙ ap (λ (x : Level A). record x { items = n.items }) c.0.rest;
-      sound = d.0.sound;
     },
     levels-copied ls ms ns c.1 d.1,
   )
@@ -57,18 +51,18 @@ module _ {A : Type 0} {cmp : A → A → Ordering} (order : IsTotalOrder cmp) wh
   levels-copied ls ms ns c d = absurd c
 
   -- a sketch is a copy of itself
-  pub copy-itself : (s : Req A) → IsSound cmp s → IsCopy cmp s s
-  copy-itself s sound = record {
+  pub copy-itself : (s : Req A) → IsSameSketch cmp s s
+  copy-itself s = record {
     k = refl;
     accuracy = refl;
     n = refl;
-    levels = levels-itself s.k s.accuracy 0 s.levels sound.placed;
+    levels = levels-itself order s.levels;
     least = SameAnswer-itself order s.least;
     greatest = SameAnswer-itself order s.greatest;
   }
 
   -- a copy of a copy is a copy
-  pub copy-copied : (s t u : Req A) → IsCopy cmp s t → IsCopy cmp t u → IsCopy cmp s u
+  pub copy-copied : (s t u : Req A) → IsSameSketch cmp s t → IsSameSketch cmp t u → IsSameSketch cmp s u
   copy-copied s t u c d = record {
     k = d.k ∙ c.k;
     accuracy = d.accuracy ∙ c.accuracy;
@@ -81,14 +75,14 @@ module _ {A : Type 0} {cmp : A → A → Ordering} (order : IsTotalOrder cmp) wh
   -- ---- updates of copies
 
   -- the actions of updates of a copy are those of the sketch
-  updates-copied : (s t : Req A) (items : List A) → IsCopy cmp s t → updates_by t items ≡ updates_by s items
+  updates-copied : (s t : Req A) (items : List A) → IsSameSketch cmp s t → updates_by t items ≡ updates_by s items
   updates-copied s t items c = rw (c.k, c.accuracy, layouts-copied order s.levels t.levels c.levels) refl
 
-  coins-copied : (s t : Req A) (x : A) → IsCopy cmp s t → coins_of_update t x ≡ coins_of_update s x
+  coins-copied : (s t : Req A) (x : A) → IsSameSketch cmp s t → coins_of_update t x ≡ coins_of_update s x
   coins-copied s t x c = rw (c.k, c.accuracy, layouts-copied order s.levels t.levels c.levels) refl
 
   -- updates in turn that start from a copy, or that end in one
-  pub in-turn-from : (s t u : Req A) (xs : List A) (word : List Bool) → IsCopy cmp s t → AreUpdatedInTurn cmp t xs word u → AreUpdatedInTurn cmp s xs word u
+  pub in-turn-from : (s t u : Req A) (xs : List A) (word : List Bool) → IsSameSketch cmp s t → AreUpdatedInTurn cmp t xs word u → AreUpdatedInTurn cmp s xs word u
   in-turn-from s t u [] word c d = copy-copied s t u c d
   in-turn-from s t u (x ∷ xs) word c d = record {
     copy = d.copy;
@@ -101,7 +95,7 @@ module _ {A : Type 0} {cmp : A → A → Ordering} (order : IsTotalOrder cmp) wh
     rest = subst (λ (n : ℕ). AreUpdatedInTurn cmp d.after xs (drop n word) u) (coins-copied s t x c) d.rest;
   }
 
-  pub in-turn-to : (s t u : Req A) (xs : List A) (word : List Bool) → AreUpdatedInTurn cmp s xs word t → IsCopy cmp t u → AreUpdatedInTurn cmp s xs word u
+  pub in-turn-to : (s t u : Req A) (xs : List A) (word : List Bool) → AreUpdatedInTurn cmp s xs word t → IsSameSketch cmp t u → AreUpdatedInTurn cmp s xs word u
   in-turn-to s t u [] word d c = copy-copied s t u d c
   in-turn-to s t u (x ∷ xs) word d c = record {
     copy = d.copy;
@@ -149,25 +143,25 @@ module _ {A : Type 0} {cmp : A → A → Ordering} (order : IsTotalOrder cmp) wh
 
   -- ---- what they come to
 
-  levels-alike : (ls ms : List (Level A)) → AllZip (IsLevelCopy cmp) ls ms → AlikeLevels order (bag_of ls).levels (bag_of ms).levels
+  levels-alike : (ls ms : List (Level A)) → AllZip (IsSameLevel cmp) ls ms → AlikeLevels order (bag_of ls).levels (bag_of ms).levels
   levels-alike [] [] c = tt
   levels-alike (l ∷ ls) (m ∷ ms) c = (SameItems-sort cmp order l.items m.items c.0.items, levels-alike ls ms c.1)
   levels-alike ls ms c = absurd c
 
-  coins-alike : (ls ms : List (Level A)) → AllZip (IsLevelCopy cmp) ls ms → (h : ℕ) → coins_of ls h ≡ coins_of ms h
+  coins-alike : (ls ms : List (Level A)) → AllZip (IsSameLevel cmp) ls ms → (h : ℕ) → coins_of ls h ≡ coins_of ms h
   coins-alike [] [] c h = refl
   coins-alike (l ∷ ls) (m ∷ ms) c zero = sym (ap (λ (x : Level A). x.coin) c.0.rest)
   coins-alike (l ∷ ls) (m ∷ ms) c (suc h) = coins-alike ls ms c.1 h
   coins-alike ls ms c h = absurd c
 
   -- the bags of copies are alike, also after an item is put into one and its clone into the other
-  bags-alike : (s t : Req A) → IsCopy cmp s t → AlikeReq cmp (bag_of s.levels) (bag_of t.levels)
+  bags-alike : (s t : Req A) → IsSameSketch cmp s t → AlikeReq cmp (bag_of s.levels) (bag_of t.levels)
   bags-alike s t c = record { levels = levels-alike s.levels t.levels c.levels; kept = coins-alike s.levels t.levels c.levels }
 
   abbrev with_item : A → Bool → Bag A → Bag A
   with_item x bit bag = (act cmp (Put 0 x) bit (alone bag)).bag
 
-  put-alike : (ls ms : List (Level A)) (x c : A) (bit : Bool) → cmp x c ≡ Equal → AllZip (IsLevelCopy cmp) ls ms → AlikeReq cmp (with_item x bit (bag_of ls)) (with_item c bit (bag_of ms))
+  put-alike : (ls ms : List (Level A)) (x c : A) (bit : Bool) → cmp x c ≡ Equal → AllZip (IsSameLevel cmp) ls ms → AlikeReq cmp (with_item x bit (bag_of ls)) (with_item c bit (bag_of ms))
   put-alike [] [] x c bit e z = record { levels = (SameItems-sort cmp order (x ∷ []) (c ∷ []) (e, tt), tt); kept = λ h. refl }
   put-alike (l ∷ ls) (m ∷ ms) x c bit e z = record {
     levels = (SameItems-sort cmp order (l.items ++ x ∷ []) (m.items ++ c ∷ []) (SameItems-append cmp l.items m.items (x ∷ []) (c ∷ []) z.0.items (e, tt)), levels-alike ls ms z.1);
@@ -271,16 +265,16 @@ module _ {A : Type 0} {cmp : A → A → Ordering} (order : IsTotalOrder cmp) wh
 
   -- an update is updates by a single item
   pub one_updates : OneUpdates cmp
-  one_updates s x word t kept sound updated =
+  one_updates s x word t sound updated =
       whole s t (x ∷ []) word (record {
         copy = s;
         clone = x;
-        is_copy = copy-itself s kept;
+        is_copy = copy-itself s;
         is_clone = tied_itself order x;
         after = t;
         updated = updated;
         sound = sound;
-        rest = copy-itself t sound;
+        rest = copy-itself t;
       })
 
   -- updates by some items and then by more are updates by all
@@ -288,9 +282,9 @@ module _ {A : Type 0} {cmp : A → A → Ordering} (order : IsTotalOrder cmp) wh
   updates_go_on s t u items more word a b = whole s u (items ++ more) word (in-turn-append s t u items more word a.in_turn b.in_turn)
 
   -- without items the sketch stays as it is
-  pub updates_none : (s : Req A) (items : List A) (word : List Bool) → IsSound cmp s → length items ≡ 0 → AreUpdated cmp s items word s
-  updates_none s [] word sound e = whole s s [] word (copy-itself s sound)
-  updates_none s (x ∷ items) word sound e = absurd (omega (arith, e))
+  pub updates_none : (s : Req A) (items : List A) (word : List Bool) → length items ≡ 0 → AreUpdated cmp s items word s
+  updates_none s [] word e = whole s s [] word (copy-itself s)
+  updates_none s (x ∷ items) word e = absurd (omega (arith, e))
 
   -- ---- levels that took items in, as a sketch
 
@@ -321,7 +315,7 @@ module _ {A : Type 0} {cmp : A → A → Ordering} (order : IsTotalOrder cmp) wh
 
     is-made : (s : Req A) (xs : List A) (source after : S) (ns : List (Level A)) → IsSound cmp s → s.n + length xs < 2 ^ 64 → retained_of (layouts_of s.levels) < 4294967295 →
         AreTakenInTurn cmp bit next source after s.k s.accuracy s.levels xs ns → IsMade s xs source ns
-    is-made s [] source after ns sound fits few t = record { made = s; levels_are = sym t.0; sound = sound; in_turn = copy-itself s sound }
+    is-made s [] source after ns sound fits few t = record { made = s; levels_are = sym t.0; sound = sound; in_turn = copy-itself s }
     is-made s (x ∷ xs) source after ns sound fits few t =
         let least : Option A = Some (least_with cmp t.clone s.least) in
         let greatest : Option A = Some (greatest_with cmp t.clone s.greatest) in
@@ -345,7 +339,7 @@ module _ {A : Type 0} {cmp : A → A → Ordering} (order : IsTotalOrder cmp) wh
           in_turn = record {
             copy = s;
             clone = t.clone;
-            is_copy = copy-itself s sound;
+            is_copy = copy-itself s;
             is_clone = t.is_clone;
             after = one;
             updated = longer s one t.clone source (coins_of_updates s (x ∷ xs)) (omega (arith, all)) u.1;
@@ -356,7 +350,7 @@ module _ {A : Type 0} {cmp : A → A → Ordering} (order : IsTotalOrder cmp) wh
 
     -- updates by all items as a whole: the sketch is sound and is the updated one, and the coins are drawn from the source
     pub updates_sketch : (source after : S) (s : Req A) (copies ns : List (Level A)) (xs : List A) (least greatest : Option A) → IsSound cmp s → s.n + length xs < 2 ^ 64 →
-        retained_of (layouts_of s.levels) < 4294967295 → AllZip (IsLevelCopy cmp) s.levels copies → AreTakenInTurn cmp bit next source after s.k s.accuracy copies xs ns →
+        retained_of (layouts_of s.levels) < 4294967295 → AllZip (IsSameLevel cmp) s.levels copies → AreTakenInTurn cmp bit next source after s.k s.accuracy copies xs ns →
         IsLeastOf cmp (option_to_list s.least ++ xs) least → IsGreatestOf cmp (option_to_list s.greatest ++ xs) greatest →
         IsSound cmp (sketch_of s.k s.accuracy (s.n + length xs) ns least greatest)
         × AreUpdated cmp s xs (bits_from bit next source (coins_of_updates s xs)) (sketch_of s.k s.accuracy (s.n + length xs) ns least greatest)
@@ -366,16 +360,16 @@ module _ {A : Type 0} {cmp : A → A → Ordering} (order : IsTotalOrder cmp) wh
         let copy : Req A = sketch_of s.k s.accuracy s.n copies s.least s.greatest in
         let copy_sound = copied_sketch order s.k s.accuracy s.n s.levels copies s.least s.least s.greatest s.greatest sound are_copies
         (SameAnswer-itself order s.least) (SameAnswer-itself order s.greatest) in
-        let is_copy : IsCopy cmp s copy = record { k = refl; accuracy = refl; n = refl; levels = are_copies; least = SameAnswer-itself order s.least; greatest = SameAnswer-itself order s.greatest } in
+        let is_copy : IsSameSketch cmp s copy = record { k = refl; accuracy = refl; n = refl; levels = are_copies; least = SameAnswer-itself order s.least; greatest = SameAnswer-itself order s.greatest } in
         let few_copies : retained_of (layouts_of copies) < 4294967295 = omega (arith, few, ap retained_of same) in
         let m = is-made copy xs source after ns copy_sound fits few_copies taken in
         let made = whole copy m.made xs _ m.in_turn in
         let t : Req A = sketch_of s.k s.accuracy (s.n + length xs) ns least greatest in
         let least_same = one_least order _ _ m.made.least least (SameItems-refl cmp order (option_to_list s.least ++ xs)) made.least low in
         let greatest_same = one_greatest order _ _ m.made.greatest greatest (SameItems-refl cmp order (option_to_list s.greatest ++ xs)) made.greatest high in
-        let levels : AllZip (IsLevelCopy cmp) m.made.levels ns =
-        subst (λ (ls : List (Level A)). AllZip (IsLevelCopy cmp) m.made.levels ls) m.levels_are (levels-itself _ _ 0 m.made.levels m.sound.placed) in
-        let ends : IsCopy cmp m.made t = record { k = sym made.k; accuracy = sym made.accuracy; n = sym made.n; levels = levels; least = least_same; greatest = greatest_same } in
+        let levels : AllZip (IsSameLevel cmp) m.made.levels ns =
+        subst (λ (ls : List (Level A)). AllZip (IsSameLevel cmp) m.made.levels ls) m.levels_are (levels-itself order m.made.levels) in
+        let ends : IsSameSketch cmp m.made t = record { k = sym made.k; accuracy = sym made.accuracy; n = sym made.n; levels = levels; least = least_same; greatest = greatest_same } in
         let t_sound : IsSound cmp t =
         rw (made.k, made.accuracy, made.n) at (copied_sketch order m.made.k m.made.accuracy m.made.n m.made.levels ns m.made.least least m.made.greatest greatest m.sound levels
         least_same greatest_same) in

@@ -9,7 +9,7 @@ use Rattle.sketch_base.specs.Extremes.{IsLeastOf, IsGreatestOf}
 use Rattle.sketch_base.specs.Random.{after_draws}
 use Rattle.sketch_base.specs.Trace.{Action, bag_after, draws_of}
 use Rattle.sketch_req.specs.Actions.{bag_of}
-use Rattle.sketch_req.specs.Copy.{IsCopy, IsLevelCopy}
+use Rattle.sketch_req.specs.Imaged.{IsSameLevel, IsSameSketch}
 use Rattle.sketch_req.specs.Level.{Level, appended}
 use Rattle.sketch_req.specs.Schedule.{layouts_of, retained_of, weight_of}
 use Rattle.sketch_req.specs.ScheduleLaws.{updates_actions, updates_layouts}
@@ -29,7 +29,7 @@ coins_of_updates s items = draws_of (updates_by s items)
 pub record IsUpdatedFirst {A : Type 0} (cmp : A → A → Ordering) (s : Req A) (x : A) (word : List Bool) (Rest : Req A → Type 0) : Type 0 where
   pub copy : Req A
   pub clone : A
-  pub is_copy : IsCopy cmp s copy
+  pub is_copy : IsSameSketch cmp s copy
   pub is_clone : cmp x clone ≡ Equal
   pub after : Req A
   pub updated : IsUpdated cmp copy clone word after
@@ -39,7 +39,7 @@ pub record IsUpdatedFirst {A : Type 0} (cmp : A → A → Ordering) (s : Req A) 
 -- a sketch after one update after another, up to copies of the sketches and clones of the items;
 -- so this gives its levels in list order too
 abbrev pub AreUpdatedInTurn : {A : Type 0} → (A → A → Ordering) → Req A → List A → List Bool → Req A → Type 0
-AreUpdatedInTurn cmp s [] word t = IsCopy cmp s t
+AreUpdatedInTurn cmp s [] word t = IsSameSketch cmp s t
 AreUpdatedInTurn cmp s (x ∷ xs) word t = IsUpdatedFirst cmp s x word (λ after. AreUpdatedInTurn cmp after xs (drop (coins_of_update s x) word) t)
 
 -- a sketch after accepted updates by all items in turn under a word of coins
@@ -55,7 +55,7 @@ pub record AreUpdated {A : Type 0} (cmp : A → A → Ordering) (s : Req A) (ite
 
 -- an update is updates by its one item
 abbrev pub OneUpdates : {A : Type 0} → (A → A → Ordering) → Type 0
-OneUpdates {A} cmp = (s : Req A) (x : A) (word : List Bool) (t : Req A) → IsSound cmp s → IsSound cmp t → IsUpdated cmp s x word t → AreUpdated cmp s (x ∷ []) word t
+OneUpdates {A} cmp = (s : Req A) (x : A) (word : List Bool) (t : Req A) → IsSound cmp t → IsUpdated cmp s x word t → AreUpdated cmp s (x ∷ []) word t
 
 -- updates by some items, and then by more under the coins that are left, are updates by all of them
 abbrev pub UpdatesGoOn : {A : Type 0} → (A → A → Ordering) → Type 0
@@ -118,5 +118,5 @@ module _ {A S : Type 0} (cmp : A → A → Ordering) (bit : S → Bool) (next : 
   -- copies of levels into which these clones came
   pub record AreAllTaken (source after : S) (k : ℕ) (accuracy : RankAccuracy) (ls : List (Level A)) (items : List A) (ns : List (Level A)) : Type 0 where
     pub copies : List (Level A)
-    pub are_copies : AllZip (IsLevelCopy cmp) ls copies
+    pub are_copies : AllZip (IsSameLevel cmp) ls copies
     pub taken : AreTakenInTurn source after k accuracy copies items ns

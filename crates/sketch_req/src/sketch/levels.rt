@@ -4,7 +4,7 @@ ghost use Rattle.std.specs.Prelude.{◌≡◌, ℕ, ◌+◌, ◌-◌, ◌^◌, �
 ghost use Rattle.std.specs.List.{AllZip};
 ghost use Rattle.std.specs.declared.cmp.Ordering.TheVariants.{Equal};
 ghost use Rattle.sketch_base.specs.Query.{counted};
-ghost use Rattle.sketch_req.specs.Copy.{IsLevelCopy};
+ghost use Rattle.sketch_req.specs.Imaged.{IsSameLevel};
 ghost use Rattle.sketch_base.specs.Random.{bits_from, after_draws};
 ghost use Rattle.sketch_base.specs.Trace.{draws_of};
 ghost use Rattle.sketch_base.specs.declared.error.ErrorKind.TheVariants.{OutOfMemory};
@@ -302,7 +302,7 @@ pub(super) fn copy_levels<T: Clone + Ord>(
     levels: &Vec<Compactor<T>>,
 ) -> Result<Vec<Compactor<T>>, AllocError>
     requires clones { (x y : T) → T.is_clone x y → T.cmp x y ≡ Equal }
-    ensures { IfOk result (λ new. AllZip (IsLevelCopy T.cmp) levels.now.items new.items) }
+    ensures { IfOk result (λ new. AllZip (IsSameLevel T.cmp) levels.now.items new.items) }
 {
     let mut copies = Vec::with_capacity(*levels.allocator(), levels.len())?;
     for level in levels.as_slice() {

@@ -6,7 +6,7 @@ use Rattle.sketch_req.specs.Actions.{bag_of}
 use Rattle.std.specs.List.{AllZip}
 use Rattle.std.specs.Option.{option_to_list}
 use Rattle.sketch_base.specs.Extremes.{IsGreatestOf, IsLeastOf}
-use Rattle.sketch_req.specs.Copy.{IsLevelCopy}
+use Rattle.sketch_req.specs.Imaged.{IsSameLevel}
 use Rattle.sketch_req.specs.Sketch.{Req, IsSound, newer_or, sketch_of}
 use Rattle.sketch_req.specs.Updates.{AreTakenInTurn, IsDrawnFrom, coins_of_updates}
 use Rattle.sketch_req.proofs.KeptSketches.{still_seen, still_sound}
@@ -97,7 +97,7 @@ module _ (g : Over) (c : After-set_if_some-2 g) where
   sound : IsSound g.T.Ord.cmp old
   sound = c.self.invariant
 
-  copies_told : AllZip (IsLevelCopy g.T.Ord.cmp) old.levels c.in_ok-take_all.ensures.taken.copies
+  copies_told : AllZip (IsSameLevel g.T.Ord.cmp) old.levels c.in_ok-take_all.ensures.taken.copies
   copies_told = c.in_ok-take_all.ensures.taken.are_copies
 
   taken : AreTakenInTurn g.T.Ord.cmp g.B.RandomBits.bit g.B.RandomBits.next c.args.coins.now c.take_all.new.coins old.k old.accuracy

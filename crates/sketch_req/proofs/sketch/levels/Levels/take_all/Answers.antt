@@ -7,14 +7,13 @@ use Rattle.sketch_base.specs.Trace.{draws_of}
 use Rattle.sketch_req.specs.Held.{IsHeld, held_of, Held}
 use Rattle.sketch_req.specs.Updates.{AreAllTaken, AreTakenInTurn, IsDrawnFrom}
 use Rattle.sketch_req.specs.Level.{Level}
-use Rattle.sketch_req.specs.Copy.{IsLevelCopy}
+use Rattle.sketch_req.specs.Imaged.{IsSameLevel}
 use Rattle.sketch_req.specs.Schedule.{Layout, layouts_of, retained_of, weight_of}
 use Rattle.sketch_req.specs.ScheduleLaws.{updates_actions}
-use Rattle.sketch_req.proofs.Copies.{layouts-copied, placed-copied}
+use Rattle.sketch_req.proofs.Copies.{layouts-copied, levels-itself, placed-copied}
 use Rattle.sketch_req.proofs.LevelEnds.{all_failed}
 use Rattle.sketch_req.proofs.Refusals.{none_drawn}
 use Rattle.sketch_req.proofs.TakenInTurn.{taken-filled}
-use Rattle.sketch_req.proofs.UpdatesInTurn.{levels-itself}
 use Rattle.sketch_req.proofs.WalkCapacities.{retained-weight}
 use Rattle.sketch_req.proofs.sketch.levels.Levels.take_all.Given.{Over}
 use Rattle.sketch_req.proofs.sketch.levels.Levels.take_all.Goals.{After-new-copy, In_ok-copy_levels}
@@ -24,7 +23,7 @@ use Rattle.sketch_req.proofs.sketch.levels.Levels.take_all.Goals.at as past
 -- copies of levels that took in items are levels that took them in
 copied-taken : {A S : Type 0} (cmp : A → A → Ordering) (bit : S → Bool) (next : S → S) (source after : S) (own s copy : Held A) (items : List A)
     (copies levels ns : List (Level A)) → own ≡ s →
-    copy ≡ record own { levels = copies } → AllZip (IsLevelCopy cmp) own.levels copies →
+    copy ≡ record own { levels = copies } → AllZip (IsSameLevel cmp) own.levels copies →
     AreTakenInTurn cmp bit next source after copy.k copy.accuracy copy.levels items ns → levels ≡ ns →
     AreAllTaken cmp bit next source after s.k s.accuracy s.levels items levels
 copied-taken cmp bit next source after own s copy items copies levels ns o c are taken same =
@@ -61,12 +60,12 @@ overflow_add-self-inside g c =
     omega (arith, rw (← c.self.view_is) at fits, retained-weight (layouts_of c.self.inside.compactors.items), c.self.invariant.retained_is)
 
 -- copies of the levels
-are_copies : (g : Over) (c : In_ok-copy_levels g) → AllZip (IsLevelCopy g.T.Ord.cmp) c.self.inside.compactors.items c.in_ok-copy_levels.field-0.items
+are_copies : (g : Over) (c : In_ok-copy_levels g) → AllZip (IsSameLevel g.T.Ord.cmp) c.self.inside.compactors.items c.in_ok-copy_levels.field-0.items
 are_copies g c = c.in_ok-copy_levels.ensures
 
 pub new-copy-requires-clause-some : goal.new-copy-requires-clause-some
 new-copy-requires-clause-some g c =
-    subst (λ (n : ℕ). 0 < n) (length_all_zip (IsLevelCopy g.T.Ord.cmp) c.self.inside.compactors.items c.in_ok-copy_levels.field-0.items (are_copies g c))
+    subst (λ (n : ℕ). 0 < n) (length_all_zip (IsSameLevel g.T.Ord.cmp) c.self.inside.compactors.items c.in_ok-copy_levels.field-0.items (are_copies g c))
     c.self.invariant.some
 
 pub new-copy-requires-clause-levels : goal.new-copy-requires-clause-levels
@@ -74,7 +73,7 @@ new-copy-requires-clause-levels g c =
     placed-copied g.met.T.Ord.total _ _ 0 c.self.inside.compactors.items c.in_ok-copy_levels.field-0.items (are_copies g c) c.self.invariant.placed
 
 -- the layouts of the copy
-copied : (g : Over) (c : After-new-copy g) → AllZip (IsLevelCopy g.T.Ord.cmp) c.self.inside.compactors.items c.in_ok-copy_levels.field-0.items →
+copied : (g : Over) (c : After-new-copy g) → AllZip (IsSameLevel g.T.Ord.cmp) c.self.inside.compactors.items c.in_ok-copy_levels.field-0.items →
     layouts_of c.new-copy.result.levels ≡ layouts_of c.args.self.now.levels
 copied g c are =
     copied-layouts (held_of c.self.inside.k c.self.inside.rank_accuracy c.self.inside.compactors.items) c.args.self.now c.new-copy.result
@@ -127,7 +126,7 @@ returns-then-self-items g c =
       kept = c.in_ok-fill.ensures.kept;
       taken = record {
         copies = s.levels;
-        are_copies = levels-itself g.met.T.Ord.total s.k s.accuracy 0 s.levels held.placed;
+        are_copies = levels-itself g.met.T.Ord.total s.levels;
         taken = subst (λ (ls : List (Level g.row.T.Denot)). AreTakenInTurn g.T.Ord.cmp g.B.RandomBits.bit g.B.RandomBits.next c.args.coins.now c.args.coins.now
             s.k s.accuracy s.levels c.args.items.now ls)
             (sym h.levels_are)
