@@ -8,7 +8,6 @@ use Rattle.std.proofs.lemmas.List.Elements.{length_all_zip}
 use Rattle.sketch_base.specs.Bag.{Bag, AlikeReq, SameItems, sort}
 use Rattle.sketch_base.proofs.Counts.{sorted_items, SameCounts-from_items}
 use Rattle.sketch_req.specs.Actions.{bag_of, coins_of}
-use Rattle.sketch_req.specs.Copy.{IsCopy, IsLevelCopy}
 use Rattle.sketch_req.specs.Imaged.{IsSameLevel, IsSameSketch}
 use Rattle.sketch_req.specs.ImageLaws.{without_coins}
 use Rattle.sketch_req.specs.Level.{Level}
@@ -55,12 +54,6 @@ module _ {A : Type 0} {cmp : A → A → Ordering} (o : IsTotalOrder cmp) where
   same-bag : (xs ys : List (Level A)) → AreSame xs ys → AlikeReq cmp (bag_of xs) (bag_of ys)
   same-bag xs ys c = record { levels = same-levels xs ys c; kept = same-coins xs ys c }
 
-  -- copied levels are the same
-  pub copied-levels : (xs ys : List (Level A)) → AllZip (IsLevelCopy cmp) xs ys → AreSame xs ys
-  copied-levels [] [] c = tt
-  copied-levels (x ∷ xs) (y ∷ ys) c = (record { items = c.0.items; rest = c.0.rest }, copied-levels xs ys c.1)
-  copied-levels xs ys c = absurd c
-
   -- in the bag of levels that forgot their coins all kept bits are false
   forgotten-bag : (xs : List (Level A)) → bag_of (map forgotten xs) ≡ record (bag_of xs) { kept = λ h. false }
   forgotten-bag xs = λ i. let b : Bag A = record { levels = lists xs i; is_sorted = false; kept = fun_ext (none xs) i } in b
@@ -80,9 +73,9 @@ module _ {A : Type 0} {cmp : A → A → Ordering} (o : IsTotalOrder cmp) where
 
   module _ (spelling : A → Option (List ℕ)) where
     -- a copy
-    pub copy_is : (s t : Req A) → IsCopy cmp s t → IsSound cmp t → IsCopied (req_kind cmp spelling) s t
+    pub copy_is : (s t : Req A) → IsSameSketch cmp s t → IsSound cmp t → IsCopied (req_kind cmp spelling) s t
     copy_is s t c sound =
-        let levels = copied-levels s.levels t.levels c.levels in
+        let levels = c.levels in
         record {
           shape_is = same-shape _ _ _ _ _ _ _ _ c.k c.accuracy c.n (same-layouts s.levels t.levels levels);
           alike = same-bag s.levels t.levels levels;

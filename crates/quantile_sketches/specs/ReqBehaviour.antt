@@ -9,7 +9,7 @@ use Rattle.sketch_base.specs.Random.{bits_from, after_draws}
 use Rattle.sketch_base.specs.declared.error.ErrorKind.{ErrorKind}
 use Rattle.sketch_base.specs.declared.error.ErrorKind.TheVariants.{InvalidArgument, InvalidData, OutOfMemory}
 use Rattle.sketch_req.specs.Actions.{bag_of}
-use Rattle.sketch_req.specs.Copy.{IsCopy}
+use Rattle.sketch_req.specs.Imaged.{IsSameSketch}
 use Rattle.sketch_req.specs.Image.{BeginsImage, NoImage}
 use Rattle.sketch_req.specs.Level.{fresh}
 use Rattle.sketch_req.specs.Merged.{IsMergedBy, coins_of_merge_by}
@@ -39,7 +39,7 @@ module _ {A : Type 0} (cmp : A → A → Ordering) (spelling : A → Option (Lis
 
   -- an equal sketch, or out of memory
   abbrev pub IsCopied : Req A → Result (Req A) ErrorKind → Type 0
-  IsCopied s r = IfOk r (λ t. IsCopy cmp s t × IsSound cmp t) × IfErr r (λ e. e ≡ OutOfMemory)
+  IsCopied s r = IfOk r (λ t. IsSameSketch cmp s t × IsSound cmp t) × IfErr r (λ e. e ≡ OutOfMemory)
 
   -- the same as a new sketch of the same k and accuracy
   abbrev pub IsEmptied : Req A → Req A → Type 0
