@@ -1,10 +1,10 @@
 -- REQ's actions depend on items only in their Puts.
 use Rattle.std.proofs.Common.{◌≡◌, ℕ, zero, suc, Bool, if◌then◌else◌, List, [], ◌∷◌, length, map, refl, ap}
 use Rattle.sketch_base.specs.Trace.{Action, Put, Redraw, joins_actions}
-use Rattle.sketch_req.specs.Schedule.{Layout, is_full, are_full, layout_at, put_layouts, joined_layouts, step_actions, steps_actions, actions_if_full, redraws_from, redraw_actions}
+use Rattle.sketch_req.specs.Schedule.{Layout, is_full, are_full, layout_at, put_layouts, joined_layouts, step_actions, steps_actions, actions_if_full, redraws_from, redraw_actions, merge_actions_by}
 use Rattle.sketch_req.specs.Level.{turns_coin}
 use Rattle.sketch_req.specs.declared.RankAccuracy.{RankAccuracy}
-use Rattle.quantile_sketches.specs.ReqRules.{merge_actions_by, req_rules}
+use Rattle.quantile_sketches.specs.ReqRules.{req_rules}
 use Rattle.quantile_sketches.proofs.Bare.{bare_action, bare-append, bare-if, AreBare, bare-joins}
 
 module _ (A : Type 0) where

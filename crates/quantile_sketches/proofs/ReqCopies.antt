@@ -15,6 +15,7 @@ use Rattle.sketch_req.specs.LevelImage.{forgotten}
 use Rattle.sketch_req.specs.Schedule.{Layout, layout_of, layouts_of}
 use Rattle.sketch_req.specs.Sketch.{Req, IsSound}
 use Rattle.sketch_req.specs.declared.RankAccuracy.{RankAccuracy}
+use Rattle.sketch_req.proofs.WrittenSketches.{layouts_forgotten}
 use Rattle.quantile_sketches.specs.ReqKind.{req_kind}
 use Rattle.quantile_sketches.specs.ReqRules.{ReqShape}
 use Rattle.quantile_sketches.specs.RunSteps.{IsCopied, IsReadBack}
@@ -67,10 +68,6 @@ module _ {A : Type 0} {cmp : A → A → Ordering} (o : IsTotalOrder cmp) where
       none (x ∷ xs) zero = refl
       none (x ∷ xs) (suc h) = none xs h
 
-  forgotten-layouts : (xs : List (Level A)) → layouts_of (map forgotten xs) ≡ layouts_of xs
-  forgotten-layouts [] = refl
-  forgotten-layouts (x ∷ xs) = ap (λ ls. layout_of x ∷ ls) (forgotten-layouts xs)
-
   module _ (spelling : A → Option (List ℕ)) where
     -- a copy
     pub copy_is : (s t : Req A) → IsSameSketch cmp s t → IsSound cmp t → IsCopied (req_kind cmp spelling) s t
@@ -87,7 +84,7 @@ module _ {A : Type 0} {cmp : A → A → Ordering} (o : IsTotalOrder cmp) where
     -- what is read back
     pub read_is : (s t : Req A) → IsSameSketch cmp (without_coins s) t → IsSound cmp t → IsReadBack (req_kind cmp spelling) s t
     read_is s t c sound = record {
-      shape_is = same-shape _ _ _ _ _ _ _ _ c.k c.accuracy c.n (same-layouts (map forgotten s.levels) t.levels c.levels ∙ forgotten-layouts s.levels);
+      shape_is = same-shape _ _ _ _ _ _ _ _ c.k c.accuracy c.n (same-layouts (map forgotten s.levels) t.levels c.levels ∙ layouts_forgotten s.levels);
       alike = subst (λ (b : Bag A). AlikeReq cmp b (bag_of t.levels)) (forgotten-bag s.levels) (same-bag (map forgotten s.levels) t.levels c.levels);
       least_is = c.least;
       greatest_is = c.greatest;

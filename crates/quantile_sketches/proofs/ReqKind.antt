@@ -7,7 +7,7 @@ use Rattle.sketch_base.specs.Bag.{Bag, AlikeReq, sort, empty_bag}
 use Rattle.sketch_base.specs.Trace.{Action, Put, Work, act, acts, alone, next_bit}
 use Rattle.sketch_base.proofs.Alikes.{acts-req}
 use Rattle.sketch_base.proofs.Fixed.{length-sort}
-use Rattle.sketch_req.specs.Schedule.{Layout, put_layouts, redraw_actions, actions_if_full, update_actions}
+use Rattle.sketch_req.specs.Schedule.{Layout, put_layouts, redraw_actions, actions_if_full, update_actions, merge_actions_by}
 use Rattle.sketch_req.specs.Walk.{AreOwn}
 use Rattle.sketch_req.specs.declared.RankAccuracy.{RankAccuracy}
 use Rattle.sketch_kll.proofs.WeightedTakes.{put-levels}
@@ -17,11 +17,10 @@ use Rattle.sketch_req.proofs.Walks.{own-bag}
 use Rattle.sketch_req.proofs.Rank.{weight_is}
 use Rattle.sketch_req.proofs.Redraws.{own-redraws}
 use Rattle.sketch_req.proofs.Walks.{own-req}
+use Rattle.sketch_req.proofs.Unbiased.{merge_by_req}
 use Rattle.quantile_sketches.specs.RuleLaws.{IsLawful}
 use Rattle.quantile_sketches.specs.ReqKind.{req_kind}
-use Rattle.quantile_sketches.specs.ReqRules.{merge_actions_by}
 use Rattle.quantile_sketches.proofs.LegalPlans.{not-none}
-use Rattle.quantile_sketches.proofs.ReqMerges.{merge-req}
 use Rattle.quantile_sketches.proofs.ReqRuleLaws.{req_lawful}
 
 module _ {A : Type 0} {cmp : A → A → Ordering} (o : IsTotalOrder cmp) where
@@ -62,6 +61,6 @@ module _ {A : Type 0} {cmp : A → A → Ordering} (o : IsTotalOrder cmp) where
     weighted_alike = λ x y tie s weight word a b fits was. was;
     redraw_alike = λ s word a b fits was. alike-own (redraw_actions s.layouts) word a b (own-redraws A 0 s.layouts) was;
     merge_alike = λ redraws s other word a b fits was sides.
-        acts-req o (merge_actions_by redraws s.k s.accuracy s.layouts other.layouts) word a b (merge-req A redraws s.k s.accuracy s.layouts other.layouts) was sides;
+        acts-req o (merge_actions_by redraws s.k s.accuracy s.layouts other.layouts) word a b (merge_by_req A redraws s.k s.accuracy s.layouts other.layouts) was sides;
     read_alike = λ word a b was. record { levels = was.levels; kept = λ h. refl };
   }

@@ -9,22 +9,22 @@ use Rattle.sketch_base.specs.Ranks.{true_ranks}
 use Rattle.sketch_base.specs.Trace.{Action, Compact, Event, Snap, At, Work, World, events_at}
 use Rattle.sketch_base.proofs.Changes.{changed-there, changed-itself}
 use Rattle.sketch_base.proofs.Lengths.{obeys}
-use Rattle.sketch_req.specs.Schedule.{Layout, counts_of, retained_of, update_actions, update_layouts, redraw_actions, merge_layouts}
+use Rattle.sketch_req.specs.Schedule.{Layout, counts_of, retained_of, update_actions, update_layouts, redraw_actions, merge_layouts, merge_actions_by}
 use Rattle.sketch_req.specs.ScheduleLaws.{IsLegalFrom}
 use Rattle.sketch_req.specs.Sections.{IsLegalK}
 use Rattle.sketch_req.specs.declared.RankAccuracy.{RankAccuracy}
 use Rattle.sketch_req.specs.declared.RankAccuracy.TheVariants.{HighRank, LowRank}
 use Rattle.sketch_req.proofs.WalkCapacities.{update_weighs, merge_weighs, update_two, merge_two, update_few, merge_few, update_retains, merge_retains}
 use Rattle.sketch_req.proofs.LegalLayouts.{new_is, filled_are, joined_are}
-use Rattle.sketch_req.proofs.LegalTraces.{lengths_at, along-even, fits-legal, update_legal, update_lengths}
+use Rattle.sketch_req.proofs.LegalTraces.{lengths_at, along-even, fits-legal, update_legal, update_lengths, merge_legal, merge_lengths}
 use Rattle.sketch_req.proofs.LegalWalks.{room_leads}
 use Rattle.sketch_req.proofs.Unbiased.{ranks-update}
 use Rattle.quantile_sketches.specs.RuleLaws.{lengths_by, IsLegalBy, DoWell, AreLawful}
 use Rattle.quantile_sketches.specs.ReqKind.{FitsReq, MeetsReq}
-use Rattle.quantile_sketches.specs.ReqRules.{ReqShape, new_shape, may_be_k, is_same, is_too_much, merge_actions_by, req_rules}
+use Rattle.quantile_sketches.specs.ReqRules.{ReqShape, new_shape, may_be_k, is_same, is_too_much, req_rules}
 use Rattle.quantile_sketches.proofs.KllRuleLaws.{unless-there}
 use Rattle.quantile_sketches.proofs.LegalPlans.{not-none, some-one}
-use Rattle.quantile_sketches.proofs.ReqMerges.{legal-by, lengths-by, redraw-leads, ranks-redraw, ranks-merge}
+use Rattle.quantile_sketches.proofs.ReqMerges.{redraw-leads, ranks-redraw, ranks-merge}
 
 -- accuracies that are found to be the same are equal
 pub same_accuracy : (a b : RankAccuracy) → is_same a b ≡ true → a ≡ b
@@ -163,9 +163,9 @@ module _ (A : Type 0) where
       let actions : List (Action A) = merge_actions_by redraws s.k s.accuracy s.layouts other.layouts in
       let snapped : World (List ℕ) = lengths_after {A = A} (Snap source into) world in
       let l = legal (λ i. s.k) (Snap source into ∷ events_at into actions) world
-      (legal-by A redraws (λ i. s.k) s.accuracy source into s.layouts other.layouts world h.legal h.are h.lengths_are o.lengths_are z) in
+      (merge_legal A redraws (λ i. s.k) s.accuracy source into s.layouts other.layouts world h.legal h.are h.lengths_are o.lengths_are z) in
       let lengths : (acts_on_lengths actions (record { bag = world.slots into; scratch = world.slots source })).bag ≡ counts_of (merge_layouts s.k s.layouts other.layouts) =
-      rw (h.lengths_are, o.lengths_are) (lengths-by A redraws s.k s.accuracy s.layouts other.layouts h.legal h.are) in
+      rw (h.lengths_are, o.lengths_are) (merge_lengths A redraws s.k s.accuracy s.layouts other.layouts h.legal h.are).1 in
       let is : merged_as s other (merge_layouts s.k s.layouts other.layouts) ≡ t =
       ap (λ (b : Bool). merged_as s other (if b then s.layouts else merge_layouts s.k s.layouts other.layouts)) (sym some_n) ∙ u.1 in
       rw (← is) (record {

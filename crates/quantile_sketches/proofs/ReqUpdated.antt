@@ -15,7 +15,7 @@ use Rattle.sketch_base.proofs.Changes.{changed-there, changed-own}
 use Rattle.sketch_base.proofs.Picks.{is_plain, ArePlain, stays, picked, pick, Sheds, play-picked, play-shed, sum-picked, picked-cleared, picked-away, picked-joined, picked-more}
 use Rattle.sketch_base.proofs.PlaysInParts.{play-at}
 use Rattle.sketch_req.specs.Relative.{IsRelative, UpdatesAreRelative, Reaches, UpdatesAreRelativeToCounts}
-use Rattle.sketch_req.specs.Schedule.{Layout, new_layout, actions_if_full, put_layouts, update_actions, update_layouts, redraw_actions, merge_layouts}
+use Rattle.sketch_req.specs.Schedule.{Layout, new_layout, actions_if_full, put_layouts, update_actions, update_layouts, redraw_actions, merge_layouts, merge_actions_by}
 use Rattle.sketch_req.specs.ScheduleLaws.{updates_actions, updates_layouts, updates_trace}
 use Rattle.sketch_req.specs.Sections.{IsLegalK}
 use Rattle.sketch_req.specs.declared.RankAccuracy.{RankAccuracy}
@@ -23,7 +23,7 @@ use Rattle.sketch_req.proofs.Unbiased.{AreCompacts, room_compacts, unbiased_list
 use Rattle.quantile_sketches.specs.declared.audit.commands.Command.TheVariants.{New, Update, UpdateWeighted, Merge, Reset, RoundTrip, Redraw, MergeRedrawn}
 use Rattle.quantile_sketches.specs.Plan.{Plan, start_plan, count_of, events_of, after_command, plan_after, plan_from, trace_from, trace_of, plan_of}
 use Rattle.quantile_sketches.specs.ReqPlan.{ReqCommand, shape_in, shape_at}
-use Rattle.quantile_sketches.specs.ReqRules.{ReqShape, new_shape, merge_actions_by, req_rules}
+use Rattle.quantile_sketches.specs.ReqRules.{ReqShape, new_shape, req_rules}
 use Rattle.quantile_sketches.specs.ReqRun.{merged_in}
 use Rattle.quantile_sketches.specs.ReqUpdated.{accepted_only_updated, only_updated_from, was_only_updated, compacted_in, off_tail_at}
 use Rattle.quantile_sketches.specs.Run.{accepted_streams, streams_from, stream_of, IsUnbiased}
