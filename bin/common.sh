@@ -7,32 +7,33 @@
 set -eu
 # shellcheck disable=SC3040
 if (set -o pipefail) 2> /dev/null; then set -o pipefail; fi
-# (with standard error closed, messages are lost, and the status is still the right one)
-[ -e /dev/fd/2 ] || exec 2> /dev/null
+# (with standard error closed, where bash opens its script, messages are lost, and the status is still the right one)
+# shellcheck disable=SC3013
+if ! [ -e /dev/fd/2 ] || [ /dev/fd/2 -ef "$0" ]; then exec 2> /dev/null; fi
 export LC_ALL=C
 name=${0##*/}
 AWK=${AWK:-awk}
 export AWK here name
 
-# dies STATUS TEXT: says why on standard error, and ends the script.
+# tells TEXT: says it on standard error, if that can be written.
+tells() { echo "$name: $1" >&2 || :; }
+
+# dies STATUS TEXT: says why, and ends the script.
 dies() {
-    echo "$name: $2" >&2
+    tells "$2"
     exit "$1"
 }
 
 # usage STATUS: prints the comment at the head of the script, and ends it.
 usage() {
-    if [ "$1" = 0 ]; then
-        sed -n '2,/^$/s/^#$\|^# //p' "$0"
-    else
-        sed -n '2,/^$/s/^#$\|^# //p' "$0" >&2
-    fi
+    [ "$1" = 0 ] || exec >&2
+    sed -n '2,/^$/s/^#$\|^# //p' "$0" || [ "$1" != 0 ] || dies 3 "standard output can't be written"
     exit "$1"
 }
 
 # Makes the temporary folder $work, which is removed however the script ends.
 make_work() {
-    work=$(mktemp -d)
+    work=$(mktemp -d) || dies 3 'no temporary folder can be made: set TMPDIR to a folder that can be written'
     export work
     child=
     trap 'rm -rf "$work"' EXIT

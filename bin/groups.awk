@@ -76,7 +76,7 @@ function file_name(   it) {
 function line_told() { return file_name() ", line " FNR ": " cut(quoted_at == NR ? quoted : $0) }
 
 # A text as a message shows it.
-function cut(text) { return length(text) > 200 ? substr(text, 1, 200) ".." : text }
+function cut(text) { return printable(length(text) > 200 ? substr(text, 1, 200) ".." : text) }
 
 # The seed of a process: each process has its own, and other given seeds lead to others.
 function seed_of(process) { return ENVIRON["seed"] sprintf("%04d", process % 10000) }
@@ -105,11 +105,14 @@ function say(key, line,   p) {
     print line | pipe_of[p]
 }
 
+{
+    if (substr($0, length($0)) == "\r") $0 = substr($0, 1, length($0) - 1)
+    if (FNR == 1 && substr($0, 1, 3) == "\357\273\277") $0 = substr($0, 4)
+}
+
 # --- numbers ---
 
 !reads_images {
-    if (substr($0, length($0)) == "\r") $0 = substr($0, 1, length($0) - 1)
-    if (FNR == 1 && substr($0, 1, 3) == "\357\273\277") $0 = substr($0, 4)
     if (may_quote && index($0, "\"") && !unquote()) next
     if (has_header && FNR == 1) { find_fields(); next }
     x = $item
@@ -121,7 +124,7 @@ function say(key, line,   p) {
         if (x == "") next
     }
     if (is_by_one) key = $first_group ""
-    else for (key = i = ""; ++i <= fields;) key = key (i > 1 ? joint : "") $group[i]
+    else for (key = i = ""; ++i <= fields;) key = key (i > 1 ? joint : "") (quoted_at == NR ? part($group[i]) : $group[i])
     if (!(key in process)) {
         begin(key, ENVIRON["family"])
         update[key] = "\nupdate " slot[key] " "
@@ -139,12 +142,20 @@ function say(key, line,   p) {
     if (is_watched && NR >= watch_at) watch()
 }
 
+# A field as one of several in a key: in quotes if it holds the separator or a quote, so that no other fields make the same key.
+function part(it) {
+    if (!index(it, joint) && !index(it, "\"")) return it
+    gsub(/"/, "\"\"", it)
+    return "\"" it "\""
+}
+
 # Takes fields out of their quotes, as in CSV: a separator within quotes is part of the field, and two quotes stand for one. A line
 # whose quotes aren't closed is counted, and left out.
 function unquote(   rest, cells, i, at, it) {
     quoted = $0
     quoted_at = NR
     for (rest = $0 joint; rest != ""; rest = substr(rest, at + 1)) {
+        sub(/^[ \t]+"/, "\"", rest)
         for (it = ""; substr(rest, 1, 1) == "\""; rest = substr(rest, at + 2)) {
             at = index(substr(rest, 2), "\"")
             if (!at) {
@@ -209,7 +220,6 @@ function next_of(digits,   i, nines) {
 # The program reads a REQ image whatever follows it. So a line that runs into the next one is known by its number of fields, or by the
 # length of its image.
 reads_images {
-    if (substr($0, length($0)) == "\r") $0 = substr($0, 1, length($0) - 1)
     if (NF == 2) hold($1, $2, decimals)
     else if (NF == 3 && $3 ~ /^[0-9]$/) hold($1, $2, $3 + 0)
     else refuse(NF > 1 ? $1 : "", "is no image")
@@ -248,13 +258,15 @@ function number_of(digits,   i, n) {
 
 function digit(it) { return index("123456789abcdef", tolower(it)) }
 
-function refuse(key, why,   where) {
-    where = file_name() ", line " FNR
-    tell_refused(where, key, why)
-}
+function refuse(key, why) { tell_refused(file_name() ", line " FNR, key, why) }
 
-function tell_refused(where, key, why) {
-    printf "%s: %s, key '%s': %s; it is left out\n", ENVIRON["name"], where, cut(key), why > "/dev/stderr"
+# Reports a line that is left out: the first ten of each file, and at the end how many more there are.
+function tell_refused(where, key, why,   file) {
+    file = where
+    sub(/, line [0-9]+$/, "", file)
+    if (++refused[file] <= 10)
+        printf "%s: %s, key '%s': %s; it is left out\n", ENVIRON["name"], where, cut(key), why > "/dev/stderr"
+    else if (refused[file] == 11) has_more[++mores] = file
     bad_images++
 }
 
@@ -280,12 +292,15 @@ function release(   i, verdict, kind, file, judge) {
 }
 
 # Puts an image, which the program has read, into the sketch of its key. Nothing else does.
-function join(line, key, image, decimals, kind,   sort_of, why) {
+function join(line, key, image, decimals, kind,   sort_of, weight, why) {
     # (a REQ sketch's flag 8 says which end it is exact at)
     sort_of = kind == "req" ? kind index("89abcdef", tolower(substr(image, 8, 1))) > 0 : kind
-    why = misfit(key, sort_of, decimals)
-    if (why != "") tell_refused(line, key, why)
-    else if (!(key in process)) {
+    # (where an image has 4 or 5 preamble ints, its ninth to sixteenth bytes are its weight; all others weigh little)
+    weight = image ~ /^0[45]/ ? number_of(substr(image, 17, 16)) : 0
+    why = misfit(key, sort_of, decimals, weight)
+    if (why != "") { tell_refused(line, key, why); return }
+    weight_of[key] += weight
+    if (!(key in process)) {
         begin(key, kind)
         kept[key] = sort_of
         decimals_of[key] = decimals
@@ -299,11 +314,12 @@ function join(line, key, image, decimals, kind,   sort_of, why) {
 }
 
 # Why an image can't go into the sketch of its key; empty if it can.
-function misfit(key, sort_of, decimals) {
+function misfit(key, sort_of, decimals, weight) {
     if (decimals == "" && !asks_images) return "doesn't say its decimals: give them with -d"
     if (!(key in process)) return ""
     if (kept[key] != sort_of) return "is of another kind of sketch than those before"
-    if (decimals == decimals_of[key]) return ""
+    # (the program refuses 2^64 and more, which is 1.84e19; a sum here is rounded)
+    if (decimals == decimals_of[key]) return weight_of[key] + weight > 1.8e19 ? "would take its key's weight over 1.8e19" : ""
     if (decimals == "") return "doesn't say its decimals, and those before do"
     if (decimals_of[key] == "") return "says its decimals, and those before don't"
     return "has " decimals " decimal" (decimals == 1 ? "" : "s") ", and those before have " decimals_of[key]
@@ -335,7 +351,11 @@ END {
     print (bad && ENVIRON["ignore"] == "" || open || beyond || bad_images ? 1 : 0), count > (work "/end")
 }
 
-function tell_left_out() {
+function tell_left_out(   i, extra) {
+    for (i = 1; i <= mores; i++) {
+        extra = refused[has_more[i]] - 10
+        printf "%s: %s: %d more line%s left out\n", ENVIRON["name"], has_more[i], extra, (extra == 1 ? " is" : "s are") > "/dev/stderr"
+    }
     if (bad) tell(bad, "without a number", "left out; the first", first_bad)
     if (open) tell(open, "with a quote that isn't closed", "left out; the first", first_open)
     if (beyond) tell(beyond, "with a number out of range", "left out; the first", first_beyond)

@@ -29,7 +29,10 @@ read_options() {
     known=$1
     shift
     OPTIND=1
-    while getopts ":$known" option; do
+    while getopts ":$known-:" option; do
+        case $option in
+            g | v | t | d | p | f | k | o | s) [ -n "$OPTARG" ] || wrong "-$option takes a word that isn't empty" ;;
+        esac
         case $option in
             g) groups=$OPTARG ;;
             v) value=$OPTARG ;;
@@ -44,6 +47,7 @@ read_options() {
             s) seed=$OPTARG ;;
             I) reads=images ;;
             h) usage 0 ;;
+            -) [ "$OPTARG" != help ] || usage 0; wrong "there is no option --$OPTARG" ;;
             :) wrong "-$OPTARG takes a word" ;;
             *) wrong "there is no option -$OPTARG" ;;
         esac
@@ -71,31 +75,46 @@ check_fields() {
 check_rest() {
     is_among "$decimals" 0 9 || wrong "-d takes 0 to 9, and '$decimals' is none of these"
     matches "$points" "$percent(,$percent)*" || wrong "-p takes percentiles from 0 to 100, with at most 12 decimals, and '$points' isn't that"
+    twice=$(printf '%s\n' "$points" | tr ',' '\n' | sort | uniq -d | head -n 1)
+    [ -z "$twice" ] || wrong "-p takes a percentile once, and '$points' has $twice twice"
     columns=$(printf '%s\n' "$points" | tr ',' '\n' | wc -l)
     case $family in
-        req) accuracy="${k:=50} high"; is_among "$k" 4 1024 && [ "$((k % 2))" = 0 ] || wrong "-k of req is even, from 4 to 1024" ;;
-        kll) accuracy=${k:=200}; is_among "$k" 8 65535 || wrong '-k of kll is from 8 to 65535' ;;
+        req) accuracy="${k:=50} high"; is_among "$k" 4 1024 && [ "${k%[02468]}" != "$k" ] || wrong "-k of req is even, from 4 to 1024, and '$k' isn't" ;;
+        kll) accuracy=${k:=200}; is_among "$k" 8 65535 || wrong "-k of kll is from 8 to 65535, and '$k' isn't" ;;
         *) wrong "a sketch is req or kll, and '$family' is none" ;;
     esac
     case $format in table | tsv | csv | json) ;; *) wrong "a format is table, tsv, csv or json, and '$format' is none" ;; esac
     [ -z "$seed" ] || is_number "$seed" 15 || wrong "a seed has up to 15 digits, and '$seed' hasn't"
 }
 
+# check_file FILE: ends the script if this can't be read, and reports an empty file of images: a summarize that failed leaves one.
+check_file() {
+    if ! [ -e "$1" ]; then
+        case $1 in -*) dies 3 "$1: there is no such file; options come before files" ;; esac
+        dies 3 "$1: there is no such file"
+    fi
+    ! [ -d "$1" ] || dies 3 "$1 is a folder"
+    [ -r "$1" ] || dies 3 "$1 can't be read"
+    if [ "$reads" = images ] && [ -f "$1" ] && ! [ -s "$1" ]; then
+        tells "$1 is empty: check whether the summarize that wrote it failed"
+        has_empty=yes
+    fi
+}
+
 # summed FILE..: puts the numbers or images of these files into sketches, and the requested rows into $work/rows. The variable
-# 'summed' is then 0, or 1 if lines were left out.
+# 'summed' is then 0, or 1 if lines were left out or a file of images is empty.
 summed() {
+    has_empty=''
+    reads_input=''
+    [ $# -gt 0 ] || reads_input=yes
     for file in "$@"; do
         shift
-        case $file in
-            -) ;;
-            *) [ -e "$file" ] || dies 3 "$file: there is no such file"
-                ! [ -d "$file" ] || dies 3 "$file is a folder"
-                [ -r "$file" ] || dies 3 "$file can't be read" ;;
-        esac
+        if [ "$file" = - ]; then reads_input=yes; else check_file "$file"; fi
         # (awk reads a name that contains = as an assignment)
         case $file in - | /*) ;; *) file=./$file ;; esac
         set -- "$@" "$file"
     done
+    [ -n "$reads_input" ] || exec < /dev/null
     find_program
     make_work
     [ -n "$seed" ] || seed=$(od -An -N6 -tu8 /dev/urandom | tr -d ' ')
@@ -105,8 +124,9 @@ summed() {
     # (each process of the program needs a file descriptor)
     # shellcheck disable=SC3045
     ulimit -n "$(ulimit -H -n)" 2> /dev/null || :
-    attended $AWK -f "$here/groups.awk" "$@" > "$work/rows" || tell_end
+    attended $AWK -f "$here/printable.awk" -f "$here/groups.awk" "$@" > "$work/rows" || tell_end
     [ -s "$work/end" ] && read -r summed rows < "$work/end" && [ "$rows" = "$(wc -l < "$work/rows")" ] || tell_end
+    [ -z "$has_empty" ] || summed=1
 }
 
 # finish FILE: prints the file, and ends the script.
@@ -122,8 +142,8 @@ tell_end() {
         told=$(tail -n 1 "$file" | cut -c 1-200)
         case $told in
             'status 0') ;;
-            'status '*) echo "$name: the program ended early, with $told" >&2; break ;;
-            'error: '*) echo "$name: the program refused a line: $told" >&2; break ;;
+            'status '*) tells "the program ended early, with $told"; break ;;
+            'error: '*) tells "the program refused a line: $told"; break ;;
         esac
     done
     dies 3 'nothing is printed, since not all was read'

@@ -53,7 +53,7 @@ function places(text) {
 
 function shown(text) {
     gsub(/\t/, " ", text)
-    return text == "" ? "\"\"" : text
+    return text == "" ? "\"\"" : printable(text)
 }
 
 # The spaces that fill a text up to a width. (sprintf has a limit in mawk: 8191 characters.)
@@ -91,7 +91,7 @@ function print_lines(   r, i, line, between) {
 }
 
 function quoted(text) {
-    if (text !~ /[",]/) return text
+    if (text !~ /[",\r]/) return text
     gsub(/"/, "\"\"", text)
     return "\"" text "\""
 }
