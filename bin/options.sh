@@ -75,7 +75,7 @@ check_fields() {
 check_rest() {
     is_among "$decimals" 0 9 || wrong "-d takes 0 to 9, and '$decimals' is none of these"
     matches "$points" "$percent(,$percent)*" || wrong "-p takes percentiles from 0 to 100, with at most 12 decimals, and '$points' isn't that"
-    twice=$(printf '%s\n' "$points" | tr ',' '\n' | sort | uniq -d | head -n 1)
+    twice=$(printf '%s' "$points" | $AWK -v RS=, 'seen[$0]++ && !told++')
     [ -z "$twice" ] || wrong "-p takes a percentile once, and '$points' has $twice twice"
     columns=$(printf '%s\n' "$points" | tr ',' '\n' | wc -l)
     case $family in
