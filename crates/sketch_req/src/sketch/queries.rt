@@ -25,6 +25,9 @@ use sketch_base::error::Error;
 use sketch_base::weighted::{Weighted, merge_weighted, weigh_in_order};
 use std::alloc::{AllocError, Global};
 
+/// For more split points than this, a sorted view takes less time than a rank for each point.
+const MANY_POINTS: usize = 256;
+
 impl<T: Clone + Ord> ReqSketch<T> {
     /// A sorted snapshot of the items, for many queries. Equal items are joined in it.
     ///
@@ -131,12 +134,14 @@ impl<T: Clone + Ord> ReqSketch<T> {
         self.sorted_view()?.quantiles(fractions, criteria)
     }
 
-    /// The rank of each split point, and last the whole; None for an empty sketch. It allocates
-    /// only the answer.
+    /// The rank of each split point, and last the whole; None for an empty sketch. For at most
+    /// `MANY_POINTS` points it allocates only the answer; for more it makes a sorted view.
     ///
-    /// `InvalidArgument` exactly where the split points do not strictly increase, whether or not
-    /// the sketch is empty; any other error is `OutOfMemory`.
+    /// An item's clone must compare equal to it. `InvalidArgument` exactly where the split points
+    /// do not strictly increase, whether or not the sketch is empty; any other error is
+    /// `OutOfMemory`.
     pub fn cdf(&self, points: &[T], criteria: SearchCriteria) -> Result<Option<Vec<Rank>>, Error>
+        requires clones { (x y : T) → T.is_clone x y → T.cmp x y ≡ Equal }
         ensures found { let s = self.now in IfOk result
             (FindsRanks s.n (cdf_of T.cmp criteria (expanded T.cmp (bag_of s.levels)) points.now)) }
         ensures rises { IfOk result (λ found. IfSome found (λ ranks.
@@ -146,8 +151,8 @@ impl<T: Clone + Ord> ReqSketch<T> {
     {
         queries::check_points(points)?;
         let total = self.n();
-        if total == 0 {
-            return Ok(None);
+        if total == 0 || points.len() > MANY_POINTS {
+            return self.sorted_view()?.cdf(points, criteria);
         }
         let alloc = *self.levels.compactors.allocator();
         let mut ranks = Vec::with_capacity(alloc, points.len().saturating_add(1))?;
@@ -155,15 +160,14 @@ impl<T: Clone + Ord> ReqSketch<T> {
             let weight = self.rank_weight(point, criteria);
             ranks.push_reserved(Rank { weight, total });
         }
-        ranks.push(Rank {
-            weight: total,
-            total,
-        })?;
+        let weight = total;
+        ranks.push(Rank { weight, total })?;
         Ok(Some(ranks))
     }
 
     /// How much lies between the split points; None for an empty sketch. Errors as for `cdf`.
     pub fn pmf(&self, points: &[T], criteria: SearchCriteria) -> Result<Option<Vec<Rank>>, Error>
+        requires clones { (x y : T) → T.is_clone x y → T.cmp x y ≡ Equal }
         ensures found { let s = self.now in IfOk result
             (FindsRanks s.n (pmf_of T.cmp criteria (expanded T.cmp (bag_of s.levels)) points.now)) }
         ensures sums { IfOk result (λ found. IfSome found (λ ranks.

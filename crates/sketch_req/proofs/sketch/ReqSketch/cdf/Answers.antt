@@ -1,14 +1,15 @@
-use Rattle.std.proofs.Common.{ℕ, ◌+◌, ◌<◌, ◌≤◌, ◌≡◌, ◌++◌, [], ◌∷◌, Err, length, map, arith, ap, subst, sym, ◌∙◌}
+use Rattle.std.proofs.Common.{ℕ, ◌+◌, ◌<◌, ◌≤◌, ◌≡◌, ◌++◌, [], ◌∷◌, Err, IfOk, length, map, arith, ap, subst, sym, ◌∙◌}
 use Rattle.sketch_base.specs.declared.error.ErrorKind.TheVariants.{OutOfMemory}
+use Rattle.sketch_base.specs.Answered.{IsFoundAmong, IsRefusedUnless}
 use Rattle.sketch_base.specs.Bag.{expanded}
 use Rattle.sketch_base.specs.Query.{true_rank}
-use Rattle.sketch_base.specs.Queries.{ranks_of}
+use Rattle.sketch_base.specs.Queries.{IsIncreasing, ranks_of}
 use Rattle.sketch_base.proofs.Distributions.{ranks-more, ranks-last, ranks-rise}
-use Rattle.sketch_base.proofs.SketchViews.{length-expanded}
+use Rattle.sketch_base.proofs.SketchViews.{cdf-result, length-expanded}
 use Rattle.sketch_req.specs.Actions.{bag_of}
 use Rattle.sketch_req.proofs.Equations.{same_number}
 use Rattle.sketch_base.proofs.Exits.{no_found, returned}
-use Rattle.sketch_base.proofs.RefusedCalls.{fit_answer, fit_short, none_among, some_among, some_now, unfit_refused}
+use Rattle.sketch_base.proofs.RefusedCalls.{fit_answer, fit_short, some_among, some_now, some_of, unfit_refused}
 use Rattle.sketch_req.proofs.sketch.ReqSketch.cdf.Given.{Over}
 use Rattle.sketch_req.proofs.sketch.ReqSketch.cdf.Goals.{After-allocator-alloc, In_ok-push}
 use Rattle.sketch_req.proofs.sketch.ReqSketch.cdf.Goals as goal
@@ -34,13 +35,27 @@ returns-in_err-check_points g c =
     let e = returned c.from_residual.result _ c.from_residual.ensures.1 ∙ ap Err told.kind in
     record { found = no_found _ e; rises = no_found _ e; there = no_found _ e; refused = unfit_refused _ e told.bad }
 
+pub sorted_view-requires : goal.sorted_view-requires
+sorted_view-requires g c = record { clones = c.requires.clones }
+
+pub returns-in_err-sorted_view : goal.returns-in_err-sorted_view
+returns-in_err-sorted_view g c =
+    let told = c.in_err-sorted_view.ensures in
+    let e = returned c.from_residual-in_err-sorted_view.result _ c.from_residual-in_err-sorted_view.ensures.1 ∙ ap Err told.memory in
+    record { found = no_found _ e; rises = no_found _ e; there = no_found _ e; refused = fit_short e c.in_ok-check_points.ensures.good (some_of told.some) }
+
+-- the view's answer
 pub returns-then-total-eq0 : goal.returns-then-total-eq0
 returns-then-total-eq0 g c =
+    let s = c.args.self.now in
+    let told = c.cdf-then-total-eq0.ensures in
+    let weighs = c.in_ok-sorted_view.ensures.view.weighs_n in
     record {
-      found = tt;
-      rises = tt;
-      there = none_among c.n-total.ensures.value c.if-total-eq0.true;
-      refused = fit_answer c.in_ok-check_points.ensures.good;
+      found = cdf-result g.met.T.Ord.total (bag_of s.levels) s.n s.least s.greatest c.in_ok-sorted_view.field-0 c.in_ok-sorted_view.ensures.view
+          c.args.criteria c.args.points.now c.cdf-then-total-eq0.result told.found;
+      rises = told.rises;
+      there = subst (λ (n : ℕ). IfOk c.cdf-then-total-eq0.result (IsFoundAmong n)) weighs told.there;
+      refused = subst (λ (n : ℕ). IsRefusedUnless (IsIncreasing g.T.Ord.cmp c.args.points.now) n c.cdf-then-total-eq0.result) weighs told.refused;
     }
 
 -- the sketch has items

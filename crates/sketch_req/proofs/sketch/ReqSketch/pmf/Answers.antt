@@ -1,8 +1,8 @@
-use Rattle.std.proofs.Common.{◌≡◌, List, length, subst, sym, ◌∙◌, Ordering, Less, Equal, Greater, refl, ap, is_some, arith}
+use Rattle.std.proofs.Common.{◌≡◌, length, subst, sym, ◌∙◌, ap, is_some, arith}
 use Rattle.sketch_base.specs.Answered.{FindsRanks}
 use Rattle.sketch_base.specs.Bag.{expanded}
-use Rattle.sketch_base.specs.Queries.{IsIncreasing, cdf_of}
-use Rattle.sketch_base.proofs.Distributions.{differences-left, ranks-sum}
+use Rattle.sketch_base.specs.Queries.{cdf_of}
+use Rattle.sketch_base.proofs.Distributions.{differences-left, increasing-told, ranks-sum}
 use Rattle.sketch_base.proofs.SketchViews.{length-expanded}
 use Rattle.sketch_req.specs.Actions.{bag_of}
 use Rattle.sketch_base.proofs.Exits.{no_error, no_found, returned}
@@ -10,14 +10,8 @@ use Rattle.sketch_base.proofs.RefusedCalls.{some_among}
 use Rattle.sketch_req.proofs.Refusals.{answered_too, refusal_passed}
 use Rattle.sketch_req.proofs.sketch.ReqSketch.pmf.Goals as goal
 
--- points that do not fail to increase do increase, since comparisons decide it
-less-told : (o : Ordering) → ¬ (¬ (o ≡ Less)) → o ≡ Less
-less-told Less h = refl
-less-told Equal h = absurd (h (λ e. absurd cc))
-less-told Greater h = absurd (h (λ e. absurd cc))
-
-increasing-told : {A : Type 0} (cmp : A → A → Ordering) (points : List A) → ¬ (¬ (IsIncreasing cmp points)) → IsIncreasing cmp points
-increasing-told cmp points h i d l = less-told _ (λ no. h (λ up. no (up i d l)))
+pub cdf-requires : goal.cdf-requires
+cdf-requires g c = record { clones = c.requires.clones }
 
 pub returns-in_err-ranks : goal.returns-in_err-ranks
 returns-in_err-ranks g c =
