@@ -25,8 +25,10 @@ use sketch_base::error::Error;
 use sketch_base::weighted::{Weighted, merge_weighted, weigh_in_order};
 use std::alloc::{AllocError, Global};
 
-/// For more split points than this, a sorted view takes less time than a rank for each point.
-const MANY_POINTS: usize = 256;
+/// Up to this number of split points, a rank for each is cheaper than a sorted view, although each
+/// rank looks at all items that aren't sorted yet. Of `i64`, a view is cheaper from 130 to 480
+/// points on; the longer a comparison takes, the sooner.
+const FEW_POINTS: usize = 64;
 
 impl<T: Clone + Ord> ReqSketch<T> {
     /// A sorted snapshot of the items, for many queries. Equal items are joined in it.
@@ -135,7 +137,7 @@ impl<T: Clone + Ord> ReqSketch<T> {
     }
 
     /// The rank of each split point, and last the whole; None for an empty sketch. For at most
-    /// `MANY_POINTS` points it allocates only the answer; for more it makes a sorted view.
+    /// 64 points it allocates only the answer; for more it makes a sorted view.
     ///
     /// An item's clone must compare equal to it. `InvalidArgument` exactly where the split points
     /// do not strictly increase, whether or not the sketch is empty; any other error is
@@ -151,7 +153,7 @@ impl<T: Clone + Ord> ReqSketch<T> {
     {
         queries::check_points(points)?;
         let total = self.n();
-        if total == 0 || points.len() > MANY_POINTS {
+        if total == 0 || points.len() > FEW_POINTS {
             return self.sorted_view()?.cdf(points, criteria);
         }
         let alloc = *self.levels.compactors.allocator();
