@@ -1,13 +1,11 @@
 //! The levels of a sketch in one vector, the highest first, and how updates change them.
 //! What a compaction does to a slice is in `compaction`, merges are in `levels::merging`.
-ghost use Rattle.std.specs.Prelude.{◌≡◌, ℕ, ◌+◌, ◌-◌, ◌*◌, ◌/◌, ◌^◌, ◌<◌, ◌≤◌, [], ◌∷◌, length, map, max, IfOk, OnOk, vec_capacity, if◌then◌else◌, drop, true, false, IsSorted, IsTrue, nat_le};
-ghost use Rattle.std.specs.declared.cmp.Ordering.TheVariants.{Equal};
+ghost use Rattle.std.specs.Prelude.{◌≡◌, ◌+◌, ◌-◌, ◌^◌, ◌<◌, ◌≤◌, [], ◌∷◌, length, map, IfOk, OnOk, vec_capacity, if◌then◌else◌, drop, true, false, IsSorted, IsTrue, nat_le};
 ghost use Rattle.sketch_base.specs.Query.{counted};
 ghost use Rattle.sketch_kll.specs.Capacity.{capacity_at, total_of};
 ghost use Rattle.sketch_kll.specs.Flat.{levels_in, IsFlat};
 ghost use Rattle.sketch_kll.specs.Levels.{retained, weight as weight_in, first_level, compacted, SameLevels, UpperSorted};
 ghost use Rattle.sketch_kll.specs.Rank.{counted_weight};
-ghost use Rattle.sketch_kll.specs.Sketch.{Ties, greatest_with, least_with, newer_or};
 ghost use Rattle.sketch_kll.specs.Schedule.{lowest_full};
 ghost use Rattle.sketch_kll.specs.Steps.{is_full, compacted_if_full, needs_sorting, put, put_count};
 ghost use Rattle.sketch_kll.specs.Stored.{KeepsLevels, KeepsRoom};

@@ -1,5 +1,5 @@
 //! General compress: a walk over the levels from 0 up.
-ghost use Rattle.std.specs.Prelude.{◌≡◌, ℕ, ◌+◌, ◌-◌, ◌^◌, ◌<◌, ◌≤◌, length, IsTrue, IsSorted, true, false, ◌⊎◌, vec_capacity, vec_len};
+ghost use Rattle.std.specs.Prelude.{◌≡◌, ◌+◌, ◌^◌, ◌<◌, ◌≤◌, length, IsTrue, IsSorted, true, false, ◌⊎◌};
 ghost use Rattle.sketch_base.specs.Random.{after_draws};
 ghost use Rattle.sketch_base.specs.Trace.{draws_of};
 ghost use Rattle.sketch_kll.specs.Capacity.{total_of};

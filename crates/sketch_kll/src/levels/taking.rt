@@ -1,5 +1,5 @@
 //! Levels that take items one after another.
-ghost use Rattle.std.specs.Prelude.{◌≡◌, ◌+◌, ◌<◌, ◌≤◌, ◌++◌, ◌^◌, length, min, reverse, take, vec_len, false, IsSorted, IsTrue, IfOk, OnOk};
+ghost use Rattle.std.specs.Prelude.{◌≡◌, ◌+◌, ◌<◌, ◌≤◌, ◌++◌, ◌^◌, length, min, vec_len, IsSorted, IsTrue, IfOk, OnOk};
 ghost use Rattle.std.specs.declared.cmp.Ordering.TheVariants.{Equal};
 ghost use Rattle.std.specs.Option.{option_to_list};
 ghost use Rattle.sketch_base.specs.Bag.{SameItems};
