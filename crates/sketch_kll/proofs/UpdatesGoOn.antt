@@ -12,7 +12,8 @@ use Rattle.sketch_base.proofs.Items.{SameItems-refl}
 use Rattle.sketch_base.proofs.PlaysInParts.{in_turn-append}
 use Rattle.sketch_kll.specs.Levels.{weight, SameLevels, UpperSorted}
 use Rattle.sketch_kll.specs.Schedule.{updates_actions, updates_lengths}
-use Rattle.sketch_kll.specs.Sketch.{Kll, IsSound, IsUpdated, Ties, bag_of, coins_of_update, greatest_with, least_with, sketch_of, update_of}
+use Rattle.sketch_base.specs.Extremes.{Ties, greatest_with, least_with}
+use Rattle.sketch_kll.specs.Sketch.{Kll, IsSound, IsUpdated, bag_of, coins_of_update, sketch_of, update_of}
 use Rattle.sketch_kll.specs.Steps.{is_full, put, compacted_if_full}
 use Rattle.sketch_kll.specs.Updates.{AreUpdated, OneUpdates, UpdatesGoOn, coins_of_updates}
 use Rattle.sketch_kll.proofs.AlikeSteps.{length-lengths}

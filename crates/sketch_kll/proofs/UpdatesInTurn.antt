@@ -6,14 +6,14 @@ use Rattle.std.specs.Cmp.{IsTotalOrder}
 use Rattle.std.proofs.Math.Bool.{and-true}
 use Rattle.std.proofs.lemmas.Cmp.{tied_itself}
 use Rattle.sketch_base.specs.Bag.{AlikeKll, SameItems}
-use Rattle.sketch_base.specs.Extremes.{IsLeastOf, IsGreatestOf}
+use Rattle.sketch_base.specs.Extremes.{IsLeastOf, IsGreatestOf, IsFrom, IsUpTo, Ties}
 use Rattle.sketch_base.specs.Random.{bits_from, after_draws}
 use Rattle.sketch_base.specs.Trace.{Action, bag_after, draws_of}
 use Rattle.sketch_base.proofs.Alikes.{acts-kll}
 use Rattle.sketch_base.proofs.AllParts.{all-parts, all-same}
 use Rattle.sketch_kll.specs.Levels.{weight}
 use Rattle.sketch_kll.specs.Merge.{pulls_actions}
-use Rattle.sketch_kll.specs.Sketch.{Kll, IsSound, sketch_of, bag_in, IsFrom, IsUpTo, Ties}
+use Rattle.sketch_kll.specs.Sketch.{Kll, IsSound, sketch_of, bag_in}
 use Rattle.sketch_kll.specs.Take.{HaveTaken, updates_of}
 use Rattle.sketch_kll.specs.Updates.{AreUpdated, coins_of_updates}
 use Rattle.sketch_kll.proofs.AlikeSteps.{length-lengths}

@@ -7,7 +7,8 @@ use Rattle.sketch_base.specs.declared.error.ErrorKind.TheVariants.{InvalidArgume
 use Rattle.sketch_base.proofs.Exits.{accepted, no_value, returned, with_error}
 use Rattle.sketch_base.specs.Random.{after_draws, bits_from}
 use Rattle.sketch_kll.specs.Levels.{weight}
-use Rattle.sketch_kll.specs.Sketch.{IsSound, Kll, newer_or, sketch_of}
+use Rattle.sketch_base.specs.Extremes.{newer_or}
+use Rattle.sketch_kll.specs.Sketch.{IsSound, Kll, sketch_of}
 use Rattle.sketch_kll.specs.Updates.{AreUpdated, coins_of_updates}
 use Rattle.sketch_kll.proofs.MergedSketches.{kept_levels}
 use Rattle.sketch_base.proofs.RefusedCalls.{no_memory, not_heavy, refused_as}

@@ -3,7 +3,8 @@ use Rattle.std.proofs.Common.{◌≡◌, ◌+◌, ◌<◌, ◌≤◌, ◌^◌, �
 use Rattle.sketch_base.specs.declared.error.ErrorKind.TheVariants.{OutOfMemory}
 use Rattle.sketch_base.proofs.Exits.{no_value, returned, with_error}
 use Rattle.sketch_kll.specs.Levels.{retained, weight}
-use Rattle.sketch_kll.specs.Sketch.{Kll, newer_or, sketch_of}
+use Rattle.sketch_base.specs.Extremes.{newer_or}
+use Rattle.sketch_kll.specs.Sketch.{Kll, sketch_of}
 use Rattle.sketch_kll.proofs.SketchCalls.{next_fits, still_seen, still_sound}
 use Rattle.sketch_kll.proofs.UpdatesGoOn.{UpdatedFields, updated_fields, updated_seen}
 use Rattle.sketch_kll.proofs.sketch.KllSketch.update_slowly.Given.{Over}
