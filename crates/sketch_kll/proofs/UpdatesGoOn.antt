@@ -11,7 +11,7 @@ use Rattle.sketch_base.proofs.Fixed.{lengths-acts}
 use Rattle.sketch_base.proofs.Items.{SameItems-refl}
 use Rattle.sketch_base.proofs.PlaysInParts.{in_turn-append}
 use Rattle.sketch_kll.specs.Levels.{weight, SameLevels, UpperSorted}
-use Rattle.sketch_kll.specs.Schedule.{updates_actions, updates_lengths}
+use Rattle.sketch_kll.specs.Schedule.{updates_actions}
 use Rattle.sketch_base.specs.Extremes.{Ties, greatest_with, least_with}
 use Rattle.sketch_kll.specs.Sketch.{Kll, IsSound, IsUpdated, bag_of, coins_of_update, sketch_of, update_of}
 use Rattle.sketch_kll.specs.Steps.{is_full, put, compacted_if_full}
@@ -19,7 +19,7 @@ use Rattle.sketch_kll.specs.Updates.{AreUpdated, OneUpdates, UpdatesGoOn, coins_
 use Rattle.sketch_kll.proofs.AlikeSteps.{length-lengths}
 use Rattle.sketch_kll.proofs.ItemsBetween.{greatest_of_both, least_of_both}
 use Rattle.sketch_kll.proofs.MergedSketches.{kept_levels}
-use Rattle.sketch_kll.proofs.Schedules.{fine-kll, fine-updates, updates-append, updates_lengths_are, updates_some, work_of}
+use Rattle.sketch_kll.proofs.Schedules.{fine-kll, fine-updates, updates-append, updates_lengths, updates_lengths_are, updates_some, work_of}
 use Rattle.sketch_kll.proofs.Takes.{taking_more, taking_none}
 use Rattle.sketch_kll.proofs.UnbiasedUpdates.{alike-lengths, alike_on}
 use Rattle.sketch_kll.proofs.UpdatesInTurn.{updates_fields}

@@ -1,9 +1,9 @@
 use Rattle.std.proofs.Common.{◌≡◌, ◌-◌, ◌^◌, ◌<◌, ◌≤◌, length}
 use Rattle.sketch_kll.specs.Levels.{retained, weight, SameLevels}
 use Rattle.sketch_kll.specs.Capacity.{total_of}
-use Rattle.sketch_kll.specs.Compress.{walked, walked_source}
+use Rattle.sketch_kll.specs.Compress.{walked}
 use Rattle.sketch_kll.specs.Stored.{KeepsRoom}
-use Rattle.sketch_kll.proofs.CompressWalks.{Behind}
+use Rattle.sketch_kll.proofs.CompressWalks.{Behind, walked_source}
 use Rattle.sketch_kll.proofs.levels.Levels.compress.Given as goal
 
 abbrev pub invariant-loop-self : goal.invariant-loop-self
