@@ -2,4 +2,4 @@ use Rattle.std.proofs.lemmas.Bool.{eqb-true, eq-eqb}
 use Rattle.sketch_kll.proofs.sketch.KllSketch.is_empty.Goals as goal
 
 pub returns : goal.returns
-returns g c = rw (← c.self.view_is) (eqb-true _ _, eq-eqb _ _)
+returns g c = record { value = rw (← c.self.view_is) (eqb-true _ _, eq-eqb _ _) }
