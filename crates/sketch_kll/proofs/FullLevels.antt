@@ -1,14 +1,60 @@
 -- The loop that looks for the lowest full level, and what it finds, for levels and for their lengths.
-use Rattle.std.proofs.Common.{◌≡◌, ℕ, suc, ◌+◌, ◌-◌, ◌<◌, ◌≤◌, Bool, true, false, nat_le, List, [], ◌∷◌, length, map, sum, replicate, get_or, slice_index, cond, drop, refl, ap₂, sym, ap, ◌∙◌, arith, Ordering, length-append, length-drop, leb-true, leb-false, le-leb, inl, inr}
+use Rattle.std.proofs.Common.{◌≡◌, ℕ, suc, ◌+◌, ◌-◌, ◌<◌, ◌≤◌, Bool, true, false, nat_le, List, [], ◌∷◌, length, map, sum, replicate, get_or, slice_index, drop, refl, ap₂, sym, ap, ◌∙◌, arith, Ordering, length-append, length-drop, leb-true, leb-false, le-leb, inl, inr, nat_lt}
 use Rattle.std.proofs.lemmas.Bool.{cases_Bool, lt-leb}
 use Rattle.std.proofs.lemmas.List.{drop_all, length-replicate}
 use Rattle.std.proofs.lemmas.List.Sums.{sum_by-cons}
 use Rattle.sketch_kll.specs.Schedule.{lowest_full}
+use Rattle.std.specs.Prelude.{◌||◌}
 use Rattle.sketch_kll.specs.Capacity.{capacity_at, total_of}
+use Rattle.sketch_kll.specs.Compress.{passes}
 use Rattle.sketch_kll.specs.Levels.{retained, first_level, compacted}
 use Rattle.sketch_kll.specs.Flat.{levels_in, IsFlat}
 use Rattle.sketch_kll.specs.Steps.{full_level, is_full, compacted_if_full, needs_sorting, put_all, put_count}
 use Rattle.sketch_kll.proofs.Flats.{bound_at, bound_falls_to, length-bounds, length-items, drop_level}
+
+-- there is one length for each level
+pub length-lengths : {A : Type 0} (ls : List (List A)) → length (map length ls) ≡ length ls
+length-lengths [] = refl
+length-lengths (l ∷ ls) = ap suc (length-lengths ls)
+
+-- the lengths of the levels add up to the number of retained items
+pub sum-lengths : {A : Type 0} (ls : List (List A)) → sum (map length ls) ≡ retained ls
+sum-lengths [] = refl
+sum-lengths (l ∷ ls) = sum_by-cons (λ (n : ℕ). n) (length l) (map length ls) ∙ ap (λ (n : ℕ). length l + n) (sum-lengths ls)
+
+-- the length at the index of a level is that of the level
+pub length-at : {A : Type 0} (ls : List (List A)) (level : ℕ) → slice_index (map length ls) level ≡ length (first_level (drop level ls))
+length-at (l ∷ ls) (suc level) = length-at ls level
+length-at [] (suc level) = refl
+length-at ls level = refl
+
+-- whether levels are full, by the levels
+full_by_levels : {A : Type 0} (k : ℕ) (ls : List (List A)) → is_full k ls ≡ nat_le (total_of k 8 (length ls)) (retained ls)
+full_by_levels k ls = ap₂ (λ (n m : ℕ). nat_le (total_of k 8 n) m) (length-lengths ls) (sum-lengths ls)
+
+-- levels at or over their total capacity are full
+pub full_from : {A : Type 0} (k : ℕ) (ls : List (List A)) → total_of k 8 (length ls) ≤ retained ls → is_full k ls ≡ true
+full_from k ls h = full_by_levels k ls ∙ le-leb _ _ h
+
+-- levels below it are not
+pub spare_from : {A : Type 0} (k : ℕ) (ls : List (List A)) → retained ls < total_of k 8 (length ls) → is_full k ls ≡ false
+spare_from k ls h = full_by_levels k ls ∙ lt-leb _ _ h
+
+-- full levels are at or over it
+pub full_holds : {A : Type 0} (k : ℕ) (ls : List (List A)) → is_full k ls ≡ true → total_of k 8 (length ls) ≤ retained ls
+full_holds k ls e = leb-true _ _ (sym (full_by_levels k ls) ∙ e)
+
+-- levels that are not full are below it
+pub spare_holds : {A : Type 0} (k : ℕ) (ls : List (List A)) → is_full k ls ≡ false → retained ls < total_of k 8 (length ls)
+spare_holds k ls e = leb-false _ _ (sym (full_by_levels k ls) ∙ e)
+
+-- whether general compress leaves a level as it is, by the levels
+pub passes_by_levels : {A : Type 0} (k : ℕ) (ls : List (List A)) (level : ℕ) →
+    passes k ls level ≡ (nat_lt (retained ls) (total_of k 8 (length ls)) || nat_lt (length (first_level (drop level ls))) (capacity_at k 8 (length ls - 1 - level)))
+passes_by_levels k ls level =
+    ap₂ (λ (x y : Bool). x || y)
+    (ap₂ (λ (n r : ℕ). nat_lt r (total_of k 8 n)) (length-lengths ls) (sum-lengths ls))
+    (ap₂ (λ (n r : ℕ). nat_lt r (capacity_at k 8 (n - 1 - level))) (length-lengths ls) (length-at ls level))
 
 -- the invariant of the loop that looks for a level to compact
 pub record SeeksFull {A : Type 0} (k : ℕ) (ls : List (List A)) (level : ℕ) : Type 0 where
@@ -24,8 +70,8 @@ pub seeks_found : {A : Type 0} (k : ℕ) (ls : List (List A)) (level : ℕ) → 
     capacity_at k 8 (length ls - 1 - level) ≤ length (first_level (drop level ls)) → full_level k ls ≡ level
 seeks_found k ls level h s c =
     let e = drop_level ls level h in
-    let n : length (drop (suc level) ls) ≡ length ls - 1 - level = length-drop (suc level) ls ∙ omega arith in
-    let b : nat_le (capacity_at k 8 (length (drop (suc level) ls))) (length (first_level (drop level ls))) ≡ true =
+    let n : length (map length (drop (suc level) ls)) ≡ length ls - 1 - level = length-lengths (drop (suc level) ls) ∙ (length-drop (suc level) ls ∙ omega arith) in
+    let b : nat_le (capacity_at k 8 (length (map length (drop (suc level) ls)))) (length (first_level (drop level ls))) ≡ true =
     ap (λ (i : ℕ). nat_le (capacity_at k 8 i) (length (first_level (drop level ls)))) n ∙ le-leb _ _ c in
     let f : full_level k (drop level ls) ≡ 0 = rw (e, b) refl in
     omega (arith, s.same, f)
@@ -37,7 +83,7 @@ seeks_more k ls level h s c =
     let e = drop_level ls level h in
     let n : length (drop (suc level) ls) ≡ length ls - 1 - level = length-drop (suc level) ls ∙ omega arith in
     let d : length (first_level (drop level ls)) < capacity_at k 8 (length (drop (suc level) ls)) = rw n c in
-    let b : nat_le (capacity_at k 8 (length (drop (suc level) ls))) (length (first_level (drop level ls))) ≡ false = lt-leb _ _ d in
+    let b : nat_le (capacity_at k 8 (length (map length (drop (suc level) ls)))) (length (first_level (drop level ls))) ≡ false = rw (length-lengths (drop (suc level) ls)) (lt-leb _ _ d) in
     let f : full_level k (first_level (drop level ls) ∷ drop (suc level) ls) ≡ suc (full_level k (drop (suc level) ls)) = rw b refl in
     record {
       same = omega (arith, s.same, ap (full_level k) e ∙ f);
@@ -47,27 +93,6 @@ seeks_more k ls level h s c =
 -- the loop finds a level before it has passed the top one
 pub seeks_never : {A : Type 0} (k : ℕ) (ls : List (List A)) (level : ℕ) → 0 < length ls → length ls ≤ level → SeeksFull k ls level → ⊥
 seeks_never k ls level h l s = let e = drop_all level ls l in let r = ap retained e in omega (arith, s.more, r)
-
--- there is one length for each level
-pub length-lengths : {A : Type 0} (ls : List (List A)) → length (map length ls) ≡ length ls
-length-lengths [] = refl
-length-lengths (l ∷ ls) = ap suc (length-lengths ls)
-
--- the lengths of the levels add up to the number of retained items
-pub sum-lengths : {A : Type 0} (ls : List (List A)) → sum (map length ls) ≡ retained ls
-sum-lengths [] = refl
-sum-lengths (l ∷ ls) = sum_by-cons (λ (n : ℕ). n) (length l) (map length ls) ∙ ap (λ (n : ℕ). length l + n) (sum-lengths ls)
-
--- which level is the lowest full one depends on the lengths alone
-pub lowest_full_is : {A : Type 0} (k : ℕ) (ls : List (List A)) → lowest_full k (map length ls) ≡ full_level k ls
-lowest_full_is k [] = refl
-lowest_full_is k (l ∷ ls) = ap₂ (λ (n m : ℕ). cond (nat_le (capacity_at k 8 n) (length l)) 0 (suc m)) (length-lengths ls) (lowest_full_is k ls)
-
--- the length at the index of a level is that of the level
-pub length-at : {A : Type 0} (ls : List (List A)) (level : ℕ) → slice_index (map length ls) level ≡ length (first_level (drop level ls))
-length-at (l ∷ ls) (suc level) = length-at ls level
-length-at [] (suc level) = refl
-length-at ls level = refl
 
 -- lists of these lengths
 abbrev pub blanks : List ℕ → List (List (Unit {0}))
@@ -84,7 +109,7 @@ count-blank ns = sym (length-lengths (blanks ns)) ∙ ap length (lengths-blank n
 
 -- what is said of the lengths is said of these lists
 pub full_level-blank : (k : ℕ) (ns : List ℕ) → lowest_full k ns ≡ full_level k (blanks ns)
-full_level-blank k ns = ap (lowest_full k) (sym (lengths-blank ns)) ∙ lowest_full_is k (blanks ns)
+full_level-blank k ns = ap (lowest_full k) (sym (lengths-blank ns))
 
 -- they hold as many items as the lengths say
 pub retained-blank : (ns : List ℕ) → retained (blanks ns) ≡ sum ns
@@ -151,8 +176,8 @@ module _ {A : Type 0} (k more : ℕ) (items : List A) (bounds : List ℕ) (f : I
   sought_found level end start s h e c =
       let ns : List ℕ = counts_with more items bounds in
       let m : length (levels_in items bounds) - 1 - level ≡ length (blanks ns) - 1 - level = omega (arith, counted) in
-      ap (lowest_full k) (sym (lengths-blank ns)) ∙ (lowest_full_is k (blanks ns)
-      ∙ seeks_found k (blanks ns) level (omega (arith, h, counted)) s.seeks (omega (arith, c, e, s.ends h, blank-at ns level, ap (capacity_at k 8) m)))
+      ap (lowest_full k) (sym (lengths-blank ns))
+      ∙ seeks_found k (blanks ns) level (omega (arith, h, counted)) s.seeks (omega (arith, c, e, s.ends h, blank-at ns level, ap (capacity_at k 8) m))
 
   -- it passes over a level below its capacity
   pub sought_next : (level end start : ℕ) → IsSought k more items bounds level end → level < length (levels_in items bounds) → start ≡ get_or bounds (suc level) 0 →
@@ -176,7 +201,7 @@ lengths-put xs (l ∷ ls) = ap (λ (n : ℕ). n ∷ map length ls) (length-appen
 
 -- which level is then the lowest full one
 pub full_level_with : {A : Type 0} (k : ℕ) (xs : List A) (ls : List (List A)) → lowest_full k (put_count (length xs) (map length ls)) ≡ full_level k (put_all xs ls)
-full_level_with k xs ls = ap (lowest_full k) (sym (lengths-put xs ls)) ∙ lowest_full_is k (put_all xs ls)
+full_level_with k xs ls = ap (lowest_full k) (sym (lengths-put xs ls))
 
 -- if the levels are full, there is a lowest full one, which is at or over its capacity
 pub lowest_full_due : (k : ℕ) (lengths : List ℕ) → 0 < length lengths → total_of k 8 (length lengths) ≤ sum lengths →
@@ -205,7 +230,7 @@ pub full_level_at : {A : Type 0} (k : ℕ) (ls : List (List A)) → 0 < length l
     (full_level k ls < length ls) × (capacity_at k 8 (length ls - 1 - full_level k ls) ≤ length (first_level (drop (full_level k ls) ls)))
 full_level_at k ls h t =
     let due = lowest_full_due k (map length ls) (omega (arith, h, length-lengths ls)) (rw (length-lengths ls, sum-lengths ls) t) in
-    rw (length-lengths ls, lowest_full_is k ls, length-at ls (full_level k ls)) at due
+    rw (length-lengths ls, length-at ls (full_level k ls)) at due
 
 -- room for an item in full levels is made by a compaction
 pub with_room_full : {A : Type 0} (cmp : A → A → Ordering) (k level : ℕ) (is_sorted coin last : Bool) (ls : List (List A)) →

@@ -1,5 +1,5 @@
 -- A compaction never makes a 62nd level, since a full level 60 would weigh too much.
-use Rattle.std.proofs.Common.{◌≡◌, ℕ, zero, suc, ◌+◌, ◌-◌, ◌*◌, ◌^◌, ◌<◌, ◌≤◌, Bool, false, nat_le, List, [], ◌∷◌, length, map, refl, sym, ap, ◌∙◌, subst, arith, Ordering, leb-true, leb-false, inl, inr}
+use Rattle.std.proofs.Common.{◌≡◌, ℕ, zero, suc, ◌+◌, ◌-◌, ◌*◌, ◌^◌, ◌<◌, ◌≤◌, Bool, false, nat_le, List, [], ◌∷◌, length, map, refl, sym, ap, ◌∙◌, subst, arith, Ordering, leb-false, inl, inr}
 use Rattle.std.proofs.Math.Nat.{pow-succ'}
 use Rattle.std.proofs.lemmas.Bool.{cases_Bool, lt-leb, cases_lt, cases_eq}
 use Rattle.std.proofs.lemmas.List.{length-replicate}
@@ -9,7 +9,7 @@ use Rattle.sketch_kll.specs.Schedule.{lowest_full}
 use Rattle.sketch_kll.specs.Steps.{full_level, is_full, compacted_if_full, needs_sorting, put_count}
 use Rattle.sketch_kll.proofs.Capacities.{capacity_eight}
 use Rattle.sketch_kll.proofs.CompactedSizes.{compacted_size, alike_size}
-use Rattle.sketch_kll.proofs.FullLevels.{blanks, count-blank, full_level-blank, full_level_at, length-counts, retained-blank, sum-counts, with_room_spare}
+use Rattle.sketch_kll.proofs.FullLevels.{blanks, count-blank, full_level-blank, full_level_at, length-counts, retained-blank, sum-counts, with_room_spare, full_holds, length-lengths, spare_from, spare_holds}
 
 -- levels weigh much if the top one is the lowest full one: each level below it lacks at least one item
 heavy_top : {A : Type 0} (k extra : ℕ) (ls : List (List A)) → 0 < length ls → total_of k 8 (length ls) + extra ≤ retained ls →
@@ -20,10 +20,10 @@ heavy_top k extra (l ∷ []) h t f = omega arith
 heavy_top k extra (l ∷ m ∷ ls) h t f =
     let short : length l < capacity_at k 8 (suc (length ls)) =
     elim (cases_Bool (nat_le (capacity_at k 8 (suc (length ls))) (length l))) [
-      | inl e ↦ let z : full_level k (l ∷ m ∷ ls) ≡ 0 = rw e refl in absurd (omega (arith, z))
+      | inl e ↦ let z : full_level k (l ∷ m ∷ ls) ≡ 0 = rw (length-lengths ls, e) refl in absurd (omega (arith, z))
       | inr e ↦ leb-false _ _ e
     ] in
-    let z : full_level k (l ∷ m ∷ ls) ≡ suc (full_level k (m ∷ ls)) = rw (lt-leb (capacity_at k 8 (suc (length ls))) (length l) short) refl in
+    let z : full_level k (l ∷ m ∷ ls) ≡ suc (full_level k (m ∷ ls)) = rw (length-lengths ls, lt-leb (capacity_at k 8 (suc (length ls))) (length l) short) refl in
     let p : 2 ^ (suc (suc (length ls)) - 1) ≡ 2 * 2 ^ (suc (length ls) - 1) =
     (let a : suc (suc (length ls)) - 1 ≡ suc (suc (length ls) - 1) = omega arith in ap (λ (i : ℕ). 2 ^ i) a ∙ pow-succ' 2 (suc (length ls) - 1)) in
     let q : capacity_at k 8 0 + extra + (suc (suc (length ls)) - 1) ≡ capacity_at k 8 0 + (extra + 1) + (suc (length ls) - 1) = omega arith in
@@ -104,7 +104,7 @@ pub room_made : {A : Type 0} (cmp : A → A → Ordering) (k : ℕ) (is_sorted c
 room_made cmp k is_sorted coin ls h few w t =
     elim (cases_Bool (is_full k ls)) [
       | inl e ↦
-          let f : total_of k 8 (length ls) ≤ retained ls = leb-true _ _ e in
+          let f = full_holds k ls e in
           let a = full_level_at k ls h f in
           let s = compacted_size cmp (needs_sorting is_sorted (full_level k ls)) coin (full_level k ls) ls a.0 in
           let c = capacity_eight k (length ls - 1 - full_level k ls) in
@@ -112,7 +112,7 @@ room_made cmp k is_sorted coin ls h few w t =
           let m : length (compacted cmp (needs_sorting is_sorted (full_level k ls)) coin (full_level k ls) ls) ≤ 61 =
           still_few cmp k (needs_sorting is_sorted (full_level k ls)) coin ls h few w f in
           rw e (record { weighs = s.weighs; few = m; some = omega (arith, s.at_least); within = omega (arith, s.retains, a.1, c, g) })
-      | inr e ↦ let f : retained ls < total_of k 8 (length ls) = leb-false _ _ e in rw e (record { weighs = refl; few = few; some = h; within = omega arith })
+      | inr e ↦ let f = spare_holds k ls e in rw e (record { weighs = refl; few = few; some = h; within = omega arith })
     ]
 
 -- levels weigh at least what they hold
@@ -125,5 +125,5 @@ pub one_level_left : {A : Type 0} (cmp : A → A → Ordering) (k : ℕ) (is_sor
     length (compacted_if_full cmp k is_sorted coin ls) ≡ 1
 one_level_left cmp k is_sorted coin ls e w =
     let t : total_of k 8 (length ls) ≡ 0 + capacity_at k 8 0 = ap (total_of k 8) e in
-    let f : false ≡ is_full k ls = sym (lt-leb (total_of k 8 (length ls)) (retained ls) (omega (arith, retained-weight ls, t, capacity_eight k 0))) in
+    let f : false ≡ is_full k ls = sym (spare_from k ls (omega (arith, retained-weight ls, t, capacity_eight k 0))) in
     ap length (with_room_spare cmp k is_sorted coin ls f) ∙ e

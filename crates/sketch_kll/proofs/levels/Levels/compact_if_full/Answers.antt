@@ -1,10 +1,8 @@
-use Rattle.std.proofs.Common.{◌≡◌, [], length, arith, sym, ap, ◌∙◌, true, false, le-leb, ◌<◌, refl, cond, subst, le_refl, Bool, List, ℕ, ◌+◌, ◌-◌, ◌≤◌}
-use Rattle.std.proofs.lemmas.Bool.{lt-leb}
-use Rattle.sketch_kll.specs.Capacity.{total_of}
-use Rattle.sketch_kll.specs.Levels.{retained, SameLevels}
+use Rattle.std.proofs.Common.{◌≡◌, [], arith, sym, ap, ◌∙◌, true, false, ◌<◌, refl, cond, subst, le_refl, Bool, List, ℕ, ◌+◌, ◌-◌, ◌≤◌}
+use Rattle.sketch_kll.specs.Levels.{SameLevels}
 use Rattle.sketch_kll.specs.Steps.{is_full, full_level}
 use Rattle.sketch_kll.proofs.Flats.{SameLevels-refl}
-use Rattle.sketch_kll.proofs.FullLevels.{full_level_with, with_room_full, with_room_spare}
+use Rattle.sketch_kll.proofs.FullLevels.{full_from, full_level_with, spare_from, with_room_full, with_room_spare}
 use Rattle.sketch_kll.proofs.PutItems.{put_all-none}
 use Rattle.sketch_kll.proofs.levels.Levels.compact_if_full.Goals as goal
 
@@ -23,8 +21,7 @@ none_beside full = omega (arith, full)
 pub returns-then-free-eq0 : goal.returns-then-free-eq0
 returns-then-free-eq0 g c =
     let s = c.args.self.now in
-    let full : true ≡ is_full s.k s.levels = sym (le-leb (total_of s.k 8 (length s.levels)) (retained s.levels)
-    (full_of c.free.ensures.room c.if-free-eq0.true)) in
+    let full : true ≡ is_full s.k s.levels = sym (full_from s.k s.levels (full_of c.free.ensures.room c.if-free-eq0.true)) in
     let level : c.level_to_compact-level.result ≡ full_level s.k s.levels =
     c.level_to_compact-level.ensures.level ∙ (full_level_with s.k [] s.levels ∙ ap (full_level s.k) (put_all-none s.levels c.free.ensures.some)) in
     let room = with_room_full g.T.Ord.cmp s.k c.level_to_compact-level.result s.is_sorted (g.B.RandomBits.bit c.args.coins.now) _ s.levels full level refl in
@@ -39,8 +36,7 @@ returns-then-free-eq0 g c =
 pub returns-else-free-eq0 : goal.returns-else-free-eq0
 returns-else-free-eq0 g c =
     let s = c.args.self.now in
-    let full : false ≡ is_full s.k s.levels = sym (lt-leb (total_of s.k 8 (length s.levels)) (retained s.levels)
-    (spare_of c.free.ensures.room c.if-free-eq0.false)) in
+    let full : false ≡ is_full s.k s.levels = sym (spare_from s.k s.levels (spare_of c.free.ensures.room c.if-free-eq0.false)) in
     record {
       kept = record { k_is = refl; flag_is = refl; items_room = le_refl _; bounds_room = le_refl _ };
       levels = subst (λ (ls : List (List g.row.T.Denot)). SameLevels g.T.Ord.cmp ls s.levels)

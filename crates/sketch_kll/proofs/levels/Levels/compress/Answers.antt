@@ -1,5 +1,5 @@
 use Rattle.std.proofs.Common.{◌≡◌, ℕ, Bool, List, Ordering, true, false, cond, ◌+◌, ◌<◌, ◌≤◌, ◌⊎◌, inl, inr, suc, ◌^◌, length, arith, ap, sym, subst, ◌∙◌, refl, IsTrue, subst₂, le_refl, IsSorted}
-use Rattle.std.proofs.lemmas.Bool.{cases_eq, leb-true}
+use Rattle.std.proofs.lemmas.Bool.{cases_eq}
 use Rattle.sketch_kll.specs.Capacity.{total_of}
 use Rattle.std.specs.Cmp.{IsTotalOrder}
 use Rattle.sketch_kll.specs.Levels.{retained, compacted, SameLevels, UpperSorted, first_level}
@@ -9,6 +9,7 @@ use Rattle.sketch_kll.specs.Stored.{KeepsRoom, Stored}
 use Rattle.sketch_kll.proofs.Flats.{SameLevels-refl}
 use Rattle.sketch_kll.proofs.CompressWalks.{behind_start, no_62nd_level, stepped_passed, walk_step, walk_more, WalkStep, Behind}
 use Rattle.sketch_kll.proofs.Compresses.{walk_ended}
+use Rattle.sketch_kll.proofs.FullLevels.{full_holds}
 use Rattle.sketch_kll.proofs.levels.Levels.compress.Goals as goal
 use Rattle.sketch_kll.proofs.levels.Levels.compress.Goals.at as past
 use Rattle.sketch_kll.proofs.levels.Levels.compress.Goals.{Joined-not-level_passes, then-not-level_passes, else-not-level_passes}
@@ -43,7 +44,7 @@ compact-requires-clause-few g c =
     let i = c.loop-self.invariant in
     let within = c.loop-self-test.ensures.within refl in
     let few = c.loop-self-test.ensures.few in
-    let full = leb-true _ _ (c.loop-self-test.ensures.full refl) in
+    let full = full_holds x.k x.levels (c.loop-self-test.ensures.full refl) in
     let above = subst (λ (n : ℕ). 8 ≤ n) (ap (λ (y : Stored g.row.T.Denot). y.k) c.self.view_is) c.self.invariant.k_above in
     elim (cases_eq c.loop-self.level 60) [
       | inl e ↦ absurd (no_62nd_level c.args.self.now.k c.loop-self.level x.levels above e (top_of within e few)

@@ -1,10 +1,10 @@
 use Rattle.std.proofs.Common.{length, ap, arith}
-use Rattle.std.proofs.lemmas.Bool.{lt-leb}
 use borrow.Author.Tests.{ltb-true}
 use Rattle.sketch_kll.specs.Capacity.{total_of}
 use Rattle.sketch_kll.specs.Levels.{retained}
 use Rattle.sketch_kll.specs.Stored.{Stored}
 use Rattle.sketch_kll.proofs.Flats.{length-items}
+use Rattle.sketch_kll.proofs.FullLevels.{spare_from}
 use Rattle.sketch_kll.proofs.levels.Levels.has_place.Goals as goal
 
 pub returns-then-len-capacity-clause-room : goal.returns-then-len-capacity-clause-room
@@ -25,7 +25,7 @@ pub returns-then-len-capacity-clause-below : goal.returns-then-len-capacity-clau
 returns-then-len-capacity-clause-below g c = λ e.
     let n = length-items c.self.inside.items.items c.self.inside.bounds.items c.self.invariant.flat in
     let s = c.args.self.now in
-    lt-leb (total_of s.k 8 (length s.levels)) (retained s.levels) (omega (
+    spare_from s.k s.levels (omega (
       arith,
       n,
       ap (λ (y : Stored g.row.T.Denot). retained y.levels) c.self.view_is,

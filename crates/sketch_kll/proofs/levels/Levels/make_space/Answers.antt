@@ -1,12 +1,11 @@
-use Rattle.std.proofs.Common.{◌≡◌, ℕ, ◌+◌, ◌-◌, Bool, true, false, ◌&&◌, ◌==◌, cond, List, length, map, drop, reverse, refl, sym, ap, ◌∙◌, arith, le-leb, ◌≤◌, ◌<◌, le_refl, subst}
-use Rattle.std.proofs.lemmas.Bool.{lt-leb}
+use Rattle.std.proofs.Common.{◌≡◌, ℕ, ◌+◌, ◌-◌, Bool, true, false, ◌&&◌, ◌==◌, cond, List, length, map, drop, reverse, refl, sym, ap, ◌∙◌, arith, ◌≤◌, ◌<◌, le_refl, subst}
 use Rattle.sketch_kll.specs.Capacity.{total_of}
 use Rattle.sketch_kll.specs.Levels.{retained, compacted, SameLevels}
 use Rattle.sketch_kll.specs.Schedule.{lowest_full}
 use Rattle.sketch_kll.specs.Steps.{is_full, full_level, needs_sorting, put_all, put_count}
 use Rattle.sketch_kll.proofs.CompressWalks.{SameLevels-trans}
 use Rattle.sketch_kll.proofs.Flats.{SameLevels-refl}
-use Rattle.sketch_kll.proofs.FullLevels.{full_level_with, with_room_full, with_room_spare}
+use Rattle.sketch_kll.proofs.FullLevels.{full_level_with, with_room_full, with_room_spare, full_from, spare_from}
 use Rattle.sketch_kll.proofs.PutItems.{length-put, retained-put}
 use Rattle.sketch_kll.proofs.TakenLevels.{length-last, SameLevels-put_all}
 use Rattle.sketch_kll.proofs.levels.Levels.make_space.Goals as goal
@@ -54,7 +53,7 @@ returns-then-taken-free g c =
     let flag : Bool = s.is_sorted && c.args.taken == 0 in
     let coin : Bool = g.B.RandomBits.bit c.args.coins.now in
     let cmp = g.T.Ord.cmp in
-    let full : true ≡ is_full s.k (put_all new s.levels) = sym (le-leb (total_of s.k 8 (length (put_all new s.levels))) (retained (put_all new s.levels))
+    let full : true ≡ is_full s.k (put_all new s.levels) = sym (full_from s.k (put_all new s.levels)
     (full_with _ _ (held g before) (total g before) c.free.ensures.room c.if-taken-free.true)) in
     let lowest : level ≡ full_level s.k (put_all new s.levels) =
     c.level_to_compact-level.ensures.level ∙ (ap (λ (m : ℕ). lowest_full s.k (put_count m (map length s.levels))) (sym n) ∙ full_level_with s.k new s.levels) in
@@ -82,7 +81,7 @@ returns-else-taken-free g c =
     let before = (past.returns-else-taken-free g c).After-free in
     let s = c.args.self.now in
     let new : List g.row.T.Denot = put g before in
-    let full : false ≡ is_full s.k (put_all new s.levels) = sym (lt-leb (total_of s.k 8 (length (put_all new s.levels))) (retained (put_all new s.levels))
+    let full : false ≡ is_full s.k (put_all new s.levels) = sym (spare_from s.k (put_all new s.levels)
     (spare_with _ _ (held g before) (total g before) c.free.ensures.room c.if-taken-free.false)) in
     record {
       k = refl;

@@ -1,7 +1,8 @@
 use Rattle.std.proofs.Common.{inl, inr, length, ap, arith, subst, ℕ, ◌≡◌, ◌+◌, ◌<◌, ◌≤◌, ◌∙◌}
-use Rattle.std.proofs.lemmas.Bool.{leb-true, leb-false, le-leb}
+use Rattle.std.proofs.lemmas.Bool.{leb-true, leb-false}
 use Rattle.sketch_kll.specs.Stored.{Stored}
 use Rattle.sketch_kll.proofs.Flats.{length-bounds, length-items}
+use Rattle.sketch_kll.proofs.FullLevels.{full_from}
 use borrow.Author.Tests.{ltb-true}
 use Rattle.sketch_kll.specs.Levels.{retained, UpperSorted}
 use Rattle.sketch_kll.specs.Capacity.{total_of}
@@ -33,7 +34,7 @@ returns-then-level-len g c =
       within = λ _. within_of _ c.if-level-len.true (c.len.ensures ∙ c.self.inside.bounds.ok.0)
           (length-bounds c.self.inside.items.items c.self.inside.bounds.items c.self.invariant.flat)
           (ap (λ (y : Stored g.row.T.Denot). length y.levels) c.self.view_is);
-      full = λ h. le-leb (total_of s.k 8 (length s.levels)) (retained s.levels) (full_of (leb-true _ _ h) most held);
+      full = λ h. full_from s.k s.levels (full_of (leb-true _ _ h) most held);
       over = λ h. inr (spare_of (leb-false _ _ h) most held);
       few = subst (λ (n : ℕ). n ≤ 61) (ap (λ (y : Stored g.row.T.Denot). length y.levels) c.self.view_is) c.self.invariant.few;
       sorted = subst (λ (y : Stored g.row.T.Denot). UpperSorted g.T.Ord.cmp y.levels) c.self.view_is c.self.invariant.sorted;
