@@ -44,8 +44,8 @@ impl<T: Clone + Ord> Model for SortedView<T> {
 
 impl<T: Clone + Ord> SortedView<T> {
     /// Builds the view of items with their weights, in any order. Of items that compare equal, one
-    /// is kept, with the weight of them all. The extremes are those of the stream, or None if there
-    /// are no items.
+    /// is kept, with the weight of them all. The extremes are those of the stream; with no items they
+    /// are ignored. An error is `OutOfMemory`.
     pub fn new(
         mut weighted: Vec<(T, u64)>,
         min_item: Option<T>,
@@ -79,7 +79,8 @@ impl<T: Clone + Ord> SortedView<T> {
     }
 
     /// Builds the view of clones of sorted weighted items. Of items that compare equal, one is
-    /// cloned, with the weight of them all. The extremes are as for `new`.
+    /// cloned, with the weight of them all. A clone of an item must compare equal to it. The extremes
+    /// and errors are as for `new`.
     pub fn from_weighted(
         alloc: Global,
         entries: &[Weighted<'_, T>],
@@ -134,7 +135,7 @@ impl<T: Clone + Ord> SortedView<T> {
     }
 
     /// Returns the number of items that the view holds: for a KLL sketch the retained ones, for a
-    /// REQ sketch the distinct ones among them, since `new` joins equal items.
+    /// REQ sketch the distinct ones among them, since `new` and `from_weighted` join equal items.
     pub fn len(&self) -> usize
         ensures { result ≡ self.now.held }
     {
@@ -166,6 +167,13 @@ impl<T: Clone + Ord> SortedView<T> {
     }
 
     /// Returns the entry at the quantile given by `fraction`, or None if there are no entries.
+    ///
+    /// Of `n` entries it is the one at position `ceil(weight * n / total)` (`Inclusive`) or
+    /// `floor(weight * n / total) + 1` (`Exclusive`), counted from 1. A weight of 0 gives the least
+    /// item of the stream, a weight of `total` the greatest.
+    ///
+    /// A clone of an item must compare equal to it. Returns `InvalidArgument` exactly if `total` is
+    /// 0 or `weight` exceeds it, even if there are no entries; any other error is `OutOfMemory`.
     pub fn quantile(&self, fraction: Rank, criteria: SearchCriteria) -> Result<Option<T>, Error>
         requires clones { (x y : T) → T.is_clone x y → T.cmp x y ≡ Equal }
         ensures found { IfOk result (SameAnswer T.cmp (quantile_of self.now fraction criteria)) }
@@ -176,7 +184,8 @@ impl<T: Clone + Ord> SortedView<T> {
         Ok(clone_found(self.entry_of(fraction, criteria))?)
     }
 
-    /// Returns the entry at the quantile given by each fraction, or None if there are no entries.
+    /// Returns the entry at the quantile given by each fraction, or None if there are no entries. An
+    /// error is as for `quantile` of one of them.
     pub fn quantiles(
         &self,
         fractions: &[Rank],
@@ -201,7 +210,8 @@ impl<T: Clone + Ord> SortedView<T> {
     }
 
     /// Returns the rank of each split point, followed by the whole, or None if there are no
-    /// entries.
+    /// entries. Returns `InvalidArgument` exactly if the points do not strictly increase, even if
+    /// there are no entries; any other error is `OutOfMemory`.
     pub fn cdf(&self, points: &[T], criteria: SearchCriteria) -> Result<Option<Vec<Rank>>, Error>
         ensures found { let entries = self.now.entries in
             IfOk result (FindsRanks (length entries) (cdf_of T.cmp criteria entries points.now)) }
@@ -230,7 +240,10 @@ impl<T: Clone + Ord> SortedView<T> {
         Ok(Some(ranks))
     }
 
-    /// Returns the numbers of entries between the split points, or None if there are no entries.
+    /// Returns the numbers of entries before, between and after the split points, or None if there
+    /// are no entries. Those between two points are above the lower and at most the upper
+    /// (`Inclusive`), or at least the lower and below the upper (`Exclusive`). Errors are as for
+    /// `cdf`.
     pub fn pmf(&self, points: &[T], criteria: SearchCriteria) -> Result<Option<Vec<Rank>>, Error>
         ensures found { let entries = self.now.entries in
             IfOk result (FindsRanks (length entries) (pmf_of T.cmp criteria entries points.now)) }
@@ -247,7 +260,7 @@ impl<T: Clone + Ord> SortedView<T> {
         Ok(Some(ranks))
     }
 
-    /// Returns a view of clones of the items.
+    /// Returns a view of clones of the items. A clone of an item must compare equal to it.
     pub fn clone(&self) -> Result<Self, AllocError>
         requires clones { (x y : T) → T.is_clone x y → T.cmp x y ≡ Equal }
         ensures { IfOk result (SameView T.cmp self.now) }
