@@ -25,6 +25,9 @@ fewer-fit v c a m n e h = omega arith
 pub below-least : (c k a b x y : ℕ) → a ≡ min x y → c ≡ max k (b + a) → c ≤ max k (b + x)
 below-least c k a b x y e h = omega arith
 
+pub below-most : (c k a b x y z m : ℕ) → a ≡ min x y → y ≡ max z 1 → z ≡ m - b → c ≡ max k (b + a) → c ≤ max k (max m (b + 1))
+below-most c k a b x y z m e f g h = omega arith
+
 pub quarter-some : (n : ℕ) → 0 < n / 4 + 4
 quarter-some n = omega arith
 

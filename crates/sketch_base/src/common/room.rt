@@ -1,5 +1,5 @@
 //! How much room a long-lived vector keeps.
-ghost use Rattle.std.specs.Prelude.{◌≡◌, ◌+◌, ◌/◌, ◌<◌, ◌≤◌, max, vec_len, vec_capacity, OnOk};
+ghost use Rattle.std.specs.Prelude.{◌≡◌, ◌+◌, ◌/◌, ◌<◌, ◌≤◌, [], max, vec_len, vec_capacity, OnOk};
 
 use std::alloc::AllocError;
 use std::mem;
@@ -14,6 +14,8 @@ pub fn reserve_next<T: Drop>(items: &mut Vec<T>, most: usize) -> Result<(), Allo
     ensures capacity { vec_capacity items.old ≤ vec_capacity items.new }
     ensures lean { OnOk result (vec_capacity items.new
         ≤ max (vec_capacity items.old) (vec_len items.old + (vec_len items.old / 4 + 4))) }
+    ensures most { OnOk result (vec_capacity items.new
+        ≤ max (vec_capacity items.old) (max most (vec_len items.old + 1))) }
 {
     if items.len() < items.capacity() {
         return Ok(());
@@ -32,6 +34,8 @@ fn grow<T: Drop>(items: &mut Vec<T>, most: usize) -> Result<(), AllocError>
     ensures capacity { vec_capacity items.old ≤ vec_capacity items.new }
     ensures lean { OnOk result (vec_capacity items.new
         ≤ max (vec_capacity items.old) (vec_len items.old + (vec_len items.old / 4 + 4))) }
+    ensures most { OnOk result (vec_capacity items.new
+        ≤ max (vec_capacity items.old) (max most (vec_len items.old + 1))) }
 {
     let len = items.len();
     let left = most.saturating_sub(len).max(1);
@@ -55,7 +59,8 @@ pub fn reserve_more<T>(items: &mut Vec<T>, more: usize) -> Result<(), AllocError
 /// Swaps two vectors if the first has room for over a quarter more items, but leaves its items in
 /// it. The other one is emptied, and gets room for the items if it has too little.
 pub fn move_if_loose<T: Drop>(items: &mut Vec<T>, other: &mut Vec<T>)
-    ensures { items.new.items ≡ items.old.items }
+    ensures items { items.new.items ≡ items.old.items }
+    ensures other { other.new.items ≡ [] }
 {
     let len = items.len();
     other.clear();
@@ -67,7 +72,8 @@ pub fn move_if_loose<T: Drop>(items: &mut Vec<T>, other: &mut Vec<T>)
 
 /// Frees room beyond an eighth more items.
 pub fn give_back<T>(items: &mut Vec<T>)
-    ensures { items.new.items ≡ items.old.items }
+    ensures items { items.new.items ≡ items.old.items }
+    ensures capacity { vec_capacity items.new ≤ vec_capacity items.old }
 {
     items.shrink_to(items.len() + items.len() / 8);
 }

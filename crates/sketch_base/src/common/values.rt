@@ -1,6 +1,6 @@
 //! Whole numbers as the little-endian bytes of their type, as images of both families hold them.
-ghost use Rattle.std.specs.Prelude.{◌≡◌, ◌≢◌, ℕ, ◌≤◌, List, ◌++◌, length, Option, IsSome, IfOk, IfErr, OnOk, OnErr};
-ghost use Rattle.sketch_base.specs.declared.error.ErrorKind.TheVariants.{InvalidData, InvalidArgument, OutOfMemory};
+ghost use Rattle.std.specs.Prelude.{◌≡◌, ℕ, ◌≤◌, List, ◌++◌, length, Option, IsSome, IfOk, IfErr, OnOk, OnErr};
+ghost use Rattle.sketch_base.specs.declared.error.ErrorKind.TheVariants.{InvalidData, OutOfMemory};
 ghost use Rattle.sketch_base.specs.Spelling.{bytes_of, Begins};
 
 use crate::codec::{SketchBytes, SketchSlice};
@@ -25,12 +25,13 @@ pub trait WholeNumber: Sized {
         ensures err { OnErr result ((more : List ℕ) × (bytes.new ≡ bytes.old ++ more)) }
         ensures memory { IfErr result (λ e. e ≡ OutOfMemory) };
 
-    /// Reads a value that the input begins with.
+    /// Reads a value that the input begins with. Returns `InvalidData` exactly if it begins with no
+    /// spelling; the input may then have advanced.
     fn read_le(input: &mut SketchSlice<'_>) -> Result<Self, Error>
         ensures found { IfOk result (λ x. Begins spelling input.old x input.new) }
-        ensures refused { IfErr result (λ e. e ≡ InvalidData →
-            (x : Self) (rest : List ℕ) → ¬ Begins spelling input.old x rest) }
-        ensures kind { IfErr result (λ e. e ≢ InvalidArgument) };
+        ensures refused { OnErr result
+            ((x : Self) (rest : List ℕ) → ¬ Begins spelling input.old x rest) }
+        ensures kind { IfErr result (λ e. e ≡ InvalidData) };
 
     /// No text begins with two different spellings.
     ghost is_prefix_free: { (x y : Self) (text rest others : List ℕ) →

@@ -12,4 +12,5 @@ returns-then-len-capacity g c = record {
   ok = subst₂ (λ m n. m < n) c.len.ensures c.capacity.ensures c.if-len-capacity.true;
   capacity = le_refl _;
   lean = under-max _ _;
+  most = under-max _ _;
 }

@@ -4,9 +4,3 @@ use Rattle.sketch_base.proofs.common.buffers.Buffers.for_levels.Goals as goal
 
 pub loop-buffers-smaller : goal.loop-buffers-smaller
 loop-buffers-smaller g c = grind (arith, common_steps)
-
-pub returns : goal.returns
-returns g c = grind arith
-
-pub loop-buffers-init : goal.loop-buffers-init
-loop-buffers-init g c = grind arith
