@@ -25,7 +25,7 @@ returns g c =
     let told = c.in_ok-ranks.ensures in
     let ranks = rw c.in-Some.is at told.found in
     let found = differences-left (length entries) c.in-Some.ranks.len (cdf_of g.T.Ord.cmp c.args.criteria entries c.args.points.now) c.in-Some.ranks.items
-    c.as_mut_slice.result.now c.take_differences.new.ranks ranks c.as_mut_slice.ensures.value c.take_differences.ensures c.in-Some.ranks.ok.0 in
+    c.as_mut_slice.result.now c.take_differences.new.ranks ranks c.as_mut_slice.ensures.value c.take_differences.ensures.weights c.take_differences.ensures.totals c.in-Some.ranks.ok.0 in
     let up = increasing g (past.returns g c).In_ok-ranks in
     let some = told.there.0 (ap (λ o. is_some o) c.in-Some.is) in
     record {
