@@ -245,7 +245,7 @@ module _ {A : Type 0} {cmp : A → A → Ordering} (order : IsTotalOrder cmp) wh
                 non_decreasing_from_rises 0 (joined_weights cmp 0 pairs) (rises-from_climbs 0 (joined_weights cmp 0 pairs) (climbs-joined cmp 0 0 pairs (omega arith) weigh));
           };
           sorted = IsSorted-from_ordered cmp order (joined cmp pairs) (ordered-joined pairs up);
-          each_counts = omega (arith, long, enough, few);
+          no_more_items = omega (arith, long, enough, few);
           least_there = there least l (length (spread_out (joined cmp pairs) (joined_weights cmp 0 pairs))) whole;
           greatest_there = there greatest g (length (spread_out (joined cmp pairs) (joined_weights cmp 0 pairs))) whole;
         }

@@ -71,7 +71,7 @@ ranks g c =
 pub returns : goal.returns
 returns g c =
     let some = entries-there _ _ _ _ _ (sym c.self.view_is) c.is_empty.result _ c.is_empty.ensures c.self.inside.items.ok.0 c.if-is_empty.false
-    c.self.invariant.each_counts in
+    c.self.invariant.no_more_items in
     let is = ranks g (past.returns g c).In_ok-push in
     record {
       found = at-entries (λ (es : List g.row.T.Denot). c.push.new.self.items ≡ ranks_of (length es) (cdf_of g.T.Ord.cmp c.args.criteria es c.args.points.now)) _ _ _
@@ -107,7 +107,7 @@ returns-in_err-ranks g c =
     let r = c.from_residual-in_err-ranks.result in
     let err = c.from_residual-in_err-ranks.ensures.0 in
     let some = entries-there _ _ _ _ _ (sym c.self.view_is) c.is_empty.result _ c.is_empty.ensures c.self.inside.items.ok.0 c.if-is_empty.false
-    c.self.invariant.each_counts in
+    c.self.invariant.no_more_items in
     record {
       found = IfOk-from_err r _ err;
       rises = IfOk-from_err r _ err;
@@ -121,7 +121,7 @@ returns-in_err-push g c =
     let r = c.from_residual-in_err-push.result in
     let err = c.from_residual-in_err-push.ensures.0 in
     let some = entries-there _ _ _ _ _ (sym c.self.view_is) c.is_empty.result _ c.is_empty.ensures c.self.inside.items.ok.0 c.if-is_empty.false
-    c.self.invariant.each_counts in
+    c.self.invariant.no_more_items in
     record {
       found = IfOk-from_err r _ err;
       rises = IfOk-from_err r _ err;

@@ -61,7 +61,7 @@ loop-fraction-preserved g c =
 pub unwrap-entry-requires : goal.unwrap-entry-requires
 unwrap-entry-requires g c =
     let some = entries-there _ _ _ _ _ (sym c.self.view_is) c.is_empty.result _ c.is_empty.ensures c.self.inside.items.ok.0 c.if-is_empty.false
-    c.self.invariant.each_counts in
+    c.self.invariant.no_more_items in
     c.entry_of.ensures.there.1 some
 
 pub returns-in_err-found : goal.returns-in_err-found
@@ -69,7 +69,7 @@ returns-in_err-found g c =
     let r = c.from_residual-in_err-found.result in
     let err = c.from_residual-in_err-found.ensures.0 in
     let some = entries-there _ _ _ _ _ (sym c.self.view_is) c.is_empty.result _ c.is_empty.ensures c.self.inside.items.ok.0 c.if-is_empty.false
-    c.self.invariant.each_counts in
+    c.self.invariant.no_more_items in
     record {
       found = IfOk-from_err r _ err;
       there = IfOk-from_err r _ err;
@@ -82,7 +82,7 @@ returns-in_err-clone g c =
     let r = c.from_residual-in_err-clone.result in
     let err = c.from_residual-in_err-clone.ensures.0 in
     let some = entries-there _ _ _ _ _ (sym c.self.view_is) c.is_empty.result _ c.is_empty.ensures c.self.inside.items.ok.0 c.if-is_empty.false
-    c.self.invariant.each_counts in
+    c.self.invariant.no_more_items in
     record {
       found = IfOk-from_err r _ err;
       there = IfOk-from_err r _ err;
@@ -93,7 +93,7 @@ returns-in_err-clone g c =
 pub returns : goal.returns
 returns g c =
     let some = entries-there _ _ _ _ _ (sym c.self.view_is) c.is_empty.result _ c.is_empty.ensures c.self.inside.items.ok.0 c.if-is_empty.false
-    c.self.invariant.each_counts in
+    c.self.invariant.no_more_items in
     record {
       found = subst (λ (fractions : List Rank). AreQuantiles g.T.Ord.cmp c.args.self.now c.args.criteria fractions c.loop-fraction.found.items)
           (take_all c.loop-fraction.fraction-index c.args.fractions.now c.loop-fraction-test.false) c.loop-fraction.invariant.found;

@@ -8,7 +8,7 @@ use Rattle.sketch_base.proofs.sorted_view.SortedView.rank.Goals as goal
 pub returns : goal.returns
 returns g c =
     let some = entries-there _ _ _ _ _ (sym c.self.view_is) c.is_empty.result _ c.is_empty.ensures c.self.inside.items.ok.0 c.if-is_empty.false
-    c.self.invariant.each_counts in
+    c.self.invariant.no_more_items in
     record {
       there = (λ t. some, λ t. refl);
       weight = at-entries (λ (es : List g.row.T.Denot). c.rank_among-weight.result ≡ true_rank g.T.Ord.cmp c.args.item.now c.args.criteria es) _ _ _ _ _ _ _
