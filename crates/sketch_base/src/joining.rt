@@ -1,5 +1,5 @@
 //! Joins equal weighted items.
-ghost use Rattle.std.specs.Prelude.{◌≡◌, ℕ, ◌+◌, ◌^◌, ◌<◌, ◌≤◌, [], ◌∷◌, ◌++◌, length, reverse, sum_by, vec_len, vec_capacity, IfOk, IfErr};
+ghost use Rattle.std.specs.Prelude.{◌≡◌, ◌^◌, ◌<◌, ◌≤◌, [], length, reverse, sum_by, vec_len, vec_capacity, IfOk, IfErr};
 ghost use Rattle.std.specs.declared.cmp.Ordering.TheVariants.{Equal};
 ghost use Rattle.sketch_base.specs.Bag.{SameItems};
 ghost use Rattle.sketch_base.specs.Pairs.{is_below_next, joined, joined_weights};

@@ -2,7 +2,6 @@
 ghost use Rattle.std.specs.Prelude.{◌≡◌, ◌+◌, ◌*◌, ◌^◌, ◌<◌, ◌≤◌, if◌then◌else◌, length, count_by, IsSorted};
 ghost use Rattle.sketch_base.specs.Query.{counted};
 ghost use Rattle.sketch_base.specs.Queries.{IsSplitAt};
-ghost use Rattle.sketch_base.specs.declared.common.SearchCriteria.TheVariants.{Inclusive, Exclusive};
 
 use crate::common::SearchCriteria;
 
