@@ -129,7 +129,7 @@ impl<T: Clone + Ord> SortedView<T> {
 
     /// Returns whether the sketch had no items.
     pub fn is_empty(&self) -> bool
-        ensures { IsTrue result ↔ (length self.now.entries ≡ 0) }
+        ensures value { IsTrue result ↔ (length self.now.entries ≡ 0) }
     {
         self.items.is_empty()
     }
@@ -137,14 +137,14 @@ impl<T: Clone + Ord> SortedView<T> {
     /// Returns the number of items that the view holds: for a KLL sketch the retained ones, for a
     /// REQ sketch the distinct ones among them, since `new` and `from_weighted` join equal items.
     pub fn len(&self) -> usize
-        ensures { result ≡ self.now.held }
+        ensures value { result ≡ self.now.held }
     {
         self.items.len()
     }
 
     /// Returns the number of items that the sketch took.
     pub fn total_weight(&self) -> u64
-        ensures { result ≡ length self.now.entries }
+        ensures value { result ≡ length self.now.entries }
     {
         queries::entries_of(self.items.as_slice(), self.cumulated.as_slice())
     }
@@ -263,7 +263,7 @@ impl<T: Clone + Ord> SortedView<T> {
     /// Returns a view of clones of the items. A clone of an item must compare equal to it.
     pub fn clone(&self) -> Result<Self, AllocError>
         requires clones { (x y : T) → T.is_clone x y → T.cmp x y ≡ Equal }
-        ensures { IfOk result (SameView T.cmp self.now) }
+        ensures same { IfOk result (SameView T.cmp self.now) }
     {
         Ok(SortedView {
             items: self.items.clone()?,

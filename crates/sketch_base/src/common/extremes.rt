@@ -66,7 +66,7 @@ pub fn are_between<T: Ord>(items: &[T], least: &T, greatest: &T) -> bool
 
 /// Does what `are_between` does for items that are sorted if `is_sorted` is true.
 pub fn are_between_if<T: Ord>(items: &[T], is_sorted: bool, least: &T, greatest: &T) -> bool
-    requires { IsTrue is_sorted → IsSorted T.cmp items.now }
+    requires sorted { IsTrue is_sorted → IsSorted T.cmp items.now }
     ensures yes { IsTrue result
         → AllByRecursion (IsBetween T.cmp least.now greatest.now) items.now }
     ensures no { AllByRecursion (IsBetween T.cmp least.now greatest.now) items.now
@@ -96,7 +96,7 @@ fn are_ends_between<T: Ord>(items: &[T], least: &T, greatest: &T) -> bool
 /// Clones the item if it is below the least item so far.
 pub fn clone_if_least<T: Clone + Ord>(item: &T, least: &Option<T>) -> Result<Option<T>, AllocError>
     requires clones { (x y : T) → T.is_clone x y → T.cmp x y ≡ Equal }
-    ensures { IfOk result (λ new.
+    ensures least { IfOk result (λ new.
         Ties T.cmp (least_with T.cmp item.now least.now) (newer_or new least.now)) }
 {
     let is_least = match least {
@@ -112,7 +112,7 @@ pub fn clone_if_greatest<T: Clone + Ord>(
     greatest: &Option<T>,
 ) -> Result<Option<T>, AllocError>
     requires clones { (x y : T) → T.is_clone x y → T.cmp x y ≡ Equal }
-    ensures { IfOk result (λ new.
+    ensures greatest { IfOk result (λ new.
         Ties T.cmp (greatest_with T.cmp item.now greatest.now) (newer_or new greatest.now)) }
 {
     let is_greatest = match greatest {

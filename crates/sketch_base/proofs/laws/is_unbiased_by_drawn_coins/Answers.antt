@@ -2,4 +2,4 @@ use Rattle.sketch_base.proofs.Fair.{fair_is_unbiased}
 use Rattle.sketch_base.proofs.laws.is_unbiased_by_drawn_coins.Goals as goal
 
 pub returns : goal.returns
-returns g c = fair_is_unbiased g.T.Ord.cmp
+returns g c = record { ranks = fair_is_unbiased g.T.Ord.cmp }

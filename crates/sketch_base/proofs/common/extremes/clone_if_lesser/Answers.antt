@@ -11,4 +11,4 @@ pub returns-in-Some : goal.returns-in-Some
 returns-in-Some g c =
     let old = c.args.least.now in
     rw c.in-Some.is
-    (IfOk-weaker c.clone_if_least.result _ _ (λ new t. least_of_both g.met.T.Ord.total c.in-Some.item old (newer_or new old) t) c.clone_if_least.ensures)
+    (IfOk-weaker c.clone_if_least.result _ _ (λ new t. least_of_both g.met.T.Ord.total c.in-Some.item old (newer_or new old) t) c.clone_if_least.ensures.least)

@@ -8,7 +8,7 @@ returns-in_err-new_greatest g c =
     record { least = IfOk-from_err r _ err; greatest = IfOk-from_err r _ err }
 
 pub returns : goal.returns
-returns g c = record { least = c.in_ok-new_least.ensures; greatest = c.in_ok-new_greatest.ensures }
+returns g c = record { least = c.in_ok-new_least.ensures.least; greatest = c.in_ok-new_greatest.ensures.greatest }
 
 pub returns-in_err-new_least : goal.returns-in_err-new_least
 returns-in_err-new_least g c =

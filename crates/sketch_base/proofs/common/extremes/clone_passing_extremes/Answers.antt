@@ -7,8 +7,8 @@ pub returns : goal.returns
 returns g c =
     let o = g.met.T.Ord.total in
     record {
-      least = least_with_all o _ c.args.least.now _ c.args.items.now c.least_of.ensures c.in_ok-new_least.ensures;
-      greatest = greatest_with_all o _ c.args.greatest.now _ c.args.items.now c.greatest_of.ensures c.in_ok-new_greatest.ensures;
+      least = least_with_all o _ c.args.least.now _ c.args.items.now c.least_of.ensures c.in_ok-new_least.ensures.least;
+      greatest = greatest_with_all o _ c.args.greatest.now _ c.args.items.now c.greatest_of.ensures c.in_ok-new_greatest.ensures.greatest;
     }
 
 pub returns-in_err-new_greatest : goal.returns-in_err-new_greatest

@@ -15,7 +15,7 @@ use Rattle.sketch_base.proofs.sorted_view.SortedView.cdf.Goals as goal
 use Rattle.sketch_base.proofs.sorted_view.SortedView.cdf.Goals.at as past
 
 pub entries_of-total-requires : goal.entries_of-total-requires
-entries_of-total-requires g c = seen-cumulated _ _ _ _ c.as_slice-items.ensures.value c.as_slice-cumulated.ensures.value c.self.invariant.cumulates
+entries_of-total-requires g c = record { cumulated = seen-cumulated _ _ _ _ c.as_slice-items.ensures.value c.as_slice-cumulated.ensures.value c.self.invariant.cumulates }
 
 room : (g : Over) (c : In_ok-ranks g) → vec_len c.in_ok-ranks.ranks + (length c.args.points.now - 0) ≤ vec_capacity c.in_ok-ranks.ranks
 room g c = grind arith
@@ -34,13 +34,13 @@ pub loop-point-preserved : goal.loop-point-preserved
 loop-point-preserved g c =
     let entries = spread_out c.as_slice-items.result.now c.as_slice-cumulated.result.now in
     let count = c.count_from-count in
-    let weight = c.entries_before-weight.ensures
+    let weight = c.entries_before-weight.ensures.value
     ∙ sym (count-spread_out (counted g.T.Ord.cmp c.point-item.result c.args.criteria) c.as_slice-items.result.now c.as_slice-cumulated.result.now count.result count.ensures.within c.loop-point.invariant.cumulates
     count.ensures.parts) in
     record {
       ranks = ranks-more (λ (y : g.row.T.Denot). true_rank g.T.Ord.cmp y c.args.criteria entries) (length entries) c.args.points.now c.loop-point.point-index c.entries_before-weight.result
           c.point-item.result c.loop-point.ranks.items c.push_reserved.new.self.items c.loop-point-test.true c.loop-point.invariant.ranks c.point-item.is weight
-          (c.push_reserved.ensures.items ∙ ap (λ (n : ℕ). let rank : Rank = record { weight = c.entries_before-weight.result; total = n } in c.loop-point.ranks.items ++ rank ∷ []) c.entries_of-total.ensures);
+          (c.push_reserved.ensures.items ∙ ap (λ (n : ℕ). let rank : Rank = record { weight = c.entries_before-weight.result; total = n } in c.loop-point.ranks.items ++ rank ∷ []) c.entries_of-total.ensures.value);
       known = λ d l. next-rank-more g.met.T.Ord.total c.args.criteria c.as_slice-items.result.now c.args.points.now c.loop-point.point-index c.point-item.result d count.result c.in_ok-check_points.ensures.good l
           c.point-item.is count.ensures.count;
       cumulates = c.loop-point.invariant.cumulates;
@@ -66,7 +66,7 @@ ranks g c =
     ranks-last (λ (y : g.row.T.Denot). true_rank g.T.Ord.cmp y c.args.criteria entries) (length entries) c.args.points.now c.loop-point.point-index
     c.loop-point.ranks.items
     c.push.new.self.items c.loop-point-test.false c.loop-point.invariant.ranks
-    (c.in_ok-push.ensures.items ∙ ap (λ (n : ℕ). let rank : Rank = record { weight = n; total = n } in c.loop-point.ranks.items ++ rank ∷ []) c.entries_of-total.ensures)
+    (c.in_ok-push.ensures.items ∙ ap (λ (n : ℕ). let rank : Rank = record { weight = n; total = n } in c.loop-point.ranks.items ++ rank ∷ []) c.entries_of-total.ensures.value)
 
 pub returns : goal.returns
 returns g c =

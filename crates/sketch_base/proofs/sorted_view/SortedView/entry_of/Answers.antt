@@ -6,14 +6,14 @@ use Rattle.sketch_base.proofs.sorted_view.SortedView.entry_of.Goals as goal
 pub returns : goal.returns
 returns g c =
     let f = entry-found _ _ _ _ _ (sym c.self.view_is) c.args.fraction c.args.criteria _ c.if-fraction-eq0.false c.if-fraction.false _ _
-    c.as_slice-items.ensures.value c.as_slice-cumulated.ensures.value _ c.entries_of-entries.ensures _ c.place_of-place.ensures.place
-    c.place_of-place.ensures.within c.entry_at.ensures in
+    c.as_slice-items.ensures.value c.as_slice-cumulated.ensures.value _ c.entries_of-entries.ensures.value _ c.place_of-place.ensures.place
+    c.place_of-place.ensures.within c.entry_at.ensures.entry in
     record { entry = f.entry; there = f.there }
 
 pub returns-then-entries-eq0 : goal.returns-then-entries-eq0
 returns-then-entries-eq0 g c =
     let f = none-found _ _ _ _ _ (sym c.self.view_is) c.args.fraction c.args.criteria None c.if-fraction-eq0.false c.if-fraction.false _ _
-    c.as_slice-items.ensures.value c.as_slice-cumulated.ensures.value _ c.entries_of-entries.ensures c.if-entries-eq0.true refl in
+    c.as_slice-items.ensures.value c.as_slice-cumulated.ensures.value _ c.entries_of-entries.ensures.value c.if-entries-eq0.true refl in
     record { entry = f.entry; there = f.there }
 
 pub returns-then-fraction : goal.returns-then-fraction

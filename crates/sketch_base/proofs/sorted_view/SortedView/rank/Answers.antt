@@ -12,9 +12,9 @@ returns g c =
     record {
       there = (λ t. some, λ t. refl);
       weight = at-entries (λ (es : List g.row.T.Denot). c.rank_among-weight.result ≡ true_rank g.T.Ord.cmp c.args.item.now c.args.criteria es) _ _ _ _ _ _ _
-          (sym c.self.view_is) c.as_slice-items.ensures.value c.as_slice-cumulated.ensures.value c.rank_among-weight.ensures;
+          (sym c.self.view_is) c.as_slice-items.ensures.value c.as_slice-cumulated.ensures.value c.rank_among-weight.ensures.value;
       total = at-entries (λ (es : List g.row.T.Denot). c.entries_of-total.result ≡ length es) _ _ _ _ _ _ _
-          (sym c.self.view_is) c.as_slice-items.ensures.value c.as_slice-cumulated.ensures.value c.entries_of-total.ensures;
+          (sym c.self.view_is) c.as_slice-items.ensures.value c.as_slice-cumulated.ensures.value c.entries_of-total.ensures.value;
     }
 
 pub returns-then-is_empty : goal.returns-then-is_empty
@@ -31,4 +31,4 @@ pub rank_among-weight-requires-clause-cumulated : goal.rank_among-weight-require
 rank_among-weight-requires-clause-cumulated g c = seen-cumulated _ _ _ _ c.as_slice-items.ensures.value c.as_slice-cumulated.ensures.value c.self.invariant.cumulates
 
 pub entries_of-total-requires : goal.entries_of-total-requires
-entries_of-total-requires g c = seen-cumulated _ _ _ _ c.as_slice-items.ensures.value c.as_slice-cumulated.ensures.value c.self.invariant.cumulates
+entries_of-total-requires g c = record { cumulated = seen-cumulated _ _ _ _ c.as_slice-items.ensures.value c.as_slice-cumulated.ensures.value c.self.invariant.cumulates }
