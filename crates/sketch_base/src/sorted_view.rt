@@ -44,8 +44,8 @@ impl<T: Clone + Ord> Model for SortedView<T> {
 
 impl<T: Clone + Ord> SortedView<T> {
     /// Builds the view of items with their weights, in any order. Of items that compare equal, one
-    /// is kept, with the weight of them all. The extremes are those of the stream; with no items they
-    /// are ignored. An error is `OutOfMemory`.
+    /// is kept, with the weight of them all. The extremes are those of the stream; with no items
+    /// they are ignored. An error is `OutOfMemory`.
     pub fn new(
         mut weighted: Vec<(T, u64)>,
         min_item: Option<T>,
@@ -79,8 +79,8 @@ impl<T: Clone + Ord> SortedView<T> {
     }
 
     /// Builds the view of clones of sorted weighted items. Of items that compare equal, one is
-    /// cloned, with the weight of them all. A clone of an item must compare equal to it. The extremes
-    /// and errors are as for `new`.
+    /// cloned, with the weight of them all. A clone of an item must compare equal to it. The
+    /// extremes and errors are as for `new`.
     pub fn from_weighted(
         alloc: Global,
         entries: &[Weighted<'_, T>],
@@ -184,8 +184,9 @@ impl<T: Clone + Ord> SortedView<T> {
         Ok(clone_found(self.entry_of(fraction, criteria))?)
     }
 
-    /// Returns the entry at the quantile given by each fraction, or None if there are no entries. An
-    /// error is as for `quantile` of one of them.
+    /// Returns the entry at the quantile given by each fraction, or None if there are no entries.
+    /// A clone of an item must compare equal to it. Returns `InvalidArgument` exactly if `quantile`
+    /// does for one of them, even if there are no entries; any other error is `OutOfMemory`.
     pub fn quantiles(
         &self,
         fractions: &[Rank],

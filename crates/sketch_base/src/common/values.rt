@@ -17,8 +17,8 @@ pub trait WholeNumber: Sized {
         ensures spelled { IsSome (spelling self.now) }
         ensures size { result ≡ length (bytes_of spelling self.now) };
 
-    /// Writes the spelling. An error is `OutOfMemory`, and the buffer then still begins with what it
-    /// held.
+    /// Writes the spelling. An error is `OutOfMemory`, and the buffer then still begins with what
+    /// it held.
     fn write_le(&self, bytes: &mut SketchBytes) -> Result<(), Error>
         ensures spelled { IsSome (spelling self.now) }
         ensures appended { OnOk result (bytes.new ≡ bytes.old ++ bytes_of spelling self.now) }
