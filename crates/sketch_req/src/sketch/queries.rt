@@ -25,9 +25,9 @@ use sketch_base::error::Error;
 use sketch_base::weighted::{Weighted, merge_weighted, weigh_in_order};
 use std::alloc::{AllocError, Global};
 
-/// Up to this number of split points, a rank for each is cheaper than a sorted view, although each
-/// rank looks at all items that aren't sorted yet. Of `i64`, a view is cheaper from 130 to 480
-/// points on; the longer a comparison takes, the sooner.
+/// Up to this number of split points, `cdf` takes a rank for each, and for more it makes a sorted
+/// view. A rank looks at all items that aren't sorted yet, so a view takes as long as 120 ranks at
+/// k 12, and as 300 at k 1024.
 const FEW_POINTS: usize = 64;
 
 impl<T: Clone + Ord> ReqSketch<T> {
