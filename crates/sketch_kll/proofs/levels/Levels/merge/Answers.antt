@@ -86,7 +86,7 @@ none_upper : {levels runs : ℕ} → levels + 2 ≡ runs → 2 ≤ runs → runs
 none_upper are some few = omega (arith, are, some, few)
 
 pub invariant_of-self : goal.invariant_of-self
-invariant_of-self g c = stored_still c.self.invariant c.move_if_loose.ensures refl
+invariant_of-self g c = stored_still c.self.invariant c.move_if_loose.ensures.items refl
 
 pub returns : goal.returns
 returns g c =
@@ -94,7 +94,7 @@ returns g c =
     let made = c.compress.ensures in
     let upper : List (List g.row.T.Denot) = levels_in c.args.parts.upper.items (drop 1 c.as_slice-other_bounds.result.now) in
     let seen = c.self.view_is in
-    let levels_are = ap (λ (xs : List g.row.T.Denot). levels_in xs c.self.inside.bounds.items) c.move_if_loose.ensures
+    let levels_are = ap (λ (xs : List g.row.T.Denot). levels_in xs c.self.inside.bounds.items) c.move_if_loose.ensures.items
     ∙ ap (λ (y : Stored g.row.T.Denot). y.levels) seen in
     record {
       k = c.give_back-2.ensures.kept.k_is ∙ (ap (λ (y : Stored g.row.T.Denot). y.k) seen ∙ (made.kept.k_is ∙ (c.merge_higher_levels-old.ensures.k ∙ c.take_items.ensures.k)));

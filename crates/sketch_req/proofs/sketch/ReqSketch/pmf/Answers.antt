@@ -27,7 +27,7 @@ returns g c =
     let told = c.in_ok-ranks.ensures in
     let ranks = subst (FindsRanks s.n cdf) c.in-Some.is told.found in
     let found = differences-left s.n c.in-Some.ranks.len cdf c.in-Some.ranks.items c.as_mut_slice.result.now c.take_differences.new.ranks ranks
-    c.as_mut_slice.ensures.value c.take_differences.ensures c.in-Some.ranks.ok.0 in
+    c.as_mut_slice.ensures.value c.take_differences.ensures.weights c.take_differences.ensures.totals c.in-Some.ranks.ok.0 in
     record {
       found = found;
       sums = ranks-sum g.met.T.Ord.total c.args.criteria entries c.args.points.now s.n _

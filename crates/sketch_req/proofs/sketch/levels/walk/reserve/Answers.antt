@@ -274,7 +274,7 @@ count_to_take_at-taken-requires-clause-levels g c = c.requires.levels
 
 -- there is a buffer for each level
 enough : (g : Over) (c : In_ok-for_levels g) → c.max-count.result ≤ length c.for_levels.new.buffers.items
-enough g c = subst (λ (n : ℕ). c.max-count.result ≤ n) c.for_levels.new.buffers.ok.0 c.in_ok-for_levels.ensures
+enough g c = subst (λ (n : ℕ). c.max-count.result ≤ n) c.for_levels.new.buffers.ok.0 c.in_ok-for_levels.ensures.count
 
 pub loop-level-init : goal.loop-level-init
 loop-level-init g c = record {
