@@ -57,7 +57,7 @@ impl<T: Clone + Ord> Model for Levels<T> {
 }
 
 impl<T: Clone + Ord> Levels<T> {
-    /// These levels, with their sums.
+    /// Creates the levels with their sums.
     pub(crate) fn new(k: u16, rank_accuracy: RankAccuracy, compactors: Vec<Compactor<T>>) -> Self
         requires some { 0 < length compactors.items }
         requires levels { AreLevels T.cmp k rank_accuracy 0 compactors.items }
@@ -73,7 +73,7 @@ impl<T: Clone + Ord> Levels<T> {
         }
     }
 
-    /// Leaves one empty level.
+    /// Resets the levels to one empty level.
     pub(crate) fn clear(&mut self)
         ensures { self.new ≡ record self.old {
           levels = fresh [] true 0 self.old.k self.old.accuracy ∷ [];
@@ -84,7 +84,8 @@ impl<T: Clone + Ord> Levels<T> {
         (self.num_retained, self.capacity) = sums(self.compactors.as_slice());
     }
 
-    /// Appends an item to level 0, where the levels together are not full after it.
+    /// Appends an item to level 0. The levels together must not be full after it. An error leaves
+    /// the levels unchanged.
     #[inline(always)]
     pub(crate) fn put(&mut self, item: T) -> Result<(), AllocError>
         requires spare { retained_of (layouts_of self.old.levels) + 1
@@ -99,7 +100,8 @@ impl<T: Clone + Ord> Levels<T> {
     }
 
     /// Appends an item to level 0, and walks over the levels if they are then full together. It is
-    /// out of line and rare, so that an update without a walk stays short.
+    /// rarely called and not inlined, so that an update without a walk stays short. An error is
+    /// `OutOfMemory`, and leaves the levels and the source of coins unchanged.
     #[cold]
     #[inline(never)]
     pub(crate) fn take_last<B: RandomBits>(&mut self, item: T, coins: &mut B) -> Result<(), Error>
@@ -122,7 +124,8 @@ impl<T: Clone + Ord> Levels<T> {
     }
 
     /// Takes in clones of all items, or of none. If they make no walk, they are appended to level 0
-    /// at once; else a copy of the levels takes them in and then replaces the levels.
+    /// at once; else a copy of the levels takes them in and then replaces the levels. An error is
+    /// `OutOfMemory`, and leaves the levels unchanged; some coins may then have been drawn.
     pub(crate) fn take_all<B: RandomBits>(
         &mut self,
         items: &[T],
@@ -151,7 +154,8 @@ impl<T: Clone + Ord> Levels<T> {
     }
 
     /// Takes in clones of the items, one part after another: as many as there is room for before
-    /// the next walk, or one with its walk.
+    /// the next walk, or one with its walk. An error is `OutOfMemory`; part of the items may then
+    /// have been taken in.
     fn take_in_turn<B: RandomBits>(&mut self, items: &[T], coins: &mut B) -> Result<(), Error>
         requires clones { (x y : T) → T.is_clone x y → T.cmp x y ≡ Equal }
         requires fits { weight_of (layouts_of self.old.levels) + length items.now < 2 ^ 64 }
@@ -179,7 +183,8 @@ impl<T: Clone + Ord> Levels<T> {
         Ok(())
     }
 
-    /// Appends clones of items to level 0, where these make no walk.
+    /// Appends clones of items to level 0. The levels together must not be full after them. An
+    /// error leaves the levels unchanged.
     fn fill(&mut self, items: &[T]) -> Result<(), AllocError>
         requires clones { (x y : T) → T.is_clone x y → T.cmp x y ≡ Equal }
         requires some { 0 < length items.now }
@@ -194,8 +199,9 @@ impl<T: Clone + Ord> Levels<T> {
         Ok(())
     }
 
-    /// Joins other levels in, redraws coins if `redraws` says so, and walks if the levels together
-    /// are then at or over their nominal capacities.
+    /// Joins other levels in, redraws coins if `redraws` is true, and walks if the levels together
+    /// are then at or over their nominal capacities. An error leaves the levels and the source of
+    /// coins unchanged.
     pub(crate) fn take_in<B: RandomBits>(
         &mut self,
         others: &Self,
@@ -244,7 +250,7 @@ impl<T: Clone + Ord> Levels<T> {
     }
 }
 
-/// How many items the levels hold, and the sum of their nominal capacities.
+/// Returns the number of items that the levels hold, and the sum of their nominal capacities.
 fn sums<T: Clone + Ord>(levels: &[Compactor<T>]) -> (usize, usize)
     requires few { length levels.now ≤ 64 }
     ensures retained { result.0 ≡ retained_of (layouts_of levels.now) }
@@ -280,7 +286,7 @@ fn redraw_if<T: Clone + Ord, B: RandomBits>(
     }
 }
 
-/// The weight of the items that a query counts.
+/// Returns the weight of the items that a query counts.
 pub(crate) fn weight_counted<T: Clone + Ord>(
     levels: &[Compactor<T>],
     item: &T,
@@ -297,7 +303,8 @@ pub(crate) fn weight_counted<T: Clone + Ord>(
     weight
 }
 
-/// Copies of the levels.
+/// Returns copies of the levels, with clones of their items. A clone of an item must compare equal
+/// to it.
 pub(super) fn copy_levels<T: Clone + Ord>(
     levels: &Vec<Compactor<T>>,
 ) -> Result<Vec<Compactor<T>>, AllocError>

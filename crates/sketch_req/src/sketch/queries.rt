@@ -25,15 +25,15 @@ use sketch_base::error::Error;
 use sketch_base::weighted::{Weighted, merge_weighted, weigh_in_order};
 use std::alloc::{AllocError, Global};
 
-/// Up to this number of split points, `cdf` takes a rank for each, and for more it makes a sorted
-/// view. A rank looks at all items that aren't sorted yet, so a view takes as long as 120 ranks at
-/// k 12, and as 300 at k 1024.
+/// The most split points for which `cdf` takes a rank each; for more it makes a sorted view. A rank
+/// looks at all items that are not sorted yet, so a view takes as long as 120 ranks at k 12, and as
+/// long as 300 at k 1024.
 const FEW_POINTS: usize = 64;
 
 impl<T: Clone + Ord> ReqSketch<T> {
-    /// A sorted snapshot of the items, for many queries. Equal items are joined in it.
+    /// Returns a sorted snapshot of the items, for many queries. Equal items are joined in it.
     ///
-    /// An item's clone must compare equal to it. An error is `OutOfMemory`.
+    /// A clone of an item must compare equal to it. An error is `OutOfMemory`.
     pub fn sorted_view(&self) -> Result<SortedView<T>, Error>
         requires clones { (x y : T) → T.is_clone x y → T.cmp x y ≡ Equal }
         ensures view { let s = self.now in
@@ -50,9 +50,9 @@ impl<T: Clone + Ord> ReqSketch<T> {
         SortedView::from_weighted(alloc, entries.as_slice(), least, greatest)
     }
 
-    /// The items of levels with their weights, sorted: those of the two halves of the levels are
-    /// merged. The items of neighbouring levels interleave little, so a merge mostly goes on with
-    /// the same side.
+    /// Returns the items of levels with their weights, sorted: those of the two halves of the
+    /// levels are merged. The items of neighbouring levels interleave little, so a merge mostly
+    /// goes on with the same side.
     fn merged(alloc: Global, levels: &[Compactor<T>]) -> Result<Vec<Weighted<'_, T>>, AllocError>
         requires some { 0 < length levels.now }
         requires few { length (pairs_of levels.now) < 2 ^ 64 }
@@ -71,11 +71,15 @@ impl<T: Clone + Ord> ReqSketch<T> {
         merge_weighted(alloc, lower.as_slice(), upper.as_slice())
     }
 
-    /// The item that a fraction names; None for an empty sketch.
+    /// Returns the item at the quantile given by `fraction`, or None for an empty sketch.
     ///
-    /// An item's clone must compare equal to it. `InvalidArgument` exactly where the fraction is of
-    /// nothing or above the whole, whether or not the sketch is empty; any other error is
-    /// `OutOfMemory`.
+    /// With each item repeated by its weight and all sorted, it is the one at position
+    /// `ceil(weight * n / total)` (`Inclusive`) or `floor(weight * n / total) + 1` (`Exclusive`),
+    /// counted from 1. A weight of 0 gives the least item of the stream, a weight of `total` the
+    /// greatest.
+    ///
+    /// A clone of an item must compare equal to it. Returns `InvalidArgument` exactly if `total` is
+    /// 0 or `weight` exceeds it, also for an empty sketch; any other error is `OutOfMemory`.
     pub fn quantile(&self, fraction: Rank, criteria: SearchCriteria) -> Result<Option<T>, Error>
         requires clones { (x y : T) → T.is_clone x y → T.cmp x y ≡ Equal }
         ensures found { IfOk result
@@ -90,8 +94,8 @@ impl<T: Clone + Ord> ReqSketch<T> {
         self.sorted_view()?.quantile(fraction, criteria)
     }
 
-    /// The item that a fraction names, if it is an extreme or a sorted level holds it. The highest
-    /// level comes first, since it weighs most.
+    /// Returns the item at the quantile given by `fraction`, if it is an extreme or a sorted level
+    /// holds it. The highest level comes first, since it weighs most.
     fn find(&self, fraction: Rank, criteria: SearchCriteria) -> Option<&T>
         requires { IsFraction fraction }
         ensures same { IfSome result (λ x. SameAnswer T.cmp
@@ -106,7 +110,7 @@ impl<T: Clone + Ord> ReqSketch<T> {
         }
     }
 
-    /// The item at a place among all entries in order, if a sorted level holds it.
+    /// Returns the item at `place` among all sorted entries, if a sorted level holds it.
     fn find_at(&self, place: u64) -> Option<&T>
         ensures { IfSome result (λ x. SameAnswer T.cmp
             (slice_get (expanded T.cmp (bag_of self.now.levels)) place) (Some x.now)) }
@@ -119,8 +123,9 @@ impl<T: Clone + Ord> ReqSketch<T> {
         None
     }
 
-    /// The items that fractions name, one for each; None for an empty sketch. Errors as for one
-    /// quantile.
+    /// Returns the item at the quantile given by each fraction, or None for an empty sketch.
+    ///
+    /// A clone of an item must compare equal to it. Errors are as for `quantile`, for any of them.
     pub fn quantiles(
         &self,
         fractions: &[Rank],
@@ -136,12 +141,11 @@ impl<T: Clone + Ord> ReqSketch<T> {
         self.sorted_view()?.quantiles(fractions, criteria)
     }
 
-    /// The rank of each split point, and last the whole; None for an empty sketch. For at most
-    /// 64 points it allocates only the answer; for more it makes a sorted view.
+    /// Returns the rank of each split point, followed by the whole, or None for an empty sketch.
+    /// For at most 64 points it allocates only the answer; for more it makes a sorted view.
     ///
-    /// An item's clone must compare equal to it. `InvalidArgument` exactly where the split points
-    /// do not strictly increase, whether or not the sketch is empty; any other error is
-    /// `OutOfMemory`.
+    /// A clone of an item must compare equal to it. Returns `InvalidArgument` exactly if the points
+    /// do not strictly increase, also for an empty sketch; any other error is `OutOfMemory`.
     pub fn cdf(&self, points: &[T], criteria: SearchCriteria) -> Result<Option<Vec<Rank>>, Error>
         requires clones { (x y : T) → T.is_clone x y → T.cmp x y ≡ Equal }
         ensures found { let s = self.now in IfOk result
@@ -167,7 +171,13 @@ impl<T: Clone + Ord> ReqSketch<T> {
         Ok(Some(ranks))
     }
 
-    /// How much lies between the split points; None for an empty sketch. Errors as for `cdf`.
+    /// Returns the weights between the split points, or None for an empty sketch.
+    ///
+    /// Entry `i` weighs the items above `points[i - 1]` and at most `points[i]` (`Inclusive`), or
+    /// at least `points[i - 1]` and below `points[i]` (`Exclusive`). The first entry has no lower
+    /// point, and the last no upper one.
+    ///
+    /// A clone of an item must compare equal to it. Errors are as for `cdf`.
     pub fn pmf(&self, points: &[T], criteria: SearchCriteria) -> Result<Option<Vec<Rank>>, Error>
         requires clones { (x y : T) → T.is_clone x y → T.cmp x y ≡ Equal }
         ensures found { let s = self.now in IfOk result

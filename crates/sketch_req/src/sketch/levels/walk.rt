@@ -16,7 +16,7 @@ use sketch_base::common::random::RandomBits;
 use sketch_base::error::Error;
 use std::alloc::{AllocError, Global};
 
-/// How many items a level holds; 0 if there is no such level.
+/// Returns the number of items that a level holds, or 0 if there is no such level.
 pub(super) fn count_at<T: Clone + Ord>(levels: &[Compactor<T>], level: usize) -> usize
     ensures { result ≡ (layout_at (layouts_of levels.now) level).count }
 {
@@ -26,8 +26,9 @@ pub(super) fn count_at<T: Clone + Ord>(levels: &[Compactor<T>], level: usize) ->
     }
 }
 
-/// How many items a walk takes from a level, after any other level at the same place is joined in
-/// and `coming` items come up. If the sketch lacks the level, `blank` takes its place.
+/// Returns the number of items that a walk takes from a level, after any other level at the same
+/// place is joined in and `coming` items come up. If the sketch lacks the level, `blank` takes its
+/// place.
 fn count_to_take_at<T: Clone + Ord>(
     levels: &[Compactor<T>],
     others: &[Compactor<T>],
@@ -49,10 +50,10 @@ fn count_to_take_at<T: Clone + Ord>(
     }
 }
 
-/// Reserves room for all that a walk moves, if other levels are joined in first or `more` items
-/// come into level 0: two empty vectors for what a level gives up, each with room for all that it
-/// holds, and buffers with clones of the others' items and with room where fewer items leave than
-/// come.
+/// Makes room for all that a walk moves, if other levels are joined in first or `more` items come
+/// into level 0: two empty vectors for what a level gives up, each with room for all that it holds,
+/// and buffers with clones of the others' items, and with room for the levels that fewer items
+/// leave than come to.
 pub(super) fn reserve<T: Clone + Ord>(
     levels: &[Compactor<T>],
     others: &[Compactor<T>],
@@ -98,7 +99,7 @@ pub(super) fn reserve<T: Clone + Ord>(
     room.up.reserve_exact(room.coming.capacity())
 }
 
-/// Adds a level at a place if there is none. The place is at most the next one.
+/// Adds an empty level at the top if `level` is the number of levels.
 pub(super) fn add_level<T: Clone + Ord>(
     levels: &mut Vec<Compactor<T>>,
     level: usize,
@@ -157,7 +158,7 @@ pub(super) fn walk<T: Clone + Ord, B: RandomBits>(
 }
 
 /// Shrinks levels that have too much room. Level 0, which soon grows again, keeps room for `spare`
-/// items.
+/// more items.
 pub(super) fn give_back<T: Clone + Ord>(levels: &mut Vec<Compactor<T>>, spare: usize)
     ensures { levels.new.items ≡ levels.old.items }
 {
@@ -166,7 +167,8 @@ pub(super) fn give_back<T: Clone + Ord>(levels: &mut Vec<Compactor<T>>, spare: u
     }
 }
 
-/// Appends an item to level 0, and then walks over the levels.
+/// Appends an item to level 0, and then walks over the levels. An error is `OutOfMemory`, and
+/// leaves the levels and the source of coins unchanged.
 pub(super) fn append_and_walk<T: Clone + Ord, B: RandomBits>(
     levels: &mut Vec<Compactor<T>>,
     item: T,
