@@ -10,7 +10,7 @@ use std::io::{self, ErrorKind, Write};
 /// Room for two numbers of at most 20 digits, with a byte after each.
 pub const ROOM: usize = 42;
 
-/// At most this many bytes wait.
+/// The most bytes that wait to be written.
 pub const MOST_WAITING: usize = 16384;
 
 /// Adds bytes to those that wait. If there is no room for them, all bytes go out, and nothing
@@ -27,6 +27,7 @@ pub fn add<W: Write>(output: &mut W, waiting: &mut Vec<u8>, bytes: &[u8]) -> io:
     write_through(output, waiting, bytes)
 }
 
+/// Writes out all bytes that wait, and then `bytes`.
 // Kept out of the loop over the lines.
 #[inline(never)]
 fn write_through<W: Write>(output: &mut W, waiting: &mut Vec<u8>, bytes: &[u8]) -> io::Result<()>
@@ -48,7 +49,7 @@ pub fn write_out<W: Write>(output: &mut W, waiting: &mut Vec<u8>) -> io::Result<
     output.flush()
 }
 
-/// Writes all of some bytes, or on an error a beginning of them.
+/// Writes all bytes, or, on an error, a beginning of them.
 pub fn write_bytes<W: Write>(output: &mut W, bytes: &[u8]) -> io::Result<()>
     ensures { Writes result (W.contents output.old) (W.contents output.new) bytes.now [] }
 {
@@ -62,7 +63,7 @@ pub fn write_bytes<W: Write>(output: &mut W, bytes: &[u8]) -> io::Result<()>
     Err(io::Error::from(ErrorKind::Other))
 }
 
-/// Writes once, and returns how many bytes were taken: 0 if a signal interrupted the write.
+/// Writes once, and returns the number of bytes taken: 0 if a signal interrupted the write.
 fn write_some<W: Write>(output: &mut W, bytes: &[u8]) -> io::Result<usize>
     ensures within { IfOk result (λ count. count ≤ length bytes.now) }
     ensures out { IfOk result (λ count. Appends (W.contents output.old) (W.contents output.new)
@@ -77,7 +78,7 @@ fn write_some<W: Write>(output: &mut W, bytes: &[u8]) -> io::Result<usize>
     }
 }
 
-/// Writes the digits of a number so that they end at `end`; returns the place of the first.
+/// Writes the digits of a number so that they end before `end`, and returns the place of the first.
 pub fn put_digits(number: u64, room: &mut [u8; ROOM], end: usize) -> usize
     requires some { 20 ≤ end }
     requires within { end ≤ ROOM }

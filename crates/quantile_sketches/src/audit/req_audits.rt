@@ -24,20 +24,20 @@ use sketch_req::sketch::ReqSketch;
 use sketch_req::value::ReqValue;
 use std::alloc::Global;
 
-/// Runs commands on REQ sketches under every word of the coins that they take, and asks a slot for
-/// the rank of an item under each word. An absent slot counts as 0.
+/// Runs commands on REQ sketches under every word of the coins that they take, and returns an
+/// item's weighted rank in a slot under each word, with the true rank. An absent slot counts as 0.
 ///
-/// Where the slot was only updated since its New or Reset, the weights average to the true rank,
-/// and their standard error is relative: small where few items lie between the item and the
-/// protected end. They average to it too where coins are redrawn, by `MergeRedrawn`s of such slots
-/// and a `Redraw` after each round trip. On the protected tail of `3t` items, t being the slot's
-/// tail number, each weight is the true rank.
+/// If the slot was only updated since its New or Reset, the weights average to the true rank, and
+/// their standard error is relative: small if few items lie between the item and the protected end.
+/// They also average to it if coins are redrawn, by `MergeRedrawn`s of such slots and a `Redraw`
+/// after each round trip. On the protected tail of `3t` items, t being the slot's tail number, each
+/// weight is the true rank.
 ///
 /// A round trip that is refused for the length of its image counts here as one that was accepted.
 ///
-/// Values with the same spelling must compare equal, and so must an item and its clone.
-/// An error is `InvalidArgument` only where more than 16 coins are taken, and else `OutOfMemory`.
-/// With more than 16 the call is never Ok.
+/// Values with the same spelling must compare equal, and so must an item and its clone. Returns
+/// `InvalidArgument` only if more than 16 coins are taken; any other error is `OutOfMemory`. With
+/// more than 16 coins the call never succeeds.
 pub fn audit_req<T: ReqValue + Clone + Ord>(
     alloc: Global,
     commands: &[Command<T, (u16, RankAccuracy)>],

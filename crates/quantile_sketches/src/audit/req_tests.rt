@@ -1,4 +1,4 @@
-//! Runs and audits of REQ sketches, as rows: what is run, and what must come of it.
+//! Runs and audits of REQ sketches, as rows: what is run, and what result is expected.
 use crate::tests::runs::{Row, Step, Trial, first_wrong};
 use sketch_req::RankAccuracy;
 use sketch_req::RankAccuracy::{HighRank, LowRank};
@@ -13,7 +13,7 @@ const HIGH_12: Steps = Step::New(0, (12, HighRank));
 
 const HIGH_4: Steps = Step::New(0, (4, HighRank));
 
-// 50 updates with a round trip after the first 24.
+/// 50 updates with a round trip after the first 24.
 const WITH_ROUND_TRIP: [Steps; 4] = [
     HIGH_4,
     Step::Updates(0, 1, 24),
@@ -36,8 +36,8 @@ const ONE_COIN: [Steps; 2] = [HIGH_12, Step::Updates(0, 1, 72)];
 
 const ABSENT: Steps = Step::Merge(255, 101);
 
-// Where a merge compacts at once, one sketch drew a coin and the other none. With coins redrawn, the second coin decides whether
-// 5 goes up or stays.
+/// Where a merge compacts at once, one sketch drew a coin and the other none. With coins redrawn,
+/// the second coin decides whether 5 goes up or stays.
 static ROWS: [Row<'static, Config>; 15] = [
     ("nothing", &[], Trial::Gives(&[&[]], 0, &[], &[])),
     (
@@ -198,7 +198,8 @@ fn long_run_ends(rt: HostRuntime) {
     assert!(rt; wrong_of(rt.alloc(), &LONG).is_none());
 }
 
-// 23 items, merged sixteen times into a new sketch, and one more item each time, which takes a coin.
+/// Returns steps that merge a sketch of 23 items sixteen times into a new one, with one more item
+/// each time, which takes a coin.
 fn with_sixteen_coins() -> [Steps; 50] {
     let mut steps = [Step::Merge(255, 100); 50];
     steps[0] = Step::New(100, (4, HighRank));

@@ -13,7 +13,7 @@ use std::alloc::{AllocError, Global};
 
 const MANY: u32 = 100_000;
 
-/// Every tenth item.
+/// Returns every tenth item.
 fn points<S: Tried>(alloc: Global) -> Result<Vec<S::Item>, AllocError> {
     let mut points = Vec::new(alloc);
     for number in 0..MANY / 10 {
@@ -22,7 +22,7 @@ fn points<S: Tried>(alloc: Global) -> Result<Vec<S::Item>, AllocError> {
     Ok(points)
 }
 
-/// Fractions of the whole, the first and the last included.
+/// Returns the fractions of the whole, the first and the last included.
 fn fractions(alloc: Global) -> Result<Vec<Rank>, AllocError> {
     let mut fractions = Vec::new(alloc);
     for weight in 0..=MANY as u64 {
@@ -31,7 +31,7 @@ fn fractions(alloc: Global) -> Result<Vec<Rank>, AllocError> {
     Ok(fractions)
 }
 
-/// Whether a fraction of a sketch, 0 or 1, names the item of a number.
+/// Returns whether a fraction of a sketch, 0 or 1, names the item of a number.
 fn names<S: Tried>(alloc: Global, sketch: &S, weight: u64, number: u32) -> bool
     requires { S.Asks }
 {
@@ -44,7 +44,7 @@ fn names<S: Tried>(alloc: Global, sketch: &S, weight: u64, number: u32) -> bool
     }
 }
 
-/// Whether a sketch ranks the item of a number as the whole of its weight.
+/// Returns whether a sketch ranks the item of a number as the whole of its weight.
 fn ranks_last<S: Tried>(alloc: Global, sketch: &S, number: u32, count: u64) -> bool {
     match S::item_of(alloc, number) {
         Ok(item) => sketch.rank_of(&item, CRITERIA) == Some(fraction(count, count)),
@@ -52,7 +52,8 @@ fn ranks_last<S: Tried>(alloc: Global, sketch: &S, number: u32, count: u64) -> b
     }
 }
 
-/// Whether a sketch took `count` items, of which the first is the least and the last the greatest.
+/// Returns whether a sketch took `count` items, of which the first is the least and the last the
+/// greatest.
 fn is_whole<S: Tried>(alloc: Global, sketch: &S, count: u64) -> bool
     requires { S.Asks }
 {
@@ -61,7 +62,7 @@ fn is_whole<S: Tried>(alloc: Global, sketch: &S, count: u64) -> bool
         && names(alloc, sketch, 1, MANY)
 }
 
-/// Whether a view has the distributions of its sketch.
+/// Returns whether a view has the distributions of its sketch.
 fn distributes_alike<S: Tried>(sketch: &S, view: &View<S>, points: &[S::Item]) -> bool
     requires { S.Asks }
 {
@@ -69,7 +70,7 @@ fn distributes_alike<S: Tried>(sketch: &S, view: &View<S>, points: &[S::Item]) -
         && are_equal(sketch.pmf_of(points, CRITERIA), view.pmf(points, CRITERIA))
 }
 
-/// Whether all quantiles were found, and the middle one equals the one that is found alone.
+/// Returns whether all quantiles were found, and the middle one equals the one that is found alone.
 fn has_middle<S: Tried>(
     sketch: &S,
     found: &[S::Item],
@@ -84,7 +85,7 @@ fn has_middle<S: Tried>(
     }
 }
 
-/// Whether a sketch has one quantile for each fraction, the same as its view.
+/// Returns whether a sketch has one quantile for each fraction, the same as its view.
 fn finds_alike<S: Tried>(
     sketch: &S,
     view: &View<S>,
@@ -102,7 +103,7 @@ fn finds_alike<S: Tried>(
     }
 }
 
-/// Whether the text of an image reads back as the image.
+/// Returns whether the text of an image reads back as the image.
 fn is_read_as_text(alloc: Global, image: &[u8]) -> bool {
     match image_text(alloc, image) {
         Ok(text) => are_bytes_of(alloc, image, text.as_str()),
@@ -117,7 +118,8 @@ fn is_image_of<S: Tried>(sketch: &S, image: &[u8]) -> bool {
     }
 }
 
-/// Whether what is read from a sketch's image took `count` items, and is written as it was read.
+/// Returns whether what is read from a sketch's image took `count` items, and is written as it was
+/// read.
 fn is_read_as<S: Tried>(alloc: Global, image: &[u8], count: u64) -> bool
     requires { S.Asks }
 {
@@ -127,7 +129,7 @@ fn is_read_as<S: Tried>(alloc: Global, image: &[u8], count: u64) -> bool
     }
 }
 
-/// Whether a sketch's image, also as a text, is read as a sketch that took `count` items.
+/// Returns whether a sketch's image, also as a text, is read as a sketch that took `count` items.
 fn reads_back<S: Tried>(alloc: Global, sketch: &S, count: u64) -> bool
     requires { S.Asks }
 {
@@ -140,7 +142,7 @@ fn reads_back<S: Tried>(alloc: Global, sketch: &S, count: u64) -> bool
     }
 }
 
-/// Whether a large sketch answers these queries as a view of it does.
+/// Returns whether a large sketch answers these queries as a view of it does.
 fn asks_alike<S: Tried>(
     alloc: Global,
     sketch: &S,
@@ -156,7 +158,7 @@ fn asks_alike<S: Tried>(
         && distributes_alike(sketch, view, points)
 }
 
-/// Whether a large sketch answers many queries at once as a view of it does.
+/// Returns whether a large sketch answers many queries at once as a view of it does.
 fn answers_as<S: Tried>(alloc: Global, sketch: &S, view: &View<S>) -> bool
     requires { S.Asks }
 {
@@ -177,7 +179,7 @@ fn answers_as_a_copy<S: Tried>(alloc: Global, sketch: &S, view: &View<S>) -> boo
     }
 }
 
-/// Whether a large sketch answers many queries at once as a copy of its view does.
+/// Returns whether a large sketch answers many queries at once as a copy of its view does.
 fn answers_many<S: Tried>(alloc: Global, sketch: &S) -> bool
     requires { S.Asks }
 {
@@ -187,7 +189,7 @@ fn answers_many<S: Tried>(alloc: Global, sketch: &S) -> bool
     }
 }
 
-/// Whether a large sketch answers all that it is asked, after a copy of it was merged in.
+/// Returns whether a large sketch answers all that it is asked, after a copy of it was merged in.
 fn answers_all<S: Tried>(alloc: Global, sketch: &S) -> bool
     requires { S.Asks }
 {
@@ -196,7 +198,7 @@ fn answers_all<S: Tried>(alloc: Global, sketch: &S) -> bool
         && reads_back(alloc, sketch, 200_000)
 }
 
-/// Whether a sketch of these settings takes many items and a copy of itself, and answers.
+/// Returns whether a sketch of these settings takes many items and a copy of itself, and answers.
 fn holds_many<S: Tried>(alloc: Global, config: S::Config) -> bool
     requires { S.Asks }
 {

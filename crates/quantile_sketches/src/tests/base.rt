@@ -1,4 +1,5 @@
-//! The crate below all others: families, coins and errors. `req` tries the bytes of numbers of each width.
+//! The crate below all others: families, coins and errors. `req` tries the bytes of numbers of each
+//! width.
 use sketch_base::codec::Family;
 use sketch_base::common::random::{RandomBits, SplitMix64, WordBits};
 use sketch_base::error::{Error, ErrorKind};
@@ -13,7 +14,7 @@ fn knows_its_family(rt: HostRuntime) {
     );
 }
 
-// Whether the next numbers of a source are these.
+/// Returns whether the next numbers of a source are these.
 fn gives(source: &mut SplitMix64, numbers: &[u64]) -> bool {
     for number in numbers {
         if source.next_u64() != *number {
@@ -23,7 +24,7 @@ fn gives(source: &mut SplitMix64, numbers: &[u64]) -> bool {
     true
 }
 
-// (The coins of seed 0 are tried by `tests/program`.)
+/// `tests/program` tries the coins of seed 0.
 #[test]
 fn splitmix64_from_zero(rt: HostRuntime) {
     let numbers = [
@@ -35,7 +36,7 @@ fn splitmix64_from_zero(rt: HostRuntime) {
     assert!(rt; gives(&mut SplitMix64::new(0), &numbers));
 }
 
-// Whether the first draws from a source are these bits, and each is counted.
+/// Returns whether the first draws from a source are these bits, and each is counted.
 fn draws(source: &mut WordBits<'_>, bits: &[bool]) -> bool {
     for (drawn, bit) in bits.iter().enumerate() {
         if source.drawn() != drawn || source.random_bit() != *bit {
@@ -51,7 +52,7 @@ fn word_then_false(rt: HostRuntime) {
     assert!(rt; draws(&mut source, &[true, false, true, false, false]));
 }
 
-// Whether an error prints as this text.
+/// Returns whether an error prints as this text.
 fn prints(alloc: Global, error: &Error, text: &str) -> bool {
     match error.to_string(alloc) {
         Ok(printed) => printed.as_str() == text,
@@ -59,7 +60,7 @@ fn prints(alloc: Global, error: &Error, text: &str) -> bool {
     }
 }
 
-// Whether the error of a kind prints as this text, and gives its kind.
+/// Returns whether the error of a kind prints as this text, and gives its kind.
 fn tells(alloc: Global, kind: ErrorKind, text: &str) -> bool {
     let error = Error::new(kind);
     error.kind() == kind && prints(alloc, &error, text)

@@ -1,4 +1,5 @@
-//! A call that allocates, as data: what it is made on and with, what it gave, and whether two calls gave the same.
+//! A call that allocates, as data: what it is made on and with, what it gave, and whether two calls
+//! gave the same.
 use super::runs::{Commands, Step, push_step};
 use super::sketches::Tried;
 use crate::audit::{Audit, Run};
@@ -52,8 +53,8 @@ pub(super) fn name_of(call: Call) -> &'static str {
     }
 }
 
-/// A call on a sketch of this k and number of items. The last number is the number of items in the sketch that is merged in, or
-/// the weight of the item that is put in.
+/// A call on a sketch of this k and number of items. The last number is the number of items in the
+/// sketch that is merged in, or the weight of the item that is put in.
 pub(super) type Row = (Call, u16, u32, u32);
 
 /// What a row's call is made on and with.
@@ -108,7 +109,7 @@ fn feed<S: Tried, B: RandomBits>(
     Ok(())
 }
 
-/// A sketch of these settings and of the items from 1 on.
+/// Returns a sketch of these settings and of the items from 1 on.
 pub(super) fn fill_with<S: Tried, B: RandomBits>(
     alloc: Global,
     config: S::Config,
@@ -146,7 +147,7 @@ fn is_ranked_alike<S: Tried>(sketch: &S, view: &View<S>, item: &S::Item) -> bool
             == sketch.rank_of(item, SearchCriteria::Exclusive)
 }
 
-/// Whether a view ranks the item of a number as its sketch does.
+/// Returns whether a view ranks the item of a number as its sketch does.
 fn ranks_item_alike<S: Tried>(alloc: Global, sketch: &S, view: &View<S>, number: u32) -> bool {
     match S::item_of(alloc, number) {
         Ok(item) => is_ranked_alike(sketch, view, &item),
@@ -154,7 +155,7 @@ fn ranks_item_alike<S: Tried>(alloc: Global, sketch: &S, view: &View<S>, number:
     }
 }
 
-/// Whether a view ranks the items from 0 on as its sketch does.
+/// Returns whether a view ranks the items from 0 on as its sketch does.
 pub(super) fn ranks_alike<S: Tried>(alloc: Global, sketch: &S, view: &View<S>, count: u32) -> bool {
     for number in 0..count {
         if !ranks_item_alike(alloc, sketch, view, number) {
@@ -164,8 +165,8 @@ pub(super) fn ranks_alike<S: Tried>(alloc: Global, sketch: &S, view: &View<S>, c
     true
 }
 
-/// A step of the commands that leave a sketch of `count` items in slot 0, and in slot 1 what is read from the image of a sketch
-/// that it was merged into.
+/// Returns a step of the commands that leave a sketch of `count` items in slot 0, and in slot 1
+/// what is read from the image of a sketch that it was merged into.
 fn step_of<S: Tried>(place: u8, k: u16, count: u32) -> Step<S::Config> {
     match place {
         0 | 1 => Step::New(place, S::config_of(k)),
@@ -206,7 +207,7 @@ fn given_of<S: Tried>(alloc: Global, row: Row, sketch: &S) -> Result<Given<S>, E
     })
 }
 
-/// The row's sketch, with no room to spare.
+/// Returns the row's sketch, with no room to spare.
 pub(super) fn copied<S: Tried>(alloc: Global, row: Row) -> Result<S, Error>
     requires { S.Asks }
 {
@@ -276,7 +277,7 @@ fn ask_for_items<S: Tried>(call: Call, sketch: &S, points: &[S::Item]) -> Result
     })
 }
 
-/// What a call that makes a sketch gave.
+/// Returns what a call that makes a sketch gave.
 fn made<S: Tried>(sketch: Result<S, Error>) -> Result<Answer<S>, Error> {
     match sketch {
         Ok(sketch) => Ok(Answer::Sketch(sketch)),
@@ -346,7 +347,7 @@ pub(super) fn answer_of<S: Tried>(
     }
 }
 
-/// Whether two calls gave the same.
+/// Returns whether two calls gave the same.
 pub(super) fn are_equal<X: PartialEq + Drop>(a: Result<X, Error>, b: Result<X, Error>) -> bool {
     match (a, b) {
         (Ok(a), Ok(b)) => a == b,
@@ -354,8 +355,8 @@ pub(super) fn are_equal<X: PartialEq + Drop>(a: Result<X, Error>, b: Result<X, E
     }
 }
 
-/// The image of a sketch that took `more` items: it shows states and coins that an image doesn't
-/// hold.
+/// Returns the image of a sketch that took `more` items: it shows states and coins that an image
+/// doesn't hold.
 fn image_past<S: Tried>(alloc: Global, sketch: &S, more: u32) -> Result<Vec<u8>, Error>
     requires { S.Asks }
 {
@@ -412,7 +413,7 @@ fn are_audits_alike(a: &Audit, b: &Audit) -> bool {
     a.coins == b.coins && a.weights == b.weights && a.true_rank == b.true_rank
 }
 
-/// Whether two answers that hold no sketch are the same.
+/// Returns whether two answers that hold no sketch are the same.
 fn are_same_values<S: Tried>(a: &Answer<S>, b: &Answer<S>) -> bool {
     match (a, b) {
         (Answer::Done, Answer::Done) => true,

@@ -15,14 +15,14 @@ const HIGH: RankAccuracy = RankAccuracy::HighRank;
 
 const LOW: RankAccuracy = RankAccuracy::LowRank;
 
-/// The image of no items in state 65535, with `sections` sections of a size.
+/// Returns the image of no items in state 65535, with `sections` sections of a size.
 fn image_of(sections: u8, size: u8) -> [u8; 20] {
     [
         255, 255, 0, 0, 0, 0, 0, 0, size, 0, 0, 0, 0, sections, 0, 0, 0, 0, 0, 0,
     ]
 }
 
-/// How many items, the state, how many sections, their size, and the nominal capacity.
+/// The number of items, the state, the number of sections, their size, and the nominal capacity.
 type Numbers = (u32, u64, u8, u32, u32);
 
 fn has_numbers(level: &Level, numbers: Numbers) -> bool {
@@ -34,12 +34,12 @@ fn has_numbers(level: &Level, numbers: Numbers) -> bool {
         && level.nominal_capacity() == capacity
 }
 
-/// Whether a level has these items, and counts as sorted exactly if `is_sorted`.
+/// Returns whether a level has these items, and counts as sorted exactly if `is_sorted`.
 fn holds(level: &Level, items: &[i32], is_sorted: bool) -> bool {
     level.items_slice() == items && level.is_sorted() == is_sorted
 }
 
-/// Whether a level has the numbers from one to another, both included, in order.
+/// Returns whether a level has the numbers from one to another, both included, in order.
 fn is_range(level: &Level, first: i32, last: i32) -> bool {
     let items = level.items_slice();
     items.first() == Some(&first)
@@ -48,7 +48,7 @@ fn is_range(level: &Level, first: i32, last: i32) -> bool {
         && level.is_sorted()
 }
 
-/// A level of weight 1 with the numbers from 1 to `last`, the greatest first.
+/// Returns a level of weight 1 with the numbers from 1 to `last`, the greatest first.
 fn filled(alloc: Global, k: u16, rank_accuracy: RankAccuracy, last: i32) -> Result<Level, Error>
     requires { IsLegalK k }
     ensures { IfOk result (λ level. level.lg_weight ≡ 0) }
@@ -60,7 +60,7 @@ fn filled(alloc: Global, k: u16, rank_accuracy: RankAccuracy, last: i32) -> Resu
     Ok(level)
 }
 
-/// A new level of weight 1 that took some items.
+/// Returns a new level of weight 1 that took some items.
 fn level_of(alloc: Global, items: &[i32]) -> Result<Level, Error> {
     let mut level = Compactor::new(alloc, 0, 12, HIGH);
     for item in items {
@@ -69,13 +69,15 @@ fn level_of(alloc: Global, items: &[i32]) -> Result<Level, Error> {
     Ok(level)
 }
 
-/// Whether a new level at place 3 with k 12 has 3 sections of 12, a weight of 8 an item, and counts as sorted.
+/// Returns whether a new level at place 3 with k 12 has 3 sections of 12, a weight of 8 an item,
+/// and counts as sorted.
 fn is_new(alloc: Global) -> bool {
     let level: Level = Compactor::new(alloc, 3, 12, LOW);
     holds(&level, &[], true) && level.weight() == 8 && has_numbers(&level, (0, 0, 3, 12, 72))
 }
 
-/// Whether a level of two items that `said` calls sorted or not counts as sorted exactly if `is_sorted`, and is new otherwise.
+/// Returns whether a level of two items that `said` calls sorted or not counts as sorted exactly if
+/// `is_sorted`, and is new otherwise.
 fn is_raw(alloc: Global, items: [i32; 2], said: bool, is_sorted: bool) -> bool {
     match Vec::from_array(alloc, items) {
         Ok(given) => {
@@ -99,7 +101,7 @@ fn new_levels(rt: HostRuntime) {
     );
 }
 
-/// Whether a level counts these numbers of items at most `item`, and below it.
+/// Returns whether a level counts these numbers of items at most `item`, and below it.
 fn counts(level: &Level, item: i32, at_most: usize, below: usize) -> bool {
     level.count_below(&item, true) == at_most && level.count_below(&item, false) == below
 }
@@ -112,14 +114,14 @@ fn counts_all(level: &Level) -> bool {
         && counts(level, 6, 4, 4)
 }
 
-/// Whether `sort` sorts 5, 3, 5, 1, and they are counted alike before and after it.
+/// Returns whether `sort` sorts 5, 3, 5, 1, and they are counted alike before and after it.
 fn sorts(level: &mut Level) -> bool {
     let is_counted = holds(level, &[5, 3, 5, 1], false) && counts_all(level);
     level.sort();
     is_counted && holds(level, &[1, 3, 5, 5], true) && counts_all(level)
 }
 
-/// Whether 5 counts as sorted, and 5, 3, 5, 1 are counted in any order.
+/// Returns whether 5 counts as sorted, and 5, 3, 5, 1 are counted in any order.
 fn counts_in_any_order(alloc: Global) -> bool {
     match (level_of(alloc, &[5]), level_of(alloc, &[5, 3, 5, 1])) {
         (Ok(one), Ok(mut level)) => one.is_sorted() && sorts(&mut level),
@@ -132,13 +134,13 @@ fn sorts_and_counts_items_below(rt: HostRuntime) {
     assert!(rt; counts_in_any_order(rt.alloc()));
 }
 
-/// Whether a level of 5, 1, 3 takes in 2, 4, 6 after a sort.
+/// Returns whether a level of 5, 1, 3 takes in 2, 4, 6 after a sort.
 fn merges_sorted(level: &mut Level) -> bool {
     level.sort();
     level.merge_sorted([2, 4, 6].as_slice()).is_ok()
 }
 
-/// Whether a copy has the numbers from 1 to 6, and counts as sorted.
+/// Returns whether a copy has the numbers from 1 to 6, and counts as sorted.
 fn is_copied(level: &Level) -> bool {
     match level.clone() {
         Ok(copy) => holds(&copy, &[1, 2, 3, 4, 5, 6], true) && copy.iter().count() == 6,
@@ -153,8 +155,8 @@ fn merges_in_order(alloc: Global) -> bool {
     }
 }
 
-/// Whether a level of 3, 2, 1 is as it was if nothing was merged in, has five items if 2, 1 were merged in, and a level of the
-/// numbers from 1 to 20 counts 72 if those to 52 were merged in.
+/// Returns whether a level of 3, 2, 1 is as it was if nothing was merged in, has five items if 2, 1
+/// were merged in, and a level of the numbers from 1 to 20 counts 72 if those to 52 were merged in.
 fn is_merged(level: &Level, other: i32) -> bool {
     match other {
         0 => holds(level, &[3, 2, 1], false),
@@ -163,7 +165,8 @@ fn is_merged(level: &Level, other: i32) -> bool {
     }
 }
 
-/// Whether a level of k 12 with the numbers from 1 to `last` merges in those to `other`, from a level of another k and accuracy.
+/// Returns whether a level of k 12 with the numbers from 1 to `last` merges in those to `other`,
+/// from a level of another k and accuracy.
 fn merges(alloc: Global, last: i32, other: i32) -> bool {
     match (filled(alloc, 12, HIGH, last), filled(alloc, 4, LOW, other)) {
         (Ok(mut level), Ok(taken)) => level.merge(&taken).is_ok() && is_merged(&level, other),
@@ -171,7 +174,7 @@ fn merges(alloc: Global, last: i32, other: i32) -> bool {
     }
 }
 
-/// Whether a level of weight 8 takes an item.
+/// Returns whether a level of weight 8 takes an item.
 fn appends_above(alloc: Global) -> bool {
     let mut level: Level = Compactor::new(alloc, 3, 12, LOW);
     level.append(5).is_ok() && holds(&level, &[5], true) && level.weight() == 8
@@ -184,8 +187,8 @@ fn merges_levels(rt: HostRuntime) {
     assert!(rt; appends_above(alloc) && merges_in_order(alloc));
 }
 
-/// A side, the greatest of the numbers from 1 on that a level of k 4 has, a coin, the items that are sent up, and the first and
-/// last number kept.
+/// A side, the greatest of the numbers from 1 on that a level of k 4 has, a coin, the items that
+/// are sent up, and the first and last number kept.
 type Compaction<'a> = (RankAccuracy, i32, bool, &'a [i32], i32, i32);
 
 /// The odd numbers below 64.
@@ -194,14 +197,15 @@ const ODD: [i32; 32] = [
     51, 53, 55, 57, 59, 61, 63,
 ];
 
-/// Whether a compacted level has sent these items up and kept its range, and moved its state if anything went up.
+/// Returns whether a compacted level has sent these items up and kept its range, and moved its
+/// state if anything went up.
 fn is_compacted(level: &Level, out: &[i32], compaction: Compaction<'_>) -> bool {
     let (_, _, _, up, first, last) = compaction;
     let moved = if up.is_empty() { 0 } else { 1 };
     out == up && is_range(level, first, last) && level.state() == moved
 }
 
-/// Whether a compaction does so, and draws a coin if anything goes up.
+/// Returns whether a compaction does so, and draws a coin if anything goes up.
 fn compacts_into(level: &mut Level, out: &mut Vec<i32>, compaction: Compaction<'_>) -> bool {
     let (_, _, coin, up, ..) = compaction;
     let word = [coin];
@@ -237,7 +241,7 @@ fn compacts(rt: HostRuntime) {
     }
 }
 
-/// The first level of a sketch of k 12, read from its bytes.
+/// Returns the first level of a sketch of k 12, read from its bytes.
 fn read(alloc: Global, bytes: &[u8]) -> Result<Level, Error>
     ensures { IfOk result (λ level. level.lg_weight ≡ 0) }
 {
@@ -257,7 +261,7 @@ fn is_written_as(alloc: Global, level: &Level, image: &[u8]) -> bool {
     }
 }
 
-/// Whether a new level gets 24 sections by merging in one that is read.
+/// Returns whether a new level gets 24 sections by merging in one that is read.
 fn doubles_sections(alloc: Global, level: &mut Level, read: &Level) -> bool
     requires { level.old.lg_weight ≡ read.now.lg_weight }
 {

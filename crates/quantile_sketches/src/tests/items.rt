@@ -1,4 +1,5 @@
-//! Items that compare by one field of three values, and whose clones count how often they were cloned.
+//! Items that compare by one field of three values, and whose clones count how often they were
+//! cloned.
 ghost use Rattle.std.specs.Prelude.{◌≡◌, nat_eq};
 ghost use Rattle.std.proofs.Common.{rules, refl};
 ghost use Rattle.std.specs.Cmp.{partial_order_from_own_ties};
@@ -78,7 +79,8 @@ fn item_of(class: u32) -> Third {
     }
 }
 
-/// Whether a sketch of `count` items 0, 1, 2, 0, 1 and so on shows that count and the least and the greatest item.
+/// Returns whether a sketch of `count` items 0, 1, 2, 0, 1 and so on shows that count and the least
+/// and the greatest item.
 fn is_seen(count: u32, n: u64, least: Option<&Third>, greatest: Option<&Third>) -> bool {
     let last = count.wrapping_sub(1).min(2) as u8;
     match (least, greatest) {
@@ -89,7 +91,7 @@ fn is_seen(count: u32, n: u64, least: Option<&Third>, greatest: Option<&Third>) 
     }
 }
 
-/// Whether a median is the clone of a class's item, and the whole is ranked.
+/// Returns whether a median is the clone of a class's item, and the whole is ranked.
 fn is_answered(median: Result<Option<Third>, Error>, rank: Option<Rank>) -> bool {
     match median {
         Ok(Some(item)) => {
@@ -99,13 +101,13 @@ fn is_answered(median: Result<Option<Third>, Error>, rank: Option<Rank>) -> bool
     }
 }
 
-/// Whether a KLL sketch is as it should be after an item.
+/// Returns whether a KLL sketch is as it should be after an item.
 fn is_kll_seen(sketch: &KllSketch<Third>, number: u32) -> bool {
     let (least, greatest) = (sketch.min_item(), sketch.max_item());
     is_seen(number.wrapping_add(1), sketch.n(), least, greatest) && sketch.num_retained() <= 80
 }
 
-/// Whether a sketch takes 1000 items, and each leaves it as it should.
+/// Returns whether a sketch takes 1000 items, and each leaves it as it should.
 fn fill_kll(sketch: &mut KllSketch<Third>, coins: &mut SplitMix64) -> bool {
     for number in 0..1000u32 {
         if sketch.update(item_of(number), coins).is_err() || !is_kll_seen(sketch, number) {
@@ -115,13 +117,14 @@ fn fill_kll(sketch: &mut KllSketch<Third>, coins: &mut SplitMix64) -> bool {
     true
 }
 
-/// Whether a KLL sketch of 2000 items has a median and ranks the whole.
+/// Returns whether a KLL sketch of 2000 items has a median and ranks the whole.
 fn answers_kll(sketch: &KllSketch<Third>) -> bool {
     let rank = sketch.rank(&item_of(2), CRITERIA);
     is_answered(sketch.quantile(fraction(1, 2), CRITERIA), rank)
 }
 
-/// Merges a copy of a sketch into it, and returns whether its median and the rank of the whole are as wanted.
+/// Merges a copy of a sketch into it, and returns whether its median and the rank of the whole are
+/// as expected.
 fn double_kll(sketch: &mut KllSketch<Third>, coins: &mut SplitMix64) -> bool {
     match sketch.clone() {
         Ok(copy) => sketch.merge(&copy, coins).is_ok() && answers_kll(sketch),
@@ -129,7 +132,7 @@ fn double_kll(sketch: &mut KllSketch<Third>, coins: &mut SplitMix64) -> bool {
     }
 }
 
-/// Whether a KLL sketch of k 8 takes 1000 items and a copy of itself.
+/// Returns whether a KLL sketch of k 8 takes 1000 items and a copy of itself.
 fn takes_kll(alloc: Global) -> bool {
     let mut coins = SplitMix64::new(0);
     match KllSketch::new(alloc, 8) {
@@ -138,7 +141,7 @@ fn takes_kll(alloc: Global) -> bool {
     }
 }
 
-/// Whether a REQ sketch is as it should be after an item.
+/// Returns whether a REQ sketch is as it should be after an item.
 fn is_req_seen(sketch: &ReqSketch<Third>, number: u32) -> bool {
     let (least, greatest) = (sketch.min_item(), sketch.max_item());
     is_seen(number.wrapping_add(1), sketch.n(), least, greatest) && sketch.num_retained() <= 216
@@ -153,13 +156,14 @@ fn fill_req(sketch: &mut ReqSketch<Third>, coins: &mut SplitMix64) -> bool {
     true
 }
 
-/// Whether a REQ sketch of 2000 items has a median and ranks the whole.
+/// Returns whether a REQ sketch of 2000 items has a median and ranks the whole.
 fn answers_req(sketch: &ReqSketch<Third>) -> bool {
     let rank = sketch.rank(&item_of(2), CRITERIA);
     is_answered(sketch.quantile(fraction(1, 2), CRITERIA), rank)
 }
 
-/// Merges a copy of a sketch into it, and returns whether its median and the rank of the whole are as wanted.
+/// Merges a copy of a sketch into it, and returns whether its median and the rank of the whole are
+/// as expected.
 fn double_req(sketch: &mut ReqSketch<Third>, coins: &mut SplitMix64) -> bool {
     match sketch.clone() {
         Ok(copy) => sketch.merge(&copy, coins).is_ok() && answers_req(sketch),
@@ -167,7 +171,7 @@ fn double_req(sketch: &mut ReqSketch<Third>, coins: &mut SplitMix64) -> bool {
     }
 }
 
-/// Whether a REQ sketch of k 4 takes such items.
+/// Returns whether a REQ sketch of k 4 takes such items.
 fn takes_req(alloc: Global) -> bool {
     let mut coins = SplitMix64::new(0);
     match ReqSketch::new(alloc, 4, RankAccuracy::HighRank) {

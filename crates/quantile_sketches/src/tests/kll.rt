@@ -1,6 +1,7 @@
-//! What no line can say of KLL sketches: estimates and the sizes of views, items that have no spelling, `==`. The worked updates,
-//! merges, weights, quantiles and images of numbers are in `tests/lines`, the greatest weights in `tests/program`, and the images
-//! of texts in `text::tests`.
+//! What no line can say of KLL sketches: estimates and the sizes of views, items that have no
+//! spelling, `==`. The worked updates, merges, weights, quantiles and images of numbers are in
+//! `tests/lines`, the greatest weights in `tests/program`, and the images of texts in
+//! `text::tests`.
 ghost use Rattle.std.proofs.lemmas.Bool.{false≢true};
 ghost use Rattle.std.specs.Prelude.{None};
 
@@ -17,14 +18,14 @@ use std::alloc::{AllocError, Global};
 
 const NINE: &[i64] = &[1, 2, 3, 4, 5, 6, 7, 8, 9];
 
-// A sketch of k 8 and some items under coins that are false.
+/// Returns a sketch of k 8 and some items under coins that are false.
 fn filled(alloc: Global, items: &[i64]) -> Result<KllSketch<i64>, Error> {
     let mut sketch = KllSketch::new(alloc, 8)?;
     sketch.update_all(items, &mut WordBits::new(&[]))?;
     Ok(sketch)
 }
 
-// Whether a sketch gives estimates, how many items its view has, and their weight.
+/// Whether a sketch gives estimates, the number of items that its view has, and their weight.
 type Seen = (bool, usize, u64);
 
 fn is_seen(sketch: &KllSketch<i64>, wanted: Seen) -> bool {
@@ -34,7 +35,7 @@ fn is_seen(sketch: &KllSketch<i64>, wanted: Seen) -> bool {
     }
 }
 
-// Whether a sketch of some items is seen as `wanted`.
+/// Returns whether a sketch of some items is seen as `wanted`.
 fn shows(alloc: Global, items: &[i64], wanted: Seen) -> bool {
     match filled(alloc, items) {
         Ok(sketch) => is_seen(&sketch, wanted),
@@ -87,7 +88,8 @@ impl Numbered for Unspelled {
     }
 }
 
-// Whether a sketch of an item that has no spelling has no image. (`audit::tests` has one of no item.)
+/// Returns whether a sketch of an item that has no spelling has no image. (`audit::tests` has one
+/// of no item.)
 fn refuses_image(sketch: &mut KllSketch<Unspelled>) -> bool {
     sketch.update(Unspelled, &mut WordBits::new(&[])).is_ok() && is_invalid(sketch.serialize())
 }
@@ -104,13 +106,14 @@ fn refuses_an_item_without_a_spelling(rt: HostRuntime) {
     assert!(rt; refuses_unspelled(rt.alloc()));
 }
 
-// The sketch of an image.
+/// Returns the sketch of an image.
 fn read(alloc: Global, image: &str) -> Result<KllSketch<i64>, Error> {
     let bytes = image_bytes(alloc, image)?.ok_or(Error::new(ErrorKind::InvalidArgument))?;
     KllSketch::deserialize(alloc, &bytes)
 }
 
-// Images of sketches that differ: by an item, and only by the flag that level 0 counts as sorted, with no item and with 1 and 2.
+/// Images of sketches that differ: by an item, and only by the flag that level 0 counts as sorted,
+/// with no item and with 1 and 2.
 static DIFFERENT: [(&str, &str); 3] = [
     ("02010f01c8000800", "02020f04c80008000700000000000000"),
     ("02010f01c8000800", "02010f03c8000800"),
@@ -120,12 +123,12 @@ static DIFFERENT: [(&str, &str); 3] = [
     ),
 ];
 
-// Whether the sketches of two images are the same.
+/// Returns whether the sketches of two images are the same.
 fn are_same(alloc: Global, image: &str, other: &str) -> bool {
     are_equal(read(alloc, image), read(alloc, other))
 }
 
-// Whether two images are read as different sketches, and each of them as the same.
+/// Returns whether two images are read as different sketches, and each of them as the same.
 fn are_told_apart(alloc: Global, image: &str, other: &str) -> bool {
     !are_same(alloc, image, other) && are_same(alloc, image, image) && are_same(alloc, other, other)
 }

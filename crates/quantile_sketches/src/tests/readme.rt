@@ -1,4 +1,5 @@
-//! The library examples of README.md, which `examples/check` compares with it, and tests that call them.
+//! The library examples of README.md, which `examples/check` compares with it, and tests that call
+//! them.
 
 // --- README.md
 use sketch_base::common::random::SplitMix64;

@@ -1,7 +1,8 @@
 //! Calls whose memory requests are refused one by one.
 //!
-//! `tests/memory` runs these tests under tests/refuse.c, and each call is then repeated with the first request refused, then the
-//! second and so on, until none is refused. Without that library nothing is refused: each call is made once.
+//! `tests/memory` runs these tests under tests/refuse.c, and each call is then repeated with the
+//! first request refused, then the second and so on, until none is refused. Without that library
+//! nothing is refused: each call is made once.
 use super::calls::{
     Answer, CRITERIA, Call, Row, Subject, View, WORD, answer_of, are_alike, copied, filled,
     fraction, fractions, is_same, items, name_of, subject_of,
@@ -16,8 +17,8 @@ use sketch_req::sketch::ReqSketch;
 use std::alloc::Global;
 use std::io::{self, Cursor};
 
-/// Requests of at least this many bytes are only signs to the library. N bytes more have it refuse the Nth request from then on.
-/// A request of exactly this many bytes is refused if a request was.
+/// Requests of at least this many bytes are only signs to the library. N bytes more have it refuse
+/// the Nth request from then on. A request of exactly this many bytes is refused if a request was.
 const SIGN: usize = 1 << 24;
 
 fn refuse(alloc: Global, nth: usize) -> bool {
@@ -28,14 +29,14 @@ fn was_refused(alloc: Global) -> bool {
     Vec::<u8>::with_capacity(alloc, SIGN).is_err()
 }
 
-/// Whether the library is loaded.
+/// Returns whether the library is loaded.
 fn is_tried(alloc: Global) -> bool {
     let _is_told = refuse(alloc, 1);
     let _is_asked = Vec::<u8>::with_capacity(alloc, 1).is_ok();
     was_refused(alloc)
 }
 
-/// Whether a call gives what the same call gives on another sketch, and leaves the same.
+/// Returns whether a call gives what the same call gives on another sketch, and leaves the same.
 fn gives_as<S: Tried>(
     alloc: Global,
     given: &Answer<S>,
@@ -53,7 +54,8 @@ fn gives_as<S: Tried>(
     }
 }
 
-/// Whether a call gave what it gives on a sketch that was never refused memory, and leaves the same.
+/// Returns whether a call gave what it gives on a sketch that was never refused memory, and leaves
+/// the same.
 fn gives_the_same<S: Tried>(alloc: Global, given: &Answer<S>, subject: &Subject<S>) -> bool
     requires { S.Asks }
 {
@@ -63,7 +65,8 @@ fn gives_the_same<S: Tried>(alloc: Global, given: &Answer<S>, subject: &Subject<
     }
 }
 
-/// Whether the call, made again, gives what it gives on a sketch that was never refused memory.
+/// Returns whether the call, made again, gives what it gives on a sketch that was never refused
+/// memory.
 fn answers_again<S: Tried>(alloc: Global, subject: &mut Subject<S>) -> bool
     requires { S.Asks }
 {
@@ -73,7 +76,7 @@ fn answers_again<S: Tried>(alloc: Global, subject: &mut Subject<S>) -> bool
     }
 }
 
-/// Whether the sketch is as it was before the call.
+/// Returns whether the sketch is as it was before the call.
 fn is_left<S: Tried>(alloc: Global, subject: &Subject<S>) -> bool
     requires { S.Asks }
 {
@@ -83,8 +86,8 @@ fn is_left<S: Tried>(alloc: Global, subject: &Subject<S>) -> bool
     }
 }
 
-/// Whether all is as wanted after the first try: the call answers, or, if its request was refused, says so, leaves the sketch as
-/// it was, and answers when it is made again.
+/// Returns whether all is as expected after the first try: the call answers, or, if its request was
+/// refused, says so, leaves the sketch as it was, and answers when it is made again.
 fn is_well<S: Tried>(
     alloc: Global,
     first: &Result<Answer<S>, Error>,
@@ -104,8 +107,8 @@ fn is_well<S: Tried>(
     }
 }
 
-/// Makes the row's call on a sketch with the Nth request refused: whether one was, and whether all is as wanted. (A refused
-/// request to shrink leaves a call as it is.)
+/// Makes the row's call on a sketch with the Nth request refused. Returns whether one was, and
+/// whether all is as expected. (A refused request to shrink leaves a call as it is.)
 fn try_on<S: Tried>(alloc: Global, nth: usize, subject: &mut Subject<S>) -> (bool, bool)
     requires { S.Asks }
 {
@@ -116,7 +119,8 @@ fn try_on<S: Tried>(alloc: Global, nth: usize, subject: &mut Subject<S>) -> (boo
     (is_refused, (is_told || is_refused) && is_well)
 }
 
-/// Makes the row's call with the Nth request refused: whether one was, and whether all is as wanted.
+/// Makes the row's call with the Nth request refused. Returns whether one was, and whether all is
+/// as expected.
 fn try_nth<S: Tried>(alloc: Global, row: Row, nth: usize) -> (bool, bool)
     requires { S.Asks }
 {
@@ -126,7 +130,8 @@ fn try_nth<S: Tried>(alloc: Global, row: Row, nth: usize) -> (bool, bool)
     }
 }
 
-/// How many requests of the row's call were refused, if all is as wanted for each.
+/// Returns the number of requests of the row's call that were refused, if all is as expected for
+/// each.
 fn try_each<S: Tried>(alloc: Global, row: Row) -> Option<usize>
     requires { S.Asks }
 {
@@ -145,7 +150,8 @@ fn print_row(rt: &impl Print, row: Row, refused: Option<usize>) -> io::Result<()
     println!(rt; "{name} {k} {count} {number} {refused:?}")
 }
 
-/// Tries a row, and prints it under the library, or if it isn't as wanted.
+/// Tries a row, and prints it under the library, or if it isn't as expected. Returns whether it is
+/// as expected.
 fn try_row<S: Tried>(rt: &(impl Print + AllocGlobal), row: Row) -> bool
     requires { S.Asks }
 {
@@ -154,7 +160,7 @@ fn try_row<S: Tried>(rt: &(impl Print + AllocGlobal), row: Row) -> bool
     (is_silent || print_row(rt, row, refused).is_ok()) && refused.is_some()
 }
 
-/// Whether bad arguments are refused.
+/// Returns whether bad arguments are refused.
 fn refuses_arguments<S: Tried>(alloc: Global, sketch: &S, equal: &[S::Item]) -> bool
     requires { S.Asks }
 {
@@ -166,7 +172,7 @@ fn refuses_arguments<S: Tried>(alloc: Global, sketch: &S, equal: &[S::Item]) -> 
         && is_invalid(S::create(alloc, S::config_of(3)))
 }
 
-/// Whether an empty sketch answers None.
+/// Returns whether an empty sketch answers None.
 fn answers_none<S: Tried>(sketch: &S, points: &[S::Item]) -> bool
     requires { S.Asks }
 {
@@ -181,7 +187,7 @@ fn is_none<X: Drop>(answer: Result<Option<X>, Error>) -> bool {
     matches!(answer, Ok(None))
 }
 
-/// Whether an empty view has nothing, and answers None.
+/// Returns whether an empty view has nothing, and answers None.
 fn views_none<S: Tried>(view: &View<S>, points: &[S::Item]) -> bool
     requires { S.Asks }
 {
@@ -194,7 +200,7 @@ fn views_none<S: Tried>(view: &View<S>, points: &[S::Item]) -> bool
         && is_none(view.pmf(points, CRITERIA))
 }
 
-/// Whether an empty view refuses bad arguments.
+/// Returns whether an empty view refuses bad arguments.
 fn view_refuses<S: Tried>(view: &View<S>, equal: &[S::Item]) -> bool
     requires { S.Asks }
 {
@@ -204,8 +210,8 @@ fn view_refuses<S: Tried>(view: &View<S>, equal: &[S::Item]) -> bool
         && is_invalid(view.pmf(equal, CRITERIA))
 }
 
-// Each of these makes calls that allocate nothing, with the first request refused: whether no request was made, and the answers
-// are right.
+/// Makes calls that allocate nothing, with the first request refused. Returns whether no request
+/// was made, and the answers are right. The next two do so too.
 fn reads_quietly<S: Tried>(
     alloc: Global,
     sketch: &S,
@@ -320,9 +326,10 @@ fn joins<S: Tried>(sketch: &mut S, other: &S, times: u8, room: &mut S::Room) -> 
     true
 }
 
-/// Makes three merges into a sketch, and the same into a copy of it in the room that they leave, the last of these with the first
-/// request refused, and once more if that had it fail: whether all are made, and both sketches are as one with a room for each
-/// merge.
+/// Merges `other` three times into each of three equal sketches: into `third` with a new room for
+/// each merge, into `first` and `second` with one room. The last merge into `second` is made with
+/// the first request refused, and once more if it fails. Returns whether all merges are made, and
+/// the three sketches are alike.
 fn serves<S: Tried>(alloc: Global, first: &mut S, second: &mut S, third: &mut S, other: &S) -> bool
     requires { S.Asks }
 {
@@ -382,7 +389,8 @@ static ROWS: [Row; 15] = [
     (Call::Audit, 8, 9, 0),
 ];
 
-/// What is tried of KLL sketches: a weight with and without a compaction, and merges that end in all ways.
+/// What is tried of KLL sketches: a weight with and without a compaction, and merges that end in
+/// all ways.
 static KLL_ROWS: [Row; 6] = [
     (Call::UpdateWeighted, 8, 0, 5),
     (Call::UpdateWeighted, 8, 8, 3),
@@ -392,7 +400,8 @@ static KLL_ROWS: [Row; 6] = [
     (Call::Merge, 8, 21, 21),
 ];
 
-/// What is tried of REQ sketches: the 48th item compacts at k 8, the 72nd at k 12, and so may merges.
+/// What is tried of REQ sketches: the 48th item compacts at k 8, the 72nd at k 12, and so may
+/// merges.
 static REQ_ROWS: [Row; 6] = [
     (Call::Update, 8, 47, 0),
     (Call::Update, 12, 149, 0),
@@ -402,7 +411,7 @@ static REQ_ROWS: [Row; 6] = [
     (Call::Merge, 4, 40, 200),
 ];
 
-/// Whether each row is as wanted.
+/// Returns whether each row is as expected.
 fn try_rows<S: Tried>(rt: &(impl Print + AllocGlobal), rows: &[Row]) -> bool
     requires { S.Asks }
 {
@@ -436,7 +445,7 @@ fn req_of_i64(rt: HostRuntime) {
     assert!(rt; try_all::<ReqSketch<i64>>(&rt, &REQ_ROWS));
 }
 
-/// Whether lines are served, or memory runs out and the error says so.
+/// Returns whether lines are served, or memory runs out and the error says so.
 fn is_served(served: io::Result<()>) -> bool {
     match served {
         Ok(()) => true,
@@ -444,7 +453,8 @@ fn is_served(served: io::Result<()>) -> bool {
     }
 }
 
-/// Serves two lines with the Nth request refused: whether one was, and whether all is as wanted.
+/// Serves two lines with the Nth request refused. Returns whether one was, and whether all is as
+/// expected.
 fn serve_nth(alloc: Global, nth: usize) -> (bool, bool) {
     let mut output = Vec::new(alloc);
     let is_told = refuse(alloc, nth);
@@ -459,7 +469,8 @@ fn serve_nth(alloc: Global, nth: usize) -> (bool, bool) {
     (is_refused, (is_refused || is_told) && is_served(served))
 }
 
-/// How many requests of the two lines were refused, if all is as wanted for each.
+/// Returns the number of requests of the two lines that were refused, if all is as expected for
+/// each.
 fn serve_each(alloc: Global) -> Option<usize> {
     for nth in 1..100usize {
         let (is_refused, is_well) = serve_nth(alloc, nth);
@@ -478,7 +489,7 @@ fn lines(rt: HostRuntime) {
     assert!(rt; is_told && refused.is_some());
 }
 
-// A merge leaves room for the next one, whatever the sketches, and also if it failed.
+/// A merge leaves room for the next one, whatever the sketches, and also if it failed.
 #[test]
 fn a_room_serves_the_next_merge(rt: HostRuntime) {
     let alloc = rt.alloc();

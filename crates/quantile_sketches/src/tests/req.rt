@@ -56,7 +56,7 @@ fn constants(rt: HostRuntime) {
     );
 }
 
-/// Whether a value is shown under this name.
+/// Returns whether a value is shown under this name.
 fn is_shown<X: Debug>(alloc: Global, value: &X, name: &str) -> bool {
     match format!(in alloc; "{value:?}") {
         Ok(text) => text.as_str().starts_with(name),
@@ -96,7 +96,7 @@ fn all_are_shown(rt: HostRuntime) {
     assert!(rt; is_kll_shown(alloc) && is_level_shown(alloc) && is_req_shown(alloc));
 }
 
-/// Whether a level of k 12 in a state, with 24 sections of 4, may be in an image.
+/// Returns whether a level of k 12 in a state, with 24 sections of 4, may be in an image.
 fn is_layout(state: u64) -> bool {
     validate_compactor_state(12, 0, state, 4, 0, 24).is_ok()
 }
@@ -106,7 +106,8 @@ fn images_are_checked(rt: HostRuntime) {
     assert!(rt; is_layout(2048) && !is_layout(2047));
 }
 
-/// Whether a value is written into an empty buffer as these bytes, and says how many they are.
+/// Returns whether a value is written into an empty buffer as these bytes, and says how many they
+/// are.
 fn writes<T: ReqValue>(mut bytes: SketchBytes, value: &T, spelling: &[u8]) -> bool {
     value.serialize_value(&mut bytes).is_ok()
         && bytes.into_bytes().as_slice() == spelling
@@ -120,7 +121,7 @@ fn is_written_as<T: ReqValue>(alloc: Global, value: &T, spelling: &[u8]) -> bool
     }
 }
 
-/// Whether what is read is this value.
+/// Returns whether what is read is this value.
 fn is_read_as<T: ReqValue + PartialEq + Drop>(
     alloc: Global,
     input: &mut SketchSlice<'_>,
@@ -132,7 +133,7 @@ fn is_read_as<T: ReqValue + PartialEq + Drop>(
     }
 }
 
-/// Whether these bytes are read as a value, and no second value is read.
+/// Returns whether these bytes are read as a value, and no second value is read.
 fn is_spelled<T: ReqValue + PartialEq + Drop>(alloc: Global, value: &T, spelling: &[u8]) -> bool {
     let mut input = SketchSlice::new(spelling);
     is_read_as(alloc, &mut input, value)
@@ -156,24 +157,24 @@ const NUMBERS: [i32; 24] = [
     1, 2, 3, 4, 5, 6, 7, 8, 9, 10, 11, 12, 13, 14, 15, 16, 17, 18, 19, 20, 21, 22, 23, 24,
 ];
 
-/// A sketch of k 4 that took 1 to 24 at once, under a false coin.
+/// Returns a sketch of k 4 that took 1 to 24 at once, under a false coin.
 fn filled(alloc: Global) -> Result<ReqSketch<i32>, Error> {
     let mut sketch = ReqSketch::new(alloc, 4, RankAccuracy::HighRank)?;
     sketch.update_all(&NUMBERS, &mut WordBits::new(&[]))?;
     Ok(sketch)
 }
 
-/// Whether no pair is left, for good.
+/// Returns whether no pair is left, for good.
 fn is_at_its_end(pairs: &mut ReqSketchIterator<'_, i32>) -> bool {
     pairs.len() == 0 && pairs.next().is_none() && pairs.next().is_none()
 }
 
-/// Whether std may assume that nothing comes after the end.
+/// Returns whether std may assume that nothing comes after the end.
 fn is_fused<I: FusedIterator>(_items: &I) -> bool {
     true
 }
 
-/// Whether 1 to 24 under a k of 4 give 22 pairs, from 5 on, and 3 is the last.
+/// Returns whether 1 to 24 under a k of 4 give 22 pairs, from 5 on, and 3 is the last.
 fn iterates_over(sketch: &ReqSketch<i32>) -> bool {
     let mut pairs = sketch.iter();
     is_fused(&pairs)
@@ -189,7 +190,7 @@ fn iterates(rt: HostRuntime) {
     assert!(rt; matches!(&sketch, Ok(sketch) if iterates_over(sketch)));
 }
 
-/// Whether a view of 5, 1, 9, 3 and twice 3 more joins what is equal, and ranks by weights.
+/// Returns whether a view of 5, 1, 9, 3 and twice 3 more joins what is equal, and ranks by weights.
 fn ranks_weights(view: &SortedView<i32>) -> bool {
     (view.len(), view.total_weight(), view.is_empty()) == (4, 6, false)
         && view.rank(&3, CRITERIA) == Some(fraction(4, 6))

@@ -1,4 +1,4 @@
-//! Runs and audits as rows: what is run, and what must come of it. The rows are beside `audit`.
+//! Runs and audits as rows: what is run, and what result is expected. The rows are beside `audit`.
 use super::calls::CRITERIA;
 use super::sketches::Tried;
 use crate::audit::{Audit, Command, Run};
@@ -20,7 +20,7 @@ pub(crate) enum Step<C> {
     MergeRedrawn(u8, u8),
 }
 
-// (by hand, since it is proved faster than a derived one)
+/// It is written by hand, since it is proved faster than a derived one.
 impl<C: Copy> Clone for Step<C> {
     fn clone(&self) -> Result<Self, AllocError> {
         Ok(*self)
@@ -29,21 +29,21 @@ impl<C: Copy> Clone for Step<C> {
 
 impl<C: Copy> Copy for Step<C> {}
 
-/// What must come of some steps.
+/// The expected result of some steps.
 #[derive(Drop)]
 pub(crate) enum Trial<'a, C> {
-    /// A run under each of these words takes this number of coins, refuses these commands, and gives these inclusive ranks: slot,
-    /// number, its weight and the whole.
+    /// A run under each of these words takes this number of coins, refuses these commands, and
+    /// gives these inclusive ranks: slot, number, its weight and the whole.
     Gives(&'a [&'a [bool]], usize, &'a [usize], &'a [(u8, u32, u64, u64)]),
     /// A run wants more coins than this word has.
     WantsMore(&'a [bool]),
-    /// A run under each of these words refuses nothing, and leaves this many items in slot 0, of which this number is the
-    /// greatest.
+    /// A run under each of these words refuses nothing, and leaves this many items in slot 0, of
+    /// which this number is the greatest.
     Takes(&'a [&'a [bool]], u64, u32),
     /// A run under this word leaves the same sketch in slot 0 as a run of other steps does.
     LeavesAs(&'a [bool], &'a [Step<C>]),
-    /// An audit of a number in a slot takes this number of coins, and gives these inclusive weights, one for each word, and this
-    /// true rank.
+    /// An audit of a number in a slot takes this number of coins, and gives these inclusive
+    /// weights, one for each word, and this true rank.
     Audits(u8, u32, usize, &'a [u64], u64),
     /// An audit of the ranks of the numbers below this one is unbiased, over three coins.
     IsUnbiased(u32),
@@ -53,7 +53,7 @@ pub(crate) enum Trial<'a, C> {
     HasTooMany,
 }
 
-/// A name, some steps, and what must come of them.
+/// A name, some steps, and their expected result.
 pub(crate) type Row<'a, C> = (&'a str, &'a [Step<C>], Trial<'a, C>);
 
 pub(crate) type Commands<S> = Vec<Command<<S as Family>::Item, <S as Family>::Config>>;
@@ -128,7 +128,8 @@ fn run_of<S: Tried>(alloc: Global, steps: Steps<'_, S>, word: &[bool]) -> Result
     S::run_of(alloc, commands.as_slice(), word)
 }
 
-/// The weight of an item and the whole, both 0 for an empty sketch. None for an absent one.
+/// Returns the weight of an item and the whole, both 0 for an empty sketch, or None for an absent
+/// one.
 fn rank_in<S: Tried>(run: &Run<S>, slot: u8, item: &S::Item) -> Option<(u64, u64)> {
     match run.slots.get(&slot) {
         Some(sketch) => match sketch.rank_of(item, CRITERIA) {
@@ -139,7 +140,7 @@ fn rank_in<S: Tried>(run: &Run<S>, slot: u8, item: &S::Item) -> Option<(u64, u64
     }
 }
 
-/// Whether a number in a slot has a weight and a whole.
+/// Returns whether a number in a slot has a weight and a whole.
 fn is_ranked<S: Tried>(alloc: Global, run: &Run<S>, row: (u8, u32, u64, u64)) -> bool {
     let (slot, number, weight, total) = row;
     match S::item_of(alloc, number) {
@@ -164,7 +165,7 @@ fn are_left_alike<S: Tried>(run: &Run<S>, other: &Run<S>) -> bool {
     }
 }
 
-/// Whether some steps leave the same sketch in slot 0 as others do.
+/// Returns whether some steps leave the same sketch in slot 0 as others do.
 fn leaves_alike<S: Tried>(
     alloc: Global,
     steps: Steps<'_, S>,
@@ -196,7 +197,8 @@ fn audit_of<S: Tried>(
     S::audit_of(alloc, commands.as_slice(), slot, &item, criteria)
 }
 
-/// Whether the weights under all words of `coins` coins sum to the number of words times the true rank.
+/// Returns whether the weights under all words of `coins` coins sum to the number of words times
+/// the true rank.
 fn is_even(audit: &Audit, coins: usize, words: u64) -> bool {
     let mut sum = 0u64;
     for weight in audit.weights.iter() {
@@ -281,7 +283,7 @@ fn runs_each<S: Tried>(
     true
 }
 
-/// Whether an audit gives these weights under each word, and this true rank.
+/// Returns whether an audit gives these weights under each word, and this true rank.
 fn weighs(audit: &Audit, coins: usize, weights: &[u64], true_rank: u64) -> bool {
     audit.coins == coins && audit.weights.as_slice() == weights && audit.true_rank == true_rank
 }
@@ -309,7 +311,7 @@ fn audits<S: Tried>(
     is_audit(audit_of::<S>(alloc, steps, slot, number, CRITERIA), trial)
 }
 
-/// Whether a trial holds for these steps.
+/// Returns whether a trial holds for these steps.
 fn holds<S: Tried>(alloc: Global, steps: Steps<'_, S>, trial: &Trial<'_, S::Config>) -> bool
     requires { S.Asks }
 {
@@ -330,7 +332,7 @@ fn holds<S: Tried>(alloc: Global, steps: Steps<'_, S>, trial: &Trial<'_, S::Conf
     }
 }
 
-/// The name of the first row that isn't as wanted.
+/// Returns the name of the first row that isn't as expected.
 pub(crate) fn first_wrong<'a, S: Tried>(
     alloc: Global,
     rows: &'a [Row<'a, S::Config>],

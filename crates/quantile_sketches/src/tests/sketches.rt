@@ -43,7 +43,7 @@ pub(crate) trait Tried: Family {
 
     fn default_of(alloc: Global) -> Result<Self, Error>;
 
-    /// Whether the plain reads of the sketch and of a copy are the same.
+    /// Returns whether the plain reads of the sketch and of a copy are the same.
     fn reads_as(&self, copy: &Self) -> bool;
 
     fn view_of(&self) -> Result<SortedView<Self::Item>, Error>
@@ -56,7 +56,8 @@ pub(crate) trait Tried: Family {
     ) -> Result<Option<Vec<Self::Item>>, Error>
         requires { Self.Asks };
 
-    // (calls of a view that clone, which no clause of a family's allows for any view)
+    /// Returns a copy of a view. This and the next calls clone items, which no clause of a family's
+    /// allows for every view.
     fn copy_of(view: &SortedView<Self::Item>) -> Result<SortedView<Self::Item>, Error>
         requires { Self.Asks };
 
@@ -91,10 +92,11 @@ pub(crate) trait Tried: Family {
         requires { Self.Asks };
 }
 
-/// Each `k`, how many items it stands for and retains, whether it is empty, and whether it gives estimates.
+/// Each `k`, the numbers of items that it stands for and retains, whether it is empty, and whether
+/// it gives estimates.
 type Numbers = ([u16; 2], [u64; 2], [bool; 2]);
 
-/// The size of a REQ sketch's image, and its last item with its weight.
+/// Returns the size of a REQ sketch's image, and its last item with its weight.
 fn image_of_req<T: ReqValue + Clone + Ord>(
     sketch: &ReqSketch<T>,
 ) -> (Option<usize>, Option<(&T, u64)>) {
