@@ -1,4 +1,4 @@
-//! Joins equal weighted items.
+//! Joins weighted items that compare equal.
 ghost use Rattle.std.specs.Prelude.{◌≡◌, ◌^◌, ◌<◌, ◌≤◌, [], length, reverse, sum_by, vec_len, vec_capacity, IfOk, IfErr};
 ghost use Rattle.std.specs.declared.cmp.Ordering.TheVariants.{Equal};
 ghost use Rattle.sketch_base.specs.Bag.{SameItems};
@@ -18,8 +18,9 @@ fn is_below_last<T: Ord>(item: &T, weighted: &[(T, u64)]) -> bool
     }
 }
 
-/// Moves weighted items, which are in descending order, to the end of `items`, and the weights up
-/// to them to the end of `weights`. Of items that compare equal, the last one is kept.
+/// Moves weighted items, which are in descending order, to the empty vector `items`, in ascending
+/// order, and puts the weight up to each into the empty vector `weights`. Of items that compare
+/// equal, the one that comes last in ascending order is kept.
 pub(crate) fn join_equal<T: Ord + Drop>(
     weighted: &mut Vec<(T, u64)>,
     items: &mut Vec<T>,
@@ -54,8 +55,8 @@ fn is_below_first<T: Ord>(item: &T, entries: &[Weighted<'_, T>]) -> bool
     }
 }
 
-/// Clones sorted weighted items, and returns the clones and the weights up to them. Of items that
-/// compare equal, the last one is cloned.
+/// Returns clones of sorted weighted items, and the weight up to each. Of items that compare equal,
+/// the last one is cloned.
 pub(crate) fn join_clones<T: Clone + Ord>(
     alloc: Global,
     entries: &[Weighted<'_, T>],

@@ -44,8 +44,9 @@ impl<T: Clone + Ord> Model for SortedView<T> {
 
 impl<T: Clone + Ord> SortedView<T> {
     /// Builds the view of items with their weights, in any order. Of items that compare equal, one
-    /// is kept, with the weight of them all. The extremes are those of the stream; with no items
-    /// they are ignored. An error is `OutOfMemory`.
+    /// is kept, with the weight of them all. Each weight must be above 0, and their sum must fit a
+    /// `u64`. The extremes are those of the stream; they are ignored if there are no items. An
+    /// error is `OutOfMemory`.
     pub fn new(
         mut weighted: Vec<(T, u64)>,
         min_item: Option<T>,
@@ -80,7 +81,7 @@ impl<T: Clone + Ord> SortedView<T> {
 
     /// Builds the view of clones of sorted weighted items. Of items that compare equal, one is
     /// cloned, with the weight of them all. A clone of an item must compare equal to it. The
-    /// extremes and errors are as for `new`.
+    /// weights, the extremes and errors are as for `new`.
     pub fn from_weighted(
         alloc: Global,
         entries: &[Weighted<'_, T>],
@@ -127,7 +128,7 @@ impl<T: Clone + Ord> SortedView<T> {
         }
     }
 
-    /// Returns whether the sketch had no items.
+    /// Returns whether there are no entries.
     pub fn is_empty(&self) -> bool
         ensures value { IsTrue result ↔ (length self.now.entries ≡ 0) }
     {
@@ -142,15 +143,15 @@ impl<T: Clone + Ord> SortedView<T> {
         self.items.len()
     }
 
-    /// Returns the number of items that the sketch took.
+    /// Returns the number of entries: the weight of all items.
     pub fn total_weight(&self) -> u64
         ensures value { result ≡ length self.now.entries }
     {
         queries::entries_of(self.items.as_slice(), self.cumulated.as_slice())
     }
 
-    /// Returns the number of entries that a query counts, out of all entries, or None if there are
-    /// none.
+    /// Returns the number of entries that are at most the item (`Inclusive`) or below it
+    /// (`Exclusive`), out of all entries, or None if there are no entries.
     pub fn rank(&self, item: &T, criteria: SearchCriteria) -> Option<Rank>
         ensures there { IsSome result ↔ (0 < length self.now.entries) }
         ensures weight { IfSome result (λ r.
@@ -274,7 +275,7 @@ impl<T: Clone + Ord> SortedView<T> {
         })
     }
 
-    /// Returns the entry at the quantile given by `fraction`.
+    /// Returns the entry at the quantile given by `fraction`, or None if there are no entries.
     fn entry_of(&self, fraction: Rank, criteria: SearchCriteria) -> Option<&T>
         requires { IsFraction fraction }
         ensures entry { option_copied result ≡ quantile_of self.now fraction criteria }

@@ -1,5 +1,6 @@
-//! The levels of a sketch in one vector, the highest first, and how updates change them.
-//! What a compaction does to a slice is in `compaction`, merges are in `levels::merging`.
+//! The levels of a sketch in one vector, the highest first, and how updates change them. What a
+//! compaction does to a slice is in `compaction`. General compress is in `compress`, updates by
+//! many items are in `taking`, and merges are in `merging`.
 ghost use Rattle.std.specs.Prelude.{◌≡◌, ◌+◌, ◌-◌, ◌^◌, ◌<◌, ◌≤◌, [], ◌∷◌, length, map, IfOk, OnOk, vec_capacity, if◌then◌else◌, drop, true, false, IsSorted, IsTrue, nat_le};
 ghost use Rattle.sketch_base.specs.Query.{counted};
 ghost use Rattle.sketch_kll.specs.Capacity.{capacity_at, total_of};
@@ -23,7 +24,7 @@ use sketch_base::common::room::{give_back, reserve_next};
 use std::alloc::{AllocError, Global};
 use std::marker::Model;
 
-/// The number of bounds that levels may need: those of 61 levels, and a spare one for general
+/// The number of bounds that levels may need: 62 for 61 levels, and a spare one for general
 /// compress.
 const MAX_BOUNDS: usize = 63;
 
@@ -127,8 +128,8 @@ impl<T: Ord + Drop> Levels<T> {
         self.bounds.shrink_to(self.bounds.len() + 1);
     }
 
-    /// Calls `give_back` if there is memory for over a quarter more items, more than a growing
-    /// vector takes.
+    /// Calls `give_back` if there is room for over a quarter and 4 more items, which is more than a
+    /// growing vector takes.
     pub(crate) fn give_back_much(&mut self)
         ensures kept { KeepsLevels self.old self.new }
     {
@@ -160,8 +161,8 @@ impl<T: Ord + Drop> Levels<T> {
         }
     }
 
-    /// Returns the lowest level that is at or over its capacity once `more` items are put into level
-    /// 0. The levels together are then at or over their total capacity.
+    /// Returns the lowest level that is at or over its capacity once `more` items are put into
+    /// level 0. The levels together must then be at or over their total capacity.
     #[inline(always)]
     fn level_to_compact(&self, more: usize) -> usize
         requires full { total_of self.now.k 8 (length self.now.levels)
@@ -254,7 +255,7 @@ pub(crate) fn weight_counted<T: Ord>(
 }
 
 /// Returns the lowest level that is at or over its capacity once `more` items are put into level 0.
-/// The levels together are then at or over their total capacity.
+/// The levels together must then be at or over their total capacity.
 fn find_level_to_compact<T>(k: u16, items: &[T], bounds: &[usize], more: usize) -> usize
     requires k { 8 ≤ k }
     requires flat { IsFlat items.now bounds.now }
@@ -278,8 +279,8 @@ fn find_level_to_compact<T>(k: u16, items: &[T], bounds: &[usize], more: usize) 
     unreachable!()
 }
 
-/// Returns whether a level with `count` items is at or over its capacity. The capacity of a level
-/// with few items, or far below the top, isn't computed.
+/// Returns whether a level with `count` items is at or over its capacity. The capacity isn't
+/// computed for a level with fewer than 8 items, or far below the top.
 fn is_at_capacity(k: u16, num_levels: usize, level: usize, count: usize) -> bool
     requires k { 8 ≤ k }
     requires few_levels { num_levels ≤ 61 }

@@ -21,8 +21,8 @@ pub fn count_all<T: Ord>(items: &[T], query: &T, criteria: SearchCriteria) -> us
     }
 }
 
-/// Counts the items, in any order, that the query counts, by looking at each. It is inlined so that
-/// it knows the criterion.
+/// Returns the number of items, in any order, that the query counts, by looking at each. It is
+/// inlined so that the compiler knows the criterion.
 #[inline(always)]
 fn count_each<T: Ord>(items: &[T], query: &T, criteria: SearchCriteria) -> usize
     ensures { result ≡ count_by (counted T.cmp query.now criteria) items.now }
@@ -36,7 +36,7 @@ fn count_each<T: Ord>(items: &[T], query: &T, criteria: SearchCriteria) -> usize
     count
 }
 
-/// Returns the number of sorted items that a query counts: those before a place.
+/// Returns the number of sorted items that a query counts, which are the first ones.
 pub fn count_in_order<T: Ord>(items: &[T], query: &T, criteria: SearchCriteria) -> usize
     requires sorted { IsSorted T.cmp items.now }
     ensures within { result ≤ length items.now }
@@ -49,9 +49,9 @@ pub fn count_in_order<T: Ord>(items: &[T], query: &T, criteria: SearchCriteria) 
     }
 }
 
-/// Counts the items of a sorted slice that the query counts, by a binary search whose steps are
+/// Returns the number of sorted items that the query counts, by a binary search whose steps are
 /// powers of two. No branch depends on a comparison, since a processor would mispredict it half of
-/// the time. It is inlined so that it knows the criterion.
+/// the time. It is inlined so that the compiler knows the criterion.
 #[inline(always)]
 fn count_by_halves<T: Ord>(items: &[T], query: &T, criteria: SearchCriteria) -> usize
     requires sorted { IsSorted T.cmp items.now }
@@ -69,9 +69,9 @@ fn count_by_halves<T: Ord>(items: &[T], query: &T, criteria: SearchCriteria) -> 
     count_by_last_steps(items, count, shift, query, criteria)
 }
 
-/// Does the last steps of a binary search, from a count that the query's count exceeds by less than
-/// 2 ^ `steps`. The compiler unrolls this loop, and then a step, whose size it knows, takes less
-/// than half of the time.
+/// Returns the query's count, by the last steps of a binary search. The count is at least `known`
+/// and less than `known + 2 ^ steps`. The compiler unrolls this loop; a step whose size it knows
+/// takes less than half of the time.
 #[inline(always)]
 fn count_by_last_steps<T: Ord>(
     items: &[T],
@@ -98,8 +98,9 @@ fn count_by_last_steps<T: Ord>(
     count
 }
 
-/// Does one step of a binary search: from a count that the query's count exceeds by less than
-/// 2 * 2 ^ `shift` to one that it exceeds by less than half of that.
+/// Does one step of a binary search. The query's count is at least `known` and less than
+/// `known + 2 * 2 ^ shift`; it is also at least the result, and less than the result plus
+/// `2 ^ shift`.
 fn halve<T: Ord>(
     items: &[T],
     known: usize,
@@ -121,8 +122,8 @@ fn halve<T: Ord>(
     known + power_if(is_counted, shift)
 }
 
-/// Returns 2 ^ `shift`, or 0 if `is_power` is false, by a shift, which the compiler leaves without
-/// a branch.
+/// Returns `2 ^ shift`, or 0 if `is_power` is false. It does so by a shift, which the compiler
+/// leaves without a branch.
 fn power_if(is_power: bool, shift: u32) -> usize
     requires { shift < 64 }
     ensures { result ≡ (if is_power then 2 ^ shift else 0) }
@@ -130,8 +131,8 @@ fn power_if(is_power: bool, shift: u32) -> usize
     (is_power as usize) << shift
 }
 
-/// Returns a count that the query's count exceeds by less than `step`, which is more than half of
-/// the items.
+/// Returns a number that is at most the query's count and less than `step` below it. `step` is more
+/// than half of the number of items.
 fn first_count<T: Ord>(items: &[T], step: usize, query: &T, criteria: SearchCriteria) -> usize
     requires sorted { IsSorted T.cmp items.now }
     requires some { 0 < step }
@@ -192,8 +193,8 @@ fn count_in_part<T: Ord>(items: &[T], query: &T, criteria: SearchCriteria) -> us
     count_all(items, query, criteria)
 }
 
-/// Counts the items of a sorted slice that the query counts, given that it counts at least `known`.
-/// Cheaper the closer the result is to `known`.
+/// Returns the number of sorted items that the query counts, given that it counts at least `known`.
+/// The closer the result is to `known`, the less time it takes.
 pub fn count_from<T: Ord>(items: &[T], known: usize, query: &T, criteria: SearchCriteria) -> usize
     requires sorted { IsSorted T.cmp items.now }
     requires known { known ≤ count_by (counted T.cmp query.now criteria) items.now }

@@ -9,7 +9,7 @@ ghost use Rattle.sketch_base.specs.Queries.{SameAnswer};
 
 use std::alloc::AllocError;
 
-/// Clones the found item, if there is one.
+/// Returns a clone of the found item, if there is one.
 pub fn clone_found<T: Clone + Ord>(found: Option<&T>) -> Result<Option<T>, AllocError>
     requires clones { (x y : T) → T.is_clone x y → T.cmp x y ≡ Equal }
     ensures same { IfOk result (SameAnswer T.cmp (option_copied found.entry)) }
@@ -64,7 +64,7 @@ pub fn are_between<T: Ord>(items: &[T], least: &T, greatest: &T) -> bool
     true
 }
 
-/// Does what `are_between` does for items that are sorted if `is_sorted` is true.
+/// Does what `are_between` does. If `is_sorted` is true, the items must be sorted.
 pub fn are_between_if<T: Ord>(items: &[T], is_sorted: bool, least: &T, greatest: &T) -> bool
     requires sorted { IsTrue is_sorted → IsSorted T.cmp items.now }
     ensures yes { IsTrue result
@@ -78,7 +78,7 @@ pub fn are_between_if<T: Ord>(items: &[T], is_sorted: bool, least: &T, greatest:
     are_between(items, least, greatest)
 }
 
-/// Does what `are_between` does for sorted items, by testing the first and the last.
+/// Does what `are_between` does, for sorted items: it tests the first and the last.
 fn are_ends_between<T: Ord>(items: &[T], least: &T, greatest: &T) -> bool
     requires { IsSorted T.cmp items.now }
     ensures yes { IsTrue result
@@ -93,7 +93,7 @@ fn are_ends_between<T: Ord>(items: &[T], least: &T, greatest: &T) -> bool
     !least.cmp(&items[0]).is_gt() && !items[count - 1].cmp(greatest).is_gt()
 }
 
-/// Clones the item if it is below the least item so far.
+/// Returns a clone of the item if it is below the least item so far, or if there is none so far.
 pub fn clone_if_least<T: Clone + Ord>(item: &T, least: &Option<T>) -> Result<Option<T>, AllocError>
     requires clones { (x y : T) → T.is_clone x y → T.cmp x y ≡ Equal }
     ensures least { IfOk result (λ new.
@@ -106,7 +106,7 @@ pub fn clone_if_least<T: Clone + Ord>(item: &T, least: &Option<T>) -> Result<Opt
     clone_found(is_least.then_some(item))
 }
 
-/// Clones the item if it is above the greatest item so far.
+/// Returns a clone of the item if it is above the greatest item so far, or if there is none so far.
 pub fn clone_if_greatest<T: Clone + Ord>(
     item: &T,
     greatest: &Option<T>,
@@ -122,7 +122,7 @@ pub fn clone_if_greatest<T: Clone + Ord>(
     clone_found(is_greatest.then_some(item))
 }
 
-/// Clones the item once for each new extreme that it is.
+/// Returns a clone of the item if it is a new least item, and another if it is a new greatest one.
 pub fn clone_new_extremes<T: Clone + Ord>(
     item: &T,
     least: &Option<T>,
@@ -139,7 +139,7 @@ pub fn clone_new_extremes<T: Clone + Ord>(
     Ok((new_least, new_greatest))
 }
 
-/// Returns whether no item lies beyond an extreme so far.
+/// Returns whether there are extremes so far and no item lies beyond them.
 fn are_within<T: Ord>(items: &[T], least: &Option<T>, greatest: &Option<T>) -> bool
     ensures least { IsTrue result → AllByRecursion (IsFrom T.cmp least.now) items.now }
     ensures greatest { IsTrue result → AllByRecursion (IsUpTo T.cmp greatest.now) items.now }
@@ -150,7 +150,8 @@ fn are_within<T: Ord>(items: &[T], least: &Option<T>, greatest: &Option<T>) -> b
     }
 }
 
-/// Clones the least and the greatest of some items, each only if it lies beyond the extreme so far.
+/// Returns clones of the least and of the greatest of some items, each only if it lies beyond the
+/// extreme so far, or if there is none so far.
 pub fn clone_passing_extremes<T: Clone + Ord>(
     items: &[T],
     least: &Option<T>,
@@ -171,7 +172,8 @@ pub fn clone_passing_extremes<T: Clone + Ord>(
     Ok((new_least, new_greatest))
 }
 
-/// Clones another stream's least item if it is below the least item so far.
+/// Returns a clone of another stream's least item, if there is one, and if it is below the least
+/// item so far or there is none so far.
 pub fn clone_if_lesser<T: Clone + Ord>(
     other: &Option<T>,
     least: &Option<T>,
@@ -186,7 +188,8 @@ pub fn clone_if_lesser<T: Clone + Ord>(
     }
 }
 
-/// Clones another stream's greatest item if it is above the greatest item so far.
+/// Returns a clone of another stream's greatest item, if there is one, and if it is above the
+/// greatest item so far or there is none so far.
 pub fn clone_if_greater<T: Clone + Ord>(
     other: &Option<T>,
     greatest: &Option<T>,

@@ -16,9 +16,9 @@ pub trait Ranked<T: Ord> {
         ensures { result ≡ weighted_rank T.cmp (counted T.cmp item.now criteria) (bag self.now) };
 }
 
-/// Looks in `run` for the item at `place` among all sorted entries of a sketch. It is found if
-/// `run` is one of the sketch's sorted runs and holds it; the contract lets it return None even
-/// then.
+/// Returns the item at `place`, counted from 0, among all sorted entries of a sketch, if it is
+/// found in `run`. It is found if `run` is one of the sketch's sorted runs and holds it, but the
+/// contract allows None even then.
 pub fn find_in<'a, T: Ord, S: Ranked<T>>(sketch: &S, run: &'a [T], place: u64) -> Option<&'a T>
     ensures { IfSome result (λ x. SameAnswer T.cmp
         (slice_get (expanded T.cmp (S.bag sketch.now)) place) (Some x.now)) }

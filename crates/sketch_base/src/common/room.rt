@@ -4,8 +4,8 @@ ghost use Rattle.std.specs.Prelude.{◌≡◌, ◌+◌, ◌/◌, ◌<◌, ◌≤
 use std::alloc::AllocError;
 use std::mem;
 
-/// Makes room for one more item. A full vector grows by a quarter, or up to `most` items if that is
-/// less: a sketch is long-lived and soon stops growing.
+/// Makes room for one more item. A full vector grows by a quarter and 4 items, or up to `most`
+/// items if that is less, but by at least one item. A sketch is long-lived and soon stops growing.
 #[inline(always)]
 pub fn reserve_next<T: Drop>(items: &mut Vec<T>, most: usize) -> Result<(), AllocError>
     ensures items { items.new.items ≡ items.old.items }
@@ -23,8 +23,8 @@ pub fn reserve_next<T: Drop>(items: &mut Vec<T>, most: usize) -> Result<(), Allo
     grow(items, most)
 }
 
-/// Makes room for a quarter more items, or up to `most` items if that is less, and for at least
-/// one. It is rarely called and not inlined, so that an update that finds room stays short.
+/// Makes room for a quarter and 4 more items, or up to `most` items if that is less, but for at
+/// least one. It is rarely called and not inlined, so that an update that finds room stays short.
 #[cold]
 #[inline(never)]
 fn grow<T: Drop>(items: &mut Vec<T>, most: usize) -> Result<(), AllocError>
@@ -56,8 +56,9 @@ pub fn reserve_more<T>(items: &mut Vec<T>, more: usize) -> Result<(), AllocError
     items.reserve_exact(more.max(len / 4))
 }
 
-/// Swaps two vectors if the first has room for over a quarter more items, but leaves its items in
-/// it. The other one is emptied, and gets room for the items if it has too little.
+/// Moves the items to the other vector and swaps the two, if the first has room for over a quarter
+/// more items. The other one is emptied first, and grows if it lacks room for the items. If memory
+/// runs out, the items stay where they are.
 pub fn move_if_loose<T: Drop>(items: &mut Vec<T>, other: &mut Vec<T>)
     ensures items { items.new.items ≡ items.old.items }
     ensures other { other.new.items ≡ [] }
@@ -70,7 +71,7 @@ pub fn move_if_loose<T: Drop>(items: &mut Vec<T>, other: &mut Vec<T>)
     }
 }
 
-/// Frees room beyond an eighth more items.
+/// Frees the room beyond that for an eighth more items.
 pub fn give_back<T>(items: &mut Vec<T>)
     ensures items { items.new.items ≡ items.old.items }
     ensures capacity { vec_capacity items.new ≤ vec_capacity items.old }

@@ -8,8 +8,7 @@ use crate::error::Error;
 
 /// A whole number that is written as the bytes of its type.
 pub trait WholeNumber: Sized {
-    /// The bytes of a value. Every actual value has bytes; a number that its type can't hold has
-    /// none.
+    /// The bytes of a value. A number that its type can't hold has none.
     ghost spelling: { Self → Option (List ℕ) };
 
     /// Returns the number of bytes of the spelling.

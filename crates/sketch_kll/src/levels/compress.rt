@@ -39,7 +39,8 @@ impl<T: Ord + Drop> Levels<T> {
     }
 
     /// General compress: compacts, from level 0 up, each level that is at or over its capacity,
-    /// until the levels are below their total capacity. The walk continues into a level that is added.
+    /// until the levels are below their total capacity. The walk continues into a level that is
+    /// added.
     pub(crate) fn compress<B: RandomBits>(&mut self, coins: &mut B)
         requires light { weight self.old.levels < 2 ^ 64 }
         requires flag { IsTrue self.old.is_sorted → IsSorted T.cmp (first_level self.old.levels) }

@@ -18,8 +18,8 @@ use sketch_base::common::random::RandomBits;
 use std::alloc::AllocError;
 
 impl<T: Ord + Drop> Levels<T> {
-    /// Takes items one after another, as updates do, and frees the memory that only this needed. It
-    /// needs no more memory.
+    /// Takes items one after another, as updates do, and frees the memory that only this needed.
+    /// The memory that it needs must be there already.
     pub(crate) fn take_all<B: RandomBits>(&mut self, items: Vec<T>, coins: &mut B)
         requires kept { AreKept T.cmp self.old.k self.old.is_sorted self.old.levels }
         requires light { weight self.old.levels + length items.items < 2 ^ 64 }
@@ -34,8 +34,8 @@ impl<T: Ord + Drop> Levels<T> {
         self.give_back();
     }
 
-    /// Takes items one after another. Those that there is room for count as taken, and are put into
-    /// level 0 once it is compacted, or at the end.
+    /// Takes items one after another, as updates do. Items that there is room for are only counted
+    /// at first; they are put into level 0 when it is compacted, or at the end.
     pub(super) fn take_items<B: RandomBits>(&mut self, mut items: Vec<T>, coins: &mut B)
         requires kept { AreKept T.cmp self.old.k self.old.is_sorted self.old.levels }
         requires light { weight self.old.levels + length items.items < 2 ^ 64 }
@@ -61,8 +61,8 @@ impl<T: Ord + Drop> Levels<T> {
         }
     }
 
-    /// Compacts one level if the levels are full, where the last `taken` items count as put into
-    /// level 0. Those of them that the compaction takes are put there first.
+    /// Compacts one level if the levels are full, counting the last `taken` items as if they were
+    /// in level 0. Those of them that the compaction takes are put there first.
     fn make_space<B: RandomBits>(&mut self, items: &mut Vec<T>, taken: usize, coins: &mut B)
         requires some { 0 < length self.old.levels }
         requires within { taken ≤ length items.old.items }
@@ -118,8 +118,8 @@ impl<T: Ord + Drop> Levels<T> {
 }
 
 impl<T: Clone + Ord> Levels<T> {
-    /// Makes all that taking items needs memory for: clones of them, room for those that are kept,
-    /// and a clone for each extreme that they go beyond.
+    /// Returns clones of the items, and a clone for each extreme that they go beyond, and makes
+    /// room for the items that will be kept. Taking the items then needs no more memory.
     pub(crate) fn prepare_all(
         &mut self,
         items: &[T],
@@ -144,7 +144,7 @@ impl<T: Clone + Ord> Levels<T> {
         Ok((clones, least, greatest))
     }
 
-    /// Clones items, and makes room for those that are kept.
+    /// Returns clones of the items, and makes room for those that will be kept.
     fn clone_with_room(&mut self, items: &[T]) -> Result<Vec<T>, AllocError>
         requires clones { (x y : T) → T.is_clone x y → T.cmp x y ≡ Equal }
         ensures kept { KeepsLevels self.old self.new }
