@@ -24,7 +24,6 @@ use Rattle.std.specs.declared.vec.Vec.{Vec}
 use Rattle.quantile_sketches.specs.ReqBehaviour.{req, IsEmptyOf, IsCopied, IsUnfit}
 use Rattle.quantile_sketches.specs.ReqRules.{may_be_k, is_same}
 use Rattle.quantile_sketches.specs.SameRun.{CommandsMakeOne}
-use Rattle.quantile_sketches.proofs.ReqCopies.{copied-levels}
 use Rattle.quantile_sketches.proofs.CallErrors.{err-of, kind-of, settled-by, unread, unwritten-kind, so-same, so-most, so-either, below}
 use Rattle.quantile_sketches.proofs.ReqObeys.{may-be, same-itself}
 use Rattle.quantile_sketches.proofs.ReqRuleLaws.{legal_k, same_accuracy}
@@ -58,9 +57,7 @@ module _ {A : Type 0} {cmp : A → A → Ordering} (order : IsTotalOrder cmp) (t
 
     -- a copy is the sketch itself
     copied-itself : (s p : Req A) → IsCopied cmp spelling s (Ok p) → s ≡ p
-    copied-itself s p h =
-        let c = h.0.0 in
-        same-sketch s p (record { k = c.k; accuracy = c.accuracy; n = c.n; levels = copied-levels order s.levels p.levels c.levels; least = c.least; greatest = c.greatest })
+    copied-itself s p h = same-sketch s p h.0.0
 
     -- a k is legal or not, and accuracies are the same or not
     so-legal : (k : ℕ) → IsLegalK k ⊎ (IsLegalK k → ⊥)
