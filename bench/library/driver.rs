@@ -1,6 +1,6 @@
 //! Times the calls of the libraries in one process: ours through the static library of calls.rt.txt, and the original.
 //! Each line is a row of docs/SPEED.md: nanoseconds of the processor a call, the best of nine rounds in turn. With the
-//! word `growth` so many updates of ours alone, by a generator, and their peak of memory. With `peers NAME FILE` the updates
+//! word `growth` 10^3 to 10^9 updates of ours alone, by a generator, and their peak of memory. With `peers NAME FILE` the updates
 //! by a file of i64, and the merges of its 168 parts, as records of bench/peers/tables under this name.
 use std::hint::black_box;
 
@@ -99,7 +99,7 @@ fn filled<S: Original>(items: &[i64], k: u16) -> S {
     sketch
 }
 
-/// Nanoseconds of a call of each, the best of so many rounds in turn. Ours come with those of filling a sketch first, and the best
+/// Nanoseconds of a call of each, the best of `rounds` rounds in turn. Ours come with those of filling a sketch first, and the best
 /// of these is taken off the best of all: a round's own filling may have been slower than its work.
 fn in_turn(rounds: usize, calls: usize, mut original: impl FnMut() -> f64, mut ours: impl FnMut() -> [f64; 2]) -> [f64; 2] {
     let (mut a, mut all, mut filling) = (f64::INFINITY, f64::INFINITY, f64::INFINITY);
@@ -136,7 +136,7 @@ fn merges<S: Original>(made: &S, k: u16, times: u64) -> f64 {
     nanoseconds(|| (0..times).for_each(|_| sketch.join(made)))
 }
 
-/// The rows of a family at a k: updates, and calls on a sketch of so many items, each so many times. Returns the ratios.
+/// The rows of a family at a k: updates, and calls on a sketch of `count` items, each `times` times. Returns the ratios.
 fn rows<S: Original>(name: &str, work: Work, k: u16, count: usize, times: u64) -> Vec<f64> {
     let random = random_items(1_000_000);
     let rising: Vec<i64> = (0..1_000_000).collect();
@@ -163,7 +163,7 @@ fn rows<S: Original>(name: &str, work: Work, k: u16, count: usize, times: u64) -
     ratios
 }
 
-/// Merges of the sketch of a part are timed so many times over, in so many rounds.
+/// The parts of a stream whose sketches are merged. The merges are timed `TURNS` times over, in `FEW_ROUNDS` rounds.
 const PARTS: usize = 168;
 const TURNS: u64 = 20;
 const FEW_ROUNDS: usize = 5;
