@@ -9,9 +9,3 @@ first-taken (x ∷ bytes) seen e some = sym e ∙ ap (λ rest. x ∷ rest) (sym 
 
 pub none-to_take : (bytes seen : List ℕ) → bytes ≡ seen → length bytes < 1 → seen ≡ []
 none-to_take bytes seen e few = sym e ∙ nil_from_length bytes (omega (arith, few))
-
--- eight bytes that are taken one by one, two of them at once
-pub eight-taken : {s0 s1 s2 s3 s4 s5 s6 s7 : List ℕ} {a b c d e f g h : ℕ} → s0 ≡ a ∷ s1 → s1 ≡ b ∷ s2 → s2 ≡ c ∷ s3 → s3 ≡ d ∷ s4 → s4 ≡ e ∷ f ∷ s5 → s5 ≡ g ∷ s6 →
-    s6 ≡ h ∷ s7 → s0 ≡ a ∷ b ∷ c ∷ d ∷ e ∷ f ∷ g ∷ h ∷ s7
-eight-taken {a} {b} {c} {d} {e} {f} {g} e0 e1 e2 e3 e4 e5 e6 =
-    e0 ∙ ap (λ xs. a ∷ xs) (e1 ∙ ap (λ xs. b ∷ xs) (e2 ∙ ap (λ xs. c ∷ xs) (e3 ∙ ap (λ xs. d ∷ xs) (e4 ∙ ap (λ xs. e ∷ f ∷ xs) (e5 ∙ ap (λ xs. g ∷ xs) e6)))))
