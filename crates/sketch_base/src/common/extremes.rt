@@ -64,7 +64,8 @@ pub fn are_between<T: Ord>(items: &[T], least: &T, greatest: &T) -> bool
     true
 }
 
-/// Does what `are_between` does. If `is_sorted` is true, the items must be sorted.
+/// Does what `are_between` does. If `is_sorted` is true, the items must be sorted, and only the
+/// first and the last are tested.
 pub fn are_between_if<T: Ord>(items: &[T], is_sorted: bool, least: &T, greatest: &T) -> bool
     requires sorted { IsTrue is_sorted → IsSorted T.cmp items.now }
     ensures yes { IsTrue result
@@ -72,25 +73,11 @@ pub fn are_between_if<T: Ord>(items: &[T], is_sorted: bool, least: &T, greatest:
     ensures no { AllByRecursion (IsBetween T.cmp least.now greatest.now) items.now
         → IsTrue result }
 {
-    if is_sorted {
-        return are_ends_between(items, least, greatest);
+    let count = items.len();
+    if is_sorted && count > 0 {
+        return !least.cmp(&items[0]).is_gt() && !items[count - 1].cmp(greatest).is_gt();
     }
     are_between(items, least, greatest)
-}
-
-/// Does what `are_between` does, for sorted items: it tests the first and the last.
-fn are_ends_between<T: Ord>(items: &[T], least: &T, greatest: &T) -> bool
-    requires { IsSorted T.cmp items.now }
-    ensures yes { IsTrue result
-        → AllByRecursion (IsBetween T.cmp least.now greatest.now) items.now }
-    ensures no { AllByRecursion (IsBetween T.cmp least.now greatest.now) items.now
-        → IsTrue result }
-{
-    let count = items.len();
-    if count == 0 {
-        return true;
-    }
-    !least.cmp(&items[0]).is_gt() && !items[count - 1].cmp(greatest).is_gt()
 }
 
 /// Returns a clone of the item if it is below the least item so far, or if there is none so far.
