@@ -238,7 +238,7 @@ impl<T: Clone + Ord> SortedView<T> {
             ranks.push_reserved(Rank { weight, total });
         }
         let weight = total;
-        ranks.push(Rank { weight, total })?;
+        ranks.push_reserved(Rank { weight, total });
         Ok(Some(ranks))
     }
 

@@ -1,4 +1,4 @@
-use Rattle.std.proofs.Common.{◌≡◌, ◌+◌, ◌-◌, ◌≤◌, ℕ, List, [], ◌∷◌, ◌++◌, length, vec_capacity, vec_len, ap, refl, sym, subst, ◌∙◌, arith, zero-le}
+use Rattle.std.proofs.Common.{◌≡◌, ◌+◌, ◌-◌, ◌^◌, ◌<◌, ◌≤◌, ℕ, min, List, [], ◌∷◌, ◌++◌, length, ap, refl, sym, subst, ◌∙◌, arith, zero-le}
 use Rattle.std.proofs.lemmas.Bool.{false≢true}
 use Rattle.std.proofs.lemmas.Result.{IfOk-from_err}
 use Rattle.sketch_base.specs.declared.common.Rank.{Rank}
@@ -10,15 +10,19 @@ use Rattle.sketch_base.proofs.ViewAnswers.{at-entries, entries-there, no-entries
 use Rattle.sketch_base.proofs.SeenViews.{seen-cumulated, seen-sorted}
 use Rattle.sketch_base.proofs.WeightedItems.{room-after_next}
 use Rattle.sketch_base.proofs.sorted_view.SortedView.cdf.Given.{Over}
-use Rattle.sketch_base.proofs.sorted_view.SortedView.cdf.Goals.{In_ok-push, In_ok-ranks}
+use Rattle.sketch_base.proofs.sorted_view.SortedView.cdf.Goals.{After-push_reserved-2}
 use Rattle.sketch_base.proofs.sorted_view.SortedView.cdf.Goals as goal
 use Rattle.sketch_base.proofs.sorted_view.SortedView.cdf.Goals.at as past
 
 pub entries_of-total-requires : goal.entries_of-total-requires
 entries_of-total-requires g c = record { cumulated = seen-cumulated _ _ _ _ c.as_slice-items.ensures.value c.as_slice-cumulated.ensures.value c.self.invariant.cumulates }
 
-room : (g : Over) (c : In_ok-ranks g) → vec_len c.in_ok-ranks.ranks + (length c.args.points.now - 0) ≤ vec_capacity c.in_ok-ranks.ranks
-room g c = grind arith
+-- room for a rank of each point and the whole
+room-first : (v c s l : ℕ) → v ≡ 0 → c ≡ s → s ≡ min (l + 1) (2 ^ 64 - 1) → c < 2 ^ 63 → v + (l + 1 - 0) ≤ c
+room-first v c s l e f h small = omega (arith, e, f, h, small)
+
+one-further : (i n : ℕ) → i < n → i < n + 1
+one-further i n l = omega arith
 
 pub loop-point-init : goal.loop-point-init
 loop-point-init g c =
@@ -27,7 +31,7 @@ loop-point-init g c =
       known = λ d l. zero-le;
       cumulates = seen-cumulated _ _ _ _ c.as_slice-items.ensures.value c.as_slice-cumulated.ensures.value c.self.invariant.cumulates;
       sorted = seen-sorted g.T.Ord.cmp _ _ c.as_slice-items.ensures.value c.self.invariant.sorted;
-      room = room g (past.loop-point-init g c).In_ok-ranks;
+      room = room-first _ _ _ _ c.in_ok-ranks.ensures.len c.in_ok-ranks.ensures.exact c.saturating_add.ensures c.in_ok-ranks.ranks.small;
     }
 
 pub loop-point-preserved : goal.loop-point-preserved
@@ -45,7 +49,7 @@ loop-point-preserved g c =
           c.point-item.is count.ensures.count;
       cumulates = c.loop-point.invariant.cumulates;
       sorted = c.loop-point.invariant.sorted;
-      room = room-after_next _ _ _ _ _ _ c.loop-point-test.true c.push_reserved.ensures.len c.push_reserved.ensures.capacity c.loop-point.invariant.room;
+      room = room-after_next _ _ _ _ _ _ (one-further _ _ c.loop-point-test.true) c.push_reserved.ensures.len c.push_reserved.ensures.capacity c.loop-point.invariant.room;
     }
 
 pub count_from-count-requires-clause-known : goal.count_from-count-requires-clause-known
@@ -53,30 +57,30 @@ count_from-count-requires-clause-known g c =
     subst (λ z. c.loop-point.count ≤ true_rank g.T.Ord.cmp z c.args.criteria c.as_slice-items.result.now) (sym c.point-item.is) (c.loop-point.invariant.known c.point-item.result c.loop-point-test.true)
 
 pub offset_bounds-points-point-index : goal.offset_bounds-points-point-index
-offset_bounds-points-point-index g c = grind arith
+offset_bounds-points-point-index g c = c.loop-point.auto.point-index-end
 
 pub count_from-count-requires-clause-sorted : goal.count_from-count-requires-clause-sorted
 count_from-count-requires-clause-sorted g c = c.loop-point.invariant.sorted
 
 -- what the vector holds in the end
-ranks : (g : Over) (c : In_ok-push g) → let entries = spread_out c.as_slice-items.result.now c.as_slice-cumulated.result.now in
-    c.push.new.self.items ≡ ranks_of (length entries) (cdf_of g.T.Ord.cmp c.args.criteria entries c.args.points.now)
+ranks : (g : Over) (c : After-push_reserved-2 g) → let entries = spread_out c.as_slice-items.result.now c.as_slice-cumulated.result.now in
+    c.push_reserved-2.new.self.items ≡ ranks_of (length entries) (cdf_of g.T.Ord.cmp c.args.criteria entries c.args.points.now)
 ranks g c =
     let entries = spread_out c.as_slice-items.result.now c.as_slice-cumulated.result.now in
     ranks-last (λ (y : g.row.T.Denot). true_rank g.T.Ord.cmp y c.args.criteria entries) (length entries) c.args.points.now c.loop-point.point-index
     c.loop-point.ranks.items
-    c.push.new.self.items c.loop-point-test.false c.loop-point.invariant.ranks
-    (c.in_ok-push.ensures.items ∙ ap (λ (n : ℕ). let rank : Rank = record { weight = n; total = n } in c.loop-point.ranks.items ++ rank ∷ []) c.entries_of-total.ensures.value)
+    c.push_reserved-2.new.self.items c.loop-point-test.false c.loop-point.invariant.ranks
+    (c.push_reserved-2.ensures.items ∙ ap (λ (n : ℕ). let rank : Rank = record { weight = n; total = n } in c.loop-point.ranks.items ++ rank ∷ []) c.entries_of-total.ensures.value)
 
 pub returns : goal.returns
 returns g c =
     let some = entries-there _ _ _ _ _ (sym c.self.view_is) c.is_empty.result _ c.is_empty.ensures c.self.inside.items.ok.0 c.if-is_empty.false
     c.self.invariant.no_more_items in
-    let is = ranks g (past.returns g c).In_ok-push in
+    let is = ranks g (past.returns g c).After-push_reserved-2 in
     record {
-      found = at-entries (λ (es : List g.row.T.Denot). c.push.new.self.items ≡ ranks_of (length es) (cdf_of g.T.Ord.cmp c.args.criteria es c.args.points.now)) _ _ _
+      found = at-entries (λ (es : List g.row.T.Denot). c.push_reserved-2.new.self.items ≡ ranks_of (length es) (cdf_of g.T.Ord.cmp c.args.criteria es c.args.points.now)) _ _ _
           _ _ _ _ (sym c.self.view_is) c.as_slice-items.ensures.value c.as_slice-cumulated.ensures.value is;
-      rises = ranks-rise g.met.T.Ord.total c.args.criteria (spread_out c.as_slice-items.result.now c.as_slice-cumulated.result.now) c.args.points.now _ c.push.new.self.items
+      rises = ranks-rise g.met.T.Ord.total c.args.criteria (spread_out c.as_slice-items.result.now c.as_slice-cumulated.result.now) c.args.points.now _ c.push_reserved-2.new.self.items
           c.in_ok-check_points.ensures.good is;
       there = (λ t. some, λ t. refl);
       refused = refused-nothing (IsIncreasing g.T.Ord.cmp c.args.points.now) (length c.args.self.now.entries) _ c.in_ok-check_points.ensures.good;
@@ -113,19 +117,5 @@ returns-in_err-ranks g c =
       rises = IfOk-from_err r _ err;
       there = IfOk-from_err r _ err;
       refused = refused-memory (IsIncreasing g.T.Ord.cmp c.args.points.now) (length c.args.self.now.entries) r c.from_residual-in_err-ranks.ensures.1
-          c.in_ok-check_points.ensures.good some;
-    }
-
-pub returns-in_err-push : goal.returns-in_err-push
-returns-in_err-push g c =
-    let r = c.from_residual-in_err-push.result in
-    let err = c.from_residual-in_err-push.ensures.0 in
-    let some = entries-there _ _ _ _ _ (sym c.self.view_is) c.is_empty.result _ c.is_empty.ensures c.self.inside.items.ok.0 c.if-is_empty.false
-    c.self.invariant.no_more_items in
-    record {
-      found = IfOk-from_err r _ err;
-      rises = IfOk-from_err r _ err;
-      there = IfOk-from_err r _ err;
-      refused = refused-memory (IsIncreasing g.T.Ord.cmp c.args.points.now) (length c.args.self.now.entries) r c.from_residual-in_err-push.ensures.1
           c.in_ok-check_points.ensures.good some;
     }
