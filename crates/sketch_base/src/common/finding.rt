@@ -24,7 +24,9 @@ pub fn find_in<'a, T: Ord, S: Ranked<T>>(sketch: &S, run: &'a [T], place: u64) -
         (slice_get (expanded T.cmp (S.bag sketch.now)) place) (Some x.now)) }
 {
     let first = run.partition_point(|item| sketch.rank_weight(item, Inclusive) <= place);
-    let item = run.get(first)?;
+    let Some(item) = run.get(first) else {
+        return None;
+    };
     if sketch.rank_weight(item, Exclusive) <= place && place < sketch.rank_weight(item, Inclusive) {
         return Some(item);
     }
