@@ -1,6 +1,6 @@
 -- What the calls on a view answer: what they refuse, and whether they find anything.
 use Rattle.std.proofs.Common.{◌≡◌, ℕ, ◌<◌, ◌≤◌, Bool, true, false, nat_eq, List, length, sym, ap, ◌∙◌, subst, arith, Result, Ok, Err, Bor, Ordering, Equal}
-use Rattle.std.specs.Prelude.{Option, Some, IsErrAnd, is_err, option_copied}
+use Rattle.std.specs.Prelude.{Option, Some, IfOk, IsOk, IsErrAnd, MatchResult, is_err, option_copied}
 use Rattle.std.proofs.lemmas.Bool.{false≢true}
 use Rattle.sketch_base.specs.declared.error.ErrorKind.{ErrorKind}
 use Rattle.sketch_base.specs.declared.error.ErrorKind.TheVariants.{InvalidArgument, OutOfMemory}
@@ -39,6 +39,13 @@ module _ {V : Type 0} (IsFit : Type 0) (n : ℕ) where
 
   pub refused-nothing : (x : V) → IsFit → (let r : Result V ErrorKind = Ok x in IsRefusedUnless IsFit n r)
   refused-nothing x fit = ((λ k. absurd (false≢true (ap is_err k)), λ unfit. absurd (unfit fit)), tt)
+
+  -- the clone of what was found, or an error where memory ran out
+  pub clone-told : {E S : Type 0} (P Q : V → Type 0) (s : Result V E) (r : Result V ErrorKind) → MatchResult s (λ x. r ≡ Ok x) (λ _. IsErrAnd r (λ e. e ≡ OutOfMemory)) →
+      IfOk s P → ((x : V) → P x → Q x) → IsFit → (S → IsOk s) → ((S → false ≡ true) → 0 < n) → IfOk r P × IfOk r Q × IsRefusedUnless IsFit n r
+  clone-told P Q (Ok x) r is p q fit none some = rw is (p, q x p, refused-nothing x fit)
+  clone-told P Q (Err d) (Ok x) is p q fit none some = absurd is
+  clone-told P Q (Err d) (Err e) is p q fit none some = (tt, tt, refused-memory (Err e) is fit (some none))
 
 -- a view of some items has entries, and one of no items has none
 module _ {A : Type 0} (v : View A) (xs : List A) (cumulated : List ℕ) (least greatest : Option A) (is : v ≡ view_of xs cumulated least greatest) (b : Bool)

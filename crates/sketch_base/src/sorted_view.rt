@@ -182,7 +182,7 @@ impl<T: Clone + Ord> SortedView<T> {
         ensures refused { IsRefusedUnless (IsFraction fraction) (length self.now.entries) result }
     {
         queries::check_fraction(fraction)?;
-        Ok(clone_found(self.entry_of(fraction, criteria))?)
+        clone_found(self.entry_of(fraction, criteria)).map_err(Error::from)
     }
 
     /// Returns the entry at the quantile given by each fraction, or None if there are no entries.
