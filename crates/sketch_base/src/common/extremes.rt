@@ -16,7 +16,7 @@ pub fn clone_found<T: Clone + Ord>(found: Option<&T>) -> Result<Option<T>, Alloc
     ensures none { option_copied found.entry ≡ None → IsOk result }
 {
     match found {
-        Some(item) => Ok(Some(item.clone()?)),
+        Some(item) => item.clone().map(Some),
         None => Ok(None),
     }
 }

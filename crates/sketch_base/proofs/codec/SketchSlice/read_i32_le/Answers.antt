@@ -1,18 +1,16 @@
-use Rattle.std.proofs.Common.{arith}
-use Rattle.std.proofs.lemmas.Result.{IfOk-from_err}
-use Rattle.sketch_base.proofs.Exits.{on_error, only_error}
+use Rattle.std.proofs.Common.{ℕ, ◌<◌, ◌^◌, arith}
+use Rattle.std.specs.Int.{w32}
+use Rattle.std.specs.Prelude.{IfOk}
+use Rattle.sketch_base.proofs.TakenBytes.{signed-told}
+use Rattle.sketch_base.proofs.codec.SketchSlice.read_i32_le.Goals.{After-map}
 use Rattle.sketch_base.proofs.codec.SketchSlice.read_i32_le.Goals as goal
 
-pub returns : goal.returns
-returns c = record { ok = grind arith; err = tt; short = tt; kind = tt }
+fits : (c : After-map) → IfOk c.read_u32_le.result (λ (x : ℕ). x < 2 ^ 32)
+fits c = grind arith
 
-pub returns-in_err-read_u32_le : goal.returns-in_err-read_u32_le
-returns-in_err-read_u32_le c =
-    let r = c.from_residual.result in
-    let given = c.in_err-read_u32_le.ensures in
-    record {
-      ok = IfOk-from_err r _ c.from_residual.ensures.0;
-      err = on_error r given.err;
-      short = on_error r given.short;
-      kind = only_error r c.from_residual.ensures.1 given.kind;
-    }
+pub returns : goal.returns
+returns c =
+    let given = c.read_u32_le.ensures in
+    let t = signed-told _ _ _ w32 c.args.self.now c.read_u32_le.new.self c.read_u32_le.result c.map.result c.map.ensures.cases (fits c) given.ok given.err
+    given.short given.kind in
+    record { ok = t.0; err = t.1; short = t.2; kind = t.3 }
