@@ -1,5 +1,5 @@
 -- What holds where a call returns that has failed, or that hasn't.
-use Rattle.std.proofs.Common.{OnOk, IfOk, ◌≡◌, ◌∙◌, false, Result, Ok, Err, IfErr, IsErr, IsErrAnd, is_ok, refl, sym, ap}
+use Rattle.std.proofs.Common.{OnOk, OnErr, IfOk, ◌≡◌, ◌∙◌, false, Result, Ok, Err, IfErr, IsErr, IsErrAnd, is_ok, refl, sym, ap}
 use Rattle.sketch_base.specs.declared.error.ErrorKind.{ErrorKind}
 use Rattle.sketch_base.specs.declared.error.ErrorKind.TheVariants.{InvalidArgument, InvalidData, OutOfMemory}
 
@@ -34,6 +34,15 @@ module _ {T E : Type 0} where
   pub refused_if : {x y : E} {P : Type 0} (r : Result T E) → IsErrAnd r (λ e. e ≡ x) → (x ≡ y → P) → IfErr r (λ e. e ≡ y → P)
   refused_if (Ok x) h f = absurd h
   refused_if (Err e) h f = λ is. f (sym h ∙ is)
+
+  -- what follows from a value that a call returned, or from its failure
+  pub value_gives : {P R Q : T → Type 0} (r : Result T E) → IfOk r P → IfOk r R → ((x : T) → P x → R x → Q x) → IfOk r Q
+  value_gives (Ok x) p q f = f x p q
+  value_gives (Err e) p q f = tt
+
+  pub failure_gives : {P Q : Type 0} (r : Result T E) → OnErr r P → (P → Q) → OnErr r Q
+  failure_gives (Ok x) p f = tt
+  failure_gives (Err e) p f = f p
 
   abbrev error_or : E → Result T E → E
   error_or x (Ok y) = x

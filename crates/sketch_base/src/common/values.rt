@@ -59,7 +59,7 @@ impl WholeNumber for i32 {
     }
 
     fn read_le(input: &mut SketchSlice<'_>) -> Result<Self, Error> {
-        Ok(input.read_i32_le()?)
+        input.read_i32_le()
     }
 }
 
@@ -82,7 +82,7 @@ impl WholeNumber for i64 {
     }
 
     fn read_le(input: &mut SketchSlice<'_>) -> Result<Self, Error> {
-        Ok(input.read_i64_le()?)
+        input.read_i64_le()
     }
 }
 
@@ -105,7 +105,7 @@ impl WholeNumber for u32 {
     }
 
     fn read_le(input: &mut SketchSlice<'_>) -> Result<Self, Error> {
-        Ok(input.read_u32_le()?)
+        input.read_u32_le()
     }
 }
 
@@ -128,6 +128,6 @@ impl WholeNumber for u64 {
     }
 
     fn read_le(input: &mut SketchSlice<'_>) -> Result<Self, Error> {
-        Ok(input.read_u64_le()?)
+        input.read_u64_le()
     }
 }
