@@ -13,4 +13,3 @@ overflow_add-flags g c = grind arith
 
 pub returns-clause-memory : goal.returns-clause-memory
 returns-clause-memory g c = c.write.ensures.memory
-
