@@ -81,3 +81,9 @@ last_left is within room = omega (arith, is, within, room)
 
 pub push_reserved-requires-2 : goal.push_reserved-requires-2
 push_reserved-requires-2 c = last_left c.loop.invariant.as_many c.loop.auto.counter-end c.loop.invariant.room
+
+pub overflow_sub-limit : goal.overflow_sub-limit
+overflow_sub-limit c = grind arith
+
+pub overflow_cast-limit : goal.overflow_cast-limit
+overflow_cast-limit c = grind arith
