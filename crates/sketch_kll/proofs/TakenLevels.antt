@@ -1,5 +1,5 @@
 -- Levels whose lowest one counts items that are not put into it yet.
-use Rattle.std.proofs.Common.{◌≡◌, ℕ, zero, suc, ◌+◌, ◌-◌, ◌%◌, ◌<◌, ◌≤◌, Bool, true, false, not, cond, min, ◌^◌, List, [], ◌∷◌, ◌++◌, length, take, drop, reverse, refl, sym, ap, ap₂, ◌∙◌, subst, arith, IsPermutation, IsSorted, IsTrue, Ordering, append_assoc, append-nil, length-append, length-drop, length-take-le, take_all, take-append-drop, ◌&&◌, ◌==◌, ◌⊎◌, inl, inr}
+use Rattle.std.proofs.Common.{◌≡◌, ℕ, zero, suc, ◌+◌, ◌-◌, ◌%◌, ◌<◌, ◌≤◌, Bool, true, false, not, cond, min, ◌^◌, List, [], ◌∷◌, ◌++◌, length, map, take, drop, reverse, refl, sym, ap, ap₂, ◌∙◌, subst, arith, IsPermutation, IsSorted, IsTrue, Ordering, append_assoc, append-nil, length-append, length-drop, length-take-le, take_all, take-append-drop, ◌&&◌, ◌==◌, ◌⊎◌, inl, inr}
 use Rattle.std.specs.Cmp.{IsTotalOrder}
 use Rattle.std.proofs.Math.Bool.{and-true}
 use Rattle.std.proofs.lemmas.Bool.{and_right, ne_eqb}
@@ -9,13 +9,17 @@ use Rattle.sketch_base.specs.Bag.{half, sort, parity_up, AllButLeftover}
 use Rattle.sketch_base.proofs.Items.{SameItems-refl, SameItems-append}
 use Rattle.sketch_kll.specs.Capacity.{total_of}
 use Rattle.sketch_kll.specs.Levels.{body_of, leftover_of, first_level, retained, weight, compacted, SameLevels, UpperSorted}
-use Rattle.sketch_kll.specs.Steps.{is_full, needs_sorting, compacted_if_full, put_all}
+use Rattle.sketch_kll.specs.Schedule.{lowest_full}
+use Rattle.sketch_kll.specs.Steps.{is_full, full_level, needs_sorting, compacted_if_full, put_all, put_count}
 use Rattle.sketch_kll.specs.Stored.{Stored}
-use Rattle.sketch_kll.specs.Take.{AreLeft, HaveSpace, HaveTaken, IsReadyAt, with_last}
+use Rattle.sketch_kll.specs.Take.{AreKept, AreLeft, HaveSpace, HaveTaken, IsReadyAt, with_last}
+use Rattle.sketch_kll.proofs.CompactedSizes.{alike_size}
+use Rattle.sketch_kll.proofs.CompressWalks.{SameLevels-trans}
 use Rattle.sketch_kll.proofs.Flats.{SameLevels-refl}
+use Rattle.sketch_kll.proofs.FullLevels.{full_from, full_level_with, spare_from, with_room_full, with_room_spare}
 use Rattle.sketch_kll.proofs.OrderedLevels.{parts_of, same_compaction}
 use Rattle.sketch_kll.proofs.PutItems.{length-put, put_all-none, retained-put, UpperSorted-put}
-use Rattle.sketch_kll.proofs.Takes.{TakingFrom, room_below, taking_from_run}
+use Rattle.sketch_kll.proofs.Takes.{TakingFrom, room_below, taking_from, taking_from_run}
 
 -- levels that compare equal still do once the same items are put in
 pub SameLevels-put_all : {A : Type 0} (cmp : A → A → Ordering) → IsTotalOrder cmp → (xs : List A) (ls ms : List (List A)) → SameLevels cmp ls ms →
@@ -91,6 +95,17 @@ untaken_stay {A} xs front taken left h k e =
 upper_unsorted : (flag : Bool) (level : ℕ) → needs_sorting flag (suc level) ≡ false
 upper_unsorted flag level = ap (λ (b : Bool). b && not flag) (ne_eqb (suc level) 0 (omega arith))
 
+-- a compaction leaves some levels
+some_compacted : {A : Type 0} (cmp : A → A → Ordering) (needs coin : Bool) (level : ℕ) (ls : List (List A)) → 0 < length ls → 0 < length (compacted cmp needs coin level ls)
+some_compacted cmp needs coin level [] h = absurd (omega arith)
+some_compacted cmp needs coin zero (l ∷ ls) h = omega arith
+some_compacted cmp needs coin (suc level) (l ∷ ls) h = omega arith
+
+pub some_left : {A : Type 0} (cmp : A → A → Ordering) (needs coin : Bool) (level : ℕ) (ls ms : List (List A)) → 0 < length ls →
+    SameLevels cmp (compacted cmp needs coin level ls) ms → 0 < length ms
+some_left cmp needs coin level ls ms h same =
+    omega (arith, some_compacted cmp needs coin level ls h, (alike_size cmp (compacted cmp needs coin level ls) ms same).counts)
+
 -- a level above level 0 is ready, and so is level 0 if no items wait
 pub ready_as_is : {A : Type 0} (cmp : A → A → Ordering) → IsTotalOrder cmp → (level taken : ℕ) (items : List A) (x : Stored A) → 0 < length x.levels → taken ≤ length items →
     ((0 < level) ⊎ ((level ≤ 0) × (taken ≡ 0))) → IsReadyAt cmp level taken items x items x
@@ -112,11 +127,6 @@ ready_as_is {A} cmp o level taken items x some most (inr e) =
           let after : with_last taken items made ≡ made = rw (e.1, nothing_behind items) (put_all-none made (some_compacted cmp (needs_sorting x.is_sorted level) coin level x.levels some)) in
           rw (flag, all, after) (SameLevels-refl cmp o made);
     }
-  where
-    some_compacted : (cmp : A → A → Ordering) (needs coin : Bool) (level : ℕ) (ls : List (List A)) → 0 < length ls → 0 < length (compacted cmp needs coin level ls)
-    some_compacted cmp needs coin level [] h = absurd (omega arith)
-    some_compacted cmp needs coin zero (l ∷ ls) h = omega arith
-    some_compacted cmp needs coin (suc level) (l ∷ ls) h = omega arith
 
 -- level 0 is ready once an even number of items lies there, and at most one is left
 pub ready_lowest : {A : Type 0} (cmp : A → A → Ordering) → IsTotalOrder cmp → (level taken left : ℕ) (items rest put : List A) (x y : Stored A) → level ≤ 0 → 0 < taken →
@@ -223,7 +233,7 @@ flag_alone cmp flag taken items ls h holds e t =
     subst (λ (ms : List (List _)). IsSorted cmp (first_level ms)) (none_taken items ls h) (rw (e, and-true flag) at holds t)
 
 -- taking starts with none
-pub taking_starts : {A S : Type 0} (cmp : A → A → Ordering) (bit : S → Bool) (next : S → S) (source after : S) (k : ℕ) (flag now : Bool) (ls ms : List (List A)) (all items : List A) →
+taking_starts : {A S : Type 0} (cmp : A → A → Ordering) (bit : S → Bool) (next : S → S) (source after : S) (k : ℕ) (flag now : Bool) (ls ms : List (List A)) (all items : List A) →
     TakingFrom cmp bit next source after k flag now ls all items ms → 0 < length ms →
     TakingFrom cmp bit next source after k flag (now && 0 == 0) ls all (take (length items - 0) items) (with_last 0 items ms)
 taking_starts cmp bit next source after k flag now ls ms all items t h =
@@ -234,3 +244,49 @@ taking_starts cmp bit next source after k flag now ls ms all items t h =
 pub taking_ends : {A S : Type 0} (cmp : A → A → Ordering) (bit : S → Bool) (next : S → S) (source after : S) (k : ℕ) (flag now : Bool) (ls : List (List A)) (all items : List A) (taken : ℕ) (ms : List (List A)) →
     HaveTaken cmp bit next source after k flag (now && taken == 0) ls all (with_last taken items ms) → taken ≡ 0 → 0 < length ms → HaveTaken cmp bit next source after k flag now ls all ms
 taking_ends cmp bit next source after k flag now ls all items taken ms t e h = rw (e, and-true now, none_taken items ms h) at t
+
+-- as many items count as there is room for
+abbrev pub counted : {A : Type 0} → Stored A → List A → ℕ
+counted x items = min (length items) (total_of x.k 8 (length x.levels) - retained x.levels)
+
+-- so taking starts with these
+pub taking_begins : {A S : Type 0} (cmp : A → A → Ordering) → IsTotalOrder cmp → (bit : S → Bool) (next : S → S) (source : S) (x : Stored A) (all items : List A) (more : ℕ) →
+    AreKept cmp x.k x.is_sorted x.levels → weight x.levels + length all < 2 ^ 64 → items ≡ reverse all → more ≡ counted x items →
+    TakingFrom cmp bit next source source x.k x.is_sorted (x.is_sorted && more == 0) x.levels all (take (length items - more) items) (with_last more items x.levels)
+taking_begins cmp o bit next source x all items zero kept light e count =
+    taking_starts cmp bit next source source x.k x.is_sorted x.is_sorted x.levels x.levels all items (taking_from cmp o bit next source x.k x.is_sorted x.levels all items kept e) kept.some
+taking_begins {A} cmp o bit next source x all items (suc n) kept light e count =
+    let start = taking_starts cmp bit next source source x.k x.is_sorted x.is_sorted x.levels x.levels all items (taking_from cmp o bit next source x.k x.is_sorted x.levels all items kept e) kept.some in
+    let before : List (List A) = with_last 0 items x.levels in
+    let spare : false ≡ is_full x.k before = sym (ap (is_full x.k) (none_taken items x.levels kept.some) ∙ spare_from x.k x.levels (omega (arith, count))) in
+    let space : HaveSpace cmp bit next source source 0 items x items x = record {
+      left = 0;
+      are_left = record { within = omega arith; untaken = refl };
+      same = subst (λ (ls : List (List A)). SameLevels cmp ls before) (sym (with_room_spare cmp x.k (x.is_sorted && 0 == 0) (bit source) before spare)) (SameLevels-refl cmp o before);
+      source_is = ap (λ (b : Bool). cond b (next source) source) spare;
+    } in
+    (taking_goes_on cmp o bit next source source source x.k x.is_sorted x.levels all items items 0 (suc n) _ x x start light (omega (arith, count)) refl refl kept.some kept.sorted space refl count).taking
+
+-- there is space once the lowest full level was compacted, in which what the compaction takes was put
+pub space_made : {A S : Type 0} (cmp : A → A → Ordering) → IsTotalOrder cmp → (bit : S → Bool) (next : S → S) (after final : S) (taken level : ℕ) (items rest : List A) (x y z : Stored A) →
+    0 < length x.levels → taken ≤ length items → total_of x.k 8 (length x.levels) ≤ retained x.levels + taken → level ≡ lowest_full x.k (put_count taken (map length x.levels)) →
+    IsReadyAt cmp level taken items x rest y → SameLevels cmp (compacted cmp (needs_sorting y.is_sorted level) (bit after) level y.levels) z.levels → final ≡ next after →
+    HaveSpace cmp bit next after final taken items x rest z
+space_made {A} cmp o bit next after final taken level items rest x y z some within over lowest ready made drawn =
+    let new : List A = reverse (drop (length items - taken) items) in
+    let n : length new ≡ taken = length-last items taken within in
+    let full : true ≡ is_full x.k (put_all new x.levels) = sym (full_from x.k (put_all new x.levels)
+    (omega (arith, over, n, retained-put new x.levels, ap (total_of x.k 8) (length-put new x.levels some)))) in
+    let at : level ≡ full_level x.k (put_all new x.levels) =
+    lowest ∙ (ap (λ (m : ℕ). lowest_full x.k (put_count m (map length x.levels))) (sym n) ∙ full_level_with x.k new x.levels) in
+    let flag : Bool = x.is_sorted && taken == 0 in
+    let last : List A = reverse (drop (length rest - ready.left) rest) in
+    let end = SameLevels-put_all cmp o last (compacted cmp (needs_sorting y.is_sorted level) (bit after) level y.levels) z.levels made in
+    record {
+      left = ready.left;
+      are_left = ready.are_left;
+      same = subst (λ (ls : List (List A)). SameLevels cmp ls (put_all last z.levels))
+          (sym (with_room_full cmp x.k level flag (bit after) (needs_sorting flag level) (put_all new x.levels) full at refl))
+          (SameLevels-trans cmp o _ _ _ (ready.same (bit after)) end);
+      source_is = drawn ∙ ap (λ (b : Bool). cond b (next after) after) full;
+    }

@@ -7,7 +7,7 @@ ghost use Rattle.sketch_base.specs.Extremes.{IsGreatestOf, IsLeastOf, newer_or};
 ghost use Rattle.sketch_kll.specs.Capacity.{total_of};
 ghost use Rattle.sketch_kll.specs.Levels.{retained, weight, first_level, UpperSorted};
 ghost use Rattle.sketch_kll.specs.Stored.{KeepsLevels};
-ghost use Rattle.sketch_kll.specs.Take.{AreKept, HaveSpace, HaveTaken, IsReadyAt};
+ghost use Rattle.sketch_kll.specs.Take.{AreKept, HaveTaken, IsReadyAt};
 
 use super::{Levels, MAX_BOUNDS};
 use crate::capacity::{MAX_LEVELS, MINIMUM_CAPACITY, total_capacity};
@@ -49,41 +49,19 @@ impl<T: Ord + Drop> Levels<T> {
         ensures spare { 63 ≤ self.new.bounds_room }
     {
         items.reverse();
-        let mut taken = 0;
-        while taken < items.len() {
-            self.make_space(&mut items, taken, coins);
-            taken = items.len().min(self.free());
+        loop {
+            let taken = self.free();
+            if taken >= items.len() {
+                break;
+            }
+            let level = self.level_to_compact(taken);
+            self.put_body(level, &mut items, taken);
+            self.compact(level, coins);
         }
-        if taken > 0 {
+        if items.len() > 0 {
             move_back(&mut items, 0, &mut self.items);
             self.bounds[0] = self.items.len();
             self.is_level_zero_sorted = false;
-        }
-    }
-
-    /// Compacts one level if the levels are full, counting the last `taken` items as if they were
-    /// in level 0. Those of them that the compaction takes are put there first.
-    fn make_space<B: RandomBits>(&mut self, items: &mut Vec<T>, taken: usize, coins: &mut B)
-        requires some { 0 < length self.old.levels }
-        requires within { taken ≤ length items.old.items }
-        requires light { weight self.old.levels + taken < 2 ^ 64 }
-        requires flag { taken ≡ 0 → IsTrue self.old.is_sorted
-            → IsSorted T.cmp (first_level self.old.levels) }
-        requires room { retained self.old.levels + taken ≤ self.old.items_room }
-        requires spare { length self.old.levels + 1 < self.old.bounds_room }
-        ensures k { self.new.k ≡ self.old.k }
-        ensures space { HaveSpace T.cmp B.bit B.next coins.old coins.new taken items.old.items
-            self.old items.new.items self.new }
-        ensures sorted { UpperSorted T.cmp self.new.levels }
-        ensures shorter { retained self.new.levels + length items.new.items
-            ≤ retained self.old.levels + length items.old.items }
-        ensures room { self.old.items_room ≤ self.new.items_room }
-        ensures bounds_room { self.old.bounds_room ≤ self.new.bounds_room }
-    {
-        if taken >= self.free() {
-            let level = self.level_to_compact(taken);
-            self.put_body(level, items, taken);
-            self.compact(level, coins);
         }
     }
 
