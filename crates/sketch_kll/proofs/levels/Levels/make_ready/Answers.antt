@@ -21,9 +21,14 @@ few_of is few = omega (arith, is, few)
 within_of : {at from held len own : ℕ} → at ≡ from → from ≤ held → len ≡ own → own ≡ held → at ≤ len
 within_of at within len own = omega (arith, at, within, len, own)
 
-pub reserve_merged-requires : goal.reserve_merged-requires
-reserve_merged-requires g c =
-    record { few = few_of (length-bounds c.self.inside.items.items c.self.inside.bounds.items c.self.invariant.flat) c.self.invariant.few }
+pub reserve_merged-requires-clause-few : goal.reserve_merged-requires-clause-few
+reserve_merged-requires-clause-few g c = few_of (length-bounds c.self.inside.items.items c.self.inside.bounds.items c.self.invariant.flat) c.self.invariant.few
+
+pub reserve_merged-requires-clause-fits : goal.reserve_merged-requires-clause-fits
+reserve_merged-requires-clause-fits g c =
+    let own = c.self.inside.items in
+    let other = c.others.inside.items in
+    omega (arith, own.ok, own.small, other.ok, other.small, c.len-count.ensures)
 
 room_of : {items count now own low room : ℕ} → items + count ≤ room → now ≡ own → items ≡ own → count ≡ low → now + low ≤ room
 room_of room now items low = omega (arith, room, now, items, low)

@@ -8,6 +8,9 @@ room_of low v old room = omega (arith, v, old, room)
 bounds_of : {v old n len cap : ℕ} → v ≡ old → n ≡ old → old ≡ len → len ≤ 62 → v + (63 - n) ≤ cap → 63 ≤ cap
 bounds_of v n old few room = omega (arith, v, n, old, few, room)
 
+all_of : (count : ℕ) {n v old len cap : ℕ} → n ≡ v → v ≡ old → old ≡ len → n + count ≤ cap → len + count ≤ cap
+all_of count n v old room = omega (arith, n, v, old, room)
+
 pub returns : goal.returns
 returns g c =
     let r = c.with_capacity.result in
@@ -16,15 +19,11 @@ returns g c =
       items = c.reserve_exact.ensures.items;
       bounds = c.reserve.ensures.items;
       room = IfOk-weaker r _ _ (λ _ _. room_of c.args.low c.in_ok-reserve_exact.ensures.len c.args.items.now.ok.0 c.in_ok-reserve_exact.ensures.ok) made.len;
-      spare = IfOk-weaker r _ _ (λ _ _. bounds_of c.in_ok-reserve.ensures.len c.len-2.ensures c.args.bounds.now.ok.0 c.requires.few c.in_ok-reserve.ensures.ok)
+      spare = IfOk-weaker r _ _ (λ _ _. bounds_of c.in_ok-reserve.ensures.len c.len.ensures c.args.bounds.now.ok.0 c.requires.few c.in_ok-reserve.ensures.ok)
           made.len;
       empty = made.items;
-      merged = grind arith;
+      merged = IfOk-weaker r _ _ (λ _ room. all_of c.args.count c.len-2.ensures c.in_ok-reserve_exact.ensures.len c.args.items.now.ok.0 room) made.capacity;
     }
-
-pub returns-in_default : goal.returns-in_default
-returns-in_default g c =
-    record { items = refl; bounds = refl; room = tt; spare = tt; empty = tt; merged = tt }
 
 pub returns-in_err-reserve_exact : goal.returns-in_err-reserve_exact
 returns-in_err-reserve_exact g c =
