@@ -292,20 +292,6 @@ fn is_at_capacity(k: u16, num_levels: usize, level: usize, count: usize) -> bool
             || count >= level_capacity(k, num_levels, level, MINIMUM_CAPACITY) as usize)
 }
 
-/// Returns the total capacity of `num_levels` levels, given that of `known` levels.
-fn total_at(k: u16, total: u32, known: usize, num_levels: usize) -> u32
-    requires k { 8 ≤ k }
-    requires total { total ≡ total_of k 8 known }
-    requires few_levels { num_levels ≤ 61 }
-    ensures { result ≡ total_of k 8 num_levels }
-{
-    if num_levels == known {
-        total
-    } else {
-        total_capacity(k, MINIMUM_CAPACITY, num_levels)
-    }
-}
-
 /// Returns whether a level has to be sorted before it is compacted: level 0 if it does not count as
 /// sorted.
 fn needs_sorting(is_sorted: bool, level: usize) -> bool

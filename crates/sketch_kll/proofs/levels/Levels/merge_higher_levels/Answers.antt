@@ -1,63 +1,107 @@
-use Rattle.std.proofs.Common.{◌≡◌, ◌+◌, ◌-◌, ◌^◌, ◌<◌, ◌≤◌, ◌++◌, ℕ, List, take, drop, length, vec_len, refl, sym, ap, ◌∙◌, arith, subst}
+use Rattle.std.proofs.Common.{◌≡◌, ◌+◌, ◌-◌, ◌^◌, ◌<◌, ◌≤◌, ◌++◌, ℕ, List, replicate, take, drop, length, vec_len, vec_capacity, refl, sym, ap, ◌∙◌, arith, subst, append-nil, length-append}
+use Rattle.std.proofs.lemmas.List.{length-replicate}
+use Rattle.sketch_kll.specs.Capacity.{total_of}
 use Rattle.sketch_kll.specs.Flat.{levels_in}
 use Rattle.sketch_kll.specs.Join.{joined_bounds, joined}
 use Rattle.sketch_kll.specs.Levels.{retained, SameLevels}
-use Rattle.sketch_kll.specs.Stored.{Stored}
+use Rattle.sketch_kll.specs.Stored.{AreStored, Stored}
 use Rattle.sketch_kll.proofs.Flats.{length-items}
-use Rattle.sketch_kll.proofs.JoinedLevels.{prepared, joined_fit, whole_slice, Prepared}
+use Rattle.sketch_kll.proofs.JoinedLevels.{prepared, joined_fit, whole_slice}
 use Rattle.sketch_kll.proofs.StoredLevels.{JoinedStored, known_total, joined_stored}
 use Rattle.sketch_kll.proofs.levels.Levels.merge_higher_levels.Goals as goal
-use Rattle.sketch_kll.proofs.levels.Levels.merge_higher_levels.Goals.{After-drop-upper, After-add_levels, After-len-num_levels}
+use Rattle.sketch_kll.proofs.levels.Levels.merge_higher_levels.Goals.{After-drop-upper, Joined-len-others, then-len-others, else-len-others}
 use Rattle.sketch_kll.proofs.levels.Levels.merge_higher_levels.Goals.at as past
 
 spare_of : {now own room : ℕ} → now ≡ own → own ≡ room → 63 ≤ room → 63 ≤ now
 spare_of now own room = omega (arith, now, own, room)
 
-some_of : {n len others : ℕ} → n ≡ len → 2 ≤ others → others ≤ len → 1 ≤ n
-some_of n some fewer = omega (arith, n, some, fewer)
-
 fit_of : {others room own : ℕ} → others ≤ 62 → own ≡ room → 63 ≤ room → others ≤ own
 fit_of few own room = omega (arith, few, own, room)
 
--- the bounds once there are enough
-wide : (g : _) (c : After-add_levels g) →
-    Prepared g.T.Ord.cmp c.self.inside.items.items c.self.inside.items.items c.self.inside.bounds.items c.args.others.now c.add_levels.new.bounds.items
-    (levels_in c.args.upper.items (drop 1 c.args.others.now))
-wide g c = prepared c.args.others.now c.self.invariant c.requires.upper c.requires.some c.requires.few c.add_levels.ensures.items refl
+none_more : {A : Type 0} (n : ℕ) (xs : List A) (x : A) {ys : List A} → ys ≡ xs → n ≤ length xs → ys ≡ xs ++ replicate (n - length xs) x
+none_more n xs x same enough = same ∙ (sym (append-nil xs) ∙ ap (λ (m : ℕ). xs ++ replicate m x) (sym (no_more n enough)))
+  where
+    no_more : (n : ℕ) {m : ℕ} → n ≤ m → n - m ≡ 0
+    no_more n enough = omega (arith, enough)
 
--- the number of bounds stays as it was
-len_is : (g : _) (c : After-len-num_levels g) → c.len-num_levels.result ≡ c.add_levels.new.bounds.len
-len_is g c = c.len-num_levels.ensures
+len_of : (n : ℕ) {A : Type 0} (xs : List A) (x : A) {ys : List A} {own others : ℕ} → ys ≡ xs ++ replicate (n - length xs) x → own ≡ length xs → others ≡ n → own < others →
+    others - 1 ≡ length ys - 1
+len_of n xs x more own others fewer = omega (arith, ap length more, length-append xs (replicate (n - length xs) x), length-replicate (n - length xs) x, own, others, fewer)
+
+enough_of : {own others len n : ℕ} → others ≤ own → own ≡ len → others ≡ n → n ≤ len
+enough_of enough own others = omega (arith, enough, own, others)
+
+-- the fields once there are enough bounds
+record IsWide (g : _) (c : Joined-len-others g) : Type 0 where
+  bounds : c.if-len-others.self-inside.bounds.items ≡ c.self.inside.bounds.items ++ replicate (length c.args.others.now - length c.self.inside.bounds.items) 0
+  room : vec_capacity c.if-len-others.self-inside.bounds ≡ vec_capacity c.self.inside.bounds
+  k_is : c.if-len-others.self-inside.k ≡ c.self.inside.k
+  flag_is : c.if-len-others.self-inside.is_level_zero_sorted ≡ c.self.inside.is_level_zero_sorted
+  items_are : c.if-len-others.self-inside.items ≡ c.self.inside.items
+  total_is : c.if-len-others.self-inside.total_capacity ≡ total_of c.self.inside.k 8 (length c.if-len-others.self-inside.bounds.items - 1)
+
+is_wide : (g : _) (c : Joined-len-others g) → IsWide g c
+is_wide g c =
+    let own = c.self.inside.bounds.items in
+    let len : c.len.result ≡ length own = c.len.ensures ∙ c.self.inside.bounds.ok.0 in
+    elim c.if-len-others.branch [
+      | then-len-others w ↦
+          let more : c.if-len-others.self-inside.bounds.items ≡ own ++ replicate (length c.args.others.now - length own) 0 =
+          ap (λ x. x.bounds.items) w.self-inside-is ∙ w.add_levels.ensures.items in
+          record {
+            bounds = more;
+            room = ap (λ x. vec_capacity x.bounds) w.self-inside-is ∙ w.add_levels.ensures.capacity;
+            k_is = ap (λ x. x.k) w.self-inside-is;
+            flag_is = ap (λ x. x.is_level_zero_sorted) w.self-inside-is;
+            items_are = ap (λ x. x.items) w.self-inside-is;
+            total_is = ap (λ x. x.total_capacity) w.self-inside-is ∙ (w.total_capacity-self-inside.ensures.value ∙
+                ap (total_of c.self.inside.k 8) (len_of (length c.args.others.now) own 0 more len refl w.if-len-others.true));
+          }
+      | else-len-others w ↦
+          let same : c.if-len-others.self-inside.bounds.items ≡ own = ap (λ x. x.bounds.items) w.self-inside-is in
+          record {
+            bounds = none_more (length c.args.others.now) own 0 same (enough_of w.if-len-others.false len refl);
+            room = ap (λ x. vec_capacity x.bounds) w.self-inside-is;
+            k_is = ap (λ x. x.k) w.self-inside-is;
+            flag_is = ap (λ x. x.is_level_zero_sorted) w.self-inside-is;
+            items_are = ap (λ x. x.items) w.self-inside-is;
+            total_is = ap (λ x. x.total_capacity) w.self-inside-is ∙ known_total c.self.invariant _ (ap length same);
+          }
+    ]
 
 -- what is stored in the end
 stored_in_the_end : (g : _) (c : After-drop-upper g) →
+    c.if-len-others.self-inside.bounds.items ≡ c.self.inside.bounds.items ++ replicate (length c.args.others.now - length c.self.inside.bounds.items) 0 →
+    c.if-len-others.self-inside.items ≡ c.self.inside.items →
+    c.if-len-others.self-inside.total_capacity ≡ total_of c.self.inside.k 8 (length c.if-len-others.self-inside.bounds.items - 1) →
     JoinedStored g.T.Ord.cmp c.self.inside.k
     (levels_in c.self.inside.items.items c.self.inside.bounds.items) (levels_in c.args.upper.items (drop 1 c.args.others.now)) c.reverse.new.self.items
-    (take c.add_levels.new.bounds.len (c.add_bounds.new.bounds ++ drop (length c.add_bounds.new.bounds) c.add_levels.new.bounds.items))
-    c.total_at-self-inside.result
-stored_in_the_end g c =
-    let wide = c.add_levels.new.bounds in
+    (take c.if-len-others.self-inside.bounds.len (c.add_bounds.new.bounds ++ drop (length c.add_bounds.new.bounds) c.if-len-others.self-inside.bounds.items))
+    c.if-len-others.self-inside.total_capacity
+stored_in_the_end g c more same total =
+    let wide = c.if-len-others.self-inside.bounds in
     let back = c.merge_runs_back.ensures in
     let added : c.add_bounds.new.bounds ≡ joined_bounds c.deref.result.now c.args.others.now =
     c.add_bounds.ensures ∙ ap (λ (b : List ℕ). joined_bounds b c.args.others.now) (c.deref_mut.ensures.value ∙ sym c.deref.ensures.value) in
-    let count : c.len-num_levels.result ≡ wide.len = c.len-num_levels.ensures in
     let long = c.add_bounds.auto.bounds ∙ c.deref_mut.ensures.len in
     let whole = whole_slice c.add_bounds.new.bounds wide.items wide.len long in
-    joined_stored c.args.others.now c.self.invariant c.requires.upper c.requires.some c.requires.few (c.deref.ensures.value ∙ c.add_levels.ensures.items)
-    (ap (λ v. v.items) c.take_away-items.ensures.taken)
-    back.flat back.levels back.sorted c.reverse.ensures.items (whole ∙ added) c.len-num_levels.result (count ∙ sym (ap length whole ∙ long))
-    c.total_at-self-inside.ensures
+    joined_stored c.args.others.now c.self.invariant c.requires.upper c.requires.some c.requires.few (c.deref.ensures.value ∙ more)
+    (ap (λ v. v.items) (c.take_away-items.ensures.taken ∙ same))
+    back.flat back.levels back.sorted c.reverse.ensures.items (whole ∙ added) (length wide.items)
+    (sym wide.ok.0 ∙ sym (ap length whole ∙ long)) total
 
 pub merge_runs_back-requires-clause-flat : goal.merge_runs_back-requires-clause-flat
 merge_runs_back-requires-clause-flat g c =
-    let wide = prepared c.args.others.now c.self.invariant c.requires.upper c.requires.some c.requires.few (c.deref.ensures.value ∙ c.add_levels.ensures.items)
-    (ap (λ v. v.items) c.take_away-items.ensures.taken) in
+    let w = is_wide g (past.merge_runs_back-requires-clause-flat g c).Joined-len-others in
+    let wide = prepared c.args.others.now c.self.invariant c.requires.upper c.requires.some c.requires.few (c.deref.ensures.value ∙ w.bounds)
+    (ap (λ v. v.items) (c.take_away-items.ensures.taken ∙ w.items_are)) in
     wide.fits
 
 pub merge_runs_back-requires-clause-sorted : goal.merge_runs_back-requires-clause-sorted
 merge_runs_back-requires-clause-sorted g c =
-    let wide = prepared c.args.others.now c.self.invariant c.requires.upper c.requires.some c.requires.few (c.deref.ensures.value ∙ c.add_levels.ensures.items)
-    (ap (λ v. v.items) c.take_away-items.ensures.taken) in
+    let w = is_wide g (past.merge_runs_back-requires-clause-sorted g c).Joined-len-others in
+    let wide = prepared c.args.others.now c.self.invariant c.requires.upper c.requires.some c.requires.few (c.deref.ensures.value ∙ w.bounds)
+    (ap (λ v. v.items) (c.take_away-items.ensures.taken ∙ w.items_are)) in
     wide.sorted
 
 pub merge_runs_back-requires-clause-upper : goal.merge_runs_back-requires-clause-upper
@@ -71,8 +115,9 @@ merge_runs_back-requires-clause-some g c = c.requires.some
 
 pub merge_runs_back-requires-clause-fewer : goal.merge_runs_back-requires-clause-fewer
 merge_runs_back-requires-clause-fewer g c =
-    let wide = prepared c.args.others.now c.self.invariant c.requires.upper c.requires.some c.requires.few (c.deref.ensures.value ∙ c.add_levels.ensures.items)
-    (ap (λ v. v.items) c.take_away-items.ensures.taken) in
+    let w = is_wide g (past.merge_runs_back-requires-clause-fewer g c).Joined-len-others in
+    let wide = prepared c.args.others.now c.self.invariant c.requires.upper c.requires.some c.requires.few (c.deref.ensures.value ∙ w.bounds)
+    (ap (λ v. v.items) (c.take_away-items.ensures.taken ∙ w.items_are)) in
     wide.fewer
 
 pub merge_runs_back-requires-clause-empty : goal.merge_runs_back-requires-clause-empty
@@ -84,7 +129,8 @@ room_of u p q r room = omega arith
 pub merge_runs_back-requires-clause-room : goal.merge_runs_back-requires-clause-room
 merge_runs_back-requires-clause-room g c =
     let x = c.self.inside in
-    room_of _ (ap (λ v. vec_len v) c.take_away-items.ensures.taken) x.items.ok.0
+    let w = is_wide g (past.merge_runs_back-requires-clause-room g c).Joined-len-others in
+    room_of _ (ap (λ v. vec_len v) (c.take_away-items.ensures.taken ∙ w.items_are)) x.items.ok.0
     (length-items x.items.items x.bounds.items c.self.invariant.flat ∙ ap (λ (y : Stored g.row.T.Denot). retained y.levels) c.self.view_is) c.requires.room
 
 fits_of : {both items upper held len room : ℕ} → both ≤ items + upper → items ≡ held → len ≡ upper → held + len ≤ room → room < 2 ^ 63 → both < 2 ^ 64
@@ -93,7 +139,7 @@ fits_of both held len room small = omega arith
 pub add_bounds-requires : goal.add_bounds-requires
 add_bounds-requires g c =
     let x = c.self.inside in
-    let wide = prepared c.args.others.now c.self.invariant c.requires.upper c.requires.some c.requires.few (c.deref_mut.ensures.value ∙ c.add_levels.ensures.items) refl in
+    let wide = prepared c.args.others.now c.self.invariant c.requires.upper c.requires.some c.requires.few (c.deref_mut.ensures.value ∙ (is_wide g (past.add_bounds-requires g c).Joined-len-others).bounds) refl in
     let within = joined_fit x.items.items c.args.upper.items c.deref_mut.result.now c.args.others.now wide.fits c.requires.upper in
     let held = length-items x.items.items x.bounds.items c.self.invariant.flat ∙ ap (λ (y : Stored g.row.T.Denot). retained y.levels) c.self.view_is in
     record {
@@ -103,42 +149,42 @@ add_bounds-requires g c =
       fits = λ j above. fits_of (within.1 j above) held c.args.upper.ok.0 c.requires.room c.args.merged.small;
     }
 
-few_of : {len n : ℕ} → len ≡ n → n ≤ 62 → len - 1 ≤ 61
-few_of is few = omega arith
+few_of : {n : ℕ} → n ≤ 62 → n - 1 ≤ 61
+few_of few = omega (arith, few)
 
-pub total_at-self-inside-requires-clause-few_levels : goal.total_at-self-inside-requires-clause-few_levels
-total_at-self-inside-requires-clause-few_levels g c =
-    few_of (len_is g (past.total_at-self-inside-requires-clause-few_levels g c).After-len-num_levels ∙ c.add_levels.new.bounds.ok.0)
-    (wide g (past.total_at-self-inside-requires-clause-few_levels g c).After-add_levels).few
+pub total_capacity-self-inside-requires-clause-levels : goal.total_capacity-self-inside-requires-clause-levels
+total_capacity-self-inside-requires-clause-levels g c = few_of c.requires.few
 
-pub total_at-self-inside-requires-clause-total : goal.total_at-self-inside-requires-clause-total
-total_at-self-inside-requires-clause-total g c = known_total c.self.invariant c.len-known.result (c.len-known.ensures ∙ c.self.inside.bounds.ok.0)
+pub total_capacity-self-inside-requires-clause-minimum : goal.total_capacity-self-inside-requires-clause-minimum
+total_capacity-self-inside-requires-clause-minimum g c = c.self.invariant.k_above
 
 pub invariant_of-self : goal.invariant_of-self
-invariant_of-self g c = (stored_in_the_end g c).stored
+invariant_of-self g c =
+    let w = is_wide g (past.invariant_of-self g c).Joined-len-others in
+    let wide = c.if-len-others.self-inside.bounds in
+    subst (λ (k : ℕ). AreStored g.T.Ord.cmp k c.reverse.new.self.items
+    (take wide.len (c.add_bounds.new.bounds ++ drop (length c.add_bounds.new.bounds) wide.items)) c.if-len-others.self-inside.total_capacity)
+    (sym w.k_is) (stored_in_the_end g (past.invariant_of-self g c).After-drop-upper w.bounds w.items_are w.total_is).stored
 
 pub returns : goal.returns
 returns g c =
+    let w = is_wide g (past.returns g c).Joined-len-others in
     record {
-      k = ap (λ (y : Stored g.row.T.Denot). y.k) c.self.view_is;
-      flag = ap (λ (y : Stored g.row.T.Denot). y.is_sorted) c.self.view_is;
+      k = w.k_is ∙ ap (λ (y : Stored g.row.T.Denot). y.k) c.self.view_is;
+      flag = w.flag_is ∙ ap (λ (y : Stored g.row.T.Denot). y.is_sorted) c.self.view_is;
       levels = subst (λ (y : Stored g.row.T.Denot).
           SameLevels g.T.Ord.cmp (joined g.T.Ord.cmp y.levels (levels_in c.args.upper.items (drop 1 c.args.others.now)))
-          (levels_in c.reverse.new.self.items (take c.add_levels.new.bounds.len
-          (c.add_bounds.new.bounds ++ drop (length c.add_bounds.new.bounds) c.add_levels.new.bounds.items))))
-          c.self.view_is (stored_in_the_end g c).same;
-      spare = spare_of c.add_levels.ensures.capacity (ap (λ (y : Stored g.row.T.Denot). y.bounds_room) c.self.view_is) c.requires.spare;
+          (levels_in c.reverse.new.self.items (take c.if-len-others.self-inside.bounds.len
+          (c.add_bounds.new.bounds ++ drop (length c.add_bounds.new.bounds) c.if-len-others.self-inside.bounds.items))))
+          c.self.view_is (stored_in_the_end g (past.returns g c).After-drop-upper w.bounds w.items_are w.total_is).same;
+      spare = spare_of w.room (ap (λ (y : Stored g.row.T.Denot). y.bounds_room) c.self.view_is) c.requires.spare;
     }
-
-pub overflow_sub-num_levels : goal.overflow_sub-num_levels
-overflow_sub-num_levels g c =
-    some_of (len_is g c ∙ c.add_levels.new.bounds.ok.0) c.requires.some (wide g (past.overflow_sub-num_levels g c).After-add_levels).fewer
-
-pub total_at-self-inside-requires-clause-k : goal.total_at-self-inside-requires-clause-k
-total_at-self-inside-requires-clause-k g c = c.self.invariant.k_above
 
 pub add_levels-requires : goal.add_levels-requires
 add_levels-requires g c = record { spare = fit_of c.requires.few (ap (λ (y : Stored g.row.T.Denot). y.bounds_room) c.self.view_is) c.requires.spare }
 
-pub overflow_sub-known : goal.overflow_sub-known
-overflow_sub-known g c = grind arith
+some_of : {n : ℕ} → 2 ≤ n → 1 ≤ n
+some_of some = omega (arith, some)
+
+pub overflow_sub-others : goal.overflow_sub-others
+overflow_sub-others g c = some_of c.requires.some
