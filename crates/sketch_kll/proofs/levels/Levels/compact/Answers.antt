@@ -5,7 +5,7 @@ use Rattle.sketch_kll.specs.Levels.{retained, compacted, SameLevels}
 use Rattle.sketch_kll.specs.Flat.{levels_in}
 use Rattle.sketch_kll.specs.Steps.{needs_sorting}
 use Rattle.sketch_kll.specs.Stored.{AreStored, Stored}
-use Rattle.sketch_kll.proofs.Flats.{bound_within, length-bounds, length-items}
+use Rattle.sketch_kll.proofs.Flats.{bound_within, length-items}
 use Rattle.sketch_kll.proofs.RaisedLevels.{raised_is, Raised, Raises}
 use Rattle.sketch_kll.proofs.StoredLevels.{CompactedStored, known_total, compacted_left, ordered_anew, ordered_before}
 use Rattle.sketch_kll.proofs.JoinedLevels.{whole_slice}
@@ -13,14 +13,6 @@ use Rattle.sketch_kll.proofs.levels.Levels.compact.Goals as goal
 use Rattle.sketch_kll.proofs.levels.Levels.compact.Goals.at as past
 use Rattle.sketch_kll.proofs.OrderedLevels.{IsOrdered}
 use Rattle.sketch_kll.proofs.levels.Levels.compact.Goals.{After-random_bit-arg-1, After-truncate, After-len-2, Joined-level-len, then-level-len, else-level-len, then-needs_sorting, else-needs_sorting}
-
-room_of : (now : ℕ) {own len room most : ℕ} → own ≡ len → len ≡ now + 1 → room ≡ most → now + 1 < most → own < room
-room_of now own len room spare = omega (arith, own, len, room, spare)
-
-pub push_reserved-requires : goal.push_reserved-requires
-push_reserved-requires g c =
-    room_of (length c.args.self.now.levels) c.self.inside.bounds.ok.0 (length-bounds c.self.inside.items.items c.self.inside.bounds.items c.self.invariant.flat
-    ∙ ap (λ (y : Stored g.row.T.Denot). length y.levels + 1) c.self.view_is) (ap (λ (y : Stored g.row.T.Denot). y.bounds_room) c.self.view_is) c.requires.spare
 
 one_more : {A : Type 0} (level : ℕ) (xs : List A) (x : A) {ys : List A} → level + 2 ≡ length xs → ys ≡ xs ++ x ∷ [] → level + 2 ≡ length ys - 1
 one_more level xs x len more = omega (arith, len, ap length more, length-append xs (x ∷ []))
