@@ -59,11 +59,12 @@ impl<T: Ord + Drop> Levels<T> {
         ensures flag { IfOk result (λ x. x.is_sorted ≡ false) }
         ensures levels { IfOk result (λ x. x.levels ≡ [] ∷ []) }
     {
+        let bounds = vec![in alloc; 0, 0]?;
         Ok(Levels {
             k,
             is_level_zero_sorted: false,
             items: Vec::new(alloc),
-            bounds: vec![in alloc; 0, 0]?,
+            bounds,
             total_capacity: total_capacity(k, MINIMUM_CAPACITY, 1),
         })
     }

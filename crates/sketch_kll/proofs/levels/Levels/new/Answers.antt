@@ -4,14 +4,14 @@ use Rattle.std.proofs.Common.{refl}
 use Rattle.sketch_kll.proofs.levels.Levels.new.Goals as goal
 
 pub invariant_of-result : goal.invariant_of-result
-invariant_of-result g c = empty_stored g.T.Ord.cmp c.args.k _ _ _ c.requires.k c.new.ensures.items c.in_ok-vec.ensures.items c.total_capacity.ensures.value
+invariant_of-result g c = empty_stored g.T.Ord.cmp c.args.k _ _ _ c.requires.k c.new.ensures.items c.in_ok-bounds.ensures.items c.total_capacity.ensures.value
 
 pub returns : goal.returns
 returns g c =
-    record { k = refl; flag = refl; levels = (new_levels c.new.result.items c.in_ok-vec.field-0.items c.new.ensures.items c.in_ok-vec.ensures.items).1 }
+    record { k = refl; flag = refl; levels = (new_levels c.new.result.items c.in_ok-bounds.bounds.items c.new.ensures.items c.in_ok-bounds.ensures.items).1 }
 
-pub returns-in_err-vec : goal.returns-in_err-vec
-returns-in_err-vec g c =
+pub returns-in_err-bounds : goal.returns-in_err-bounds
+returns-in_err-bounds g c =
     let r = c.from_residual.result in
     let err = c.from_residual.ensures.0 in
     record { k = IfOk-from_err r _ err; flag = IfOk-from_err r _ err; levels = IfOk-from_err r _ err }
