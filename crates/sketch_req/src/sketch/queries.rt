@@ -161,13 +161,13 @@ impl<T: Clone + Ord> ReqSketch<T> {
             return self.sorted_view()?.cdf(points, criteria);
         }
         let alloc = *self.levels.compactors.allocator();
-        let mut ranks = Vec::with_capacity(alloc, points.len().saturating_add(1))?;
+        let mut ranks = Vec::with_capacity(alloc, points.len() + 1)?;
         for point in points {
             let weight = self.rank_weight(point, criteria);
             ranks.push_reserved(Rank { weight, total });
         }
         let weight = total;
-        ranks.push(Rank { weight, total })?;
+        ranks.push_reserved(Rank { weight, total });
         Ok(Some(ranks))
     }
 

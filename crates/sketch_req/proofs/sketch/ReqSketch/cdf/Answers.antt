@@ -1,4 +1,4 @@
-use Rattle.std.proofs.Common.{ℕ, ◌+◌, ◌<◌, ◌≤◌, ◌≡◌, ◌++◌, [], ◌∷◌, Err, IfOk, length, map, arith, ap, subst, sym, ◌∙◌}
+use Rattle.std.proofs.Common.{ℕ, ◌+◌, ◌<◌, ◌≡◌, ◌++◌, [], ◌∷◌, Err, IfOk, length, map, arith, ap, subst, sym, ◌∙◌}
 use Rattle.sketch_base.specs.declared.error.ErrorKind.TheVariants.{OutOfMemory}
 use Rattle.sketch_base.specs.Answered.{IsFoundAmong, IsRefusedUnless}
 use Rattle.sketch_base.specs.Bag.{expanded}
@@ -11,7 +11,7 @@ use Rattle.sketch_req.proofs.Equations.{same_number}
 use Rattle.sketch_base.proofs.Exits.{no_found, returned}
 use Rattle.sketch_base.proofs.RefusedCalls.{fit_answer, fit_short, some_among, some_now, some_of, unfit_refused}
 use Rattle.sketch_req.proofs.sketch.ReqSketch.cdf.Given.{Over}
-use Rattle.sketch_req.proofs.sketch.ReqSketch.cdf.Goals.{After-allocator-alloc, In_ok-push}
+use Rattle.sketch_req.proofs.sketch.ReqSketch.cdf.Goals.{After-allocator-alloc, After-push_reserved-2}
 use Rattle.sketch_req.proofs.sketch.ReqSketch.cdf.Goals as goal
 use Rattle.sketch_req.proofs.sketch.ReqSketch.cdf.Goals.at as past
 
@@ -26,7 +26,8 @@ loop-point-preserved g c =
           c.rank_weight-weight.ensures
           (pushed.items ∙ ap (λ (t : ℕ). c.loop-point.ranks.items ++ record { weight = c.rank_weight-weight.result; total = t } ∷ []) c.n-total.ensures.value);
       len = same_number pushed.len (ap (λ (n : ℕ). n + 1) i.len);
-      room = subst (λ (n : ℕ). length c.args.points.now ≤ n) (sym pushed.capacity) i.room;
+      within = omega (arith, c.loop-point-test.true);
+      room = subst (λ (n : ℕ). length c.args.points.now < n) (sym pushed.capacity) i.room;
     }
 
 pub returns-in_err-check_points : goal.returns-in_err-check_points
@@ -68,29 +69,23 @@ returns-in_err-ranks g c =
     let some = some g (past.returns-in_err-ranks g c).After-allocator-alloc in
     record { found = no_found _ e; rises = no_found _ e; there = no_found _ e; refused = fit_short e c.in_ok-check_points.ensures.good some }
 
-pub returns-in_err-push : goal.returns-in_err-push
-returns-in_err-push g c =
-    let e = returned c.from_residual-in_err-push.result OutOfMemory c.from_residual-in_err-push.ensures.1 in
-    let some = some g (past.returns-in_err-push g c).After-allocator-alloc in
-    record { found = no_found _ e; rises = no_found _ e; there = no_found _ e; refused = fit_short e c.in_ok-check_points.ensures.good some }
-
 -- the ranks
-found : (g : Over) (c : In_ok-push g) → let entries = expanded g.T.Ord.cmp (bag_of c.args.self.now.levels) in
-    c.push.new.self.items
+found : (g : Over) (c : After-push_reserved-2 g) → let entries = expanded g.T.Ord.cmp (bag_of c.args.self.now.levels) in
+    c.push_reserved-2.new.self.items
     ≡ ranks_of c.args.self.now.n (map (λ y. true_rank g.T.Ord.cmp y c.args.criteria entries) c.args.points.now ++ length entries ∷ [])
 found g c =
     let s = c.args.self.now in
     let entries = expanded g.T.Ord.cmp (bag_of s.levels) in
     let rank : g.row.T.Denot → ℕ = λ y. true_rank g.T.Ord.cmp y c.args.criteria entries in
     let whole : length entries ≡ s.n = length-expanded g.T.Ord.cmp (bag_of s.levels) ∙ (sym c.n-total.ensures.weight ∙ c.n-total.ensures.value) in
-    ranks-last rank s.n c.args.points.now c.loop-point.point-index _ c.push.new.self.items c.loop-point-test.false c.loop-point.invariant.told
-    (c.in_ok-push.ensures.items ∙ ap (λ (t : ℕ). c.loop-point.ranks.items ++ record { weight = t; total = t } ∷ []) c.n-total.ensures.value)
+    ranks-last rank s.n c.args.points.now c.loop-point.point-index _ c.push_reserved-2.new.self.items c.loop-point-test.false c.loop-point.invariant.told
+    (c.push_reserved-2.ensures.items ∙ ap (λ (t : ℕ). c.loop-point.ranks.items ++ record { weight = t; total = t } ∷ []) c.n-total.ensures.value)
     ∙ ap (λ (m : ℕ). ranks_of s.n (map rank c.args.points.now ++ m ∷ [])) (sym whole)
 
 pub returns : goal.returns
 returns g c =
     let good = c.in_ok-check_points.ensures.good in
-    let found = found g (past.returns g c).In_ok-push in
+    let found = found g (past.returns g c).After-push_reserved-2 in
     let entries = expanded g.T.Ord.cmp (bag_of c.args.self.now.levels) in
     record {
       found = found;
@@ -103,8 +98,12 @@ pub loop-point-init : goal.loop-point-init
 loop-point-init g c = record {
   told = c.in_ok-ranks.ensures.items;
   len = c.in_ok-ranks.ensures.len;
+  within = grind arith;
   room = grind arith;
 }
 
 pub offset_bounds-points-point-index : goal.offset_bounds-points-point-index
 offset_bounds-points-point-index g c = grind arith
+
+pub overflow_add-points : goal.overflow_add-points
+overflow_add-points g c = grind arith

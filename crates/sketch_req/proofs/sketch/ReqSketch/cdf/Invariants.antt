@@ -1,4 +1,4 @@
-use Rattle.std.proofs.Common.{◌≡◌, ◌≤◌, length, map, take, vec_capacity, vec_len}
+use Rattle.std.proofs.Common.{◌≡◌, ◌<◌, ◌≤◌, length, map, take, vec_capacity, vec_len}
 use Rattle.sketch_base.specs.Bag.{expanded}
 use Rattle.sketch_base.specs.Query.{true_rank}
 use Rattle.sketch_base.specs.Queries.{ranks_of}
@@ -11,5 +11,6 @@ invariant-loop-point g l =
     record {
       told : l.ranks.items ≡ ranks_of l.fn.self.n (map (λ y. true_rank g.T.Ord.cmp y l.fn.criteria entries) (take l.point-index l.points));
       len : vec_len l.ranks ≡ l.point-index;
-      room : length l.points ≤ vec_capacity l.ranks;
+      within : l.point-index ≤ length l.points;
+      room : length l.points < vec_capacity l.ranks;
     }
