@@ -1,6 +1,6 @@
-use Rattle.std.proofs.Common.{[], ◌∷◌, ◌≡◌, ◌<◌, ◌∙◌, length, refl, sym, ap, subst, List, Some}
+use Rattle.std.proofs.Common.{[], ◌∷◌, ◌≡◌, ◌<◌, ◌∙◌, length, refl, sym, ap, subst, List, None}
 use Rattle.sketch_base.specs.declared.error.ErrorKind.TheVariants.{OutOfMemory}
-use Rattle.sketch_base.specs.Extremes.{IsExtreme, IsAtMost}
+use Rattle.sketch_base.specs.Extremes.{IsGreatestOf, IsLeastOf, newer_or}
 use Rattle.sketch_req.specs.Sketch.{Req, IsSound, sketch_of}
 use Rattle.sketch_req.specs.Image.{accuracy_in, IsTold}
 use Rattle.sketch_req.specs.Level.{Level}
@@ -20,39 +20,31 @@ module _ (g : Over) (c : After-new-levels g) where
   abbrev sketch : Req g.row.T.Denot
   sketch =
       let h = c.args.header.now in
-      sketch_of h.k (accuracy_in h.flags) (length c.items_slice-items.result.now) c.push_reserved.new.self.items (Some c.in_ok-least.least) (Some c.in_ok-greatest.greatest)
+      sketch_of h.k (accuracy_in h.flags) (length c.items_slice-items.result.now) c.push_reserved.new.self.items c.in_ok-ends.ends.0 c.in_ok-ends.ends.1
 
   made : IsRebuilt g.T.Ord.cmp sketch
   made =
-      let o = g.met.T.Ord.total in
       let cmp = g.T.Ord.cmp in
-      let x = c.least_of.result.now in
-      let y = c.greatest_of.result.now in
-      let low = subst (λ (l : List g.row.T.Denot). IsExtreme cmp (λ x y. IsAtMost cmp x y) l x) c.items_slice-items.ensures.value c.least_of.ensures in
-      let high = subst (λ (l : List g.row.T.Denot). IsExtreme cmp (λ x y. IsAtMost cmp y x) l y) c.items_slice-items.ensures.value c.greatest_of.ensures in
-      rebuilt o sketch c.args.level x c.in_ok-least.least y c.in_ok-greatest.greatest (pushed_alone c.push_reserved.ensures.items c.in_ok-levels.ensures.items) refl refl
-      c.requires.legal c.requires.placed (ap length c.items_slice-items.ensures.value) c.requires.some c.requires.fresh
-      low (c.requires.clones _ _ c.in_ok-least.ensures.cases) high (c.requires.clones _ _ c.in_ok-greatest.ensures.cases)
+      let ends = c.in_ok-ends.ends in
+      let low = subst (λ (l : List g.row.T.Denot). IsLeastOf cmp l (newer_or ends.0 None)) c.items_slice-items.ensures.value c.in_ok-ends.ensures.least in
+      let high = subst (λ (l : List g.row.T.Denot). IsGreatestOf cmp l (newer_or ends.1 None)) c.items_slice-items.ensures.value c.in_ok-ends.ensures.greatest in
+      rebuilt g.met.T.Ord.total sketch c.args.level (pushed_alone c.push_reserved.ensures.items c.in_ok-levels.ensures.items)
+      c.requires.legal c.requires.placed (ap length c.items_slice-items.ensures.value) c.requires.some c.requires.fresh low high
 
   held_is : c.new-levels.result ≡ held_of c.args.header.now.k (accuracy_in c.args.header.now.flags) c.push_reserved.new.self.items
   held_is = subst (λ (a : RankAccuracy). c.new-levels.result ≡ held_of c.args.header.now.k a c.push_reserved.new.self.items) c.rank_accuracy.ensures
       c.new-levels.ensures
 
   same : sketch_of c.new-levels.result.k c.new-levels.result.accuracy (length c.items_slice-items.result.now) c.new-levels.result.levels
-      (Some c.in_ok-least.least) (Some c.in_ok-greatest.greatest) ≡ sketch
-  same = same_sketch (length c.items_slice-items.result.now) (Some c.in_ok-least.least) (Some c.in_ok-greatest.greatest) held_is
+      c.in_ok-ends.ends.0 c.in_ok-ends.ends.1 ≡ sketch
+  same = same_sketch (length c.items_slice-items.result.now) c.in_ok-ends.ends.0 c.in_ok-ends.ends.1 held_is
 
   told : IsTold g.T.Ord.cmp c.args.header.now sketch
   told = record { k_is = refl; accuracy_is = refl; n_is = made.n_is; least_is = made.least_is; greatest_is = made.greatest_is }
 
-pub returns-in_err-least : goal.returns-in_err-least
-returns-in_err-least g c =
+pub returns-in_err-ends : goal.returns-in_err-ends
+returns-in_err-ends g c =
     let e = returned c.from_residual.result OutOfMemory c.from_residual.ensures.1 in
-    record { told = no_found _ e; memory = with_error _ e refl }
-
-pub returns-in_err-greatest : goal.returns-in_err-greatest
-returns-in_err-greatest g c =
-    let e = returned c.from_residual-in_err-greatest.result OutOfMemory c.from_residual-in_err-greatest.ensures.1 in
     record { told = no_found _ e; memory = with_error _ e refl }
 
 pub returns-in_err-levels : goal.returns-in_err-levels
@@ -67,16 +59,15 @@ from_levels-requires g c =
 
 -- the sketch that is made
 made_is : (g : Over) (c : After-from_levels g) → c.from_levels.result
-    ≡ sketch_of c.new-levels.result.k c.new-levels.result.accuracy (length c.items_slice-items.result.now) c.new-levels.result.levels (Some c.in_ok-least.least)
-    (Some c.in_ok-greatest.greatest)
+    ≡ sketch_of c.new-levels.result.k c.new-levels.result.accuracy (length c.items_slice-items.result.now) c.new-levels.result.levels c.in_ok-ends.ends.0 c.in_ok-ends.ends.1
 made_is g c = c.from_levels.ensures
 
 -- it is of this level
 found : (g : Over) (c : After-from_levels g) →
     let h = c.args.header.now in
-    let made = sketch_of h.k (accuracy_in h.flags) (length c.items_slice-items.result.now) c.push_reserved.new.self.items (Some c.in_ok-least.least) (Some c.in_ok-greatest.greatest) in
+    let made = sketch_of h.k (accuracy_in h.flags) (length c.items_slice-items.result.now) c.push_reserved.new.self.items c.in_ok-ends.ends.0 c.in_ok-ends.ends.1 in
     sketch_of c.new-levels.result.k c.new-levels.result.accuracy (length c.items_slice-items.result.now) c.new-levels.result.levels
-    (Some c.in_ok-least.least) (Some c.in_ok-greatest.greatest) ≡ made → IsTold g.T.Ord.cmp h made →
+    c.in_ok-ends.ends.0 c.in_ok-ends.ends.1 ≡ made → IsTold g.T.Ord.cmp h made →
     (c.from_levels.result.levels ≡ c.args.level ∷ []) × IsTold g.T.Ord.cmp h c.from_levels.result
 found g c same told = (
   ap (λ (s : Req g.row.T.Denot). s.levels) (made_is g c ∙ same) ∙ (pushed_alone c.push_reserved.ensures.items c.in_ok-levels.ensures.items),
@@ -100,8 +91,8 @@ same-level g c = refl
 pub new-levels-requires-clause-some : goal.new-levels-requires-clause-some
 new-levels-requires-clause-some g c = one_counted (pushed_alone c.push_reserved.ensures.items c.in_ok-levels.ensures.items)
 
-pub least_of-requires : goal.least_of-requires
-least_of-requires g c = subst (λ (xs : List g.row.T.Denot). 0 < length xs) (sym c.items_slice-items.ensures.value) c.requires.some
+pub clone_passing_extremes-requires-clause-clones : goal.clone_passing_extremes-requires-clause-clones
+clone_passing_extremes-requires-clause-clones g c = c.requires.clones
 
-pub greatest_of-requires : goal.greatest_of-requires
-greatest_of-requires g c = subst (λ (xs : List g.row.T.Denot). 0 < length xs) (sym c.items_slice-items.ensures.value) c.requires.some
+pub clone_passing_extremes-requires-clause-some : goal.clone_passing_extremes-requires-clause-some
+clone_passing_extremes-requires-clause-some g c = subst (λ (xs : List g.row.T.Denot). 0 < length xs) (sym c.items_slice-items.ensures.value) c.requires.some
