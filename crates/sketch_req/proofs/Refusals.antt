@@ -1,5 +1,5 @@
 -- Calls that return an error or are not refused: what their clauses say, and the numbers that decide it.
-use Rattle.std.proofs.Common.{◌≡◌, ◌⊎◌, ◌↔◌, ◌≢◌, ◌+◌, ◌-◌, ◌/◌, ◌<◌, ◌≤◌, ◌^◌, ◌∙◌, ℕ, Bool, true, false, not, leb, Option, None, Some, Result, Ok, Err, IsTrue, IfErr, inl, inr, refl, sym, ap, arith, List, [], ◌∷◌, ◌++◌, length, leb-true, leb-false}
+use Rattle.std.proofs.Common.{◌≡◌, ◌⊎◌, ◌↔◌, ◌≢◌, ◌+◌, ◌-◌, ◌/◌, ◌<◌, ◌≤◌, ◌^◌, ◌∙◌, ℕ, Bool, true, false, not, Option, None, Some, Result, Ok, Err, IsTrue, IfErr, inl, inr, refl, sym, ap, arith, List, [], ◌∷◌, ◌++◌, length}
 use Rattle.std.proofs.lemmas.Bool.{false≢true}
 use Rattle.std.specs.Int.{w64, to_le_bytes}
 use Rattle.std.proofs.lemmas.Result.{IfErr-weaker}
@@ -31,13 +31,12 @@ items_fit e fits told off (inl heavy) = omega (arith, e, fits, heavy)
 items_fit e fits told off (inr many) = false≢true (sym off ∙ told.1 (inr many.1))
 
 -- items whose number isn't above what is left
-pub weight_fits : {n : ℕ} (l : ℕ) {b : Bool} → b ≡ leb l (2 ^ 64 - 1 - n) → b ≡ true → n < 2 ^ 64 → n + l < 2 ^ 64
-weight_fits {n} l e on fits = let most = leb-true l (2 ^ 64 - 1 - n) (sym e ∙ on) in omega (arith, most, fits)
+pub weight_fits : {n : ℕ} (l : ℕ) → l ≤ 2 ^ 64 - 1 - n → n < 2 ^ 64 → n + l < 2 ^ 64
+weight_fits l most fits = omega (arith, most, fits)
 
 -- and those whose number is
-pub too_heavy : {n m : ℕ} (l : ℕ) (b : Bool) → n ≡ m → b ≡ leb l (2 ^ 64 - 1 - n) → (b ≡ true → false ≡ true) → 2 ^ 64 ≤ m + l
-too_heavy l true same e told = absurd (false≢true (told refl))
-too_heavy {n} l false same e told = let over = leb-false l (2 ^ 64 - 1 - n) (sym e) in omega (arith, over, same)
+pub too_heavy : {n m : ℕ} (l : ℕ) → n ≡ m → 2 ^ 64 - 1 - n < l → 2 ^ 64 ≤ m + l
+too_heavy l same over = omega (arith, over, same)
 
 -- a full sketch takes in no items
 pub none_fit : {m l r : ℕ} {full : Bool} → (IsTrue full ↔ ((m ≡ 2 ^ 64 - 1) ⊎ (r ≡ 4294967295))) → full ≡ true → (l ≡ 0 → ⊥) →

@@ -1,6 +1,5 @@
 -- The goals at the return are what updates by all items make of the fields.
-use Rattle.std.proofs.Common.{◌++◌, Ok, ◌≡◌, ◌+◌, ◌<◌, ◌≤◌, ◌⊎◌, ◌^◌, ◌∙◌, ℕ, false, inl, not, ap, length, refl, subst, sym}
-use Rattle.std.proofs.lemmas.Bool.{false≢true}
+use Rattle.std.proofs.Common.{Err, inr, ◌++◌, Ok, ◌≡◌, ◌+◌, ◌<◌, ◌≤◌, ◌⊎◌, ◌^◌, ℕ, false, inl, ap, length, refl, subst, sym}
 use Rattle.sketch_base.specs.Bag.{retained}
 use Rattle.sketch_req.specs.Actions.{bag_of}
 use Rattle.std.specs.List.{AllZip}
@@ -16,20 +15,15 @@ use Rattle.sketch_base.proofs.RefusedCalls.{some_of}
 use Rattle.sketch_req.proofs.Refusals.{items_fit, light_still, none_drawn, none_fit, too_heavy, weight_fits}
 use Rattle.sketch_req.proofs.UpdatedLevels.{not-full}
 use Rattle.sketch_req.proofs.sketch.ReqSketch.update_all.Given.{Over}
-use Rattle.sketch_req.proofs.sketch.ReqSketch.update_all.Goals.{After-from_residual, After-set_if_some-2, In_err-take_all, In_ok-unless, Joined-least, then-not-is_full, else-not-is_full}
+use Rattle.sketch_req.proofs.sketch.ReqSketch.update_all.Goals.{After-new, After-set_if_some-2, In_err-take_all, After-clone_passing_extremes, Joined-least}
 use Rattle.sketch_req.proofs.sketch.ReqSketch.update_all.Goals as goal
 use Rattle.sketch_req.proofs.sketch.ReqSketch.update_all.Goals.at as past
 
 -- the sketch isn't full, and the items leave its weight below 2^64
-allowed : (g : Over) (c : In_ok-unless g) → (c.is_full.result ≡ false) × (c.self.inside.n + length c.args.items.now < 2 ^ 64)
-allowed g c =
-    let told = c.in_ok-unless.ensures.ok.0 refl in
-    elim c.if-not-is_full.branch [
-      | then-not-is_full w ↦ (w.if-not-is_full.true, weight_fits _ w.unless-is told c.self.invariant.n_fits)
-      | else-not-is_full w ↦ absurd (false≢true (sym (ap (λ b. not b) w.if-not-is_full.false) ∙ (sym w.unless-is ∙ told)))
-    ]
+allowed : (g : Over) (c : After-clone_passing_extremes g) → (c.is_full.result ≡ false) × (c.self.inside.n + length c.args.items.now < 2 ^ 64)
+allowed g c = (c.if-is_full.false, weight_fits _ c.if-count-left.false c.self.invariant.n_fits)
 
-not_refused : (g : Over) (c : In_ok-unless g) → let s = c.args.self.now in let count = length c.args.items.now in
+not_refused : (g : Over) (c : After-clone_passing_extremes g) → let s = c.args.self.now in let count = length c.args.items.now in
     ((2 ^ 64 ≤ s.n + count) ⊎ ((0 < count) × (retained (bag_of s.levels) ≡ 4294967295))) → ⊥
 not_refused g c =
     let known = allowed g c in
@@ -41,29 +35,28 @@ returns-then-count-eq0 g c =
     c.if-count-eq0.true (subst (IsSound g.T.Ord.cmp) c.self.view_is c.self.invariant)
     (light_still (ap (λ (s : Req g.row.T.Denot). s.n) c.self.view_is) c.self.invariant.n_fits c.if-count-eq0.true)
 
--- the items are too many
-too_many : (g : Over) (c : After-from_residual g) → let s = c.args.self.now in let count = length c.args.items.now in
+-- the sketch is full, or the items are too many
+too_many : (g : Over) (c : After-new g) → let s = c.args.self.now in let count = length c.args.items.now in
     (2 ^ 64 ≤ s.n + count) ⊎ ((0 < count) × (retained (bag_of s.levels) ≡ 4294967295))
-too_many g c = elim c.if-not-is_full.branch [
-  | then-not-is_full w ↦ inl (too_heavy _ _ (ap (λ (s : Req g.row.T.Denot). s.n) c.self.view_is) w.unless-is c.in_err-unless.ensures.ok.1)
-  | else-not-is_full w ↦ none_fit c.is_full.ensures.value w.if-not-is_full.false c.if-count-eq0.false
+too_many g c = elim c.then-is_full.either [
+  | inl full ↦ none_fit c.is_full.ensures.value full c.if-count-eq0.false
+  | inr more ↦ inl (too_heavy _ (ap (λ (s : Req g.row.T.Denot). s.n) c.self.view_is) more.1)
 ]
 
-pub returns-in_err-unless : goal.returns-in_err-unless
-returns-in_err-unless g c =
-    let told = c.in_err-unless.ensures in
+pub returns-then-is_full : goal.returns-then-is_full
+returns-then-is_full g c =
     let s = c.args.self.now in
-    updates_refused g.T.Ord.cmp g.B.RandomBits.bit g.B.RandomBits.next s s c.args.coins.now c.args.coins.now c.from_residual.result c.args.items.now
-    c.from_residual.ensures.1 told.err
+    updates_refused g.T.Ord.cmp g.B.RandomBits.bit g.B.RandomBits.next s s c.args.coins.now c.args.coins.now (Err c.new.result) c.args.items.now
+    refl c.new.ensures
     (subst (IsSound g.T.Ord.cmp) c.self.view_is c.self.invariant) refl refl (none_drawn _ _ _) c.if-count-eq0.false (too_many g c)
 
 pub returns-in_err-least : goal.returns-in_err-least
 returns-in_err-least g c =
     let s = c.args.self.now in
-    updates_failed g.T.Ord.cmp g.B.RandomBits.bit g.B.RandomBits.next s s c.args.coins.now c.args.coins.now c.from_residual-in_err-least.result c.args.items.now
-    c.from_residual-in_err-least.ensures.1 refl
+    updates_failed g.T.Ord.cmp g.B.RandomBits.bit g.B.RandomBits.next s s c.args.coins.now c.args.coins.now c.from_residual.result c.args.items.now
+    c.from_residual.ensures.1 refl
     (subst (IsSound g.T.Ord.cmp) c.self.view_is c.self.invariant) refl (none_drawn _ _ _) c.if-count-eq0.false
-    (not_refused g (past.returns-in_err-least g c).In_ok-unless)
+    (not_refused g (past.returns-in_err-least g c).After-clone_passing_extremes)
 
 -- the coins that were drawn
 drawn : (g : Over) (c : Joined-least g) →
@@ -84,7 +77,7 @@ returns-in_err-take_all g c =
     c.args.coins.now c.take_all.new.coins
     c.from_residual-in_err-take_all.result c.args.items.now c.from_residual-in_err-take_all.ensures.1 c.in_err-take_all.ensures.memory
     (still_sound i.n i.min_item i.max_item kept c.self.invariant) (still_seen i.n i.min_item i.max_item kept c.self.view_is)
-    (drawn g c) c.if-count-eq0.false (not_refused g (past.returns-in_err-take_all g c).In_ok-unless)
+    (drawn g c) c.if-count-eq0.false (not_refused g (past.returns-in_err-take_all g c).After-clone_passing_extremes)
 
 -- the extremes, and the levels but for what they hold
 module _ (g : Over) (c : After-set_if_some-2 g) where
@@ -141,7 +134,7 @@ done g c known =
     (items_fit (ap (λ (s : Req g.row.T.Denot). s.n) c.self.view_is) known.1 c.is_full.ensures.value known.0)
 
 pub returns : goal.returns
-returns g c = done g (past.returns g c).After-set_if_some-2 (allowed g (past.returns g c).In_ok-unless)
+returns g c = done g (past.returns g c).After-set_if_some-2 (allowed g (past.returns g c).After-clone_passing_extremes)
 
 pub invariant_of-self : goal.invariant_of-self
 invariant_of-self g c =
@@ -152,11 +145,11 @@ invariant_of-self-2 g c = (returns g c).sound
 
 pub take_all-requires-clause-few : goal.take_all-requires-clause-few
 take_all-requires-clause-few g c =
-    (not-full _ _ _ c.self.view_is c.self.invariant c.is_full.ensures.value (allowed g (past.take_all-requires-clause-few g c).In_ok-unless).0).1
+    (not-full _ _ _ c.self.view_is c.self.invariant c.is_full.ensures.value (allowed g (past.take_all-requires-clause-few g c).After-clone_passing_extremes).0).1
 
 pub take_all-requires-clause-fits : goal.take_all-requires-clause-fits
 take_all-requires-clause-fits g c =
-    subst (λ (w : ℕ). w + length c.args.items.now < 2 ^ 64) (sym c.self.invariant.weighs_n) (allowed g (past.take_all-requires-clause-fits g c).In_ok-unless).1
+    subst (λ (w : ℕ). w + length c.args.items.now < 2 ^ 64) (sym c.self.invariant.weighs_n) (allowed g (past.take_all-requires-clause-fits g c).After-clone_passing_extremes).1
 
 pub take_all-requires-clause-some : goal.take_all-requires-clause-some
 take_all-requires-clause-some g c = some_of c.if-count-eq0.false
@@ -171,10 +164,10 @@ pub clone_passing_extremes-requires-clause-clones : goal.clone_passing_extremes-
 clone_passing_extremes-requires-clause-clones g c = c.requires.clones
 
 pub overflow_add-self : goal.overflow_add-self
-overflow_add-self g c = record { fits = (allowed g (past.overflow_add-self g c).In_ok-unless).1 }
+overflow_add-self g c = record { fits = (allowed g (past.overflow_add-self g c).After-clone_passing_extremes).1 }
 
 pub same-self-in_err-least : goal.same-self-in_err-least
 same-self-in_err-least g c = refl
 
-pub same-self-in_err-unless : goal.same-self-in_err-unless
-same-self-in_err-unless g c = refl
+pub same-self-then-is_full : goal.same-self-then-is_full
+same-self-then-is_full g c = refl
