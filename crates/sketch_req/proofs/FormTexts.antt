@@ -1,5 +1,5 @@
 -- The body of an image, by its form.
-use Rattle.std.proofs.Common.{◌≡◌, ◌+◌, ◌++◌, ◌≤◌, ◌∙◌, ℕ, Bool, true, false, if◌then◌else◌, List, [], ◌∷◌, get_or, length, append-nil, append_assoc, length-append, Option, refl, ap, sym, subst, arith, ◌==◌}
+use Rattle.std.proofs.Common.{◌≡◌, ◌+◌, ◌*◌, ◌^◌, ◌++◌, ◌<◌, ◌≤◌, ◌∙◌, ℕ, Bool, true, false, if◌then◌else◌, List, [], ◌∷◌, get_or, length, append-nil, append_assoc, length-append, Option, refl, ap, sym, subst, arith, ◌==◌}
 use Rattle.std.proofs.lemmas.Bool.{eqb-true}
 use Rattle.std.specs.Int.{w64, to_le_bytes}
 use Rattle.std.specs.Option.{option_to_list}
@@ -11,7 +11,7 @@ use Rattle.sketch_req.specs.Imaged.{items_in}
 use Rattle.sketch_req.specs.Level.{Level}
 use Rattle.sketch_req.specs.LevelImage.{levels_text}
 use Rattle.sketch_req.specs.Sketch.{Req}
-use Rattle.sketch_req.specs.Written.{body_by, ends_of, form_of, items_by}
+use Rattle.sketch_req.specs.Written.{body_by, ends_of, form_of, items_by, written_items}
 use Rattle.sketch_req.specs.declared.image.Form.{Form}
 use Rattle.sketch_req.specs.declared.image.Form.TheVariants.{Empty, Raw, One, Several}
 
@@ -80,3 +80,24 @@ module _ {A : Type 0} (f : A → Option (List ℕ)) (s : Req A) where
       ∙ (append_assoc ((old ++ n) ++ low) high rest ∙ append_assoc (old ++ n) low (high ++ rest) ∙ append_assoc old n (low ++ (high ++ rest))
       ∙ ap (λ (t : List ℕ). old ++ (n ++ t)) (sym (append_assoc low high rest) ∙ ap (λ (t : List ℕ). t ++ rest)
       (sym (text-ends (option_to_list s.least) (option_to_list s.greatest)))))
+
+-- ---- the size of a body
+
+pub record IsMeasured {A : Type 0} (f : A → Option (List ℕ)) (s : Req A) (n : ℕ) : Type 0 where
+  pub size : n ≡ length (body_by f (form_of s) s)
+  pub spelled : AllSpelled f (written_items s)
+  pub fits : n < 2 ^ 104
+
+pub measured : {A : Type 0} (f : A → Option (List ℕ)) (s : Req A) {form : Form} {n body : ℕ} → body ≡ n → form ≡ form_of s → n ≡ length (body_by f form s) →
+    AllSpelled f (items_by form s) → n < 2 ^ 104 → IsMeasured f s body
+measured f s is e size spelled fits =
+    subst (λ (m : ℕ). IsMeasured f s m) (sym is) (record { size = sized f s e size; spelled = all_spelled f s e spelled; fits = fits })
+
+pub few_bytes : {n l : ℕ} → n ≤ l * 2 ^ 64 → l < 2 ^ 32 → n < 2 ^ 104
+few_bytes most few = omega (arith, most, few)
+
+pub level_bytes : {n l : ℕ} → n ≤ l * 2 ^ 97 → l ≤ 64 → n < 2 ^ 104
+level_bytes most few = omega (arith, most, few)
+
+pub several_bytes : {a b n l : ℕ} → a < 2 ^ 64 → b < 2 ^ 64 → n ≤ l * 2 ^ 97 → l ≤ 64 → 8 + a + b + n < 2 ^ 104
+several_bytes low high most few = omega (arith, low, high, most, few)
