@@ -1,16 +1,16 @@
-use Rattle.std.proofs.Common.{IfOk, ◌≡◌, ◌∙◌, ◌∷◌, [], ◌≤◌, refl, inl, inr, sym, ap, subst, arith, length, List, Bool, Err, IsSorted, le-leb}
-use Rattle.std.proofs.lemmas.Bool.{eqb-true, false≢true, leb-true, ltb-true}
+use Rattle.std.proofs.Common.{IfOk, ◌≡◌, ◌∙◌, ◌∷◌, [], ◌≤◌, sym, ap, subst, arith, length, List, Bool, IsSorted}
 use Rattle.std.specs.Prelude.{IsTrue, ◌↔◌}
 use Rattle.sketch_req.specs.Level.{Level, fresh}
 use Rattle.std.proofs.lemmas.Result.{IfOk-weaker}
 use Rattle.sketch_req.specs.Image.{IsRawBody, accuracy_in}
 use Rattle.sketch_req.specs.Walk.{IsPlaced}
 use Rattle.sketch_req.specs.declared.RankAccuracy.{RankAccuracy}
+use Rattle.sketch_base.proofs.RefusedCalls.{none_or_some, not_between, some_of}
 use Rattle.sketch_base.proofs.Exits.{data_not_argument, no_found, returned, with_error}
-use Rattle.sketch_req.proofs.Refusals.{few_counted, memory_alone, no_refusal_of, none_counted}
+use Rattle.sketch_req.proofs.Refusals.{few_counted, memory_alone, no_refusal_of}
 use Rattle.sketch_req.proofs.Sounds.{fresh_placed}
 use Rattle.sketch_req.proofs.sketch.ReqSketch.read_raw.Given.{Over}
-use Rattle.sketch_req.proofs.sketch.ReqSketch.read_raw.Goals.{After-from_level, then-count-gt0, else-count-gt0, then-header-eq1, else-header-eq1, After-read_items, After-raw_items_compactor-level}
+use Rattle.sketch_req.proofs.sketch.ReqSketch.read_raw.Goals.{After-from_level, then-header-ne1-via-then-header-ne1, then-header-ne1-via-else-header-ne1+then-count-eq0, then-header-ne1-via-else-header-ne1+else-count-eq0+then-count-gt-RAW_ITEMS_THRESHOLD, After-read_items, After-raw_items_compactor-level}
 use Rattle.sketch_req.proofs.sketch.ReqSketch.read_raw.Goals as goal
 use Rattle.sketch_req.proofs.sketch.ReqSketch.read_raw.Goals.at as past
 
@@ -24,20 +24,7 @@ fresh_level g c =
 
 -- what the header says of the items
 numbers : (g : Over) (c : After-read_items g) → (c.args.header.now.first ≡ 1) × (1 ≤ c.args.header.now.second) × (c.args.header.now.second ≤ 4)
-numbers g c =
-    let holds : IsTrue c.if-count-gt0.unless = c.in_ok-unless.ensures.ok.0 refl in
-    elim c.if-count-gt0.branch [
-      | then-count-gt0 w ↦ (w.if-count-gt0.true.0, w.if-count-gt0.true.1, leb-true c.args.header.now.second 4 (sym w.unless-is ∙ holds))
-      | else-count-gt0 w ↦
-          elim c.if-header-eq1.branch [
-            | then-header-eq1 v ↦
-                elim w.if-count-gt0.either [
-                  | inl low ↦ absurd (none_counted low.1 (ltb-true 0 c.args.header.now.second (sym v.t-20-is ∙ (sym w.unless-is ∙ holds))))
-                  | inr none ↦ absurd (none v.if-header-eq1.true)
-                ]
-            | else-header-eq1 v ↦ absurd (v.if-header-eq1.false (eqb-true c.args.header.now.first 1 (sym v.t-20-is ∙ (sym w.unless-is ∙ holds))))
-          ]
-    ]
+numbers g c = (c.if-header-ne1.false, some_of c.if-count-eq0.false, c.if-count-gt-RAW_ITEMS_THRESHOLD.false)
 
 pub from_level-requires-clause-clones : goal.from_level-requires-clause-clones
 from_level-requires-clause-clones g c = c.requires.clones
@@ -65,24 +52,21 @@ from_level-requires-clause-fresh g c =
     let rest = fresh_level g (past.from_level-requires-clause-fresh g c).After-raw_items_compactor-level in
     λ _. (ap (λ (l : Level g.row.T.Denot). l.state) rest, ap (λ (l : Level g.row.T.Denot). l.doublings) rest)
 
-pub returns-in_err-unless : goal.returns-in_err-unless
-returns-in_err-unless g c =
-    let told = c.in_err-unless.ensures in
-    let e = returned c.from_residual.result _ c.from_residual.ensures.1 ∙ ap Err told.err in
-    record {
-      found = no_found _ e;
-      refused = with_error _ e (λ k s rest b.
-          elim c.if-count-gt0.branch [
-            | then-count-gt0 w ↦ false≢true (told.ok.1 (w.unless-is ∙ le-leb _ _ b.few_items))
-            | else-count-gt0 w ↦ elim w.if-count-gt0.either [ inl low ↦ none_counted low.1 b.some_items | inr none ↦ none b.one_level ]
-          ]);
-      kind = with_error _ e data_not_argument;
-    }
+pub returns-then-header-ne1 : goal.returns-then-header-ne1
+returns-then-header-ne1 g c = record {
+  found = tt;
+  refused = λ q s rest b. elim c.then-header-ne1.branch [
+    | then-header-ne1-via-then-header-ne1 w ↦ w.if-header-ne1.true b.one_level
+    | then-header-ne1-via-else-header-ne1+then-count-eq0 w ↦ none_or_some w.if-count-eq0.true b.some_items
+    | then-header-ne1-via-else-header-ne1+else-count-eq0+then-count-gt-RAW_ITEMS_THRESHOLD w ↦ not_between w.if-count-gt-RAW_ITEMS_THRESHOLD.true b.few_items
+  ];
+  kind = λ is. data_not_argument (sym c.new.ensures ∙ is);
+}
 
 pub returns-in_err-items : goal.returns-in_err-items
 returns-in_err-items g c =
     let told = c.in_err-items.ensures in
-    let e = returned c.from_residual-in_err-items.result _ c.from_residual-in_err-items.ensures.1 in
+    let e = returned c.from_residual.result _ c.from_residual.ensures.1 in
     record {
       found = no_found _ e;
       refused = with_error _ e (λ k s rest b. told.refused k b.items rest b.as_many b.begins);
