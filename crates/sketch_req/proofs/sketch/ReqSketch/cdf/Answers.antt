@@ -1,4 +1,4 @@
-use Rattle.std.proofs.Common.{ℕ, ◌+◌, ◌<◌, ◌≡◌, ◌++◌, [], ◌∷◌, Err, IfOk, length, map, arith, ap, subst, sym, ◌∙◌}
+use Rattle.std.proofs.Common.{ℕ, ◌+◌, ◌<◌, ◌≤◌, ◌≡◌, ◌++◌, [], ◌∷◌, Err, IfOk, length, map, arith, ap, subst, sym, ◌∙◌}
 use Rattle.sketch_base.specs.declared.error.ErrorKind.TheVariants.{OutOfMemory}
 use Rattle.sketch_base.specs.Answered.{IsFoundAmong, IsRefusedUnless}
 use Rattle.sketch_base.specs.Bag.{expanded}
@@ -15,6 +15,18 @@ use Rattle.sketch_req.proofs.sketch.ReqSketch.cdf.Goals.{After-allocator-alloc, 
 use Rattle.sketch_req.proofs.sketch.ReqSketch.cdf.Goals as goal
 use Rattle.sketch_req.proofs.sketch.ReqSketch.cdf.Goals.at as past
 
+one_more : {i n : ℕ} → i < n → i + 1 ≤ n
+one_more less = omega (arith, less)
+
+at_first : (n : ℕ) → 0 ≤ n
+at_first n = omega arith
+
+above : {n m : ℕ} → n + 1 ≤ m → n < m
+above room = omega (arith, room)
+
+pub bounds-points-point-index : goal.bounds-points-point-index
+bounds-points-point-index g c = c.loop-point-test.true
+
 pub loop-point-preserved : goal.loop-point-preserved
 loop-point-preserved g c =
     let s = c.args.self.now in
@@ -26,7 +38,7 @@ loop-point-preserved g c =
           c.rank_weight-weight.ensures
           (pushed.items ∙ ap (λ (t : ℕ). c.loop-point.ranks.items ++ record { weight = c.rank_weight-weight.result; total = t } ∷ []) c.n-total.ensures.value);
       len = same_number pushed.len (ap (λ (n : ℕ). n + 1) i.len);
-      within = omega (arith, c.loop-point-test.true);
+      within = one_more c.loop-point-test.true;
       room = subst (λ (n : ℕ). length c.args.points.now < n) (sym pushed.capacity) i.room;
     }
 
@@ -98,8 +110,8 @@ pub loop-point-init : goal.loop-point-init
 loop-point-init g c = record {
   told = c.in_ok-ranks.ensures.items;
   len = c.in_ok-ranks.ensures.len;
-  within = grind arith;
-  room = grind arith;
+  within = at_first _;
+  room = above c.in_ok-ranks.ensures.capacity;
 }
 
 pub offset_bounds-points-point-index : goal.offset_bounds-points-point-index
