@@ -115,10 +115,12 @@ impl<T: Clone + Ord> ReqSketch<T> {
         ensures { IfSome result (λ x. SameAnswer T.cmp
             (slice_get (expanded T.cmp (bag_of self.now.levels)) place) (Some x.now)) }
     {
-        for level in self.levels.compactors.iter().rev() {
+        let mut levels = self.levels.compactors.as_slice();
+        while let Some((level, lower)) = levels.split_last() {
             if let Some(item) = find_in(self, level.items_slice(), place) {
                 return Some(item);
             }
+            levels = lower;
         }
         None
     }
