@@ -203,7 +203,6 @@ impl<T: Clone + Ord> Ranked<T> for ReqSketch<T> {
     ghost bag = { λ s. bag_of s.levels };
 
     fn rank_weight(&self, item: &T, criteria: SearchCriteria) -> u64 {
-        let levels = &self.levels;
-        weight_counted(levels.compactors.as_slice(), item, criteria)
+        weight_counted(self.levels.compactors.as_slice(), item, criteria)
     }
 }
