@@ -43,9 +43,9 @@ pub(super) fn join_levels<T: Clone + Ord>(
         add_level(levels, level, k, rank_accuracy);
         levels[level].join(
             &others[level],
+            &mut room.rooms[level].clones,
             &mut room.coming,
             &mut room.up,
-            &mut room.rooms[level],
         );
     }
 }

@@ -4,6 +4,7 @@ use Rattle.sketch_req.proofs.Held.{own-levels}
 -- The loop keeps that the levels below are joined, and that there are clones and room for the others.
 use Rattle.std.proofs.Common.{◌≡◌, ℕ, true, get_or, [], vec_capacity, length-set, ap, sym, ◌∙◌, refl, subst, arith}
 use Rattle.std.proofs.Math.Seq.{map-set_same}
+use Rattle.sketch_base.specs.Bag.{SameItems}
 use Rattle.sketch_base.specs.Buffers.{Space}
 use Rattle.sketch_req.specs.Level.{Level, fresh}
 use Rattle.sketch_req.specs.Merged.{IsCopied}
@@ -91,6 +92,7 @@ join-requires-clause-weight g c =
 pub join-requires-clause-clones : goal.join-requires-clause-clones
 join-requires-clause-clones g c =
     let at = past.join-requires-clause-clones g c in
+    subst (λ (b : Space g.row.T.Denot). SameItems g.T.Ord.cmp c.index-others-level.result.items b.clones) (sym c.behind-room.view_is)
     (ready g at.After-index_mut-in-loop-level (added g at.After-add_level) c.index-others-level.result c.index-others-level.is).same
 
 pub join-requires-clause-few : goal.join-requires-clause-few
@@ -102,7 +104,12 @@ join-requires-clause-few g c =
 pub join-requires-clause-space : goal.join-requires-clause-space
 join-requires-clause-space g c =
     let at = past.join-requires-clause-space g c in
+    subst (λ (b : Space g.row.T.Denot). length c.index_mut.result.now.items + length c.index-others-level.result.items ≤ b.clones_space)
+    (sym c.behind-room.view_is)
     (ready g at.After-index_mut-in-loop-level (added g at.After-add_level) c.index-others-level.result c.index-others-level.is).space
+
+pub invariant_of-behind-room : goal.invariant_of-behind-room
+invariant_of-behind-room g c = c.behind-room.invariant
 
 pub join-requires-clause-empty : goal.join-requires-clause-empty
 join-requires-clause-empty g c = c.loop-level.invariant.empty
@@ -124,17 +131,16 @@ loop-level-preserved g c =
     let i = c.loop-level.invariant in
     let buffers = c.loop-level.room.rooms.items in
     let old = c.index_mut-in-loop-level.result.now in
-    let own = c.join.new.buffers in
     let merged = λ (b : Space g.row.T.Denot). b.merged_space in
-    let same = ap merged c.join.ensures.rest ∙ ap merged c.index_mut-in-loop-level.ensures.value in
+    let same = ap merged c.behind-room.view_is ∙ ap merged c.index_mut-in-loop-level.ensures.value in
     let joined = joined-there g.met.T.Ord.total _ (k_of c.args.others.now) _ _ _ _ c.index_mut.result.now _ _
     (copied g before new c.index-others-level.result c.index-others-level.is) c.loop-level-test.true c.index-others-level.is c.join.ensures.ok c.join.ensures.sound in
     record {
       joined = next-joined g.met.T.Ord.total _ _ _ _ c.requires.levels.placed _ _ _ _ c.join.new.self i.joined new joined;
       spare = lt_of_lt_of_le i.spare c.add_level.ensures.capacity;
-      enough = subst (λ (n : ℕ). length c.args.others.now ≤ n) (sym (length-set buffers c.loop-level.level own)) i.enough;
-      cloned = λ h l m. let other = places-above _ h l in cloned-other g.T.Ord.cmp _ _ buffers c.loop-level.level own _ h other.0 (i.cloned h other.1 m);
-      merged_spaces = map-set_same (λ b. b.merged_space) buffers c.loop-level.level own old same ∙ i.merged_spaces;
+      enough = subst (λ (n : ℕ). length c.args.others.now ≤ n) (sym (length-set buffers c.loop-level.level _)) i.enough;
+      cloned = λ h l m. let other = places-above _ h l in cloned-other g.T.Ord.cmp _ _ buffers c.loop-level.level _ _ h other.0 (i.cloned h other.1 m);
+      merged_spaces = map-set_same (λ b. b.merged_space) buffers c.loop-level.level _ old same ∙ i.merged_spaces;
       empty = c.join.ensures.empty;
       coming = c.join.ensures.promoted ∙ i.coming;
       nothing = c.join.ensures.spare;
