@@ -145,7 +145,7 @@ impl<T: Clone + Ord> Levels<T> {
         ensures memory { IfErr result (λ e. e ≡ OutOfMemory) }
     {
         if self.num_retained + items.len() < self.capacity {
-            return Ok(self.fill(items)?);
+            return self.fill(items);
         }
         let mut copy = Levels::new(self.k, self.rank_accuracy, copy_levels(&self.compactors)?);
         copy.take_in_turn(items, coins)?;
@@ -184,8 +184,8 @@ impl<T: Clone + Ord> Levels<T> {
     }
 
     /// Appends clones of items to level 0. The levels together must not be full after them. An
-    /// error leaves the levels unchanged.
-    fn fill(&mut self, items: &[T]) -> Result<(), AllocError>
+    /// error is `OutOfMemory`, and leaves the levels unchanged.
+    fn fill(&mut self, items: &[T]) -> Result<(), Error>
         requires clones { (x y : T) → T.is_clone x y → T.cmp x y ≡ Equal }
         requires some { 0 < length items.now }
         requires room { retained_of (layouts_of self.old.levels) + length items.now
@@ -193,6 +193,7 @@ impl<T: Clone + Ord> Levels<T> {
         ensures kept { self.new ≡ record self.old { levels = self.new.levels } }
         ensures filled { OnOk result (HaveClones T.cmp self.old.levels items.now self.new.levels) }
         ensures err { OnErr result (self.new ≡ self.old) }
+        ensures memory { IfErr result (λ e. e ≡ OutOfMemory) }
     {
         self.compactors[0].append_clones(items)?;
         self.num_retained += items.len();

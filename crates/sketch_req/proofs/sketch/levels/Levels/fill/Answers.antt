@@ -9,7 +9,7 @@ use Rattle.sketch_req.specs.Level.{Level}
 use Rattle.sketch_req.specs.Schedule.{layouts_of, nominal_sum, retained_of}
 use Rattle.sketch_req.proofs.ListPlaces.{set-kept}
 use Rattle.sketch_req.proofs.TakenInTurn.{first-few, first-filled, held-filled, nominal-small}
-use Rattle.sketch_base.proofs.Exits.{on_error}
+use Rattle.sketch_base.proofs.Exits.{error_known, on_error}
 use Rattle.sketch_req.proofs.Held.{with-levels, same-levels}
 use Rattle.sketch_req.proofs.sketch.levels.Levels.fill.Goals.{In_ok-append_clones}
 use Rattle.sketch_req.proofs.sketch.levels.Levels.fill.Given.{Over}
@@ -58,6 +58,7 @@ returns g c =
       filled = subst (λ (s : Held g.row.T.Denot). HaveClones g.T.Ord.cmp s.levels c.args.items.now levels) c.self.view_is
           (record { clones = h.clones; same = h.same; levels_are = filled g (past.returns g c).In_ok-append_clones });
       err = tt;
+      memory = tt;
     }
 
 pub returns-in_err-append_clones : goal.returns-in_err-append_clones
@@ -69,6 +70,7 @@ returns-in_err-append_clones g c =
       kept = with-levels _ _ (set s.compactors.items 0 c.append_clones.new.self) c.self.view_is;
       filled = IfOk-from_err r _ c.from_residual.ensures.0;
       err = on_error r (same-levels _ _ _ _ _ same c.self.view_is);
+      memory = error_known r _ c.from_residual.ensures.1;
     }
 
 pub invariant_of-self : goal.invariant_of-self

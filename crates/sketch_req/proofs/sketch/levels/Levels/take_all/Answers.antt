@@ -2,7 +2,9 @@
 use Rattle.std.proofs.Common.{ℕ, ◌<◌, Bool, List, Ordering, refl, subst, sym, ◌≡◌, ◌∙◌, arith, ap}
 use Rattle.std.proofs.lemmas.Grind.{common_steps}
 use Rattle.std.proofs.lemmas.List.Elements.{length_all_zip}
+use Rattle.std.proofs.lemmas.Result.{on_ok_weaker}
 use Rattle.std.specs.List.{AllZip}
+use Rattle.sketch_base.proofs.Exits.{on_error}
 use Rattle.sketch_base.specs.Trace.{draws_of}
 use Rattle.sketch_req.specs.Held.{IsHeld, held_of, Held}
 use Rattle.sketch_req.specs.Updates.{AreAllTaken, AreTakenInTurn, IsDrawnFrom}
@@ -120,11 +122,11 @@ returns g c =
 pub returns-then-self-items : goal.returns-then-self-items
 returns-then-self-items g c =
     let s = c.args.self.now in
+    let r = c.fill.result in
     let held = subst (IsHeld g.T.Ord.cmp c.self.inside.num_retained c.self.inside.capacity) c.self.view_is c.self.invariant in
-    let h = c.in_ok-fill.ensures.filled in
     record {
-      kept = c.in_ok-fill.ensures.kept;
-      taken = record {
+      kept = c.fill.ensures.kept;
+      taken = on_ok_weaker r (λ h. record {
         copies = s.levels;
         are_copies = levels-itself g.met.T.Ord.total s.levels;
         taken = subst (λ (ls : List (Level g.row.T.Denot)). AreTakenInTurn g.T.Ord.cmp g.B.RandomBits.bit g.B.RandomBits.next c.args.coins.now c.args.coins.now
@@ -133,18 +135,11 @@ returns-then-self-items g c =
             (taken-filled g.met.T.Ord.total g.B.RandomBits.bit g.B.RandomBits.next s.k s.accuracy c.args.coins.now s.levels _ h.clones held.some held.placed
             h.same
             (omega (arith, c.if-self-items.true, held.retained_is, held.capacity_is)));
-      };
-      err = tt;
-      drawn = tt;
-      memory = tt;
+      }) c.fill.ensures.filled;
+      err = c.fill.ensures.err;
+      drawn = on_error r (none_drawn _ _ _);
+      memory = c.fill.ensures.memory;
     }
-
-pub returns-in_err-fill : goal.returns-in_err-fill
-returns-in_err-fill g c =
-    let told = c.in_err-fill.ensures in
-    all_failed g.T.Ord.cmp g.B.RandomBits.bit g.B.RandomBits.next c.args.self.now c.fill.new.self c.args.items.now c.args.coins.now c.args.coins.now
-    c.from_residual.result
-    c.from_residual.ensures refl told.kept told.err (none_drawn _ _ _)
 
 pub returns-in_err-take_in_turn : goal.returns-in_err-take_in_turn
 returns-in_err-take_in_turn g c =
@@ -158,8 +153,8 @@ returns-in_err-take_in_turn g c =
 pub returns-in_err-copy_levels : goal.returns-in_err-copy_levels
 returns-in_err-copy_levels g c =
     all_failed g.T.Ord.cmp g.B.RandomBits.bit g.B.RandomBits.next c.args.self.now c.args.self.now c.args.items.now c.args.coins.now c.args.coins.now
-    c.from_residual-in_err-copy_levels.result
-    c.from_residual-in_err-copy_levels.ensures refl refl refl (none_drawn _ _ _)
+    c.from_residual.result
+    c.from_residual.ensures refl refl refl (none_drawn _ _ _)
 
 pub take_in_turn-requires-clause-clones : goal.take_in_turn-requires-clause-clones
 take_in_turn-requires-clause-clones g c = c.requires.clones

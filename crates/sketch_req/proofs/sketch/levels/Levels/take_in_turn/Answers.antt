@@ -69,7 +69,7 @@ pub returns-in_err-fill : goal.returns-in_err-fill
 returns-in_err-fill g c =
     let i = c.loop-taken.invariant in
     turn_failed g.T.Ord.cmp g.B.RandomBits.bit g.B.RandomBits.next c.args.self.now c.fill.new.self c.args.items.now c.args.coins.now c.loop-taken.coins
-    c.from_residual-in_err-fill.result c.loop-taken.self c.loop-taken.coins c.loop-taken.taken c.from_residual-in_err-fill.ensures refl i.kept i.left
+    c.from_residual-in_err-fill.result c.loop-taken.self c.loop-taken.coins c.loop-taken.taken c.from_residual-in_err-fill.ensures c.in_err-fill.ensures.memory i.kept i.left
     c.in_err-fill.ensures.kept refl
 
 -- how long a part is, and that there is room for it
