@@ -1,17 +1,40 @@
 -- What calls on levels come to that fail, as their contracts tell it.
-use Rattle.std.proofs.Common.{◌≡◌, ◌≤◌, ◌∙◌, ℕ, Bool, List, Result, Ordering, IsErr, IsErrAnd, IfErr, IfOk, OnErr, OnOk, drop, subst, take}
+use Rattle.std.proofs.Common.{◌≡◌, ◌≤◌, ◌∙◌, ℕ, Bool, List, Result, MatchResult, Ok, Err, ap, Ordering, IsErr, IsErrAnd, IfErr, OnErr, OnOk, drop, subst, take}
 use Rattle.std.proofs.lemmas.List.{take-append-drop}
 use Rattle.std.proofs.lemmas.Result.{IfOk-from_err}
 use Rattle.sketch_base.specs.Trace.{draws_of}
 use Rattle.sketch_base.specs.declared.error.ErrorKind.{ErrorKind}
-use Rattle.sketch_base.specs.declared.error.ErrorKind.TheVariants.{OutOfMemory}
-use Rattle.sketch_base.proofs.Exits.{on_error, only_error}
+use Rattle.sketch_base.specs.declared.error.ErrorKind.TheVariants.{InvalidArgument, OutOfMemory}
+use Rattle.sketch_base.proofs.Exits.{no_error, on_error, only_error, other_kind}
 use Rattle.sketch_req.specs.Held.{Held}
+use Rattle.sketch_req.specs.Level.{Level}
 use Rattle.sketch_req.specs.Schedule.{layouts_of}
 use Rattle.sketch_req.specs.ScheduleLaws.{updates_actions}
 use Rattle.sketch_req.specs.Updates.{AreAllTaken, AreLeft, AreTakenInTurn, IsDrawnFrom}
-use Rattle.sketch_req.proofs.Held.{with-levels}
+use Rattle.sketch_req.proofs.Held.{only-levels, with-levels}
 use Rattle.sketch_req.proofs.TakenInTurn.{draws-few}
+
+-- a call whose error is turned into `OutOfMemory`
+pub memory_told : {D : Type 0} (P Q : Type 0) (o : Result Unit D) (r : Result Unit ErrorKind) →
+    MatchResult o (λ x. r ≡ Ok x) (λ _. IsErrAnd r (λ e. e ≡ OutOfMemory)) → OnOk o P → OnErr o Q →
+    OnOk r P × (OnErr r Q × IfErr r (λ e. e ≡ OutOfMemory))
+memory_told P Q (Ok x) r is p q = rw is (p, (tt, tt))
+memory_told P Q (Err d) (Ok x) is p q = absurd is
+memory_told P Q (Err d) (Err e) is p q = (tt, (q, is))
+
+-- the levels of a sketch are all that such a call may have changed
+pub levels_only : {A T E : Type 0} (new s : Held A) (ns : List (Level A)) (r : Result T E) → OnOk r (new ≡ record s { levels = ns }) → OnErr r (new ≡ s) →
+    new ≡ record s { levels = new.levels }
+levels_only new s ns (Ok x) put kept = only-levels new s _ put
+levels_only new s ns (Err e) put kept = only-levels new s _ kept
+
+pub memory_only : {T : Type 0} (r : Result T ErrorKind) → IfErr r (λ e. e ≡ OutOfMemory) → r ≡ Err InvalidArgument → ⊥
+memory_only (Ok x) h is = no_error is
+memory_only (Err e) h is = other_kind (ap Err h) is
+
+pub memory_if : {T : Type 0} (P : Type 0) (r : Result T ErrorKind) → IfErr r (λ e. e ≡ OutOfMemory) → IfErr r (λ e. P → e ≡ OutOfMemory)
+memory_if P (Ok x) h = tt
+memory_if P (Err e) h = λ p. h
 
 module _ {A S : Type 0} (cmp : A → A → Ordering) (bit : S → Bool) (next : S → S) (s new : Held A) (items : List A) (source after : S) where
   -- all items are taken in, or none

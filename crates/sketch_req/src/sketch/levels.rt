@@ -115,7 +115,7 @@ impl<T: Clone + Ord> Levels<T> {
         ensures memory { IfErr result (λ e. e ≡ OutOfMemory) }
     {
         if self.num_retained + 1 < self.capacity {
-            return Ok(self.put(item)?);
+            return self.put(item).map_err(Error::from);
         }
         append_and_walk(&mut self.compactors, item, coins)?;
         give_back(&mut self.compactors, (self.num_retained / 8).max(24) - 24);

@@ -1,15 +1,16 @@
 use Rattle.std.proofs.Common.{◌<◌, ◌≤◌, ◌+◌, subst₂, ℕ, List, refl, subst, sym, ◌≡◌, ◌∙◌, true, false, ap, arith, le-leb}
-use Rattle.std.proofs.lemmas.Result.{IfOk-from_err}
+use Rattle.std.proofs.lemmas.Result.{IfOk-from_err, on_err_weaker, on_ok_weaker}
 use Rattle.std.proofs.lemmas.Bool.{lt-leb}
 use Rattle.sketch_req.specs.declared.RankAccuracy.{RankAccuracy}
 use Rattle.sketch_req.specs.Walk.{AreWalkedIfFull, k_of, AreWalkedOver, appended_first}
 use Rattle.sketch_req.specs.Held.{IsHeld, held_of, Held}
 use Rattle.sketch_req.specs.Level.{Level}
 use Rattle.sketch_req.specs.Schedule.{layouts_of, are_full}
+use Rattle.sketch_req.proofs.LevelEnds.{levels_only, memory_told}
 use Rattle.sketch_req.proofs.Sounds.{some-weight}
 use Rattle.sketch_req.proofs.UpdatedLevels.{weight-appended, acted-spare, acted-walk, nominal-appended, placed-appended, retained-appended}
-use Rattle.sketch_req.proofs.Held.{only-levels, with-levels, same-levels, held-sums, few-levels, own-levels}
-use Rattle.sketch_base.proofs.Exits.{error_known, on_error, only_error}
+use Rattle.sketch_req.proofs.Held.{with-levels, same-levels, held-sums, few-levels, own-levels}
+use Rattle.sketch_base.proofs.Exits.{on_error, only_error}
 use Rattle.sketch_req.proofs.sketch.levels.Levels.take_last.Given.{Over}
 use Rattle.sketch_req.proofs.sketch.levels.Levels.take_last.Goals.{In_ok-append_and_walk}
 use Rattle.sketch_req.proofs.sketch.levels.Levels.take_last.Goals as goal
@@ -82,40 +83,28 @@ returns-then-self g c =
     let same = nominal-appended s.k s.levels c.args.item in
     let spare : are_full s.k (layouts_of (appended_first s.levels c.args.item)) ≡ false = lt-leb _ _
     (subst₂ (λ (n m : ℕ). n < m) (ap (λ (n : ℕ). n + 1) held.retained_is ∙ sym more) (held.capacity_is ∙ sym same) c.if-self.true) in
-    let put = c.in_ok-put.ensures.ok in
-    let levels = sym (ap (λ (h : Held g.row.T.Denot). h.levels) put) in
+    let told = memory_told _ _ c.put.result c.map_err.result c.map_err.ensures.cases c.put.ensures.ok c.put.ensures.err in
     record {
-      kept = only-levels c.put.new.self s _ put;
-      acted = subst (AreWalkedIfFull g.T.Ord.cmp g.B.RandomBits.bit g.B.RandomBits.next c.args.coins.now c.args.coins.now s.k s.accuracy
-          (appended_first s.levels c.args.item)) levels
+      kept = levels_only c.put.new.self s _ c.put.result c.put.ensures.ok c.put.ensures.err;
+      acted = on_ok_weaker c.map_err.result (λ put.
+          subst (AreWalkedIfFull g.T.Ord.cmp g.B.RandomBits.bit g.B.RandomBits.next c.args.coins.now c.args.coins.now s.k s.accuracy
+          (appended_first s.levels c.args.item)) (sym (ap (λ (h : Held g.row.T.Denot). h.levels) put))
           (acted-spare g.met.T.Ord.total g.B.RandomBits.bit g.B.RandomBits.next c.args.coins.now s.k s.accuracy (appended_first s.levels c.args.item)
-          (placed-appended g.T.Ord.cmp s.k s.accuracy s.levels c.args.item held.placed c.requires.few) spare);
-      err = tt;
-      memory = tt;
+          (placed-appended g.T.Ord.cmp s.k s.accuracy s.levels c.args.item held.placed c.requires.few) spare)) told.0;
+      err = on_err_weaker c.map_err.result (λ same. (same, refl)) told.1.0;
+      memory = told.1.1;
     }
 
 pub returns-in_err-append_and_walk : goal.returns-in_err-append_and_walk
 returns-in_err-append_and_walk g c =
-    let r = c.from_residual-in_err-append_and_walk.result in
-    let (fails, is) = c.from_residual-in_err-append_and_walk.ensures in
+    let r = c.from_residual.result in
+    let (fails, is) = c.from_residual.ensures in
     let (levels, coins) = c.in_err-append_and_walk.ensures.err in
     record {
       kept = with-levels _ _ c.append_and_walk.new.levels.items c.self.view_is;
       acted = IfOk-from_err r _ fails;
       err = on_error r (same-levels _ _ _ _ _ levels c.self.view_is, coins);
       memory = only_error r is c.in_err-append_and_walk.ensures.memory;
-    }
-
-pub returns-in_err-put : goal.returns-in_err-put
-returns-in_err-put g c =
-    let r = c.from_residual.result in
-    let (fails, is) = c.from_residual.ensures in
-    let same = c.in_err-put.ensures.err in
-    record {
-      kept = only-levels c.put.new.self c.args.self.now _ same;
-      acted = IfOk-from_err r _ fails;
-      err = on_error r (same, refl);
-      memory = error_known r _ is;
     }
 
 -- a weight after an item came in
