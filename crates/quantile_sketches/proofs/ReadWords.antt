@@ -1,7 +1,6 @@
 -- What words say, read one after another.
 use Rattle.std.proofs.Common.{◌≡◌, Bool, true, false, cond, List, [], ◌∷◌, ℕ, drop, Option, None, Some, slice_get, option_and_then, refl, sym, ap, ◌∙◌}
 use Rattle.std.proofs.lemmas.Bool.{cond-true, cond-false}
-use Rattle.std.specs.Bool.{then_some}
 use Rattle.quantile_sketches.specs.LineWords.{then_word}
 
 module _ {A B : Type 0} (read : List ℕ → Option A) (next : A → List (List ℕ) → Option B) where
@@ -15,15 +14,6 @@ module _ {A B : Type 0} (read : List ℕ → Option A) (next : A → List (List 
   pub then-none : (ws : List (List ℕ)) {r : Option B} → r ≡ None → None ≡ option_and_then read (slice_get ws 0) → r ≡ then_word read next ws
   then-none [] e none = e
   then-none (w ∷ ws) e none = e ∙ ap (option_and_then (λ a. next a ws)) none
-
--- a flag that is given, and one that isn't
-pub flagged : (told : Bool) {done : Unit {0}} → Some done ≡ then_some told tt → told ≡ true
-flagged true is = refl
-flagged false is = absurd cc
-
-pub not-flagged : (told : Bool) → None ≡ then_some told (tt {0}) → told ≡ false
-not-flagged true is = absurd cc
-not-flagged false is = refl
 
 -- a word that is read, and what it says
 pub word-read : {A : Type 0} (read : List ℕ → Option A) (ws : List (List ℕ)) {w : List ℕ} {r : Option A} → Some w ≡ slice_get ws 0 → r ≡ read w →

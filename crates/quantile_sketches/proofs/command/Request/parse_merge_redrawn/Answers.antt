@@ -7,6 +7,3 @@ returns c = grind arith
 
 pub returns-in_err-source : goal.returns-in_err-source
 returns-in_err-source c = grind (arith, common_steps)
-
-pub returns-in_err-then_some : goal.returns-in_err-then_some
-returns-in_err-then_some c = grind (arith, common_steps)

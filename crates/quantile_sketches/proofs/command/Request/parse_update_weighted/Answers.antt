@@ -1,4 +1,4 @@
-use Rattle.std.proofs.Common.{◌≡◌, ℕ, ℤ, Bool, true, List, [], ◌∷◌, drop, Option, Some, slice_get, option_and_then, refl, sym, ap, ◌∙◌, subst, arith}
+use Rattle.std.proofs.Common.{◌≡◌, ℕ, ℤ, true, List, [], ◌∷◌, drop, Option, Some, slice_get, option_and_then, refl, sym, ap, ◌∙◌, arith}
 use Rattle.std.proofs.lemmas.Grind.{common_steps}
 use Rattle.std.specs.Int.{w64}
 use Rattle.std.proofs.lemmas.Int.{to_z-of_z}
@@ -9,7 +9,6 @@ use Rattle.quantile_sketches.specs.declared.audit.commands.Command.TheVariants.{
 use Rattle.quantile_sketches.specs.declared.command.Request.TheVariants.{Run}
 use Rattle.quantile_sketches.specs.declared.command.Request.{Request}
 use Rattle.quantile_sketches.proofs.DigitNumbers.{item_fits}
-use Rattle.quantile_sketches.proofs.ReadWords.{flagged, not-flagged}
 use mir.Val.{to_z, of_z}
 use Rattle.quantile_sketches.proofs.command.Request.parse_update_weighted.Goals as goal
 
@@ -24,17 +23,16 @@ first-word : {A : Type 0} (read : List ℕ → Option A) (ws : List (List ℕ)) 
 first-word read [] a is = absurd cc
 first-word read (w ∷ ws) a is = (w, sym is)
 
-weighs-parsed : {C : Type 0} (weighs : Bool) (slot : ℕ) (ws ws' ws'' : List (List ℕ)) (item : ℤ) (weight : ℕ) → true ≡ weighs →
+weighs-parsed : {C : Type 0} (slot : ℕ) (ws ws' ws'' : List (List ℕ)) (item : ℤ) (weight : ℕ) →
     Some item ≡ option_and_then item_of (slice_get ws 0) → ws' ≡ drop 1 ws → Some weight ≡ option_and_then parse_number (slice_get ws' 0) → ws'' ≡ drop 1 ws' →
-    at_end (Run (UpdateWeighted slot (to_z w64 (of_z w64 item)) weight)) ws'' ≡ parse_update_weighted {C = C} weighs slot ws
-weighs-parsed {C} weighs slot ws ws' ws'' item weight so is rest number last =
+    at_end (Run (UpdateWeighted slot (to_z w64 (of_z w64 item)) weight)) ws'' ≡ parse_update_weighted {C = C} true slot ws
+weighs-parsed {C} slot ws ws' ws'' item weight is rest number last =
     let word = first-word item_of ws item is in
     let back = to_z-of_z w64 item (item_fits word.0 item word.1) in
     let behind : ℤ → ℕ → List (List ℕ) → Option (Request C) = λ item weight. at_end (Run (UpdateWeighted slot item weight)) in
-    subst (λ (b : Bool). behind (to_z w64 (of_z w64 item)) weight ws'' ≡ parse_update_weighted {C = C} b slot ws) so
-    (ap (λ (z : ℤ). behind z weight ws'') back
+    ap (λ (z : ℤ). behind z weight ws'') back
     ∙ sym (then-parsed item_of (λ item. then_word parse_number (behind item)) ws ws' item is rest
-    ∙ then-parsed parse_number (behind item) ws' ws'' weight number last))
+    ∙ then-parsed parse_number (behind item) ws' ws'' weight number last)
 
 pub returns-in_err-item : goal.returns-in_err-item
 returns-in_err-item c = grind (arith, common_steps)
@@ -45,12 +43,5 @@ returns-in_err-weight c = grind (arith, common_steps)
 pub returns : goal.returns
 returns g c =
     let known = c.in_ok-weight.ensures in
-    c.at_end.ensures ∙ weighs-parsed g.C.Config.grammar.weighs c.args.slot c.args.words.now c.item.new.self c.number.new.self c.in_ok-item.item
-    c.in_ok-weight.weight
-    (sym (flagged c.WEIGHS.result c.in_ok-then_some.ensures) ∙ (c.WEIGHS.ensures ∙ g.C.Config.weighs_so))
+    c.at_end.ensures ∙ weighs-parsed c.args.slot c.args.words.now c.item.new.self c.number.new.self c.in_ok-item.item c.in_ok-weight.weight
     c.in_ok-item.ensures.value c.in_ok-item.ensures.rest known.value known.rest
-
-pub returns-in_err-then_some : goal.returns-in_err-then_some
-returns-in_err-then_some g c =
-    c.from_residual.ensures ∙ ap (λ (b : Bool). parse_update_weighted {C = g.row.C.Denot} b c.args.slot c.args.words.now)
-    (sym (not-flagged c.WEIGHS.result c.in_err-then_some.ensures) ∙ (c.WEIGHS.ensures ∙ g.C.Config.weighs_so))
