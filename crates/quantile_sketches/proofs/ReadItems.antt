@@ -1,13 +1,12 @@
 -- Items that are read from words one after another.
-use Rattle.std.proofs.Common.{Ordering, ◌≡◌, ℤ, ℕ, ◌<◌, ◌&&◌, Bool, true, false, List, [], ◌∷◌, ◌++◌, drop, length, Option, None, Some, Result, IfErr, slice_get, option_and_then, refl, sym, ap, ◌∙◌, inl, inr, arith}
+use Rattle.std.proofs.Common.{Ordering, ◌≡◌, ℤ, ℕ, ◌<◌, ◌&&◌, Bool, true, false, List, [], ◌∷◌, ◌++◌, drop, length, Option, None, Some, Result, IfErr, slice_get, option_and_then, refl, sym, ap, ◌∙◌, inr, arith}
 use Rattle.std.specs.Int.{w64}
 use Rattle.std.specs.Ordering.{int_cmp, is_lt}
 use Rattle.std.specs.Result.{IsErrAnd}
-use Rattle.std.proofs.lemmas.Bool.{false_from_ne_true, false≢true}
 use Rattle.std.proofs.lemmas.Int.{to_z-of_z}
 use Rattle.std.proofs.lemmas.List.{append_assoc, append-nil}
 use Rattle.sketch_base.specs.declared.error.ErrorKind.{ErrorKind}
-use Rattle.sketch_base.specs.declared.error.ErrorKind.TheVariants.{InvalidArgument, OutOfMemory}
+use Rattle.sketch_base.specs.declared.error.ErrorKind.TheVariants.{OutOfMemory}
 use Rattle.sketch_base.proofs.Exits.{at_error}
 use Rattle.quantile_sketches.specs.LineSteps.{IsRefusal}
 use Rattle.quantile_sketches.specs.LineWords.{item_of, items_of, onto_items, rise, rise_from}
@@ -79,11 +78,6 @@ rise-none ws given same none = sym (sym (ap (λ (vs : List (List ℕ)). rise (it
 pub rise-all : (ws : List (List ℕ)) (z : ℤ) {all : Bool} → all ≡ rise_from z (items_of ws) → None ≡ option_and_then item_of (slice_get ws 0) → true ≡ all
 rise-all ws z held none = sym (held ∙ ap (rise_from z) (read-none ws none))
 
--- an error for arguments that aren't good, and one for good ones
-module _ {T : Type 0} (r : Result T ErrorKind) where
-  pub refuses-bad : {x : ErrorKind} {told good : Bool} → IsErrAnd r (λ e. e ≡ x) → x ≡ InvalidArgument → told ≡ good → (told ≡ true → false ≡ true) →
-      IfErr r (IsRefusal good)
-  refuses-bad fails is same bad = at_error r _ fails (λ e f. inl (f ∙ is, false_from_ne_true _ (λ h. false≢true (bad (same ∙ h)))))
-
-  pub refuses-good : {good : Bool} → IsErrAnd r (λ e. e ≡ OutOfMemory) → good ≡ true → IfErr r (IsRefusal good)
-  refuses-good fails good = at_error r _ fails (λ e f. inr (f, good))
+-- an error for arguments that are good
+pub refuses-good : {T : Type 0} (r : Result T ErrorKind) {good : Bool} → IsErrAnd r (λ e. e ≡ OutOfMemory) → good ≡ true → IfErr r (IsRefusal good)
+refuses-good r fails good = at_error r _ fails (λ e f. inr (f, good))

@@ -1,5 +1,5 @@
 -- What words say, read one after another.
-use Rattle.std.proofs.Common.{◌≡◌, Bool, true, false, cond, List, [], ◌∷◌, ℕ, drop, Option, None, Some, slice_get, option_and_then, refl, sym, ap, ◌∙◌}
+use Rattle.std.proofs.Common.{◌≡◌, Bool, true, false, cond, List, [], ◌∷◌, ℕ, drop, Option, None, Some, slice_get, option_and_then, sym, ap, ◌∙◌}
 use Rattle.std.proofs.lemmas.Bool.{cond-true, cond-false}
 use Rattle.quantile_sketches.specs.LineWords.{then_word}
 

@@ -1,5 +1,5 @@
 -- Lines that ask for an update in the usual form: their words, and where they end.
-use Rattle.std.proofs.Common.{Fits, ◌≡◌, ◌≢◌, ℕ, ℤ, pos, neg_ℤ, suc, ◌+◌, ◌-◌, ◌<◌, ◌≤◌, ◌^◌, ◌==◌, Bool, true, false, cond, List, [], ◌∷◌, ◌++◌, length, take, drop, get_or, refl, sym, ap, ◌∙◌, arith, Some, take_all, not, length-append, length-take-le, length-drop, Option, Result, Ok, Err}
+use Rattle.std.proofs.Common.{Fits, ◌≡◌, ℕ, ℤ, pos, neg_ℤ, suc, ◌+◌, ◌-◌, ◌<◌, ◌≤◌, ◌^◌, ◌==◌, Bool, true, false, cond, List, [], ◌∷◌, ◌++◌, length, take, drop, get_or, refl, sym, ap, ◌∙◌, arith, Some, take_all, not, length-append, length-take-le, length-drop, Option, Result, Ok, Err}
 use Rattle.std.specs.Prelude.{codes}
 use Rattle.std.specs.Result.{OkIff, result_ok}
 use Rattle.std.specs.List.{position_or_len}
@@ -159,10 +159,6 @@ begins-same text slot slot' len item item' same_slot same_item h = rw (same_slot
 pub place-fits : (text word : List ℕ) (len : ℕ) → len ≤ length word → length word ≤ length text → length text < 2 ^ 64 →
     Fits w64 (length text - length word + len)
 place-fits text word len inside end few = record { fits = omega arith }
-
--- a part that isn't the whole is shorter
-pub shorter : (part whole : ℕ) → part ≤ whole → part ≢ whole → part < whole
-shorter part whole most differ = omega arith
 
 -- what is after the first bytes, written as a slice to the end
 abbrev pub behind : ℕ → List ℕ → List ℕ

@@ -80,7 +80,9 @@ impl<T: KllValue + Ord> Family for KllSketch<T> {
         coins: &mut B,
         _room: &mut (),
     ) -> Outcome {
-        ErrorKind::InvalidArgument.unless(!redraws)?;
+        if redraws {
+            return Err(Error::new(ErrorKind::InvalidArgument));
+        }
         self.merge(other, coins)
     }
 

@@ -1,8 +1,11 @@
-use Rattle.std.proofs.Common.{◌++◌, ◌≡◌, ◌<◌, ◌^◌, List, ℕ, length, get_or, le_refl, le_trans, rules, arith}
+use Rattle.std.proofs.Common.{◌++◌, ◌≡◌, ◌<◌, ◌^◌, List, ℕ, ℤ, Bool, true, false, IfSome, length, get_or, le_refl, le_trans, refl, rules, arith}
+use Rattle.std.specs.Bool.{then_some}
+use Rattle.std.proofs.lemmas.Bool.{ltb-true}
 use Rattle.std.specs.Prelude.{codes}
 use Rattle.std.proofs.lemmas.Grind.{common_steps}
+use Rattle.quantile_sketches.specs.LineWords.{BeginsWithUpdate}
 use Rattle.quantile_sketches.proofs.ShortNumbers.{item_back}
-use Rattle.quantile_sketches.proofs.UpdateLines.{begins-with_update, begins-same, behind-shorter, place-fits, shorter, begins-verb, begins-behind, behind, item-within, slot-is}
+use Rattle.quantile_sketches.proofs.UpdateLines.{begins-with_update, begins-same, behind-shorter, place-fits, begins-verb, begins-behind, behind, item-within, slot-is}
 use Rattle.quantile_sketches.proofs.words.update_ahead.Goals as goal
 use Rattle.quantile_sketches.proofs.words.update_ahead.Goals.{Start, In-117}
 use Rattle.quantile_sketches.proofs.words.update_ahead.Goals.at as past
@@ -18,6 +21,11 @@ verb c =
     × (get_or c.args.text.now 4 0 ≡ 116) × (get_or c.args.text.now 5 0 ≡ 101) × (get_or c.args.text.now 6 0 ≡ 32) = search rules in
     begins-verb c.args.text.now c.in-117.len_at_least bytes.0 bytes.1 bytes.2 bytes.3 bytes.4 bytes.5 bytes.6
 
+-- the update that is found if a line feed ends it
+found : (P : ℕ × ℤ × ℕ → Type 0) (b : Bool) (update : ℕ × ℤ × ℕ) → (b ≡ true → P update) → IfSome (then_some b update) P
+found P false update is = tt
+found P true update is = is refl
+
 pub returns : goal.returns
 returns c =
     let text : List ℕ = c.args.text.now in
@@ -25,9 +33,10 @@ returns c =
     let word : List ℕ = behind 1 (behind c.in_ok-slot.slot_len numbers) in
     let space = begins-behind numbers c.in_ok-slot.slot_len c.in-32.len_at_least in
     let slot = slot-is c.in_ok-slot.slot c.in_ok-slot-2.slot c.try_from.result c.try_from.ensures c.in_ok-slot-2.ensures.value in
+    rw c.then_some.ensures (found (λ found. BeginsWithUpdate text found.0 found.1 found.2) _ _ (λ ends.
     begins-same text c.in_ok-slot.slot c.in_ok-slot-2.slot _ c.in_ok-item.item _ slot.0 (item_back _ _ _ _ c.in_ok-item.ensures)
     (begins-with_update text numbers word c.in_ok-slot.slot c.in_ok-slot.slot_len c.in_ok-item.len c.in_ok-item.item (verb (past.returns c).In-117) space.0
-    c.in_ok-slot.ensures slot.1 space.1 (shorter _ _ (item-within _ _ _ _ c.in_ok-item.ensures) c.if-len-word.false) c.in_ok-item.ensures)
+    c.in_ok-slot.ensures slot.1 space.1 (ltb-true _ _ ends) c.in_ok-item.ensures)))
 
 pub returns-in_err-slot : goal.returns-in_err-slot
 returns-in_err-slot c = grind (arith, common_steps)
@@ -44,15 +53,15 @@ returns-in_err-item c = grind (arith, common_steps)
 pub returns-in_err-slot-2 : goal.returns-in_err-slot-2
 returns-in_err-slot-2 c = grind (arith, common_steps)
 
-pub overflow_sub-result : goal.overflow_sub-result
-overflow_sub-result c =
+pub overflow_sub-text : goal.overflow_sub-text
+overflow_sub-text c =
     le_trans (behind-shorter 1 _) (le_trans (behind-shorter c.in_ok-slot.slot_len _) (behind-shorter 7 c.args.text.now))
 
-pub overflow_add-result : goal.overflow_add-result
-overflow_add-result c =
+pub overflow_add-text : goal.overflow_add-text
+overflow_add-text c =
     place-fits c.args.text.now _ c.in_ok-item.len (item-within _ _ _ _ c.in_ok-item.ensures)
     (le_trans (behind-shorter 1 _) (le_trans (behind-shorter c.in_ok-slot.slot_len _) (behind-shorter 7 c.args.text.now)))
-    (few (past.overflow_add-result c).Start)
+    (few (past.overflow_add-text c).Start)
 
 pub slice_bounds-numbers-count : goal.slice_bounds-numbers-count
 slice_bounds-numbers-count c = grind arith
