@@ -1,30 +1,31 @@
+use Rattle.std.proofs.Common.{refl}
 use Rattle.sketch_base.specs.declared.common.SearchCriteria.TheVariants.{Inclusive, Exclusive}
 use Rattle.quantile_sketches.specs.Reader.{parse_criteria}
 use Rattle.quantile_sketches.proofs.ReadWords.{first-name, no-name, no-word, second-name, word-read}
 use Rattle.quantile_sketches.proofs.command.parse_criteria.Goals as goal
 
-pub returns-in_err-word : goal.returns-in_err-word
-returns-in_err-word c = record {
-  value = no-word parse_criteria c.args.words.now c.from_residual.ensures c.in_err-word.ensures.word;
-  rest = c.in_err-word.ensures.rest;
+pub returns-in-Some : goal.returns-in-Some
+returns-in-Some c = record {
+  value = word-read parse_criteria c.args.words.now c.in-Some.ensures.word (first-name Inclusive Exclusive _ c.is.ensures c.if-is.true);
+  rest = c.in-Some.ensures.rest;
 }
 
-pub returns-then-is : goal.returns-then-is
-returns-then-is c = record {
-  value = word-read parse_criteria c.args.words.now c.in_ok-word.ensures.word (first-name Inclusive Exclusive _ c.is.ensures c.if-is.true);
-  rest = c.in_ok-word.ensures.rest;
+pub returns-in-Some-2 : goal.returns-in-Some-2
+returns-in-Some-2 c = record {
+  value = word-read parse_criteria c.args.words.now c.in-Some.ensures.word
+      (second-name Inclusive Exclusive _ c.is.ensures c.if-is.false c.is-in-Some-1.ensures c.if-is-2.true);
+  rest = c.in-Some.ensures.rest;
 }
 
-pub returns-then-is-2 : goal.returns-then-is-2
-returns-then-is-2 c = record {
-  value = word-read parse_criteria c.args.words.now c.in_ok-word.ensures.word
-      (second-name Inclusive Exclusive _ c.is.ensures c.if-is.false c.is-2.ensures c.if-is-2.true);
-  rest = c.in_ok-word.ensures.rest;
+pub returns-in_default : goal.returns-in_default
+returns-in_default c = record {
+  value = word-read parse_criteria c.args.words.now c.in-Some.ensures.word
+      (no-name Inclusive Exclusive _ c.is.ensures c.if-is.false c.is-in-Some-1.ensures c.if-is-2.false);
+  rest = c.in-Some.ensures.rest;
 }
 
-pub returns-else-is-2 : goal.returns-else-is-2
-returns-else-is-2 c = record {
-  value = word-read parse_criteria c.args.words.now c.in_ok-word.ensures.word
-      (no-name Inclusive Exclusive _ c.is.ensures c.if-is.false c.is-2.ensures c.if-is-2.false);
-  rest = c.in_ok-word.ensures.rest;
+pub returns-in_default-2 : goal.returns-in_default-2
+returns-in_default-2 c = record {
+  value = no-word parse_criteria c.args.words.now refl c.in_default.in-None-own.ensures.0;
+  rest = c.in_default.in-None-own.ensures.1;
 }
