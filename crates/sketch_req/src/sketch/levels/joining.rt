@@ -41,12 +41,8 @@ pub(super) fn join_levels<T: Clone + Ord>(
     let (k, rank_accuracy) = levels[0].parameters();
     for level in 0..others.len() {
         add_level(levels, level, k, rank_accuracy);
-        levels[level].join(
-            &others[level],
-            &mut room.rooms[level].clones,
-            &mut room.coming,
-            &mut room.up,
-        );
+        let clones = &mut room.rooms[level].clones;
+        levels[level].join(&others[level], clones, &mut room.coming, &mut room.up);
     }
 }
 

@@ -142,12 +142,8 @@ pub(super) fn walk<T: Clone + Ord, B: RandomBits>(
 {
     let count = levels.len();
     for level in 0..count {
-        levels[level].turn(
-            &mut room.coming,
-            &mut room.up,
-            &mut room.rooms[level].merged,
-            coins,
-        );
+        let merged = &mut room.rooms[level].merged;
+        levels[level].turn(&mut room.coming, &mut room.up, merged, coins);
         std::mem::swap(&mut room.coming, &mut room.up);
     }
     if !room.coming.is_empty() {

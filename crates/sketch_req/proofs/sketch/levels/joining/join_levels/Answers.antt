@@ -50,18 +50,18 @@ module _ (g : Over) (c : After-index_mut-in-loop-level g) (added : let ls = c.ar
   placed : IsPlaced g.T.Ord.cmp (k_of c.args.others.now) (accuracy_of c.args.levels.now.items) c.loop-level.level other
   placed = placed-at-place _ _ _ _ c.args.others.now other c.requires.others c.loop-level-test.true is
 
-  copied : IsCopied g.T.Ord.cmp (k_of c.args.levels.now.items) (accuracy_of c.args.levels.now.items) c.loop-level.level c.args.levels.now.items c.index_mut.result.now
+  copied : IsCopied g.T.Ord.cmp (k_of c.args.levels.now.items) (accuracy_of c.args.levels.now.items) c.loop-level.level c.args.levels.now.items c.index_mut-in-loop-level.result.now
   copied =
       let low = placed.sound.weight_fits in
       let legal = (own-levels g.T.Ord.cmp _ _ _ c.requires.levels.some c.requires.levels.placed).legal in
       next-copied g.met.T.Ord.total _ _ _ _ c.requires.levels.placed _ _ _ _ legal (omega (arith, low, placed.place_is))
-      c.loop-level.invariant.joined added c.index_mut.ensures.value
+      c.loop-level.invariant.joined added c.index_mut-in-loop-level.ensures.value
 
-  ready : IsReady g.T.Ord.cmp c.args.levels.now.items c.args.others.now c.index_mut.result.now other c.index_mut-in-loop-level.result.now (vec_capacity c.args.room.now.coming)
+  ready : IsReady g.T.Ord.cmp c.args.levels.now.items c.args.others.now c.index_mut-in-loop-level.result.now other c.index_mut.result.now (vec_capacity c.args.room.now.coming)
   ready =
       let i = c.loop-level.invariant in
       is-ready _ _ _ _ _ _ c.loop-level.room.rooms.items _ _ _ _ copied c.loop-level-test.true is (lt_of_lt_of_le c.loop-level-test.true i.enough)
-      c.index_mut-in-loop-level.ensures.value (i.cloned c.loop-level.level (le_refl c.loop-level.level) c.loop-level-test.true)
+      c.index_mut.ensures.value (i.cloned c.loop-level.level (le_refl c.loop-level.level) c.loop-level-test.true)
 
 pub add_level-requires-clause-legal : goal.add_level-requires-clause-legal
 add_level-requires-clause-legal g c =
@@ -104,7 +104,7 @@ join-requires-clause-few g c =
 pub join-requires-clause-space : goal.join-requires-clause-space
 join-requires-clause-space g c =
     let at = past.join-requires-clause-space g c in
-    subst (λ (b : Space g.row.T.Denot). length c.index_mut.result.now.items + length c.index-others-level.result.items ≤ b.clones_space)
+    subst (λ (b : Space g.row.T.Denot). length c.index_mut-in-loop-level.result.now.items + length c.index-others-level.result.items ≤ b.clones_space)
     (sym c.behind-room.view_is)
     (ready g at.After-index_mut-in-loop-level (added g at.After-add_level) c.index-others-level.result c.index-others-level.is).space
 
@@ -118,7 +118,7 @@ pub join-requires-clause-promoted : goal.join-requires-clause-promoted
 join-requires-clause-promoted g c =
     let at = past.join-requires-clause-promoted g c in
     let ready = ready g at.After-index_mut-in-loop-level (added g at.After-add_level) c.index-others-level.result c.index-others-level.is in
-    subst (λ (n : ℕ). length c.index_mut.result.now.items + length c.index-others-level.result.items ≤ n) (sym c.loop-level.invariant.coming) ready.promoted
+    subst (λ (n : ℕ). length c.index_mut-in-loop-level.result.now.items + length c.index-others-level.result.items ≤ n) (sym c.loop-level.invariant.coming) ready.promoted
 
 pub join-requires-clause-spare : goal.join-requires-clause-spare
 join-requires-clause-spare g c = c.loop-level.invariant.nothing
@@ -130,10 +130,10 @@ loop-level-preserved g c =
     let new = added g at.After-add_level in
     let i = c.loop-level.invariant in
     let buffers = c.loop-level.room.rooms.items in
-    let old = c.index_mut-in-loop-level.result.now in
+    let old = c.index_mut.result.now in
     let merged = λ (b : Space g.row.T.Denot). b.merged_space in
-    let same = ap merged c.behind-room.view_is ∙ ap merged c.index_mut-in-loop-level.ensures.value in
-    let joined = joined-there g.met.T.Ord.total _ (k_of c.args.others.now) _ _ _ _ c.index_mut.result.now _ _
+    let same = ap merged c.behind-room.view_is ∙ ap merged c.index_mut.ensures.value in
+    let joined = joined-there g.met.T.Ord.total _ (k_of c.args.others.now) _ _ _ _ c.index_mut-in-loop-level.result.now _ _
     (copied g before new c.index-others-level.result c.index-others-level.is) c.loop-level-test.true c.index-others-level.is c.join.ensures.ok c.join.ensures.sound in
     record {
       joined = next-joined g.met.T.Ord.total _ _ _ _ c.requires.levels.placed _ _ _ _ c.join.new.self i.joined new joined;

@@ -45,8 +45,8 @@ module _ (g : _) (c : After-index_mut-in-loop-level g) where
   spaces = merged_spaces c.args.room.now.rooms.items
 
   ready : IsReady g.met.T.Ord.total g.B.RandomBits.bit g.B.RandomBits.next c.args.coins.now (k_of c.args.levels.now.items) (accuracy_of c.args.levels.now.items) c.args.levels.now.items
-      spaces c.loop-level.level c.loop-level.coins c.loop-level.levels.items c.index_mut.result.now c.loop-level.room.coming.items
-  ready = is-ready g.met.T.Ord.total _ _ _ _ _ _ _ _ _ _ _ _ _ c.requires.few_items c.loop-level.invariant.pending within c.index_mut.ensures.value
+      spaces c.loop-level.level c.loop-level.coins c.loop-level.levels.items c.index_mut-in-loop-level.result.now c.loop-level.room.coming.items
+  ready = is-ready g.met.T.Ord.total _ _ _ _ _ _ _ _ _ _ _ _ _ c.requires.few_items c.loop-level.invariant.pending within c.index_mut-in-loop-level.ensures.value
 
   inside : c.loop-level.level < length (layouts_of c.args.levels.now.items)
   inside =
@@ -54,17 +54,17 @@ module _ (g : _) (c : After-index_mut-in-loop-level g) where
       subst (λ (n : ℕ). c.loop-level.level < n) (c.len-count.ensures ∙ (levels.ok.0 ∙ sym (length-layouts levels.items))) c.loop-level-test.true
 
   -- the space of the level's buffers
-  own-there_is : get_or spaces c.loop-level.level 0 ≡ c.index_mut-in-loop-level.result.now.merged_space
+  own-there_is : get_or spaces c.loop-level.level 0 ≡ c.index_mut.result.now.merged_space
   own-there_is =
       let i = c.loop-level.invariant in
       sym (i.merged c.loop-level.level (le_refl _))
-      ∙ read-there (λ b. b.merged_space) 0 c.loop-level.room.rooms.items c.loop-level.level c.index_mut-in-loop-level.result.now
-      (lt_of_lt_of_le c.loop-level-test.true i.enough) c.index_mut-in-loop-level.ensures.value
+      ∙ read-there (λ b. b.merged_space) 0 c.loop-level.room.rooms.items c.loop-level.level c.index_mut.result.now
+      (lt_of_lt_of_le c.loop-level-test.true i.enough) c.index_mut.ensures.value
 
   -- the level has the sketch's k and accuracy
-  own-told : (c.index_mut.result.now.k ≡ k_of c.args.levels.now.items) × (c.index_mut.result.now.accuracy ≡ accuracy_of c.args.levels.now.items)
+  own-told : (c.index_mut-in-loop-level.result.now.k ≡ k_of c.args.levels.now.items) × (c.index_mut-in-loop-level.result.now.accuracy ≡ accuracy_of c.args.levels.now.items)
   own-told =
-      let placed = (opened _ _ _ _ _ c.loop-level.invariant.pending.placed within c.index_mut.ensures.value).placed in
+      let placed = (opened _ _ _ _ _ c.loop-level.invariant.pending.placed within c.index_mut-in-loop-level.ensures.value).placed in
       (placed.k_is, placed.accuracy_is)
 
 pub turn-requires-clause-sorted : goal.turn-requires-clause-sorted
@@ -123,8 +123,8 @@ loop-level-preserved g c =
           (set c.loop-level.levels.items c.loop-level.level c.turn.new.self)) _ _ (swapped g c).0
           (next-pending g.met.T.Ord.total g.B.RandomBits.bit g.B.RandomBits.next c.args.coins.now (k_of ls) (accuracy_of ls) ls
           (spaces g at) c.loop-level.level most c.loop-level.coins
-          c.turn.new.coins c.loop-level.levels.items c.index_mut.result.now c.turn.new.self c.loop-level.room.coming.items _ c.requires.few_items i.pending
-          (within g at) c.index_mut.ensures.value
+          c.turn.new.coins c.loop-level.levels.items c.index_mut-in-loop-level.result.now c.turn.new.self c.loop-level.room.coming.items _ c.requires.few_items i.pending
+          (within g at) c.index_mut-in-loop-level.ensures.value
           c.requires.fits legal (c.requires.fit.promoted c.loop-level.level (inside g at)) (c.requires.fit.own c.loop-level.level) c.turn.ensures.turned
           c.turn.ensures.sound c.turn.ensures.coins);
       len = i.len;
