@@ -9,12 +9,12 @@ returns-in-Ok-Ranks-Some g c = grind (arith, common_steps)
 
 pub returns-in_err-add-in-Ok-Image : goal.returns-in_err-add-in-Ok-Image
 returns-in_err-add-in-Ok-Image g c =
-    writes-fail c.args.waiting.now.items c.as_bytes.result.now (10 ∷ []) (answer_text c.args.said.now ++ (10 ∷ [])) _ c.from_residual.result
+    writes-fail c.args.waiting.now.items c.as_bytes.result.now (10 ∷ []) (answer_text c.args.said ++ (10 ∷ [])) _ c.from_residual.result
     (grind (arith, common_steps)) c.from_residual.ensures.0 c.in_err-add-in-Ok-Image.ensures
 
 pub returns-in_ok-add-in-Ok-Image : goal.returns-in_ok-add-in-Ok-Image
 returns-in_ok-add-in-Ok-Image g c =
-    writes-then c.args.waiting.now.items c.as_bytes.result.now (10 ∷ []) (answer_text c.args.said.now ++ (10 ∷ []))
+    writes-then c.args.waiting.now.items c.as_bytes.result.now (10 ∷ []) (answer_text c.args.said ++ (10 ∷ []))
     (grind (arith, common_steps)) c.in_ok-add-in-Ok-Image.ensures refl c.add-in-Ok-Image-2.ensures
 
 pub returns-in-Err : goal.returns-in-Err

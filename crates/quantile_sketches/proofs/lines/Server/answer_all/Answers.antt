@@ -4,7 +4,7 @@ use Rattle.std.specs.Io.Buffered.{reader_remaining}
 use Rattle.quantile_sketches.specs.LineSteps.{reply_of}
 use Rattle.quantile_sketches.proofs.AnsweredLines.{line-found, line-written, line-unwritten, update-answered}
 use Rattle.quantile_sketches.proofs.LineRuns.{ends-broken, ends-fault, ends-unread, ends-well, running-out, running-start, running-with}
-use Rattle.quantile_sketches.proofs.lines.Server.answer_all.Goals.{in-Some+in_ok-write_done, in_default+in_ok-answer+in-Some-2+in_ok-write_answer+in-Ok+in-Ranks+in-Some-1, in_default+in_ok-answer+in-Some-2+in_ok-write_answer+in-Ok+in-Ranks+in-None-1, in_default+in_ok-answer+in-Some-2+in_ok-write_answer+in-Ok+in-Image-1, in_default+in_ok-answer+in-Some-2+in_ok-write_answer+in-Ok+in-Done-1, in_default+in_ok-answer+in-Some-2+in_ok-write_answer+in-Err-1}
+use Rattle.quantile_sketches.proofs.lines.Server.answer_all.Goals.{in-Some+in_ok-write_done, in_default+in_ok-answer+in-Some-2+in_ok-write_answer}
 use Rattle.quantile_sketches.proofs.lines.Server.answer_all.Goals as goal
 
 pub loop-init : goal.loop-init
@@ -52,39 +52,7 @@ loop-preserved g c = elim c.match-update_ahead.branch [
       w.update-verdict.new.self c.loop.self.coins w.update-verdict.new.coins
       w.update-verdict.result c.buffer.ensures w.in-Some.ensures w.consume.ensures.bytes w.update-verdict.ensures)
       w.in_ok-write_done.ensures refl)
-  | in_default+in_ok-answer+in-Some-2+in_ok-write_answer+in-Ok+in-Ranks+in-Some-1 w ↦
-      running-with g.S.Config.Config.grammar g.S.Family.behaviour (reader_remaining g.R.Read.remaining) g.W.Write.contents (λ (s : _). s.waiting.items)
-      (λ (s : _). s.table) (λ (s : _). s.coins) c.match-update_ahead.input c.match-update_ahead.output c.match-update_ahead.self w.input-is w.output-is w.self-is
-      (line-written g.S.Config.Config.grammar g.S.Family.behaviour (reader_remaining g.R.Read.remaining w.answer_line.new.input) w.answer_line.new.self.table w.answer_line.new.self.coins w.in-Some-2.answer
-      (running-out g.S.Config.Config.grammar g.S.Family.behaviour c.loop.invariant refl w.in_ok-answer.ensures.written) refl
-      (line-found g.S.Config.Config.grammar g.S.Family.behaviour (reader_remaining g.R.Read.remaining c.loop.input) (reader_remaining g.R.Read.remaining w.answer_line.new.input)
-      c.loop.self.table w.answer_line.new.self.table c.loop.self.coins w.answer_line.new.self.coins w.in_ok-answer.field-0 w.in-Some-2.answer
-      w.in-Some-2.is w.in_ok-answer.ensures.answered) w.in_ok-write_answer.ensures refl)
-  | in_default+in_ok-answer+in-Some-2+in_ok-write_answer+in-Ok+in-Ranks+in-None-1 w ↦
-      running-with g.S.Config.Config.grammar g.S.Family.behaviour (reader_remaining g.R.Read.remaining) g.W.Write.contents (λ (s : _). s.waiting.items)
-      (λ (s : _). s.table) (λ (s : _). s.coins) c.match-update_ahead.input c.match-update_ahead.output c.match-update_ahead.self w.input-is w.output-is w.self-is
-      (line-written g.S.Config.Config.grammar g.S.Family.behaviour (reader_remaining g.R.Read.remaining w.answer_line.new.input) w.answer_line.new.self.table w.answer_line.new.self.coins w.in-Some-2.answer
-      (running-out g.S.Config.Config.grammar g.S.Family.behaviour c.loop.invariant refl w.in_ok-answer.ensures.written) refl
-      (line-found g.S.Config.Config.grammar g.S.Family.behaviour (reader_remaining g.R.Read.remaining c.loop.input) (reader_remaining g.R.Read.remaining w.answer_line.new.input)
-      c.loop.self.table w.answer_line.new.self.table c.loop.self.coins w.answer_line.new.self.coins w.in_ok-answer.field-0 w.in-Some-2.answer
-      w.in-Some-2.is w.in_ok-answer.ensures.answered) w.in_ok-write_answer.ensures refl)
-  | in_default+in_ok-answer+in-Some-2+in_ok-write_answer+in-Ok+in-Image-1 w ↦
-      running-with g.S.Config.Config.grammar g.S.Family.behaviour (reader_remaining g.R.Read.remaining) g.W.Write.contents (λ (s : _). s.waiting.items)
-      (λ (s : _). s.table) (λ (s : _). s.coins) c.match-update_ahead.input c.match-update_ahead.output c.match-update_ahead.self w.input-is w.output-is w.self-is
-      (line-written g.S.Config.Config.grammar g.S.Family.behaviour (reader_remaining g.R.Read.remaining w.answer_line.new.input) w.answer_line.new.self.table w.answer_line.new.self.coins w.in-Some-2.answer
-      (running-out g.S.Config.Config.grammar g.S.Family.behaviour c.loop.invariant refl w.in_ok-answer.ensures.written) refl
-      (line-found g.S.Config.Config.grammar g.S.Family.behaviour (reader_remaining g.R.Read.remaining c.loop.input) (reader_remaining g.R.Read.remaining w.answer_line.new.input)
-      c.loop.self.table w.answer_line.new.self.table c.loop.self.coins w.answer_line.new.self.coins w.in_ok-answer.field-0 w.in-Some-2.answer
-      w.in-Some-2.is w.in_ok-answer.ensures.answered) w.in_ok-write_answer.ensures refl)
-  | in_default+in_ok-answer+in-Some-2+in_ok-write_answer+in-Ok+in-Done-1 w ↦
-      running-with g.S.Config.Config.grammar g.S.Family.behaviour (reader_remaining g.R.Read.remaining) g.W.Write.contents (λ (s : _). s.waiting.items)
-      (λ (s : _). s.table) (λ (s : _). s.coins) c.match-update_ahead.input c.match-update_ahead.output c.match-update_ahead.self w.input-is w.output-is w.self-is
-      (line-written g.S.Config.Config.grammar g.S.Family.behaviour (reader_remaining g.R.Read.remaining w.answer_line.new.input) w.answer_line.new.self.table w.answer_line.new.self.coins w.in-Some-2.answer
-      (running-out g.S.Config.Config.grammar g.S.Family.behaviour c.loop.invariant refl w.in_ok-answer.ensures.written) refl
-      (line-found g.S.Config.Config.grammar g.S.Family.behaviour (reader_remaining g.R.Read.remaining c.loop.input) (reader_remaining g.R.Read.remaining w.answer_line.new.input)
-      c.loop.self.table w.answer_line.new.self.table c.loop.self.coins w.answer_line.new.self.coins w.in_ok-answer.field-0 w.in-Some-2.answer
-      w.in-Some-2.is w.in_ok-answer.ensures.answered) w.in_ok-write_answer.ensures refl)
-  | in_default+in_ok-answer+in-Some-2+in_ok-write_answer+in-Err-1 w ↦
+  | in_default+in_ok-answer+in-Some-2+in_ok-write_answer w ↦
       running-with g.S.Config.Config.grammar g.S.Family.behaviour (reader_remaining g.R.Read.remaining) g.W.Write.contents (λ (s : _). s.waiting.items)
       (λ (s : _). s.table) (λ (s : _). s.coins) c.match-update_ahead.input c.match-update_ahead.output c.match-update_ahead.self w.input-is w.output-is w.self-is
       (line-written g.S.Config.Config.grammar g.S.Family.behaviour (reader_remaining g.R.Read.remaining w.answer_line.new.input) w.answer_line.new.self.table w.answer_line.new.self.coins w.in-Some-2.answer
