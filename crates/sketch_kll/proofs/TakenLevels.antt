@@ -1,5 +1,5 @@
 -- Levels whose lowest one counts items that are not put into it yet.
-use Rattle.std.proofs.Common.{◌≡◌, ℕ, zero, suc, ◌+◌, ◌-◌, ◌%◌, ◌<◌, ◌≤◌, Bool, true, false, not, cond, min, ◌^◌, List, [], ◌∷◌, ◌++◌, length, map, take, drop, reverse, refl, sym, ap, ap₂, ◌∙◌, subst, arith, IsPermutation, IsSorted, IsTrue, Ordering, append_assoc, append-nil, length-append, length-drop, length-take-le, take_all, take-append-drop, ◌&&◌, ◌==◌, ◌⊎◌, inl, inr}
+use Rattle.std.proofs.Common.{◌≡◌, ℕ, zero, suc, ◌+◌, ◌-◌, ◌%◌, ◌<◌, ◌≤◌, Bool, true, false, not, cond, min, ◌^◌, List, [], ◌∷◌, ◌++◌, length, map, take, drop, reverse, refl, sym, ap, ap₂, ◌∙◌, subst, arith, IsPermutation, IsSorted, IsTrue, Ordering, append_assoc, append-nil, length-append, length-drop, length-take-le, take_all, take-append-drop, ◌&&◌, ◌==◌, if◌then◌else◌, ◌⊎◌, inl, inr}
 use Rattle.std.specs.Cmp.{IsTotalOrder}
 use Rattle.std.proofs.Math.Bool.{and-true}
 use Rattle.std.proofs.lemmas.Bool.{and_right, ne_eqb}
@@ -12,7 +12,7 @@ use Rattle.sketch_kll.specs.Levels.{body_of, leftover_of, first_level, retained,
 use Rattle.sketch_kll.specs.Schedule.{lowest_full}
 use Rattle.sketch_kll.specs.Steps.{is_full, full_level, needs_sorting, compacted_if_full, put_all, put_count}
 use Rattle.sketch_kll.specs.Stored.{Stored}
-use Rattle.sketch_kll.specs.Take.{AreKept, AreLeft, HaveSpace, HaveTaken, IsReadyAt, with_last}
+use Rattle.sketch_kll.specs.Take.{AreKept, AreLeft, HaveTaken, IsReadyAt, with_last}
 use Rattle.sketch_kll.proofs.CompactedSizes.{alike_size}
 use Rattle.sketch_kll.proofs.CompressWalks.{SameLevels-trans}
 use Rattle.sketch_kll.proofs.Flats.{SameLevels-refl}
@@ -180,6 +180,13 @@ pub record GoesOn {A S : Type 0} (cmp : A → A → Ordering) (bit : S → Bool)
   pub taking : TakingFrom cmp bit next source after k flag (y.is_sorted && more == 0) ls all (take (length rest - more) rest) (with_last more rest y.levels)
   pub within : more ≤ length rest
   pub fewer : length rest - more < before
+
+-- levels after room was made for one more item, under a source of coins
+pub record HaveSpace {A S : Type 0} (cmp : A → A → Ordering) (bit : S → Bool) (next : S → S) (source after : S) (taken : ℕ) (items : List A) (x : Stored A) (rest : List A) (y : Stored A) : Type 0 where
+  pub left : ℕ
+  pub are_left : AreLeft taken items left rest
+  pub same : SameLevels cmp (compacted_if_full cmp x.k (x.is_sorted && taken == 0) (bit source) (with_last taken items x.levels)) (with_last left rest y.levels)
+  pub source_is : after ≡ (if is_full x.k (with_last taken items x.levels) then next source else source)
 
 -- once there is space, as many items count as taken as there is room for
 pub taking_goes_on : {A S : Type 0} (cmp : A → A → Ordering) → IsTotalOrder cmp → (bit : S → Bool) (next : S → S) (source after final : S) (k : ℕ) (flag : Bool) (ls : List (List A))
