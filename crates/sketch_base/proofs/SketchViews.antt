@@ -10,7 +10,7 @@ use Rattle.sketch_base.specs.declared.common.Rank.{Rank}
 use Rattle.sketch_base.specs.declared.common.SearchCriteria.{SearchCriteria}
 use Rattle.sketch_base.specs.Answered.{FindsQuantiles, FindsRanks}
 use Rattle.sketch_base.specs.Bag.{Bag, SameItems, expanded, weigh, weight}
-use Rattle.sketch_base.specs.Queries.{SameAnswer, cdf_of, differences, pmf_of, quantile_place, ranks_of}
+use Rattle.sketch_base.specs.Queries.{SameAnswer, cdf_of, quantile_place, ranks_of}
 use Rattle.sketch_base.specs.Views.{AreQuantiles, IsThere, IsViewOf, View, expanded_view, quantile_of}
 use Rattle.sketch_base.proofs.Counts.{SameCounts-from_items}
 use Rattle.sketch_base.proofs.Entries.{SameAnswer-trans, cdf-same, quantile-same}
@@ -96,20 +96,12 @@ module _ {A : Type 0} {cmp : A → A → Ordering} (order : IsTotalOrder cmp) wh
         ok-weaker r (FindsQuantiles cmp v criteria fractions) (FindsQuantiles cmp whole criteria fractions)
         (λ found. some-weaker found (λ xs. AreQuantiles cmp v criteria fractions xs.items) (λ xs. AreQuantiles cmp whole criteria fractions xs.items) (λ xs. many-quantiles fractions xs.items))
 
-    -- so are ranks that are a function of the distribution's weights
-    ranks-result : {E Z : Type 0} (f : List ℕ → List ℕ) (points : List A) (r : Result (Option (Vec Rank Z)) E) →
-        IfOk r (FindsRanks (length v.entries) (f (cdf_of cmp criteria v.entries points))) → IfOk r (FindsRanks n (f (cdf_of cmp criteria (expanded cmp bag) points)))
-    ranks-result f points r =
-        let theirs = f (cdf_of cmp criteria v.entries points) in
-        let ours = f (cdf_of cmp criteria (expanded cmp bag) points) in
-        let same : ranks_of (length v.entries) theirs ≡ ranks_of n ours = ap₂ (λ m ws. ranks_of m (f ws)) h.weighs_n (sym (cdf-same order criteria (expanded cmp bag) v.entries points h.entries)) in
-        ok-weaker r (FindsRanks (length v.entries) theirs) (FindsRanks n ours)
-        (λ found. some-weaker found (λ ranks. ranks.items ≡ ranks_of (length v.entries) theirs) (λ ranks. ranks.items ≡ ranks_of n ours) (λ ranks e. e ∙ same))
-
+    -- so are the ranks of split points
     pub cdf-result : {E Z : Type 0} (points : List A) (r : Result (Option (Vec Rank Z)) E) → IfOk r (FindsRanks (length v.entries) (cdf_of cmp criteria v.entries points)) →
         IfOk r (FindsRanks n (cdf_of cmp criteria (expanded cmp bag) points))
-    cdf-result points r = ranks-result (λ ws. ws) points r
-
-    pub pmf-result : {E Z : Type 0} (points : List A) (r : Result (Option (Vec Rank Z)) E) → IfOk r (FindsRanks (length v.entries) (pmf_of cmp criteria v.entries points)) →
-        IfOk r (FindsRanks n (pmf_of cmp criteria (expanded cmp bag) points))
-    pmf-result points r = ranks-result (differences 0) points r
+    cdf-result points r =
+        let theirs = cdf_of cmp criteria v.entries points in
+        let ours = cdf_of cmp criteria (expanded cmp bag) points in
+        let same : ranks_of (length v.entries) theirs ≡ ranks_of n ours = ap₂ ranks_of h.weighs_n (sym (cdf-same order criteria (expanded cmp bag) v.entries points h.entries)) in
+        ok-weaker r (FindsRanks (length v.entries) theirs) (FindsRanks n ours)
+        (λ found. some-weaker found (λ ranks. ranks.items ≡ ranks_of (length v.entries) theirs) (λ ranks. ranks.items ≡ ranks_of n ours) (λ ranks e. e ∙ same))
