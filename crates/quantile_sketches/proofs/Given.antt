@@ -17,6 +17,10 @@ pub three : {T E : Type 0} {P Q R U : T → Type 0} (r : Result T E) → ((x : T
 three (Ok x) f p q s = f x p q s
 three (Err e) f p q s = tt
 
+pub five : {T E : Type 0} {P Q R U V W : T → Type 0} (r : Result T E) → ((x : T) → P x → Q x → R x → U x → V x → W x) → IfOk r P → IfOk r Q → IfOk r R → IfOk r U → IfOk r V → IfOk r W
+five (Ok x) f p q s t u = f x p q s t u
+five (Err e) f p q s t u = tt
+
 -- two facts about the value together, and two that hold if a call succeeds
 pub together : {T E : Type 0} (P Q : T → Type 0) (r : Result T E) → IfOk r P → IfOk r Q → IfOk r (λ x. P x × Q x)
 together P Q (Ok x) p q = (p, q)

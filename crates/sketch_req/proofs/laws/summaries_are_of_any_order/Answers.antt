@@ -1,0 +1,8 @@
+use Rattle.sketch_req.proofs.Summaries.{any-order, smaller-tail}
+use Rattle.sketch_req.proofs.laws.summaries_are_of_any_order.Goals as goal
+
+pub returns : goal.returns
+returns g c = record {
+  order = any-order g.met.T.Ord.total;
+  smaller = smaller-tail g.met.T.Ord.total;
+}
