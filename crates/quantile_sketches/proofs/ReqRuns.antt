@@ -160,18 +160,6 @@ module _ {A : Type 0} {cmp : A → A → Ordering} (o : IsTotalOrder cmp) (spell
       }
 
   module _ (word : List Bool) (refused : List ℕ) (are : AreRefused (req_kind cmp spelling) word commands refused) where
-    -- the tail is exact
-    pub run-tail : ArePlanned (req_kind cmp spelling) commands slots → ArePlayed (req_kind cmp spelling) (accepted_of refused commands) word slots → TailsAreExact cmp commands slots
-    run-tail planned played slot s held y criteria few =
-        let fewer = accepted_of refused commands in
-        let l = left-out (req_kind_lawful o spelling) word commands refused are in
-        let t = req-left-out o spelling word refused commands are in
-        let shape : (plan_of req_rules fewer).shapes slot ≡ Some (req_shape s) = ap (λ (p : Plan ReqShape). p.shapes slot) (sym l.plan) ∙ there planned slot s held in
-        let streams : stream_of req_rules commands slot ≡ stream_of req_rules fewer slot = ap (λ (f : ℕ → List A). f slot) l.streams in
-        let tails : tails_of commands slot ≡ tails_of fewer slot = ap (λ (f : ℕ → ℕ). f slot) t.tails in
-        let enough = rw (streams, tails) at few in
-        alike-exact o fewer word slot s shape (played slot s held) y criteria enough ∙ sym (ap (true_rank cmp y criteria) streams)
-
     -- in the plays of the accepted commands a slot is unbiased where a law says so
     pub plays-unbiased : coins (trace_of req_rules commands) ≤ length word → (shows : List (ReqCommand A) → ℕ → Bool) → RunIsUnbiasedWhere req_rules cmp shows →
         PlaysAreUnbiasedWhere req_rules cmp (accepted_of refused commands) (length word) shows

@@ -2,13 +2,13 @@ use Rattle.std.proofs.Common.{◌<◌, ◌-◌, ◌^◌, length, arith}
 use Rattle.quantile_sketches.specs.ReqFair.{is_fair_slot}
 use Rattle.quantile_sketches.specs.ReqReady.{stays_fair}
 use Rattle.quantile_sketches.specs.ReqUpdated.{was_only_updated}
-use Rattle.quantile_sketches.proofs.Given.{given, both, three, five}
+use Rattle.quantile_sketches.proofs.Given.{given, both, five}
 use Rattle.quantile_sketches.proofs.AfterCommands.{close-by}
 use Rattle.quantile_sketches.proofs.ReqFair.{run-unbiased_where_fair}
 use Rattle.quantile_sketches.proofs.ReqKind.{req_kind_lawful}
 use Rattle.quantile_sketches.proofs.ReqReady.{run-unbiased_where_redrawn}
-use Rattle.quantile_sketches.proofs.ReqRuns.{req-load, run-ordered, run-levels, run-small, run-tail, run-tails-own, run-images, runs-unbiased, runs-fair, runs-redrawn, runs-relative, runs-relative_to_counts, unbiased-updated, plays-unbiased}
-use Rattle.quantile_sketches.proofs.RunSummaries.{run-summaries}
+use Rattle.quantile_sketches.proofs.ReqRuns.{req-load, run-ordered, run-levels, run-small, run-tails-own, run-images, runs-unbiased, runs-fair, runs-redrawn, runs-relative, runs-relative_to_counts, unbiased-updated, plays-unbiased}
+use Rattle.quantile_sketches.proofs.RunSummaries.{run-summaries, summaries-tails}
 use Rattle.quantile_sketches.proofs.audit.req_runs.run_req.Goals as goal
 
 pub run_family-requires-clause-lawful : goal.run_family-requires-clause-lawful
@@ -17,6 +17,11 @@ run_family-requires-clause-lawful g c = req_kind_lawful g.met.T.Ord.total g.T.Re
 pub returns : goal.returns
 returns g c =
     let few : length c.args.word.now < 2 ^ 64 - 1 = omega arith in
+    let summaries =
+    five c.run_family.result
+    (λ run refused planned played weight extremes.
+    run-summaries g.met.T.Ord.total g.T.ReqValue.spelling c.args.commands.now run.slots c.args.word.now run.refused.items refused planned played weight extremes)
+    c.run_family.ensures.refused c.run_family.ensures.planned c.run_family.ensures.played c.run_family.ensures.weight c.run_family.ensures.extremes in
     record {
       enough = c.run_family.ensures.enough;
       errors = c.run_family.ensures.errors;
@@ -41,15 +46,8 @@ returns g c =
           run.refused.items refused run.slots played)
           c.run_family.ensures.refused c.run_family.ensures.played;
       tail =
-          three c.run_family.result
-          (λ run refused planned played.
-          run-tail g.met.T.Ord.total g.T.ReqValue.spelling c.args.commands.now run.slots c.args.word.now run.refused.items refused planned played)
-          c.run_family.ensures.refused c.run_family.ensures.planned c.run_family.ensures.played;
-      summaries =
-          five c.run_family.result
-          (λ run refused planned played weight extremes.
-          run-summaries g.met.T.Ord.total g.T.ReqValue.spelling c.args.commands.now run.slots c.args.word.now run.refused.items refused planned played weight extremes)
-          c.run_family.ensures.refused c.run_family.ensures.planned c.run_family.ensures.played c.run_family.ensures.weight c.run_family.ensures.extremes;
+          both c.run_family.result (λ run. summaries-tails g.met.T.Ord.total g.T.ReqValue.spelling c.args.commands.now run.slots) c.run_family.ensures.sound summaries;
+      summaries = summaries;
       own =
           given c.run_family.result (λ run. run-tails-own g.met.T.Ord.total g.T.ReqValue.spelling c.args.commands.now run.slots) c.run_family.ensures.planned;
       fair =
