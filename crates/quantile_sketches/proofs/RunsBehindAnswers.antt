@@ -13,6 +13,7 @@ use Rattle.quantile_sketches.specs.declared.audit.commands.Command.{Command}
 use Rattle.quantile_sketches.specs.declared.command.Request.{Request}
 use Rattle.quantile_sketches.specs.declared.command.Request.TheVariants.{Run, Load}
 use Rattle.quantile_sketches.specs.declared.table.TheConstants.{SLOTS}
+use Rattle.quantile_sketches.specs.Refused.{AreExecuted}
 use Rattle.quantile_sketches.specs.RuleLaws.{IsLawful}
 use Rattle.quantile_sketches.specs.Lines.{Serves}
 use Rattle.quantile_sketches.specs.Reader.{Grammar}
@@ -30,7 +31,8 @@ module _ {C Shape S : Type 0} (grammar : Grammar C) {kind : Kind ℤ C Shape S} 
   -- the sketches and the coins are those of a run, and stand where its commands put them
   abbrev OfRun : Known C → Slots S → ℕ → Type 0
   OfRun None slots coins = ⊤
-  OfRun (Some commands) slots coins = AreOfRun kind seed (Some commands) slots coins × Standing kind coin_of next_state seed commands (in_slot slots) coins
+  OfRun (Some commands) slots coins =
+      AreExecuted kind coin_of next_state [] 0 commands (λ slot. None) seed (in_slot slots) coins × Standing kind coin_of next_state seed commands (in_slot slots) coins
 
   -- if nothing changes, this still holds
   stays : (run : Known C) (slots : Slots S) (coins : ℕ) (slots' : Slots S) (coins' : ℕ) → slots' ≡ slots → coins' ≡ coins → OfRun run slots coins → OfRun run slots' coins'

@@ -90,7 +90,7 @@ abbrev pub accepted_alone : {A : Type 0} → (ℕ → Option KllShape) → (ℕ 
 accepted_alone shapes alone (New slot config) = changed alone slot true
 accepted_alone shapes alone (Update slot x) = alone
 accepted_alone shapes alone (UpdateWeighted slot x weight) = changed alone slot false
-accepted_alone shapes alone (Merge into source) = if count_of kll_rules (shapes source) == 0 then alone else changed alone into false
+accepted_alone {A} shapes alone (Merge into source) = if count_of (kll_rules {A = A}) (shapes source) == 0 then alone else changed alone into false
 accepted_alone shapes alone (Reset slot) = changed alone slot true
 accepted_alone shapes alone (RoundTrip slot) = alone
 accepted_alone shapes alone (Redraw slot) = alone
