@@ -69,7 +69,7 @@ pub(crate) struct Nonzero {
 }
 
 impl KllValue for Nonzero {
-    ghost use Rattle.quantile_sketches.proofs.NonzeroBytes.{spelling_of, is_prefix_free_by, is_long};
+    ghost use Rattle.quantile_sketches.specs.NonzeroBytes.{spelling_of, is_prefix_free_by, is_long};
 
     const MIN_SERIALIZED_SIZE: usize = 1;
 
