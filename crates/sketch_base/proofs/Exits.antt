@@ -85,11 +85,6 @@ memory_not_data is = cc
 pub data_not_argument : InvalidData ≡ InvalidArgument → ⊥
 data_not_argument is = cc
 
--- a call that refused its argument
-pub refused : {T P : Type 0} {x : ErrorKind} (r : Result T ErrorKind) → IsErrAnd r (λ e. e ≡ x) → x ≡ InvalidArgument → P →
-    (r ≡ Err InvalidArgument → P) × (P → r ≡ Err InvalidArgument)
-refused r h e p = (λ _. p, λ _. returned r _ h ∙ ap Err e)
-
 pub no_value : {T E : Type 0} {r : Result T E} {x : E} (P : Type 0) → r ≡ Err x → OnOk r P
 no_value P e = rw e tt
 

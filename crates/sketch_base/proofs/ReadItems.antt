@@ -12,18 +12,6 @@ pub record IsAt {A : Type 0} (xs : List A) (i : ℕ) (x : A) : Type 0 where
   pub within : i < length xs
   pub item : (d : A) → get_or xs i d ≡ x
 
-pub item-there : {A : Type 0} (xs : List A) (i : ℕ) (x : A) → Some x ≡ slice_get xs i → IsAt xs i x
-item-there {A} xs i x found = elim (slice_get_cases xs i).1 [
-  | inl h ↦
-      let same : Some h.0 ≡ Some x = sym (found ∙ h.2) in
-      let e : h.0 ≡ x = cc in
-      record { within = h.1; item = λ d. get_or_default xs i d h.0 h.1 ∙ (h.3 ∙ e) }
-  | inr h ↦ absurd (cc (found, h.1))
-]
-
-pub none-there : {A : Type 0} (xs : List A) (i : ℕ) (r : Option (Bor A)) → option_copied r ≡ slice_get xs i → r ≡ None → i < length xs → ⊥
-none-there xs i r found none within = false≢true (sym (ap is_some none) ∙ got xs i r found within)
-
 pub not-within : (n i : ℕ) → n ≡ 0 → i < n → ⊥
 not-within n i e h = omega arith
 

@@ -11,7 +11,3 @@ ok-weaker (Err e) P Q f h = h
 pub some-weaker : {T : Type 0} (o : Option T) (P Q : T → Type 0) → ((x : T) → P x → Q x) → IfSome o P → IfSome o Q
 some-weaker None P Q f h = h
 some-weaker (Some x) P Q f h = f x h
-
--- what a call did, if it ended well
-pub if-ok : {X T E : Type 0} (r : Result T E) (v : T) (x a b : X) → x ≡ (if is_ok r then a else b) → r ≡ Ok v → x ≡ a
-if-ok r v x a b e ok = e ∙ ap (λ s. if is_ok s then a else b) ok

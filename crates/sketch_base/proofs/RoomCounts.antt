@@ -31,16 +31,9 @@ below-most c k a b x y z m e f g h = omega arith
 pub quarter-some : (n : ℕ) → 0 < n / 4 + 4
 quarter-some n = omega arith
 
--- what is moved out of one list and the rest of another fit behind a third one
-pub rest-room : (l r m s t u cap old : ℕ) → l + r + m ≡ s + t + u → u + s + t ≤ old → cap ≡ old → m + (r - 0) ≤ cap
-rest-room l r m s t u cap old e h c = omega arith
-
 pub back-room : (l r m s t u j k cap old : ℕ) → l + r + m ≡ s + t + u → u + (s - j) + (t - k) ≤ old → cap ≡ old → j ≤ l → j ≤ s → k ≤ r → k ≤ t →
     m + (r - k) ≤ cap
 back-room l r m s t u j k cap old e h c jl js kr kt = omega arith
-
-pub moved-room : (l t n s r u cap old : ℕ) → l + t ≡ s + r + u → n ≡ u → n ≤ t → s + r ≤ old → cap ≡ old → l + (t - n) ≤ cap
-moved-room l t n s r u cap old e f h fits c = omega arith
 
 pub end-room : (v m i n f s c : ℕ) → v ≡ m → m ≡ i + n → n ≤ s → i ≤ f → f + s ≤ c → v + (s - n) ≤ c
 end-room v m i n f s c e l h k r = omega (arith, e, l, h, k, r)
@@ -48,12 +41,6 @@ end-room v m i n f s c e l h k r = omega (arith, e, l, h, k, r)
 -- the part of a list that isn't sorted yet fits into one empty vector, and the whole into another
 pub part-room : (v a n b cap k : ℕ) → v ≡ 0 → a - k ≤ b → a ≡ n → b ≡ cap → v + (n - k) ≤ cap
 part-room v a n b cap k none h e f = omega arith
-
-pub both-some : (l r : ℕ) (b c : Bool) → b ≡ nat_eq l 0 → c ≡ nat_eq r 0 → b ≡ false → c ≡ false → 1 < l + r
-both-some l r b c e f g h =
-    let left : 0 < l = pos_of_ne-zero (λ z. false≢true (sym g ∙ (e ∙ eq-eqb l 0 z))) in
-    let right : 0 < r = pos_of_ne-zero (λ z. false≢true (sym h ∙ (f ∙ eq-eqb r 0 z))) in
-    omega (arith, left, right)
 
 -- at most as many items as a list has that others were put behind
 -- items that move one by one to another vector

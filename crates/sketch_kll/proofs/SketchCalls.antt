@@ -15,12 +15,6 @@ use Rattle.sketch_kll.specs.Stored.{Stored, KeepsLevels}
 pub refused_there : {T E P : Type 0} {r : Result T E} {x y : E} → r ≡ Err x → (x ≡ y → P) → r ≡ Err y → P
 refused_there e told is = told (error_is e is)
 
--- a call whose only error says out of memory doesn't refuse
-pub memory_alone : {T P : Type 0} (r : Result T ErrorKind) → IfErr r (λ e. e ≡ OutOfMemory) → (P → ⊥) →
-    (r ≡ Err InvalidArgument → P) × (P → r ≡ Err InvalidArgument)
-memory_alone (Ok x) memory never = accepted never
-memory_alone (Err e) memory never = no_memory (ap Err memory) never
-
 -- levels that are kept make the same sketch
 same_sketch : {A : Type 0} (x y : Stored A) (min_k n : ℕ) (least greatest : Option A) → KeepsLevels x y →
     sketch_of y.k min_k n y.is_sorted y.levels least greatest ≡ sketch_of x.k min_k n x.is_sorted x.levels least greatest
@@ -47,9 +41,6 @@ still_sound cmp x y min_k n least greatest kept sound = subst (IsSound cmp) (sym
 
 pub not_all : {n : ℕ} → n ≡ 2 ^ 64 - 1 → n < 2 ^ 64 - 1 → ⊥
 not_all all light = omega (arith, all, light)
-
-pub next_fits : (n m : ℕ) → n ≡ m → m < 2 ^ 64 - 1 → n + 1 < 2 ^ 64
-next_fits n m e small = omega (arith, e, small)
 
 -- ---- images
 

@@ -132,9 +132,6 @@ both_fit e f fits = omega (arith, e, f, fits)
 pub no_weight : {text behind : List ℕ} (n : ℕ) → length text < 8 → text ≡ to_le_bytes w64 n ++ behind → ⊥
 no_weight n short e = omega (arith, short, ap length e)
 
-pub none_counted : {n : ℕ} → n ≤ 0 → 1 ≤ n → ⊥
-none_counted none some = omega (arith, none, some)
-
 pub still_many : {p q l n : ℕ} → p ≡ q → p ≡ l → 5 ≤ q → n ≡ l → 4 < n
 still_many e f many g = omega (arith, e, f, many, g)
 

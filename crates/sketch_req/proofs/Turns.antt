@@ -45,7 +45,7 @@ module _ {A S : Type 0} {cmp : A → A → Ordering} (order : IsTotalOrder cmp) 
     pub few : 0 < length coming → (h : ℕ) → n ≡ h + 1 → (upper : Level A) → upper ≡ get_or (raised k accuracy h ls) (h + 1) upper →
         length upper.items + length coming ≤ retained_of (layouts_of start)
     pub own : 0 < length coming → (h : ℕ) → n ≡ h + 1 → h + 1 < length (layouts_of start) → (upper : Level A) → upper ≡ get_or (raised k accuracy h ls) (h + 1) upper →
-        own_space k accuracy (length coming) (layout_of upper) ≤ get_or spaces (h + 1) 0
+        own_space (length coming) (layout_of upper) ≤ get_or spaces (h + 1) 0
     pub short : length coming ≤ most
     pub low : 0 < length coming → n ≤ 60
     pub first : n ≡ 0 → coming ≡ []
@@ -59,7 +59,7 @@ module _ {A S : Type 0} {cmp : A → A → Ordering} (order : IsTotalOrder cmp) 
     pub there : with_coming cmp old coming ≡ get_or all n (with_coming cmp old coming)
     pub after : (new : Level A) → set all n new ≡ set ls n new
     pub few : length old.items + length coming ≤ retained_of (layouts_of start)
-    pub own : n < length (layouts_of start) → own_space k accuracy (length coming) (layout_of old) ≤ get_or spaces n 0
+    pub own : n < length (layouts_of start) → own_space (length coming) (layout_of old) ≤ get_or spaces n 0
 
   -- at the start
   pub pending-start : (spaces : List ℕ) (most : ℕ) (coming : List A) → coming ≡ [] → AreLevels cmp k accuracy 0 start → IsPending spaces most 0 source start coming
@@ -89,7 +89,7 @@ module _ {A S : Type 0} {cmp : A → A → Ordering} (order : IsTotalOrder cmp) 
         there = e;
         after = λ new. refl;
         few = omega (arith, w.acted.fewer, count-within n (layouts_of ls), ap (λ (l : Layout). l.count) o.layout);
-        own = λ s. omega (arith, own-nothing k accuracy (layout_of old));
+        own = λ s. omega (arith, own-nothing (layout_of old));
       }
   is-ready spaces most zero now ls old (x ∷ more) small p within e = absurd (omega (arith, ap length (p.first refl)))
   is-ready spaces most (suc h) now ls old (x ∷ more) small p within e =
@@ -179,7 +179,7 @@ module _ {A S : Type 0} {cmp : A → A → Ordering} (order : IsTotalOrder cmp) 
   -- a level that is full at its turn
   compacted-turn : (spaces : List ℕ) (n most : ℕ) (now after : S) (ls : List (Level A)) (old new : Level A) (coming up : List A) → IsReady spaces n now ls old coming → AreLevels cmp k accuracy 0 ls →
       weight_of (layouts_of start) < 2 ^ 64 → IsLegalK k → (layout_at (steps_layouts k n 0 (layouts_of start)) n).count ≤ most →
-      (suc n < length (layouts_of start) → let now = steps_layouts k n 0 (layouts_of start) in own_space k accuracy (taken_if_full k (layout_at now n) / 2) (layout_at now (suc n)) ≤ get_or spaces (suc n) 0) →
+      (suc n < length (layouts_of start) → let now = steps_layouts k n 0 (layouts_of start) in own_space (taken_if_full k (layout_at now n) / 2) (layout_at now (suc n)) ≤ get_or spaces (suc n) 0) →
       nominal_of old ≤ length old.items + length coming → IsCompacted cmp (with_coming cmp old coming) (coin_of old (bit now)) up new → IsLevel cmp new →
       after ≡ (if draws_coin (with_coming cmp old coming) then next now else now) → IsPending spaces most (n + 1) after (set ls n new) up
   compacted-turn spaces n most now after ls old new coming up r placed fits legal held space full c sound coins =
@@ -204,12 +204,12 @@ module _ {A S : Type 0} {cmp : A → A → Ordering} (order : IsTotalOrder cmp) 
       omega (arith, (comes upper e).2, r.walked.acted.fewer) in
       let taken_is : length up ≡ taken_if_full k (layout_at (layouts_of r.all) n) / 2 = counts.1
       ∙ ap (λ (m : ℕ). m / 2) (sym (ap (λ (b : Bool). if b then taken k (layout_at (layouts_of r.all) n) else 0) is ∙ ap (taken k) o.layout)) in
-      let own : suc n < length (layouts_of start) → (upper : Level A) → upper ≡ get_or above (n + 1) upper → own_space k accuracy (length up) (layout_of upper) ≤ get_or spaces (n + 1) 0 = λ more upper e.
+      let own : suc n < length (layouts_of start) → (upper : Level A) → upper ≡ get_or above (n + 1) upper → own_space (length up) (layout_of upper) ≤ get_or spaces (n + 1) 0 = λ more upper e.
       let one : suc n ≡ n + 1 = omega arith in
       let same = r.walked.acted.layouts_are in
-      let needs : own_space k accuracy (length up) (layout_of upper)
-      ≡ own_space k accuracy (taken_if_full k (layout_at (steps_layouts k n 0 (layouts_of start)) n) / 2) (layout_at (steps_layouts k n 0 (layouts_of start)) (suc n)) =
-      ap₂ (λ (m : ℕ) (l : Layout). own_space k accuracy m l) (taken_is ∙ ap (λ (ls : List Layout). taken_if_full k (layout_at ls n) / 2) same)
+      let needs : own_space (length up) (layout_of upper)
+      ≡ own_space (taken_if_full k (layout_at (steps_layouts k n 0 (layouts_of start)) n) / 2) (layout_at (steps_layouts k n 0 (layouts_of start)) (suc n)) =
+      ap₂ (λ (m : ℕ) (l : Layout). own_space m l) (taken_is ∙ ap (λ (ls : List Layout). taken_if_full k (layout_at ls n) / 2) same)
       ((comes upper e).0 ∙ ap₂ (λ (ls : List Layout) (i : ℕ). layout_at ls i) same (sym one)) in
       omega (arith, needs, space more, ap (λ (i : ℕ). get_or spaces i 0) one) in
       let zero_n : 0 + n ≡ n = omega arith in
@@ -220,7 +220,7 @@ module _ {A S : Type 0} {cmp : A → A → Ordering} (order : IsTotalOrder cmp) 
         few = λ s h q. subst (λ (m : ℕ). (upper : Level A) → upper ≡ get_or (raised k accuracy m (set ls n new)) (m + 1) upper → length upper.items + length up ≤ retained_of (layouts_of start))
             (same-place h q) few;
         own = λ s h q more. subst (λ (m : ℕ). (upper : Level A) → upper ≡ get_or (raised k accuracy m (set ls n new)) (m + 1) upper →
-            own_space k accuracy (length up) (layout_of upper) ≤ get_or spaces (m + 1) 0) (same-place h q) (own (omega (arith, q, more)));
+            own_space (length up) (layout_of upper) ≤ get_or spaces (m + 1) 0) (same-place h q) (own (omega (arith, q, more)));
         short = omega (arith, counts.1, g.within, ready-held spaces n most now ls old coming r held, length-coming order old coming);
         low = λ s. omega (arith, low);
         first = λ e. absurd (omega (arith, e));
@@ -235,7 +235,7 @@ module _ {A S : Type 0} {cmp : A → A → Ordering} (order : IsTotalOrder cmp) 
   pub next-pending : (spaces : List ℕ) (n most : ℕ) (now after : S) (ls : List (Level A)) (old new : Level A) (coming up : List A) → retained_of (layouts_of start) < 2 ^ 32 →
       IsPending spaces most n now ls coming → n < length ls → old ≡ get_or ls n old → weight_of (layouts_of start) < 2 ^ 64 → IsLegalK k →
       (layout_at (steps_layouts k n 0 (layouts_of start)) n).count ≤ most →
-      (suc n < length (layouts_of start) → let now = steps_layouts k n 0 (layouts_of start) in own_space k accuracy (taken_if_full k (layout_at now n) / 2) (layout_at now (suc n)) ≤ get_or spaces (suc n) 0) →
+      (suc n < length (layouts_of start) → let now = steps_layouts k n 0 (layouts_of start) in own_space (taken_if_full k (layout_at now n) / 2) (layout_at now (suc n)) ≤ get_or spaces (suc n) 0) →
       IsTurned cmp old coming (bit now) up new → IsLevel cmp new →
       after ≡ (if is_full_with old coming && draws_coin (with_coming cmp old coming) then next now else now) → IsPending spaces most (n + 1) after (set ls n new) up
   next-pending spaces n most now after ls old new coming up small p within there fits legal held space t sound coins = go (is_full_with old coming) refl

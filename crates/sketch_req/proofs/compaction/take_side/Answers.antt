@@ -1,29 +1,18 @@
-use Rattle.std.proofs.Common.{◌≡◌, ℕ, ◌-◌, ◌*◌, ◌%◌, ◌≤◌, vec_capacity, List, ◌++◌, length, take, drop, reverse, sym, ap, subst, not, arith, take_at, length-append, length-drop, length-take}
+use Rattle.std.proofs.Common.{◌≡◌, ℕ, ◌-◌, ◌*◌, ◌%◌, ◌≤◌, vec_capacity, List, ◌++◌, length, take, drop, reverse, sym, ap, subst, not, arith, ◌∙◌, length-take}
 use Rattle.std.proofs.lemmas.List.{length-reverse, reverse-reverse}
 use Rattle.sketch_base.specs.Bag.{half}
 use Rattle.sketch_base.proofs.MovedHalves.{half_reverse}
 use Rattle.sketch_req.specs.Level.{side_kept, side_taken}
 use Rattle.sketch_req.specs.declared.RankAccuracy.{RankAccuracy}
 use Rattle.sketch_req.proofs.Equations.{same_back, same_items, same_number}
-use Rattle.sketch_req.proofs.TakenParts.{moved_behind}
-use Rattle.sketch_req.proofs.compaction.take_side.Goals.{After-move_behind}
+use Rattle.sketch_req.proofs.TakenParts.{turned_parts}
+use Rattle.sketch_req.proofs.compaction.take_side.Goals.{After-reverse}
 use Rattle.sketch_req.proofs.compaction.take_side.Goals as goal
 use Rattle.sketch_req.proofs.compaction.take_side.Goals.at as past
 
--- the vector's items after the slice of them was changed
-changed : (g : _) (c : After-move_behind g) → take c.args.items.now.len (c.move_behind.new.items ++ drop (length c.move_behind.new.items) c.args.items.now.items)
-    ≡ drop c.args.count c.args.items.now.items ++ reverse (take c.args.count c.args.items.now.items)
-changed g c =
-    same_items (take_at c.move_behind.new.items _ c.args.items.now.len (same_number c.move_behind.auto.items c.deref_mut.ensures.len))
-    (same_items c.move_behind.ensures (ap (λ (xs : List g.row.T.Denot). drop c.args.count xs ++ reverse (take c.args.count xs)) c.deref_mut.ensures.value))
-
-turned_count : {A : Type 0} (n : ℕ) (xs : List A) → length (drop n xs ++ reverse (take n xs)) ≡ length xs
-turned_count n xs = omega (arith, length-append (drop n xs) (reverse (take n xs)), length-reverse (take n xs), length-drop n xs, length-take n xs)
-
-changed-count : (g : _) (c : After-move_behind g) →
-    length (take c.args.items.now.len (c.move_behind.new.items ++ drop (length c.move_behind.new.items) c.args.items.now.items)) ≡ c.len.result
-changed-count g c = same_back (same_number (ap length (changed g c)) (turned_count c.args.count c.args.items.now.items))
-    (same_number c.len.ensures c.args.items.now.ok.0)
+-- as many items as before
+as_many : (g : _) (c : After-reverse g) → length c.reverse.new.self.items ≡ c.len.result
+as_many g c = ap length c.reverse.ensures.items ∙ (length-reverse c.args.items.now.items ∙ sym (same_number c.len.ensures c.args.items.now.ok.0))
 
 behind_is : {l m n : ℕ} (count : ℕ) → m ≡ l → l ≡ n → count ≤ n → m - (l - count) ≡ count
 behind_is count same e l = omega (arith, same, e, l)
@@ -54,32 +43,30 @@ move_half-requires-in-LowRank-clause-room g c =
     (sym (taken_is c.args.count (same_number c.len.ensures c.args.items.now.ok.0) c.requires.within)) c.requires.room
 
 pub move_half-requires-clause-within : goal.move_half-requires-clause-within
-move_half-requires-clause-within g c = kept_within c.args.count (sym (changed-count g (past.move_half-requires-clause-within g c).After-move_behind))
+move_half-requires-clause-within g c = kept_within c.args.count (sym (as_many g (past.move_half-requires-clause-within g c).After-reverse))
 
 pub move_half-requires-clause-even : goal.move_half-requires-clause-even
 move_half-requires-clause-even g c =
     subst (λ (n : ℕ). n % 2 ≡ 0)
-    (sym (behind_is c.args.count (changed-count g (past.move_half-requires-clause-even g c).After-move_behind)
+    (sym (behind_is c.args.count (as_many g (past.move_half-requires-clause-even g c).After-reverse)
     (same_number c.len.ensures c.args.items.now.ok.0) c.requires.within)) c.requires.even
 
 pub move_half-requires-clause-room : goal.move_half-requires-clause-room
 move_half-requires-clause-room g c =
     subst (λ (n : ℕ). n ≤ 2 * vec_capacity c.args.out.now)
-    (sym (behind_is c.args.count (changed-count g (past.move_half-requires-clause-room g c).After-move_behind)
+    (sym (behind_is c.args.count (as_many g (past.move_half-requires-clause-room g c).After-reverse)
     (same_number c.len.ensures c.args.items.now.ok.0) c.requires.within)) c.requires.room
 
 pub returns-in-HighRank : goal.returns-in-HighRank
 returns-in-HighRank g c =
     let xs : List g.row.T.Denot = c.args.items.now.items in
-    let turned = changed g (past.returns-in-HighRank g c).After-move_behind in
-    let parts = moved_behind c.args.count (c.len.result - c.args.count) xs _
-    (ap (λ (m : ℕ). m - c.args.count) (same_number c.len.ensures c.args.items.now.ok.0)) turned in
+    let parts = turned_parts c.args.count (c.len.result - c.args.count) xs _ (ap (λ (m : ℕ). m - c.args.count) (same_number c.len.ensures c.args.items.now.ok.0)) c.reverse.ensures.items in
     let out : reverse (half (not c.args.odd) (reverse (take c.args.count xs))) ≡ c.move_half.new.out.items =
     same_items (ap reverse (same_items (sym (ap (half (not c.args.odd)) parts.1)) c.move_half.ensures.moved)) (reverse-reverse c.move_half.new.out.items) in
     let even : length (take c.args.count xs) % 2 ≡ 0 = omega (arith, length-take c.args.count xs, c.requires.within, c.requires.even) in
     record {
-      kept = subst (λ (a : RankAccuracy). c.move_half.new.items.items ≡ side_kept a c.args.count xs) (sym c.in-HighRank.is)
-          (same_items c.move_half.ensures.kept parts.0);
+      kept = subst (λ (a : RankAccuracy). c.reverse-in-HighRank.new.self.items ≡ side_kept a c.args.count xs) (sym c.in-HighRank.is)
+          (same_items c.reverse-in-HighRank.ensures.items (same_items (ap reverse c.move_half.ensures.kept) parts.0));
       moved = subst (λ (a : RankAccuracy). c.move_half.new.out.items ≡ half c.args.odd (side_taken a c.args.count xs)) (sym c.in-HighRank.is)
           (sym (same_items (half_reverse c.args.odd (take c.args.count xs) even) out));
       capacity = c.move_half.ensures.capacity;
@@ -93,8 +80,8 @@ returns-in-LowRank g c =
     record {
       kept = subst (λ (a : RankAccuracy). c.move_half-in-LowRank.new.items.items ≡ side_kept a count xs) (sym c.in-LowRank.is)
           (same_items c.move_half-in-LowRank.ensures.kept (ap (λ (m : ℕ). take (m - count) xs) all));
-      moved = subst (λ (a : RankAccuracy). c.reverse.new.self.items ≡ half c.args.odd (side_taken a count xs)) (sym c.in-LowRank.is)
-          (same_items c.reverse.ensures.items (same_items (sym c.move_half-in-LowRank.ensures.moved)
+      moved = subst (λ (a : RankAccuracy). c.reverse-in-LowRank.new.self.items ≡ half c.args.odd (side_taken a count xs)) (sym c.in-LowRank.is)
+          (same_items c.reverse-in-LowRank.ensures.items (same_items (sym c.move_half-in-LowRank.ensures.moved)
           (ap (λ (m : ℕ). half c.args.odd (drop (m - count) xs)) all)));
-      capacity = same_number c.reverse.ensures.capacity c.move_half-in-LowRank.ensures.capacity;
+      capacity = same_number c.reverse-in-LowRank.ensures.capacity c.move_half-in-LowRank.ensures.capacity;
     }

@@ -52,8 +52,7 @@ fn count_to_take_at<T: Clone + Ord>(
 
 /// Makes room for all that a walk moves, if other levels are joined in first or `more` items come
 /// into level 0: two empty vectors for what a level gives up, each with room for all that it holds,
-/// and buffers with clones of the others' items, and with room for the levels that fewer items
-/// leave than come to.
+/// and buffers with clones of the others' items, and with room for the levels that items come to.
 pub(super) fn reserve<T: Clone + Ord>(
     levels: &[Compactor<T>],
     others: &[Compactor<T>],
@@ -85,11 +84,7 @@ pub(super) fn reserve<T: Clone + Ord>(
         if level < others.len() {
             own.take_clones(others[level].items_slice(), here)?;
         }
-        let going = match rank_accuracy {
-            RankAccuracy::HighRank => taken,
-            RankAccuracy::LowRank => 0,
-        };
-        own.reserve(here - going, came, going)?;
+        own.reserve(here, came)?;
         most = most.max(here);
         came = taken / 2;
     }

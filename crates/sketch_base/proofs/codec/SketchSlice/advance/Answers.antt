@@ -1,4 +1,4 @@
-use Rattle.sketch_base.proofs.LowestPairs.{slice-behind}
+use Rattle.sketch_base.proofs.ListParts.{slice-behind}
 use Rattle.sketch_base.proofs.codec.SketchSlice.advance.Goals as goal
 
 pub returns : goal.returns

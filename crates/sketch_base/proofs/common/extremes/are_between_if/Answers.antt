@@ -1,12 +1,15 @@
-use Rattle.std.proofs.Common.{◌≡◌, ◌-◌, false, not, length, subst, sym, ap, ◌∙◌, arith, is_gt}
+use Rattle.std.proofs.Common.{◌≡◌, ◌-◌, Bool, true, false, not, length, subst, sym, ap, ◌∙◌, arith, is_gt}
 use Rattle.std.proofs.ByRecursion.{All-get_or}
 use Rattle.std.proofs.lemmas.Bool.{false≢true}
 use Rattle.sketch_base.specs.Extremes.{IsBetween}
-use Rattle.sketch_base.proofs.LowestPairs.{truth-not}
 use Rattle.sketch_base.proofs.ReadItems.{last-within}
 use Rattle.sketch_base.proofs.SortedEnds.{between-ends}
 use Rattle.sketch_base.proofs.common.extremes.are_between_if.Goals.{then-not-is_gt, else-not-is_gt}
 use Rattle.sketch_base.proofs.common.extremes.are_between_if.Goals as goal
+
+truth-not : (b c : Bool) → not b ≡ c → b ≡ not c
+truth-not true c e = ap not e
+truth-not false c e = ap not e
 
 pub returns : goal.returns
 returns g c = c.are_between.ensures

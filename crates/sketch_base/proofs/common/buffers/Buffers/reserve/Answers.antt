@@ -16,6 +16,3 @@ invariant_of-self g c = c.reserve_exact.ensures.items ∙ c.self.invariant
 
 pub returns : goal.returns
 returns g c = record { rest = with_space _ _ c.self.view_is _; space = on_ok_weaker c.reserve_exact.result (λ h more. space-for _ _ _ h) c.reserve_exact.ensures.ok }
-
-pub returns-then-coming-going : goal.returns-then-coming-going
-returns-then-coming-going g c = record { rest = refl; space = λ more. absurd (not-le_of_lt more c.if-coming-going.true) }

@@ -9,20 +9,19 @@ use Rattle.sketch_base.specs.Buffers.{Space}
 use Rattle.sketch_req.specs.Level.{Level, fresh}
 use Rattle.sketch_req.specs.Merged.{AreCloned, item_lists}
 use Rattle.sketch_req.specs.Schedule.{Layout, layouts_of, layout_at, joined_layouts, filled, steps_layouts}
-use Rattle.sketch_req.specs.Walk.{HaveSpace, accuracy_of, given_up, k_of, own_space, taken_if_full, with_more}
+use Rattle.sketch_req.specs.Walk.{HaveSpace, accuracy_of, k_of, own_space, taken_if_full, with_more}
 use Rattle.sketch_req.specs.declared.RankAccuracy.{RankAccuracy}
-use Rattle.sketch_req.specs.declared.RankAccuracy.TheVariants.{HighRank, LowRank}
 use Rattle.sketch_req.proofs.Buffers.{own-more, read-there}
 use Rattle.sketch_req.proofs.ClonedBuffers.{cloned-grown, cloned-more}
 use Rattle.sketch_req.proofs.Layouts.{length-layouts, retained-with}
 use Rattle.sketch_req.proofs.MergedLevels.{joined-count}
-use Rattle.sketch_req.proofs.ReservedWalks.{given-within, own-reserved, planned-start, planned-more, planned-carried, planned-space, length-more}
+use Rattle.sketch_req.proofs.ReservedWalks.{own-reserved, planned-start, planned-more, planned-carried, planned-space, length-more}
 use Rattle.sketch_req.proofs.WalkCapacities.{length-joined, retained-joined}
 use Rattle.sketch_req.proofs.WalkSteps.{own-there}
 use Rattle.sketch_req.proofs.sketch.levels.walk.reserve.Given.{Over}
 use Rattle.sketch_req.proofs.sketch.levels.walk.reserve.Goals as goal
 use Rattle.sketch_req.proofs.sketch.levels.walk.reserve.Goals.at as past
-use Rattle.sketch_req.proofs.sketch.levels.walk.reserve.Goals.{After-count_at-in-loop-level, After-max-most, After-parameters-k, After-drop-blank-inside-2, In_ok-for_levels, Joined-level-others, After-row_known-1, then-level-others+in_ok-take_clones, else-level-others, in-HighRank, in-LowRank}
+use Rattle.sketch_req.proofs.sketch.levels.walk.reserve.Goals.{After-count_at-in-loop-level, After-max-most, After-parameters-k, After-drop-blank-inside-2, In_ok-for_levels, Joined-level-others, then-level-others+in_ok-take_clones, else-level-others}
 
 -- the greater of two numbers
 at-most-greater : (greater m n : ℕ) → greater ≡ ord_max nat_cmp m n → (m ≤ greater) × (n ≤ greater)
@@ -98,29 +97,6 @@ told g c =
       }
     ]
 
--- how many items the level gives up
-of-high : (k n : ℕ) (l : Layout) (accuracy : RankAccuracy) → accuracy ≡ HighRank → n ≡ taken_if_full k l → n ≡ given_up k accuracy l
-of-high k n l accuracy e f = subst (λ (a : RankAccuracy). n ≡ given_up k a l) (sym e) f
-
-of-low : (k : ℕ) (l : Layout) (accuracy : RankAccuracy) → accuracy ≡ LowRank → 0 ≡ given_up k accuracy l
-of-low k l accuracy e = subst (λ (a : RankAccuracy). 0 ≡ given_up k a l) (sym e) refl
-
-going : (g : Over) (c : After-row_known-1 g) → c.parameters-k.result ≡ (k_of c.args.levels.now, accuracy_of c.args.levels.now) →
-    c.match-rank_accuracy.going ≡ given_up (k_of c.args.levels.now) (accuracy_of c.args.levels.now) (filled c.loop-level.came (layout_at
-    (joined_layouts (k_of c.args.levels.now) (layouts_of c.args.levels.now) (layouts_of c.args.others.now)) c.loop-level.level))
-going g c told =
-    let kind : accuracy_of c.args.levels.now ≡ c.parameters-k.result.1 = sym (ap (λ (p : ℕ × RankAccuracy). p.1) told) in
-    elim c.match-rank_accuracy.branch [
-      | in-HighRank w ↦ w.going-is ∙ of-high _ _ _ _ (kind ∙ w.in-HighRank.is) c.count_to_take_at-taken.ensures
-      | in-LowRank w ↦ w.going-is ∙ of-low _ _ _ (kind ∙ w.in-LowRank.is)
-    ]
-
-pub overflow_sub-here : goal.overflow_sub-here
-overflow_sub-here g c =
-    let goes = going g (past.overflow_sub-here g c).After-row_known-1 (own g (past.overflow_sub-here g c).After-parameters-k) in
-    let at = (past.overflow_sub-here g c).After-count_at-in-loop-level in
-    omega (arith, goes, given-within (k_of c.args.levels.now) (accuracy_of c.args.levels.now) (filled c.loop-level.came (layout_at (both g at) c.loop-level.level)), here g at)
-
 -- two counts without what comes
 without-coming : (m n a b came space own : ℕ) → m ≡ a → n ≡ b → own ≡ space → m + n + came ≤ space → a + b ≤ own
 without-coming m n a b came space own e f s l = grind arith
@@ -148,7 +124,6 @@ loop-level-preserved g c =
     let both : List Layout = joined_layouts k (layouts_of c.args.levels.now) (layouts_of c.args.others.now) in
     let start : List Layout = with_more c.args.more both in
     let told = told g (past.loop-level-preserved g c).Joined-level-others in
-    let goes = going g (past.loop-level-preserved g c).After-row_known-1 (own g (past.loop-level-preserved g c).After-parameters-k) in
     let held = here g (past.loop-level-preserved g c).After-count_at-in-loop-level in
     let own = c.reserve.new.self in
     let rest = c.reserve.ensures.rest in
@@ -169,10 +144,9 @@ loop-level-preserved g c =
       promoted = none-holds-more (λ (h : ℕ). (layout_at (steps_layouts k h 0 start) h).count) at _ _ most.0
           (subst (λ (l : Layout). l.count ≤ c.max-most.result) (sym i.planned.next) (subst (λ (n : ℕ). n + c.loop-level.came ≤ c.max-most.result) held most.1))
           i.promoted;
-      own = own-more (λ h. own_space k accuracy (taken_if_full k (layout_at (steps_layouts k h 0 start) h) / 2) (layout_at (steps_layouts k h 0 start) (suc h))) c.loop-level.room.rooms.items own at inside i.own
-          (planned-space k at c.loop-level.came own.merged_space accuracy start both i.planned
-          (own-reserved k c.loop-level.came count c.match-rank_accuracy.going own.merged_space accuracy (layout_at both at)
-          (ap (λ (n : ℕ). n + c.loop-level.came) held) goes c.in_ok-reserve.ensures.space));
+      own = own-more (λ h. own_space (taken_if_full k (layout_at (steps_layouts k h 0 start) h) / 2) (layout_at (steps_layouts k h 0 start) (suc h))) c.loop-level.room.rooms.items own at inside i.own
+          (planned-space k at c.loop-level.came own.merged_space start both i.planned
+          (own-reserved c.loop-level.came count own.merged_space (layout_at both at) (ap (λ (n : ℕ). n + c.loop-level.came) held) c.in_ok-reserve.ensures.space));
     }
 
 -- the greater of two lengths

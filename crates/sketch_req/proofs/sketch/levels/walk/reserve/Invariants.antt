@@ -19,6 +19,6 @@ invariant-loop-level g l =
       own :
           (h : ℕ) →
           suc h < l.level →
-          own_space k (accuracy_of l.levels) (taken_if_full k (layout_at (steps_layouts k h 0 start) h) / 2) (layout_at (steps_layouts k h 0 start) (suc h))
+          own_space (taken_if_full k (layout_at (steps_layouts k h 0 start) h) / 2) (layout_at (steps_layouts k h 0 start) (suc h))
           ≤ get_or (merged_spaces l.room.rooms.items) (suc h) 0;
     }

@@ -61,12 +61,6 @@ module _ (g : _) (c : After-index_mut-in-loop-level g) where
       ∙ read-there (λ b. b.merged_space) 0 c.loop-level.room.rooms.items c.loop-level.level c.index_mut.result.now
       (lt_of_lt_of_le c.loop-level-test.true i.enough) c.index_mut.ensures.value
 
-  -- the level has the sketch's k and accuracy
-  own-told : (c.index_mut-in-loop-level.result.now.k ≡ k_of c.args.levels.now.items) × (c.index_mut-in-loop-level.result.now.accuracy ≡ accuracy_of c.args.levels.now.items)
-  own-told =
-      let placed = (opened _ _ _ _ _ c.loop-level.invariant.pending.placed within c.index_mut-in-loop-level.ensures.value).placed in
-      (placed.k_is, placed.accuracy_is)
-
 pub turn-requires-clause-sorted : goal.turn-requires-clause-sorted
 turn-requires-clause-sorted g c = c.loop-level.invariant.sorted
 
@@ -74,16 +68,10 @@ pub turn-requires-clause-few : goal.turn-requires-clause-few
 turn-requires-clause-few g c =
     lt_of_le_of_lt (ready g (past.turn-requires-clause-few g c).After-index_mut-in-loop-level).few c.requires.few_items
 
--- space for a level, by its k and its accuracy
-space-told : (k own_k came most : ℕ) (accuracy own_accuracy : RankAccuracy) (l : Layout) → own_k ≡ k → own_accuracy ≡ accuracy →
-    own_space k accuracy came l ≤ most →
-    own_space own_k own_accuracy came l ≤ most
-space-told k own_k came most accuracy own_accuracy l e f fits = rw (e, f) fits
-
 pub turn-requires-clause-space : goal.turn-requires-clause-space
 turn-requires-clause-space g c =
     let at = (past.turn-requires-clause-space g c).After-index_mut-in-loop-level in
-    le_trans (space-told _ _ _ _ _ _ _ (own-told g at).0 (own-told g at).1 ((ready g at).own (inside g at)))
+    le_trans ((ready g at).own (inside g at))
     (le_of_eq (own-there_is g at ∙ sym (ap (λ (b : Space g.row.T.Denot). b.merged_space) c.behind-room.view_is)))
 
 pub turn-requires-clause-empty : goal.turn-requires-clause-empty
