@@ -17,7 +17,7 @@ use Rattle.quantile_sketches.specs.LineWords.{words, BeginsWithUpdate}
 use Rattle.quantile_sketches.specs.Lines.{Ends, TakesLine}
 use Rattle.quantile_sketches.specs.Output.{Writes}
 use Rattle.quantile_sketches.specs.Reader.{Grammar}
-use Rattle.quantile_sketches.specs.declared.audit.commands.Command.TheVariants.{Update}
+use Rattle.quantile_sketches.specs.declared.commands.Command.TheVariants.{Update}
 use Rattle.quantile_sketches.specs.declared.lines.Fault.{Fault}
 use Rattle.quantile_sketches.specs.declared.lines.Fault.TheVariants.{Input, Output}
 use Rattle.quantile_sketches.proofs.FirstLine.{takes_buffered, takes_read}

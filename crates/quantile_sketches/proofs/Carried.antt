@@ -17,8 +17,8 @@ use Rattle.sketch_base.specs.declared.error.ErrorKind.TheVariants.{InvalidArgume
 use Rattle.quantile_sketches.specs.Behaviour.{Behaviour, Change}
 use Rattle.quantile_sketches.specs.Calls.{Obeys, ObeysRules}
 use Rattle.quantile_sketches.specs.declared.answer.Refusal.TheVariants.{BadLine, AbsentSlot, Sketch}
-use Rattle.quantile_sketches.specs.declared.audit.commands.Command.{Command}
-use Rattle.quantile_sketches.specs.declared.audit.commands.Command.TheVariants.{New, Update, UpdateWeighted, Merge, Reset, RoundTrip, Redraw, MergeRedrawn}
+use Rattle.quantile_sketches.specs.declared.commands.Command.{Command}
+use Rattle.quantile_sketches.specs.declared.commands.Command.TheVariants.{New, Update, UpdateWeighted, Merge, Reset, RoundTrip, Redraw, MergeRedrawn}
 use Rattle.quantile_sketches.specs.Outcome.{shapes_in}
 use Rattle.quantile_sketches.specs.Plan.{shape_merged}
 use Rattle.quantile_sketches.specs.RuleLaws.{IsLawful}
@@ -128,34 +128,34 @@ module _ {A C Shape S Source : Type 0} {kind : Kind A C Shape S} (lawful : IsLaw
     (obeys : ObeysRules behaviour kind bit next) where
   -- a sketch took an item that compares equal to the given one
   abbrev Took : A → S → Source → S → Source → Type 0
-  Took x s source t source' = (y : A) × (kind.cmp x y ≡ Equal) × IsUpdated kind bit next s y source t source'
+  Took x s source t source' = (y : A) × (kind.look.cmp x y ≡ Equal) × IsUpdated kind bit next s y source t source'
 
   abbrev TookWeighted : A → ℕ → S → Source → S → Source → Type 0
-  TookWeighted x weight s source t source' = (y : A) × (kind.cmp x y ≡ Equal) × IsWeighted kind bit next s y weight source t source'
+  TookWeighted x weight s source t source' = (y : A) × (kind.look.cmp x y ≡ Equal) × IsWeighted kind bit next s y weight source t source'
 
   item-obeys : (x : A) (shape : Option Shape) (does : A → S → Source → Type 0) → (s : S) (source : Source) (r : Result Unit ErrorKind) (t : S) (source' : Source) →
       Obeys shape (does x) s source r t source' →
-      Obeys shape (λ t source'. (y : A) × (kind.cmp x y ≡ Equal) × does y t source') s source r t source'
+      Obeys shape (λ t source'. (y : A) × (kind.look.cmp x y ≡ Equal) × does y t source') s source r t source'
   item-obeys x shape does s source r t source' h = (on_ok_weaker r (λ d. (x, tied_itself lawful.total x, d)) h.0, h.1, h.2)
 
-  clone-obeys : (IsClone : A → Type 0) (x : A) → ((y : A) → IsClone y → kind.cmp x y ≡ Equal) → (behave : A → Change Source S) (shape : Option Shape) (does : A → S → Source → Type 0) →
+  clone-obeys : (IsClone : A → Type 0) (x : A) → ((y : A) → IsClone y → kind.look.cmp x y ≡ Equal) → (behave : A → Change Source S) (shape : Option Shape) (does : A → S → Source → Type 0) →
       (s : S) (source : Source) (r : Result Unit ErrorKind) (t : S) (source' : Source) → ((y : A) → behave y s source r t source' → Obeys shape (does y) s source r t source') →
       Cloned IsClone behave s source r t source' →
-      Obeys shape (λ t source'. (y : A) × (kind.cmp x y ≡ Equal) × does y t source') s source r t source'
+      Obeys shape (λ t source'. (y : A) × (kind.look.cmp x y ≡ Equal) × does y t source') s source r t source'
   clone-obeys IsClone x ties behave shape does s source r t source' f (inl (y, is, h)) = let o = f y h in (on_ok_weaker r (λ d. (y, ties y is, d)) o.0, o.1, o.2)
   clone-obeys IsClone x ties behave shape does s source r t source' f (inr all) = item-obeys x shape does s source r t source' (f x (all x))
 
   -- a sketch is a copy of itself
-  same-answer : (o : Option A) → SameAnswer kind.cmp o o
+  same-answer : (o : Option A) → SameAnswer kind.look.cmp o o
   same-answer None = tt
   same-answer (Some x) = tied_itself lawful.total x
 
   copied-itself : (s : S) → kind.IsSound s → IsCopied kind s s
   copied-itself s sound = record {
     shape_is = refl;
-    alike = lawful.alike_refl (kind.bag s);
-    least_is = same-answer (kind.least s);
-    greatest_is = same-answer (kind.greatest s);
+    alike = lawful.alike_refl (kind.look.bag s);
+    least_is = same-answer (kind.look.least s);
+    greatest_is = same-answer (kind.look.greatest s);
     sound = sound;
   }
 
@@ -167,7 +167,7 @@ module _ {A C Shape S Source : Type 0} {kind : Kind A C Shape S} (lawful : IsLaw
         r slots' source' → Goes r (New slot config)
     comes-new slot config (Ok tt) ((s, o, held, made, is), stays) =
         let fresh = (obeys.made config (Ok s) made).0 in
-        yes kind bit next (New slot config) (in_slot slots) source (in_slot slots') source' (given _ (kind.shape s) fresh.shape_is)
+        yes kind bit next (New slot config) (in_slot slots) source (in_slot slots') source' (given _ (kind.look.shape s) fresh.shape_is)
         (record { made = s; fresh = fresh; puts = λ q. ap (λ l. in_slot l q) is ∙ in_slot-set slots slot o (Some s) held q }, stays)
     comes-new slot config (Err (Sketch e)) ((made, is), stays) =
         (unless-refused _ e (obeys.made config (Err e) made).1 (λ none. not-given _ none), (λ q. ap (λ l. in_slot l q) is), stays)
@@ -180,22 +180,22 @@ module _ {A C Shape S Source : Type 0} {kind : Kind A C Shape S} (lawful : IsLaw
 
     -- a command that the rules decide by the shape of its slot's sketch
     ruled : (command : Command A C) (slot : ℕ) (gives : Shape → Option Shape) →
-        ((accepted : Bool) → accepted ≡ not (not (is_some (option_and_then gives (option_map kind.shape (in_slot slots slot))))) → IsDecided kind command (in_slot slots) accepted) →
+        ((accepted : Bool) → accepted ≡ not (not (is_some (option_and_then gives (option_map kind.look.shape (in_slot slots slot))))) → IsDecided kind command (in_slot slots) accepted) →
         (turn : Change Source S) (does : S → S → Type 0) →
-        ((s t : S) (r : Result Unit ErrorKind) → kind.IsSound s → turn s source r t source' → Obeys (gives (kind.shape s)) (λ t source'. does s t) s source r t source') →
-        ((s t : S) → does s t → gives (kind.shape s) ≡ Some (kind.shape t)) →
+        ((s t : S) (r : Result Unit ErrorKind) → kind.IsSound s → turn s source r t source' → Obeys (gives (kind.look.shape s)) (λ t source'. does s t) s source r t source') →
+        ((s t : S) → does s t → gives (kind.look.shape s) ≡ Some (kind.look.shape t)) →
         ((s t : S) → in_slot slots slot ≡ Some s → does s t → Puts (in_slot slots) slot t (in_slot slots') → IsDone kind bit next command (in_slot slots) source (in_slot slots') source') →
         (r : Verdict) → Changes (Turns turn) slot slots source r slots' source' → Goes r command
     ruled command slot gives decide turn does follows shape done = changes command slot turn (record {
       absent = λ h. decide false (not-given _ (by h));
       done = λ s t held h puts.
-          let d = (follows s t (Ok tt) (sound slot s held) h).0 in (decide true (given _ (kind.shape t) (by held ∙ shape s t d)), done s t held d puts);
+          let d = (follows s t (Ok tt) (sound slot s held) h).0 in (decide true (given _ (kind.look.shape t) (by held ∙ shape s t d)), done s t held d puts);
       refused = λ s t e held h.
           let o = follows s t (Err e) (sound slot s held) h in (unless-refused _ e o.1 (λ none. decide false (not-given _ (by held ∙ none))), o.2.0, o.2.1);
     })
       where
-        by : {o : Option S} → in_slot slots slot ≡ o → option_and_then gives (option_map kind.shape (in_slot slots slot)) ≡ option_and_then gives (option_map kind.shape o)
-        by h = ap (λ o. option_and_then gives (option_map kind.shape o)) h
+        by : {o : Option S} → in_slot slots slot ≡ o → option_and_then gives (option_map kind.look.shape (in_slot slots slot)) ≡ option_and_then gives (option_map kind.look.shape o)
+        by h = ap (λ o. option_and_then gives (option_map kind.look.shape o)) h
 
     -- a round trip
     trip-decided : (slot : ℕ) (accepted : Bool) (s : S) → in_slot slots slot ≡ Some s → IsTrue accepted ↔ kind.HasImage s → IsDecided kind (RoundTrip slot) (in_slot slots) accepted
@@ -229,13 +229,13 @@ module _ {A C Shape S Source : Type 0} {kind : Kind A C Shape S} (lawful : IsLaw
 
     -- a merge with coins redrawn or not, for the command that asks for it
     module _ (redraws : Bool) (into from : ℕ) (command : Command A C)
-        (decide : (accepted : Bool) → accepted ≡ not (not (is_some (shape_merged kind.rules redraws (shapes_in kind.shape (in_slot slots)) into from))) →
+        (decide : (accepted : Bool) → accepted ≡ not (not (is_some (shape_merged kind.look.rules redraws (shapes_in kind.look.shape (in_slot slots)) into from))) →
         IsDecided kind command (in_slot slots) accepted)
         (does : IsMergedIn kind bit next redraws into from (in_slot slots) source (in_slot slots') source' → IsDone kind bit next command (in_slot slots) source (in_slot slots') source') where
       abbrev merged-by : Option S → Option S → Option Shape
-      merged-by x y = option_and_then (λ shape. option_and_then (kind.rules.merged redraws shape) (option_map kind.shape y)) (option_map kind.shape x)
+      merged-by x y = option_and_then (λ shape. option_and_then (kind.look.rules.merged redraws shape) (option_map kind.look.shape y)) (option_map kind.look.shape x)
 
-      merged-at : (s p : S) → in_slot slots into ≡ Some s → in_slot slots from ≡ Some p → merged-by (in_slot slots into) (in_slot slots from) ≡ kind.rules.merged redraws (kind.shape s) (kind.shape p)
+      merged-at : (s p : S) → in_slot slots into ≡ Some s → in_slot slots from ≡ Some p → merged-by (in_slot slots into) (in_slot slots from) ≡ kind.look.rules.merged redraws (kind.look.shape s) (kind.look.shape p)
       merged-at s p held its = ap₂ merged-by held its
 
       merged-none : (x : Option S) → merged-by x None ≡ None
@@ -250,11 +250,11 @@ module _ {A C Shape S Source : Type 0} {kind : Kind A C Shape S} (lawful : IsLaw
           kind.IsSound t → Puts (in_slot slots) into t (in_slot slots') →
           IsDecided kind command (in_slot slots) true × IsDone kind bit next command (in_slot slots) source (in_slot slots') source'
       takes-in s p copy t held its copied merged sound puts = (
-        decide true (given _ (kind.shape t) (merged-at s p held its ∙ (ap (kind.rules.merged redraws (kind.shape s)) (sym copied.shape_is) ∙ merged.shape_is))),
+        decide true (given _ (kind.look.shape t) (merged-at s p held its ∙ (ap (kind.look.rules.merged redraws (kind.look.shape s)) (sym copied.shape_is) ∙ merged.shape_is))),
         does (record { old = s; other = p; copy = copy; made = t; held = held; held_other = its; copied = copied; merged = merged; sound = sound; puts = puts }),
       )
 
-      refuses-it : (s p : S) → in_slot slots into ≡ Some s → in_slot slots from ≡ Some p → kind.rules.merged redraws (kind.shape s) (kind.shape p) ≡ None → IsDecided kind command (in_slot slots) false
+      refuses-it : (s p : S) → in_slot slots into ≡ Some s → in_slot slots from ≡ Some p → kind.look.rules.merged redraws (kind.look.shape s) (kind.look.shape p) ≡ None → IsDecided kind command (in_slot slots) false
       refuses-it s p held its none = decide false (not-given _ (merged-at s p held its ∙ none))
 
       merge-copy : into ≡ from → Turned kind bit next command slots slots' source source' into (JoinsCopy behaviour bit next redraws)
@@ -283,7 +283,7 @@ module _ {A C Shape S Source : Type 0} {kind : Kind A C Shape S} (lawful : IsLaw
           refused s t e held (inr (fits, inl (p, copied, joined))) =
               let copy = (obeys.copied s (Ok p) copied).0 in
               let r = obeys.joined redraws p copy.sound s source (Err e) t source' (sound into s held) joined in
-              (unless-refused _ e r.1 (λ none. refuses-it s s held (also held) (ap (kind.rules.merged redraws (kind.shape s)) (sym copy.shape_is) ∙ none)), r.2.0, r.2.1)
+              (unless-refused _ e r.1 (λ none. refuses-it s s held (also held) (ap (kind.look.rules.merged redraws (kind.look.shape s)) (sym copy.shape_is) ∙ none)), r.2.0, r.2.1)
           refused s t e held (inr (fits, inr (f, copied, is, kept, stays))) = (unless-memory _ e (same-err e f _ refl is ∙ (obeys.copied s (Err f) copied).1), kept, stays)
 
       merge-other : (p : S) → in_slot slots from ≡ Some p → Turned kind bit next command slots slots' source source' into (behaviour.joined redraws p Source bit next)
@@ -308,46 +308,46 @@ module _ {A C Shape S Source : Type 0} {kind : Kind A C Shape S} (lawful : IsLaw
 
     -- any command, by how its item is taken
     comes : (taken : A → Change Source S) (weighted : A → ℕ → Change Source S) →
-        ((x : A) (s t : S) (r : Result Unit ErrorKind) → kind.IsSound s → taken x s source r t source' → Obeys (kind.rules.updated (kind.shape s)) (Took x s source) s source r t source') →
+        ((x : A) (s t : S) (r : Result Unit ErrorKind) → kind.IsSound s → taken x s source r t source' → Obeys (kind.look.rules.updated (kind.look.shape s)) (Took x s source) s source r t source') →
         ((x : A) (weight : ℕ) (s t : S) (r : Result Unit ErrorKind) → kind.IsSound s → weighted x weight s source r t source' →
-        Obeys (kind.rules.updated_weighted (kind.shape s) weight) (TookWeighted x weight s source) s source r t source') →
+        Obeys (kind.look.rules.updated_weighted (kind.look.shape s) weight) (TookWeighted x weight s source) s source r t source') →
         (command : Command A C) (r : Verdict) → CarriesOut behaviour bit next taken weighted command slots source r slots' source' → Goes r command
     comes taken weighted f g (New slot config) r h = comes-new slot config r h
     comes taken weighted f g (Update slot x) r h =
-        ruled (Update slot x) slot kind.rules.updated (λ accepted e. e) (taken x) (λ s t. Took x s source t source') (f x)
+        ruled (Update slot x) slot kind.look.rules.updated (λ accepted e. e) (taken x) (λ s t. Took x s source t source') (f x)
         (λ s t d. d.2.0.shape_is) (λ s t held d puts. record { old = s; taken = d.0; made = t; held = held; ties = d.1; after = d.2; puts = puts }) r h
     comes taken weighted f g (UpdateWeighted slot x weight) r h =
-        ruled (UpdateWeighted slot x weight) slot (λ shape. kind.rules.updated_weighted shape weight) (λ accepted e. e) (weighted x weight) (λ s t. TookWeighted x weight s source t source')
+        ruled (UpdateWeighted slot x weight) slot (λ shape. kind.look.rules.updated_weighted shape weight) (λ accepted e. e) (weighted x weight) (λ s t. TookWeighted x weight s source t source')
         (g x weight)
         (λ s t d. d.2.0.shape_is) (λ s t held d puts. record { old = s; taken = d.0; made = t; held = held; ties = d.1; after = d.2; puts = puts }) r h
     comes taken weighted f g (Merge into from) r h = comes-merge false into from (Merge into from) (λ accepted e. e) (λ m. m) (into == from) refl r h
     comes taken weighted f g (Reset slot) r h =
         changes (Reset slot) slot (Empties behaviour) (record {
-          absent = λ h. not-given _ (ap (λ o. option_map kind.rules.emptied (option_map kind.shape o)) h);
+          absent = λ h. not-given _ (ap (λ o. option_map kind.look.rules.emptied (option_map kind.look.shape o)) h);
           done = λ s t held h puts. (
-            given _ (kind.rules.emptied (kind.shape s)) (ap (λ o. option_map kind.rules.emptied (option_map kind.shape o)) held),
+            given _ (kind.look.rules.emptied (kind.look.shape s)) (ap (λ o. option_map kind.look.rules.emptied (option_map kind.look.shape o)) held),
             (record { old = s; held = held; made = record { made = t; fresh = obeys.emptied s t h.1; puts = puts } }, h.2),
           );
           refused = λ s t e held h. absurd (no-err tt e (sym h.0));
         }) r h
     comes taken weighted f g (RoundTrip slot) r h = comes-trip slot r h
     comes taken weighted f g (Redraw slot) r h =
-        ruled (Redraw slot) slot kind.rules.redrawn (λ accepted e. e) (behaviour.redrawn Source bit next) (λ s t. IsRedrawn kind bit next s source t source')
+        ruled (Redraw slot) slot kind.look.rules.redrawn (λ accepted e. e) (behaviour.redrawn Source bit next) (λ s t. IsRedrawn kind bit next s source t source')
         (λ s t r was h. obeys.redrawn s source r t source' was h)
         (λ s t d. d.0.shape_is) (λ s t held d puts. record { old = s; made = t; held = held; after = d; puts = puts }) r h
     comes taken weighted f g (MergeRedrawn into from) r h = comes-merge true into from (MergeRedrawn into from) (λ accepted e. e) (λ m. m) (into == from) refl r h
 
-    comes-clone : (IsClone : A → A → Type 0) → ((x y : A) → IsClone x y → kind.cmp x y ≡ Equal) → (command : Command A C) (r : Verdict) →
+    comes-clone : (IsClone : A → A → Type 0) → ((x y : A) → IsClone x y → kind.look.cmp x y ≡ Equal) → (command : Command A C) (r : Verdict) →
         CarriesOutClone behaviour bit next IsClone command slots source r slots' source' → Goes r command
     comes-clone IsClone ties =
         comes (λ x. Cloned (IsClone x) (λ y. behaviour.taken y Source bit next)) (λ x weight. Cloned (IsClone x) (λ y. behaviour.taken_weighted y weight Source bit next))
-        (λ x s t r was. clone-obeys (IsClone x) x (ties x) (λ y. behaviour.taken y Source bit next) (kind.rules.updated (kind.shape s)) (λ y. IsUpdated kind bit next s y source) s
+        (λ x s t r was. clone-obeys (IsClone x) x (ties x) (λ y. behaviour.taken y Source bit next) (kind.look.rules.updated (kind.look.shape s)) (λ y. IsUpdated kind bit next s y source) s
         source r t source' (λ y. obeys.taken y s source r t source' was))
-        (λ x weight s t r was. clone-obeys (IsClone x) x (ties x) (λ y. behaviour.taken_weighted y weight Source bit next) (kind.rules.updated_weighted (kind.shape s) weight)
+        (λ x weight s t r was. clone-obeys (IsClone x) x (ties x) (λ y. behaviour.taken_weighted y weight Source bit next) (kind.look.rules.updated_weighted (kind.look.shape s) weight)
         (λ y. IsWeighted kind bit next s y weight source) s source r t source' (λ y. obeys.taken_weighted y weight s source r t source' was))
 
     -- a command whose items are cloned is a step
-    pub clone-executed : (IsClone : A → A → Type 0) → ((x y : A) → IsClone x y → kind.cmp x y ≡ Equal) → (command : Command A C) (r : Verdict) →
+    pub clone-executed : (IsClone : A → A → Type 0) → ((x y : A) → IsClone x y → kind.look.cmp x y ≡ Equal) → (command : Command A C) (r : Verdict) →
         CarriesOutClone behaviour bit next IsClone command slots source r slots' source' → r ≢ Err (Sketch OutOfMemory) →
         IsExecuted kind bit next command (in_slot slots) source (is_ok r) (in_slot slots') source'
     clone-executed IsClone ties command r h n =
@@ -357,6 +357,6 @@ module _ {A C Shape S Source : Type 0} {kind : Kind A C Shape S} (lawful : IsLaw
     pub comes-item : (command : Command A C) (r : Verdict) → CarriesOutItem behaviour bit next command slots source r slots' source' → Goes r command
     comes-item =
         comes (λ x. behaviour.taken x Source bit next) (λ x weight. behaviour.taken_weighted x weight Source bit next)
-        (λ x s t r was h. item-obeys x (kind.rules.updated (kind.shape s)) (λ y. IsUpdated kind bit next s y source) s source r t source' (obeys.taken x s source r t source' was h))
-        (λ x weight s t r was h. item-obeys x (kind.rules.updated_weighted (kind.shape s) weight) (λ y. IsWeighted kind bit next s y weight source) s source r t source'
+        (λ x s t r was h. item-obeys x (kind.look.rules.updated (kind.look.shape s)) (λ y. IsUpdated kind bit next s y source) s source r t source' (obeys.taken x s source r t source' was h))
+        (λ x weight s t r was h. item-obeys x (kind.look.rules.updated_weighted (kind.look.shape s) weight) (λ y. IsWeighted kind bit next s y weight source) s source r t source'
         (obeys.taken_weighted x weight s source r t source' was h))

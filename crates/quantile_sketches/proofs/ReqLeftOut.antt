@@ -6,7 +6,7 @@ use Rattle.std.specs.Cmp.{IsTotalOrder}
 use Rattle.sketch_base.specs.Trace.{Event, coins}
 use Rattle.sketch_req.specs.Sketch.{Req}
 use Rattle.sketch_base.proofs.Picks.{Sheds, none, shed, sheds-none, sheds-append}
-use Rattle.quantile_sketches.specs.declared.audit.commands.Command.TheVariants.{RoundTrip}
+use Rattle.quantile_sketches.specs.declared.commands.Command.TheVariants.{RoundTrip}
 use Rattle.quantile_sketches.specs.Plan.{Plan, start_plan, is_refused, accepted_events, events_of, plan_of, trace_of}
 use Rattle.quantile_sketches.specs.Refused.{accepted_of, LeadTo, IsRefusedExactly, AreRefused}
 use Rattle.quantile_sketches.specs.ReqKind.{req_kind}

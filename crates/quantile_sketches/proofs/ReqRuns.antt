@@ -36,7 +36,7 @@ use Rattle.quantile_sketches.specs.AllWords.{rank_of, AllRuns, ShowIn, IsUnbiase
 use Rattle.quantile_sketches.specs.Outcome.{Slots, sketch_at, ArePlanned, ArePlayed, AreSound}
 use Rattle.quantile_sketches.specs.Plan.{Plan, start_plan, plan_of, trace_of}
 use Rattle.quantile_sketches.specs.Refused.{accepted_of, AreRefused}
-use Rattle.quantile_sketches.specs.ReqKind.{FitsReq, req_kind, req_shape}
+use Rattle.quantile_sketches.specs.ReqKind.{req_look, FitsReq, req_kind, req_shape}
 use Rattle.quantile_sketches.specs.ReqOutcome.{AreSortedInOrder, HaveFewLevels, AreBelowNominal, TailsAreK, IsExact, TailsAreExact, AreReadBack, AreRelativeToCounts}
 use Rattle.quantile_sketches.specs.ReqPlan.{ReqCommand, shape_in, tails_of}
 use Rattle.quantile_sketches.specs.ReqRules.{ReqShape, req_rules}
@@ -120,10 +120,10 @@ alike-exact {A} {cmp} o commands word slot s shape alike y criteria few =
 
 module _ {A : Type 0} {cmp : A → A → Ordering} (o : IsTotalOrder cmp) (spelling : A → Option (List ℕ)) (commands : List (ReqCommand A)) (slots : Slots (Req A)) where
   -- a sketch in a slot has the planned shape
-  there : ArePlanned (req_kind cmp spelling) commands slots → (slot : ℕ) (s : Req A) → sketch_at slots slot ≡ Some s → (plan_of req_rules commands).shapes slot ≡ Some (req_shape s)
+  there : ArePlanned (req_look cmp) commands slots → (slot : ℕ) (s : Req A) → sketch_at slots slot ≡ Some s → (plan_of req_rules commands).shapes slot ≡ Some (req_shape s)
   there planned slot s held = sym (planned slot) ∙ ap (option_map req_shape) held
 
-  fits : ArePlanned (req_kind cmp spelling) commands slots → (slot : ℕ) (s : Req A) → sketch_at slots slot ≡ Some s → FitsReq (req_shape s) ((plan_of req_rules commands).lengths.slots slot)
+  fits : ArePlanned (req_look cmp) commands slots → (slot : ℕ) (s : Req A) → sketch_at slots slot ≡ Some s → FitsReq (req_shape s) ((plan_of req_rules commands).lengths.slots slot)
   fits planned slot s held = (steady-from req_lawful start_plan (steady-start req_lawful) commands).fits slot (req_shape s) (there planned slot s held)
 
   -- levels that count as sorted are sorted
@@ -131,7 +131,7 @@ module _ {A : Type 0} {cmp : A → A → Ordering} (o : IsTotalOrder cmp) (spell
   run-ordered sound slot s held = in-order cmp s.k s.accuracy 0 s.levels (sound slot s held).placed
 
   -- sketches have few levels
-  pub run-levels : ArePlanned (req_kind cmp spelling) commands slots → HaveFewLevels slots
+  pub run-levels : ArePlanned (req_look cmp) commands slots → HaveFewLevels slots
   run-levels planned slot s held many =
       let f = fits planned slot s held in
       let n = length-layouts s.levels in
@@ -139,13 +139,13 @@ module _ {A : Type 0} {cmp : A → A → Ordering} (o : IsTotalOrder cmp) (spell
       subst (λ (m : ℕ). 2 ^ m ≤ s.n) n (omega (arith, l, f.weighs))
 
   -- without merges of items, a sketch retains less than the sum of its nominal capacities
-  pub run-small : ArePlanned (req_kind cmp spelling) commands slots → AreBelowNominal commands slots
+  pub run-small : ArePlanned (req_look cmp) commands slots → AreBelowNominal commands slots
   run-small planned slot s held alone =
       let h = subst (λ (p : Option ReqShape). retained_of (shape_in p).layouts < nominal_sum (shape_in p).k (shape_in p).layouts) (there planned slot s held) (run-below commands slot alone) in
       omega (arith, h, retained_is s.levels)
 
   -- and its tail number is its k
-  pub run-tails-own : ArePlanned (req_kind cmp spelling) commands slots → TailsAreK commands slots
+  pub run-tails-own : ArePlanned (req_look cmp) commands slots → TailsAreK commands slots
   run-tails-own planned slot s held alone = run-own commands slot alone (req_shape s) (there planned slot s held)
 
   -- images read back
@@ -161,7 +161,7 @@ module _ {A : Type 0} {cmp : A → A → Ordering} (o : IsTotalOrder cmp) (spell
 
   module _ (word : List Bool) (refused : List ℕ) (are : AreRefused (req_kind cmp spelling) word commands refused) where
     -- the tail is exact
-    pub run-tail : ArePlanned (req_kind cmp spelling) commands slots → ArePlayed (req_kind cmp spelling) (accepted_of refused commands) word slots → TailsAreExact cmp commands slots
+    pub run-tail : ArePlanned (req_look cmp) commands slots → ArePlayed (req_look cmp) (accepted_of refused commands) word slots → TailsAreExact cmp commands slots
     run-tail planned played slot s held y criteria few =
         let fewer = accepted_of refused commands in
         let l = left-out (req_kind_lawful o spelling) word commands refused are in
@@ -264,7 +264,7 @@ module _ {A : Type 0} {cmp : A → A → Ordering} (o : IsTotalOrder cmp) (spell
     runs-redrawn runs slot show =
         by-law stays_fair (λ own slot stays. fair-shed cmp own slot (run-stays_fair own slot stays)) runs slot show (run-unbiased_where_redrawn cmp)
 
-    module _ (planned : ArePlanned (req_kind cmp spelling) commands slots) (runs : Family) (slot : ℕ) (s : Req A) (held : sketch_at slots slot ≡ Some s)
+    module _ (planned : ArePlanned (req_look cmp) commands slots) (runs : Family) (slot : ℕ) (s : Req A) (held : sketch_at slots slot ≡ Some s)
         (show : ShowIn (req_kind cmp spelling) commands word slots was_only_updated runs slot) (y : A) (criteria : SearchCriteria) where
       -- the accepted commands plan the same shape for the sketch
       accepted-shape : shape_in ((plan_of req_rules (accepted runs word)).shapes slot) ≡ req_shape s
@@ -298,5 +298,5 @@ module _ {A : Type 0} {cmp : A → A → Ordering} (o : IsTotalOrder cmp) (spell
           great
 
     -- for a k of at least 24 they are relative to counts alone
-    pub runs-relative_to_counts : ArePlanned (req_kind cmp spelling) commands slots → AreRelativeToCounts cmp spelling commands word slots
+    pub runs-relative_to_counts : ArePlanned (req_look cmp) commands slots → AreRelativeToCounts cmp spelling commands word slots
     runs-relative_to_counts planned runs slot s held show great y criteria levels = own-relative_to_counts planned runs slot s held show y criteria great levels

@@ -20,7 +20,7 @@ use Rattle.sketch_req.specs.ScheduleLaws.{updates_actions, updates_layouts, upda
 use Rattle.sketch_req.specs.Sections.{IsLegalK}
 use Rattle.sketch_req.specs.declared.RankAccuracy.{RankAccuracy}
 use Rattle.sketch_req.proofs.Unbiased.{AreCompacts, room_compacts, unbiased_list}
-use Rattle.quantile_sketches.specs.declared.audit.commands.Command.TheVariants.{New, Update, UpdateWeighted, Merge, Reset, RoundTrip, Redraw, MergeRedrawn}
+use Rattle.quantile_sketches.specs.declared.commands.Command.TheVariants.{New, Update, UpdateWeighted, Merge, Reset, RoundTrip, Redraw, MergeRedrawn}
 use Rattle.quantile_sketches.specs.Plan.{Plan, start_plan, count_of, events_of, after_command, plan_after, plan_from, trace_from, trace_of, plan_of}
 use Rattle.quantile_sketches.specs.ReqPlan.{ReqCommand, shape_in, shape_at}
 use Rattle.quantile_sketches.specs.ReqRules.{ReqShape, new_shape, req_rules}

@@ -13,7 +13,7 @@ use Rattle.sketch_req.specs.Sketch.{Req}
 use Rattle.quantile_sketches.specs.Outcome.{Slots, ArePlanned, ArePlayed, WeighStreams, HaveExtremes}
 use Rattle.quantile_sketches.specs.Plan.{plan_of, trace_of}
 use Rattle.quantile_sketches.specs.Refused.{AreRefused, accepted_of}
-use Rattle.quantile_sketches.specs.ReqKind.{req_kind, req_shape}
+use Rattle.quantile_sketches.specs.ReqKind.{req_kind, req_look, req_shape}
 use Rattle.quantile_sketches.specs.ReqPlan.{ReqCommand, shape_in, tails_of}
 use Rattle.quantile_sketches.specs.ReqRules.{ReqShape, req_rules}
 use Rattle.quantile_sketches.specs.Run.{stream_of}
@@ -47,9 +47,9 @@ module _ {A : Type 0} {cmp : A → A → Ordering} (o : IsTotalOrder cmp) where
       (sym (off-rank cmp s.accuracy y criteria bag) ∙ off-alike o s.accuracy y criteria bag (bag_of s.levels) alike.levels) exact
 
   module _ (spelling : A → Option (List ℕ)) (commands : List (ReqCommand A)) (slots : Slots (Req A)) (word : List Bool) (refused : List ℕ) where
-    pub run-summaries : AreRefused (req_kind cmp spelling) word commands refused → ArePlanned (req_kind cmp spelling) commands slots →
-        ArePlayed (req_kind cmp spelling) (accepted_of refused commands) word slots → WeighStreams (req_kind cmp spelling) commands slots →
-        HaveExtremes (req_kind cmp spelling) commands slots → AreSummaries cmp commands slots
+    pub run-summaries : AreRefused (req_kind cmp spelling) word commands refused → ArePlanned (req_look cmp) commands slots →
+        ArePlayed (req_look cmp) (accepted_of refused commands) word slots → WeighStreams (req_look cmp) commands slots →
+        HaveExtremes (req_look cmp) commands slots → AreSummaries cmp commands slots
     run-summaries are planned played weighs extremes slot s held =
         let shape : (plan_of req_rules commands).shapes slot ≡ Some (req_shape s) = sym (planned slot) ∙ ap (option_map req_shape) held in
         let fewer = accepted_of refused commands in

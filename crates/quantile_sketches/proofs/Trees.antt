@@ -10,8 +10,8 @@ use Rattle.sketch_kll.specs.Merge.{merge_actions}
 use Rattle.sketch_kll.specs.Schedule.{update_actions}
 use Rattle.sketch_kll.specs.Weighted.{weighted_actions}
 use Rattle.sketch_kll.proofs.RolledCoins.{update-once, merge-once}
-use Rattle.quantile_sketches.specs.declared.audit.commands.Command.{Command}
-use Rattle.quantile_sketches.specs.declared.audit.commands.Command.TheVariants.{New, Update, UpdateWeighted, Merge, Reset, RoundTrip, Redraw, MergeRedrawn}
+use Rattle.quantile_sketches.specs.declared.commands.Command.{Command}
+use Rattle.quantile_sketches.specs.declared.commands.Command.TheVariants.{New, Update, UpdateWeighted, Merge, Reset, RoundTrip, Redraw, MergeRedrawn}
 use Rattle.quantile_sketches.specs.KllRules.{KllShape, kll_rules}
 use Rattle.quantile_sketches.specs.Plan.{Plan, start_plan, actions_on, shape_after, accepted_events}
 use Rattle.quantile_sketches.specs.Rollup.{Standing, Free, Mixed, joined, used, is_tree, accepted_standings, TreesTakeOnce}

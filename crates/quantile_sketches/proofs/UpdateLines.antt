@@ -12,7 +12,7 @@ use Rattle.quantile_sketches.specs.Behaviour.{Behaviour, coin_of}
 use Rattle.quantile_sketches.specs.Command.{request_of}
 use Rattle.quantile_sketches.specs.LineSteps.{Answers, CarriesOutItem, Verdict, reply_of}
 use Rattle.quantile_sketches.specs.Reader.{Grammar}
-use Rattle.quantile_sketches.specs.declared.audit.commands.Command.TheVariants.{Update}
+use Rattle.quantile_sketches.specs.declared.commands.Command.TheVariants.{Update}
 use Rattle.sketch_base.specs.Random.{next_state}
 use Rattle.std.specs.Int.{w64}
 use Rattle.std.proofs.lemmas.Int.{to_z-of_z}

@@ -4,7 +4,7 @@ use Rattle.sketch_base.specs.Moments.{odd_product}
 use Rattle.sketch_base.specs.Shares.{took_once}
 use Rattle.sketch_base.specs.declared.common.SearchCriteria.{SearchCriteria}
 use Rattle.sketch_kll.specs.Sketch.{Kll}
-use Rattle.quantile_sketches.specs.declared.audit.commands.Command.{Command}
+use Rattle.quantile_sketches.specs.declared.commands.Command.{Command}
 use Rattle.quantile_sketches.specs.AllWords.{AllRuns, words_off_by}
 use Rattle.quantile_sketches.specs.KllRules.{KllShape, kll_rules}
 use Rattle.quantile_sketches.specs.Outcome.{Slots, EachSketch}

@@ -4,7 +4,7 @@ use Rattle.std.specs.declared.cmp.Ordering.{Ordering}
 use Rattle.sketch_base.specs.declared.common.SearchCriteria.{SearchCriteria}
 use Rattle.sketch_base.specs.Trace.{changed, coins}
 use Rattle.sketch_req.specs.Relative.{off_protected_end, IsRelative, Reaches}
-use Rattle.quantile_sketches.specs.declared.audit.commands.Command.TheVariants.{New, Update, UpdateWeighted, Merge, Reset, RoundTrip, Redraw, MergeRedrawn}
+use Rattle.quantile_sketches.specs.declared.commands.Command.TheVariants.{New, Update, UpdateWeighted, Merge, Reset, RoundTrip, Redraw, MergeRedrawn}
 use Rattle.quantile_sketches.specs.Plan.{Plan, start_plan, after_commands, trace_of}
 use Rattle.quantile_sketches.specs.ReqPlan.{ReqCommand, shape_at}
 use Rattle.quantile_sketches.specs.ReqRules.{ReqShape, req_rules}

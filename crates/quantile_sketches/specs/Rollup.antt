@@ -4,8 +4,8 @@ use Rattle.sketch_base.specs.Shares.{spread, took_once}
 use Rattle.sketch_base.specs.Trace.{changed}
 use Rattle.sketch_kll.specs.Sketch.{Kll}
 use Rattle.sketch_kll.specs.Spread.{IsLittle}
-use Rattle.quantile_sketches.specs.declared.audit.commands.Command.{Command}
-use Rattle.quantile_sketches.specs.declared.audit.commands.Command.TheVariants.{New, Update, UpdateWeighted, Merge, Reset, RoundTrip, Redraw, MergeRedrawn}
+use Rattle.quantile_sketches.specs.declared.commands.Command.{Command}
+use Rattle.quantile_sketches.specs.declared.commands.Command.TheVariants.{New, Update, UpdateWeighted, Merge, Reset, RoundTrip, Redraw, MergeRedrawn}
 use Rattle.quantile_sketches.specs.KllRules.{KllShape, kll_rules}
 use Rattle.quantile_sketches.specs.Outcome.{Slots, EachSketch}
 use Rattle.quantile_sketches.specs.Plan.{Plan, start_plan, count_of, after_commands, plan_of, trace_of}

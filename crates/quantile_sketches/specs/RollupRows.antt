@@ -2,8 +2,8 @@
 use Rattle.std.specs.Prelude.{◌≡◌, ℕ, Bool, true, false, List, [], ◌∷◌, ◌++◌, map}
 use Rattle.sketch_base.specs.Rows.{numbers}
 use Rattle.sketch_base.specs.Shares.{all_shares, spread, took_once}
-use Rattle.quantile_sketches.specs.declared.audit.commands.Command.{Command}
-use Rattle.quantile_sketches.specs.declared.audit.commands.Command.TheVariants.{New, Update, UpdateWeighted, Merge}
+use Rattle.quantile_sketches.specs.declared.commands.Command.{Command}
+use Rattle.quantile_sketches.specs.declared.commands.Command.TheVariants.{New, Update, UpdateWeighted, Merge}
 use Rattle.quantile_sketches.specs.KllRules.{kll_rules}
 use Rattle.quantile_sketches.specs.Plan.{trace_of}
 use Rattle.quantile_sketches.specs.Rollup.{Standing, Free, Used, Mixed, standing_of}

@@ -5,7 +5,7 @@ use Rattle.sketch_base.specs.Random.{next_state}
 use Rattle.quantile_sketches.specs.Answer.{answer_text}
 use Rattle.quantile_sketches.specs.Behaviour.{Behaviour, coin_of}
 use Rattle.quantile_sketches.specs.Command.{request_of}
-use Rattle.quantile_sketches.specs.declared.audit.commands.Command.{Command}
+use Rattle.quantile_sketches.specs.declared.commands.Command.{Command}
 use Rattle.quantile_sketches.specs.declared.command.Request.{Request}
 use Rattle.quantile_sketches.specs.declared.command.Request.TheVariants.{Run, Load}
 use Rattle.quantile_sketches.specs.Reader.{Grammar}

@@ -4,7 +4,7 @@ use Rattle.std.proofs.lemmas.Int.{to_z-of_z}
 use Rattle.sketch_base.specs.Random.{next_state}
 use Rattle.quantile_sketches.specs.Behaviour.{coin_of}
 use Rattle.quantile_sketches.specs.LineSteps.{Turns, Cloned}
-use Rattle.quantile_sketches.specs.declared.audit.commands.Command.TheVariants.{Update}
+use Rattle.quantile_sketches.specs.declared.commands.Command.TheVariants.{Update}
 use Rattle.quantile_sketches.proofs.Slots.{item_of_clone, changed-slot}
 use Rattle.quantile_sketches.proofs.table.Table.update.Goals as goal
 
