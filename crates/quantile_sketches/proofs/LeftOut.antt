@@ -10,10 +10,11 @@ use Rattle.sketch_base.proofs.Changes.{changed-own}
 use Rattle.quantile_sketches.specs.declared.commands.Command.{Command}
 use Rattle.quantile_sketches.specs.declared.commands.Command.TheVariants.{RoundTrip}
 use Rattle.quantile_sketches.specs.RuleLaws.{IsLawful}
-use Rattle.quantile_sketches.specs.Plan.{Plan, start_plan, is_refused, accepted_shapes, accepted_events, events_of, plan_after, after_command, after_commands, plan_of, trace_of}
-use Rattle.quantile_sketches.specs.Refused.{is_among, accepted_of, IsRefusedExactly, AreRefused}
+use Rattle.quantile_sketches.specs.Plan.{Plan, start_plan, is_refused, accepted_events, events_of, plan_after, after_commands, plan_of, trace_of}
+use Rattle.quantile_sketches.specs.Refused.{accepted_of, IsRefusedExactly, AreRefused}
 use Rattle.quantile_sketches.specs.Rules.{Rules, Kind}
 use Rattle.quantile_sketches.specs.Run.{accepted_streams, stream_of}
+use Rattle.quantile_sketches.proofs.PlanSteps.{accepted_shapes, after_command, is_among}
 use Rattle.quantile_sketches.proofs.LegalPlans.{plan-append, after-append, trace-more, coins-more}
 use Rattle.quantile_sketches.proofs.Refusals.{without-more}
 use Rattle.quantile_sketches.proofs.Streams.{streams_after}

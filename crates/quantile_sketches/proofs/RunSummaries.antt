@@ -10,7 +10,7 @@ use Rattle.sketch_req.specs.Actions.{bag_of}
 use Rattle.sketch_req.specs.Relative.{off_protected_end}
 use Rattle.sketch_req.specs.ScheduleLaws.{tail_side}
 use Rattle.sketch_req.specs.Sketch.{Req}
-use Rattle.quantile_sketches.specs.Outcome.{Slots, ArePlanned, ArePlayed, WeighStreams, HaveExtremes}
+use Rattle.quantile_sketches.specs.Outcome.{SlotMap, ArePlanned, ArePlayed, WeighStreams, HaveExtremes}
 use Rattle.quantile_sketches.specs.Plan.{plan_of, trace_of}
 use Rattle.quantile_sketches.specs.Refused.{AreRefused, accepted_of}
 use Rattle.quantile_sketches.specs.ReqKind.{req_kind, req_look, req_shape}
@@ -46,7 +46,7 @@ module _ {A : Type 0} {cmp : A → A → Ordering} (o : IsTotalOrder cmp) where
       (run-ranks (req_lawful {A = A}) test commands slot ∙ sym (off-is cmp s.accuracy y criteria (stream_of req_rules commands slot)))
       (sym (off-rank cmp s.accuracy y criteria bag) ∙ off-alike o s.accuracy y criteria bag (bag_of s.levels) alike.levels) exact
 
-  module _ (spelling : A → Option (List ℕ)) (commands : List (ReqCommand A)) (slots : Slots (Req A)) (word : List Bool) (refused : List ℕ) where
+  module _ (spelling : A → Option (List ℕ)) (commands : List (ReqCommand A)) (slots : SlotMap (Req A)) (word : List Bool) (refused : List ℕ) where
     pub run-summaries : AreRefused (req_kind cmp spelling) word commands refused → ArePlanned (req_look cmp) commands slots →
         ArePlayed (req_look cmp) (accepted_of refused commands) word slots → WeighStreams (req_look cmp) commands slots →
         HaveExtremes (req_look cmp) commands slots → AreSummaries cmp commands slots

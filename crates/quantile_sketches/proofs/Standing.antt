@@ -12,7 +12,7 @@ use Rattle.quantile_sketches.specs.Plan.{start_plan, count_of, events_of, plan_o
 use Rattle.quantile_sketches.specs.RuleLaws.{IsLawful}
 use Rattle.quantile_sketches.specs.Rules.{Kind}
 use Rattle.quantile_sketches.specs.Run.{accepted_streams, stream_of}
-use Rattle.quantile_sketches.specs.RunSteps.{Held, AreSame, IsExecuted}
+use Rattle.quantile_sketches.specs.RunSteps.{Sketches, AreSame, IsExecuted}
 use Rattle.quantile_sketches.proofs.LegalPlans.{steady-start, steady-from, plan-append, trace-more, after-append, coins-more, not-none}
 use Rattle.quantile_sketches.proofs.SlotSteps.{IsOf, Stand, Steps, stand-same, steps}
 use Rattle.quantile_sketches.proofs.Streams.{run-counts}
@@ -26,17 +26,17 @@ take-front (suc m) (suc n) (x ∷ xs) h = ap (λ l. x ∷ l) (take-front m n xs 
 
 -- the source is past the commands' coins, and the sketches stand under each word that begins with the bits that it gave
 pub record Standing {A C Shape S Source : Type 0} (kind : Kind A C Shape S) (bit : Source → Bool) (next : Source → Source) (seed : Source) (commands : List (Command A C))
-    (slots : Held S) (source : Source) : Type 0 where
+    (slots : Sketches S) (source : Source) : Type 0 where
   pub drawn : source ≡ after_draws next seed (coins (trace_of kind.look.rules commands))
   pub stand : (word : List Bool) → take (coins (trace_of kind.look.rules commands)) word ≡ bits_from bit next seed (coins (trace_of kind.look.rules commands)) →
       Stand kind (plan_of kind.look.rules commands) (stream_of kind.look.rules commands) (play kind.look.cmp (trace_of kind.look.rules commands) word start) slots
 
 module _ {A C Shape S Source : Type 0} {kind : Kind A C Shape S} (lawful : IsLawful kind) (bit : Source → Bool) (next : Source → Source) (seed : Source) where
-  abbrev Stands : List (Command A C) → Held S → Source → Type 0
+  abbrev Stands : List (Command A C) → Sketches S → Source → Type 0
   Stands commands slots source = Standing kind bit next seed commands slots source
 
   -- from empty slots on
-  pub standing-none : (slots : Held S) → ((q : ℕ) → slots q ≡ None) → Stands [] slots seed
+  pub standing-none : (slots : Sketches S) → ((q : ℕ) → slots q ≡ None) → Stands [] slots seed
   standing-none slots none = record {
     drawn = refl;
     stand = λ word agree. record {
@@ -47,7 +47,7 @@ module _ {A C Shape S Source : Type 0} {kind : Kind A C Shape S} (lawful : IsLaw
   }
 
   -- if nothing changes, this still holds
-  pub standing-same : (commands : List (Command A C)) (slots slots' : Held S) (source source' : Source) → Stands commands slots source → AreSame slots slots' → source' ≡ source →
+  pub standing-same : (commands : List (Command A C)) (slots slots' : Sketches S) (source source' : Source) → Stands commands slots source → AreSame slots slots' → source' ≡ source →
       Stands commands slots' source'
   standing-same commands slots slots' source source' st same stays = record {
     drawn = stays ∙ st.drawn;
@@ -55,7 +55,7 @@ module _ {A C Shape S Source : Type 0} {kind : Kind A C Shape S} (lawful : IsLaw
   }
 
   -- one more command
-  module _ (commands : List (Command A C)) (slots : Held S) (source : Source) (st : Stands commands slots source) (c : Command A C) (slots' : Held S) (source' : Source)
+  module _ (commands : List (Command A C)) (slots : Sketches S) (source : Source) (st : Stands commands slots source) (c : Command A C) (slots' : Sketches S) (source' : Source)
       (x : IsExecuted kind bit next c slots source true slots' source') where
     abbrev k : ℕ
     k = coins (trace_of kind.look.rules commands)
@@ -101,7 +101,7 @@ module _ {A C Shape S Source : Type 0} {kind : Kind A C Shape S} (lawful : IsLaw
     }
 
   -- one more command, accepted or refused
-  pub standing-next : (commands : List (Command A C)) (slots : Held S) (source : Source) → Stands commands slots source → (c : Command A C) (accepted : Bool) (slots' : Held S) (source' : Source) →
+  pub standing-next : (commands : List (Command A C)) (slots : Sketches S) (source : Source) → Stands commands slots source → (c : Command A C) (accepted : Bool) (slots' : Sketches S) (source' : Source) →
       IsExecuted kind bit next c slots source accepted slots' source' → Stands (if accepted then commands ++ c ∷ [] else commands) slots' source'
   standing-next commands slots source st c true slots' source' x = standing-more commands slots source st c slots' source' x
   standing-next commands slots source st c false slots' source' x = let left = x.left refl in standing-same commands slots slots' source source' st left.0 left.1
@@ -109,12 +109,12 @@ module _ {A C Shape S Source : Type 0} {kind : Kind A C Shape S} (lawful : IsLaw
   -- ---- what is promised of the sketches
 
   -- the shapes are the planned ones
-  pub standing-shapes : (commands : List (Command A C)) (slots : Held S) (source : Source) → Stands commands slots source →
+  pub standing-shapes : (commands : List (Command A C)) (slots : Sketches S) (source : Source) → Stands commands slots source →
       (q : ℕ) → shapes_in kind.look.shape slots q ≡ (plan_of kind.look.rules commands).shapes q
   standing-shapes commands slots source st =
       let n = coins (trace_of kind.look.rules commands) in (st.stand (bits_from bit next seed n) (bits-take bit next seed n n (omega arith))).shapes
 
-  module _ (commands : List (Command A C)) (slots : Held S) (source : Source) (st : Stands commands slots source) (slot : ℕ) (s : S) (held : slots slot ≡ Some s) where
+  module _ (commands : List (Command A C)) (slots : Sketches S) (source : Source) (st : Stands commands slots source) (slot : ℕ) (s : S) (held : slots slot ≡ Some s) where
     abbrev pub given : List Bool
     given = bits_from bit next seed (coins (trace_of kind.look.rules commands))
 

@@ -6,7 +6,7 @@ use Rattle.sketch_base.specs.declared.error.ErrorKind.{ErrorKind}
 use Rattle.sketch_base.specs.declared.error.ErrorKind.TheVariants.{InvalidArgument, OutOfMemory}
 use Rattle.quantile_sketches.specs.Behaviour.{Behaviour, Change}
 use Rattle.quantile_sketches.specs.Rules.{Kind}
-use Rattle.quantile_sketches.specs.RunSteps.{Refuses, IsFresh, IsCopied, IsReadBack, IsUpdated, IsWeighted, IsRedrawn, IsMerged}
+use Rattle.quantile_sketches.specs.RunSteps.{Refuses, IsFresh, IsPlainCopy, IsReadBack, IsUpdated, IsWeighted, IsRedrawn, IsMerged}
 
 -- the call is refused if that is said up front, else it may run out of memory; both change nothing
 abbrev pub Foretells : {S Source : Type 0} → Change Source S → S → Bool → Type 0
@@ -25,7 +25,7 @@ module _ {A C Shape S Source : Type 0} (behaviour : Behaviour S A C) (kind : Kin
   -- each call does what the rules say
   pub record ObeysRules : Type 0 where
     pub made : (config : C) (r : Result S ErrorKind) → behaviour.made config r → IfOk r (IsFresh kind (kind.look.rules.made config)) × IfErr r (Refuses (kind.look.rules.made config))
-    pub copied : (s : S) (r : Result S ErrorKind) → behaviour.copied s r → IfOk r (IsCopied kind s) × IfErr r (λ e. e ≡ OutOfMemory)
+    pub copied : (s : S) (r : Result S ErrorKind) → behaviour.copied s r → IfOk r (IsPlainCopy kind s) × IfErr r (λ e. e ≡ OutOfMemory)
     pub emptied : (s t : S) → behaviour.emptied s t → IsFresh kind (Some (kind.look.rules.emptied (kind.look.shape s))) t
     pub taken : (x : A) → Follows (behaviour.taken x Source bit next) kind.look.rules.updated (λ s. IsUpdated kind bit next s x)
     pub taken_weighted : (x : A) (weight : ℕ) →

@@ -3,7 +3,7 @@ use Rattle.std.specs.Prelude.{◌≡◌, ℕ, ℤ, List, [], ◌∷◌, ◌++◌
 use Rattle.std.specs.Option.{option_map}
 use Rattle.sketch_base.specs.Random.{next_state}
 use Rattle.quantile_sketches.specs.Answer.{answer_text}
-use Rattle.quantile_sketches.specs.Behaviour.{Behaviour, coin_of}
+use Rattle.quantile_sketches.specs.Behaviour.{Behaviour, coin_of_state}
 use Rattle.quantile_sketches.specs.Command.{request_of}
 use Rattle.quantile_sketches.specs.declared.commands.Command.{Command}
 use Rattle.quantile_sketches.specs.declared.command.Request.{Request}
@@ -31,7 +31,7 @@ run_after run (Some query) reply = run
 -- run accepts each command
 abbrev pub AreOfRun : {C Shape S : Type 0} → Kind ℤ C Shape S → ℕ → Known C → Slots S → ℕ → Type 0
 AreOfRun kind seed None slots coins = ⊤
-AreOfRun kind seed (Some commands) slots coins = AreExecuted kind coin_of next_state [] 0 commands (λ slot. None) seed (in_slot slots) coins
+AreOfRun kind seed (Some commands) slots coins = AreExecuted kind coin_of_state next_state [] 0 commands (λ slot. None) seed (in_slot slots) coins
 
 -- each sketch in the slots keeps a promise that depends on the commands
 abbrev pub EachKeeps : {C S : Type 0} → (List (Command ℤ C) → ℕ → S → Type 0) → Known C → Slots S → ℕ → Type 0

@@ -11,8 +11,8 @@ use Rattle.quantile_sketches.specs.declared.commands.Command.{Command}
 use Rattle.quantile_sketches.specs.declared.table.TheConstants.{SLOTS}
 use Rattle.quantile_sketches.specs.KllBehaviour.{kll}
 use Rattle.quantile_sketches.specs.KllRules.{kll_look, kll_kind}
-use Rattle.quantile_sketches.specs.KllRun.{IsSmall}
-use Rattle.quantile_sketches.specs.Lines.{lines, Serves, Begins}
+use Rattle.quantile_sketches.specs.KllRun.{IsWithinCapacity}
+use Rattle.quantile_sketches.specs.Lines.{lines, Serves, BeginsServing}
 use Rattle.quantile_sketches.specs.Outcome.{WeighsStream, HasExtremes}
 use Rattle.quantile_sketches.specs.Reader.{kll_grammar, req_grammar}
 use Rattle.quantile_sketches.specs.ReqBehaviour.{req}
@@ -34,8 +34,8 @@ ServesFamily false seed text out = Serves kll_grammar kll_of_i64 (replicate SLOT
 
 -- a beginning of the answers to a prefix of the lines
 abbrev pub BeginsFamily : (is_req : Bool) → ℕ → List ℕ → List ℕ → Type 0
-BeginsFamily true seed text sent = Begins req_grammar req_of_i64 (replicate SLOTS None) seed (lines text) sent
-BeginsFamily false seed text sent = Begins kll_grammar kll_of_i64 (replicate SLOTS None) seed (lines text) sent
+BeginsFamily true seed text sent = BeginsServing req_grammar req_of_i64 (replicate SLOTS None) seed (lines text) sent
+BeginsFamily false seed text sent = BeginsServing kll_grammar kll_of_i64 (replicate SLOTS None) seed (lines text) sent
 
 -- the answers to all lines of a text; until a `load` is accepted, each is given by the sketches of a run of the commands that
 -- were accepted before it
@@ -49,7 +49,7 @@ ServesRun false seed text out =
 -- is small, and a REQ sketch is exact on its protected tail
 abbrev pub KllPromise : List (Command ℤ ℕ) → ℕ → Kll ℤ → Type 0
 KllPromise commands slot s =
-    WeighsStream (kll_look int_cmp) commands slot s × HasExtremes (kll_look int_cmp) commands slot s × IsSmall s
+    WeighsStream (kll_look int_cmp) commands slot s × HasExtremes (kll_look int_cmp) commands slot s × IsWithinCapacity s
 
 abbrev pub ReqPromise : List (ReqCommand ℤ) → ℕ → Req ℤ → Type 0
 ReqPromise commands slot s =
