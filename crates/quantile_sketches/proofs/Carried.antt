@@ -29,7 +29,7 @@ use Rattle.quantile_sketches.specs.RunSteps.{Sketches, Puts, AreSame, Refuses, I
 
 -- ---- slots
 
-in_slot-held : {S : Type 0} (slots : Slots S) (slot : ℕ) (o : Option S) → Holds slots slot o → in_slot slots slot ≡ o
+pub in_slot-held : {S : Type 0} (slots : Slots S) (slot : ℕ) (o : Option S) → Holds slots slot o → in_slot slots slot ≡ o
 in_slot-held slots slot o h = get_or_from_slice_get slots slot o None h
 
 in_slot-set : {S : Type 0} (slots : Slots S) (slot : ℕ) (o new : Option S) → Holds slots slot o → (q : ℕ) → in_slot (set slots slot new) q ≡ changed (in_slot slots) slot new q

@@ -156,18 +156,6 @@ module _ {A : Type 0} {cmp : A → A → Ordering} (o : IsTotalOrder cmp) (spell
       }
 
   module _ (word : List Bool) (refused : List ℕ) (are : AreRefused (req_kind cmp spelling) word commands refused) where
-    -- the tail is exact
-    pub run-tail : ArePlanned (req_look cmp) commands slots → ArePlayed (req_look cmp) (accepted_of refused commands) word slots → TailsAreExact cmp commands slots
-    run-tail planned played slot s held y criteria few =
-        let fewer = accepted_of refused commands in
-        let l = left-out (req_kind_lawful o spelling) word commands refused are in
-        let t = req-left-out o spelling word refused commands are in
-        let shape : (plan_of req_rules fewer).shapes slot ≡ Some (req_shape s) = ap (λ (p : Plan ReqShape). p.shapes slot) (sym l.plan) ∙ there planned slot s held in
-        let streams : stream_of req_rules commands slot ≡ stream_of req_rules fewer slot = ap (λ (f : ℕ → List A). f slot) l.streams in
-        let tails : tails_of commands slot ≡ tails_of fewer slot = ap (λ (f : ℕ → ℕ). f slot) t.tails in
-        let enough = rw (streams, tails) at few in
-        alike-exact o fewer word slot s shape (played slot s held) y criteria enough ∙ sym (ap (true_rank cmp y criteria) streams)
-
     -- what holds for every list of commands holds for the accepted ones
     pub by-law : (P : List (ReqCommand A) → ℕ → Type 0) → WithEnoughBits req_rules P → coins (trace_of req_rules commands) ≤ length word → P (accepted_of refused commands) (length word)
     by-law P law enough = let l = left-out (req_kind_lawful o spelling) word commands refused are in law (accepted_of refused commands) (length word) (omega (arith, enough, l.drawn))

@@ -10,15 +10,17 @@ use Rattle.sketch_req.specs.Actions.{bag_of}
 use Rattle.sketch_req.specs.Relative.{off_protected_end}
 use Rattle.sketch_req.specs.ScheduleLaws.{tail_side}
 use Rattle.sketch_req.specs.Sketch.{Req}
-use Rattle.quantile_sketches.specs.Outcome.{SlotMap, ArePlanned, ArePlayed, WeighStreams, HaveExtremes}
+use Rattle.quantile_sketches.specs.Outcome.{SlotMap, ArePlanned, ArePlayed, AreSound, WeighStreams, HaveExtremes}
 use Rattle.quantile_sketches.specs.Plan.{plan_of, trace_of}
 use Rattle.quantile_sketches.specs.Refused.{AreRefused, accepted_of}
-use Rattle.quantile_sketches.specs.ReqKind.{req_kind, req_look, req_shape}
+use Rattle.quantile_sketches.specs.ReqKind.{req_look, req_kind, req_shape}
 use Rattle.quantile_sketches.specs.ReqPlan.{ReqCommand, shape_in, tails_of}
 use Rattle.quantile_sketches.specs.ReqRules.{ReqShape, req_rules}
 use Rattle.quantile_sketches.specs.Run.{stream_of}
+use Rattle.quantile_sketches.specs.ReqOutcome.{TailsAreExact}
 use Rattle.quantile_sketches.specs.RunSummaries.{AreSummaries}
 use Rattle.sketch_req.specs.Summaries.{IsExactUpTo}
+use Rattle.sketch_req.proofs.ExactAnswers.{tail-ranks}
 use Rattle.sketch_req.proofs.ExactTraces.{exact-trace}
 use Rattle.sketch_req.proofs.KeptTails.{is_protected, spares-tail}
 use Rattle.quantile_sketches.proofs.LegalPlans.{along-even, run-legal}
@@ -64,3 +66,9 @@ module _ {A : Type 0} {cmp : A → A → Ordering} (o : IsTotalOrder cmp) where
           greatest = (extremes slot s held).1;
           exact = λ y criteria. rw (streams, tails) (alike-counts fewer word slot s own (played slot s held) y criteria);
         }
+
+  -- so each sketch is exact on its tail
+  pub summaries-tails : (spelling : A → Option (List ℕ)) (commands : List (ReqCommand A)) (slots : SlotMap (Req A)) → AreSound (req_kind cmp spelling) slots →
+      AreSummaries cmp commands slots → TailsAreExact cmp commands slots
+  summaries-tails spelling commands slots sound is slot s held y criteria =
+      tail-ranks cmp s (stream_of req_rules commands slot) (tails_of commands slot) y criteria (sound slot s held) (is slot s held)

@@ -6,7 +6,8 @@ use Rattle.sketch_base.specs.Random.{next_state}
 use Rattle.sketch_base.specs.declared.error.ErrorKind.{ErrorKind}
 use Rattle.quantile_sketches.specs.declared.answer.Refusal.{Refusal}
 use Rattle.quantile_sketches.specs.Behaviour.{Behaviour, coin_of_state}
-use Rattle.quantile_sketches.specs.RunsBehindLines.{Known, run_after, AreOfRun, EachKeeps, AnswersWhere}
+use Rattle.quantile_sketches.specs.Refused.{AreExecuted}
+use Rattle.quantile_sketches.specs.RunsBehindLines.{Known, run_after, AreOfRunKeeping, AnswersWhere}
 use Rattle.quantile_sketches.specs.Calls.{ObeysRules}
 use Rattle.quantile_sketches.specs.Command.{request_of}
 use Rattle.quantile_sketches.specs.declared.answer.Refusal.TheVariants.{Sketch}
@@ -31,7 +32,7 @@ module _ {C Shape S : Type 0} (grammar : Grammar C) {kind : Kind ℤ C Shape S} 
   -- the sketches and the coins are those of a run, and stand where its commands put them
   abbrev OfRun : Known C → Slots S → ℕ → Type 0
   OfRun None slots coins = ⊤
-  OfRun (Some commands) slots coins = AreOfRun kind seed (Some commands) slots coins × Standing kind coin_of_state next_state seed commands (in_slot slots) coins
+  OfRun (Some commands) slots coins = AreExecuted kind coin_of_state next_state [] 0 commands (λ slot. None) seed (in_slot slots) coins × Standing kind coin_of_state next_state seed commands (in_slot slots) coins
 
   -- if nothing changes, this still holds
   stays : (run : Known C) (slots : Slots S) (coins : ℕ) (slots' : Slots S) (coins' : ℕ) → slots' ≡ slots → coins' ≡ coins → OfRun run slots coins → OfRun run slots' coins'
@@ -72,37 +73,23 @@ module _ {C Shape S : Type 0} (grammar : Grammar C) {kind : Kind ℤ C Shape S} 
       rw is (loaded run slot (ReadsImage behaviour (image_in line)) slots coins v slots' coins' h same of)
   answered run (Some query) line slots coins r slots' coins' h of = stays run slots coins slots' coins' h.1 h.2 of
 
-  -- what holds for the run so far holds before each line that is answered
-  module _ (Holds : Known C → Slots S → ℕ → Type 0) (by : (run : Known C) (slots : Slots S) (coins : ℕ) → OfRun run slots coins → Holds run slots coins) where
+  -- before each line that is answered, the sketches are those of a run, and keep every promise that the sketches of a run keep
+  module _ (promise : List (Command ℤ C) → ℕ → S → Type 0)
+      (keeps : (commands : List (Command ℤ C)) (slots : Sketches S) (coins : ℕ) → Standing kind coin_of_state next_state seed commands slots coins → (slot : ℕ) (s : S) → slots slot ≡ Some s → promise commands slot s) where
+    of-run : (run : Known C) (slots : Slots S) (coins : ℕ) → OfRun run slots coins → AreOfRunKeeping kind promise seed run slots coins
+    of-run None slots coins of = tt
+    of-run (Some commands) slots coins of = (of.0, keeps commands (in_slot slots) coins of.1)
+
     answers-where : (run : Known C) (slots : Slots S) (coins : ℕ) (ls : List (List ℕ)) (out : List ℕ) → OfRun run slots coins → Serves grammar behaviour slots coins ls out →
-        AnswersWhere grammar behaviour Holds run slots coins ls out
-    answers-where run slots coins [] out of e = (by run slots coins of, e)
+        AnswersWhere grammar behaviour (AreOfRunKeeping kind promise seed) run slots coins ls out
+    answers-where run slots coins [] out of e = (of-run run slots coins of, e)
     answers-where run slots coins (l ∷ ls) out of (r, slots', coins', rest, a, more, e) =
         let after = answered run (request_of grammar (words l)) (words l) slots coins r slots' coins' a of in
-        (by run slots coins of, r, slots', coins', rest, a, answers-where (run_after run (request_of grammar (words l)) r) slots' coins' ls rest after more, e)
+        (of-run run slots coins of, r, slots', coins', rest, a, answers-where (run_after run (request_of grammar (words l)) r) slots' coins' ls rest after more, e)
 
     -- from empty slots on
-    answers-hold : (ls : List (List ℕ)) (out : List ℕ) → Serves grammar behaviour (replicate SLOTS None) seed ls out → AnswersWhere grammar behaviour Holds (Some []) (replicate SLOTS None) seed ls out
-    answers-hold ls out =
+    pub answers-rest : (ls : List (List ℕ)) (out : List ℕ) → Serves grammar behaviour (replicate SLOTS None) seed ls out →
+        AnswersWhere grammar behaviour (AreOfRunKeeping kind promise seed) (Some []) (replicate SLOTS None) seed ls out
+    answers-rest ls out =
         answers-where (Some []) (replicate SLOTS None) seed ls out
         ((fun_ext (λ q. in_slot-none SLOTS q), refl), standing-none lawful coin_of_state next_state seed (in_slot (replicate SLOTS None)) (λ q. in_slot-none SLOTS q))
-
-  -- the sketches that answer are those of a run
-  pub answers-rest : (ls : List (List ℕ)) (out : List ℕ) → Serves grammar behaviour (replicate SLOTS None) seed ls out →
-      AnswersWhere grammar behaviour (AreOfRun kind seed) (Some []) (replicate SLOTS None) seed ls out
-  answers-rest = answers-hold (AreOfRun kind seed) of-run
-    where
-      of-run : (run : Known C) (slots : Slots S) (coins : ℕ) → OfRun run slots coins → AreOfRun kind seed run slots coins
-      of-run None slots coins of = tt
-      of-run (Some commands) slots coins of = of.0
-
-  -- and they keep every promise that the sketches of a run keep
-  pub answers-keep : (promise : List (Command ℤ C) → ℕ → S → Type 0) →
-      ((commands : List (Command ℤ C)) (slots : Sketches S) (coins : ℕ) → Standing kind coin_of_state next_state seed commands slots coins → (slot : ℕ) (s : S) → slots slot ≡ Some s → promise commands slot s) →
-      (ls : List (List ℕ)) (out : List ℕ) → Serves grammar behaviour (replicate SLOTS None) seed ls out →
-      AnswersWhere grammar behaviour (EachKeeps promise) (Some []) (replicate SLOTS None) seed ls out
-  answers-keep promise keeps = answers-hold (EachKeeps promise) each
-    where
-      each : (run : Known C) (slots : Slots S) (coins : ℕ) → OfRun run slots coins → EachKeeps promise run slots coins
-      each None slots coins of = tt
-      each (Some commands) slots coins of = λ slot s held. keeps commands (in_slot slots) coins of.1 slot s held

@@ -1,12 +1,18 @@
 -- The sketches behind the answers to lines summarize what is told of them, also after images were loaded.
 use Rattle.std.proofs.Common.{◌≡◌, ◌≢◌, ℕ, ℤ, ◌==◌, Bool, true, false, if◌then◌else◌, List, [], ◌∷◌, replicate, set, Option, None, Some, Ok, Err, is_ok, is_some, refl, sym, ap, ◌∙◌, subst, inl, inr, eqb-true, arith, Ordering, Result}
 use Rattle.std.specs.Cmp.{IsTotalOrder}
-use Rattle.std.specs.Option.{option_map}
+use Rattle.std.specs.Option.{option_and_then, option_map}
+use Rattle.std.specs.Ordering.{int_cmp}
+use Rattle.std.specs.Prelude.{unwrap_or}
+use Rattle.std.specs.Result.{result_ok}
 use Rattle.std.proofs.lemmas.Bool.{eqb-false, false≢true}
+use Rattle.std.proofs.lemmas.Cmp.{int_cmp_total}
 use Rattle.std.proofs.lemmas.Grind.{get_or-set_at}
 use Rattle.std.proofs.lemmas.List.{get_or-set_other}
 use Rattle.std.proofs.lemmas.Option.{get_or_from_slice_get, slice_get_within}
+use Rattle.hex.proofs.HexLemmas.{decode_of-encode_lower}
 use Rattle.sketch_base.specs.Random.{bits_from, next_state}
+use Rattle.sketch_base.specs.Spelling.{i64_spelling}
 use Rattle.sketch_base.specs.Trace.{changed}
 use Rattle.sketch_base.specs.declared.error.ErrorKind.{ErrorKind}
 use Rattle.sketch_base.specs.declared.error.ErrorKind.TheVariants.{InvalidArgument}
@@ -29,12 +35,14 @@ use Rattle.quantile_sketches.specs.declared.command.Request.TheVariants.{Run, Lo
 use Rattle.quantile_sketches.specs.declared.table.TheConstants.{SLOTS}
 use Rattle.quantile_sketches.specs.Lines.{Serves}
 use Rattle.quantile_sketches.specs.LineSteps.{Slots, in_slot, Holds, Reply, reply_of, Turns, Changes, Empties, RoundTrips, JoinsCopy, Merges, CarriesOutItem, Makes, ReadsImage, Answers}
+use Rattle.quantile_sketches.specs.HexText.{hex_of}
 use Rattle.quantile_sketches.specs.LineWords.{words, image_in}
 use Rattle.quantile_sketches.specs.Reader.{Grammar}
 use Rattle.quantile_sketches.specs.ReqBehaviour.{req, IsEmptyOf, IsMade, TakesIn, TakesNone, DrawsAnew, JoinsIn}
 use Rattle.quantile_sketches.specs.ReqRules.{is_same}
 use Rattle.sketch_req.specs.Summaries.{Summarizes}
-use Rattle.quantile_sketches.specs.SummariesBehindLines.{Told, IsAsTold, Origins, AreTrue, told_more, told_joined, told_both, told_empty, told_after_command, told_after, AreAsTold, AnswersAsTold}
+use Rattle.quantile_sketches.specs.SummariesBehindLines.{Told, IsAsTold, Origins, AreTrue, ShownAreTrue, told_more, told_joined, told_both, told_empty, told_after_command, told_after, AreAsTold, AnswersAsTold}
+use Rattle.quantile_sketches.proofs.Carried.{in_slot-held}
 use Rattle.quantile_sketches.proofs.CallErrors.{no-err}
 use Rattle.quantile_sketches.proofs.Slots.{in_slot-none}
 use Rattle.sketch_req.proofs.Summaries.{empty-summarizes, update-summarizes, merge-summarizes, redrawn-summarizes, copy-summarizes, forgotten-summarizes}
@@ -110,9 +118,6 @@ module _ {A Source : Type 0} {cmp : A → A → Ordering} (order : IsTotalOrder 
           (m.k ∙ good.as_told.0, merge-summarizes order redraws s p t (bits_from bit next coins (coins_of_merge_by redraws s p)) w.stream (x ∷ more) w.tail v.tail good.sound same good.as_told.1 is m)
 
   -- ---- slots
-
-  in_slot-held : (slots : Slots (Req A)) (slot : ℕ) (o : Option (Req A)) → Holds slots slot o → in_slot slots slot ≡ o
-  in_slot-held slots slot o h = get_or_from_slice_get slots slot o None h
 
   some-same : (s t : Req A) → Some s ≡ Some t → s ≡ t
   some-same s t e = ap (λ (o : Option (Req A)). elim o as (λ x. Req A) [ None ↦ s | Some x ↦ x ]) e
@@ -327,3 +332,16 @@ module _ {cmp : ℤ → ℤ → Ordering} (order : IsTotalOrder cmp) (spelling :
 
       none : Good (λ slot. None) (replicate SLOTS None)
       none q s e = absurd (not-some s (sym (in_slot-none SLOTS q) ∙ e))
+
+-- what is answered as an image is true of it
+pub shown-true : ShownAreTrue
+shown-true s told bytes line as_told imaged fits third =
+    let read : image_in line ≡ bytes.items =
+    ap (λ (o : Option (List ℕ)). unwrap_or (option_and_then hex_of o) []) third
+    ∙ ap (λ (r : Result (List ℕ) _). unwrap_or (result_ok r) []) (decode_of-encode_lower bytes.items fits) in (
+      without_coins s,
+      [],
+      subst (λ (b : List ℕ). BeginsImage int_cmp i64_spelling b (without_coins s) []) (sym read) imaged.0.1,
+      as_told.0,
+      forgotten-summarizes int_cmp_total s told.stream told.tail as_told.1,
+    )

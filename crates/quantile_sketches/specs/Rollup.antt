@@ -1,5 +1,5 @@
 -- Rollups: a slot that took each coin in once has a small spread, and the commands alone can show that it did so.
-use Rattle.std.specs.Prelude.{◌≡◌, ℕ, Bool, true, false, ◌==◌, if◌then◌else◌, IsTrue, List, Option, Some}
+use Rattle.std.specs.Prelude.{◌≡◌, ℕ, ◌*◌, ◌≤◌, Bool, true, false, ◌==◌, if◌then◌else◌, IsTrue, List, Option, Some}
 use Rattle.sketch_base.specs.Shares.{spread, took_once}
 use Rattle.sketch_base.specs.Trace.{changed}
 use Rattle.sketch_kll.specs.Sketch.{Kll}
@@ -80,3 +80,23 @@ module _ {A C Shape : Type 0} (rules : Rules A C Shape) where
 abbrev pub TreesTakeOnce : Type 0 → Type 0
 TreesTakeOnce A = (commands : List (Command A ℕ)) (slot : ℕ) →
     IsTrue (is_tree (standing_of kll_rules commands slot)) → IsTrue (took_once (trace_of kll_rules commands) slot)
+
+-- which slots took neither a sketch that holds items nor an item with a weight since their New or Reset, after an accepted command
+abbrev pub accepted_alone : {A : Type 0} → (ℕ → Option KllShape) → (ℕ → Bool) → Command A ℕ → ℕ → Bool
+accepted_alone shapes alone (New slot config) = changed alone slot true
+accepted_alone shapes alone (Update slot x) = alone
+accepted_alone shapes alone (UpdateWeighted slot x weight) = changed alone slot false
+accepted_alone shapes alone (Merge into source) = if count_of kll_rules (shapes source) == 0 then alone else changed alone into false
+accepted_alone shapes alone (Reset slot) = changed alone slot true
+accepted_alone shapes alone (RoundTrip slot) = alone
+accepted_alone shapes alone (Redraw slot) = alone
+accepted_alone shapes alone (MergeRedrawn into source) = alone
+
+-- whether a slot took neither, after commands from a run's start
+abbrev pub took_alone : {A : Type 0} → List (Command A ℕ) → ℕ → Bool
+took_alone = after_commands kll_rules (λ plan. accepted_alone plan.shapes) start_plan (λ slot. true)
+
+-- each sketch of such a slot has a small spread for its own k and its count
+abbrev pub SpreadsLittle : {A : Type 0} → List (Command A ℕ) → Slots (Kll A) → Type 0
+SpreadsLittle commands = EachSketch (λ slot s.
+    IsTrue (took_alone commands slot) → 4 * s.k * spread (trace_of kll_rules commands) slot ≤ s.n * s.n)

@@ -28,15 +28,12 @@ run_after run (Some (Load slot)) (Err refusal) = run
 run_after run (Some query) reply = run
 
 -- the sketches and the coins are those that a run of these commands gives, from empty slots and the seed of SplitMix64 on; the
--- run accepts each command
-abbrev pub AreOfRun : {C Shape S : Type 0} → Kind ℤ C Shape S → ℕ → Known C → Slots S → ℕ → Type 0
-AreOfRun kind seed None slots coins = ⊤
-AreOfRun kind seed (Some commands) slots coins = AreExecuted kind coin_of_state next_state [] 0 commands (λ slot. None) seed (in_slot slots) coins
-
--- each sketch in the slots keeps a promise that depends on the commands
-abbrev pub EachKeeps : {C S : Type 0} → (List (Command ℤ C) → ℕ → S → Type 0) → Known C → Slots S → ℕ → Type 0
-EachKeeps promise None slots coins = ⊤
-EachKeeps {S = S} promise (Some commands) slots coins = (slot : ℕ) (s : S) → in_slot slots slot ≡ Some s → promise commands slot s
+-- run accepts each command. And each of these sketches keeps a promise that depends on the commands
+abbrev pub AreOfRunKeeping : {C Shape S : Type 0} → Kind ℤ C Shape S → (List (Command ℤ C) → ℕ → S → Type 0) → ℕ → Known C → Slots S → ℕ → Type 0
+AreOfRunKeeping kind promise seed None slots coins = ⊤
+AreOfRunKeeping {S = S} kind promise seed (Some commands) slots coins =
+    AreExecuted kind coin_of_state next_state [] 0 commands (λ slot. None) seed (in_slot slots) coins
+    × ((slot : ℕ) (s : S) → in_slot slots slot ≡ Some s → promise commands slot s)
 
 module _ {C S : Type 0} (grammar : Grammar C) (behaviour : Behaviour S ℤ C) (Holds : Known C → Slots S → ℕ → Type 0) where
   -- lines are answered as `Serves` says; before each and at the end, `Holds` is true for the run so far, the sketches and coins

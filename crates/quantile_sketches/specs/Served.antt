@@ -6,7 +6,7 @@ use Rattle.sketch_kll.specs.Sketch.{Kll}
 use Rattle.sketch_req.specs.Sketch.{Req}
 use Rattle.sketch_req.specs.declared.RankAccuracy.{RankAccuracy}
 use Rattle.quantile_sketches.specs.Behaviour.{Behaviour}
-use Rattle.quantile_sketches.specs.RunsBehindLines.{AreOfRun, EachKeeps, AnswersWhere}
+use Rattle.quantile_sketches.specs.RunsBehindLines.{AreOfRunKeeping, AnswersWhere}
 use Rattle.quantile_sketches.specs.declared.commands.Command.{Command}
 use Rattle.quantile_sketches.specs.declared.table.TheConstants.{SLOTS}
 use Rattle.quantile_sketches.specs.KllBehaviour.{kll}
@@ -37,14 +37,6 @@ abbrev pub BeginsFamily : (is_req : Bool) → ℕ → List ℕ → List ℕ → 
 BeginsFamily true seed text sent = BeginsServing req_grammar req_of_i64 (replicate SLOTS None) seed (lines text) sent
 BeginsFamily false seed text sent = BeginsServing kll_grammar kll_of_i64 (replicate SLOTS None) seed (lines text) sent
 
--- the answers to all lines of a text; until a `load` is accepted, each is given by the sketches of a run of the commands that
--- were accepted before it
-abbrev pub ServesRun : (is_req : Bool) → ℕ → List ℕ → List ℕ → Type 0
-ServesRun true seed text out =
-    AnswersWhere req_grammar req_of_i64 (AreOfRun (req_kind int_cmp i64_spelling) seed) (Some []) (replicate SLOTS None) seed (lines text) out
-ServesRun false seed text out =
-    AnswersWhere kll_grammar kll_of_i64 (AreOfRun (kll_kind int_cmp i64_spelling) seed) (Some []) (replicate SLOTS None) seed (lines text) out
-
 -- what is promised of a slot's sketch after these commands: it has the weight and the extremes of the slot's stream; a KLL sketch
 -- is small, and a REQ sketch is exact on its protected tail
 abbrev pub KllPromise : List (Command ℤ ℕ) → ℕ → Kll ℤ → Type 0
@@ -56,8 +48,10 @@ ReqPromise commands slot s =
     WeighsStream (req_look int_cmp) commands slot s × HasExtremes (req_look int_cmp) commands slot s
     × IsExact int_cmp commands slot s
 
--- the answers to all lines of a text; until a `load` is accepted, each is given by sketches that keep this promise for the
--- commands that were accepted before it
-abbrev pub ServesAsPromised : (is_req : Bool) → ℕ → List ℕ → List ℕ → Type 0
-ServesAsPromised true seed text out = AnswersWhere req_grammar req_of_i64 (EachKeeps ReqPromise) (Some []) (replicate SLOTS None) seed (lines text) out
-ServesAsPromised false seed text out = AnswersWhere kll_grammar kll_of_i64 (EachKeeps KllPromise) (Some []) (replicate SLOTS None) seed (lines text) out
+-- the answers to all lines of a text; until a `load` is accepted, each is given by the sketches of a run of the commands that
+-- were accepted before it, and these keep this promise
+abbrev pub ServesRun : (is_req : Bool) → ℕ → List ℕ → List ℕ → Type 0
+ServesRun true seed text out =
+    AnswersWhere req_grammar req_of_i64 (AreOfRunKeeping (req_kind int_cmp i64_spelling) ReqPromise seed) (Some []) (replicate SLOTS None) seed (lines text) out
+ServesRun false seed text out =
+    AnswersWhere kll_grammar kll_of_i64 (AreOfRunKeeping (kll_kind int_cmp i64_spelling) KllPromise seed) (Some []) (replicate SLOTS None) seed (lines text) out

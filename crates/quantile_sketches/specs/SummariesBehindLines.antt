@@ -1,8 +1,12 @@
 -- What the sketches behind the answers to lines summarize, also after images were loaded.
-use Rattle.std.specs.Prelude.{◌≡◌, ◌++◌, ℕ, ℤ, min, List, [], ◌∷◌, Option, None, Some, Ok, Err, MatchOption, ⊤, replicate}
+use Rattle.std.specs.Prelude.{◌≡◌, ◌++◌, ℕ, ℤ, min, List, [], ◌∷◌, Option, None, Some, Ok, Err, MatchOption, ⊤, replicate, slice_get}
 use Rattle.std.specs.Option.{option_map}
 use Rattle.std.specs.Ordering.{int_cmp}
+use Rattle.std.specs.declared.alloc.Global.{Global}
 use Rattle.std.specs.declared.cmp.Ordering.{Ordering}
+use Rattle.std.specs.declared.vec.Vec.{Vec}
+use Rattle.hex.specs.Hex.{encode_lower, IsBytes}
+use Rattle.sketch_base.specs.Spelling.{i64_spelling}
 use Rattle.sketch_base.specs.Trace.{changed}
 use Rattle.sketch_req.specs.Image.{BeginsImage}
 use Rattle.sketch_req.specs.Sketch.{Req}
@@ -36,10 +40,13 @@ IsAsTold cmp told s = MatchOption told ⊤ (λ t. (s.k ≡ t.k) × Summarizes cm
 abbrev pub Origins : Type 0 → Type 0
 Origins A = List ℕ → Option (Told A)
 
--- it is true: the bytes begin with an image of a sketch that is as told
+-- it is true of an image: the bytes begin with an image of a sketch that is as told
+abbrev pub IsTrueOf : {A : Type 0} → (A → A → Ordering) → (A → Option (List ℕ)) → List ℕ → Told A → Type 0
+IsTrueOf {A} cmp spelling image told = (s : Req A) × (rest : List ℕ) × BeginsImage cmp spelling image s rest × IsAsTold cmp (Some told) s
+
+-- and of all
 abbrev pub AreTrue : {A : Type 0} → (A → A → Ordering) → (A → Option (List ℕ)) → Origins A → Type 0
-AreTrue {A} cmp spelling origins = (image : List ℕ) (told : Told A) → origins image ≡ Some told →
-    (s : Req A) × (rest : List ℕ) × BeginsImage cmp spelling image s rest × IsAsTold cmp (Some told) s
+AreTrue {A} cmp spelling origins = (image : List ℕ) (told : Told A) → origins image ≡ Some told → IsTrueOf cmp spelling image told
 
 -- after an update; after a merge, in which an empty sketch adds nothing; and after a reset
 abbrev pub told_more : {A : Type 0} → A → Told A → Told A
@@ -96,3 +103,9 @@ module _ (cmp : ℤ → ℤ → Ordering) (grammar : Grammar (ℕ × RankAccurac
 abbrev pub ServesAsTold : Origins ℤ → ℕ → List ℕ → List ℕ → Type 0
 ServesAsTold origins seed text out =
     AnswersAsTold int_cmp req_grammar req_of_i64 origins (λ slot. None) (replicate SLOTS None) seed (lines text) out
+
+-- what an `image` line answers for a sketch that is as told is true of the image that a `load` line with that answer holds
+abbrev pub ShownAreTrue : Type 0
+ShownAreTrue = (s : Req ℤ) (told : Told ℤ) (bytes : Vec ℕ Global) (line : List (List ℕ)) → IsAsTold int_cmp (Some told) s →
+    req_of_i64.imaged s (Ok bytes) → IsBytes bytes.items → slice_get line 2 ≡ Some (encode_lower bytes.items) →
+    IsTrueOf int_cmp i64_spelling (image_in line) told

@@ -1,5 +1,5 @@
 -- How queries are answered: with Some or None, and when they are refused.
-use Rattle.std.specs.Prelude.{◌≡◌, ◌↔◌, ℕ, ◌<◌, List, Option, Result, IsSome, IsErrOf, IfErr, IfSome}
+use Rattle.std.specs.Prelude.{◌≡◌, ◌↔◌, ℕ, ◌<◌, List, Option, Some, Result, IsSome, IsErrOf, IfErr, IfSome, slice_get}
 use Rattle.std.specs.declared.vec.Vec.{Vec}
 use Rattle.std.specs.declared.cmp.Ordering.{Ordering}
 use Rattle.sketch_base.specs.declared.common.Rank.{Rank}
@@ -25,3 +25,7 @@ FindsQuantiles cmp view criteria fractions found = IfSome found (λ xs. AreQuant
 -- the ranks found, if any, are these weights, each out of a total
 abbrev pub FindsRanks : {Z : Type 0} → ℕ → List ℕ → Option (Vec Rank Z) → Type 0
 FindsRanks total weights found = IfSome found (λ ranks. ranks.items ≡ ranks_of total weights)
+
+-- the rank found at this place, if any, is the whole of a total
+abbrev pub EndsAt : {Z : Type 0} → (place total : ℕ) → Option (Vec Rank Z) → Type 0
+EndsAt place total found = IfSome found (λ ranks. slice_get ranks.items place ≡ Some (record { weight = total; total = total }))

@@ -4,7 +4,7 @@ ghost use Rattle.std.specs.Prelude.{◌≡◌, ◌↔◌, ◌<◌, ◌^◌, leng
 ghost use Rattle.std.specs.declared.cmp.Ordering.TheVariants.{Equal};
 ghost use Rattle.std.specs.List.{All};
 ghost use Rattle.std.specs.List.Sorted.{IsNonDecreasing};
-ghost use Rattle.sketch_base.specs.Answered.{FindsQuantiles, FindsRanks, IsFoundAmong, IsRefusedUnless};
+ghost use Rattle.sketch_base.specs.Answered.{EndsAt, FindsQuantiles, FindsRanks, IsFoundAmong, IsRefusedUnless};
 ghost use Rattle.sketch_base.specs.declared.error.ErrorKind.TheVariants.{OutOfMemory};
 ghost use Rattle.sketch_base.specs.Bag.{SameItems, sort};
 ghost use Rattle.sketch_base.specs.Pairs.{copies, distinct, extreme_among};
@@ -217,6 +217,7 @@ impl<T: Clone + Ord> SortedView<T> {
     pub fn cdf(&self, points: &[T], criteria: SearchCriteria) -> Result<Option<Vec<Rank>>, Error>
         ensures found { let entries = self.now.entries in
             IfOk result (FindsRanks (length entries) (cdf_of T.cmp criteria entries points.now)) }
+        ensures ends { IfOk result (EndsAt (length points.now) (length self.now.entries)) }
         ensures rises { IfOk result (λ found. IfSome found (λ ranks.
             IsNonDecreasing (map (λ (r : Rank). r.weight) ranks.items))) }
         ensures there { IfOk result (IsFoundAmong (length self.now.entries)) }

@@ -10,7 +10,7 @@ use Rattle.sketch_base.specs.declared.common.SearchCriteria.TheVariants.{Inclusi
 use Rattle.sketch_base.specs.Bag.{expanded, repeated, sort}
 use Rattle.sketch_base.specs.Queries.{SameAnswer, quantile_in, quantile_place}
 use Rattle.sketch_base.specs.Query.{counted, true_rank}
-use Rattle.sketch_base.proofs.Entries.{SameAnswer-itself, SameAnswer-trans, counted-parted, quantile-same}
+use Rattle.sketch_base.proofs.Entries.{if-same, SameAnswer-itself, SameAnswer-trans, counted-parted, quantile-same}
 use Rattle.sketch_base.proofs.Fixed.{length-sort}
 use Rattle.sketch_base.proofs.Items.{SameItems-refl}
 use Rattle.sketch_base.proofs.OneExtreme.{one_least, one_greatest}
@@ -88,19 +88,15 @@ module _ {A : Type 0} {cmp : A → A → Ordering} (order : IsTotalOrder cmp) wh
           subst (λ (n : ℕ). IsExactUpTo (3 * tail) n (off_protected_end cmp s.accuracy x criteria xs)) (sorted-off s.accuracy x criteria) (is.exact x criteria)) low high in
           rw e (item-enclosed order xs x place (IsSorted-sort cmp order (repeated 0 (bag_of s.levels).levels)) both.0 both.1)
 
-  -- one of two answers
-  if-same : (b : Bool) (x x' y y' : Option A) → SameAnswer cmp x x' → SameAnswer cmp y y' → SameAnswer cmp (if b then x else y) (if b then x' else y')
-  if-same b x x' y y' h k = elim b as (λ (t : Bool). SameAnswer cmp (if t then x else y) (if t then x' else y')) [ true ↦ h | false ↦ k ]
-
   -- quantiles of sorted lists of one length that are extremes, or whose entries compare equal
   same-quantile : (xs ys : List A) (l l' g g' : Option A) (a b : ℕ) (criteria : SearchCriteria) → length xs ≡ length ys → SameAnswer cmp l l' → SameAnswer cmp g g' →
       (a ≡ 0) ⊎ ((a ≡ b) ⊎ SameAnswer cmp (slice_get xs (quantile_place (length ys) a b criteria)) (slice_get ys (quantile_place (length ys) a b criteria))) →
       SameAnswer cmp (quantile_in xs l g a b criteria) (quantile_in ys l' g' a b criteria)
   same-quantile xs ys l l' g g' a b criteria long least greatest (inl first) = rw (eq-eqb a 0 first) least
   same-quantile xs ys l l' g g' a b criteria long least greatest (inr (inl last)) =
-      if-same (a == 0) l l' _ _ least (rw (eq-eqb a b last) greatest)
+      if-same cmp (a == 0) l l' _ _ least (rw (eq-eqb a b last) greatest)
   same-quantile xs ys l l' g g' a b criteria long least greatest (inr (inr entry)) =
-      if-same (a == 0) l l' _ _ least (if-same (a == b) g g' _ _ greatest (rw long entry))
+      if-same cmp (a == 0) l l' _ _ least (if-same cmp (a == b) g g' _ _ greatest (rw long entry))
 
   SameAnswer-back : (x y : Option A) → SameAnswer cmp x y → SameAnswer cmp y x
   SameAnswer-back None None h = tt

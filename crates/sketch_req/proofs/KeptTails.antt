@@ -14,7 +14,7 @@ use Rattle.sketch_base.proofs.ComplementedBits.{level_at-same}
 use Rattle.sketch_base.proofs.Falling.{Falling, counted-falls}
 use Rattle.sketch_base.proofs.Fixed.{length-left, length-level_at, length-sort, lengths-happens}
 use Rattle.sketch_base.proofs.Sums.{sum_by-halves}
-use Rattle.sketch_base.proofs.Tails.{both_counts, end_or_front, front_or_end}
+use Rattle.sketch_base.proofs.Tails.{both_counts, end_or_front, front_or_end, half_none, level-le-rank, spared_sums}
 use Rattle.sketch_base.proofs.Worlds.{one}
 use Rattle.sketch_req.specs.ScheduleLaws.{tail_side}
 use Rattle.sketch_req.specs.declared.RankAccuracy.{RankAccuracy}
@@ -45,18 +45,6 @@ module _ {A : Type 0} (cmp : A → A → Ordering) where
       (end_or_front test rest s (falls level))
 
 module _ {A : Type 0} (cmp : A → A → Ordering) (test : A → Bool) where
-  -- a test counts no more in a level than in its bag
-  level-le-rank : (h k : ℕ) (levels : List (List A)) → count_by test (level_at levels h) ≤ weigh (sum_by (one test)) k levels
-  level-le-rank zero k (level ∷ above) = omega (arith, mul-le-mul_right (count_by test level) (pow_pos k))
-  level-le-rank (suc h) k (level ∷ above) = omega (arith, level-le-rank h (suc k) above)
-  level-le-rank _ k [] = omega arith
-
-  spared : (w w2 new old down up : ℕ) → new + w * down ≡ old + w2 * up → down ≡ 0 → up ≡ 0 → new ≡ old
-  spared w w2 new old down up e d u = omega (arith, e, ap (λ n. w * n) d, ap (λ n. w2 * n) u)
-
-  half_none : (parity : Bool) (xs : List A) → count_by test xs ≡ 0 → count_by test (half parity xs) ≡ 0
-  half_none parity xs e = grind (arith, sum_by-halves (one test) xs)
-
   same-exact : (most count m n : ℕ) → m ≡ n → IsExactUpTo most count n → IsExactUpTo most count m
   same-exact most count m n e h = subst (λ (w : ℕ). IsExactUpTo most count w) (sym e) h
 
@@ -72,7 +60,7 @@ module _ {A : Type 0} (cmp : A → A → Ordering) (test : A → Bool) where
       let new = rank (one test) (compacted cmp (one test) h taken bit bag) in
       let none : count_by test parts.1 ≡ 0 → IsExactUpTo most count (new + extra) = λ none.
       same-exact most count (new + extra) (rank (one test) bag + extra)
-      (ap (λ n. n + extra) (spared (2 ^ h) (2 ^ suc h) _ _ _ _ (compacted-moves cmp (one test) h taken bit bag) none (half_none parity parts.1 none))) exact in
+      (ap (λ n. n + extra) (spared_sums cmp test (2 ^ h) (2 ^ suc h) _ _ _ _ (compacted-moves cmp (one test) h taken bit bag) none (half_none cmp test parity parts.1 none))) exact in
       ⊎_elim none (λ all. go (count_by test parts.1) refl all none) (spares flag level)
     where
       go : (n : ℕ) → count_by test (cut cmp taken (h == 0 && not bag.is_sorted) (level_at bag.levels h)).1 ≡ n →
@@ -86,9 +74,9 @@ module _ {A : Type 0} (cmp : A → A → Ordering) (test : A → Bool) where
           let parts = cut cmp taken flag level in
           let left : List (List A) = with_level [] h (λ l. parts.0) bag.levels in
           let stay : most ≤ count_by test parts.0 = omega (arith, all, length-left cmp taken flag level, room) in
-          let many : suc most ≤ rank (one test) bag = omega (arith, stay, e, sum_by-cut (one test) cmp taken flag level, level-le-rank h 0 bag.levels) in
+          let many : suc most ≤ rank (one test) bag = omega (arith, stay, e, sum_by-cut (one test) cmp taken flag level, level-le-rank cmp test h 0 bag.levels) in
           let here : count_by test parts.0 ≤ weigh (sum_by (one test)) 0 left =
-          subst (λ (l : List A). count_by test l ≤ weigh (sum_by (one test)) 0 left) (level_at-same h (λ m. parts.0) bag.levels) (level-le-rank h 0 left) in
+          subst (λ (l : List A). count_by test l ≤ weigh (sum_by (one test)) 0 left) (level_at-same h (λ m. parts.0) bag.levels) (level-le-rank cmp test h 0 left) in
           let more : most ≤ rank (one test) (compacted cmp (one test) h taken bit bag) =
           omega (arith, stay, here, weigh-added (one test) (suc h) (half (parity_up taken bit (level_at bag.levels (suc h))) parts.1) left) in
           record {

@@ -4,7 +4,7 @@ ghost use Rattle.std.specs.declared.cmp.Ordering.TheVariants.{Equal};
 ghost use Rattle.std.specs.List.{All};
 ghost use Rattle.std.specs.List.Sorted.{IsNonDecreasing, IsPermutation};
 ghost use Rattle.sketch_base.specs.declared.error.ErrorKind.TheVariants.{OutOfMemory};
-ghost use Rattle.sketch_base.specs.Answered.{FindsQuantiles, FindsRanks, IsFoundAmong, IsRefusedUnless};
+ghost use Rattle.sketch_base.specs.Answered.{EndsAt, FindsQuantiles, FindsRanks, IsFoundAmong, IsRefusedUnless};
 ghost use Rattle.sketch_base.specs.Bag.{expanded};
 ghost use Rattle.sketch_base.specs.Pairs.{distinct};
 ghost use Rattle.sketch_base.specs.Queries.{IsFraction, IsIncreasing, SameAnswer, cdf_of, pmf_of};
@@ -152,6 +152,7 @@ impl<T: Clone + Ord> ReqSketch<T> {
         requires clones { (x y : T) → T.is_clone x y → T.cmp x y ≡ Equal }
         ensures found { let s = self.now in IfOk result
             (FindsRanks s.n (cdf_of T.cmp criteria (expanded T.cmp (bag_of s.levels)) points.now)) }
+        ensures ends { IfOk result (EndsAt (length points.now) self.now.n) }
         ensures rises { IfOk result (λ found. IfSome found (λ ranks.
             IsNonDecreasing (map (λ (r : Rank). r.weight) ranks.items))) }
         ensures there { IfOk result (IsFoundAmong self.now.n) }

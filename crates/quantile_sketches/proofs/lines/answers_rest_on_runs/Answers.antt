@@ -9,11 +9,11 @@ use Rattle.quantile_sketches.specs.KllBehaviour.{kll}
 use Rattle.quantile_sketches.specs.Lines.{lines}
 use Rattle.quantile_sketches.specs.Reader.{kll_grammar, req_grammar}
 use Rattle.quantile_sketches.specs.ReqBehaviour.{req}
-use Rattle.quantile_sketches.specs.Served.{ServesFamily, ServesRun, ServesAsPromised, KllPromise, ReqPromise}
+use Rattle.quantile_sketches.specs.Served.{ServesFamily, ServesRun, KllPromise, ReqPromise}
 use Rattle.quantile_sketches.proofs.KllRuns.{sound-small}
 use Rattle.quantile_sketches.proofs.ReqRuns.{alike-exact}
 use Rattle.quantile_sketches.proofs.Standing.{standing-is, standing-shape, standing-weight, standing-extremes, given}
-use Rattle.quantile_sketches.proofs.RunsBehindAnswers.{answers-rest, answers-keep}
+use Rattle.quantile_sketches.proofs.RunsBehindAnswers.{answers-rest}
 use Rattle.quantile_sketches.proofs.KllKind.{kll_kind_lawful}
 use Rattle.quantile_sketches.proofs.KllObeys.{kll-obeys}
 use Rattle.quantile_sketches.proofs.ReqObeys.{req-obeys}
@@ -23,35 +23,23 @@ use Rattle.quantile_sketches.proofs.lines.answers_rest_on_runs.Goals as goal
 -- for REQ and for KLL
 rest : (is_req : Bool) (seed : ℕ) (text out : List ℕ) → ServesFamily is_req seed text out → ServesRun is_req seed text out
 rest true seed text out =
-    answers-rest req_grammar (req_kind_lawful int_cmp_total i64_spelling) (req int_cmp i64_spelling)
-    (req-obeys int_cmp_total i64_spelling coin_of_state next_state i64_prefix_free i64_ties) seed (lines text) out
-rest false seed text out =
-    answers-rest kll_grammar (kll_kind_lawful int_cmp_total i64_spelling) (kll int_cmp i64_spelling)
-    (kll-obeys int_cmp_total i64_spelling coin_of_state next_state i64_prefix_free i64_ties) seed (lines text) out
-
--- the sketches keep what is promised of them
-kept : (is_req : Bool) (seed : ℕ) (text out : List ℕ) → ServesFamily is_req seed text out → ServesAsPromised is_req seed text out
-kept true seed text out =
     let lawful = req_kind_lawful int_cmp_total i64_spelling in
     let obeys = req-obeys int_cmp_total i64_spelling coin_of_state next_state i64_prefix_free i64_ties in
-    answers-keep req_grammar lawful (req int_cmp i64_spelling) obeys seed ReqPromise (λ commands slots coins st slot s held. (
+    answers-rest req_grammar lawful (req int_cmp i64_spelling) obeys seed ReqPromise (λ commands slots coins st slot s held. (
       standing-weight lawful coin_of_state next_state seed commands slots coins st slot s held,
       standing-extremes lawful coin_of_state next_state seed commands slots coins st slot s held,
       alike-exact int_cmp_total commands (given lawful coin_of_state next_state seed commands slots coins st slot s held) slot s
           (standing-shape lawful coin_of_state next_state seed commands slots coins st slot s held)
           (standing-is lawful coin_of_state next_state seed commands slots coins st slot s held).alike,
     )) (lines text) out
-kept false seed text out =
+rest false seed text out =
     let lawful = kll_kind_lawful int_cmp_total i64_spelling in
     let obeys = kll-obeys int_cmp_total i64_spelling coin_of_state next_state i64_prefix_free i64_ties in
-    answers-keep kll_grammar lawful (kll int_cmp i64_spelling) obeys seed KllPromise (λ commands slots coins st slot s held. (
+    answers-rest kll_grammar lawful (kll int_cmp i64_spelling) obeys seed KllPromise (λ commands slots coins st slot s held. (
       standing-weight lawful coin_of_state next_state seed commands slots coins st slot s held,
       standing-extremes lawful coin_of_state next_state seed commands slots coins st slot s held,
       sound-small s (standing-is lawful coin_of_state next_state seed commands slots coins st slot s held).sound,
     )) (lines text) out
 
-pub returns-clause-run : goal.returns-clause-run
-returns-clause-run c = rest
-
-pub returns-clause-promise : goal.returns-clause-promise
-returns-clause-promise c = kept
+pub returns : goal.returns
+returns c = record { run = rest }

@@ -9,4 +9,4 @@ pub returns-clause-rare : goal.returns-clause-rare
 returns-clause-rare g c = run-rare g.met.T.Ord.total
 
 pub returns-clause-rows : goal.returns-clause-rows
-returns-clause-rows g c = record { six = omega arith; seven = omega arith; eight = omega arith; nine = omega arith; ten = omega arith; twelve = omega arith }
+returns-clause-rows g c = record { six = omega arith; seven = omega arith; eight = omega arith; nine = omega arith; ten = omega arith; twelve = omega arith; four = omega arith }

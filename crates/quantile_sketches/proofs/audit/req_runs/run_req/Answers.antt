@@ -6,14 +6,14 @@ use Rattle.quantile_sketches.specs.ReqReady.{stays_fair}
 use Rattle.quantile_sketches.specs.ReqRules.{req_rules}
 use Rattle.quantile_sketches.specs.ReqUpdated.{was_only_updated, AreRelative, AreRelativeToCounts}
 use Rattle.quantile_sketches.specs.Run.{AreUnbiasedWhere, WithEnoughBits}
-use Rattle.quantile_sketches.proofs.Given.{given, both, three, five}
+use Rattle.quantile_sketches.proofs.Given.{given, both, five}
 use Rattle.quantile_sketches.proofs.AfterCommands.{close-by, ranks-by}
 use Rattle.quantile_sketches.proofs.ReqFair.{run-unbiased_where_fair}
 use Rattle.quantile_sketches.proofs.ReqKind.{req_kind_lawful}
 use Rattle.quantile_sketches.proofs.ReqReady.{run-unbiased_where_redrawn}
-use Rattle.quantile_sketches.proofs.ReqRuns.{req-load, run-ordered, run-levels, run-small, run-tail, run-tails-own, run-images, unbiased-updated, by-law}
+use Rattle.quantile_sketches.proofs.ReqRuns.{req-load, run-ordered, run-levels, run-small, run-tails-own, run-images, unbiased-updated, by-law}
 use Rattle.quantile_sketches.proofs.ReqUpdated.{run-are_relative, run-are_relative_to_counts}
-use Rattle.quantile_sketches.proofs.RunSummaries.{run-summaries}
+use Rattle.quantile_sketches.proofs.RunSummaries.{run-summaries, summaries-tails}
 use Rattle.quantile_sketches.proofs.audit.req_runs.run_req.Goals as goal
 
 pub run_family-requires-clause-lawful : goal.run_family-requires-clause-lawful
@@ -26,6 +26,11 @@ returns g c =
     both c.run_family.result
     (λ run refused. by-law g.met.T.Ord.total g.T.ReqValue.spelling c.args.commands.now run.slots c.args.word.now run.refused.items refused P law)
     c.run_family.ensures.refused c.run_family.ensures.enough in
+    let summaries =
+    five c.run_family.result
+    (λ run refused planned played weight extremes.
+    run-summaries g.met.T.Ord.total g.T.ReqValue.spelling c.args.commands.now run.slots c.args.word.now run.refused.items refused planned played weight extremes)
+    c.run_family.ensures.refused c.run_family.ensures.planned c.run_family.ensures.played c.run_family.ensures.weight c.run_family.ensures.extremes in
     record {
       enough = c.run_family.ensures.enough;
       errors = c.run_family.ensures.errors;
@@ -53,15 +58,8 @@ returns g c =
           run.refused.items refused run.slots played)
           c.run_family.ensures.refused c.run_family.ensures.played;
       tail =
-          three c.run_family.result
-          (λ run refused planned played.
-          run-tail g.met.T.Ord.total g.T.ReqValue.spelling c.args.commands.now run.slots c.args.word.now run.refused.items refused planned played)
-          c.run_family.ensures.refused c.run_family.ensures.planned c.run_family.ensures.played;
-      summaries =
-          five c.run_family.result
-          (λ run refused planned played weight extremes.
-          run-summaries g.met.T.Ord.total g.T.ReqValue.spelling c.args.commands.now run.slots c.args.word.now run.refused.items refused planned played weight extremes)
-          c.run_family.ensures.refused c.run_family.ensures.planned c.run_family.ensures.played c.run_family.ensures.weight c.run_family.ensures.extremes;
+          both c.run_family.result (λ run. summaries-tails g.met.T.Ord.total g.T.ReqValue.spelling c.args.commands.now run.slots) c.run_family.ensures.sound summaries;
+      summaries = summaries;
       own =
           given c.run_family.result (λ run. run-tails-own g.met.T.Ord.total g.T.ReqValue.spelling c.args.commands.now run.slots) c.run_family.ensures.planned;
       fair = accepted (AreUnbiasedWhere req_rules g.T.Ord.cmp is_fair_slot) (run-unbiased_where_fair g.T.Ord.cmp);

@@ -1,10 +1,11 @@
 use Rattle.std.proofs.Common.{◌≡◌, ◌+◌, ◌-◌, ◌^◌, ◌<◌, ◌≤◌, ℕ, min, List, [], ◌∷◌, ◌++◌, length, ap, refl, sym, subst, ◌∙◌, arith, zero-le}
+use Rattle.std.specs.Prelude.{Some, slice_get}
 use Rattle.std.proofs.lemmas.Bool.{false≢true}
 use Rattle.std.proofs.lemmas.Result.{IfOk-from_err}
 use Rattle.sketch_base.specs.declared.common.Rank.{Rank}
 use Rattle.sketch_base.specs.Query.{counted, true_rank}
 use Rattle.sketch_base.specs.Queries.{IsIncreasing, cdf_of, ranks_of, spread_out}
-use Rattle.sketch_base.proofs.Distributions.{next-rank-more, ranks-more, ranks-last, ranks-rise}
+use Rattle.sketch_base.proofs.Distributions.{next-rank-more, ranks-end, ranks-more, ranks-last, ranks-rise}
 use Rattle.sketch_base.proofs.SpreadOut.{count-spread_out}
 use Rattle.sketch_base.proofs.ViewAnswers.{at-entries, entries-there, no-entries, refused-argument, refused-memory, refused-nothing}
 use Rattle.sketch_base.proofs.SeenViews.{seen-cumulated, seen-sorted}
@@ -80,6 +81,8 @@ returns g c =
     record {
       found = at-entries (λ (es : List g.row.T.Denot). c.push_reserved-2.new.self.items ≡ ranks_of (length es) (cdf_of g.T.Ord.cmp c.args.criteria es c.args.points.now)) _ _ _
           _ _ _ _ (sym c.self.view_is) c.as_slice-items.ensures.value c.as_slice-cumulated.ensures.value is;
+      ends = at-entries (λ (es : List g.row.T.Denot). slice_get c.push_reserved-2.new.self.items (length c.args.points.now) ≡ Some (record { weight = length es; total = length es })) _ _ _
+          _ _ _ _ (sym c.self.view_is) c.as_slice-items.ensures.value c.as_slice-cumulated.ensures.value (ranks-end _ _ c.args.points.now _ is);
       rises = ranks-rise g.met.T.Ord.total c.args.criteria (spread_out c.as_slice-items.result.now c.as_slice-cumulated.result.now) c.args.points.now _ c.push_reserved-2.new.self.items
           c.in_ok-check_points.ensures.good is;
       there = (λ t. some, λ t. refl);
@@ -89,6 +92,7 @@ returns g c =
 pub returns-then-is_empty : goal.returns-then-is_empty
 returns-then-is_empty g c = record {
   found = tt;
+  ends = tt;
   rises = tt;
   there = (λ t. absurd (false≢true t), no-entries _ _ _ _ _ (sym c.self.view_is) c.is_empty.result _ c.is_empty.ensures c.self.inside.items.ok.0 c.if-is_empty.true);
   refused = refused-nothing (IsIncreasing g.T.Ord.cmp c.args.points.now) (length c.args.self.now.entries) _ c.in_ok-check_points.ensures.good;
@@ -100,6 +104,7 @@ returns-in_err-check_points g c =
     let err = c.from_residual.ensures.0 in
     record {
       found = IfOk-from_err r _ err;
+      ends = IfOk-from_err r _ err;
       rises = IfOk-from_err r _ err;
       there = IfOk-from_err r _ err;
       refused = refused-argument (IsIncreasing g.T.Ord.cmp c.args.points.now) (length c.args.self.now.entries) r _ c.from_residual.ensures.1
@@ -114,6 +119,7 @@ returns-in_err-ranks g c =
     c.self.invariant.no_more_items in
     record {
       found = IfOk-from_err r _ err;
+      ends = IfOk-from_err r _ err;
       rises = IfOk-from_err r _ err;
       there = IfOk-from_err r _ err;
       refused = refused-memory (IsIncreasing g.T.Ord.cmp c.args.points.now) (length c.args.self.now.entries) r c.from_residual-in_err-ranks.ensures.1
