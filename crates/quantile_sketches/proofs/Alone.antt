@@ -1,5 +1,5 @@
 -- A KLL slot that took neither another sketch nor an item with a weight took each coin in once, and its least k is its own.
-use Rattle.std.proofs.Common.{◌≡◌, ℕ, ◌*◌, ◌≤◌, Bool, true, false, ◌==◌, if◌then◌else◌, List, Option, Some, refl, sym, ap, ◌∙◌, subst}
+use Rattle.std.proofs.Common.{◌≡◌, ℕ, ◌*◌, ◌≤◌, Bool, true, false, ◌==◌, if◌then◌else◌, List, Option, Some, refl, sym, ap, ◌∙◌, subst, []}
 use Rattle.std.specs.Option.{option_and_then}
 use Rattle.std.proofs.lemmas.Bool.{eq-eqb, false≢true}
 use Rattle.sketch_base.specs.Shares.{spread, takes_once}

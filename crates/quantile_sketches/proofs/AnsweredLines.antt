@@ -1,5 +1,5 @@
 -- A line is answered: the run goes on by it, or ends where its answer can't be written.
-use Rattle.std.proofs.Common.{◌≡◌, ◌∙◌, ℕ, ℤ, ◌+◌, ◌≤◌, ◌<◌, ◌==◌, List, [], ◌∷◌, ◌++◌, length, take, sym, ap, subst, arith, length-take-le, Option, Some, None, IfSome, Result, Ok, Err, IfErr, IsOk}
+use Rattle.std.proofs.Common.{◌≡◌, ◌∙◌, ℕ, ℤ, ◌+◌, ◌≤◌, ◌<◌, ◌==◌, List, [], ◌∷◌, ◌++◌, length, take, sym, ap, subst, arith, length-take-le, Option, Some, None, IfSome, Result, Ok, Err, IfErr, IsOk, IsErr}
 use Rattle.std.proofs.lemmas.Option.{MatchOption-at_some}
 use Rattle.std.specs.Int.{w64}
 use Rattle.std.specs.Io.BufRead.{DropsConsumable, DropsThrough, strip_last, take_through}

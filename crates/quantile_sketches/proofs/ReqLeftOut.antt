@@ -13,7 +13,6 @@ use Rattle.quantile_sketches.specs.ReqKind.{req_kind}
 use Rattle.quantile_sketches.specs.ReqPlan.{ReqCommand, accepted_tails, tails_of, no_tails}
 use Rattle.quantile_sketches.specs.ReqRules.{ReqShape, req_rules}
 use Rattle.quantile_sketches.specs.RunSteps.{Sketches}
-use Rattle.quantile_sketches.proofs.AfterCommands.{arrives}
 use Rattle.quantile_sketches.proofs.LeftOut.{IsLeftOut, state-more, state-left, left-more, left-refused, left-by}
 use Rattle.quantile_sketches.proofs.LegalPlans.{after-append, trace-more}
 use Rattle.quantile_sketches.proofs.ReqKind.{req_kind_lawful}

@@ -7,7 +7,7 @@ use Rattle.sketch_req.specs.Schedule.{Layout, merge_layouts}
 use Rattle.sketch_req.proofs.ByUpdates.{none_drawn as new-drawn}
 use Rattle.sketch_req.proofs.FairSlots.{Stands, stands-end, stands-same, stands-clear, stands-forget, stands-redraw, stands-update, stands-merge, stands-merge_redrawn}
 use Rattle.quantile_sketches.specs.declared.commands.Command.TheVariants.{New, Update, UpdateWeighted, Merge, Reset, RoundTrip, Redraw, MergeRedrawn}
-use Rattle.quantile_sketches.specs.Plan.{Plan, start_plan, events_of, plan_after, trace_from}
+use Rattle.quantile_sketches.specs.Plan.{Plan, start_plan, events_of, plan_after, trace_from, after_commands}
 use Rattle.quantile_sketches.specs.ReqFair.{is_fair_slot}
 use Rattle.quantile_sketches.specs.ReqPlan.{ReqCommand, shape_in}
 use Rattle.quantile_sketches.specs.ReqReady.{Fairness, new_fairness, updated_fairness, with_ready, merged_fairness, fairness_in, accepted_fairness, stays_fair}

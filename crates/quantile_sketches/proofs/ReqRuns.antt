@@ -36,7 +36,7 @@ use Rattle.quantile_sketches.specs.Outcome.{SlotMap, sketch_at, ArePlanned, AreP
 use Rattle.quantile_sketches.specs.Plan.{Plan, start_plan, plan_of, trace_of}
 use Rattle.quantile_sketches.specs.Refused.{accepted_of, AreRefused}
 use Rattle.quantile_sketches.specs.ReqKind.{req_look, FitsReq, req_kind, req_shape}
-use Rattle.quantile_sketches.specs.ReqOutcome.{AreSortedInOrder, HaveFewLevels, AreBelowNominal, TailsAreK, IsExact, TailsAreExact, ReqImagesReadBack, AreRelative, AreRelativeToCounts}
+use Rattle.quantile_sketches.specs.ReqOutcome.{AreSortedInOrder, HaveFewLevels, AreBelowNominal, TailsAreK, IsExact, TailsAreExact, ReqImagesReadBack}
 use Rattle.quantile_sketches.specs.ReqPlan.{ReqCommand, shape_in, tails_of}
 use Rattle.quantile_sketches.specs.ReqRules.{ReqShape, req_rules}
 use Rattle.sketch_req.specs.Relative.{off_protected_end, IsRelative, Reaches}

@@ -86,7 +86,7 @@ abbrev pub accepted_alone : {A : Type 0} → (ℕ → Option KllShape) → (ℕ 
 accepted_alone shapes alone (New slot config) = changed alone slot true
 accepted_alone shapes alone (Update slot x) = alone
 accepted_alone shapes alone (UpdateWeighted slot x weight) = changed alone slot false
-accepted_alone shapes alone (Merge into source) = if count_of kll_rules (shapes source) == 0 then alone else changed alone into false
+accepted_alone shapes alone (Merge into source) = if count_of (kll_rules {A = Unit}) (shapes source) == 0 then alone else changed alone into false
 accepted_alone shapes alone (Reset slot) = changed alone slot true
 accepted_alone shapes alone (RoundTrip slot) = alone
 accepted_alone shapes alone (Redraw slot) = alone
@@ -97,6 +97,6 @@ abbrev pub took_alone : {A : Type 0} → List (Command A ℕ) → ℕ → Bool
 took_alone = after_commands kll_rules (λ plan. accepted_alone plan.shapes) start_plan (λ slot. true)
 
 -- each sketch of such a slot has a small spread for its own k and its count
-abbrev pub SpreadsLittle : {A : Type 0} → List (Command A ℕ) → Slots (Kll A) → Type 0
+abbrev pub SpreadsLittle : {A : Type 0} → List (Command A ℕ) → SlotMap (Kll A) → Type 0
 SpreadsLittle commands = EachSketch (λ slot s.
     IsTrue (took_alone commands slot) → 4 * s.k * spread (trace_of kll_rules commands) slot ≤ s.n * s.n)

@@ -1,9 +1,9 @@
-use Rattle.std.proofs.Common.{Ok, Err, refl, arith}
+use Rattle.std.proofs.Common.{Ok, refl, arith}
 use Rattle.std.proofs.lemmas.Grind.{common_steps}
 use Rattle.std.specs.Io.Buffered.{reader_remaining}
 use Rattle.quantile_sketches.specs.LineSteps.{reply_of}
 use Rattle.quantile_sketches.proofs.AnsweredLines.{line-found, line-written, line-unwritten, update-answered}
-use Rattle.quantile_sketches.proofs.LineRuns.{ends-broken, ends-well, running-out, running-start, running-with}
+use Rattle.quantile_sketches.proofs.LineRuns.{ends-broken, ends-early, ends-well, running-out, running-start, running-with}
 use Rattle.quantile_sketches.proofs.lines.Server.answer_all.Goals.{in-Some+in_ok-write_done, in_default+in_ok-answer+in-Some-2+in_ok-write_answer}
 use Rattle.quantile_sketches.proofs.lines.Server.answer_all.Goals as goal
 
@@ -69,4 +69,4 @@ returns-in_err-write_out g c =
 
 pub returns : goal.returns
 returns g c =
-    ends-broken g.S.Config.Config.grammar g.S.Family.behaviour (running-out g.S.Config.Config.grammar g.S.Family.behaviour c.loop.invariant refl c.in_ok-write_out.ensures.written) (Err _) refl
+    ends-early g.S.Config.Config.grammar g.S.Family.behaviour (running-out g.S.Config.Config.grammar g.S.Family.behaviour c.loop.invariant refl c.in_ok-write_out.ensures.written)
