@@ -38,12 +38,39 @@ const ABSENT: Steps = Step::Merge(255, 101);
 
 /// Where a merge compacts at once, one sketch drew a coin and the other none. With coins redrawn,
 /// the second coin decides whether 5 goes up or stays.
-static ROWS: [Row<'static, Config>; 15] = [
+static ROWS: [Row<'static, Config>; 17] = [
     ("nothing", &[], Trial::Gives(&[&[]], 0, &[], &[])),
     (
         "a tail past a round trip",
         &WITH_ROUND_TRIP,
         Trial::Gives(&WORDS, 1, &[], &[(0, 38, 38, 50)]),
+    ),
+    (
+        "a tail under each word",
+        &[HIGH_12, Step::Updates(0, 1, 211)],
+        Trial::Gives(
+            &WORDS,
+            3,
+            &[],
+            &[
+                (0, 175, 175, 211),
+                (0, 176, 176, 211),
+                (0, 187, 187, 211),
+                (0, 199, 199, 211),
+                (0, 210, 210, 211),
+                (0, 211, 211, 211),
+            ],
+        ),
+    ),
+    (
+        "a merge into a greater k",
+        &[
+            Step::New(1, (4, HighRank)),
+            Step::Updates(1, 1, 24),
+            HIGH_12,
+            Step::Merge(0, 1),
+        ],
+        Trial::Gives(&WORDS, 1, &[], &[(0, 12, 12, 24)]),
     ),
     (
         "a copy",

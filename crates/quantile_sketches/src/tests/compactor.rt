@@ -241,6 +241,35 @@ fn compacts(rt: HostRuntime) {
     }
 }
 
+/// Returns whether a level that kept 5 to 24 and a false coin sends up 6, 8, 10 and 12 after 25 to
+/// 28, by the complement and without a draw.
+fn compacts_again(level: &mut Level, out: &mut Vec<i32>) -> bool {
+    let mut coins = WordBits::new(&[]);
+    for item in 25..29i32 {
+        if level.append(item).is_err() {
+            return false;
+        }
+    }
+    level.compact_into(out, &mut coins).is_ok()
+        && out.as_slice() == [6, 8, 10, 12]
+        && is_range(level, 13, 28)
+        && (level.state(), coins.drawn()) == (2, 0)
+}
+
+fn compacts_twice(alloc: Global) -> bool {
+    match (filled(alloc, 4, HIGH, 24), Vec::from_array(alloc, [0i32; 0])) {
+        (Ok(mut level), Ok(mut out)) => {
+            compacts_into(&mut level, &mut out, COMPACTIONS[0]) && compacts_again(&mut level, &mut out)
+        }
+        _ => false,
+    }
+}
+
+#[test]
+fn a_second_compaction_takes_the_complement(rt: HostRuntime) {
+    assert!(rt; compacts_twice(rt.alloc()));
+}
+
 /// Returns the first level of a sketch of k 12, read from its bytes.
 fn read(alloc: Global, bytes: &[u8]) -> Result<Level, Error>
     ensures { IfOk result (λ level. level.lg_weight ≡ 0) }

@@ -2,9 +2,6 @@
 //! spelling, `==`. The worked updates, merges, weights, quantiles and images of numbers are in
 //! `tests/lines`, the greatest weights in `tests/program`, and the images of texts in
 //! `text::tests`.
-ghost use Rattle.std.proofs.lemmas.Bool.{false≢true};
-ghost use Rattle.std.specs.Prelude.{None};
-
 use super::calls::are_equal;
 use super::runs::is_invalid;
 use super::sketches::Numbered;
@@ -12,6 +9,7 @@ use crate::text::image_bytes;
 use sketch_base::codec::{SketchBytes, SketchSlice};
 use sketch_base::common::random::WordBits;
 use sketch_base::error::{Error, ErrorKind};
+use sketch_kll::capacity::{level_capacity, total_capacity};
 use sketch_kll::sketch::KllSketch;
 use sketch_kll::value::KllValue;
 use std::alloc::{AllocError, Global};
@@ -54,44 +52,73 @@ fn a_view_has_each_item_that_is_kept(rt: HostRuntime) {
     );
 }
 
-/// A value that has no spelling.
-#[derive(Clone, Copy, PartialEq, Eq, PartialOrd, Ord)]
-pub(crate) struct Unspelled;
+#[test]
+fn capacities(rt: HostRuntime) {
+    let totals = [
+        total_capacity(200, 8, 2),
+        total_capacity(200, 8, 3),
+        total_capacity(8, 8, 2),
+    ];
+    assert!(rt; level_capacity(200, 2, 0, 8) == 133 && totals == [333, 422, 16]);
+}
 
-impl KllValue for Unspelled {
+/// A byte whose spelling is itself; 0 has none.
+#[derive(Clone, Copy, PartialEq, Eq, PartialOrd, Ord)]
+pub(crate) struct Nonzero {
+    byte: u8,
+}
+
+impl KllValue for Nonzero {
+    ghost use Rattle.quantile_sketches.proofs.NonzeroBytes.{spelling_of, is_prefix_free_by, is_long};
+
     const MIN_SERIALIZED_SIZE: usize = 1;
 
     ghost MIN_SERIALIZED_SIZE = { 1 };
 
-    ghost spelling = { λ x. None };
+    ghost spelling = { λ x. spelling_of x.byte };
 
-    ghost is_prefix_free = { λ x y text rest others h. absurd (false≢true h.spelled) };
+    ghost is_prefix_free = { is_prefix_free_by (λ x. x.byte) };
 
-    ghost is_long = { λ x h. absurd (false≢true h) };
+    ghost is_long = { λ x. is_long x.byte };
 
     fn serialized_size(_value: &Self) -> usize {
         1
     }
 
-    fn serialize(_value: &Self, _bytes: &mut SketchBytes) -> Result<(), Error> {
-        Err(Error::new(ErrorKind::InvalidArgument))
+    fn serialize(value: &Self, bytes: &mut SketchBytes) -> Result<(), Error> {
+        ErrorKind::InvalidArgument.unless(value.byte != 0)?;
+        bytes.write_u8(value.byte)
     }
 
-    fn deserialize(_alloc: Global, _input: &mut SketchSlice<'_>) -> Result<Self, Error> {
-        Err(Error::new(ErrorKind::InvalidData))
-    }
-}
-
-impl Numbered for Unspelled {
-    fn numbered(_alloc: Global, _number: u32) -> Result<Unspelled, AllocError> {
-        Ok(Unspelled)
+    fn deserialize(_alloc: Global, input: &mut SketchSlice<'_>) -> Result<Self, Error> {
+        let byte = input.read_u8()?;
+        ErrorKind::InvalidData.unless(byte != 0)?;
+        Ok(Nonzero { byte })
     }
 }
 
-/// Returns whether a sketch of an item that has no spelling has no image. (`audit::tests` has one
-/// of no item.)
-fn refuses_image(sketch: &mut KllSketch<Unspelled>) -> bool {
-    sketch.update(Unspelled, &mut WordBits::new(&[])).is_ok() && is_invalid(sketch.serialize())
+/// 1 is the byte 0.
+impl Numbered for Nonzero {
+    fn numbered(_alloc: Global, number: u32) -> Result<Nonzero, AllocError> {
+        let byte = (number.wrapping_sub(1) % 256) as u8;
+        Ok(Nonzero { byte })
+    }
+}
+
+fn takes(sketch: &mut KllSketch<Nonzero>, byte: u8) -> bool {
+    sketch.update(Nonzero { byte }, &mut WordBits::new(&[])).is_ok()
+}
+
+fn is_refused_as_it_was(sketch: &KllSketch<Nonzero>) -> bool {
+    match sketch.clone() {
+        Ok(before) => is_invalid(sketch.serialize()) && *sketch == before,
+        Err(_) => false,
+    }
+}
+
+/// Returns whether a sketch that takes the bytes 1 and 0 has no image, and stays as it was.
+fn refuses_image(sketch: &mut KllSketch<Nonzero>) -> bool {
+    takes(sketch, 1) && sketch.serialize().is_ok() && takes(sketch, 0) && is_refused_as_it_was(sketch)
 }
 
 fn refuses_unspelled(alloc: Global) -> bool {

@@ -1,7 +1,12 @@
 //! REQ sketches: what no line of the program shows of their calls.
+ghost use Rattle.std.specs.Prelude.{◌≡◌};
+ghost use Rattle.std.specs.declared.cmp.Ordering.TheVariants.{Equal};
+ghost use Rattle.sketch_base.specs.Spelling.{SpellingsTie};
+
 use super::calls::{CRITERIA, fraction};
+use crate::text::image_text;
 use sketch_base::codec::{SketchBytes, SketchSlice};
-use sketch_base::common::SearchCriteria;
+use sketch_base::common::{Rank, SearchCriteria};
 use sketch_base::common::random::WordBits;
 use sketch_base::error::Error;
 use sketch_kll::sketch::KllSketch;
@@ -210,4 +215,172 @@ fn joins_equal_items(alloc: Global) -> bool {
 #[test]
 fn a_view_joins_equal_items(rt: HostRuntime) {
     assert!(rt; joins_equal_items(rt.alloc()));
+}
+
+/// Returns whether a view has these ranks among 5, by each criteria.
+fn ranks(view: &SortedView<i32>, item: i32, at_most: u64, below: u64) -> bool {
+    view.rank(&item, CRITERIA) == Some(fraction(at_most, 5))
+        && view.rank(&item, SearchCriteria::Exclusive) == Some(fraction(below, 5))
+}
+
+/// Returns whether ranks were found, out of 5, with these weights.
+fn are_weights(found: Result<Option<Vec<Rank>>, Error>, weights: [u64; 3]) -> bool {
+    let [first, second, third] = weights;
+    match found {
+        Ok(Some(ranks)) => {
+            ranks.as_slice() == [fraction(first, 5), fraction(second, 5), fraction(third, 5)]
+        }
+        _ => false,
+    }
+}
+
+fn is_quantile(view: &SortedView<i32>, fraction: Rank, item: Option<i32>) -> bool {
+    matches!(view.quantile(fraction, CRITERIA), Ok(found) if found == item)
+}
+
+/// Returns whether a view of 1, 3, 5, 7 and 9 answers.
+fn answers_of_five(view: &SortedView<i32>) -> bool {
+    (view.len(), view.total_weight()) == (5, 5)
+        && ranks(view, 0, 0, 0)
+        && ranks(view, 1, 1, 0)
+        && ranks(view, 2, 1, 1)
+        && ranks(view, 6, 3, 3)
+        && ranks(view, 10, 5, 5)
+        && are_weights(view.cdf(&[3, 7], CRITERIA), [2, 4, 5])
+        && are_weights(view.pmf(&[3, 7], CRITERIA), [2, 2, 1])
+        && is_quantile(view, fraction(0, 1), Some(1))
+        && is_quantile(view, fraction(1, 1), Some(9))
+}
+
+/// Returns whether a view of nothing answers.
+fn answers_of_none(view: &SortedView<i32>) -> bool {
+    (view.len(), view.total_weight()) == (0, 0)
+        && view.rank(&1, CRITERIA).is_none()
+        && is_quantile(view, fraction(1, 2), None)
+}
+
+fn views_five(alloc: Global) -> bool {
+    match vec![in alloc; (1, 1), (3, 1), (5, 1), (7, 1), (9, 1)] {
+        Ok(weighted) => match SortedView::new(weighted, Some(1), Some(9)) {
+            Ok(view) => answers_of_five(&view),
+            Err(_) => false,
+        },
+        Err(_) => false,
+    }
+}
+
+fn views_none(alloc: Global) -> bool {
+    match SortedView::new(Vec::new(alloc), None, None) {
+        Ok(view) => answers_of_none(&view),
+        Err(_) => false,
+    }
+}
+
+#[test]
+fn views_of_five_pairs_and_of_none(rt: HostRuntime) {
+    assert!(rt; views_five(rt.alloc()) && views_none(rt.alloc()));
+}
+
+/// Returns a sketch of k 12 that took some items, and then those from 1 to `last`, one by one.
+fn filled_by(alloc: Global, items: &[i32], last: i32) -> Result<ReqSketch<i32>, Error> {
+    let mut sketch = ReqSketch::new(alloc, 12, RankAccuracy::HighRank)?;
+    let mut coins = WordBits::new(&[]);
+    for item in items {
+        sketch.update(*item, &mut coins)?;
+    }
+    for item in 0..last {
+        sketch.update(item.saturating_add(1), &mut coins)?;
+    }
+    Ok(sketch)
+}
+
+fn is_view_of_two(sketch: &ReqSketch<i32>) -> bool {
+    matches!(sketch.sorted_view(), Ok(view) if (view.len(), view.total_weight()) == (2, 3))
+}
+
+#[test]
+fn a_sketch_of_5_5_7_shows_two_items(rt: HostRuntime) {
+    let sketch = filled_by(rt.alloc(), &[5, 5, 7], 0);
+    assert!(rt; matches!(&sketch, Ok(sketch) if is_view_of_two(sketch)));
+}
+
+/// Returns whether a sketch's image begins with the bytes of this text, has this length, and is
+/// read and written again as it was.
+fn has_image(alloc: Global, sketch: &ReqSketch<i32>, text: &str, len: usize) -> bool {
+    match sketch.serialize() {
+        Ok(image) => {
+            image.len() == len && begins_with(alloc, &image, text) && rereads::<i32>(alloc, &image)
+        }
+        Err(_) => false,
+    }
+}
+
+fn begins_with(alloc: Global, image: &[u8], text: &str) -> bool {
+    matches!(image_text(alloc, image), Ok(whole) if whole.as_str().starts_with(text))
+}
+
+fn is_written<T: ReqValue + Clone + Ord>(sketch: &ReqSketch<T>, image: &[u8]) -> bool {
+    matches!(sketch.serialize(), Ok(written) if written.as_slice() == image)
+}
+
+/// Returns whether the sketch of an image is written as that image.
+fn rereads<T: ReqValue + Clone + Ord>(alloc: Global, image: &[u8]) -> bool
+    requires { SpellingsTie T.cmp T.spelling }
+{
+    match ReqSketch::<T>::deserialize(alloc, image) {
+        Ok(sketch) => is_written(&sketch, image),
+        Err(_) => false,
+    }
+}
+
+/// Some items, then those from 1 to a last one; what the image begins with, and its length.
+static IMAGES: [(&[i32], i32, &str, usize); 5] = [
+    (&[], 0, "0201113c0c000000", 8),
+    (&[7], 0, "020111380c00010107000000", 12),
+    (&[5, 3], 0, "020111180c0001020500000003000000", 16),
+    (
+        &[],
+        5,
+        "020111080c00010000000000000000000c00000000030000050000000100000002000000030000000400000005000000",
+        48,
+    ),
+    (
+        &[],
+        72,
+        "040111280c0002004800000000000000010000004800000001000000000000000c000000000300003c0000000d0000000e000000",
+        328,
+    ),
+];
+
+fn is_imaged(alloc: Global, row: (&[i32], i32, &str, usize)) -> bool {
+    let (items, last, text, len) = row;
+    match filled_by(alloc, items, last) {
+        Ok(sketch) => has_image(alloc, &sketch, text, len),
+        Err(_) => false,
+    }
+}
+
+#[test]
+fn images_of_i32(rt: HostRuntime) {
+    for row in &IMAGES {
+        assert!(rt; is_imaged(rt.alloc(), *row), "{}", row.2);
+    }
+}
+
+/// Returns the image of a sketch of k 12 that took some items.
+fn image_of<T: ReqValue + Clone + Ord>(alloc: Global, items: &[T]) -> Result<Vec<u8>, Error>
+    requires { (x y : T) → T.is_clone x y → T.cmp x y ≡ Equal }
+{
+    let mut sketch = ReqSketch::new(alloc, 12, RankAccuracy::HighRank)?;
+    sketch.update_all(items, &mut WordBits::new(&[]))?;
+    sketch.serialize()
+}
+
+#[test]
+fn images_of_u32_and_u64_read_back(rt: HostRuntime) {
+    let alloc = rt.alloc();
+    let (small, large) = ([0u32, 7, 4294967295], [0u64, 7, 18446744073709551615]);
+    let (u32s, u64s) = (image_of(alloc, &small), image_of(alloc, &large));
+    assert!(rt; matches!(u32s, Ok(image) if image.len() == 20 && rereads::<u32>(alloc, &image)));
+    assert!(rt; matches!(u64s, Ok(image) if image.len() == 32 && rereads::<u64>(alloc, &image)));
 }

@@ -45,6 +45,9 @@ pub(crate) enum Trial<'a, C> {
     /// An audit of a number in a slot takes this number of coins, and gives these inclusive
     /// weights, one for each word, and this true rank.
     Audits(u8, u32, usize, &'a [u64], u64),
+    /// An audit of a number in slot 0 gives weights whose distances from the true rank have squares
+    /// that sum to this.
+    Scatters(u32, u64),
     /// An audit of the ranks of the numbers below this one is unbiased, over three coins.
     IsUnbiased(u32),
     /// An audit of a number in a slot takes sixteen coins, and is unbiased over them.
@@ -288,11 +291,22 @@ fn weighs(audit: &Audit, coins: usize, weights: &[u64], true_rank: u64) -> bool 
     audit.coins == coins && audit.weights.as_slice() == weights && audit.true_rank == true_rank
 }
 
+/// Returns the sum of the squares of the weights' distances from the true rank.
+fn squares_of(audit: &Audit) -> u64 {
+    let mut sum = 0u64;
+    for weight in audit.weights.iter() {
+        let distance = weight.abs_diff(audit.true_rank);
+        sum = sum.wrapping_add(distance.wrapping_mul(distance));
+    }
+    sum
+}
+
 fn is_audit<C>(answer: Result<Audit, Error>, trial: &Trial<'_, C>) -> bool {
     match (answer, trial) {
         (Ok(audit), Trial::Audits(_, _, coins, weights, true_rank)) => {
             weighs(&audit, *coins, weights, *true_rank)
         }
+        (Ok(audit), Trial::Scatters(_, squares)) => squares_of(&audit) == *squares,
         (Ok(audit), Trial::HasSixteen(..)) => is_even(&audit, 16, 65536),
         (Err(error), Trial::HasTooMany) => error.kind() == ErrorKind::InvalidArgument,
         _ => false,
@@ -328,6 +342,7 @@ fn holds<S: Tried>(alloc: Global, steps: Steps<'_, S>, trial: &Trial<'_, S::Conf
         Trial::Audits(slot, number, ..) | Trial::HasSixteen(slot, number) => audits::<S>(
             alloc, steps, *slot, *number, trial,
         ),
+        Trial::Scatters(number, _) => audits::<S>(alloc, steps, 0, *number, trial),
         Trial::HasTooMany => audits::<S>(alloc, steps, 0, 5, trial),
     }
 }
