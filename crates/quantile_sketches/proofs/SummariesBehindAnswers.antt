@@ -342,6 +342,5 @@ shown-true s told bytes line as_told imaged fits third =
       without_coins s,
       [],
       subst (λ (b : List ℕ). BeginsImage int_cmp i64_spelling b (without_coins s) []) (sym read) imaged.0.1,
-      as_told.0,
-      forgotten-summarizes int_cmp_total s told.stream told.tail as_told.1,
+      (as_told.0, forgotten-summarizes int_cmp_total s told.stream told.tail as_told.1),
     )

@@ -21,7 +21,7 @@ run_family-requires-clause-lawful g c = req_kind_lawful g.met.T.Ord.total g.T.Re
 
 pub returns : goal.returns
 returns g c =
-    let accepted : (P : List (ReqCommand g.T.Denot) → ℕ → Type 0) → WithEnoughBits req_rules P →
+    let accepted : (P : List (ReqCommand g.row.T.Denot) → ℕ → Type 0) → WithEnoughBits req_rules P →
     IfOk c.run_family.result (λ run. P (accepted_of run.refused.items c.args.commands.now) (length c.args.word.now)) = λ P law.
     both c.run_family.result
     (λ run refused. by-law g.met.T.Ord.total g.T.ReqValue.spelling c.args.commands.now run.slots c.args.word.now run.refused.items refused P law)
