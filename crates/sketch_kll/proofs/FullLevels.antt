@@ -1,16 +1,15 @@
 -- The loop that looks for the lowest full level, and what it finds, for levels and for their lengths.
-use Rattle.std.proofs.Common.{◌≡◌, ℕ, suc, ◌+◌, ◌-◌, ◌<◌, ◌≤◌, Bool, true, false, nat_le, List, [], ◌∷◌, length, map, sum, replicate, get_or, slice_index, drop, refl, ap₂, sym, ap, ◌∙◌, arith, Ordering, length-append, length-drop, leb-true, leb-false, le-leb, inl, inr, nat_lt}
-use Rattle.std.proofs.lemmas.Bool.{cases_Bool, lt-leb}
-use Rattle.std.proofs.lemmas.List.{drop_all, length-replicate}
+use Rattle.std.proofs.Common.{◌≡◌, ℕ, suc, ◌+◌, ◌-◌, ◌<◌, ◌≤◌, Bool, true, false, not, nat_le, List, [], ◌∷◌, length, map, sum, slice_index, drop, refl, ap₂, sym, ap, ◌∙◌, arith, Ordering, length-drop, leb-true, leb-false, le-leb, le-ltb, lt-ltb, inl, inr, nat_lt}
+use Rattle.std.proofs.lemmas.Bool.{cases_Bool, cases_lt, lt-leb}
+use Rattle.std.proofs.lemmas.List.{drop_all}
 use Rattle.std.proofs.lemmas.List.Sums.{sum_by-cons}
 use Rattle.sketch_kll.specs.Schedule.{lowest_full}
 use Rattle.std.specs.Prelude.{◌||◌}
 use Rattle.sketch_kll.specs.Capacity.{capacity_at, total_of}
 use Rattle.sketch_kll.specs.Compress.{passes}
 use Rattle.sketch_kll.specs.Levels.{retained, first_level, compacted}
-use Rattle.sketch_kll.specs.Flat.{levels_in, IsFlat}
-use Rattle.sketch_kll.specs.Steps.{full_level, is_full, compacted_if_full, needs_sorting, put_all, put_count}
-use Rattle.sketch_kll.proofs.Flats.{bound_at, bound_falls_to, length-bounds, length-items, drop_level}
+use Rattle.sketch_kll.specs.Steps.{full_level, is_full, compacted_if_full, needs_sorting}
+use Rattle.sketch_kll.proofs.Flats.{drop_level}
 
 -- there is one length for each level
 pub length-lengths : {A : Type 0} (ls : List (List A)) → length (map length ls) ≡ length ls
@@ -29,12 +28,8 @@ length-at [] (suc level) = refl
 length-at ls level = refl
 
 -- whether levels are full, by the levels
-full_by_levels : {A : Type 0} (k : ℕ) (ls : List (List A)) → is_full k ls ≡ nat_le (total_of k 8 (length ls)) (retained ls)
+pub full_by_levels : {A : Type 0} (k : ℕ) (ls : List (List A)) → is_full k ls ≡ nat_le (total_of k 8 (length ls)) (retained ls)
 full_by_levels k ls = ap₂ (λ (n m : ℕ). nat_le (total_of k 8 n) m) (length-lengths ls) (sum-lengths ls)
-
--- levels at or over their total capacity are full
-pub full_from : {A : Type 0} (k : ℕ) (ls : List (List A)) → total_of k 8 (length ls) ≤ retained ls → is_full k ls ≡ true
-full_from k ls h = full_by_levels k ls ∙ le-leb _ _ h
 
 -- levels below it are not
 pub spare_from : {A : Type 0} (k : ℕ) (ls : List (List A)) → retained ls < total_of k 8 (length ls) → is_full k ls ≡ false
@@ -55,6 +50,18 @@ passes_by_levels k ls level =
     ap₂ (λ (x y : Bool). x || y)
     (ap₂ (λ (n r : ℕ). nat_lt r (total_of k 8 n)) (length-lengths ls) (sum-lengths ls))
     (ap₂ (λ (n r : ℕ). nat_lt r (capacity_at k 8 (n - 1 - level))) (length-lengths ls) (length-at ls level))
+
+-- if the levels are full, the level's own capacity decides
+pub passes_is : {A : Type 0} (k level : ℕ) (ls : List (List A)) → is_full k ls ≡ true →
+    passes k ls level ≡ not (nat_le (capacity_at k 8 (length ls - 1 - level)) (length (first_level (drop level ls))))
+passes_is k level ls full =
+    let h : nat_lt (retained ls) (total_of k 8 (length ls)) ≡ false = le-ltb (retained ls) (total_of k 8 (length ls)) (full_holds k ls full) in
+    let c : ℕ = capacity_at k 8 (length ls - 1 - level) in
+    let n : ℕ = length (first_level (drop level ls)) in
+    passes_by_levels k ls level ∙ rw h (elim (cases_Bool (nat_le c n)) [
+      | inl e ↦ rw (e, le-ltb n c (leb-true c n e)) refl
+      | inr e ↦ rw (e, lt-ltb n c (leb-false c n e)) refl
+    ])
 
 -- the invariant of the loop that looks for a level to compact
 pub record SeeksFull {A : Type 0} (k : ℕ) (ls : List (List A)) (level : ℕ) : Type 0 where
@@ -90,118 +97,32 @@ seeks_more k ls level h s c =
       more = omega (arith, s.more, ap (λ (x : List (List _)). total_of k 8 (length x)) e, ap retained e, d);
     }
 
--- the loop finds a level before it has passed the top one
-pub seeks_never : {A : Type 0} (k : ℕ) (ls : List (List A)) (level : ℕ) → 0 < length ls → length ls ≤ level → SeeksFull k ls level → ⊥
-seeks_never k ls level h l s = let e = drop_all level ls l in let r = ap retained e in omega (arith, s.more, r)
+-- the loop goes on past a level that general compress would leave as it is, and there is a next one
+pub seeks_on : {A : Type 0} {k level : ℕ} {ls : List (List A)} → is_full k ls ≡ true → level < length ls → SeeksFull k ls level → passes k ls level ≡ true →
+    (level + 1 < length ls) × SeeksFull k ls (level + 1)
+seeks_on {A} {k} {level} {ls} full within s on =
+    let next = seeks_more k ls level within s (leb-false _ _ (below (sym (passes_is k level ls full) ∙ on))) in
+    let one : level + 1 ≡ suc level = omega arith in (
+      elim (cases_lt (level + 1) (length ls)) [
+        | inl h ↦ h
+        | inr h ↦ absurd (omega (arith, next.more, ap retained (drop_all (suc level) ls (omega (arith, h)))))
+      ],
+      rw one next,
+    )
+  where
+    below : {b : Bool} → not b ≡ true → b ≡ false
+    below {b = true} e = cc
+    below {b = false} e = refl
 
--- lists of these lengths
-abbrev pub blanks : List ℕ → List (List (Unit {0}))
-blanks [] = []
-blanks (n ∷ ns) = replicate n tt ∷ blanks ns
-
-lengths-blank : (ns : List ℕ) → map length (blanks ns) ≡ ns
-lengths-blank [] = refl
-lengths-blank (n ∷ ns) = ap₂ (λ (m : ℕ) (ms : List ℕ). m ∷ ms) (length-replicate n tt) (lengths-blank ns)
-
--- one list for each length
-pub count-blank : (ns : List ℕ) → length (blanks ns) ≡ length ns
-count-blank ns = sym (length-lengths (blanks ns)) ∙ ap length (lengths-blank ns)
-
--- what is said of the lengths is said of these lists
-pub full_level-blank : (k : ℕ) (ns : List ℕ) → lowest_full k ns ≡ full_level k (blanks ns)
-full_level-blank k ns = ap (lowest_full k) (sym (lengths-blank ns))
-
--- they hold as many items as the lengths say
-pub retained-blank : (ns : List ℕ) → retained (blanks ns) ≡ sum ns
-retained-blank ns = sym (sum-lengths (blanks ns)) ∙ ap sum (lengths-blank ns)
-
-blank-at : (ns : List ℕ) (level : ℕ) → length (first_level (drop level (blanks ns))) ≡ slice_index ns level
-blank-at ns level = sym (length-at (blanks ns) level) ∙ ap (λ (ms : List ℕ). slice_index ms level) (lengths-blank ns)
-
--- the lengths of the levels of this list, with more items in level 0
-abbrev pub counts_with : {A : Type 0} → ℕ → List A → List ℕ → List ℕ
-counts_with more items bounds = put_count more (map length (levels_in items bounds))
-
--- there are as many lengths as levels
-pub length-counts : {A : Type 0} (more : ℕ) (ls : List (List A)) → 0 < length ls → length (put_count more (map length ls)) ≡ length ls
-length-counts more [] h = absurd (omega arith)
-length-counts more (l ∷ ls) h = ap suc (length-lengths ls)
-
--- and their sum has the new items in it
-pub sum-counts : {A : Type 0} (more : ℕ) (ls : List (List A)) → sum (put_count more (map length ls)) ≡ retained ls + more
-sum-counts more [] = refl
-sum-counts more (l ∷ ls) =
-    let s = sum_by-cons (λ (n : ℕ). n) (length l + more) (map length ls) in
-    omega (arith, s, sum-lengths ls)
-
--- the loop that looks for the lowest full level, with more items in level 0, has come to a level, whose items end here
-pub record IsSought {A : Type 0} (k more : ℕ) (items : List A) (bounds : List ℕ) (level end : ℕ) : Type 0 where
-  pub seeks : SeeksFull k (blanks (counts_with more items bounds)) level
-  pub ends : level < length (levels_in items bounds) → end ≡ get_or bounds (suc level) 0 + slice_index (counts_with more items bounds) level
-
-module _ {A : Type 0} (k more : ℕ) (items : List A) (bounds : List ℕ) (f : IsFlat items bounds) (some : 0 < length (levels_in items bounds)) where
-  counted : length (blanks (counts_with more items bounds)) ≡ length (levels_in items bounds)
-  counted = count-blank (counts_with more items bounds) ∙ length-counts more (levels_in items bounds) some
-
-  later : (level : ℕ) → slice_index (counts_with more items bounds) (suc level) ≡ length (first_level (drop (suc level) (levels_in items bounds)))
-  later level = go (levels_in items bounds)
-    where
-      go : (ls : List (List A)) → slice_index (put_count more (map length ls)) (suc level) ≡ length (first_level (drop (suc level) ls))
-      go [] = refl
-      go (l ∷ ls) = length-at ls level
-
-  lowest : slice_index (counts_with more items bounds) 0 ≡ length (first_level (levels_in items bounds)) + more
-  lowest = go (levels_in items bounds)
-    where
-      go : (ls : List (List A)) → slice_index (put_count more (map length ls)) 0 ≡ length (first_level ls) + more
-      go [] = omega arith
-      go (l ∷ ls) = refl
-
-  -- it begins at level 0
-  pub sought_first : (end : ℕ) → end ≡ length items + more → total_of k 8 (length bounds - 1) ≤ length items + more → IsSought k more items bounds 0 end
-  sought_first end e t =
-      let held = length-items items bounds f in
-      let s = length-bounds items bounds f in
-      let all : retained (blanks (counts_with more items bounds)) ≡ retained (levels_in items bounds) + more =
-      retained-blank (counts_with more items bounds) ∙ sum-counts more (levels_in items bounds) in
-      let n : length bounds - 1 ≡ length (blanks (counts_with more items bounds)) = omega (arith, s, counted) in
-      record {
-        seeks = seeks_start k _ (omega (arith, t, all, held, ap (total_of k 8) n));
-        ends = λ h. omega (arith, e, lowest, bound_falls_to items bounds f 0 1 refl, held, bound_at items bounds f 0);
-      }
-
-  -- a level over its capacity is the lowest full one
-  pub sought_found : (level end start : ℕ) → IsSought k more items bounds level end → level < length (levels_in items bounds) → start ≡ get_or bounds (suc level) 0 →
-      capacity_at k 8 (length (levels_in items bounds) - 1 - level) ≤ end - start → lowest_full k (counts_with more items bounds) ≡ level
-  sought_found level end start s h e c =
-      let ns : List ℕ = counts_with more items bounds in
-      let m : length (levels_in items bounds) - 1 - level ≡ length (blanks ns) - 1 - level = omega (arith, counted) in
-      ap (lowest_full k) (sym (lengths-blank ns))
-      ∙ seeks_found k (blanks ns) level (omega (arith, h, counted)) s.seeks (omega (arith, c, e, s.ends h, blank-at ns level, ap (capacity_at k 8) m))
-
-  -- it passes over a level below its capacity
-  pub sought_next : (level end start : ℕ) → IsSought k more items bounds level end → level < length (levels_in items bounds) → start ≡ get_or bounds (suc level) 0 →
-      end - start < capacity_at k 8 (length (levels_in items bounds) - 1 - level) → IsSought k more items bounds (suc level) start
-  sought_next level end start s h e c =
-      let ns : List ℕ = counts_with more items bounds in
-      let m : length (levels_in items bounds) - 1 - level ≡ length (blanks ns) - 1 - level = omega (arith, counted) in
-      record {
-        seeks = seeks_more k (blanks ns) level (omega (arith, h, counted)) s.seeks (omega (arith, c, e, s.ends h, blank-at ns level, ap (capacity_at k 8) m));
-        ends = λ l. omega (arith, e, later level, bound_falls_to items bounds f (suc level) (suc (suc level)) refl);
-      }
-
-  -- it finds a level
-  pub sought_never : (level end : ℕ) → IsSought k more items bounds level end → length (levels_in items bounds) ≤ level → ⊥
-  sought_never level end s l = seeks_never k (blanks (counts_with more items bounds)) level (omega (arith, some, counted)) (omega (arith, l, counted)) s.seeks
-
--- the lengths of the levels after items are put into level 0
-lengths-put : {A : Type 0} (xs : List A) (ls : List (List A)) → map length (put_all xs ls) ≡ put_count (length xs) (map length ls)
-lengths-put xs [] = refl
-lengths-put xs (l ∷ ls) = ap (λ (n : ℕ). n ∷ map length ls) (length-append l xs)
-
--- which level is then the lowest full one
-pub full_level_with : {A : Type 0} (k : ℕ) (xs : List A) (ls : List (List A)) → lowest_full k (put_count (length xs) (map length ls)) ≡ full_level k (put_all xs ls)
-full_level_with k xs ls = ap (lowest_full k) (sym (lengths-put xs ls))
+-- it ends at the lowest full level
+pub seeks_end : {A : Type 0} {k level : ℕ} {ls : List (List A)} → is_full k ls ≡ true → level < length ls → SeeksFull k ls level → passes k ls level ≡ false →
+    level ≡ full_level k ls
+seeks_end {A} {k} {level} {ls} full within s off =
+    sym (seeks_found k ls level within s (leb-true _ _ (reached (sym (passes_is k level ls full) ∙ off))))
+  where
+    reached : {b : Bool} → not b ≡ false → b ≡ true
+    reached {b = true} e = refl
+    reached {b = false} e = cc
 
 -- if the levels are full, there is a lowest full one, which is at or over its capacity
 pub lowest_full_due : (k : ℕ) (lengths : List ℕ) → 0 < length lengths → total_of k 8 (length lengths) ≤ sum lengths →
@@ -233,9 +154,9 @@ full_level_at k ls h t =
     rw (length-lengths ls, length-at ls (full_level k ls)) at due
 
 -- room for an item in full levels is made by a compaction
-pub with_room_full : {A : Type 0} (cmp : A → A → Ordering) (k level : ℕ) (is_sorted coin last : Bool) (ls : List (List A)) →
-    true ≡ is_full k ls → level ≡ full_level k ls → last ≡ needs_sorting is_sorted level → compacted_if_full cmp k is_sorted coin ls ≡ compacted cmp last coin level ls
-with_room_full cmp k level is_sorted coin last ls f e l = rw (← f, l, e) refl
+pub with_room_full : {A : Type 0} (cmp : A → A → Ordering) (k level : ℕ) (is_sorted coin : Bool) (ls : List (List A)) →
+    true ≡ is_full k ls → level ≡ full_level k ls → compacted_if_full cmp k is_sorted coin ls ≡ compacted cmp (needs_sorting is_sorted level) coin level ls
+with_room_full cmp k level is_sorted coin ls f e = rw (← f, e) refl
 
 -- levels that are not full stay as they are
 pub with_room_spare : {A : Type 0} (cmp : A → A → Ordering) (k : ℕ) (is_sorted coin : Bool) (ls : List (List A)) →

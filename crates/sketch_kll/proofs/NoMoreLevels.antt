@@ -1,15 +1,13 @@
 -- A compaction never makes a 62nd level, since a full level 60 would weigh too much.
-use Rattle.std.proofs.Common.{◌≡◌, ℕ, zero, suc, ◌+◌, ◌-◌, ◌*◌, ◌^◌, ◌<◌, ◌≤◌, Bool, false, nat_le, List, [], ◌∷◌, length, map, refl, sym, ap, ◌∙◌, subst, arith, Ordering, leb-false, inl, inr}
+use Rattle.std.proofs.Common.{◌≡◌, ℕ, zero, suc, ◌+◌, ◌-◌, ◌*◌, ◌^◌, ◌<◌, ◌≤◌, Bool, false, nat_le, List, [], ◌∷◌, length, refl, sym, ap, ◌∙◌, subst, arith, Ordering, leb-false, inl, inr}
 use Rattle.std.proofs.Math.Nat.{pow-succ'}
 use Rattle.std.proofs.lemmas.Bool.{cases_Bool, lt-leb, cases_lt, cases_eq}
-use Rattle.std.proofs.lemmas.List.{length-replicate}
 use Rattle.sketch_kll.specs.Capacity.{capacity_at, total_of}
 use Rattle.sketch_kll.specs.Levels.{retained, weight, compacted, SameLevels}
-use Rattle.sketch_kll.specs.Schedule.{lowest_full}
-use Rattle.sketch_kll.specs.Steps.{full_level, is_full, compacted_if_full, needs_sorting, put_count}
+use Rattle.sketch_kll.specs.Steps.{full_level, is_full, compacted_if_full, needs_sorting}
 use Rattle.sketch_kll.proofs.Capacities.{capacity_eight}
 use Rattle.sketch_kll.proofs.CompactedSizes.{compacted_size, alike_size}
-use Rattle.sketch_kll.proofs.FullLevels.{blanks, count-blank, full_level-blank, full_level_at, length-counts, retained-blank, sum-counts, with_room_spare, full_holds, length-lengths, spare_from, spare_holds}
+use Rattle.sketch_kll.proofs.FullLevels.{full_level_at, with_room_spare, full_holds, length-lengths, spare_from, spare_holds}
 
 -- levels weigh much if the top one is the lowest full one: each level below it lacks at least one item
 heavy_top : {A : Type 0} (k extra : ℕ) (ls : List (List A)) → 0 < length ls → total_of k 8 (length ls) + extra ≤ retained ls →
@@ -71,24 +69,6 @@ few_compacted cmp level last coin ls raised ms few h low e alike =
 pub full_level_low : {A : Type 0} (k : ℕ) (ls : List (List A)) → 0 < length ls → length ls ≤ 61 → weight ls < 2 ^ 64 →
     total_of k 8 (length ls) ≤ retained ls → full_level k ls < 60
 full_level_low k ls h few w f = grind (arith, no_more_levels k ls few h w f, (full_level_at k ls h f).0)
-
-weight-blanks : {A : Type 0} (ls : List (List A)) → weight (blanks (map length ls)) ≡ weight ls
-weight-blanks [] = refl
-weight-blanks (l ∷ ls) = omega (arith, length-replicate (length l) (tt {0}), weight-blanks ls)
-
-weight-blank : {A : Type 0} (more : ℕ) (ls : List (List A)) → weight (blanks (put_count more (map length ls))) ≡ weight ls + more
-weight-blank more [] = omega (arith, length-replicate more (tt {0}))
-weight-blank more (l ∷ ls) = omega (arith, length-replicate (length l + more) (tt {0}), weight-blanks ls)
-
--- and so it is with more items in level 0
-pub lowest_full_low : {A : Type 0} (k more : ℕ) (ls : List (List A)) → 0 < length ls → length ls ≤ 61 → weight ls + more < 2 ^ 64 →
-    total_of k 8 (length ls) ≤ retained ls + more → lowest_full k (put_count more (map length ls)) < 60
-lowest_full_low k more ls h few w f =
-    let ns : List ℕ = put_count more (map length ls) in
-    let n : length (blanks ns) ≡ length ls = count-blank ns ∙ length-counts more ls h in
-    let all : retained (blanks ns) ≡ retained ls + more = retained-blank ns ∙ sum-counts more ls in
-    let low = full_level_low k (blanks ns) (omega (arith, n, h)) (omega (arith, n, few)) (omega (arith, weight-blank more ls, w)) (omega (arith, all, f, ap (total_of k 8) n)) in
-    omega (arith, full_level-blank k ns, low)
 
 -- the levels after room was made for one more item
 pub record RoomMade {A : Type 0} (k : ℕ) (ls ms : List (List A)) : Type 0 where

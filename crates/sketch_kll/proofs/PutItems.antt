@@ -1,5 +1,5 @@
 -- Levels after items are appended to level 0.
-use Rattle.std.proofs.Common.{◌≡◌, ℕ, ◌+◌, ◌<◌, List, [], ◌∷◌, ◌++◌, length, set, refl, sym, ap, arith, Ordering, append_assoc, append-nil, length-append}
+use Rattle.std.proofs.Common.{◌≡◌, ℕ, ◌+◌, ◌<◌, List, [], ◌∷◌, ◌++◌, length, set, refl, sym, ap, arith, Ordering, append_assoc, length-append}
 use Rattle.std.specs.Cmp.{IsTotalOrder}
 use Rattle.std.proofs.lemmas.Cmp.{tied_itself}
 use Rattle.sketch_base.proofs.Items.{SameItems-append}
@@ -35,16 +35,6 @@ length-put xs (l ∷ ls) h = refl
 pub UpperSorted-put : {A : Type 0} (cmp : A → A → Ordering) (xs : List A) (ls : List (List A)) → UpperSorted cmp ls → UpperSorted cmp (put_all xs ls)
 UpperSorted-put cmp xs [] u = tt
 UpperSorted-put cmp xs (l ∷ ls) u = u
-
--- putting all items in is putting the first in and then the others
-pub put_all-cons : {A : Type 0} (x : A) (xs : List A) (ls : List (List A)) → put_all (x ∷ xs) ls ≡ put_all xs (put x ls)
-put_all-cons x xs [] = refl
-put_all-cons x xs (l ∷ ls) = ap (λ m. m ∷ ls) (sym (append_assoc l (x ∷ []) xs))
-
--- putting no items in changes nothing
-pub put_all-none : {A : Type 0} (ls : List (List A)) → 0 < length ls → put_all [] ls ≡ ls
-put_all-none [] h = absurd (omega arith)
-put_all-none (l ∷ ls) h = ap (λ m. m ∷ ls) (append-nil l)
 
 -- levels that compare equal still do once the same item is put in
 pub SameLevels-put : {A : Type 0} (cmp : A → A → Ordering) → IsTotalOrder cmp → (x : A) (ls ms : List (List A)) → SameLevels cmp ls ms →

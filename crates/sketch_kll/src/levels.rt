@@ -7,8 +7,7 @@ ghost use Rattle.sketch_kll.specs.Capacity.{capacity_at, total_of};
 ghost use Rattle.sketch_kll.specs.Flat.{levels_in, IsFlat};
 ghost use Rattle.sketch_kll.specs.Levels.{retained, weight as weight_in, first_level, compacted, SameLevels, UpperSorted};
 ghost use Rattle.sketch_kll.specs.Rank.{counted_weight};
-ghost use Rattle.sketch_kll.specs.Schedule.{lowest_full};
-ghost use Rattle.sketch_kll.specs.Steps.{is_full, compacted_if_full, needs_sorting, put, put_count};
+ghost use Rattle.sketch_kll.specs.Steps.{is_full, compacted_if_full, full_level, needs_sorting, put};
 ghost use Rattle.sketch_kll.specs.Stored.{KeepsLevels, KeepsRoom};
 
 mod compress;
@@ -100,27 +99,6 @@ impl<T: Ord + Drop> Levels<T> {
         self.bounds.reserve(1)
     }
 
-    /// Returns whether an item can be added with neither a compaction nor an allocation.
-    #[inline(always)]
-    pub(crate) fn has_place(&self) -> bool
-        ensures room { result ≡ true → retained self.now.levels < self.now.items_room }
-        ensures below { result ≡ true → is_full self.now.k self.now.levels ≡ false }
-    {
-        let len = self.items.len();
-        len < self.items.capacity() && len < self.total_capacity as usize
-    }
-
-    /// Returns how many more items there may be before the levels are at their total capacity.
-    #[inline(always)]
-    fn free(&self) -> usize
-        ensures room { result
-            ≡ total_of self.now.k 8 (length self.now.levels) - retained self.now.levels }
-        ensures some { 0 < length self.now.levels }
-        ensures sorted { UpperSorted T.cmp self.now.levels }
-    {
-        (self.total_capacity as usize).saturating_sub(self.items.len())
-    }
-
     /// Frees memory beyond room for an eighth more items and one more level.
     pub(crate) fn give_back(&mut self)
         ensures kept { KeepsLevels self.old self.new }
@@ -129,15 +107,14 @@ impl<T: Ord + Drop> Levels<T> {
         self.bounds.shrink_to(self.bounds.len() + 1);
     }
 
-    /// Calls `give_back` if there is room for over a quarter and 4 more items, which is more than a
-    /// growing vector takes.
-    pub(crate) fn give_back_much(&mut self)
-        ensures kept { KeepsLevels self.old self.new }
+    /// Returns whether the levels are at or over their total capacity.
+    pub(crate) fn is_full(&self) -> bool
+        ensures value { result ≡ is_full self.now.k self.now.levels }
+        ensures some { 0 < length self.now.levels }
+        ensures few { length self.now.levels ≤ 61 }
+        ensures sorted { UpperSorted T.cmp self.now.levels }
     {
-        let len = self.items.len();
-        if self.items.capacity() - len > len / 4 + 4 {
-            self.give_back();
-        }
+        self.items.len() >= self.total_capacity as usize
     }
 
     /// Compacts one level if the levels are at or over their total capacity.
@@ -156,25 +133,28 @@ impl<T: Ord + Drop> Levels<T> {
         ensures coins { coins.new ≡ (if is_full self.old.k self.old.levels
             then B.next coins.old else coins.old) }
     {
-        if self.free() == 0 {
-            let level = self.level_to_compact(0);
+        if self.is_full() {
+            let level = self.level_to_compact();
             self.compact(level, coins);
         }
     }
 
-    /// Returns the lowest level that is at or over its capacity once `more` items are put into
-    /// level 0. The levels together must then be at or over their total capacity.
-    #[inline(always)]
-    fn level_to_compact(&self, more: usize) -> usize
-        requires full { total_of self.now.k 8 (length self.now.levels)
-            ≤ retained self.now.levels + more }
-        requires light { weight_in self.now.levels + more < 2 ^ 64 }
-        ensures level { result
-            ≡ lowest_full self.now.k (put_count more (map length self.now.levels)) }
+    /// Returns the lowest level that is at or over its capacity. The levels together must be at or
+    /// over their total capacity.
+    fn level_to_compact(&self) -> usize
+        requires full { is_full self.now.k self.now.levels ≡ true }
+        requires some { 0 < length self.now.levels }
+        requires few { length self.now.levels ≤ 61 }
+        requires light { weight_in self.now.levels < 2 ^ 64 }
+        ensures level { result ≡ full_level self.now.k self.now.levels }
         ensures within { result < length self.now.levels }
         ensures few { result < 60 }
     {
-        find_level_to_compact(self.k, &self.items, &self.bounds, more)
+        let mut level = 0;
+        while self.level_passes(level) {
+            level += 1;
+        }
+        level
     }
 
     /// Compacts one level under the next coin. If it is the top one, a level is added above it.
@@ -253,31 +233,6 @@ pub(crate) fn weight_counted<T: Ord>(
         weight = 2 * weight + counted as u64;
     }
     2 * weight + count_all(level_slice(items, bounds, 0), query, criteria) as u64
-}
-
-/// Returns the lowest level that is at or over its capacity once `more` items are put into level 0.
-/// The levels together must then be at or over their total capacity.
-fn find_level_to_compact<T>(k: u16, items: &[T], bounds: &[usize], more: usize) -> usize
-    requires k { 8 ≤ k }
-    requires flat { IsFlat items.now bounds.now }
-    requires some_level { 1 < length bounds.now }
-    requires few_levels { length bounds.now ≤ 62 }
-    requires fits { length items.now + more < 2 ^ 64 }
-    requires full { total_of k 8 (length bounds.now - 1) ≤ length items.now + more }
-    ensures level { result
-        ≡ lowest_full k (put_count more (map length (levels_in items.now bounds.now))) }
-    ensures within { result + 1 < length bounds.now }
-{
-    let num_levels = bounds.len() - 1;
-    let mut end = items.len() + more;
-    for level in 0..num_levels {
-        let start = bounds[level + 1];
-        if is_at_capacity(k, num_levels, level, end - start) {
-            return level;
-        }
-        end = start;
-    }
-    unreachable!()
 }
 
 /// Returns whether a level with `count` items is at or over its capacity. The capacity isn't

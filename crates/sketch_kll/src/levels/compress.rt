@@ -23,12 +23,12 @@ impl<T: Ord + Drop> Levels<T> {
         ensures few { length self.now.levels ≤ 61 }
         ensures sorted { UpperSorted T.cmp self.now.levels }
     {
-        level + 1 < self.bounds.len() && self.items.len() >= self.total_capacity as usize
+        level + 1 < self.bounds.len() && self.is_full()
     }
 
     /// Returns whether general compress leaves a level as it is, given levels at or over their
     /// total capacity.
-    fn level_passes(&self, level: usize) -> bool
+    pub(super) fn level_passes(&self, level: usize) -> bool
         requires full { is_full self.now.k self.now.levels ≡ true }
         requires within { level < length self.now.levels }
         ensures { result ≡ passes self.now.k self.now.levels level }

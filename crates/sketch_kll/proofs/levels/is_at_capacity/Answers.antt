@@ -9,12 +9,3 @@ returns-else-count c =
     let depth = c.args.num_levels - 1 - c.args.level in
     lt-leb 8 c.args.count c.if-count.false
     ∙ sym (lt-leb (capacity_at c.args.k 8 depth) c.args.count (omega (arith, c.if-count.false, capacity_eight c.args.k depth)))
-
-pub level_capacity-requires-clause-levels : goal.level_capacity-requires-clause-levels
-level_capacity-requires-clause-levels c = c.requires.few_levels
-
-pub level_capacity-requires-clause-within : goal.level_capacity-requires-clause-within
-level_capacity-requires-clause-within c = c.requires.within
-
-pub level_capacity-requires-clause-minimum : goal.level_capacity-requires-clause-minimum
-level_capacity-requires-clause-minimum c = c.requires.k

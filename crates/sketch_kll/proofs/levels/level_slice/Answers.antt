@@ -1,4 +1,4 @@
-use Rattle.std.proofs.Common.{◌≡◌, ℕ, suc, ◌+◌, ◌<◌, arith, ap, ◌∙◌, get_or, le_trans}
+use Rattle.std.proofs.Common.{◌≡◌, ℕ, suc, ◌+◌, arith, ap, ◌∙◌, get_or, le_trans}
 use Rattle.std.specs.List.{between}
 use Rattle.sketch_kll.proofs.CompactedPlaces.{rise}
 use Rattle.sketch_kll.proofs.Flats.{level_between}
@@ -6,15 +6,6 @@ use Rattle.sketch_kll.proofs.levels.level_slice.Goals as goal
 
 one_on : (level : ℕ) → level + 1 ≡ suc level
 one_on level = omega arith
-
-there : (level : ℕ) {n : ℕ} → level + 1 < n → level < n
-there level within = omega (arith, within)
-
-pub bounds-bounds-level : goal.bounds-bounds-level
-bounds-bounds-level g c = c.requires.within
-
-pub bounds-bounds-level-2 : goal.bounds-bounds-level-2
-bounds-bounds-level-2 g c = there c.args.level c.requires.within
 
 pub offset_bounds-items-bounds : goal.offset_bounds-items-bounds
 offset_bounds-items-bounds g c =

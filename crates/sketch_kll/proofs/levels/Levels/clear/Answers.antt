@@ -29,6 +29,3 @@ returns g c =
       flag = refl;
       levels = (new_levels c.clear.new.self.items _ c.clear.ensures.items (bounds_are g (past.returns g c).After-fill)).1;
     }
-
-pub total_capacity-self-inside-requires-clause-minimum : goal.total_capacity-self-inside-requires-clause-minimum
-total_capacity-self-inside-requires-clause-minimum g c = c.self.invariant.k_above

@@ -4,7 +4,7 @@ use Rattle.sketch_base.proofs.Items.{SameItems-clones}
 use Rattle.sketch_kll.specs.Flat.{levels_in}
 use Rattle.sketch_kll.specs.Levels.{retained}
 use Rattle.sketch_kll.proofs.Flats.{length-bounds, length-items}
-use Rattle.sketch_kll.proofs.StoredLevels.{stored_still, kept_still}
+use Rattle.sketch_kll.proofs.StoredLevels.{kept_still}
 use Rattle.sketch_kll.proofs.levels.Levels.clone_with_room.Goals as goal
 
 -- there is room for what is kept, and for all bounds
@@ -34,24 +34,6 @@ returns g c =
       spare = IfOk-weaker c.to_vec.result _ _ (λ _ _. spare) c.to_vec.ensures.ok;
     }
 
-pub invariant_of-self : goal.invariant_of-self
-invariant_of-self g c = stored_still c.self.invariant c.reserve_exact.ensures.items refl
-
-pub invariant_of-self-2 : goal.invariant_of-self-2
-invariant_of-self-2 g c = stored_still c.self.invariant c.reserve_exact.ensures.items c.reserve_exact-2.ensures.items
-
-pub invariant_of-self-in_err-reserve_exact-2 : goal.invariant_of-self-in_err-reserve_exact-2
-invariant_of-self-in_err-reserve_exact-2 g c = stored_still c.self.invariant c.reserve_exact.ensures.items c.reserve_exact-2.ensures.items
-
-pub overflow_sub-len : goal.overflow_sub-len
-overflow_sub-len g c =
-    let x = c.self.inside in
-    few_of (length (levels_in x.items.items x.bounds.items)) c.len-2.ensures
-    (x.bounds.ok.0 ∙ length-bounds x.items.items x.bounds.items c.self.invariant.flat) c.self.invariant.few
-
-pub overflow_cast-most : goal.overflow_cast-most
-overflow_cast-most g c = grind arith
-
 pub returns-in_err-reserve_exact : goal.returns-in_err-reserve_exact
 returns-in_err-reserve_exact g c =
     let r = c.from_residual.result in
@@ -74,5 +56,8 @@ returns-in_err-reserve_exact-2 g c =
       spare = IfOk-from_err r _ err;
     }
 
-pub total_capacity-most-requires-clause-minimum : goal.total_capacity-most-requires-clause-minimum
-total_capacity-most-requires-clause-minimum g c = c.self.invariant.k_above
+pub overflow_sub-len : goal.overflow_sub-len
+overflow_sub-len g c =
+    let x = c.self.inside in
+    few_of (length (levels_in x.items.items x.bounds.items)) c.len-2.ensures
+    (x.bounds.ok.0 ∙ length-bounds x.items.items x.bounds.items c.self.invariant.flat) c.self.invariant.few

@@ -118,12 +118,6 @@ has_order g c =
 more_than : {n len now : ℕ} → now ≡ len → n < len → n < now
 more_than is more = omega (arith, is, more)
 
-few_of : {level : ℕ} → level < 60 → level + 2 ≤ 61
-few_of low = omega (arith, low)
-
-most_of : {count len n : ℕ} → count ≤ n → len ≡ n → count ≤ len
-most_of most len = omega (arith, most, len)
-
 some_more : (level : ℕ) {own len : ℕ} → own ≡ len → level + 2 < len → 1 < own
 some_more level own more = omega (arith, own, more)
 
@@ -133,38 +127,6 @@ begins_within at len within = omega (arith, at, len, within)
 ordered_in : {A : Type 0} {cmp : A → A → Ordering} {needs : Bool} {level : ℕ} {items xs xs' : List A} {bounds bounds' : List ℕ} → xs' ≡ xs → bounds' ≡ bounds →
     IsOrdered cmp needs level items xs bounds → IsOrdered cmp needs level items xs' bounds'
 ordered_in e f order = rw (e, f) order
-
-pub index-requires : goal.index-requires
-index-requires g c = some_more c.args.level c.if-level-len.self-inside.bounds.ok.0 (up g (past.index-requires g c).Joined-level-len true true).within
-
-pub order_body-requires : goal.order_body-requires
-order_body-requires g c =
-    let before = (past.order_body-requires g c).Joined-level-len in
-    let items = ap (λ v. v.items) (is_raised g before).items_are in
-    let above = up g before true true in
-    let within = bound_within c.self.inside.items.items c.if-level-len.self-inside.bounds.items above.flat 1 in
-    begins_within (begins_at above c.index.ensures) (ap length items) within
-
-pub compact_level-count-requires-clause-flat : goal.compact_level-count-requires-clause-flat
-compact_level-count-requires-clause-flat g c =
-    let o = has_order g (past.compact_level-count-requires-clause-flat g c).After-random_bit-arg-1 in
-    (ordered_in c.deref_mut.ensures.value (c.deref_mut-2.ensures.value ∙ ap (λ v. v.items) o.bounds_are) o.order).flat
-
-pub compact_level-count-requires-clause-within : goal.compact_level-count-requires-clause-within
-compact_level-count-requires-clause-within g c =
-    let o = has_order g (past.compact_level-count-requires-clause-within g c).After-random_bit-arg-1 in
-    more_than (ap length c.deref_mut-2.ensures.value ∙ ap (λ v. length v.items) o.bounds_are)
-    (up g (past.compact_level-count-requires-clause-within g c).Joined-level-len true true).within
-
-pub compact_level-count-requires-clause-sorted : goal.compact_level-count-requires-clause-sorted
-compact_level-count-requires-clause-sorted g c =
-    let o = has_order g (past.compact_level-count-requires-clause-sorted g c).After-random_bit-arg-1 in
-    (ordered_in c.deref_mut.ensures.value (c.deref_mut-2.ensures.value ∙ ap (λ v. v.items) o.bounds_are) o.order).sorted
-
-pub compact_level-count-requires-clause-body : goal.compact_level-count-requires-clause-body
-compact_level-count-requires-clause-body g c =
-    let o = has_order g (past.compact_level-count-requires-clause-body g c).After-random_bit-arg-1 in
-    (ordered_in c.deref_mut.ensures.value (c.deref_mut-2.ensures.value ∙ ap (λ v. v.items) o.bounds_are) o.order).body
 
 -- the bounds after the compaction
 abbrev shifted_bounds : (g : _) (c : After-truncate g) → List ℕ
@@ -190,13 +152,6 @@ cut_off : {A : Type 0} (count : ℕ) (items old : List A) {cut : List A} {len ke
     length items ≡ lent → cut ≡ take (lent - count) items
 cut_off count items old {kept = kept} made left lent same =
     made ∙ ap₂ (λ n xs. take (n - count) xs) (left ∙ sym lent) (whole_slice items old kept (same ∙ lent))
-
--- what is left of the items
-held_is : (g : _) (c : After-len-2 g) → c.len-2.result ≡ length c.deref_mut.result.now
-held_is g c =
-    let left : c.len-2.result ≡ c.if-needs_sorting.self-inside.items.len = c.len-2.ensures in
-    let lent : length c.deref_mut.result.now ≡ c.if-needs_sorting.self-inside.items.len = c.deref_mut.ensures.len in
-    left ∙ sym lent
 
 cut_is : (g : _) (c : After-truncate g) →
     c.truncate.new.self.items ≡ take (length c.deref_mut.result.now - c.compact_level-count.result) c.compact_level-count.new.items
@@ -224,14 +179,6 @@ left g c raises order bounds =
     (ap (λ (y : Stored g.row.T.Denot). y.levels) c.self.view_is) c.requires.within c.requires.few
     raises order c.deref_mut.ensures.value (c.deref_mut-2.ensures.value ∙ ap (λ v. v.items) bounds)
     (cut_is g c) (bounds_are g c) made.flat made.alike made.sorted
-
-pub invariant_of-self : goal.invariant_of-self
-invariant_of-self g c =
-    let before = past.invariant_of-self g c in
-    let o = has_order g before.After-random_bit-arg-1 in
-    let left = left g before.After-truncate (is_raised g before.Joined-level-len).raises o.order o.bounds_are in
-    subst (λ (k : ℕ). AreStored g.T.Ord.cmp k c.truncate.new.self.items (shifted_bounds g before.After-truncate) c.if-needs_sorting.self-inside.total_capacity)
-    (sym o.k_is) (left.stored _ _ (bounds_len g before.After-truncate o.bounds_are) o.total_is)
 
 cut_room : {own now ordered cut : ℕ} → own ≡ now → ordered ≡ own → cut ≡ ordered → now ≤ cut
 cut_room p q r = omega (arith, p, q, r)
@@ -269,11 +216,42 @@ returns g c =
       coins = c.random_bit-coin.ensures.after;
     }
 
-pub total_capacity-self-inside-requires-clause-levels : goal.total_capacity-self-inside-requires-clause-levels
-total_capacity-self-inside-requires-clause-levels g c = few_of c.requires.few
+pub index-requires : goal.index-requires
+index-requires g c = some_more c.args.level c.if-level-len.self-inside.bounds.ok.0 (up g (past.index-requires g c).Joined-level-len true true).within
 
-pub total_capacity-self-inside-requires-clause-minimum : goal.total_capacity-self-inside-requires-clause-minimum
-total_capacity-self-inside-requires-clause-minimum g c = c.self.invariant.k_above
+pub order_body-requires : goal.order_body-requires
+order_body-requires g c =
+    let before = (past.order_body-requires g c).Joined-level-len in
+    let items = ap (λ v. v.items) (is_raised g before).items_are in
+    let above = up g before true true in
+    let within = bound_within c.self.inside.items.items c.if-level-len.self-inside.bounds.items above.flat 1 in
+    begins_within (begins_at above c.index.ensures) (ap length items) within
 
-pub overflow_sub-len : goal.overflow_sub-len
-overflow_sub-len g c = most_of c.compact_level-count.ensures.at_most (held_is g (past.overflow_sub-len g c).After-len-2)
+pub compact_level-count-requires-clause-flat : goal.compact_level-count-requires-clause-flat
+compact_level-count-requires-clause-flat g c =
+    let o = has_order g (past.compact_level-count-requires-clause-flat g c).After-random_bit-arg-1 in
+    (ordered_in c.deref_mut.ensures.value (c.deref_mut-2.ensures.value ∙ ap (λ v. v.items) o.bounds_are) o.order).flat
+
+pub compact_level-count-requires-clause-within : goal.compact_level-count-requires-clause-within
+compact_level-count-requires-clause-within g c =
+    let o = has_order g (past.compact_level-count-requires-clause-within g c).After-random_bit-arg-1 in
+    more_than (ap length c.deref_mut-2.ensures.value ∙ ap (λ v. length v.items) o.bounds_are)
+    (up g (past.compact_level-count-requires-clause-within g c).Joined-level-len true true).within
+
+pub compact_level-count-requires-clause-sorted : goal.compact_level-count-requires-clause-sorted
+compact_level-count-requires-clause-sorted g c =
+    let o = has_order g (past.compact_level-count-requires-clause-sorted g c).After-random_bit-arg-1 in
+    (ordered_in c.deref_mut.ensures.value (c.deref_mut-2.ensures.value ∙ ap (λ v. v.items) o.bounds_are) o.order).sorted
+
+pub compact_level-count-requires-clause-body : goal.compact_level-count-requires-clause-body
+compact_level-count-requires-clause-body g c =
+    let o = has_order g (past.compact_level-count-requires-clause-body g c).After-random_bit-arg-1 in
+    (ordered_in c.deref_mut.ensures.value (c.deref_mut-2.ensures.value ∙ ap (λ v. v.items) o.bounds_are) o.order).body
+
+pub invariant_of-self : goal.invariant_of-self
+invariant_of-self g c =
+    let before = past.invariant_of-self g c in
+    let o = has_order g before.After-random_bit-arg-1 in
+    let left = left g before.After-truncate (is_raised g before.Joined-level-len).raises o.order o.bounds_are in
+    subst (λ (k : ℕ). AreStored g.T.Ord.cmp k c.truncate.new.self.items (shifted_bounds g before.After-truncate) c.if-needs_sorting.self-inside.total_capacity)
+    (sym o.k_is) (left.stored _ _ (bounds_len g before.After-truncate o.bounds_are) o.total_is)

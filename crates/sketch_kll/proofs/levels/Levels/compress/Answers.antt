@@ -1,8 +1,8 @@
-use Rattle.std.proofs.Common.{◌≡◌, ℕ, Bool, List, Ordering, true, false, cond, ◌+◌, ◌<◌, ◌≤◌, ◌⊎◌, inl, inr, suc, ◌^◌, length, arith, ap, sym, subst, ◌∙◌, refl, IsTrue, subst₂, le_refl, IsSorted}
+use Rattle.std.proofs.Common.{◌≡◌, ℕ, Bool, List, Ordering, true, false, cond, ◌+◌, ◌<◌, ◌≤◌, ◌⊎◌, inl, inr, suc, ◌^◌, length, arith, ap, sym, subst, ◌∙◌, refl, subst₂, le_refl}
 use Rattle.std.proofs.lemmas.Bool.{cases_eq}
 use Rattle.sketch_kll.specs.Capacity.{total_of}
 use Rattle.std.specs.Cmp.{IsTotalOrder}
-use Rattle.sketch_kll.specs.Levels.{retained, compacted, SameLevels, UpperSorted, first_level}
+use Rattle.sketch_kll.specs.Levels.{retained, compacted, SameLevels, UpperSorted}
 use Rattle.sketch_kll.specs.Compress.{passes, stepped, stepped_source}
 use Rattle.sketch_kll.specs.Steps.{needs_sorting}
 use Rattle.sketch_kll.specs.Stored.{KeepsRoom, Stored}
@@ -22,9 +22,6 @@ low_still within few apart = omega (arith, within, few, apart)
 
 top_of : {level n : ℕ} → level < n → level ≡ 60 → n ≤ 61 → n ≡ 61
 top_of within top few = omega (arith, within, top, few)
-
-spare_of : {n before now : ℕ} → n ≤ 61 → before ≤ now → 63 ≤ before → n + 1 < now
-spare_of few more spare = omega (arith, few, more, spare)
 
 pub loop-self-init : goal.loop-self-init
 loop-self-init g c = record {
@@ -51,15 +48,6 @@ compact-requires-clause-few g c =
           (subst (λ (k : ℕ). total_of k 8 (length x.levels) ≤ retained x.levels) i.kept.k_is full) i.weighs i.behind)
       | inr e ↦ low_still within few e
     ]
-
-pub compact-requires-clause-flag : goal.compact-requires-clause-flag
-compact-requires-clause-flag g c = λ told first.
-    let i = c.loop-self.invariant in
-    subst (λ (ls : List (List g.row.T.Denot)). IsSorted g.T.Ord.cmp (first_level ls)) (sym (i.start first))
-    (c.requires.flag (subst (λ (f : Bool). IsTrue f) i.kept.flag_is told))
-
-pub compact-requires-clause-spare : goal.compact-requires-clause-spare
-compact-requires-clause-spare g c = spare_of c.loop-self-test.ensures.few c.loop-self.invariant.kept.bounds_room c.requires.spare
 
 more_room : {before now after : ℕ} → before ≤ now → now ≤ after → before ≤ after
 more_room now after = omega arith
@@ -177,18 +165,3 @@ returns g c =
       few = c.loop-self-test.ensures.few;
       sorted = c.loop-self-test.ensures.sorted;
     }
-
-pub level_passes-requires-clause-within : goal.level_passes-requires-clause-within
-level_passes-requires-clause-within g c = c.loop-self-test.ensures.within refl
-
-pub compact-requires-clause-within : goal.compact-requires-clause-within
-compact-requires-clause-within g c = c.loop-self-test.ensures.within refl
-
-pub loop-self-smaller : goal.loop-self-smaller
-loop-self-smaller g c = grind arith
-
-pub overflow_add-level : goal.overflow_add-level
-overflow_add-level g c = grind arith
-
-pub level_passes-requires-clause-full : goal.level_passes-requires-clause-full
-level_passes-requires-clause-full g c = c.loop-self-test.ensures.full refl

@@ -4,7 +4,7 @@ use Rattle.sketch_kll.specs.Flat.{levels_in}
 use Rattle.sketch_kll.specs.Steps.{is_full}
 use Rattle.sketch_kll.specs.Stored.{Stored}
 use Rattle.sketch_kll.proofs.Flats.{bound_falls_to, length-bounds}
-use Rattle.sketch_kll.proofs.CompressWalks.{passes_is}
+use Rattle.sketch_kll.proofs.FullLevels.{passes_is}
 use Rattle.sketch_kll.specs.Compress.{passes}
 use Rattle.sketch_kll.proofs.levels.Levels.level_passes.Goals as goal
 use Rattle.sketch_kll.proofs.levels.Levels.level_passes.Goals.at as past
@@ -36,18 +36,6 @@ is_at_capacity-requires g c =
       within = omega (arith, within g (past.is_at_capacity-requires g c).After-as_slice-bounds);
     }
 
-pub bounds-bounds-level : goal.bounds-bounds-level
-bounds-bounds-level g c = omega (arith, within g (past.bounds-bounds-level g c).After-as_slice-bounds)
-
-pub bounds-bounds-level-2 : goal.bounds-bounds-level-2
-bounds-bounds-level-2 g c = omega (arith, within g (past.bounds-bounds-level-2 g c).After-as_slice-bounds)
-
-pub overflow_sub-bounds : goal.overflow_sub-bounds
-overflow_sub-bounds g c =
-    subst (λ (bs : List ℕ). get_or bs (c.args.level + 1) 0 ≤ get_or bs c.args.level 0) (sym c.as_slice-bounds.ensures.value)
-    (below_is _ _ (bound_falls_to c.self.inside.items.items c.self.inside.bounds.items c.self.invariant.flat c.args.level (c.args.level + 1)
-    (next_is c.args.level)))
-
 pub returns : goal.returns
 returns g c =
     let x = c.self.inside in
@@ -60,11 +48,14 @@ returns g c =
     ∙ (ap₂ (λ (most n : ℕ). not (nat_le most n)) (ap (capacity_at x.k 8) depth) count
     ∙ (sym p ∙ ap (λ (y : Stored g.row.T.Denot). passes y.k y.levels c.args.level) c.self.view_is))
 
-pub offset_bounds-bounds-level-2 : goal.offset_bounds-bounds-level-2
-offset_bounds-bounds-level-2 g c = grind arith
+pub bounds-bounds-level : goal.bounds-bounds-level
+bounds-bounds-level g c = omega (arith, within g (past.bounds-bounds-level g c).After-as_slice-bounds)
 
-pub overflow_add-level : goal.overflow_add-level
-overflow_add-level g c = grind arith
+pub bounds-bounds-level-2 : goal.bounds-bounds-level-2
+bounds-bounds-level-2 g c = omega (arith, within g (past.bounds-bounds-level-2 g c).After-as_slice-bounds)
 
-pub offset_bounds-bounds-level : goal.offset_bounds-bounds-level
-offset_bounds-bounds-level g c = grind arith
+pub overflow_sub-bounds : goal.overflow_sub-bounds
+overflow_sub-bounds g c =
+    subst (λ (bs : List ℕ). get_or bs (c.args.level + 1) 0 ≤ get_or bs c.args.level 0) (sym c.as_slice-bounds.ensures.value)
+    (below_is _ _ (bound_falls_to c.self.inside.items.items c.self.inside.bounds.items c.self.invariant.flat c.args.level (c.args.level + 1)
+    (next_is c.args.level)))

@@ -6,7 +6,7 @@ use Rattle.sketch_kll.specs.Levels.{retained}
 use Rattle.sketch_kll.specs.Stored.{Stored}
 use Rattle.sketch_kll.proofs.Flats.{bound_within, length-bounds, length-items}
 use Rattle.sketch_kll.proofs.LevelClones.{same_clones, cloned}
-use Rattle.sketch_kll.proofs.StoredLevels.{stored_still, kept_still, clones_told}
+use Rattle.sketch_kll.proofs.StoredLevels.{kept_still, clones_told}
 use Rattle.sketch_kll.proofs.levels.Levels.make_ready.Goals as goal
 
 some_of : {len n : ℕ} → len ≡ n + 1 → 0 < n → 1 < len
@@ -20,15 +20,6 @@ few_of is few = omega (arith, is, few)
 
 within_of : {at from held len own : ℕ} → at ≡ from → from ≤ held → len ≡ own → own ≡ held → at ≤ len
 within_of at within len own = omega (arith, at, within, len, own)
-
-pub reserve_merged-requires-clause-few : goal.reserve_merged-requires-clause-few
-reserve_merged-requires-clause-few g c = few_of (length-bounds c.self.inside.items.items c.self.inside.bounds.items c.self.invariant.flat) c.self.invariant.few
-
-pub reserve_merged-requires-clause-fits : goal.reserve_merged-requires-clause-fits
-reserve_merged-requires-clause-fits g c =
-    let own = c.self.inside.items in
-    let other = c.others.inside.items in
-    omega (arith, own.ok, own.small, other.ok, other.small, c.len-count.ensures)
 
 room_of : {items count now own low room : ℕ} → items + count ≤ room → now ≡ own → items ≡ own → count ≡ low → now + low ≤ room
 room_of room now items low = omega (arith, room, now, items, low)
@@ -46,18 +37,6 @@ parts_of : {A : Type 0} (n : ℕ) (copy : List A) {xs ys : List A} {low upper le
     low + upper ≡ all
 parts_of n copy low xs upper ys len all =
     omega (arith, low, ap length xs, upper, ap length ys, length-append (take n copy) (drop n copy), ap length (take-append-drop n copy), len, all)
-
-pub index-requires : goal.index-requires
-index-requires g c =
-    let x = c.others.inside in
-    some_held x.bounds.ok.0 (length-bounds x.items.items x.bounds.items c.others.invariant.flat) c.others.invariant.some
-
-pub split_off-requires : goal.split_off-requires
-split_off-requires g c =
-    let x = c.others.inside in
-    let flat = c.others.invariant.flat in
-    let from = begins_at x.bounds.items (length-bounds x.items.items x.bounds.items flat) c.others.invariant.some c.index.ensures in
-    within_of from (bound_within x.items.items x.bounds.items flat 1) c.in_ok-upper.ensures.cases.1 x.items.ok.0
 
 pub returns : goal.returns
 returns g c =
@@ -85,12 +64,6 @@ returns g c =
       clones = clones_told _ flat refl (ap (λ (y : Stored g.row.T.Denot). y.levels) c.others.view_is) split.same split.fits;
     }
 
-pub invariant_of-self : goal.invariant_of-self
-invariant_of-self g c = stored_still c.self.invariant c.reserve_merged.ensures.items c.reserve_merged.ensures.bounds
-
-pub invariant_of-self-2 : goal.invariant_of-self-2
-invariant_of-self-2 g c = stored_still c.self.invariant c.reserve_merged.ensures.items c.reserve_merged.ensures.bounds
-
 pub returns-in_err-merged : goal.returns-in_err-merged
 returns-in_err-merged g c =
     let r = c.from_residual-in_err-merged.result in
@@ -101,14 +74,17 @@ returns-in_err-merged g c =
       clones = IfOk-from_err r _ err;
     }
 
-pub returns-in_err-low : goal.returns-in_err-low
-returns-in_err-low g c =
-    let r = c.from_residual-in_err-low.result in
-    let err = c.from_residual-in_err-low.ensures.0 in
-    record { kept = record { k_is = refl; flag_is = refl; levels_are = refl }; ready = IfOk-from_err r _ err; clones = IfOk-from_err r _ err }
+pub reserve_merged-requires-clause-few : goal.reserve_merged-requires-clause-few
+reserve_merged-requires-clause-few g c = few_of (length-bounds c.self.inside.items.items c.self.inside.bounds.items c.self.invariant.flat) c.self.invariant.few
 
-pub returns-in_err-upper : goal.returns-in_err-upper
-returns-in_err-upper g c =
-    let r = c.from_residual.result in
-    let err = c.from_residual.ensures.0 in
-    record { kept = record { k_is = refl; flag_is = refl; levels_are = refl }; ready = IfOk-from_err r _ err; clones = IfOk-from_err r _ err }
+pub index-requires : goal.index-requires
+index-requires g c =
+    let x = c.others.inside in
+    some_held x.bounds.ok.0 (length-bounds x.items.items x.bounds.items c.others.invariant.flat) c.others.invariant.some
+
+pub split_off-requires : goal.split_off-requires
+split_off-requires g c =
+    let x = c.others.inside in
+    let flat = c.others.invariant.flat in
+    let from = begins_at x.bounds.items (length-bounds x.items.items x.bounds.items flat) c.others.invariant.some c.index.ensures in
+    within_of from (bound_within x.items.items x.bounds.items flat 1) c.in_ok-upper.ensures.cases.1 x.items.ok.0

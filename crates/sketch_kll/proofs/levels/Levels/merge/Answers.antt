@@ -1,4 +1,4 @@
-use Rattle.std.proofs.Common.{◌≡◌, ◌∷◌, ◌+◌, ◌*◌, ◌^◌, ◌<◌, ◌≤◌, ℕ, List, Bool, IsTrue, drop, ap, subst, arith, ◌∙◌, subst₂, refl, sym, min}
+use Rattle.std.proofs.Common.{◌≡◌, ◌∷◌, ◌+◌, ◌*◌, ◌^◌, ◌<◌, ◌≤◌, ℕ, List, Bool, IsTrue, drop, ap, subst, arith, ◌∙◌, subst₂, sym}
 use Rattle.sketch_kll.specs.Flat.{levels_in}
 use Rattle.sketch_kll.specs.Join.{joined}
 use Rattle.sketch_kll.specs.Stored.{Stored}
@@ -7,7 +7,6 @@ use Rattle.sketch_kll.proofs.LevelClones.{ClonedRuns, cloned_runs}
 use Rattle.sketch_kll.proofs.Merged.{merged_by_calls, merged_only, joined_size, joined-first}
 use Rattle.sketch_kll.proofs.MergedSketches.{merged_same}
 use Rattle.sketch_kll.specs.Merged.{HaveMerged}
-use Rattle.sketch_kll.proofs.StoredLevels.{stored_still}
 use Rattle.sketch_kll.proofs.levels.Levels.merge.Goals as goal
 use Rattle.sketch_kll.proofs.levels.Levels.merge.Goals.at as past
 use Rattle.sketch_kll.proofs.levels.Levels.merge.Goals.{After-as_slice-other_bounds}
@@ -17,39 +16,6 @@ cloned : (g : _) (c : After-as_slice-other_bounds g) → ClonedRuns g.T.Ord.cmp 
 cloned g c =
     let own = ap (λ (y : Stored g.row.T.Denot). y.levels) c.others.view_is in
     cloned_runs g.met.T.Ord.total c.others.invariant own c.as_slice-other_bounds.ensures.value c.requires.clones
-
-least_room : (most : ℕ) {n room : ℕ} → n ≤ room → min n most ≤ room
-least_room most within = omega (arith, within)
-
-pub take_items-requires-clause-light : goal.take_items-requires-clause-light
-take_items-requires-clause-light g c =
-    let clones = cloned g (past.take_items-requires-clause-light g c).After-as_slice-other_bounds in
-    omega (arith, clones.weighs, c.requires.light)
-
-pub merge_higher_levels-old-requires-clause-upper : goal.merge_higher_levels-old-requires-clause-upper
-merge_higher_levels-old-requires-clause-upper g c = (cloned g (past.merge_higher_levels-old-requires-clause-upper g c).After-as_slice-other_bounds).flat
-
-pub merge_higher_levels-old-requires-clause-upper_sorted : goal.merge_higher_levels-old-requires-clause-upper_sorted
-merge_higher_levels-old-requires-clause-upper_sorted g c =
-    (cloned g (past.merge_higher_levels-old-requires-clause-upper_sorted g c).After-as_slice-other_bounds).sorted
-
-pub merge_higher_levels-old-requires-clause-some : goal.merge_higher_levels-old-requires-clause-some
-merge_higher_levels-old-requires-clause-some g c = (cloned g (past.merge_higher_levels-old-requires-clause-some g c).After-as_slice-other_bounds).some
-
-pub merge_higher_levels-old-requires-clause-few : goal.merge_higher_levels-old-requires-clause-few
-merge_higher_levels-old-requires-clause-few g c = (cloned g (past.merge_higher_levels-old-requires-clause-few g c).After-as_slice-other_bounds).few
-
-pub merge_higher_levels-old-requires-clause-empty : goal.merge_higher_levels-old-requires-clause-empty
-merge_higher_levels-old-requires-clause-empty g c = c.requires.ready.merged_empty
-
-room_of : (low upper old : ℕ) {now room : ℕ} → now ≤ old + low → old + low + upper ≤ room → now + upper ≤ room
-room_of low upper old len room = omega arith
-
-pub merge_higher_levels-old-requires-clause-room : goal.merge_higher_levels-old-requires-clause-room
-merge_higher_levels-old-requires-clause-room g c = room_of _ _ _ c.take_items.ensures.len c.requires.ready.merged_room
-
-pub merge_higher_levels-old-requires-clause-spare : goal.merge_higher_levels-old-requires-clause-spare
-merge_higher_levels-old-requires-clause-spare g c = c.take_items.ensures.spare
 
 few_of : (levels : ℕ) {runs : ℕ} → levels + 2 ≡ runs → runs ≤ 62 → levels ≤ 60
 few_of levels are few = omega arith
@@ -61,32 +27,18 @@ light_of low upper old p q r light = omega arith
 pub compress-requires-clause-light : goal.compress-requires-clause-light
 compress-requires-clause-light g c =
     let clones = cloned g (past.compress-requires-clause-light g c).After-as_slice-other_bounds in
-    let taken = c.take_items.ensures.taken in
+    let taken = c.take_all.ensures.taken in
     let upper : List (List g.row.T.Denot) = levels_in c.args.parts.upper.items (drop 1 c.as_slice-other_bounds.result.now) in
-    let sizes = joined_size g.T.Ord.cmp c.take_items.new.self.levels upper c.merge_higher_levels-old.new.self.levels taken.kept.some taken.kept.few
+    let sizes = joined_size g.T.Ord.cmp c.take_all.new.self.levels upper c.merge_higher_levels-old.new.self.levels taken.kept.some taken.kept.few
     (few_of _ clones.upper_are clones.few)
     c.merge_higher_levels-old.ensures.levels in
     light_of _ _ _ sizes.weighs taken.weighs clones.weighs c.requires.light
-
-pub compress-requires-clause-flag : goal.compress-requires-clause-flag
-compress-requires-clause-flag g c =
-    let higher = c.merge_higher_levels-old.ensures in
-    let levels = c.take_items.new.self.levels in
-    let upper : List (List g.row.T.Denot) = levels_in c.args.parts.upper.items (drop 1 c.as_slice-other_bounds.result.now) in
-    λ h. first-same g.T.Ord.cmp g.met.T.Ord.total (joined g.T.Ord.cmp levels upper) c.merge_higher_levels-old.new.self.levels higher.levels
-    (joined-first g.T.Ord.cmp g.met.T.Ord.total levels upper (c.take_items.ensures.taken.kept.flag_holds (subst (λ (f : Bool). IsTrue f) higher.flag h)))
-
-pub compress-requires-clause-spare : goal.compress-requires-clause-spare
-compress-requires-clause-spare g c = c.merge_higher_levels-old.ensures.spare
 
 some_upper : {levels runs : ℕ} → levels + 2 ≡ runs → 2 < runs → 0 < levels
 some_upper are more = omega (arith, are, more)
 
 none_upper : {levels runs : ℕ} → levels + 2 ≡ runs → 2 ≤ runs → runs ≤ 2 → levels ≡ 0
 none_upper are some few = omega (arith, are, some, few)
-
-pub invariant_of-self : goal.invariant_of-self
-invariant_of-self g c = stored_still c.self.invariant c.move_if_loose.ensures.items refl
 
 pub returns : goal.returns
 returns g c =
@@ -97,7 +49,7 @@ returns g c =
     let levels_are = ap (λ (xs : List g.row.T.Denot). levels_in xs c.self.inside.bounds.items) c.move_if_loose.ensures.items
     ∙ ap (λ (y : Stored g.row.T.Denot). y.levels) seen in
     record {
-      k = c.give_back-2.ensures.kept.k_is ∙ (ap (λ (y : Stored g.row.T.Denot). y.k) seen ∙ (made.kept.k_is ∙ (c.merge_higher_levels-old.ensures.k ∙ c.take_items.ensures.k)));
+      k = c.give_back-2.ensures.kept.k_is ∙ (ap (λ (y : Stored g.row.T.Denot). y.k) seen ∙ (made.kept.k_is ∙ (c.merge_higher_levels-old.ensures.k ∙ c.take_all.ensures.k)));
       merged = subst₂ (λ (f : Bool) (ms : List (List g.row.T.Denot)).
           HaveMerged g.T.Ord.cmp g.B.RandomBits.bit g.B.RandomBits.next c.args.coins.now c.compress.new.coins c.args.self.now.k c.args.self.now.is_sorted f
           c.args.self.now.levels c.args.others.now.levels ms)
@@ -106,12 +58,12 @@ returns g c =
           (merged_same g.met.T.Ord.total g.B.RandomBits.bit g.B.RandomBits.next c.args.coins.now c.compress.new.coins c.args.self.now.k
           c.args.self.now.is_sorted c.compress.new.self.is_sorted c.args.self.now.levels c.args.others.now.levels (c.args.parts.low.items ∷ upper)
           c.compress.new.self.levels c.requires.kept.some clones.same
-          (merged_by_calls g.T.Ord.cmp g.met.T.Ord.total g.B.RandomBits.bit g.B.RandomBits.next c.args.coins.now c.take_items.new.coins c.compress.new.coins
-          c.args.self.now.k c.merge_higher_levels-old.new.self.k c.args.self.now.is_sorted c.take_items.new.self.is_sorted
+          (merged_by_calls g.T.Ord.cmp g.met.T.Ord.total g.B.RandomBits.bit g.B.RandomBits.next c.args.coins.now c.take_all.new.coins c.compress.new.coins
+          c.args.self.now.k c.merge_higher_levels-old.new.self.k c.args.self.now.is_sorted c.take_all.new.self.is_sorted
           c.merge_higher_levels-old.new.self.is_sorted c.compress.new.self.is_sorted c.args.self.now.levels c.args.parts.low.items upper
-          c.take_items.new.self.levels c.merge_higher_levels-old.new.self.levels c.compress.new.self.levels
-          (c.merge_higher_levels-old.ensures.k ∙ c.take_items.ensures.k) c.merge_higher_levels-old.ensures.flag made.kept.flag_is
-          c.take_items.ensures.taken c.merge_higher_levels-old.ensures.levels c.requires.kept.some
+          c.take_all.new.self.levels c.merge_higher_levels-old.new.self.levels c.compress.new.self.levels
+          (c.merge_higher_levels-old.ensures.k ∙ c.take_all.ensures.k) c.merge_higher_levels-old.ensures.flag made.kept.flag_is
+          c.take_all.ensures.taken c.merge_higher_levels-old.ensures.levels c.requires.kept.some
           (some_upper clones.upper_are c.if-other_bounds-le2.false)
           made.levels made.bag made.coins made.few made.below made.sorted));
     }
@@ -121,24 +73,30 @@ returns-then-other_bounds-le2 g c =
     let clones = cloned g (past.returns-then-other_bounds-le2 g c).After-as_slice-other_bounds in
     let upper : List (List g.row.T.Denot) = levels_in c.args.parts.upper.items (drop 1 c.as_slice-other_bounds.result.now) in
     record {
-      k = c.give_back.ensures.kept.k_is ∙ c.take_items.ensures.k;
+      k = c.give_back.ensures.kept.k_is ∙ c.take_all.ensures.k;
       merged = subst₂ (λ (f : Bool) (ms : List (List g.row.T.Denot)).
-          HaveMerged g.T.Ord.cmp g.B.RandomBits.bit g.B.RandomBits.next c.args.coins.now c.take_items.new.coins c.args.self.now.k c.args.self.now.is_sorted f
+          HaveMerged g.T.Ord.cmp g.B.RandomBits.bit g.B.RandomBits.next c.args.coins.now c.take_all.new.coins c.args.self.now.k c.args.self.now.is_sorted f
           c.args.self.now.levels c.args.others.now.levels ms)
           (sym c.give_back.ensures.kept.flag_is) (sym c.give_back.ensures.kept.levels_are)
-          (merged_same g.met.T.Ord.total g.B.RandomBits.bit g.B.RandomBits.next c.args.coins.now c.take_items.new.coins c.args.self.now.k
-          c.args.self.now.is_sorted c.take_items.new.self.is_sorted c.args.self.now.levels c.args.others.now.levels (c.args.parts.low.items ∷ upper)
-          c.take_items.new.self.levels c.requires.kept.some clones.same
-          (merged_only g.T.Ord.cmp g.met.T.Ord.total g.B.RandomBits.bit g.B.RandomBits.next c.args.coins.now c.take_items.new.coins c.args.self.now.k
-          c.args.self.now.is_sorted c.take_items.new.self.is_sorted c.args.self.now.levels c.args.parts.low.items upper c.take_items.new.self.levels
-          c.take_items.ensures.taken (none_upper clones.upper_are clones.some c.if-other_bounds-le2.true)));
+          (merged_same g.met.T.Ord.total g.B.RandomBits.bit g.B.RandomBits.next c.args.coins.now c.take_all.new.coins c.args.self.now.k
+          c.args.self.now.is_sorted c.take_all.new.self.is_sorted c.args.self.now.levels c.args.others.now.levels (c.args.parts.low.items ∷ upper)
+          c.take_all.new.self.levels c.requires.kept.some clones.same
+          (merged_only g.T.Ord.cmp g.met.T.Ord.total g.B.RandomBits.bit g.B.RandomBits.next c.args.coins.now c.take_all.new.coins c.args.self.now.k
+          c.args.self.now.is_sorted c.take_all.new.self.is_sorted c.args.self.now.levels c.args.parts.low.items upper c.take_all.new.self.levels
+          c.take_all.ensures.taken (none_upper clones.upper_are clones.some c.if-other_bounds-le2.true)));
     }
 
-pub take_items-requires-clause-room : goal.take_items-requires-clause-room
-take_items-requires-clause-room g c = least_room _ c.requires.ready.items_room
+pub merge_higher_levels-old-requires-clause-upper_sorted : goal.merge_higher_levels-old-requires-clause-upper_sorted
+merge_higher_levels-old-requires-clause-upper_sorted g c =
+    (cloned g (past.merge_higher_levels-old-requires-clause-upper_sorted g c).After-as_slice-other_bounds).sorted
 
-pub take_items-requires-clause-spare : goal.take_items-requires-clause-spare
-take_items-requires-clause-spare g c = c.requires.ready.bounds_room
+pub merge_higher_levels-old-requires-clause-few : goal.merge_higher_levels-old-requires-clause-few
+merge_higher_levels-old-requires-clause-few g c = (cloned g (past.merge_higher_levels-old-requires-clause-few g c).After-as_slice-other_bounds).few
 
-pub take_items-requires-clause-kept : goal.take_items-requires-clause-kept
-take_items-requires-clause-kept g c = c.requires.kept
+pub compress-requires-clause-flag : goal.compress-requires-clause-flag
+compress-requires-clause-flag g c =
+    let higher = c.merge_higher_levels-old.ensures in
+    let levels = c.take_all.new.self.levels in
+    let upper : List (List g.row.T.Denot) = levels_in c.args.parts.upper.items (drop 1 c.as_slice-other_bounds.result.now) in
+    λ h. first-same g.T.Ord.cmp g.met.T.Ord.total (joined g.T.Ord.cmp levels upper) c.merge_higher_levels-old.new.self.levels higher.levels
+    (joined-first g.T.Ord.cmp g.met.T.Ord.total levels upper (c.take_all.ensures.taken.kept.flag_holds (subst (λ (f : Bool). IsTrue f) higher.flag h)))

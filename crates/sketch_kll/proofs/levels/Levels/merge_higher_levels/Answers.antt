@@ -15,9 +15,6 @@ use Rattle.sketch_kll.proofs.levels.Levels.merge_higher_levels.Goals.at as past
 spare_of : {now own room : ℕ} → now ≡ own → own ≡ room → 63 ≤ room → 63 ≤ now
 spare_of now own room = omega (arith, now, own, room)
 
-fit_of : {others room own : ℕ} → others ≤ 62 → own ≡ room → 63 ≤ room → others ≤ own
-fit_of few own room = omega (arith, few, own, room)
-
 none_more : {A : Type 0} (n : ℕ) (xs : List A) (x : A) {ys : List A} → ys ≡ xs → n ≤ length xs → ys ≡ xs ++ replicate (n - length xs) x
 none_more n xs x same enough = same ∙ (sym (append-nil xs) ∙ ap (λ (m : ℕ). xs ++ replicate m x) (sym (no_more n enough)))
   where
@@ -90,48 +87,8 @@ stored_in_the_end g c more same total =
     back.flat back.levels back.sorted c.reverse.ensures.items (whole ∙ added) (length wide.items)
     (sym wide.ok.0 ∙ sym (ap length whole ∙ long)) total
 
-pub merge_runs_back-requires-clause-flat : goal.merge_runs_back-requires-clause-flat
-merge_runs_back-requires-clause-flat g c =
-    let w = is_wide g (past.merge_runs_back-requires-clause-flat g c).Joined-len-others in
-    let wide = prepared c.args.others.now c.self.invariant c.requires.upper c.requires.some c.requires.few (c.deref.ensures.value ∙ w.bounds)
-    (ap (λ v. v.items) (c.take_away-items.ensures.taken ∙ w.items_are)) in
-    wide.fits
-
-pub merge_runs_back-requires-clause-sorted : goal.merge_runs_back-requires-clause-sorted
-merge_runs_back-requires-clause-sorted g c =
-    let w = is_wide g (past.merge_runs_back-requires-clause-sorted g c).Joined-len-others in
-    let wide = prepared c.args.others.now c.self.invariant c.requires.upper c.requires.some c.requires.few (c.deref.ensures.value ∙ w.bounds)
-    (ap (λ v. v.items) (c.take_away-items.ensures.taken ∙ w.items_are)) in
-    wide.sorted
-
-pub merge_runs_back-requires-clause-upper : goal.merge_runs_back-requires-clause-upper
-merge_runs_back-requires-clause-upper g c = c.requires.upper
-
-pub merge_runs_back-requires-clause-upper_sorted : goal.merge_runs_back-requires-clause-upper_sorted
-merge_runs_back-requires-clause-upper_sorted g c = c.requires.upper_sorted
-
-pub merge_runs_back-requires-clause-some : goal.merge_runs_back-requires-clause-some
-merge_runs_back-requires-clause-some g c = c.requires.some
-
-pub merge_runs_back-requires-clause-fewer : goal.merge_runs_back-requires-clause-fewer
-merge_runs_back-requires-clause-fewer g c =
-    let w = is_wide g (past.merge_runs_back-requires-clause-fewer g c).Joined-len-others in
-    let wide = prepared c.args.others.now c.self.invariant c.requires.upper c.requires.some c.requires.few (c.deref.ensures.value ∙ w.bounds)
-    (ap (λ v. v.items) (c.take_away-items.ensures.taken ∙ w.items_are)) in
-    wide.fewer
-
-pub merge_runs_back-requires-clause-empty : goal.merge_runs_back-requires-clause-empty
-merge_runs_back-requires-clause-empty g c = c.requires.empty
-
 room_of : (u : ℕ) {v w l r room : ℕ} → v ≡ w → w ≡ l → l ≡ r → r + u ≤ room → v + u ≤ room
 room_of u p q r room = omega arith
-
-pub merge_runs_back-requires-clause-room : goal.merge_runs_back-requires-clause-room
-merge_runs_back-requires-clause-room g c =
-    let x = c.self.inside in
-    let w = is_wide g (past.merge_runs_back-requires-clause-room g c).Joined-len-others in
-    room_of _ (ap (λ v. vec_len v) (c.take_away-items.ensures.taken ∙ w.items_are)) x.items.ok.0
-    (length-items x.items.items x.bounds.items c.self.invariant.flat ∙ ap (λ (y : Stored g.row.T.Denot). retained y.levels) c.self.view_is) c.requires.room
 
 fits_of : {both items upper held len room : ℕ} → both ≤ items + upper → items ≡ held → len ≡ upper → held + len ≤ room → room < 2 ^ 63 → both < 2 ^ 64
 fits_of both held len room small = omega arith
@@ -149,23 +106,6 @@ add_bounds-requires g c =
       fits = λ j above. fits_of (within.1 j above) held c.args.upper.ok.0 c.requires.room c.args.merged.small;
     }
 
-few_of : {n : ℕ} → n ≤ 62 → n - 1 ≤ 61
-few_of few = omega (arith, few)
-
-pub total_capacity-self-inside-requires-clause-levels : goal.total_capacity-self-inside-requires-clause-levels
-total_capacity-self-inside-requires-clause-levels g c = few_of c.requires.few
-
-pub total_capacity-self-inside-requires-clause-minimum : goal.total_capacity-self-inside-requires-clause-minimum
-total_capacity-self-inside-requires-clause-minimum g c = c.self.invariant.k_above
-
-pub invariant_of-self : goal.invariant_of-self
-invariant_of-self g c =
-    let w = is_wide g (past.invariant_of-self g c).Joined-len-others in
-    let wide = c.if-len-others.self-inside.bounds in
-    subst (λ (k : ℕ). AreStored g.T.Ord.cmp k c.reverse.new.self.items
-    (take wide.len (c.add_bounds.new.bounds ++ drop (length c.add_bounds.new.bounds) wide.items)) c.if-len-others.self-inside.total_capacity)
-    (sym w.k_is) (stored_in_the_end g (past.invariant_of-self g c).After-drop-upper w.bounds w.items_are w.total_is).stored
-
 pub returns : goal.returns
 returns g c =
     let w = is_wide g (past.returns g c).Joined-len-others in
@@ -180,11 +120,31 @@ returns g c =
       spare = spare_of w.room (ap (λ (y : Stored g.row.T.Denot). y.bounds_room) c.self.view_is) c.requires.spare;
     }
 
-pub add_levels-requires : goal.add_levels-requires
-add_levels-requires g c = record { spare = fit_of c.requires.few (ap (λ (y : Stored g.row.T.Denot). y.bounds_room) c.self.view_is) c.requires.spare }
+pub merge_runs_back-requires-clause-flat : goal.merge_runs_back-requires-clause-flat
+merge_runs_back-requires-clause-flat g c =
+    let w = is_wide g (past.merge_runs_back-requires-clause-flat g c).Joined-len-others in
+    let wide = prepared c.args.others.now c.self.invariant c.requires.upper c.requires.some c.requires.few (c.deref.ensures.value ∙ w.bounds)
+    (ap (λ v. v.items) (c.take_away-items.ensures.taken ∙ w.items_are)) in
+    wide.fits
 
-some_of : {n : ℕ} → 2 ≤ n → 1 ≤ n
-some_of some = omega (arith, some)
+pub merge_runs_back-requires-clause-sorted : goal.merge_runs_back-requires-clause-sorted
+merge_runs_back-requires-clause-sorted g c =
+    let w = is_wide g (past.merge_runs_back-requires-clause-sorted g c).Joined-len-others in
+    let wide = prepared c.args.others.now c.self.invariant c.requires.upper c.requires.some c.requires.few (c.deref.ensures.value ∙ w.bounds)
+    (ap (λ v. v.items) (c.take_away-items.ensures.taken ∙ w.items_are)) in
+    wide.sorted
 
-pub overflow_sub-others : goal.overflow_sub-others
-overflow_sub-others g c = some_of c.requires.some
+pub merge_runs_back-requires-clause-room : goal.merge_runs_back-requires-clause-room
+merge_runs_back-requires-clause-room g c =
+    let x = c.self.inside in
+    let w = is_wide g (past.merge_runs_back-requires-clause-room g c).Joined-len-others in
+    room_of _ (ap (λ v. vec_len v) (c.take_away-items.ensures.taken ∙ w.items_are)) x.items.ok.0
+    (length-items x.items.items x.bounds.items c.self.invariant.flat ∙ ap (λ (y : Stored g.row.T.Denot). retained y.levels) c.self.view_is) c.requires.room
+
+pub invariant_of-self : goal.invariant_of-self
+invariant_of-self g c =
+    let w = is_wide g (past.invariant_of-self g c).Joined-len-others in
+    let wide = c.if-len-others.self-inside.bounds in
+    subst (λ (k : ℕ). AreStored g.T.Ord.cmp k c.reverse.new.self.items
+    (take wide.len (c.add_bounds.new.bounds ++ drop (length c.add_bounds.new.bounds) wide.items)) c.if-len-others.self-inside.total_capacity)
+    (sym w.k_is) (stored_in_the_end g (past.invariant_of-self g c).After-drop-upper w.bounds w.items_are w.total_is).stored

@@ -1,5 +1,4 @@
 use Rattle.sketch_kll.proofs.StoredLevels.{empty_stored, new_levels}
-use Rattle.std.proofs.lemmas.Result.{IfOk-from_err}
 use Rattle.std.proofs.Common.{refl}
 use Rattle.sketch_kll.proofs.levels.Levels.new.Goals as goal
 
@@ -9,12 +8,3 @@ invariant_of-result g c = empty_stored g.T.Ord.cmp c.args.k _ _ _ c.requires.k c
 pub returns : goal.returns
 returns g c =
     record { k = refl; flag = refl; levels = (new_levels c.new.result.items c.in_ok-bounds.bounds.items c.new.ensures.items c.in_ok-bounds.ensures.items).1 }
-
-pub returns-in_err-bounds : goal.returns-in_err-bounds
-returns-in_err-bounds g c =
-    let r = c.from_residual.result in
-    let err = c.from_residual.ensures.0 in
-    record { k = IfOk-from_err r _ err; flag = IfOk-from_err r _ err; levels = IfOk-from_err r _ err }
-
-pub total_capacity-requires-clause-minimum : goal.total_capacity-requires-clause-minimum
-total_capacity-requires-clause-minimum g c = c.requires.k

@@ -1,5 +1,4 @@
 use Rattle.std.proofs.Common.{◌≡◌, ◌+◌, ◌∙◌, length, get_or, inl, inr, arith, length-set}
-use Rattle.std.proofs.lemmas.Grind.{common_steps}
 use Rattle.std.proofs.lemmas.Bool.{cases_lt}
 use Rattle.std.proofs.lemmas.List.{get_or_past}
 use Rattle.sketch_kll.proofs.JoinedLevels.{joined_bounds_is}
@@ -16,12 +15,3 @@ returns c =
       | inr p ↦ omega (arith, i.rest j p, get_or_past c.args.other_bounds.now j 0 (omega (arith, p)))
     ] in
     each)
-
-pub bounds-bounds-level-in-loop-level : goal.bounds-bounds-level-in-loop-level
-bounds-bounds-level-in-loop-level c = grind (arith, common_steps)
-
-pub bounds-bounds-level : goal.bounds-bounds-level
-bounds-bounds-level c = grind (arith, common_steps)
-
-pub overflow_add-bounds-in-loop-level : goal.overflow_add-bounds-in-loop-level
-overflow_add-bounds-in-loop-level c = grind arith

@@ -32,14 +32,8 @@ fewer_levels l u n m runs fewer some = omega (arith, n, m, runs, fewer, some)
 all_joined : (u : ℕ) {m runs level : ℕ} → m ≡ u + 1 → m ≡ runs - 1 → runs - 1 ≤ level → 2 ≤ runs → u ≤ level - 1
 all_joined u m runs end some = omega (arith, m, runs, end, some)
 
-one_there : {runs : ℕ} → 2 ≤ runs → 1 ≤ runs
-one_there some = omega (arith, some)
-
 there : {level runs n : ℕ} → level < runs - 1 → runs ≤ n → level < n
 there lt fewer = omega (arith, lt, fewer)
-
-next_there : {level runs n : ℕ} → level < runs - 1 → runs ≤ n → level + 1 < n
-next_there lt fewer = omega (arith, lt, fewer)
 
 -- what is left to join after the items of a level are moved
 joining : (g : _) (c : After-move_back g) →
@@ -85,47 +79,6 @@ loop-level-init g c =
       joining = joining_start g.met.T.Ord.total (some_levels _ n c.requires.fewer c.requires.some) r.rest (sym c.requires.upper.items_are)
           (reverse_back c.args.merged.now.items first ∙ ap₂ (λ (x y : List g.row.T.Denot). x ++ y) r.run (ap reverse c.requires.empty));
     }
-
-room_of : (to left keep upper own up : ℕ) {vto vleft vown vup room room1 : ℕ} → to + left + upper ≡ own + up → vto ≡ to → vleft ≡ left → vown ≡ own →
-    vup ≡ up → vown + vup ≤ room → room1 ≡ room → vto + (vleft - keep) ≤ room1
-room_of to left keep upper own up count v w y z room same = omega (arith, count, v, w, y, z, room, same)
-
-room_for : (to left upper keep upper_keep own up to0 left0 : ℕ) {vto vleft vupper vown vup room room0 room1 : ℕ} → to + left ≡ to0 + left0 →
-    to0 + left0 + upper ≡ own + up → vto ≡ to → vleft ≡ left → vupper ≡ upper → vown ≡ own → vup ≡ up → vown + vup ≤ room → room0 ≡ room → room1 ≡ room0 →
-    vto + (vleft - keep) + (vupper - upper_keep) ≤ room1
-room_for to left upper keep upper_keep own up to0 left0 moved count v w x y z room same still =
-    omega (arith, moved, count, v, w, x, y, z, room, same, still)
-
-pub move_back-requires-clause-within : goal.move_back-requires-clause-within
-move_back-requires-clause-within g c = c.loop-level.invariant.below
-
-pub move_back-requires-clause-room : goal.move_back-requires-clause-room
-move_back-requires-clause-room g c =
-    room_of _ _ _ _ _ _ c.loop-level.invariant.count c.loop-level.merged.ok.0 c.loop-level.items.ok.0 c.args.items.now.ok.0 c.args.upper.now.ok.0 c.requires.room
-    c.loop-level.invariant.capacity
-
-pub move_back-requires-2-clause-room : goal.move_back-requires-2-clause-room
-move_back-requires-2-clause-room g c =
-    room_of _ _ _ _ _ _ c.loop-level.invariant.count c.loop-level.merged.ok.0 c.loop-level.items.ok.0 c.args.items.now.ok.0 c.args.upper.now.ok.0 c.requires.room
-    c.loop-level.invariant.capacity
-
-pub merge_from_back-requires-clause-left : goal.merge_from_back-requires-clause-left
-merge_from_back-requires-clause-left g c = (runs g (past.merge_from_back-requires-clause-left g c).After-move_back).left_at.within
-
-pub merge_from_back-requires-clause-right : goal.merge_from_back-requires-clause-right
-merge_from_back-requires-clause-right g c = (runs g (past.merge_from_back-requires-clause-right g c).After-move_back).right_at.within
-
-pub merge_from_back-requires-clause-left_sorted : goal.merge_from_back-requires-clause-left_sorted
-merge_from_back-requires-clause-left_sorted g c = (runs g (past.merge_from_back-requires-clause-left_sorted g c).After-move_back).left_sorted
-
-pub merge_from_back-requires-clause-right_sorted : goal.merge_from_back-requires-clause-right_sorted
-merge_from_back-requires-clause-right_sorted g c = (runs g (past.merge_from_back-requires-clause-right_sorted g c).After-move_back).right_sorted
-
-pub merge_from_back-requires-clause-room : goal.merge_from_back-requires-clause-room
-merge_from_back-requires-clause-room g c =
-    room_for _ _ _ _ _ _ _ _ _ (counted g (past.merge_from_back-requires-clause-room g c).After-move_back) c.loop-level.invariant.count
-    c.move_back.new.to.ok.0 c.move_back.new.from.ok.0 c.loop-level.upper.ok.0 c.args.items.now.ok.0 c.args.upper.now.ok.0 c.requires.room
-    c.loop-level.invariant.capacity c.move_back.ensures.to_capacity
 
 lower_of : (ls : ℕ) {level runs bounds : ℕ} → level < runs - 1 → bounds ≡ ls + 1 → runs ≤ bounds → 1 ≤ level → suc (level - 1) < ls
 lower_of ls lt n fewer some = omega (arith, lt, n, fewer, some)
@@ -192,26 +145,14 @@ returns g c =
     (last_moved (get_or c.args.bounds.now c.loop-level.level 0) c.loop-level.items.items c.loop-level.merged.items c.move_back-2.ensures.to) i.joining in
     record { flat = r.fits; levels = r.same; sorted = r.sorted }
 
-pub overflow_sub-level-end : goal.overflow_sub-level-end
-overflow_sub-level-end g c = one_there c.requires.some
+pub merge_from_back-requires-clause-left : goal.merge_from_back-requires-clause-left
+merge_from_back-requires-clause-left g c = (runs g (past.merge_from_back-requires-clause-left g c).After-move_back).left_at.within
 
-pub bounds-bounds-level : goal.bounds-bounds-level
-bounds-bounds-level g c = there c.loop-level-test.true c.requires.fewer
+pub merge_from_back-requires-clause-right : goal.merge_from_back-requires-clause-right
+merge_from_back-requires-clause-right g c = (runs g (past.merge_from_back-requires-clause-right g c).After-move_back).right_at.within
 
-pub bounds-bounds-level-in-loop-level : goal.bounds-bounds-level-in-loop-level
-bounds-bounds-level-in-loop-level g c = next_there c.loop-level-test.true c.requires.fewer
+pub merge_from_back-requires-clause-left_sorted : goal.merge_from_back-requires-clause-left_sorted
+merge_from_back-requires-clause-left_sorted g c = (runs g (past.merge_from_back-requires-clause-left_sorted g c).After-move_back).left_sorted
 
-pub bounds-other_bounds-level : goal.bounds-other_bounds-level
-bounds-other_bounds-level g c = next_there c.loop-level-test.true (le_refl _)
-
-pub overflow_add-level : goal.overflow_add-level
-overflow_add-level g c = grind arith
-
-pub overflow_add-keep : goal.overflow_add-keep
-overflow_add-keep g c = grind arith
-
-pub offset_bounds-bounds-level-in-loop-level : goal.offset_bounds-bounds-level-in-loop-level
-offset_bounds-bounds-level-in-loop-level g c = grind arith
-
-pub offset_bounds-other_bounds-level : goal.offset_bounds-other_bounds-level
-offset_bounds-other_bounds-level g c = grind arith
+pub merge_from_back-requires-clause-right_sorted : goal.merge_from_back-requires-clause-right_sorted
+merge_from_back-requires-clause-right_sorted g c = (runs g (past.merge_from_back-requires-clause-right_sorted g c).After-move_back).right_sorted

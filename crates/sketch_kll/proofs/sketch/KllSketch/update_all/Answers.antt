@@ -1,5 +1,5 @@
 -- The goals at the return are what updates by all items make of the fields.
-use Rattle.std.proofs.Common.{◌≡◌, ◌<◌, ◌≤◌, ◌^◌, ◌+◌, ◌-◌, ℕ, Bool, Ordering, Result, Ok, Err, List, [], ◌∷◌, length, ap, refl, subst, arith}
+use Rattle.std.proofs.Common.{◌≡◌, ◌<◌, ◌≤◌, ◌^◌, ◌+◌, ◌-◌, ℕ, Bool, Ordering, Result, Ok, Err, List, [], ◌∷◌, length, ap, refl, subst, arith, ◌∙◌}
 use Rattle.std.specs.Cmp.{IsTotalOrder}
 use Rattle.std.specs.Prelude.{◌↔◌, IfErr, IsErrOf, IsOk, OnErr, OnOk}
 use Rattle.sketch_base.specs.declared.error.ErrorKind.{ErrorKind}
@@ -10,7 +10,6 @@ use Rattle.sketch_kll.specs.Levels.{weight}
 use Rattle.sketch_base.specs.Extremes.{newer_or}
 use Rattle.sketch_kll.specs.Sketch.{IsSound, Kll, sketch_of}
 use Rattle.sketch_kll.specs.Updates.{AreUpdated, coins_of_updates}
-use Rattle.sketch_kll.proofs.MergedSketches.{kept_levels}
 use Rattle.sketch_base.proofs.RefusedCalls.{no_memory, not_heavy, refused_as}
 use Rattle.sketch_kll.proofs.SketchCalls.{still_seen, still_sound}
 use Rattle.sketch_kll.proofs.CompactedSizes.{length-same}
@@ -19,9 +18,6 @@ use Rattle.sketch_kll.proofs.sketch.KllSketch.update_all.Given.{Over}
 use Rattle.sketch_kll.proofs.sketch.KllSketch.update_all.Goals.{After-set_if_some-2}
 use Rattle.sketch_kll.proofs.sketch.KllSketch.update_all.Goals as goal
 use Rattle.sketch_kll.proofs.sketch.KllSketch.update_all.Goals.at as past
-
-over_all : {x a : ℕ} (n : ℕ) → 2 ^ 64 - 1 - x < n → x ≡ a → 2 ^ 64 ≤ a + n
-over_all n over e = omega (arith, over, e)
 
 some_of : (n : ℕ) → (n ≡ 0 → ⊥) → 0 < n
 some_of n some = omega arith
@@ -118,47 +114,34 @@ take_all-requires-clause-light g c =
     (sum_of _ c.if-count-self.false (some_of _ c.if-count-eq0.false))
 
 -- what the updates make of the fields
-made : (g : Over) (c : After-set_if_some-2 g) → let x = c.self.inside in let new = c.take_all.new.self in
+made : (g : Over) (c : After-set_if_some-2 g) → let x = c.self.inside in let new = c.give_back.new.self in
     UpdatesFields g.met.T.Ord.total g.B.RandomBits.bit g.B.RandomBits.next c.args.coins.now c.take_all.new.coins
     (sketch_of x.levels.k x.min_k x.n x.levels.is_sorted x.levels.levels x.min_item x.max_item) c.args.items.now
     (sketch_of new.k x.min_k (x.n + length c.args.items.now) new.is_sorted new.levels c.set_if_some.new.place c.set_if_some-2.new.place)
 made g c =
     let x = c.self.inside in
     let old = c.prepare_all.new.self in
-    let new = c.take_all.new.self in
+    let new = c.give_back.new.self in
     let kept = c.prepare_all.ensures.kept in
     let told = c.in_ok-clones.ensures in
+    let last = c.give_back.ensures.kept in
     updates_fields g.met.T.Ord.total g.B.RandomBits.bit g.B.RandomBits.next {source = c.args.coins.now} {after = c.take_all.new.coins}
     {items = c.args.items.now} {clones = c.in_ok-clones.clones.items} {k = new.k} {old_k = old.k} {old_flag = old.is_sorted} {flag = new.is_sorted}
     {rows = old.levels} {ms = new.levels} {least = newer_or c.in_ok-clones.least x.min_item} {greatest = newer_or c.in_ok-clones.greatest x.max_item}
     {kept_least = c.set_if_some.new.place} {kept_greatest = c.set_if_some-2.new.place}
-    c.self.invariant (some_of _ c.if-count-eq0.false) told.clones kept.k_is kept.flag_is kept.levels_are c.take_all.ensures.k
-    c.take_all.ensures.taken told.least c.set_if_some.ensures told.greatest c.set_if_some-2.ensures
+    c.self.invariant (some_of _ c.if-count-eq0.false) told.clones kept.k_is kept.flag_is kept.levels_are (last.k_is ∙ c.take_all.ensures.k)
+    (rw (last.flag_is, last.levels_are) c.take_all.ensures.taken) told.least c.set_if_some.ensures told.greatest c.set_if_some-2.ensures
 
 pub returns : goal.returns
 returns g c =
     let x = c.self.inside in
-    let new = c.take_all.new.self in
+    let new = c.give_back.new.self in
     let count = length c.args.items.now in
     let some = some_of _ c.if-count-eq0.false in
     some_taken g.T.Ord.cmp g.B.RandomBits.bit g.B.RandomBits.next c.args.self.now c.args.items.now c.args.coins.now {o = g.met.T.Ord.total}
     (sketch_of new.k x.min_k (x.n + count) new.is_sorted new.levels c.set_if_some.new.place c.set_if_some-2.new.place) c.take_all.new.coins
     (updates_seen g.met.T.Ord.total c.self.view_is (made g (past.returns g c).After-set_if_some-2)) some
     (heavy_not {x = x.n} {a = c.args.self.now.n} count (sum_of x.n c.if-count-self.false some) (ap (λ (k : Kll g.row.T.Denot). k.n) c.self.view_is))
-
-pub returns-then-count-self : goal.returns-then-count-self
-returns-then-count-self g c =
-    let n_is = ap (λ (k : Kll g.row.T.Denot). k.n) c.self.view_is in
-    too_heavy g.T.Ord.cmp g.B.RandomBits.bit g.B.RandomBits.next c.args.self.now c.args.items.now c.args.coins.now c.new.result c.new.ensures
-    (over_all {x = c.self.inside.n} (length c.args.items.now) c.if-count-self.true n_is) (subst (λ (n : ℕ). n < 2 ^ 64) n_is c.self.ranges.1.0.1)
-    (subst (IsSound g.T.Ord.cmp) c.self.view_is c.self.invariant)
-
-pub returns-then-count-eq0 : goal.returns-then-count-eq0
-returns-then-count-eq0 g c =
-    none_taken g.T.Ord.cmp g.B.RandomBits.bit g.B.RandomBits.next c.args.self.now c.args.items.now c.args.coins.now g.met.T.Ord.total
-    c.if-count-eq0.true
-    (subst (λ (n : ℕ). n < 2 ^ 64) (ap (λ (k : Kll g.row.T.Denot). k.n) c.self.view_is) c.self.ranges.1.0.1)
-    (subst (IsSound g.T.Ord.cmp) c.self.view_is c.self.invariant)
 
 pub returns-in_err-clones : goal.returns-in_err-clones
 returns-in_err-clones g c =
@@ -174,31 +157,12 @@ returns-in_err-clones g c =
     (still_seen x.levels y x.min_k x.n x.min_item x.max_item c.args.self.now kept c.self.view_is)
     (still_sound g.T.Ord.cmp x.levels y x.min_k x.n x.min_item x.max_item kept c.self.invariant)
 
-pub invariant_of-self : goal.invariant_of-self
-invariant_of-self g c =
-    let x = c.self.inside in
-    still_sound g.T.Ord.cmp x.levels c.prepare_all.new.self x.min_k x.n x.min_item x.max_item c.prepare_all.ensures.kept c.self.invariant
-
-pub take_all-requires-clause-kept : goal.take_all-requires-clause-kept
-take_all-requires-clause-kept g c =
-    let y = c.prepare_all.new.self in
-    let kept = c.prepare_all.ensures.kept in
-    kept_levels g.met.T.Ord.total {k = y.k} {flag = y.is_sorted} {rows = y.levels} c.self.invariant kept.k_is kept.flag_is kept.levels_are
+pub returns-then-count-eq0 : goal.returns-then-count-eq0
+returns-then-count-eq0 g c =
+    none_taken g.T.Ord.cmp g.B.RandomBits.bit g.B.RandomBits.next c.args.self.now c.args.items.now c.args.coins.now g.met.T.Ord.total
+    c.if-count-eq0.true
+    (subst (λ (n : ℕ). n < 2 ^ 64) (ap (λ (k : Kll g.row.T.Denot). k.n) c.self.view_is) c.self.ranges.1.0.1)
+    (subst (IsSound g.T.Ord.cmp) c.self.view_is c.self.invariant)
 
 pub invariant_of-self-2 : goal.invariant_of-self-2
 invariant_of-self-2 g c = (returns g c).sound
-
-pub take_all-requires-clause-room : goal.take_all-requires-clause-room
-take_all-requires-clause-room g c = c.in_ok-clones.ensures.room
-
-pub take_all-requires-clause-spare : goal.take_all-requires-clause-spare
-take_all-requires-clause-spare g c = c.in_ok-clones.ensures.spare
-
-pub prepare_all-requires-clause-some : goal.prepare_all-requires-clause-some
-prepare_all-requires-clause-some g c = some_of _ c.if-count-eq0.false
-
-pub overflow_add-self : goal.overflow_add-self
-overflow_add-self g c = record { fits = sum_of _ c.if-count-self.false (some_of _ c.if-count-eq0.false) }
-
-pub prepare_all-requires-clause-clones : goal.prepare_all-requires-clause-clones
-prepare_all-requires-clause-clones g c = c.requires.clones
