@@ -58,7 +58,7 @@ accepted_fairness shapes fairs (MergeRedrawn into source) = fairness_in true sha
 
 -- whether a slot stays fair, by the commands from a run's start on
 abbrev pub stays_fair : {A : Type 0} → List (ReqCommand A) → ℕ → Bool
-stays_fair commands slot = 
+stays_fair commands slot =
     let f = after_commands req_rules (λ plan. accepted_fairness plan.shapes) start_plan (λ s. new_fairness) commands slot in f.is_fair
 
 -- after every list of commands the slots that stay fair are fair

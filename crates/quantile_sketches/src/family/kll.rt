@@ -61,7 +61,12 @@ impl<T: KllValue + Ord> Family for KllSketch<T> {
         self.update(item, coins)
     }
 
-    fn update_weighted<B: RandomBits>(&mut self, item: T, weight: u64, coins: &mut B) -> Result<(), Error> {
+    fn update_weighted<B: RandomBits>(
+        &mut self,
+        item: T,
+        weight: u64,
+        coins: &mut B,
+    ) -> Result<(), Error> {
         self.update_weighted(item, weight, coins)
     }
 
