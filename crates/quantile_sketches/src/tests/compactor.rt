@@ -251,7 +251,7 @@ fn compacts_again(level: &mut Level, out: &mut Vec<i32>) -> bool {
         }
     }
     level.compact_into(out, &mut coins).is_ok()
-        && out.as_slice() == [6, 8, 10, 12]
+        && out.as_slice() == [6, 8, 10, 12].as_slice()
         && is_range(level, 13, 28)
         && (level.state(), coins.drawn()) == (2, 0)
 }

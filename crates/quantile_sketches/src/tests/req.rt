@@ -228,7 +228,8 @@ fn are_weights(found: Result<Option<Vec<Rank>>, Error>, weights: [u64; 3]) -> bo
     let [first, second, third] = weights;
     match found {
         Ok(Some(ranks)) => {
-            ranks.as_slice() == [fraction(first, 5), fraction(second, 5), fraction(third, 5)]
+            ranks.as_slice()
+                == [fraction(first, 5), fraction(second, 5), fraction(third, 5)].as_slice()
         }
         _ => false,
     }
