@@ -1,5 +1,5 @@
 -- A KLL slot that took neither another sketch nor an item with a weight took each coin in once, and its least k is its own.
-use Rattle.std.proofs.Common.{◌≡◌, ℕ, ◌*◌, ◌≤◌, Bool, true, false, ◌==◌, if◌then◌else◌, List, [], Option, Some, refl, sym, ap, ◌∙◌, subst}
+use Rattle.std.proofs.Common.{◌≡◌, ℕ, ◌*◌, ◌≤◌, Bool, true, false, ◌==◌, if◌then◌else◌, List, Option, Some, refl, sym, ap, ◌∙◌, subst, []}
 use Rattle.std.specs.Option.{option_and_then}
 use Rattle.std.proofs.lemmas.Bool.{eq-eqb, false≢true}
 use Rattle.sketch_base.specs.Shares.{spread, takes_once}
@@ -10,11 +10,12 @@ use Rattle.sketch_kll.specs.Merge.{merge_actions}
 use Rattle.sketch_kll.specs.Schedule.{update_actions}
 use Rattle.sketch_kll.specs.Weighted.{weighted_actions}
 use Rattle.sketch_kll.proofs.RolledCoins.{update-once, merge-once}
-use Rattle.quantile_sketches.specs.declared.audit.commands.Command.{Command}
-use Rattle.quantile_sketches.specs.declared.audit.commands.Command.TheVariants.{New, Update, UpdateWeighted, Merge, Reset, RoundTrip, Redraw, MergeRedrawn}
+use Rattle.quantile_sketches.specs.declared.commands.Command.{Command}
+use Rattle.quantile_sketches.specs.declared.commands.Command.TheVariants.{New, Update, UpdateWeighted, Merge, Reset, RoundTrip, Redraw, MergeRedrawn}
 use Rattle.quantile_sketches.specs.KllRules.{KllShape, kll_rules, merged_shape}
-use Rattle.quantile_sketches.specs.Plan.{Plan, start_plan, actions_on, shape_after, accepted_shapes, accepted_events, plan_of, trace_of}
+use Rattle.quantile_sketches.specs.Plan.{Plan, start_plan, actions_on, shape_after, accepted_events, plan_of, trace_of}
 use Rattle.quantile_sketches.specs.Rollup.{accepted_alone, took_alone}
+use Rattle.quantile_sketches.proofs.PlanSteps.{accepted_shapes}
 use Rattle.quantile_sketches.proofs.KllRuleLaws.{kll_lawful, unless-there}
 use Rattle.quantile_sketches.proofs.LegalPlans.{changed-away, at_slot, some-one, not-none, then-there, map-there, merge-either, IsSteady, steady-start}
 use Rattle.quantile_sketches.proofs.Rollups.{coins-from, run-rolls_up}

@@ -1,5 +1,5 @@
 -- A line is answered: the run goes on by it, or ends where its answer can't be written.
-use Rattle.std.proofs.Common.{◌≡◌, ◌∙◌, ℕ, ℤ, ◌+◌, ◌≤◌, ◌<◌, ◌==◌, List, [], ◌∷◌, ◌++◌, length, take, sym, ap, subst, arith, length-take-le, Option, Some, None, IfSome, Result, Ok, Err, IfErr, IsOk}
+use Rattle.std.proofs.Common.{◌≡◌, ◌∙◌, ℕ, ℤ, ◌+◌, ◌≤◌, ◌<◌, ◌==◌, List, [], ◌∷◌, ◌++◌, length, take, sym, ap, subst, arith, length-take-le, Option, Some, None, IfSome, Result, Ok, Err, IfErr, IsOk, IsErr}
 use Rattle.std.proofs.lemmas.Option.{MatchOption-at_some}
 use Rattle.std.specs.Int.{w64}
 use Rattle.std.specs.Io.BufRead.{DropsConsumable, DropsThrough, strip_last, take_through}
@@ -9,17 +9,16 @@ use Rattle.std.specs.List.{position_or_len}
 use Rattle.std.specs.Result.{IsErrAnd}
 use Rattle.std.specs.declared.io.buffered.BufReader.{BufReader}
 use Rattle.sketch_base.specs.Random.{next_state}
+use Rattle.quantile_sketches.specs.declared.answer.Refusal.{Refusal}
 use Rattle.quantile_sketches.specs.Answer.{answer_text}
-use Rattle.quantile_sketches.specs.Behaviour.{Behaviour, coin_of}
+use Rattle.quantile_sketches.specs.Behaviour.{Behaviour, coin_of_state}
 use Rattle.quantile_sketches.specs.Command.{request_of}
-use Rattle.quantile_sketches.specs.LineSteps.{Answers, CarriesOutItem, Reply, Verdict, reply_of}
+use Rattle.quantile_sketches.specs.LineSteps.{Answers, CarriesOutItem, Reply, reply_of}
 use Rattle.quantile_sketches.specs.LineWords.{words, BeginsWithUpdate}
 use Rattle.quantile_sketches.specs.Lines.{Ends, TakesLine}
 use Rattle.quantile_sketches.specs.Output.{Writes}
 use Rattle.quantile_sketches.specs.Reader.{Grammar}
-use Rattle.quantile_sketches.specs.declared.audit.commands.Command.TheVariants.{Update}
-use Rattle.quantile_sketches.specs.declared.lines.Fault.{Fault}
-use Rattle.quantile_sketches.specs.declared.lines.Fault.TheVariants.{Input, Output}
+use Rattle.quantile_sketches.specs.declared.commands.Command.TheVariants.{Update}
 use Rattle.quantile_sketches.proofs.FirstLine.{takes_buffered, takes_read}
 use Rattle.quantile_sketches.proofs.LineRuns.{Running, ends-broken, running-line}
 use Rattle.quantile_sketches.proofs.Outputs.{writes-as}
@@ -47,14 +46,6 @@ pub end-kept : {A B X : Type 0} {a a' : A} {b b' : B} (remaining : X → Option 
     IsAtEnd (remaining x)
 end-kept remaining x x' (same, same', same_left) end = rw (← same_left) end
 
-output-no-input : {e e' : _} → Output e ≡ Input e' → ⊥
-output-no-input is = cc
-
--- the output failed, and not the input
-pub not-input : {T : Type 0} (P : Type 0) (r : Result T Fault) (e : _) → IsErrAnd r (λ f. f ≡ Output e) → IfErr r (λ f. (e' : _) → f ≡ Input e' → P)
-not-input P (Ok x) e is = absurd is
-not-input P (Err f) e is = λ e' same. absurd (output-no-input (sym is ∙ same))
-
 abbrev done : Result Unit Unit
 done = Ok tt
 
@@ -67,9 +58,9 @@ module _ {S C : Type 0} (grammar : Grammar C) (behaviour : Behaviour S ℤ C) wh
   -- the line of an update that lies whole in the buffer
   pub update-answered : {T A : Type 0} (remaining : T → Option (List ℕ)) (input : BufReader T A) (left : Option (List ℕ)) (text : List ℕ) {slot len : ℕ}
       {item : ℤ}
-      (slots slots' : List (Option S)) (coins coins' : ℕ) (v : Verdict) → text ≡ reader_buffer input → BeginsWithUpdate text slot item len →
+      (slots slots' : List (Option S)) (coins coins' : ℕ) (v : Result Unit Refusal) → text ≡ reader_buffer input → BeginsWithUpdate text slot item len →
       DropsConsumable (reader_remaining remaining input) left (Some (length (reader_buffer input))) (len + 1) →
-      CarriesOutItem behaviour coin_of next_state (Update slot (to_z w64 (of_z w64 item))) slots coins v slots' coins' →
+      CarriesOutItem behaviour coin_of_state next_state (Update slot (to_z w64 (of_z w64 item))) slots coins v slots' coins' →
       AnswersLine (reader_remaining remaining input) left slots coins slots' coins' (reply_of v)
   update-answered remaining input left text {slot} {len} {item} slots slots' coins coins' v same begins dropped carried =
       let ahead : BeginsWithUpdate (reader_buffer input) slot item len = subst (λ (t : List ℕ). BeginsWithUpdate t slot item len) same begins in (
@@ -125,7 +116,7 @@ module _ {S C : Type 0} (grammar : Grammar C) (behaviour : Behaviour S ℤ C) wh
     pub line-written : IsOk r' → Running grammar behaviour done t left' w0 w' waiting' slots coins slots'' coins''
     line-written well = running-line grammar behaviour run answered.0 a ok answered.1 answered.2 (writes-as done out well)
 
-    -- the output fails, and its error is returned
-    pub line-unwritten : (ended : Result Unit Fault) (e : _) → IsErrAnd ended (λ f. f ≡ Output e) → IfSome t (Ends grammar behaviour slots coins ended w0 w')
-    line-unwritten ended e is =
-        ends-broken grammar behaviour (running-line grammar behaviour run answered.0 a ok answered.1 answered.2 out) ended e is
+    -- the output fails
+    pub line-unwritten : {E'' : Type 0} (ended : Result Unit E'') → IsErr ended → IfSome t (Ends grammar behaviour slots coins ended w0 w')
+    line-unwritten ended fails =
+        ends-broken grammar behaviour (running-line grammar behaviour run answered.0 a ok answered.1 answered.2 out) ended fails

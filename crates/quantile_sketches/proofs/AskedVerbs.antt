@@ -7,7 +7,7 @@ use Rattle.quantile_sketches.specs.Command.{parse_asked, parse_merge, parse_merg
 use Rattle.quantile_sketches.specs.Command.{parse_cdf, parse_load, parse_pmf, parse_quantile, parse_rank}
 use Rattle.quantile_sketches.specs.LineWords.{at_end}
 use Rattle.quantile_sketches.specs.Reader.{Grammar}
-use Rattle.quantile_sketches.specs.declared.audit.commands.Command.TheVariants.{Reset, RoundTrip}
+use Rattle.quantile_sketches.specs.declared.commands.Command.TheVariants.{Reset, RoundTrip}
 use Rattle.quantile_sketches.specs.declared.command.Request.{Request}
 use Rattle.quantile_sketches.specs.declared.command.Request.TheVariants.{Image, Run}
 

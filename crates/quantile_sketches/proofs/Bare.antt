@@ -4,12 +4,13 @@ use Rattle.std.proofs.lemmas.List.{map-append}
 use Rattle.std.proofs.lemmas.List.Sums.{sum_by-cons}
 use Rattle.sketch_base.specs.Lengths.{acts_on_lengths}
 use Rattle.sketch_base.specs.Trace.{Action, Put, Pull, Join, Compact, Forget, Redraw, Clear, Fresh, Event, Snap, At, Work, World, coins, event_draws, joins_actions, events_at}
-use Rattle.quantile_sketches.specs.declared.audit.commands.Command.{Command}
-use Rattle.quantile_sketches.specs.declared.audit.commands.Command.TheVariants.{New, Update, UpdateWeighted, Merge, RoundTrip, Redraw, MergeRedrawn}
+use Rattle.quantile_sketches.specs.declared.commands.Command.{Command}
+use Rattle.quantile_sketches.specs.declared.commands.Command.TheVariants.{New, Update, UpdateWeighted, Merge, RoundTrip, Redraw, MergeRedrawn}
 use Rattle.quantile_sketches.specs.RuleLaws.{lengths_by}
-use Rattle.quantile_sketches.specs.Plan.{Plan, start_plan, slot_of, actions_on, count_of, shape_after, is_refused, merge_events, accepted_events, events_of, plan_after, plan_from, trace_from, plan_of, trace_of}
+use Rattle.quantile_sketches.specs.Plan.{Plan, start_plan, slot_of, actions_on, count_of, shape_after, is_refused, merge_events, accepted_events, events_of, plan_after, trace_from, plan_of, trace_of}
 use Rattle.quantile_sketches.specs.Rules.{Rules}
 use Rattle.quantile_sketches.specs.Run.{bare}
+use Rattle.quantile_sketches.proofs.PlanSteps.{plan_from}
 
 -- an action and an event without their item
 abbrev pub bare_action : {A : Type 0} → Action A → Action Unit

@@ -4,10 +4,16 @@ use Rattle.std.proofs.lemmas.Bool.{cases_Bool, eqb-false, ltb-true, ltb-false}
 use Rattle.std.specs.Prelude.{IsErrOf, MatchResult, ◌↔◌}
 use Rattle.sketch_base.specs.declared.error.ErrorKind.{ErrorKind}
 use Rattle.sketch_base.specs.declared.error.ErrorKind.TheVariants.{InvalidArgument, InvalidData, OutOfMemory}
-use Rattle.quantile_sketches.specs.Behaviour.{Change}
 use Rattle.quantile_sketches.specs.Rules.{none_if}
 use Rattle.quantile_sketches.specs.RunSteps.{Refuses}
-use Rattle.quantile_sketches.proofs.SameRuns.{IsOne, IsSettled, no-err, same-err}
+
+-- a call that is accepted isn't refused
+pub no-err : {T E : Type 0} (x : T) (e : E) → Ok x ≡ Err e → ⊥
+no-err x e same = cc
+
+-- a result has only one error
+pub same-err : {T E : Type 0} (e f : E) (r : Result T E) → r ≡ Err e → r ≡ Err f → e ≡ f
+same-err e f r one two = cc
 
 -- a call that may run out of memory, with that as a sketch's error
 pub memory_told : {T D : Type 0} (P Q : T → Type 0) (o : Result T D) (r : Result T ErrorKind) →
@@ -45,65 +51,3 @@ pub unread : (e : ErrorKind) → (e ≡ InvalidArgument → ⊥) → (e ≡ Inva
 unread InvalidArgument a d = absurd (a refl)
 unread InvalidData a d = absurd (d refl)
 unread OutOfMemory a d = refl
-
--- the error of a call that is refused exactly if P holds, and otherwise fails only for lack of memory
-pub kind-of : {P : Type 0} (e : ErrorKind) → P ⊎ (P → ⊥) → (P → e ≡ InvalidArgument) → ((P → ⊥) → e ≡ OutOfMemory) → (e ≡ OutOfMemory → ⊥) → e ≡ InvalidArgument
-kind-of e (inl p) f g n = f p
-kind-of e (inr p) f g n = absurd (n (g p))
-
--- a call that is refused exactly if a sketch is unfit for it, otherwise fails only for lack of memory, and changes nothing if
--- it fails
-pub settled-by : {S Source : Type 0} {call : Change Source S} (Unfit : S → Type 0) → ((s : S) → Unfit s ⊎ (Unfit s → ⊥)) → IsOne call →
-    ((s t : S) (coins left : Source) (r : Result Unit ErrorKind) → call s coins r t left → IsErrOf r InvalidArgument ↔ Unfit s) →
-    ((s t : S) (coins left : Source) (e : ErrorKind) → call s coins (Err e) t left → ((Unfit s → ⊥) → e ≡ OutOfMemory) × (t ≡ s) × (left ≡ coins)) → IsSettled call
-settled-by Unfit decide one exactly stays = record {
-  one = one;
-  clash = λ s t u coins left left' e h h'. (stays s u coins left' e h').0 (λ unfit. no-err tt InvalidArgument ((exactly s t coins left (Ok tt) h).1 unfit));
-  refuses = λ s t coins left e h n. let k = stays s t coins left e h in (kind-of e (decide s) (λ unfit. err-of {T = Unit} e ((exactly s t coins left (Err e) h).1 unfit)) k.0 n, k.1, k.2);
-}
-
--- an image that isn't written is refused, if memory sufficed
-pub unwritten-kind : (e : ErrorKind) → (e ≡ InvalidData → ⊥) → (e ≡ OutOfMemory → ⊥) → e ≡ InvalidArgument
-unwritten-kind InvalidArgument d m = refl
-unwritten-kind InvalidData d m = absurd (d refl)
-unwritten-kind OutOfMemory d m = absurd (m refl)
-
--- data that isn't read is bad, if memory sufficed
-pub unread-kind : (e : ErrorKind) → (e ≡ InvalidArgument → ⊥) → (e ≡ OutOfMemory → ⊥) → e ≡ InvalidData
-unread-kind InvalidArgument a m = absurd (a refl)
-unread-kind InvalidData a m = refl
-unread-kind OutOfMemory a m = absurd (m refl)
-
--- two numbers are equal or not
-pub so-same : (a b : ℕ) → (a ≡ b) ⊎ (a ≡ b → ⊥)
-so-same a b =
-    elim (cases_Bool (a == b)) [
-      | inl t ↦ inl (eqb-true a b t)
-      | inr f ↦ inr (eqb-false a b f)
-    ]
-
--- a number is at most another or not
-pub so-most : (a b : ℕ) → (a ≤ b) ⊎ (a ≤ b → ⊥)
-so-most a b =
-    elim (cases_Bool (nat_lt b a)) [
-      | inl t ↦ inr (λ l. omega (arith, l, ltb-true b a t))
-      | inr f ↦ inl (omega (arith, ltb-false b a f))
-    ]
-
--- of two facts that hold or not, at least one holds or neither does
-pub so-either : {P Q : Type 0} → P ⊎ (P → ⊥) → Q ⊎ (Q → ⊥) → (P ⊎ Q) ⊎ (P ⊎ Q → ⊥)
-so-either (inl p) q = inl (inl p)
-so-either (inr p) (inl q) = inl (inr q)
-so-either {P} {Q} (inr p) (inr q) = inr none
-  where
-    none : P ⊎ Q → ⊥
-    none (inl x) = p x
-    none (inr x) = q x
-
--- a number that isn't at least another is below it
-pub below : (a b : ℕ) → (b ≤ a → ⊥) → a < b
-below a b denied =
-    elim (cases_Bool (nat_lt a b)) [
-      | inl t ↦ ltb-true a b t
-      | inr f ↦ absurd (denied (ltb-false a b f))
-    ]

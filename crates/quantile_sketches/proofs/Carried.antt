@@ -14,18 +14,19 @@ use Rattle.sketch_base.specs.Trace.{changed}
 use Rattle.sketch_base.proofs.Changes.{changed-own}
 use Rattle.sketch_base.specs.declared.error.ErrorKind.{ErrorKind}
 use Rattle.sketch_base.specs.declared.error.ErrorKind.TheVariants.{InvalidArgument, InvalidData, OutOfMemory}
+use Rattle.quantile_sketches.specs.declared.answer.Refusal.{Refusal}
 use Rattle.quantile_sketches.specs.Behaviour.{Behaviour, Change}
 use Rattle.quantile_sketches.specs.Calls.{Obeys, ObeysRules}
 use Rattle.quantile_sketches.specs.declared.answer.Refusal.TheVariants.{BadLine, AbsentSlot, Sketch}
-use Rattle.quantile_sketches.specs.declared.audit.commands.Command.{Command}
-use Rattle.quantile_sketches.specs.declared.audit.commands.Command.TheVariants.{New, Update, UpdateWeighted, Merge, Reset, RoundTrip, Redraw, MergeRedrawn}
+use Rattle.quantile_sketches.specs.declared.commands.Command.{Command}
+use Rattle.quantile_sketches.specs.declared.commands.Command.TheVariants.{New, Update, UpdateWeighted, Merge, Reset, RoundTrip, Redraw, MergeRedrawn}
 use Rattle.quantile_sketches.specs.Outcome.{shapes_in}
 use Rattle.quantile_sketches.specs.Plan.{shape_merged}
 use Rattle.quantile_sketches.specs.RuleLaws.{IsLawful}
 use Rattle.quantile_sketches.specs.Rules.{Kind}
-use Rattle.quantile_sketches.specs.LineSteps.{Slots, in_slot, Holds, Verdict, Turns, Changes, Cloned, Empties, RoundTrips, JoinsCopy, Merges, CarriesOut, CarriesOutItem, CarriesOutClone}
-use Rattle.quantile_sketches.specs.RunSteps.{Held, Puts, AreSame, Refuses, IsCopied, IsUpdated, IsWeighted, IsRedrawn, IsMerged, IsMergedIn, IsDecided, IsDone, IsExecuted}
-use Rattle.quantile_sketches.proofs.SameRuns.{no-err, same-err}
+use Rattle.quantile_sketches.specs.LineSteps.{Slots, in_slot, Holds, Turns, Changes, Cloned, Empties, RoundTrips, JoinsCopy, Merges, CarriesOut, CarriesOutItem, CarriesOutClone}
+use Rattle.quantile_sketches.specs.RunSteps.{Sketches, Puts, AreSame, Refuses, IsPlainCopy, IsUpdated, IsWeighted, IsRedrawn, IsMerged, IsMergedIn, IsDecided, IsDone, IsExecuted}
+use Rattle.quantile_sketches.proofs.CallErrors.{no-err, same-err}
 
 -- ---- slots
 
@@ -65,37 +66,37 @@ unless-memory : (P : Type 0) (e : ErrorKind) → e ≡ OutOfMemory → Unless e 
 unless-memory P e wanted = rw wanted tt
 
 -- each sketch in the slots keeps its invariant
-abbrev pub AreSoundIn : {A C Shape S : Type 0} → Kind A C Shape S → Held S → Type 0
+abbrev pub AreSoundIn : {A C Shape S : Type 0} → Kind A C Shape S → Sketches S → Type 0
 AreSoundIn {S = S} kind slots = (q : ℕ) (s : S) → slots q ≡ Some s → kind.IsSound s
 
 -- ---- a command
 
 module _ {A C Shape S Source : Type 0} (kind : Kind A C Shape S) (bit : Source → Bool) (next : Source → Source) where
   -- a verdict is that of a step: the command is accepted or refused, or memory runs out and nothing is changed
-  abbrev pub Comes : Verdict → Command A C → Held S → Source → Held S → Source → Type 0
+  abbrev pub Comes : Result Unit Refusal → Command A C → Sketches S → Source → Sketches S → Source → Type 0
   Comes (Ok done) command slots source slots' source' = IsExecuted kind bit next command slots source true slots' source'
   Comes (Err BadLine) command slots source slots' source' = IsExecuted kind bit next command slots source false slots' source'
   Comes (Err AbsentSlot) command slots source slots' source' = IsExecuted kind bit next command slots source false slots' source'
   Comes (Err (Sketch e)) command slots source slots' source' =
       Unless e (IsDecided kind command slots false) × AreSame slots slots' × (source' ≡ source)
 
-  yes : (command : Command A C) (slots : Held S) (source : Source) (slots' : Held S) (source' : Source) → IsDecided kind command slots true → IsDone kind bit next command slots source slots' source' →
+  yes : (command : Command A C) (slots : Sketches S) (source : Source) (slots' : Sketches S) (source' : Source) → IsDecided kind command slots true → IsDone kind bit next command slots source slots' source' →
       IsExecuted kind bit next command slots source true slots' source'
   yes command slots source slots' source' d done = record { decided = d; done = λ t. done; left = λ f. absurd (false≢true (sym f)) }
 
-  no : (command : Command A C) (slots : Held S) (source : Source) (slots' : Held S) (source' : Source) → IsDecided kind command slots false → AreSame slots slots' → source' ≡ source →
+  no : (command : Command A C) (slots : Sketches S) (source : Source) (slots' : Sketches S) (source' : Source) → IsDecided kind command slots false → AreSame slots slots' → source' ≡ source →
       IsExecuted kind bit next command slots source false slots' source'
   no command slots source slots' source' d same stays = record { decided = d; done = λ f. absurd (false≢true f); left = λ f. (same, stays) }
 
   -- a command that doesn't run out of memory is a step
-  executed : (r : Verdict) (command : Command A C) (slots : Held S) (source : Source) (slots' : Held S) (source' : Source) → r ≢ Err (Sketch OutOfMemory) →
+  executed : (r : Result Unit Refusal) (command : Command A C) (slots : Sketches S) (source : Source) (slots' : Sketches S) (source' : Source) → r ≢ Err (Sketch OutOfMemory) →
       Comes r command slots source slots' source' → IsExecuted kind bit next command slots source (is_ok r) slots' source'
   executed (Err (Sketch OutOfMemory)) command slots source slots' source' n h = absurd (n refl)
   executed (Err (Sketch e)) command slots source slots' source' n h = no command slots source slots' source' h.0 h.1 h.2
   executed r command slots source slots' source' n h = h
 
   -- a command that is not carried out changes nothing
-  pub left : (e : _) (command : Command A C) (slots : Held S) (source : Source) (slots' : Held S) (source' : Source) →
+  pub left : (e : _) (command : Command A C) (slots : Sketches S) (source : Source) (slots' : Sketches S) (source' : Source) →
       Comes (Err e) command slots source slots' source' → AreSame slots slots' × (source' ≡ source)
   left (Sketch e) command slots source slots' source' h = (h.1, h.2)
   left e command slots source slots' source' h = h.left refl
@@ -109,7 +110,7 @@ module _ {A C Shape S Source : Type 0} (kind : Kind A C Shape S) (bit : Source �
       refused : (s t : S) (e : ErrorKind) → in_slot slots slot ≡ Some s → turn s source (Err e) t source' →
           Unless e (IsDecided kind command (in_slot slots) false) × (t ≡ s) × (source' ≡ source)
 
-    turned : (slot : ℕ) (turn : Change Source S) → Turned slot turn → (o new : Option S) (r : Verdict) → Holds slots slot o → Turns turn o source r new source' → slots' ≡ set slots slot new →
+    turned : (slot : ℕ) (turn : Change Source S) → Turned slot turn → (o new : Option S) (r : Result Unit Refusal) → Holds slots slot o → Turns turn o source r new source' → slots' ≡ set slots slot new →
         Comes r command (in_slot slots) source (in_slot slots') source'
     turned slot turn by None new r held (is, same, stays) set_is =
         rw is (no command (in_slot slots) source (in_slot slots') source' (by.absent (in_slot-held slots slot None held)) (in_slot-same slots slots' slot None new held same set_is) stays)
@@ -128,80 +129,80 @@ module _ {A C Shape S Source : Type 0} {kind : Kind A C Shape S} (lawful : IsLaw
     (obeys : ObeysRules behaviour kind bit next) where
   -- a sketch took an item that compares equal to the given one
   abbrev Took : A → S → Source → S → Source → Type 0
-  Took x s source t source' = (y : A) × (kind.cmp x y ≡ Equal) × IsUpdated kind bit next s y source t source'
+  Took x s source t source' = (y : A) × (kind.look.cmp x y ≡ Equal) × IsUpdated kind bit next s y source t source'
 
   abbrev TookWeighted : A → ℕ → S → Source → S → Source → Type 0
-  TookWeighted x weight s source t source' = (y : A) × (kind.cmp x y ≡ Equal) × IsWeighted kind bit next s y weight source t source'
+  TookWeighted x weight s source t source' = (y : A) × (kind.look.cmp x y ≡ Equal) × IsWeighted kind bit next s y weight source t source'
 
   item-obeys : (x : A) (shape : Option Shape) (does : A → S → Source → Type 0) → (s : S) (source : Source) (r : Result Unit ErrorKind) (t : S) (source' : Source) →
       Obeys shape (does x) s source r t source' →
-      Obeys shape (λ t source'. (y : A) × (kind.cmp x y ≡ Equal) × does y t source') s source r t source'
+      Obeys shape (λ t source'. (y : A) × (kind.look.cmp x y ≡ Equal) × does y t source') s source r t source'
   item-obeys x shape does s source r t source' h = (on_ok_weaker r (λ d. (x, tied_itself lawful.total x, d)) h.0, h.1, h.2)
 
-  clone-obeys : (IsClone : A → Type 0) (x : A) → ((y : A) → IsClone y → kind.cmp x y ≡ Equal) → (behave : A → Change Source S) (shape : Option Shape) (does : A → S → Source → Type 0) →
+  clone-obeys : (IsClone : A → Type 0) (x : A) → ((y : A) → IsClone y → kind.look.cmp x y ≡ Equal) → (behave : A → Change Source S) (shape : Option Shape) (does : A → S → Source → Type 0) →
       (s : S) (source : Source) (r : Result Unit ErrorKind) (t : S) (source' : Source) → ((y : A) → behave y s source r t source' → Obeys shape (does y) s source r t source') →
       Cloned IsClone behave s source r t source' →
-      Obeys shape (λ t source'. (y : A) × (kind.cmp x y ≡ Equal) × does y t source') s source r t source'
+      Obeys shape (λ t source'. (y : A) × (kind.look.cmp x y ≡ Equal) × does y t source') s source r t source'
   clone-obeys IsClone x ties behave shape does s source r t source' f (inl (y, is, h)) = let o = f y h in (on_ok_weaker r (λ d. (y, ties y is, d)) o.0, o.1, o.2)
   clone-obeys IsClone x ties behave shape does s source r t source' f (inr all) = item-obeys x shape does s source r t source' (f x (all x))
 
   -- a sketch is a copy of itself
-  same-answer : (o : Option A) → SameAnswer kind.cmp o o
+  same-answer : (o : Option A) → SameAnswer kind.look.cmp o o
   same-answer None = tt
   same-answer (Some x) = tied_itself lawful.total x
 
-  copied-itself : (s : S) → kind.IsSound s → IsCopied kind s s
+  copied-itself : (s : S) → kind.IsSound s → IsPlainCopy kind s s
   copied-itself s sound = record {
     shape_is = refl;
-    alike = lawful.alike_refl (kind.bag s);
-    least_is = same-answer (kind.least s);
-    greatest_is = same-answer (kind.greatest s);
+    alike = lawful.alike_refl (kind.look.bag s);
+    least_is = same-answer (kind.look.least s);
+    greatest_is = same-answer (kind.look.greatest s);
     sound = sound;
   }
 
   module _ (slots slots' : Slots S) (source source' : Source) (sound : AreSoundIn kind (in_slot slots)) where
-    abbrev Goes : Verdict → Command A C → Type 0
+    abbrev Goes : Result Unit Refusal → Command A C → Type 0
     Goes r command = Comes kind bit next r command (in_slot slots) source (in_slot slots') source'
 
-    comes-new : (slot : ℕ) (config : C) (r : Verdict) → CarriesOut behaviour bit next (λ x s coins r t coins'. ⊥) (λ x weight s coins r t coins'. ⊥) (New slot config) slots source
+    comes-new : (slot : ℕ) (config : C) (r : Result Unit Refusal) → CarriesOut behaviour bit next (λ x s coins r t coins'. ⊥) (λ x weight s coins r t coins'. ⊥) (New slot config) slots source
         r slots' source' → Goes r (New slot config)
     comes-new slot config (Ok tt) ((s, o, held, made, is), stays) =
         let fresh = (obeys.made config (Ok s) made).0 in
-        yes kind bit next (New slot config) (in_slot slots) source (in_slot slots') source' (given _ (kind.shape s) fresh.shape_is)
+        yes kind bit next (New slot config) (in_slot slots) source (in_slot slots') source' (given _ (kind.look.shape s) fresh.shape_is)
         (record { made = s; fresh = fresh; puts = λ q. ap (λ l. in_slot l q) is ∙ in_slot-set slots slot o (Some s) held q }, stays)
     comes-new slot config (Err (Sketch e)) ((made, is), stays) =
         (unless-refused _ e (obeys.made config (Err e) made).1 (λ none. not-given _ none), (λ q. ap (λ l. in_slot l q) is), stays)
     comes-new slot config r h = absurd h.0
 
     -- one slot turns
-    changes : (command : Command A C) (slot : ℕ) (turn : Change Source S) → Turned kind bit next command slots slots' source source' slot turn → (r : Verdict) →
+    changes : (command : Command A C) (slot : ℕ) (turn : Change Source S) → Turned kind bit next command slots slots' source source' slot turn → (r : Result Unit Refusal) →
         Changes (Turns turn) slot slots source r slots' source' → Goes r command
     changes command slot turn by r (o, new, held, turns, is) = turned kind bit next command slots slots' source source' slot turn by o new r held turns is
 
     -- a command that the rules decide by the shape of its slot's sketch
     ruled : (command : Command A C) (slot : ℕ) (gives : Shape → Option Shape) →
-        ((accepted : Bool) → accepted ≡ not (not (is_some (option_and_then gives (option_map kind.shape (in_slot slots slot))))) → IsDecided kind command (in_slot slots) accepted) →
+        ((accepted : Bool) → accepted ≡ not (not (is_some (option_and_then gives (option_map kind.look.shape (in_slot slots slot))))) → IsDecided kind command (in_slot slots) accepted) →
         (turn : Change Source S) (does : S → S → Type 0) →
-        ((s t : S) (r : Result Unit ErrorKind) → kind.IsSound s → turn s source r t source' → Obeys (gives (kind.shape s)) (λ t source'. does s t) s source r t source') →
-        ((s t : S) → does s t → gives (kind.shape s) ≡ Some (kind.shape t)) →
+        ((s t : S) (r : Result Unit ErrorKind) → kind.IsSound s → turn s source r t source' → Obeys (gives (kind.look.shape s)) (λ t source'. does s t) s source r t source') →
+        ((s t : S) → does s t → gives (kind.look.shape s) ≡ Some (kind.look.shape t)) →
         ((s t : S) → in_slot slots slot ≡ Some s → does s t → Puts (in_slot slots) slot t (in_slot slots') → IsDone kind bit next command (in_slot slots) source (in_slot slots') source') →
-        (r : Verdict) → Changes (Turns turn) slot slots source r slots' source' → Goes r command
+        (r : Result Unit Refusal) → Changes (Turns turn) slot slots source r slots' source' → Goes r command
     ruled command slot gives decide turn does follows shape done = changes command slot turn (record {
       absent = λ h. decide false (not-given _ (by h));
       done = λ s t held h puts.
-          let d = (follows s t (Ok tt) (sound slot s held) h).0 in (decide true (given _ (kind.shape t) (by held ∙ shape s t d)), done s t held d puts);
+          let d = (follows s t (Ok tt) (sound slot s held) h).0 in (decide true (given _ (kind.look.shape t) (by held ∙ shape s t d)), done s t held d puts);
       refused = λ s t e held h.
           let o = follows s t (Err e) (sound slot s held) h in (unless-refused _ e o.1 (λ none. decide false (not-given _ (by held ∙ none))), o.2.0, o.2.1);
     })
       where
-        by : {o : Option S} → in_slot slots slot ≡ o → option_and_then gives (option_map kind.shape (in_slot slots slot)) ≡ option_and_then gives (option_map kind.shape o)
-        by h = ap (λ o. option_and_then gives (option_map kind.shape o)) h
+        by : {o : Option S} → in_slot slots slot ≡ o → option_and_then gives (option_map kind.look.shape (in_slot slots slot)) ≡ option_and_then gives (option_map kind.look.shape o)
+        by h = ap (λ o. option_and_then gives (option_map kind.look.shape o)) h
 
     -- a round trip
     trip-decided : (slot : ℕ) (accepted : Bool) (s : S) → in_slot slots slot ≡ Some s → IsTrue accepted ↔ kind.HasImage s → IsDecided kind (RoundTrip slot) (in_slot slots) accepted
     trip-decided slot accepted s held h = subst (λ o. MatchOption o (accepted ≡ false) (λ s. IsTrue accepted ↔ kind.HasImage s)) (sym held) h
 
-    comes-trip : (slot : ℕ) (r : Verdict) → Changes (Turns (RoundTrips behaviour)) slot slots source r slots' source' → Goes r (RoundTrip slot)
+    comes-trip : (slot : ℕ) (r : Result Unit Refusal) → Changes (Turns (RoundTrips behaviour)) slot slots source r slots' source' → Goes r (RoundTrip slot)
     comes-trip slot = changes (RoundTrip slot) slot (RoundTrips behaviour) (record {
       absent = λ h. subst (λ o. MatchOption o (false ≡ false) (λ s. IsTrue false ↔ kind.HasImage s)) (sym h) refl;
       done = done;
@@ -229,13 +230,13 @@ module _ {A C Shape S Source : Type 0} {kind : Kind A C Shape S} (lawful : IsLaw
 
     -- a merge with coins redrawn or not, for the command that asks for it
     module _ (redraws : Bool) (into from : ℕ) (command : Command A C)
-        (decide : (accepted : Bool) → accepted ≡ not (not (is_some (shape_merged kind.rules redraws (shapes_in kind.shape (in_slot slots)) into from))) →
+        (decide : (accepted : Bool) → accepted ≡ not (not (is_some (shape_merged kind.look.rules redraws (shapes_in kind.look.shape (in_slot slots)) into from))) →
         IsDecided kind command (in_slot slots) accepted)
         (does : IsMergedIn kind bit next redraws into from (in_slot slots) source (in_slot slots') source' → IsDone kind bit next command (in_slot slots) source (in_slot slots') source') where
       abbrev merged-by : Option S → Option S → Option Shape
-      merged-by x y = option_and_then (λ shape. option_and_then (kind.rules.merged redraws shape) (option_map kind.shape y)) (option_map kind.shape x)
+      merged-by x y = option_and_then (λ shape. option_and_then (kind.look.rules.merged redraws shape) (option_map kind.look.shape y)) (option_map kind.look.shape x)
 
-      merged-at : (s p : S) → in_slot slots into ≡ Some s → in_slot slots from ≡ Some p → merged-by (in_slot slots into) (in_slot slots from) ≡ kind.rules.merged redraws (kind.shape s) (kind.shape p)
+      merged-at : (s p : S) → in_slot slots into ≡ Some s → in_slot slots from ≡ Some p → merged-by (in_slot slots into) (in_slot slots from) ≡ kind.look.rules.merged redraws (kind.look.shape s) (kind.look.shape p)
       merged-at s p held its = ap₂ merged-by held its
 
       merged-none : (x : Option S) → merged-by x None ≡ None
@@ -246,15 +247,15 @@ module _ {A C Shape S Source : Type 0} {kind : Kind A C Shape S} (lawful : IsLaw
       merge-absent h = decide false (not-given _ (ap (λ x. merged-by x (in_slot slots from)) h))
 
       -- a sketch takes in another that is in a slot, or a copy of it
-      takes-in : (s p copy t : S) → in_slot slots into ≡ Some s → in_slot slots from ≡ Some p → IsCopied kind p copy → IsMerged kind bit next redraws s copy source t source' →
+      takes-in : (s p copy t : S) → in_slot slots into ≡ Some s → in_slot slots from ≡ Some p → IsPlainCopy kind p copy → IsMerged kind bit next redraws s copy source t source' →
           kind.IsSound t → Puts (in_slot slots) into t (in_slot slots') →
           IsDecided kind command (in_slot slots) true × IsDone kind bit next command (in_slot slots) source (in_slot slots') source'
       takes-in s p copy t held its copied merged sound puts = (
-        decide true (given _ (kind.shape t) (merged-at s p held its ∙ (ap (kind.rules.merged redraws (kind.shape s)) (sym copied.shape_is) ∙ merged.shape_is))),
+        decide true (given _ (kind.look.shape t) (merged-at s p held its ∙ (ap (kind.look.rules.merged redraws (kind.look.shape s)) (sym copied.shape_is) ∙ merged.shape_is))),
         does (record { old = s; other = p; copy = copy; made = t; held = held; held_other = its; copied = copied; merged = merged; sound = sound; puts = puts }),
       )
 
-      refuses-it : (s p : S) → in_slot slots into ≡ Some s → in_slot slots from ≡ Some p → kind.rules.merged redraws (kind.shape s) (kind.shape p) ≡ None → IsDecided kind command (in_slot slots) false
+      refuses-it : (s p : S) → in_slot slots into ≡ Some s → in_slot slots from ≡ Some p → kind.look.rules.merged redraws (kind.look.shape s) (kind.look.shape p) ≡ None → IsDecided kind command (in_slot slots) false
       refuses-it s p held its none = decide false (not-given _ (merged-at s p held its ∙ none))
 
       merge-copy : into ≡ from → Turned kind bit next command slots slots' source source' into (JoinsCopy behaviour bit next redraws)
@@ -283,7 +284,7 @@ module _ {A C Shape S Source : Type 0} {kind : Kind A C Shape S} (lawful : IsLaw
           refused s t e held (inr (fits, inl (p, copied, joined))) =
               let copy = (obeys.copied s (Ok p) copied).0 in
               let r = obeys.joined redraws p copy.sound s source (Err e) t source' (sound into s held) joined in
-              (unless-refused _ e r.1 (λ none. refuses-it s s held (also held) (ap (kind.rules.merged redraws (kind.shape s)) (sym copy.shape_is) ∙ none)), r.2.0, r.2.1)
+              (unless-refused _ e r.1 (λ none. refuses-it s s held (also held) (ap (kind.look.rules.merged redraws (kind.look.shape s)) (sym copy.shape_is) ∙ none)), r.2.0, r.2.1)
           refused s t e held (inr (fits, inr (f, copied, is, kept, stays))) = (unless-memory _ e (same-err e f _ refl is ∙ (obeys.copied s (Err f) copied).1), kept, stays)
 
       merge-other : (p : S) → in_slot slots from ≡ Some p → Turned kind bit next command slots slots' source source' into (behaviour.joined redraws p Source bit next)
@@ -297,7 +298,7 @@ module _ {A C Shape S Source : Type 0} {kind : Kind A C Shape S} (lawful : IsLaw
             (unless-refused _ e r.1 (refuses-it s p held its), r.2.0, r.2.1);
       }
 
-      comes-merge : (b : Bool) → (into == from) ≡ b → (r : Verdict) → Merges behaviour bit next redraws b into from slots source r slots' source' → Goes r command
+      comes-merge : (b : Bool) → (into == from) ≡ b → (r : Result Unit Refusal) → Merges behaviour bit next redraws b into from slots source r slots' source' → Goes r command
       comes-merge true e r h = changes command into (JoinsCopy behaviour bit next redraws) (merge-copy (eqb-true into from e)) r h
       comes-merge false e r (None, its, (o, new, held, (is, same, stays), set_is)) =
           rw is (no kind bit next command (in_slot slots) source (in_slot slots') source'
@@ -308,55 +309,55 @@ module _ {A C Shape S Source : Type 0} {kind : Kind A C Shape S} (lawful : IsLaw
 
     -- any command, by how its item is taken
     comes : (taken : A → Change Source S) (weighted : A → ℕ → Change Source S) →
-        ((x : A) (s t : S) (r : Result Unit ErrorKind) → kind.IsSound s → taken x s source r t source' → Obeys (kind.rules.updated (kind.shape s)) (Took x s source) s source r t source') →
+        ((x : A) (s t : S) (r : Result Unit ErrorKind) → kind.IsSound s → taken x s source r t source' → Obeys (kind.look.rules.updated (kind.look.shape s)) (Took x s source) s source r t source') →
         ((x : A) (weight : ℕ) (s t : S) (r : Result Unit ErrorKind) → kind.IsSound s → weighted x weight s source r t source' →
-        Obeys (kind.rules.updated_weighted (kind.shape s) weight) (TookWeighted x weight s source) s source r t source') →
-        (command : Command A C) (r : Verdict) → CarriesOut behaviour bit next taken weighted command slots source r slots' source' → Goes r command
+        Obeys (kind.look.rules.updated_weighted (kind.look.shape s) weight) (TookWeighted x weight s source) s source r t source') →
+        (command : Command A C) (r : Result Unit Refusal) → CarriesOut behaviour bit next taken weighted command slots source r slots' source' → Goes r command
     comes taken weighted f g (New slot config) r h = comes-new slot config r h
     comes taken weighted f g (Update slot x) r h =
-        ruled (Update slot x) slot kind.rules.updated (λ accepted e. e) (taken x) (λ s t. Took x s source t source') (f x)
+        ruled (Update slot x) slot kind.look.rules.updated (λ accepted e. e) (taken x) (λ s t. Took x s source t source') (f x)
         (λ s t d. d.2.0.shape_is) (λ s t held d puts. record { old = s; taken = d.0; made = t; held = held; ties = d.1; after = d.2; puts = puts }) r h
     comes taken weighted f g (UpdateWeighted slot x weight) r h =
-        ruled (UpdateWeighted slot x weight) slot (λ shape. kind.rules.updated_weighted shape weight) (λ accepted e. e) (weighted x weight) (λ s t. TookWeighted x weight s source t source')
+        ruled (UpdateWeighted slot x weight) slot (λ shape. kind.look.rules.updated_weighted shape weight) (λ accepted e. e) (weighted x weight) (λ s t. TookWeighted x weight s source t source')
         (g x weight)
         (λ s t d. d.2.0.shape_is) (λ s t held d puts. record { old = s; taken = d.0; made = t; held = held; ties = d.1; after = d.2; puts = puts }) r h
     comes taken weighted f g (Merge into from) r h = comes-merge false into from (Merge into from) (λ accepted e. e) (λ m. m) (into == from) refl r h
     comes taken weighted f g (Reset slot) r h =
         changes (Reset slot) slot (Empties behaviour) (record {
-          absent = λ h. not-given _ (ap (λ o. option_map kind.rules.emptied (option_map kind.shape o)) h);
+          absent = λ h. not-given _ (ap (λ o. option_map kind.look.rules.emptied (option_map kind.look.shape o)) h);
           done = λ s t held h puts. (
-            given _ (kind.rules.emptied (kind.shape s)) (ap (λ o. option_map kind.rules.emptied (option_map kind.shape o)) held),
+            given _ (kind.look.rules.emptied (kind.look.shape s)) (ap (λ o. option_map kind.look.rules.emptied (option_map kind.look.shape o)) held),
             (record { old = s; held = held; made = record { made = t; fresh = obeys.emptied s t h.1; puts = puts } }, h.2),
           );
           refused = λ s t e held h. absurd (no-err tt e (sym h.0));
         }) r h
     comes taken weighted f g (RoundTrip slot) r h = comes-trip slot r h
     comes taken weighted f g (Redraw slot) r h =
-        ruled (Redraw slot) slot kind.rules.redrawn (λ accepted e. e) (behaviour.redrawn Source bit next) (λ s t. IsRedrawn kind bit next s source t source')
+        ruled (Redraw slot) slot kind.look.rules.redrawn (λ accepted e. e) (behaviour.redrawn Source bit next) (λ s t. IsRedrawn kind bit next s source t source')
         (λ s t r was h. obeys.redrawn s source r t source' was h)
         (λ s t d. d.0.shape_is) (λ s t held d puts. record { old = s; made = t; held = held; after = d; puts = puts }) r h
     comes taken weighted f g (MergeRedrawn into from) r h = comes-merge true into from (MergeRedrawn into from) (λ accepted e. e) (λ m. m) (into == from) refl r h
 
-    comes-clone : (IsClone : A → A → Type 0) → ((x y : A) → IsClone x y → kind.cmp x y ≡ Equal) → (command : Command A C) (r : Verdict) →
+    comes-clone : (IsClone : A → A → Type 0) → ((x y : A) → IsClone x y → kind.look.cmp x y ≡ Equal) → (command : Command A C) (r : Result Unit Refusal) →
         CarriesOutClone behaviour bit next IsClone command slots source r slots' source' → Goes r command
     comes-clone IsClone ties =
         comes (λ x. Cloned (IsClone x) (λ y. behaviour.taken y Source bit next)) (λ x weight. Cloned (IsClone x) (λ y. behaviour.taken_weighted y weight Source bit next))
-        (λ x s t r was. clone-obeys (IsClone x) x (ties x) (λ y. behaviour.taken y Source bit next) (kind.rules.updated (kind.shape s)) (λ y. IsUpdated kind bit next s y source) s
+        (λ x s t r was. clone-obeys (IsClone x) x (ties x) (λ y. behaviour.taken y Source bit next) (kind.look.rules.updated (kind.look.shape s)) (λ y. IsUpdated kind bit next s y source) s
         source r t source' (λ y. obeys.taken y s source r t source' was))
-        (λ x weight s t r was. clone-obeys (IsClone x) x (ties x) (λ y. behaviour.taken_weighted y weight Source bit next) (kind.rules.updated_weighted (kind.shape s) weight)
+        (λ x weight s t r was. clone-obeys (IsClone x) x (ties x) (λ y. behaviour.taken_weighted y weight Source bit next) (kind.look.rules.updated_weighted (kind.look.shape s) weight)
         (λ y. IsWeighted kind bit next s y weight source) s source r t source' (λ y. obeys.taken_weighted y weight s source r t source' was))
 
     -- a command whose items are cloned is a step
-    pub clone-executed : (IsClone : A → A → Type 0) → ((x y : A) → IsClone x y → kind.cmp x y ≡ Equal) → (command : Command A C) (r : Verdict) →
+    pub clone-executed : (IsClone : A → A → Type 0) → ((x y : A) → IsClone x y → kind.look.cmp x y ≡ Equal) → (command : Command A C) (r : Result Unit Refusal) →
         CarriesOutClone behaviour bit next IsClone command slots source r slots' source' → r ≢ Err (Sketch OutOfMemory) →
         IsExecuted kind bit next command (in_slot slots) source (is_ok r) (in_slot slots') source'
     clone-executed IsClone ties command r h n =
         executed kind bit next r command (in_slot slots) source (in_slot slots') source' n (comes-clone IsClone ties command r h)
 
     -- a command whose sketch takes the item itself is a step
-    pub comes-item : (command : Command A C) (r : Verdict) → CarriesOutItem behaviour bit next command slots source r slots' source' → Goes r command
+    pub comes-item : (command : Command A C) (r : Result Unit Refusal) → CarriesOutItem behaviour bit next command slots source r slots' source' → Goes r command
     comes-item =
         comes (λ x. behaviour.taken x Source bit next) (λ x weight. behaviour.taken_weighted x weight Source bit next)
-        (λ x s t r was h. item-obeys x (kind.rules.updated (kind.shape s)) (λ y. IsUpdated kind bit next s y source) s source r t source' (obeys.taken x s source r t source' was h))
-        (λ x weight s t r was h. item-obeys x (kind.rules.updated_weighted (kind.shape s) weight) (λ y. IsWeighted kind bit next s y weight source) s source r t source'
+        (λ x s t r was h. item-obeys x (kind.look.rules.updated (kind.look.shape s)) (λ y. IsUpdated kind bit next s y source) s source r t source' (obeys.taken x s source r t source' was h))
+        (λ x weight s t r was h. item-obeys x (kind.look.rules.updated_weighted (kind.look.shape s) weight) (λ y. IsWeighted kind bit next s y weight source) s source r t source'
         (obeys.taken_weighted x weight s source r t source' was h))

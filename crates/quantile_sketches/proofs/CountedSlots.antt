@@ -6,8 +6,8 @@ use Rattle.std.proofs.lemmas.List.{get_or_past, get_or-set_same, get_or-set_othe
 use Rattle.std.proofs.lemmas.List.Sums.{count_by-le-length}
 use Rattle.sketch_base.specs.Trace.{changed}
 use Rattle.sketch_base.proofs.Changes.{changed-there, changed-other}
-use Rattle.quantile_sketches.specs.declared.audit.commands.Command.{Command}
-use Rattle.quantile_sketches.specs.declared.audit.commands.Command.TheVariants.{New, Merge, Reset, RoundTrip, Redraw, MergeRedrawn}
+use Rattle.quantile_sketches.specs.declared.commands.Command.{Command}
+use Rattle.quantile_sketches.specs.declared.commands.Command.TheVariants.{New, Merge, Reset, RoundTrip, Redraw, MergeRedrawn}
 use Rattle.quantile_sketches.specs.Audit.{CountStreams}
 use Rattle.quantile_sketches.specs.Run.{accepted_streams}
 use Rattle.quantile_sketches.proofs.LegalPlans.{counts_after}

@@ -33,8 +33,7 @@ use Rattle.quantile_sketches.specs.RunSteps.{Refuses, Acts, merge_of, IsFresh, I
 use Rattle.quantile_sketches.proofs.KllBare.{update-lengths, weighted-lengths, merge-lengths}
 use Rattle.quantile_sketches.proofs.KllKind.{shape-same, copy_is}
 use Rattle.quantile_sketches.proofs.KllRuleLaws.{is_bad_weight, bad-weight, taken-weight, merged-some, merged-none}
-use Rattle.quantile_sketches.proofs.CallErrors.{refuses-by, err-of, unwritten, unread}
-use Rattle.quantile_sketches.proofs.SameRuns.{no-err}
+use Rattle.quantile_sketches.proofs.CallErrors.{no-err, refuses-by, err-of, unwritten, unread}
 
 -- `none_if` gives nothing exactly if the test holds
 pub unless-none : {B : Type 0} (b : Bool) (made : B) → IsTrue b ↔ (none_if b made ≡ None)

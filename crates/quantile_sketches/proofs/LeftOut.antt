@@ -7,13 +7,14 @@ use Rattle.sketch_base.specs.Lengths.{lengths_after}
 use Rattle.sketch_base.specs.Trace.{Event, World, coins, events_at}
 use Rattle.sketch_base.proofs.CallsInTurn.{coins-at}
 use Rattle.sketch_base.proofs.Changes.{changed-own}
-use Rattle.quantile_sketches.specs.declared.audit.commands.Command.{Command}
-use Rattle.quantile_sketches.specs.declared.audit.commands.Command.TheVariants.{RoundTrip}
+use Rattle.quantile_sketches.specs.declared.commands.Command.{Command}
+use Rattle.quantile_sketches.specs.declared.commands.Command.TheVariants.{RoundTrip}
 use Rattle.quantile_sketches.specs.RuleLaws.{IsLawful}
-use Rattle.quantile_sketches.specs.Plan.{Plan, start_plan, is_refused, accepted_shapes, accepted_events, events_of, plan_after, after_command, after_commands, plan_of, trace_of}
-use Rattle.quantile_sketches.specs.Refused.{is_among, accepted_of, IsRefusedExactly, AreRefused}
+use Rattle.quantile_sketches.specs.Plan.{Plan, start_plan, is_refused, accepted_events, events_of, plan_after, after_commands, plan_of, trace_of}
+use Rattle.quantile_sketches.specs.Refused.{accepted_of, IsRefusedExactly, AreRefused}
 use Rattle.quantile_sketches.specs.Rules.{Rules, Kind}
 use Rattle.quantile_sketches.specs.Run.{accepted_streams, stream_of}
+use Rattle.quantile_sketches.proofs.PlanSteps.{accepted_shapes, after_command, is_among}
 use Rattle.quantile_sketches.proofs.LegalPlans.{plan-append, after-append, trace-more, coins-more}
 use Rattle.quantile_sketches.proofs.Refusals.{without-more}
 use Rattle.quantile_sketches.proofs.Streams.{streams_after}
@@ -84,15 +85,15 @@ taken false P h n = refl
 module _ {A C Shape S T : Type 0} (kind : Kind A C Shape S) (word : List Bool) (refused : List ℕ) (before : List (Command A C))
     (accepted : Plan Shape → T → Command A C → T) (trips : (plan : Plan Shape) (state : T) (slot : ℕ) → accepted plan state (RoundTrip slot) ≡ state) (state : T) where
   -- a refused command leaves unchanged what a round trip leaves unchanged
-  pub state-left : (command : Command A C) (P : Type 0) → IsRefusedExactly kind word refused before command P → P → after_command kind.rules accepted (plan_of kind.rules before) state command ≡ state
-  state-left (RoundTrip slot) P h p = (state-trip (is_refused kind.rules (plan_of kind.rules before).shapes (RoundTrip slot)) state _ (trips (plan_of kind.rules before) state slot)).0
-  state-left command P h p = ap (λ (b : Bool). if b then state else accepted (plan_of kind.rules before) state command) (h.0 p)
+  pub state-left : (command : Command A C) (P : Type 0) → IsRefusedExactly kind word refused before command P → P → after_command kind.look.rules accepted (plan_of kind.look.rules before) state command ≡ state
+  state-left (RoundTrip slot) P h p = (state-trip (is_refused kind.look.rules (plan_of kind.look.rules before).shapes (RoundTrip slot)) state _ (trips (plan_of kind.look.rules before) state slot)).0
+  state-left command P h p = ap (λ (b : Bool). if b then state else accepted (plan_of kind.look.rules before) state command) (h.0 p)
 
   -- and an accepted one changes it as `accepted` does
   pub state-taken : (command : Command A C) (P : Type 0) → IsRefusedExactly kind word refused before command P → ¬ P →
-      after_command kind.rules accepted (plan_of kind.rules before) state command ≡ accepted (plan_of kind.rules before) state command
-  state-taken (RoundTrip slot) P h n = (state-trip (is_refused kind.rules (plan_of kind.rules before).shapes (RoundTrip slot)) state _ (trips (plan_of kind.rules before) state slot)).1
-  state-taken command P h n = ap (λ (b : Bool). if b then state else accepted (plan_of kind.rules before) state command) (taken _ P h n)
+      after_command kind.look.rules accepted (plan_of kind.look.rules before) state command ≡ accepted (plan_of kind.look.rules before) state command
+  state-taken (RoundTrip slot) P h n = (state-trip (is_refused kind.look.rules (plan_of kind.look.rules before).shapes (RoundTrip slot)) state _ (trips (plan_of kind.look.rules before) state slot)).1
+  state-taken command P h n = ap (λ (b : Bool). if b then state else accepted (plan_of kind.look.rules before) state command) (taken _ P h n)
 
 -- a relation that still holds if a refused command is left out holds between a run's commands and its accepted ones
 module _ {A C Shape S : Type 0} (kind : Kind A C Shape S) (word : List Bool) (commands : List (Command A C)) (refused : List ℕ) (are : AreRefused kind word commands refused)
@@ -113,38 +114,38 @@ module _ {A C Shape S : Type 0} (kind : Kind A C Shape S) (word : List Bool) (co
 
 module _ {A C Shape S : Type 0} {kind : Kind A C Shape S} (lawful : IsLawful kind) where
   -- a round trip changes nothing that is planned
-  leaves-trip : (plan : Plan Shape) (slot : ℕ) → Leaves kind.rules plan (RoundTrip slot)
-  leaves-trip plan slot = go (is_refused kind.rules plan.shapes (RoundTrip slot)) refl
+  leaves-trip : (plan : Plan Shape) (slot : ℕ) → Leaves kind.look.rules plan (RoundTrip slot)
+  leaves-trip plan slot = go (is_refused kind.look.rules plan.shapes (RoundTrip slot)) refl
     where
       trip : Command A C
       trip = RoundTrip slot
 
-      go : (b : Bool) → is_refused kind.rules plan.shapes trip ≡ b → Leaves kind.rules plan trip
-      go true e = leaves-refused kind.rules plan trip e
+      go : (b : Bool) → is_refused kind.look.rules plan.shapes trip ≡ b → Leaves kind.look.rules plan trip
+      go true e = leaves-refused kind.look.rules plan trip e
       go false e = record {
         plan_is =
-            ap (plan_by kind.rules plan trip) e
+            ap (plan_by kind.look.rules plan trip) e
             ∙ ap₂ (λ (shapes : ℕ → Option Shape) (lengths : World (List ℕ)). let p : Plan Shape = record { shapes = shapes; lengths = lengths } in p)
             (fun_ext (changed-own plan.shapes slot)) (lawful.rules.read_lengths slot plan.lengths);
-        drawn_are = ap (λ (b : Bool). coins (if b then [] else accepted_events kind.rules plan trip)) e ∙ (coins-at slot kind.rules.read_back_actions ∙ lawful.rules.read_draws);
-        trace_is = λ z. ap (λ (b : Bool). if b then [] else accepted_events kind.rules plan trip) e ∙ ap (events_at slot) z;
+        drawn_are = ap (λ (b : Bool). coins (if b then [] else accepted_events kind.look.rules plan trip)) e ∙ (coins-at slot kind.look.rules.read_back_actions ∙ lawful.rules.read_draws);
+        trace_is = λ z. ap (λ (b : Bool). if b then [] else accepted_events kind.look.rules plan trip) e ∙ ap (events_at slot) z;
       }
 
   -- nor does a refused command
   leaves : (word : List Bool) (refused : List ℕ) (before : List (Command A C)) (command : Command A C) (P : Type 0) → IsRefusedExactly kind word refused before command P → P →
-      Leaves kind.rules (plan_of kind.rules before) command
-  leaves word refused before (RoundTrip slot) P h p = leaves-trip (plan_of kind.rules before) slot
-  leaves word refused before command P h p = leaves-refused kind.rules (plan_of kind.rules before) command (h.0 p)
+      Leaves kind.look.rules (plan_of kind.look.rules before) command
+  leaves word refused before (RoundTrip slot) P h p = leaves-trip (plan_of kind.look.rules before) slot
+  leaves word refused before command P h p = leaves-refused kind.look.rules (plan_of kind.look.rules before) command (h.0 p)
 
   -- a command that is refused may be left out
   pub left-refused : (word : List Bool) (refused : List ℕ) (done fewer : List (Command A C)) (command : Command A C) (P : Type 0) → IsRefusedExactly kind word refused done command P → P →
-      IsLeftOut kind.rules done fewer → IsLeftOut kind.rules (done ++ command ∷ []) fewer
+      IsLeftOut kind.look.rules done fewer → IsLeftOut kind.look.rules (done ++ command ∷ []) fewer
   left-refused word refused done fewer command P h p l =
-      left-same kind.rules done fewer l command (leaves word refused done command P h p)
-      (state-left kind word refused done (λ plan. accepted_streams) (λ plan streams slot. refl) (stream_of kind.rules done) command P h p)
+      left-same kind.look.rules done fewer l command (leaves word refused done command P h p)
+      (state-left kind word refused done (λ plan. accepted_streams) (λ plan streams slot. refl) (stream_of kind.look.rules done) command P h p)
 
   -- all refused commands may be left out
-  pub left-out : (word : List Bool) (commands : List (Command A C)) (refused : List ℕ) → AreRefused kind word commands refused → IsLeftOut kind.rules commands (accepted_of refused commands)
+  pub left-out : (word : List Bool) (commands : List (Command A C)) (refused : List ℕ) → AreRefused kind word commands refused → IsLeftOut kind.look.rules commands (accepted_of refused commands)
   left-out word commands refused are =
-      left-by kind word commands refused are (IsLeftOut kind.rules) (left-more kind.rules)
+      left-by kind word commands refused are (IsLeftOut kind.look.rules) (left-more kind.look.rules)
       (λ done fewer command. left-refused word refused done fewer command (Contains refused (length done))) [] commands refl (record { plan = refl; streams = refl; drawn = refl; trace = λ z. refl })

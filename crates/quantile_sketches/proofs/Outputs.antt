@@ -57,10 +57,6 @@ writes-stop c c' c'' waiting r written bytes fails a k = record {
 pub writes-none : {T E : Type 0} (c : Option (List ℕ)) (r : Result T E) (owed waiting : List ℕ) → owed ≡ waiting → Writes r c c owed waiting
 writes-none c r owed waiting e = record { sent = []; left = owed; parts = refl; out = appends_none c; waits = ok-so r e }
 
--- all that was owed is out, and nothing waits
-pub writes-all : {E : Type 0} {c c' : Option (List ℕ)} (owed : List ℕ) → Appends c c' owed → Writes {T = Unit} {E = E} (Ok tt) c c' owed []
-writes-all owed h = record { sent = owed; left = []; parts = sym (append-nil owed); out = h; waits = refl }
-
 -- all that was owed is out, and then a flush succeeds or fails
 pub writes-flushed : {T E T' E' : Type 0} {done : T} {c c' : Option (List ℕ)} {owed : List ℕ} (c'' : Option (List ℕ)) (text : List ℕ) (r' : Result T' E') →
     text ≡ owed → Writes {T = T} {E = E} (Ok done) c c' owed [] → Keeps c' c'' → Writes r' c c'' text []

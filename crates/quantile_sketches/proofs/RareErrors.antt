@@ -30,8 +30,14 @@ rare_words a b times one_in m n k t spread count words shows positive some far l
     let powers = mul-le-mul_left (b ^ m) (pow-le-pow_left squares m) in
     let littles = pow-le-pow_left little m in
     share_of_words one_in count words (odd_product m) (a ^ m) ((n * n) ^ m) (b ^ m * (k * k) ^ m) ((t * t) ^ m) (spread ^ m)
-    (omega (arith, mul-le-mul_right ((n * n) ^ m) shows, ap (λ (p : ℕ). b ^ m * p * (n * n) ^ m) (power_of_square times m), powers,
-    ap (λ (p : ℕ). b ^ m * p) (mul-pow (times * times) (n * n) m), ap (λ (p : ℕ). b ^ m * p) (mul-pow (k * k) (t * t) m)))
+    (omega (
+      arith,
+      mul-le-mul_right ((n * n) ^ m) shows,
+      ap (λ (p : ℕ). b ^ m * p * (n * n) ^ m) (power_of_square times m),
+      powers,
+      ap (λ (p : ℕ). b ^ m * p) (mul-pow (times * times) (n * n) m),
+      ap (λ (p : ℕ). b ^ m * p) (mul-pow (k * k) (t * t) m),
+    ))
     (omega (arith, few, ap (λ (p : ℕ). count * p) (power_of_square t m)))
     (omega (arith, littles, mul-pow (b * (k * k)) spread m, ap (λ (p : ℕ). p * spread ^ m) (mul-pow b (k * k) m), mul-pow a (n * n) m))
     (mul-pos (mul-pos (odd_product-pos m) (one-le-pow m a positive)) (one-le-pow m (n * n) (mul-pos some some)))

@@ -9,18 +9,18 @@ use Rattle.sketch_base.specs.declared.error.ErrorKind.{ErrorKind}
 use Rattle.sketch_base.specs.declared.error.ErrorKind.TheVariants.{OutOfMemory}
 use Rattle.sketch_base.proofs.Exits.{at_error}
 use Rattle.quantile_sketches.specs.LineSteps.{IsRefusal}
-use Rattle.quantile_sketches.specs.LineWords.{item_of, items_of, onto_items, rise, rise_from}
+use Rattle.quantile_sketches.specs.LineWords.{item_of, items_in_line, onto_items, rise, rise_from}
 use Rattle.quantile_sketches.proofs.DigitNumbers.{item_fits}
 use mir.Val.{to_z, of_z}
 
 -- the first word is an item
 module _ (ws ws' : List (List ℕ)) (x : ℤ) (is : Some x ≡ option_and_then item_of (slice_get ws 0)) (rest : ws' ≡ drop 1 ws) where
-  read-first : items_of ws ≡ x ∷ items_of ws'
+  read-first : items_in_line ws ≡ x ∷ items_in_line ws'
   read-first = go ws is rest
     where
-      go : (ws : List (List ℕ)) → Some x ≡ option_and_then item_of (slice_get ws 0) → ws' ≡ drop 1 ws → items_of ws ≡ x ∷ items_of ws'
+      go : (ws : List (List ℕ)) → Some x ≡ option_and_then item_of (slice_get ws 0) → ws' ≡ drop 1 ws → items_in_line ws ≡ x ∷ items_in_line ws'
       go [] is rest = absurd cc
-      go (w ∷ ws) is rest = ap (λ (o : Option ℤ). onto_items o (items_of ws)) (sym is) ∙ ap (λ (vs : List (List ℕ)). x ∷ items_of vs) (sym rest)
+      go (w ∷ ws) is rest = ap (λ (o : Option ℤ). onto_items o (items_in_line ws)) (sym is) ∙ ap (λ (vs : List (List ℕ)). x ∷ items_in_line vs) (sym rest)
 
   pub read-shorter : length ws' < length ws
   read-shorter = go ws is rest
@@ -38,44 +38,44 @@ module _ (ws ws' : List (List ℕ)) (x : ℤ) (is : Some x ≡ option_and_then i
       go (w ∷ ws) is = to_z-of_z w64 x (item_fits w x (sym is))
 
   -- it is put behind those read before
-  pub read-onto : (all start items : List ℤ) → all ≡ start ++ items_of ws → items ≡ start ++ to_z w64 (of_z w64 x) ∷ [] → all ≡ items ++ items_of ws'
+  pub read-onto : (all start items : List ℤ) → all ≡ start ++ items_in_line ws → items ≡ start ++ to_z w64 (of_z w64 x) ∷ [] → all ≡ items ++ items_in_line ws'
   read-onto all start items held put =
       held ∙ (ap (λ (xs : List ℤ). start ++ xs) read-first
-      ∙ sym (ap (λ (xs : List ℤ). xs ++ items_of ws') (put ∙ ap (λ (z : ℤ). start ++ z ∷ []) read-back) ∙ append_assoc start (x ∷ []) (items_of ws')))
+      ∙ sym (ap (λ (xs : List ℤ). xs ++ items_in_line ws') (put ∙ ap (λ (z : ℤ). start ++ z ∷ []) read-back) ∙ append_assoc start (x ∷ []) (items_in_line ws')))
 
   -- whether items rise, after the first one was read
-  pub rise-first : (given : List (List ℕ)) → ws ≡ given → rise (items_of given) ≡ rise_from (to_z w64 (of_z w64 x)) (items_of ws')
+  pub rise-first : (given : List (List ℕ)) → ws ≡ given → rise (items_in_line given) ≡ rise_from (to_z w64 (of_z w64 x)) (items_in_line ws')
   rise-first given same =
-      sym (ap (λ (vs : List (List ℕ)). rise (items_of vs)) same) ∙ (ap rise read-first ∙ ap (λ (z : ℤ). rise_from z (items_of ws')) (sym read-back))
+      sym (ap (λ (vs : List (List ℕ)). rise (items_in_line vs)) same) ∙ (ap rise read-first ∙ ap (λ (z : ℤ). rise_from z (items_in_line ws')) (sym read-back))
 
   -- and after one more
-  module _ (z : ℤ) {all b : Bool} {o : Ordering} (held : all ≡ rise_from z (items_of ws)) (compared : o ≡ int_cmp z (to_z w64 (of_z w64 x)))
+  module _ (z : ℤ) {all b : Bool} {o : Ordering} (held : all ≡ rise_from z (items_in_line ws)) (compared : o ≡ int_cmp z (to_z w64 (of_z w64 x)))
       (below : b ≡ is_lt o) where
-    with-next : all ≡ (is_lt (int_cmp z x) && rise_from x (items_of ws'))
+    with-next : all ≡ (is_lt (int_cmp z x) && rise_from x (items_in_line ws'))
     with-next = held ∙ ap (rise_from z) read-first
 
     lies-below : is_lt (int_cmp z x) ≡ b
     lies-below = ap (λ (y : ℤ). is_lt (int_cmp z y)) (sym read-back) ∙ sym (below ∙ ap is_lt compared)
 
-    pub rise-on : b ≡ true → all ≡ rise_from (to_z w64 (of_z w64 x)) (items_of ws')
+    pub rise-on : b ≡ true → all ≡ rise_from (to_z w64 (of_z w64 x)) (items_in_line ws')
     rise-on is =
-        with-next ∙ (ap (λ (c : Bool). c && rise_from x (items_of ws')) (lies-below ∙ is) ∙ ap (λ (y : ℤ). rise_from y (items_of ws')) (sym read-back))
+        with-next ∙ (ap (λ (c : Bool). c && rise_from x (items_in_line ws')) (lies-below ∙ is) ∙ ap (λ (y : ℤ). rise_from y (items_in_line ws')) (sym read-back))
 
     pub rise-off : b ≡ false → false ≡ all
-    rise-off is = sym (with-next ∙ ap (λ (c : Bool). c && rise_from x (items_of ws')) (lies-below ∙ is))
+    rise-off is = sym (with-next ∙ ap (λ (c : Bool). c && rise_from x (items_in_line ws')) (lies-below ∙ is))
 
 -- the first word is no item, or there is none
-read-none : (ws : List (List ℕ)) → None ≡ option_and_then item_of (slice_get ws 0) → items_of ws ≡ []
+read-none : (ws : List (List ℕ)) → None ≡ option_and_then item_of (slice_get ws 0) → items_in_line ws ≡ []
 read-none [] none = refl
-read-none (w ∷ ws) none = ap (λ (o : Option ℤ). onto_items o (items_of ws)) (sym none)
+read-none (w ∷ ws) none = ap (λ (o : Option ℤ). onto_items o (items_in_line ws)) (sym none)
 
-pub read-all : (all start : List ℤ) (ws : List (List ℕ)) → all ≡ start ++ items_of ws → None ≡ option_and_then item_of (slice_get ws 0) → start ≡ all
+pub read-all : (all start : List ℤ) (ws : List (List ℕ)) → all ≡ start ++ items_in_line ws → None ≡ option_and_then item_of (slice_get ws 0) → start ≡ all
 read-all all start ws held none = sym (held ∙ (ap (λ (xs : List ℤ). start ++ xs) (read-none ws none) ∙ append-nil start))
 
-pub rise-none : (ws given : List (List ℕ)) → ws ≡ given → None ≡ option_and_then item_of (slice_get ws 0) → true ≡ rise (items_of given)
-rise-none ws given same none = sym (sym (ap (λ (vs : List (List ℕ)). rise (items_of vs)) same) ∙ ap rise (read-none ws none))
+pub rise-none : (ws given : List (List ℕ)) → ws ≡ given → None ≡ option_and_then item_of (slice_get ws 0) → true ≡ rise (items_in_line given)
+rise-none ws given same none = sym (sym (ap (λ (vs : List (List ℕ)). rise (items_in_line vs)) same) ∙ ap rise (read-none ws none))
 
-pub rise-all : (ws : List (List ℕ)) (z : ℤ) {all : Bool} → all ≡ rise_from z (items_of ws) → None ≡ option_and_then item_of (slice_get ws 0) → true ≡ all
+pub rise-all : (ws : List (List ℕ)) (z : ℤ) {all : Bool} → all ≡ rise_from z (items_in_line ws) → None ≡ option_and_then item_of (slice_get ws 0) → true ≡ all
 rise-all ws z held none = sym (held ∙ ap (rise_from z) (read-none ws none))
 
 -- an error for arguments that are good

@@ -21,7 +21,7 @@ use Rattle.quantile_sketches.specs.ReqPlan.{ReqCommand, shape_in, shape_at, tail
 use Rattle.quantile_sketches.specs.ReqReady.{stays_fair}
 use Rattle.quantile_sketches.specs.ReqRules.{ReqShape, req_rules}
 use Rattle.quantile_sketches.specs.ReqUpdated.{was_only_updated, compacted_in, off_tail_at}
-use Rattle.quantile_sketches.specs.Run.{stream_of, rank_under, IsUnbiased}
+use Rattle.quantile_sketches.specs.Run.{stream_of, slot_rank_under, IsUnbiased}
 use Rattle.quantile_sketches.specs.Scatter.{squared_errors, scatter_of}
 use Rattle.quantile_sketches.proofs.Audits.{weights-measured, weights-total}
 use Rattle.quantile_sketches.proofs.ReqFair.{run-unbiased_where_fair, fair-shed}
@@ -38,7 +38,7 @@ module _ {A : Type 0} {cmp : A → A → Ordering} (o : IsTotalOrder cmp) (spell
   bits = coins (trace_of req_rules commands)
 
   abbrev under : List Bool → ℕ
-  under = rank_under req_rules cmp y criteria commands slot
+  under = slot_rank_under req_rules cmp y criteria commands slot
 
   abbrev truth : ℕ
   truth = true_rank cmp y criteria (stream_of req_rules commands slot)
@@ -61,11 +61,11 @@ module _ {A : Type 0} {cmp : A → A → Ordering} (o : IsTotalOrder cmp) (spell
 
   -- so they do if the slot was only updated
   pub sum-updated : was_only_updated commands slot ≡ true → sum weights ≡ length weights * truth
-  sum-updated only = weights-sum (updated-shed cmp commands slot only) (unbiased-updated cmp (counted cmp y criteria) commands bits slot only (omega arith))
+  sum-updated only = weights-sum (updated-shed cmp commands slot only) (unbiased-updated cmp commands bits (omega arith) slot (counted cmp y criteria) only)
 
   -- if it is fair
   pub sum-fair : is_fair_slot commands slot ≡ true → sum weights ≡ length weights * truth
-  sum-fair fair = weights-sum (fair-shed cmp commands slot fair) (run-unbiased_where_fair cmp (counted cmp y criteria) commands bits slot fair (omega arith))
+  sum-fair fair = weights-sum (fair-shed cmp commands slot fair) (run-unbiased_where_fair cmp commands bits (omega arith) slot (counted cmp y criteria) fair)
 
   -- and if it stays fair
   pub sum-redrawn : stays_fair commands slot ≡ true → sum weights ≡ length weights * truth

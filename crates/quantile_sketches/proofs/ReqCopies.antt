@@ -18,7 +18,7 @@ use Rattle.sketch_req.specs.declared.RankAccuracy.{RankAccuracy}
 use Rattle.sketch_req.proofs.WrittenSketches.{layouts_forgotten}
 use Rattle.quantile_sketches.specs.ReqKind.{req_kind}
 use Rattle.quantile_sketches.specs.ReqRules.{ReqShape}
-use Rattle.quantile_sketches.specs.RunSteps.{IsCopied, IsReadBack}
+use Rattle.quantile_sketches.specs.RunSteps.{IsPlainCopy, IsReadBack}
 
 -- a shape from its parts
 abbrev pub shape : ℕ → RankAccuracy → ℕ → List Layout → ReqShape
@@ -70,7 +70,7 @@ module _ {A : Type 0} {cmp : A → A → Ordering} (o : IsTotalOrder cmp) where
 
   module _ (spelling : A → Option (List ℕ)) where
     -- a copy
-    pub copy_is : (s t : Req A) → IsSameSketch cmp s t → IsSound cmp t → IsCopied (req_kind cmp spelling) s t
+    pub copy_is : (s t : Req A) → IsSameSketch cmp s t → IsSound cmp t → IsPlainCopy (req_kind cmp spelling) s t
     copy_is s t c sound =
         let levels = c.levels in
         record {

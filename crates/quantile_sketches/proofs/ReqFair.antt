@@ -9,7 +9,7 @@ use Rattle.quantile_sketches.specs.Plan.{trace_of}
 use Rattle.quantile_sketches.specs.ReqFair.{is_fair_slot}
 use Rattle.quantile_sketches.specs.ReqPlan.{ReqCommand}
 use Rattle.quantile_sketches.specs.ReqRules.{req_rules}
-use Rattle.quantile_sketches.specs.Run.{RunIsUnbiasedWhere}
+use Rattle.quantile_sketches.specs.Run.{AreUnbiasedWhere, WithEnoughBits}
 use Rattle.quantile_sketches.proofs.LegalPlans.{run-legal, along-even}
 use Rattle.quantile_sketches.proofs.ReqRuleLaws.{req_lawful}
 use Rattle.quantile_sketches.proofs.Streams.{run-ranks}
@@ -17,8 +17,8 @@ use Rattle.quantile_sketches.proofs.Trips.{shed-same}
 
 module _ {A : Type 0} (cmp : A → A → Ordering) where
   -- for every list of commands
-  pub run-unbiased_where_fair : RunIsUnbiasedWhere (req_rules {A = A}) cmp is_fair_slot
-  run-unbiased_where_fair test commands length slot fair enough =
+  pub run-unbiased_where_fair : WithEnoughBits (req_rules {A = A}) (AreUnbiasedWhere req_rules cmp is_fair_slot)
+  run-unbiased_where_fair commands length enough slot test fair =
       let trace = trace_of req_rules commands in
       let legal = run-legal (req_lawful {A = A}) commands in
       fair_is_unbiased cmp test trace length slot legal.scratch (along-even (req_lawful {A = A}) trace start_lengths legal.meets) fair enough

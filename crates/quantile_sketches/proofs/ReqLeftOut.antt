@@ -6,14 +6,13 @@ use Rattle.std.specs.Cmp.{IsTotalOrder}
 use Rattle.sketch_base.specs.Trace.{Event, coins}
 use Rattle.sketch_req.specs.Sketch.{Req}
 use Rattle.sketch_base.proofs.Picks.{Sheds, none, shed, sheds-none, sheds-append}
-use Rattle.quantile_sketches.specs.declared.audit.commands.Command.TheVariants.{RoundTrip}
+use Rattle.quantile_sketches.specs.declared.commands.Command.TheVariants.{RoundTrip}
 use Rattle.quantile_sketches.specs.Plan.{Plan, start_plan, is_refused, accepted_events, events_of, plan_of, trace_of}
 use Rattle.quantile_sketches.specs.Refused.{accepted_of, LeadTo, IsRefusedExactly, AreRefused}
 use Rattle.quantile_sketches.specs.ReqKind.{req_kind}
 use Rattle.quantile_sketches.specs.ReqPlan.{ReqCommand, accepted_tails, tails_of, no_tails}
 use Rattle.quantile_sketches.specs.ReqRules.{ReqShape, req_rules}
-use Rattle.quantile_sketches.specs.RunSteps.{Held}
-use Rattle.quantile_sketches.proofs.AfterCommands.{arrives}
+use Rattle.quantile_sketches.specs.RunSteps.{Sketches}
 use Rattle.quantile_sketches.proofs.LeftOut.{IsLeftOut, state-more, state-left, left-more, left-refused, left-by}
 use Rattle.quantile_sketches.proofs.LegalPlans.{after-append, trace-more}
 use Rattle.quantile_sketches.proofs.ReqKind.{req_kind_lawful}
@@ -69,13 +68,3 @@ module _ {A : Type 0} {cmp : A → A → Ordering} (o : IsTotalOrder cmp) (spell
                 ∙ (state-left (req_kind cmp spelling) word refused done (λ plan. accepted_tails plan.shapes) (λ plan tails slot. refl) (tails_of done) c P exact there ∙ h.tails);
             trace = sheds-more done fewer c [] _ (append-nil (trace_of req_rules fewer)) h (sheds-left done c P exact there);
           }
-
--- if commands lead to sketches, the trace of the accepted ones lacks only round trips
-pub led-sheds : {A : Type 0} {cmp : A → A → Ordering} (o : IsTotalOrder cmp) (spelling : A → Option (List ℕ)) (commands : List (ReqCommand A)) (word : List Bool) (refused : List ℕ)
-    (slots : Held (Req A)) →
-    LeadTo (req_kind cmp spelling) word commands refused slots → coins (trace_of req_rules commands) ≤ length word → length word < 2 ^ 64 - 1 →
-    Sheds (trace_of req_rules commands) (trace_of req_rules (accepted_of refused commands))
-led-sheds {A} o spelling commands word refused slots lead enough few =
-    let arrived = arrives (req_kind_lawful o spelling) word commands refused slots lead enough few in
-    subst (λ (l : List (ReqCommand A)). Sheds (trace_of req_rules commands) (trace_of req_rules l)) arrived.accepted
-    (req-left-out o spelling word arrived.numbers commands arrived.going.refused_are).trace

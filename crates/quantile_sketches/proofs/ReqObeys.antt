@@ -33,13 +33,12 @@ use Rattle.quantile_sketches.specs.Calls.{Obeys, ObeysRules}
 use Rattle.quantile_sketches.specs.Rules.{none_if}
 use Rattle.quantile_sketches.specs.ReqBehaviour.{req, IsEmptyOf, IsMade, IsImaged, IsLoaded, IsUnfit, TakesIn, DrawsAnew, JoinsIn}
 use Rattle.quantile_sketches.specs.ReqKind.{req_kind, req_shape}
-use Rattle.quantile_sketches.specs.ReqRules.{ReqShape, new_shape, may_be_k, is_same, is_too_much, req_rules}
+use Rattle.quantile_sketches.specs.ReqRules.{ReqShape, new_shape, is_same, is_too_much, req_rules}
 use Rattle.quantile_sketches.specs.RunSteps.{Refuses, Acts, merge_of, IsFresh, IsReadBack, IsUpdated, IsWeighted, IsRedrawn, IsMerged}
 use Rattle.quantile_sketches.proofs.KllObeys.{imaged, never, unless-none}
-use Rattle.quantile_sketches.proofs.CallErrors.{refuses-by, err-of, unread}
+use Rattle.quantile_sketches.proofs.CallErrors.{no-err, refuses-by, err-of, unread}
 use Rattle.quantile_sketches.proofs.ReqCopies.{same-shape, copy_is, read_is}
-use Rattle.quantile_sketches.proofs.ReqRuleLaws.{not-false, same_accuracy, legal_k, enough_room, merged_as, no_merge}
-use Rattle.quantile_sketches.proofs.SameRuns.{no-err}
+use Rattle.quantile_sketches.proofs.ReqRuleLaws.{may_be_k, not-false, same_accuracy, legal_k, enough_room, merged_as, no_merge}
 
 -- a legal k passes the test
 pub may-be : (k : ℕ) → IsLegalK k → may_be_k k ≡ true

@@ -6,13 +6,14 @@ use Rattle.sketch_base.proofs.Changes.{changed-own, changed-through}
 use Rattle.sketch_req.specs.Schedule.{Layout, merge_layouts}
 use Rattle.sketch_req.proofs.ByUpdates.{none_drawn as new-drawn}
 use Rattle.sketch_req.proofs.FairSlots.{Stands, stands-end, stands-same, stands-clear, stands-forget, stands-redraw, stands-update, stands-merge, stands-merge_redrawn}
-use Rattle.quantile_sketches.specs.declared.audit.commands.Command.TheVariants.{New, Update, UpdateWeighted, Merge, Reset, RoundTrip, Redraw, MergeRedrawn}
-use Rattle.quantile_sketches.specs.Plan.{Plan, start_plan, events_of, after_command, plan_after, trace_from}
+use Rattle.quantile_sketches.specs.declared.commands.Command.TheVariants.{New, Update, UpdateWeighted, Merge, Reset, RoundTrip, Redraw, MergeRedrawn}
+use Rattle.quantile_sketches.specs.Plan.{Plan, start_plan, events_of, plan_after, trace_from, after_commands}
 use Rattle.quantile_sketches.specs.ReqFair.{is_fair_slot}
 use Rattle.quantile_sketches.specs.ReqPlan.{ReqCommand, shape_in}
-use Rattle.quantile_sketches.specs.ReqReady.{Fairness, new_fairness, updated_fairness, with_ready, merged_fairness, fairness_in, accepted_fairness, fairness_from, stays_fair}
+use Rattle.quantile_sketches.specs.ReqReady.{Fairness, new_fairness, updated_fairness, with_ready, merged_fairness, fairness_in, accepted_fairness, stays_fair}
 use Rattle.quantile_sketches.specs.ReqRules.{ReqShape, new_shape, req_rules}
-use Rattle.quantile_sketches.specs.Run.{RunIsUnbiasedWhere}
+use Rattle.quantile_sketches.specs.Run.{AreUnbiasedWhere, WithEnoughBits}
+use Rattle.quantile_sketches.proofs.PlanSteps.{after_command}
 use Rattle.quantile_sketches.proofs.ReqFair.{run-unbiased_where_fair}
 use Rattle.quantile_sketches.proofs.ReqShapes.{updated_shape, events_merged, req_merge_events, accepted_req_events, req_merge_shapes, accepted_req_shapes, either-way}
 use Rattle.quantile_sketches.proofs.ReqRuleLaws.{merged_as}
@@ -109,7 +110,7 @@ module _ {A : Type 0} (slot : ℕ) where
       Stand shapes (if refused then fairs else accepted_fairness plan.shapes fairs command) rest → Stand plan.shapes fairs (events ++ rest))
       (λ n. n) (λ e. accepted-stands plan.shapes fairs command rest)
 
-  stands-from : (plan : Plan ReqShape) (fairs : ℕ → Fairness) (commands : List (ReqCommand A)) → (fairness_from plan fairs commands slot).is_fair ≡ true →
+  stands-from : (plan : Plan ReqShape) (fairs : ℕ → Fairness) (commands : List (ReqCommand A)) → (after_commands req_rules (λ plan. accepted_fairness plan.shapes) plan fairs commands slot).is_fair ≡ true →
       Stand plan.shapes fairs (trace_from req_rules plan commands)
   stands-from plan fairs [] e = stands-end slot (layouts_in plan.shapes) (λ j. (fairs j).is_ready) (λ j. (fairs j).is_fair) e
   stands-from plan fairs (command ∷ rest) e =
@@ -122,6 +123,5 @@ module _ {A : Type 0} where
   run-stays_fair commands slot e = (stands-from slot start_plan (λ s. new_fairness) commands e).fairs none_drawn (λ j r. new-drawn (none_drawn j))
 
   -- so it is unbiased
-  pub run-unbiased_where_redrawn : (cmp : A → A → Ordering) → RunIsUnbiasedWhere (req_rules {A = A}) cmp stays_fair
-  run-unbiased_where_redrawn cmp test commands length slot fair enough =
-      run-unbiased_where_fair cmp test commands length slot (run-stays_fair commands slot fair) enough
+  pub run-unbiased_where_redrawn : (cmp : A → A → Ordering) → WithEnoughBits (req_rules {A = A}) (AreUnbiasedWhere req_rules cmp stays_fair)
+  run-unbiased_where_redrawn cmp commands bits enough slot test fair = run-unbiased_where_fair cmp commands bits enough slot test (run-stays_fair commands slot fair)

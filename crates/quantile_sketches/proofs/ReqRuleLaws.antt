@@ -1,5 +1,5 @@
 -- REQ's rules are lawful.
-use Rattle.std.proofs.Common.{◌≡◌, ℕ, ◌+◌, ◌^◌, ◌<◌, ◌≤◌, Bool, true, false, ◌||◌, ◌&&◌, ◌==◌, not, if◌then◌else◌, List, [], ◌∷◌, append-nil, sum, Some, refl, sym, ap, ◌∙◌, subst, arith}
+use Rattle.std.proofs.Common.{◌%◌, ◌≡◌, ℕ, ◌+◌, ◌^◌, ◌<◌, ◌≤◌, Bool, true, false, ◌||◌, ◌&&◌, ◌==◌, not, if◌then◌else◌, List, [], ◌∷◌, append-nil, sum, Some, refl, sym, ap, ◌∙◌, subst, arith, nat_le}
 use Rattle.std.proofs.lemmas.Bool.Decides.{nat_tests}
 use Rattle.std.proofs.lemmas.Bool.{false≢true, ne_eqb, or_parts}
 pub use Rattle.std.proofs.lemmas.Bool.{not-false}
@@ -21,7 +21,7 @@ use Rattle.sketch_req.proofs.LegalWalks.{room_leads}
 use Rattle.sketch_req.proofs.Unbiased.{ranks-update}
 use Rattle.quantile_sketches.specs.RuleLaws.{lengths_by, IsLegalBy, DoWell, AreLawful}
 use Rattle.quantile_sketches.specs.ReqKind.{FitsReq, MeetsReq}
-use Rattle.quantile_sketches.specs.ReqRules.{ReqShape, new_shape, may_be_k, is_same, is_too_much, req_rules}
+use Rattle.quantile_sketches.specs.ReqRules.{ReqShape, new_shape, is_same, is_too_much, req_rules}
 use Rattle.quantile_sketches.proofs.KllRuleLaws.{unless-there}
 use Rattle.quantile_sketches.proofs.LegalPlans.{not-none, some-one}
 use Rattle.quantile_sketches.proofs.ReqMerges.{redraw-leads, ranks-redraw, ranks-merge}
@@ -32,7 +32,10 @@ same_accuracy HighRank HighRank e = refl
 same_accuracy LowRank LowRank e = refl
 same_accuracy a b e = absurd (false≢true e)
 
--- a k that passes the test is legal
+-- the test of a k; one that passes it is legal
+abbrev pub may_be_k : ℕ → Bool
+may_be_k k = nat_le 4 k && nat_le k 1024 && (k % 2 == 0)
+
 pub legal_k : (k : ℕ) → may_be_k k ≡ true → IsLegalK k
 legal_k k e = record { at_least = grind (arith, nat_tests); at_most = grind (arith, nat_tests); even = grind (arith, nat_tests) }
 

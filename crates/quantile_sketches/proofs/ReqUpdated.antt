@@ -1,4 +1,6 @@
 -- A slot that was only updated is like a fresh sketch that took its stream, so it is unbiased and its errors are relative.
+use Rattle.sketch_req.proofs.Relatives.{updates_relative, updates_relative_to_counts}
+use Rattle.std.specs.Cmp.{IsTotalOrder}
 use Rattle.std.proofs.Common.{◌≡◌, ℕ, suc, ◌+◌, ◌-◌, ◌*◌, ◌^◌, ◌<◌, ◌≤◌, Bool, true, false, ◌&&◌, ◌==◌, if◌then◌else◌, List, [], ◌∷◌, ◌++◌, length, replicate, count_by, Option, None, Some, IsTrue, refl, sym, ap, ap₂, ◌∙◌, subst, arith, eqb-true, append_assoc, append-nil, Ordering}
 use Rattle.std.proofs.Math.Nat.{mul-le-mul_left}
 use Rattle.std.proofs.lemmas.Bool.{false≢true}
@@ -14,22 +16,23 @@ use Rattle.sketch_base.proofs.CallsInTurn.{coins-at}
 use Rattle.sketch_base.proofs.Changes.{changed-there, changed-own}
 use Rattle.sketch_base.proofs.Picks.{is_plain, ArePlain, stays, picked, pick, Sheds, play-picked, play-shed, sum-picked, picked-cleared, picked-away, picked-joined, picked-more}
 use Rattle.sketch_base.proofs.PlaysInParts.{play-at}
-use Rattle.sketch_req.specs.Relative.{IsRelative, UpdatesAreRelative, Reaches, UpdatesAreRelativeToCounts}
+use Rattle.sketch_req.specs.Relative.{IsRelative, UpdatesAreRelative, Reaches, UpdatesAreRelativeToCounts, off_protected_end}
 use Rattle.sketch_req.specs.Schedule.{Layout, new_layout, actions_if_full, put_layouts, update_actions, update_layouts, redraw_actions, merge_layouts, merge_actions_by}
 use Rattle.sketch_req.specs.ScheduleLaws.{updates_actions, updates_layouts, updates_trace}
 use Rattle.sketch_req.specs.Sections.{IsLegalK}
 use Rattle.sketch_req.specs.declared.RankAccuracy.{RankAccuracy}
 use Rattle.sketch_req.proofs.Unbiased.{AreCompacts, room_compacts, unbiased_list}
-use Rattle.quantile_sketches.specs.declared.audit.commands.Command.TheVariants.{New, Update, UpdateWeighted, Merge, Reset, RoundTrip, Redraw, MergeRedrawn}
-use Rattle.quantile_sketches.specs.Plan.{Plan, start_plan, count_of, events_of, after_command, plan_after, plan_from, trace_from, trace_of, plan_of}
+use Rattle.quantile_sketches.specs.declared.commands.Command.TheVariants.{New, Update, UpdateWeighted, Merge, Reset, RoundTrip, Redraw, MergeRedrawn}
+use Rattle.quantile_sketches.specs.Plan.{Plan, start_plan, count_of, events_of, plan_after, trace_from, trace_of, plan_of, after_commands}
 use Rattle.quantile_sketches.specs.ReqPlan.{ReqCommand, shape_in, shape_at}
 use Rattle.quantile_sketches.specs.ReqRules.{ReqShape, new_shape, req_rules}
 use Rattle.quantile_sketches.specs.ReqRun.{merged_in}
-use Rattle.quantile_sketches.specs.ReqUpdated.{accepted_only_updated, only_updated_from, was_only_updated, compacted_in, off_tail_at}
-use Rattle.quantile_sketches.specs.Run.{accepted_streams, streams_from, stream_of, IsUnbiased}
+use Rattle.quantile_sketches.specs.ReqUpdated.{accepted_only_updated, was_only_updated, compacted_in, off_tail_at, AreRelative, AreRelativeToCounts}
+use Rattle.quantile_sketches.specs.Run.{accepted_streams, stream_of, IsUnbiased}
 use Rattle.quantile_sketches.specs.Scatter.{squared_errors}
+use Rattle.quantile_sketches.proofs.PlanSteps.{after_command, plan_from, streams_from}
 use Rattle.quantile_sketches.proofs.LegalPlans.{at_slot, changed-away}
-use Rattle.quantile_sketches.proofs.ReqShapes.{events_merged, req_merge_events, accepted_req_events, req_merge_shapes, accepted_req_shapes, updated_shape, either-way}
+use Rattle.quantile_sketches.proofs.ReqShapes.{merged_in-is, events_merged, req_merge_events, accepted_req_events, req_merge_shapes, accepted_req_shapes, updated_shape, either-way}
 use Rattle.quantile_sketches.proofs.ReqPlanFits.{run-fits}
 use Rattle.quantile_sketches.proofs.ReqRuleLaws.{req_lawful, merged_as}
 use Rattle.quantile_sketches.proofs.Streams.{AreCounted, streams_after, counts-after, streams-fit}
@@ -112,7 +115,9 @@ module _ {A : Type 0} where
   merge-own : (redraws : Bool) (shapes : ℕ → Option ReqShape) (only : ℕ → Bool) (trace : List (Event A)) (streams : ℕ → List A) → AreOwn shapes only trace streams →
       ((j : ℕ) → count_of (req_rules {A = A}) (shapes j) ≡ length (streams j)) → (into source : ℕ) →
       AreOwn (req_merge_shapes shapes into source) (merged_in shapes only into source) (trace ++ req_merge_events redraws shapes into source) (changed streams into (streams into ++ streams source))
-  merge-own redraws shapes only trace streams h counts into source = go ((shape_in (shapes source)).n == 0) refl
+  merge-own redraws shapes only trace streams h counts into source =
+      subst (λ (f : ℕ → Bool). AreOwn (req_merge_shapes shapes into source) f (trace ++ req_merge_events redraws shapes into source) (changed streams into (streams into ++ streams source)))
+      (merged_in-is shapes only into source) (go ((shape_in (shapes source)).n == 0) refl)
     where
       go : (b : Bool) → ((shape_in (shapes source)).n == 0) ≡ b →
           let s = shape_in (shapes into) in
@@ -180,7 +185,7 @@ module _ {A : Type 0} where
 
   own-from : (plan : Plan ReqShape) (only : ℕ → Bool) (trace : List (Event A)) (streams : ℕ → List A) → AreOwn plan.shapes only trace streams →
       AreCounted (req_lawful {A = A}) plan streams → (commands : List (ReqCommand A)) →
-      AreOwn (plan_from req_rules plan commands).shapes (only_updated_from plan only commands) (trace ++ trace_from req_rules plan commands) (streams_from req_rules plan streams commands)
+      AreOwn (plan_from req_rules plan commands).shapes (after_commands req_rules (λ plan. accepted_only_updated plan.shapes) plan only commands) (trace ++ trace_from req_rules plan commands) (streams_from req_rules plan streams commands)
   own-from plan only trace streams h counts [] = rw (append-nil trace) h
   own-from plan only trace streams h counts (command ∷ rest) =
       let next = plan_after req_rules plan command in
@@ -316,3 +321,18 @@ module _ {A : Type 0} (cmp : A → A → Ordering) (commands : List (ReqCommand 
         IsRelative shape.k levels bits (squared_errors req_rules cmp y criteria commands bits slot) count
     run-relative_to_counts relative levels great reaches =
         relative-by levels (relative y criteria slot shape.k (draws_of updates) levels shape.accuracy stream legal great short drawn reaches)
+
+module _ {A : Type 0} {cmp : A → A → Ordering} (o : IsTotalOrder cmp) (commands : List (ReqCommand A)) (bits : ℕ) (enough : coins (trace_of req_rules commands) ≤ bits) where
+  -- the errors of a slot that was only updated are relative
+  pub run-are_relative : AreRelative cmp commands bits
+  run-are_relative y criteria slot s planned only =
+      subst (λ (s : ReqShape). IsRelative s.k (compacted_in s) bits (squared_errors req_rules cmp y criteria commands bits slot) (off_protected_end cmp s.accuracy y criteria (stream_of req_rules commands slot)))
+      (ap shape_in planned) (run-relative cmp commands slot only bits enough y criteria (updates_relative o))
+
+  -- for a k of at least 24 they are relative to counts alone
+  pub run-are_relative_to_counts : AreRelativeToCounts cmp commands bits
+  run-are_relative_to_counts y criteria slot s planned only levels =
+      let stream = stream_of req_rules commands slot in
+      let squares = squared_errors req_rules cmp y criteria commands bits slot in
+      subst (λ (s : ReqShape). let count = off_protected_end cmp s.accuracy y criteria stream in 24 ≤ s.k → Reaches s.k count levels → IsRelative s.k levels bits squares count)
+      (ap shape_in planned) (run-relative_to_counts cmp commands slot only bits enough y criteria (updates_relative_to_counts o) levels)

@@ -10,10 +10,10 @@ use Rattle.sketch_req.specs.Actions.{bag_of}
 use Rattle.sketch_req.specs.Relative.{off_protected_end}
 use Rattle.sketch_req.specs.ScheduleLaws.{tail_side}
 use Rattle.sketch_req.specs.Sketch.{Req}
-use Rattle.quantile_sketches.specs.Outcome.{Slots, ArePlanned, ArePlayed, AreSound, WeighStreams, HaveExtremes}
+use Rattle.quantile_sketches.specs.Outcome.{SlotMap, ArePlanned, ArePlayed, AreSound, WeighStreams, HaveExtremes}
 use Rattle.quantile_sketches.specs.Plan.{plan_of, trace_of}
 use Rattle.quantile_sketches.specs.Refused.{AreRefused, accepted_of}
-use Rattle.quantile_sketches.specs.ReqKind.{req_kind, req_shape}
+use Rattle.quantile_sketches.specs.ReqKind.{req_look, req_kind, req_shape}
 use Rattle.quantile_sketches.specs.ReqPlan.{ReqCommand, shape_in, tails_of}
 use Rattle.quantile_sketches.specs.ReqRules.{ReqShape, req_rules}
 use Rattle.quantile_sketches.specs.Run.{stream_of}
@@ -48,10 +48,10 @@ module _ {A : Type 0} {cmp : A → A → Ordering} (o : IsTotalOrder cmp) where
       (run-ranks (req_lawful {A = A}) test commands slot ∙ sym (off-is cmp s.accuracy y criteria (stream_of req_rules commands slot)))
       (sym (off-rank cmp s.accuracy y criteria bag) ∙ off-alike o s.accuracy y criteria bag (bag_of s.levels) alike.levels) exact
 
-  module _ (spelling : A → Option (List ℕ)) (commands : List (ReqCommand A)) (slots : Slots (Req A)) (word : List Bool) (refused : List ℕ) where
-    pub run-summaries : AreRefused (req_kind cmp spelling) word commands refused → ArePlanned (req_kind cmp spelling) commands slots →
-        ArePlayed (req_kind cmp spelling) (accepted_of refused commands) word slots → WeighStreams (req_kind cmp spelling) commands slots →
-        HaveExtremes (req_kind cmp spelling) commands slots → AreSummaries cmp commands slots
+  module _ (spelling : A → Option (List ℕ)) (commands : List (ReqCommand A)) (slots : SlotMap (Req A)) (word : List Bool) (refused : List ℕ) where
+    pub run-summaries : AreRefused (req_kind cmp spelling) word commands refused → ArePlanned (req_look cmp) commands slots →
+        ArePlayed (req_look cmp) (accepted_of refused commands) word slots → WeighStreams (req_look cmp) commands slots →
+        HaveExtremes (req_look cmp) commands slots → AreSummaries cmp commands slots
     run-summaries are planned played weighs extremes slot s held =
         let shape : (plan_of req_rules commands).shapes slot ≡ Some (req_shape s) = sym (planned slot) ∙ ap (option_map req_shape) held in
         let fewer = accepted_of refused commands in
@@ -68,7 +68,7 @@ module _ {A : Type 0} {cmp : A → A → Ordering} (o : IsTotalOrder cmp) where
         }
 
   -- so each sketch is exact on its tail
-  pub summaries-tails : (spelling : A → Option (List ℕ)) (commands : List (ReqCommand A)) (slots : Slots (Req A)) → AreSound (req_kind cmp spelling) slots →
+  pub summaries-tails : (spelling : A → Option (List ℕ)) (commands : List (ReqCommand A)) (slots : SlotMap (Req A)) → AreSound (req_kind cmp spelling) slots →
       AreSummaries cmp commands slots → TailsAreExact cmp commands slots
   summaries-tails spelling commands slots sound is slot s held y criteria =
       tail-ranks cmp s (stream_of req_rules commands slot) (tails_of commands slot) y criteria (sound slot s held) (is slot s held)

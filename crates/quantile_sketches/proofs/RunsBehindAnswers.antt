@@ -4,22 +4,23 @@ use Rattle.std.specs.Prelude.{⊤}
 use mathlib.Core.Path.{fun_ext}
 use Rattle.sketch_base.specs.Random.{next_state}
 use Rattle.sketch_base.specs.declared.error.ErrorKind.{ErrorKind}
-use Rattle.quantile_sketches.specs.Behaviour.{Behaviour, coin_of}
+use Rattle.quantile_sketches.specs.declared.answer.Refusal.{Refusal}
+use Rattle.quantile_sketches.specs.Behaviour.{Behaviour, coin_of_state}
+use Rattle.quantile_sketches.specs.Refused.{AreExecuted}
 use Rattle.quantile_sketches.specs.RunsBehindLines.{Known, run_after, AreOfRunKeeping, AnswersWhere}
 use Rattle.quantile_sketches.specs.Calls.{ObeysRules}
 use Rattle.quantile_sketches.specs.Command.{request_of}
 use Rattle.quantile_sketches.specs.declared.answer.Refusal.TheVariants.{Sketch}
-use Rattle.quantile_sketches.specs.declared.audit.commands.Command.{Command}
+use Rattle.quantile_sketches.specs.declared.commands.Command.{Command}
 use Rattle.quantile_sketches.specs.declared.command.Request.{Request}
 use Rattle.quantile_sketches.specs.declared.command.Request.TheVariants.{Run, Load}
 use Rattle.quantile_sketches.specs.declared.table.TheConstants.{SLOTS}
-use Rattle.quantile_sketches.specs.Refused.{AreExecuted}
 use Rattle.quantile_sketches.specs.RuleLaws.{IsLawful}
 use Rattle.quantile_sketches.specs.Lines.{Serves}
 use Rattle.quantile_sketches.specs.Reader.{Grammar}
 use Rattle.quantile_sketches.specs.Rules.{Kind}
-use Rattle.quantile_sketches.specs.LineSteps.{Slots, in_slot, Verdict, Reply, reply_of, Makes, ReadsImage, Answers, CarriesOutItem}
-use Rattle.quantile_sketches.specs.RunSteps.{Held}
+use Rattle.quantile_sketches.specs.LineSteps.{Slots, in_slot, Reply, reply_of, Makes, ReadsImage, Answers, CarriesOutItem}
+use Rattle.quantile_sketches.specs.RunSteps.{Sketches}
 use Rattle.quantile_sketches.specs.LineWords.{words, image_in}
 use Rattle.quantile_sketches.proofs.Carried.{AreSoundIn, Comes, comes-item, left}
 use Rattle.quantile_sketches.proofs.Refusals.{executed-more}
@@ -27,39 +28,38 @@ use Rattle.quantile_sketches.proofs.Slots.{in_slot-none}
 use Rattle.quantile_sketches.proofs.Standing.{Standing, standing-none, standing-same, standing-more, standing-is}
 
 module _ {C Shape S : Type 0} (grammar : Grammar C) {kind : Kind ℤ C Shape S} (lawful : IsLawful kind) (behaviour : Behaviour S ℤ C)
-    (obeys : ObeysRules behaviour kind coin_of next_state) (seed : ℕ) where
+    (obeys : ObeysRules behaviour kind coin_of_state next_state) (seed : ℕ) where
   -- the sketches and the coins are those of a run, and stand where its commands put them
   abbrev OfRun : Known C → Slots S → ℕ → Type 0
   OfRun None slots coins = ⊤
-  OfRun (Some commands) slots coins =
-      AreExecuted kind coin_of next_state [] 0 commands (λ slot. None) seed (in_slot slots) coins × Standing kind coin_of next_state seed commands (in_slot slots) coins
+  OfRun (Some commands) slots coins = AreExecuted kind coin_of_state next_state [] 0 commands (λ slot. None) seed (in_slot slots) coins × Standing kind coin_of_state next_state seed commands (in_slot slots) coins
 
   -- if nothing changes, this still holds
   stays : (run : Known C) (slots : Slots S) (coins : ℕ) (slots' : Slots S) (coins' : ℕ) → slots' ≡ slots → coins' ≡ coins → OfRun run slots coins → OfRun run slots' coins'
   stays run slots coins slots' coins' e f h = subst (λ s. OfRun run s coins') (sym e) (subst (λ n. OfRun run slots n) (sym f) h)
 
   -- it holds after a command of runs, carried out or not
-  carried : (run : Known C) (command : Command ℤ C) (slots : Slots S) (coins : ℕ) (v : Verdict) (slots' : Slots S) (coins' : ℕ) →
-      CarriesOutItem behaviour coin_of next_state command slots coins v slots' coins' → OfRun run slots coins → OfRun (run_after run (Some (Run command)) (reply_of v)) slots' coins'
+  carried : (run : Known C) (command : Command ℤ C) (slots : Slots S) (coins : ℕ) (v : Result Unit Refusal) (slots' : Slots S) (coins' : ℕ) →
+      CarriesOutItem behaviour coin_of_state next_state command slots coins v slots' coins' → OfRun run slots coins → OfRun (run_after run (Some (Run command)) (reply_of v)) slots' coins'
   carried None command slots coins (Ok tt) slots' coins' h of = tt
   carried None command slots coins (Err e) slots' coins' h of = tt
-  carried (Some commands) command slots coins v slots' coins' h (of, st) = go v (comes-item lawful behaviour coin_of next_state obeys slots slots' coins coins' sound command v h)
+  carried (Some commands) command slots coins v slots' coins' h (of, st) = go v (comes-item lawful behaviour coin_of_state next_state obeys slots slots' coins coins' sound command v h)
     where
       sound : AreSoundIn kind (in_slot slots)
-      sound q s held = (standing-is lawful coin_of next_state seed commands (in_slot slots) coins st q s held).sound
+      sound q s held = (standing-is lawful coin_of_state next_state seed commands (in_slot slots) coins st q s held).sound
 
-      go : (v : Verdict) → Comes kind coin_of next_state v command (in_slot slots) coins (in_slot slots') coins' → OfRun (run_after (Some commands) (Some (Run command)) (reply_of v)) slots' coins'
+      go : (v : Result Unit Refusal) → Comes kind coin_of_state next_state v command (in_slot slots) coins (in_slot slots') coins' → OfRun (run_after (Some commands) (Some (Run command)) (reply_of v)) slots' coins'
       go (Ok tt) done = (
-        executed-more kind coin_of next_state [] 0 (length commands) commands (zero-add (length commands)) (λ slot. None) seed (in_slot slots) coins of command (in_slot slots') coins' done,
-        standing-more lawful coin_of next_state seed commands (in_slot slots) coins st command (in_slot slots') coins' done,
+        executed-more kind coin_of_state next_state [] 0 (length commands) commands (zero-add (length commands)) (λ slot. None) seed (in_slot slots) coins of command (in_slot slots') coins' done,
+        standing-more lawful coin_of_state next_state seed commands (in_slot slots) coins st command (in_slot slots') coins' done,
       )
       go (Err e) done =
-          let same = left kind coin_of next_state e command (in_slot slots) coins (in_slot slots') coins' done in (
+          let same = left kind coin_of_state next_state e command (in_slot slots) coins (in_slot slots') coins' done in (
             rw (fun_ext same.0, same.1) of,
-            standing-same lawful coin_of next_state seed commands (in_slot slots) (in_slot slots') coins coins' st same.0 same.1,
+            standing-same lawful coin_of_state next_state seed commands (in_slot slots) (in_slot slots') coins coins' st same.0 same.1,
           )
 
-  loaded : (run : Known C) (slot : ℕ) (made : Result S ErrorKind → Type 0) (slots : Slots S) (coins : ℕ) (v : Verdict) (slots' : Slots S) (coins' : ℕ) →
+  loaded : (run : Known C) (slot : ℕ) (made : Result S ErrorKind → Type 0) (slots : Slots S) (coins : ℕ) (v : Result Unit Refusal) (slots' : Slots S) (coins' : ℕ) →
       Makes made slot slots v slots' → coins' ≡ coins → OfRun run slots coins → OfRun (run_after run (Some (Load slot)) (reply_of v)) slots' coins'
   loaded run slot made slots coins (Ok tt) slots' coins' h same of = tt
   loaded run slot made slots coins (Err (Sketch e)) slots' coins' h same of = stays run slots coins slots' coins' h.1 same of
@@ -75,7 +75,7 @@ module _ {C Shape S : Type 0} (grammar : Grammar C) {kind : Kind ℤ C Shape S} 
 
   -- before each line that is answered, the sketches are those of a run, and keep every promise that the sketches of a run keep
   module _ (promise : List (Command ℤ C) → ℕ → S → Type 0)
-      (keeps : (commands : List (Command ℤ C)) (slots : Held S) (coins : ℕ) → Standing kind coin_of next_state seed commands slots coins → (slot : ℕ) (s : S) → slots slot ≡ Some s → promise commands slot s) where
+      (keeps : (commands : List (Command ℤ C)) (slots : Sketches S) (coins : ℕ) → Standing kind coin_of_state next_state seed commands slots coins → (slot : ℕ) (s : S) → slots slot ≡ Some s → promise commands slot s) where
     of-run : (run : Known C) (slots : Slots S) (coins : ℕ) → OfRun run slots coins → AreOfRunKeeping kind promise seed run slots coins
     of-run None slots coins of = tt
     of-run (Some commands) slots coins of = (of.0, keeps commands (in_slot slots) coins of.1)
@@ -92,4 +92,4 @@ module _ {C Shape S : Type 0} (grammar : Grammar C) {kind : Kind ℤ C Shape S} 
         AnswersWhere grammar behaviour (AreOfRunKeeping kind promise seed) (Some []) (replicate SLOTS None) seed ls out
     answers-rest ls out =
         answers-where (Some []) (replicate SLOTS None) seed ls out
-        ((fun_ext (λ q. in_slot-none SLOTS q), refl), standing-none lawful coin_of next_state seed (in_slot (replicate SLOTS None)) (λ q. in_slot-none SLOTS q))
+        ((fun_ext (λ q. in_slot-none SLOTS q), refl), standing-none lawful coin_of_state next_state seed (in_slot (replicate SLOTS None)) (λ q. in_slot-none SLOTS q))

@@ -3,8 +3,9 @@ use Rattle.std.proofs.Common.{◌≡◌, Bool, true, ℤ, List, Option, Some, No
 use Rattle.std.specs.Prelude.{MatchResult}
 use Rattle.sketch_base.specs.declared.error.ErrorKind.{ErrorKind}
 use Rattle.sketch_base.specs.declared.error.ErrorKind.TheVariants.{InvalidArgument}
+use Rattle.quantile_sketches.specs.declared.answer.Refusal.{Refusal}
 use Rattle.quantile_sketches.specs.Behaviour.{Behaviour, Change, Masses}
-use Rattle.quantile_sketches.specs.LineSteps.{Verdict, Reply, Asks, Turns, Joins, JoinsCopy, IsRefusal, AnswersMasses}
+use Rattle.quantile_sketches.specs.LineSteps.{Reply, Asks, Turns, Joins, JoinsCopy, IsRefusal, AnswersMasses}
 use Rattle.quantile_sketches.specs.LineWords.{rise}
 use Rattle.quantile_sketches.specs.declared.answer.Answer.TheVariants.{Ranks}
 use Rattle.quantile_sketches.specs.declared.answer.Refusal.TheVariants.{AbsentSlot, Sketch}
@@ -20,14 +21,14 @@ module _ {S Source : Type 0} (changed : Change Source S) (slot : Option S) where
   turns-done s t coins coins' is done = subst (λ (o : Option S). Turns changed o coins (Ok tt) (Some t) coins') (sym is) (t, refl, done)
 
   -- what its sketch tells is the verdict
-  pub turns-told : (s t : S) (coins coins' : Source) (told : Result Unit ErrorKind) (r : Verdict) → slot ≡ Some s →
+  pub turns-told : (s t : S) (coins coins' : Source) (told : Result Unit ErrorKind) (r : Result Unit Refusal) → slot ≡ Some s →
       MatchResult told (λ done. r ≡ Ok done) (λ e. IsErrAnd r (λ refusal. refusal ≡ Sketch e)) → changed s coins told t coins' →
       Turns changed slot coins r (Some t) coins'
   turns-told s t coins coins' (Ok done) r is same h = rw (same, is) (t, refl, h)
   turns-told s t coins coins' (Err e) r is same h = rw (error_is r (Sketch e) same, is) (t, refl, h)
 
   -- its sketch refuses
-  pub turns-refused : (s t : S) (coins coins' : Source) (e : ErrorKind) (r : Verdict) → slot ≡ Some s → r ≡ Err (Sketch e) → changed s coins (Err e) t coins' →
+  pub turns-refused : (s t : S) (coins coins' : Source) (e : ErrorKind) (r : Result Unit Refusal) → slot ≡ Some s → r ≡ Err (Sketch e) → changed s coins (Err e) t coins' →
       Turns changed slot coins r (Some t) coins'
   turns-refused s t coins coins' e r is err refused = rw (err, is) (t, refl, refused)
 
@@ -36,7 +37,7 @@ module _ {S Source : Type 0} (joined : S → Change Source S) (source slot : Opt
   pub joins-absent : (coins : Source) → source ≡ None → Joins joined source slot coins (Err AbsentSlot) slot coins
   joins-absent coins is = subst (λ (o : Option S). Joins joined o slot coins (Err AbsentSlot) slot coins) (sym is) (refl, refl, refl)
 
-  pub joins-other : (p : S) (coins coins' : Source) (r : Verdict) (slot' : Option S) → source ≡ Some p → Turns (joined p) slot coins r slot' coins' →
+  pub joins-other : (p : S) (coins coins' : Source) (r : Result Unit Refusal) (slot' : Option S) → source ≡ Some p → Turns (joined p) slot coins r slot' coins' →
       Joins joined source slot coins r slot' coins'
   joins-other p coins coins' r slot' is turns = subst (λ (o : Option S). Joins joined o slot coins r slot' coins') (sym is) turns
 

@@ -1,5 +1,5 @@
 -- The sketches behind the answers to lines summarize what is told of them, also after images were loaded.
-use Rattle.std.proofs.Common.{◌≡◌, ◌≢◌, ℕ, ℤ, ◌==◌, Bool, true, false, if◌then◌else◌, List, [], ◌∷◌, replicate, set, Option, None, Some, Ok, Err, Result, is_ok, is_some, refl, sym, ap, ◌∙◌, subst, inl, inr, eqb-true, arith, Ordering}
+use Rattle.std.proofs.Common.{◌≡◌, ◌≢◌, ℕ, ℤ, ◌==◌, Bool, true, false, if◌then◌else◌, List, [], ◌∷◌, replicate, set, Option, None, Some, Ok, Err, is_ok, is_some, refl, sym, ap, ◌∙◌, subst, inl, inr, eqb-true, arith, Ordering, Result}
 use Rattle.std.specs.Cmp.{IsTotalOrder}
 use Rattle.std.specs.Option.{option_and_then, option_map}
 use Rattle.std.specs.Ordering.{int_cmp}
@@ -24,16 +24,17 @@ use Rattle.sketch_req.specs.Redrawn.{coins_of_redraw}
 use Rattle.sketch_req.specs.Sketch.{Req, IsSound, coins_of_update, sketch_of}
 use Rattle.sketch_req.specs.declared.RankAccuracy.{RankAccuracy}
 use Rattle.sketch_req.specs.declared.RankAccuracy.TheVariants.{HighRank, LowRank}
-use Rattle.quantile_sketches.specs.Behaviour.{Change, coin_of}
+use Rattle.quantile_sketches.specs.declared.answer.Refusal.{Refusal}
+use Rattle.quantile_sketches.specs.Behaviour.{Change, coin_of_state}
 use Rattle.quantile_sketches.specs.Command.{request_of}
 use Rattle.quantile_sketches.specs.declared.answer.Refusal.TheVariants.{BadLine, AbsentSlot, Sketch}
-use Rattle.quantile_sketches.specs.declared.audit.commands.Command.{Command}
-use Rattle.quantile_sketches.specs.declared.audit.commands.Command.TheVariants.{New, Update, UpdateWeighted, Merge, Reset, RoundTrip, Redraw, MergeRedrawn}
+use Rattle.quantile_sketches.specs.declared.commands.Command.{Command}
+use Rattle.quantile_sketches.specs.declared.commands.Command.TheVariants.{New, Update, UpdateWeighted, Merge, Reset, RoundTrip, Redraw, MergeRedrawn}
 use Rattle.quantile_sketches.specs.declared.command.Request.{Request}
 use Rattle.quantile_sketches.specs.declared.command.Request.TheVariants.{Run, Load}
 use Rattle.quantile_sketches.specs.declared.table.TheConstants.{SLOTS}
 use Rattle.quantile_sketches.specs.Lines.{Serves}
-use Rattle.quantile_sketches.specs.LineSteps.{Slots, in_slot, Holds, Verdict, Reply, reply_of, Turns, Changes, Empties, RoundTrips, JoinsCopy, Merges, CarriesOutItem, Makes, ReadsImage, Answers}
+use Rattle.quantile_sketches.specs.LineSteps.{Slots, in_slot, Holds, Reply, reply_of, Turns, Changes, Empties, RoundTrips, JoinsCopy, Merges, CarriesOutItem, Makes, ReadsImage, Answers}
 use Rattle.quantile_sketches.specs.HexText.{hex_of}
 use Rattle.quantile_sketches.specs.LineWords.{words, image_in}
 use Rattle.quantile_sketches.specs.Reader.{Grammar}
@@ -42,7 +43,7 @@ use Rattle.quantile_sketches.specs.ReqRules.{is_same}
 use Rattle.sketch_req.specs.Summaries.{Summarizes}
 use Rattle.quantile_sketches.specs.SummariesBehindLines.{Told, IsAsTold, Origins, AreTrue, ShownAreTrue, told_more, told_joined, told_both, told_empty, told_after_command, told_after, AreAsTold, AnswersAsTold}
 use Rattle.quantile_sketches.proofs.Carried.{in_slot-held}
-use Rattle.quantile_sketches.proofs.SameRuns.{no-err}
+use Rattle.quantile_sketches.proofs.CallErrors.{no-err}
 use Rattle.quantile_sketches.proofs.Slots.{in_slot-none}
 use Rattle.sketch_req.proofs.Summaries.{empty-summarizes, update-summarizes, merge-summarizes, redrawn-summarizes, copy-summarizes, forgotten-summarizes}
 
@@ -152,12 +153,12 @@ module _ {A Source : Type 0} {cmp : A → A → Ordering} (order : IsTotalOrder 
     refused : (s t : Req A) (e : ErrorKind) → call s coins (Err e) t coins' → t ≡ s
 
   -- the slots after a verdict
-  abbrev After : (ℕ → Option (Told A)) → (ℕ → Option (Told A)) → Verdict → Slots (Req A) → Type 0
+  abbrev After : (ℕ → Option (Told A)) → (ℕ → Option (Told A)) → Result Unit Refusal → Slots (Req A) → Type 0
   After told told' (Ok done) slots' = AreGood told' slots'
   After told told' (Err refusal) slots' = AreGood told slots'
 
   turned : (told : ℕ → Option (Told A)) (slots slots' : Slots (Req A)) (slot : ℕ) (v : Option (Told A)) (call : Change Source (Req A)) (coins coins' : Source) → AreGood told slots →
-      IsKept (told slot) v call coins coins' → (o new : Option (Req A)) (r : Verdict) → Holds slots slot o → Turns call o coins r new coins' → slots' ≡ set slots slot new →
+      IsKept (told slot) v call coins coins' → (o new : Option (Req A)) (r : Result Unit Refusal) → Holds slots slot o → Turns call o coins r new coins' → slots' ≡ set slots slot new →
       After told (changed told slot v) r slots'
   turned told slots slots' slot v call coins coins' good kept None new r held h is =
       rw h.0 (put-same told slots slots' slot None new held is h.1 good)
@@ -171,14 +172,14 @@ module _ {A Source : Type 0} {cmp : A → A → Ordering} (order : IsTotalOrder 
   -- ---- commands
 
   module _ (told : ℕ → Option (Told A)) (slots slots' : Slots (Req A)) (coins coins' : Source) (good : AreGood told slots) where
-    abbrev Comes : Command A (ℕ × RankAccuracy) → Verdict → Type 0
+    abbrev Comes : Command A (ℕ × RankAccuracy) → Result Unit Refusal → Type 0
     Comes command r = After told (told_after_command told command) r slots'
 
-    changes : (slot : ℕ) (v : Option (Told A)) (call : Change Source (Req A)) → IsKept (told slot) v call coins coins' → (r : Verdict) →
+    changes : (slot : ℕ) (v : Option (Told A)) (call : Change Source (Req A)) → IsKept (told slot) v call coins coins' → (r : Result Unit Refusal) →
         Changes (Turns call) slot slots coins r slots' coins' → After told (changed told slot v) r slots'
     changes slot v call kept r (o, new, held, h, is) = turned told slots slots' slot v call coins coins' good kept o new r held h is
 
-    made : (slot : ℕ) (config : ℕ × RankAccuracy) (r : Verdict) → Makes (IsMade cmp spelling config) slot slots r slots' → Comes (New slot config) r
+    made : (slot : ℕ) (config : ℕ × RankAccuracy) (r : Result Unit Refusal) → Makes (IsMade cmp spelling config) slot slots r slots' → Comes (New slot config) r
     made slot config (Ok done) (s, o, held, h, is) =
         put told slots slots' slot o (Some s) (Some (record { k = config.0; stream = []; tail = config.0 })) held is good
         (λ t e. subst (IsGood (Some (record { k = config.0; stream = []; tail = config.0 }))) (some-same s t e)
@@ -245,7 +246,7 @@ module _ {A Source : Type 0} {cmp : A → A → Ordering} (order : IsTotalOrder 
         refused s t e (inr (fits, inr h)) = h.3
         refused s t e (inr (fits, inl (p, copied, h))) = h.6.0
 
-    merges : (redraws : Bool) (into source : ℕ) (b : Bool) → (into == source) ≡ b → (r : Verdict) →
+    merges : (redraws : Bool) (into source : ℕ) (b : Bool) → (into == source) ≡ b → (r : Result Unit Refusal) →
         Merges (req cmp spelling) bit next redraws b into source slots coins r slots' coins' → After told (changed told into (told_both (told into) (told source))) r slots'
     merges redraws into source true e r h =
         subst (λ (q : ℕ). After told (changed told into (told_both (told into) (told q))) r slots') (eqb-true into source e)
@@ -257,7 +258,7 @@ module _ {A Source : Type 0} {cmp : A → A → Ordering} (order : IsTotalOrder 
         (joins redraws into (told source) p (good source p (in_slot-held slots source (Some p) held))) o new r own h is
 
     -- a command of runs
-    carried : (command : Command A (ℕ × RankAccuracy)) (r : Verdict) → CarriesOutItem (req cmp spelling) bit next command slots coins r slots' coins' → Comes command r
+    carried : (command : Command A (ℕ × RankAccuracy)) (r : Result Unit Refusal) → CarriesOutItem (req cmp spelling) bit next command slots coins r slots' coins' → Comes command r
     carried (New slot config) r h = made slot config r h.0
     carried (Update slot x) r h = changes slot _ (λ s. TakesIn cmp spelling bit next s x) (takes slot x) r h
     carried (UpdateWeighted slot x weight) r h = changes slot None (TakesNone cmp spelling bit next) (takes-none slot None) r h
@@ -272,10 +273,10 @@ module _ {A Source : Type 0} {cmp : A → A → Ordering} (order : IsTotalOrder 
 module _ {cmp : ℤ → ℤ → Ordering} (order : IsTotalOrder cmp) (spelling : ℤ → Option (List ℕ)) (one : OneSketch cmp spelling)
     (origins : Origins ℤ) (true_origins : AreTrue cmp spelling origins) where
   abbrev Good : (ℕ → Option (Told ℤ)) → Slots (Req ℤ) → Type 0
-  Good = AreGood order spelling one coin_of next_state
+  Good = AreGood order spelling one coin_of_state next_state
 
   -- a sketch that was read from an image is as its origin tells
-  from-origin : (image : List ℕ) (s : Req ℤ) → ReadsImage (req cmp spelling) image (Ok s) → (v : Option (Told ℤ)) → origins image ≡ v → IsGood order spelling one coin_of next_state v s
+  from-origin : (image : List ℕ) (s : Req ℤ) → ReadsImage (req cmp spelling) image (Ok s) → (v : Option (Told ℤ)) → origins image ≡ v → IsGood order spelling one coin_of_state next_state v s
   from-origin image s (inr e) v is = absurd (false≢true (sym (ap is_ok e)))
   from-origin image s (inl h) None is = record { sound = h.0.1; as_told = tt }
   from-origin image s (inl h) (Some w) is =
@@ -287,17 +288,17 @@ module _ {cmp : ℤ → ℤ → Ordering} (order : IsTotalOrder cmp) (spelling :
       Answers (req cmp spelling) request line slots coins r slots' coins' → Good told slots → Good (told_after origins told request line r) slots'
   answered told None line slots coins r slots' coins' h good = subst (Good told) (sym h.1) good
   answered told (Some (Run command)) line slots coins r slots' coins' (v, is, h) good =
-      rw is (ran v (carried order spelling one coin_of next_state told slots slots' coins coins' good command v h))
+      rw is (ran v (carried order spelling one coin_of_state next_state told slots slots' coins coins' good command v h))
     where
-      ran : (v : Verdict) → After order spelling one coin_of next_state told (told_after_command told command) v slots' → Good (told_after origins told (Some (Run command)) line (reply_of v)) slots'
+      ran : (v : Result Unit Refusal) → After order spelling one coin_of_state next_state told (told_after_command told command) v slots' → Good (told_after origins told (Some (Run command)) line (reply_of v)) slots'
       ran (Ok done) a = a
       ran (Err refusal) a = a
   answered told (Some (Load slot)) line slots coins r slots' coins' (v, is, h, same) good = rw is (go v h)
     where
-      go : (v : Verdict) → Makes (ReadsImage (req cmp spelling) (image_in line)) slot slots v slots' → Good (told_after origins told (Some (Load slot)) line (reply_of v)) slots'
+      go : (v : Result Unit Refusal) → Makes (ReadsImage (req cmp spelling) (image_in line)) slot slots v slots' → Good (told_after origins told (Some (Load slot)) line (reply_of v)) slots'
       go (Ok done) (s, o, held, made, set_is) =
-          put order spelling one coin_of next_state told slots slots' slot o (Some s) (origins (image_in line)) held set_is good
-          (λ t e. subst (IsGood order spelling one coin_of next_state (origins (image_in line))) (some-same order spelling one coin_of next_state s t e) (from-origin (image_in line) s made (origins (image_in line)) refl))
+          put order spelling one coin_of_state next_state told slots slots' slot o (Some s) (origins (image_in line)) held set_is good
+          (λ t e. subst (IsGood order spelling one coin_of_state next_state (origins (image_in line))) (some-same order spelling one coin_of_state next_state s t e) (from-origin (image_in line) s made (origins (image_in line)) refl))
       go (Err (Sketch e)) h = subst (Good told) (sym h.1) good
       go (Err BadLine) h = absurd h
       go (Err AbsentSlot) h = absurd h
@@ -341,6 +342,5 @@ shown-true s told bytes line as_told imaged fits third =
       without_coins s,
       [],
       subst (λ (b : List ℕ). BeginsImage int_cmp i64_spelling b (without_coins s) []) (sym read) imaged.0.1,
-      as_told.0,
-      forgotten-summarizes int_cmp_total s told.stream told.tail as_told.1,
+      (as_told.0, forgotten-summarizes int_cmp_total s told.stream told.tail as_told.1),
     )

@@ -10,11 +10,11 @@ use Rattle.sketch_kll.specs.Merge.{merge_actions}
 use Rattle.sketch_kll.specs.Schedule.{update_actions}
 use Rattle.sketch_kll.specs.Weighted.{weighted_actions}
 use Rattle.sketch_kll.proofs.RolledCoins.{update-once, merge-once}
-use Rattle.quantile_sketches.specs.declared.audit.commands.Command.{Command}
-use Rattle.quantile_sketches.specs.declared.audit.commands.Command.TheVariants.{New, Update, UpdateWeighted, Merge, Reset, RoundTrip, Redraw, MergeRedrawn}
+use Rattle.quantile_sketches.specs.declared.commands.Command.{Command}
+use Rattle.quantile_sketches.specs.declared.commands.Command.TheVariants.{New, Update, UpdateWeighted, Merge, Reset, RoundTrip, Redraw, MergeRedrawn}
 use Rattle.quantile_sketches.specs.KllRules.{KllShape, kll_rules}
 use Rattle.quantile_sketches.specs.Plan.{Plan, start_plan, actions_on, shape_after, accepted_events}
-use Rattle.quantile_sketches.specs.Rollup.{Standing, Free, Mixed, joined, used, is_tree, accepted_standings, TreesTakeOnce}
+use Rattle.quantile_sketches.specs.Rollup.{Standing, Free, Mixed, joined_standing, used, is_tree, accepted_standings, TreesTakeOnce}
 use Rattle.quantile_sketches.proofs.KllRuleLaws.{kll_lawful}
 use Rattle.quantile_sketches.proofs.Rollups.{coins-from}
 use Rattle.quantile_sketches.proofs.LegalPlans.{changed-away, at_slot, not-none, then-there, merge-either, IsSteady, steady-start}
@@ -32,12 +32,12 @@ used-tree : (a : Standing) → is_tree (used a) ≡ is_tree a
 used-tree Free = refl
 used-tree a = refl
 
-joined-free : (a b : Standing) → joined a b ≡ Free → (a ≡ Free) × (b ≡ Free)
+joined-free : (a b : Standing) → joined_standing a b ≡ Free → (a ≡ Free) × (b ≡ Free)
 joined-free Free Free e = (refl, refl)
 joined-free a b e = cc
 
 -- what two merged slots make is a tree only if it is free
-joined-tree : (a b : Standing) → is_tree (joined a b) ≡ true → joined a b ≡ Free
+joined-tree : (a b : Standing) → is_tree (joined_standing a b) ≡ true → joined_standing a b ≡ Free
 joined-tree Free Free e = refl
 joined-tree a b e = absurd (false≢true e)
 
@@ -88,7 +88,7 @@ module _ (A : Type 0) (stands : ℕ → Standing) (once : ℕ → Bool) (shares 
   -- a slot that takes another one in
   module _ (into source : ℕ) where
     abbrev comes : Standing
-    comes = if into == source then Mixed else joined (stands into) (stands source)
+    comes = if into == source then Mixed else joined_standing (stands into) (stands source)
 
     abbrev others : ℕ → Standing
     others = changed stands source (used (stands source))
@@ -105,14 +105,14 @@ module _ (A : Type 0) (stands : ℕ → Standing) (once : ℕ → Bool) (shares 
     -- if a merge makes a free slot, its two slots are different and were free
     were_free : comes ≡ Free → ((into == source) ≡ false) × (stands into ≡ Free) × (stands source ≡ Free)
     were_free =
-        elim (into == source) as (λ b. (if b then Mixed else joined (stands into) (stands source)) ≡ Free → (b ≡ false) × (stands into ≡ Free) × (stands source ≡ Free)) [
+        elim (into == source) as (λ b. (if b then Mixed else joined_standing (stands into) (stands source)) ≡ Free → (b ≡ false) × (stands into ≡ Free) × (stands source ≡ Free)) [
           | true ↦ λ e. absurd (mixed-free e)
           | false ↦ λ e. let both = joined-free (stands into) (stands source) e in (refl, both.0, both.1)
         ]
 
     comes-tree : is_tree comes ≡ true → comes ≡ Free
     comes-tree =
-        elim (into == source) as (λ b. let made = if b then Mixed else joined (stands into) (stands source) in is_tree made ≡ true → made ≡ Free) [
+        elim (into == source) as (λ b. let made = if b then Mixed else joined_standing (stands into) (stands source) in is_tree made ≡ true → made ≡ Free) [
           | true ↦ λ t. absurd (false≢true t)
           | false ↦ joined-tree (stands into) (stands source)
         ]

@@ -12,21 +12,6 @@ use Rattle.sketch_base.proofs.Picks.{Sheds, none, kept, shed}
 use Rattle.quantile_sketches.proofs.LegalPlans.{at_slot, changed-away}
 
 module _ {A : Type 0} where
-  -- ---- round trips left out
-
-  -- a trace without its Forgets
-  abbrev pub shorn : List (Event A) → List (Event A)
-  shorn [] = []
-  shorn (At s Forget ∷ es) = shorn es
-  shorn (e ∷ es) = e ∷ shorn es
-
-  -- if some Forgets are left out, the others may be too
-  pub sheds-shorn : (es es' : List (Event A)) → Sheds es es' → Sheds es' (shorn es)
-  sheds-shorn _ _ none = none
-  sheds-shorn _ _ (shed s es es' sheds) = sheds-shorn es es' sheds
-  sheds-shorn _ _ (kept (At s Forget) es es' sheds) = shed s es' (shorn es) (sheds-shorn es es' sheds)
-  sheds-shorn _ _ (kept e es es' sheds) = kept e es' (shorn es) (sheds-shorn es es' sheds)
-
   -- bags that differ only in kept bits, and in none that was drawn
   pub record AreSame (drawn : ℕ → Bool) (bag bag' : Bag A) : Type 0 where
     pub levels : bag.levels ≡ bag'.levels

@@ -8,11 +8,12 @@ use Rattle.std.proofs.Math.Seq.{split_at, drop-append_seam}
 use Rattle.std.proofs.lemmas.Bool.{cond-true, eq-eqb, ne_eqb}
 use Rattle.std.proofs.lemmas.List.{append_assoc, drop_all, drop-drop}
 use Rattle.std.proofs.lemmas.List.Folds.{prefix_len-append}
-use Rattle.quantile_sketches.specs.Behaviour.{Behaviour, coin_of}
+use Rattle.quantile_sketches.specs.declared.answer.Refusal.{Refusal}
+use Rattle.quantile_sketches.specs.Behaviour.{Behaviour, coin_of_state}
 use Rattle.quantile_sketches.specs.Command.{request_of}
-use Rattle.quantile_sketches.specs.LineSteps.{Answers, CarriesOutItem, Verdict, reply_of}
+use Rattle.quantile_sketches.specs.LineSteps.{Answers, CarriesOutItem, reply_of}
 use Rattle.quantile_sketches.specs.Reader.{Grammar}
-use Rattle.quantile_sketches.specs.declared.audit.commands.Command.TheVariants.{Update}
+use Rattle.quantile_sketches.specs.declared.commands.Command.TheVariants.{Update}
 use Rattle.sketch_base.specs.Random.{next_state}
 use Rattle.std.specs.Int.{w64}
 use Rattle.std.proofs.lemmas.Int.{to_z-of_z}
@@ -190,7 +191,7 @@ slot-is number slot (Err e) h none = absurd cc
 
 -- what comes of such a line is what comes of its update
 pub answers-update : {S C : Type 0} (grammar : Grammar C) (behaviour : Behaviour S ℤ C) (text : List ℕ) (slot : ℕ) (item : ℤ) (len : ℕ) → BeginsWithUpdate text slot item len →
-    (slots slots' : List (Option S)) (coins coins' : ℕ) (v : Verdict) → CarriesOutItem behaviour coin_of next_state (Update slot (to_z w64 (of_z w64 item))) slots coins v slots' coins' →
+    (slots slots' : List (Option S)) (coins coins' : ℕ) (v : Result Unit Refusal) → CarriesOutItem behaviour coin_of_state next_state (Update slot (to_z w64 (of_z w64 item))) slots coins v slots' coins' →
     Answers behaviour (request_of grammar (words (take len text))) (words (take len text)) slots coins (reply_of v) slots' coins'
 answers-update grammar behaviour text slot item len h slots slots' coins coins' v done =
     let back : to_z w64 (of_z w64 item) ≡ item = to_z-of_z w64 item (item_fits h.item_word item h.item_is) in

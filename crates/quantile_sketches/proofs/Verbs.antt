@@ -5,7 +5,7 @@ use Rattle.std.specs.Option.{option_and_then}
 use Rattle.quantile_sketches.specs.Reader.{Grammar, parse_slot}
 use Rattle.quantile_sketches.specs.Command.{parse_asked, request_of}
 use Rattle.quantile_sketches.specs.LineWords.{unsigned_of, item_of}
-use Rattle.quantile_sketches.specs.declared.audit.commands.Command.TheVariants.{Update}
+use Rattle.quantile_sketches.specs.declared.commands.Command.TheVariants.{Update}
 use Rattle.quantile_sketches.specs.declared.command.Request.{Request}
 use Rattle.quantile_sketches.specs.declared.command.Request.TheVariants.{Run}
 use Rattle.quantile_sketches.proofs.ReadWords.{then-none, then-read}

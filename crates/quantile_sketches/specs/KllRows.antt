@@ -2,18 +2,18 @@
 use Rattle.std.specs.Prelude.{◌≡◌, ℕ, zero, suc, ◌*◌, List, [], ◌∷◌, ◌++◌, Option, Some}
 use Rattle.std.specs.Option.{option_map}
 use Rattle.sketch_base.specs.Shares.{spread}
-use Rattle.quantile_sketches.specs.declared.audit.commands.Command.{Command}
-use Rattle.quantile_sketches.specs.declared.audit.commands.Command.TheVariants.{New, Update, Merge, Reset, RoundTrip}
+use Rattle.quantile_sketches.specs.declared.commands.Command.{Command}
+use Rattle.quantile_sketches.specs.declared.commands.Command.TheVariants.{New, Update, Merge, Reset, RoundTrip}
 use Rattle.quantile_sketches.specs.KllRules.{kll_rules}
 use Rattle.quantile_sketches.specs.Plan.{plan_of, trace_of}
 
--- a sketch of k 8 in slot 0 that takes n items
-abbrev pub takes : ℕ → List (Command ℕ ℕ)
-takes zero = []
-takes (suc more) = Update 0 more ∷ takes more
+-- a sketch of k 8 in slot 0 that updated_with n items
+abbrev pub updated_with : ℕ → List (Command ℕ ℕ)
+updated_with zero = []
+updated_with (suc more) = Update 0 more ∷ updated_with more
 
 abbrev pub updates : ℕ → List (Command ℕ ℕ)
-updates n = New 0 8 ∷ takes n
+updates n = New 0 8 ∷ updated_with n
 
 -- that sketch is merged into a new one of k 20 in slot 1
 abbrev pub merged : ℕ → List (Command ℕ ℕ)

@@ -1,15 +1,15 @@
 -- Rollups are rarely far off: how many words put a rank off by some times n / k.
-use Rattle.std.specs.Prelude.{◌⊎◌, ℕ, ◌*◌, ◌^◌, ◌<◌, ◌≤◌, Bool, IsTrue, List, length}
+use Rattle.std.specs.Prelude.{◌⊎◌, ℕ, ◌*◌, ◌^◌, ◌<◌, ◌≤◌, IsTrue, List}
+use Rattle.std.specs.declared.cmp.Ordering.{Ordering}
 use Rattle.sketch_base.specs.Moments.{odd_product}
 use Rattle.sketch_base.specs.Shares.{took_once}
 use Rattle.sketch_base.specs.declared.common.SearchCriteria.{SearchCriteria}
 use Rattle.sketch_kll.specs.Sketch.{Kll}
-use Rattle.quantile_sketches.specs.declared.audit.commands.Command.{Command}
-use Rattle.quantile_sketches.specs.AllWords.{AllRuns, words_off_by}
-use Rattle.quantile_sketches.specs.KllRules.{KllShape, kll_rules}
-use Rattle.quantile_sketches.specs.Outcome.{Slots, EachSketch}
+use Rattle.quantile_sketches.specs.declared.commands.Command.{Command}
+use Rattle.quantile_sketches.specs.KllRules.{kll_rules}
+use Rattle.quantile_sketches.specs.Outcome.{SlotMap, EachSketch}
 use Rattle.quantile_sketches.specs.Plan.{trace_of}
-use Rattle.quantile_sketches.specs.Rules.{Kind}
+use Rattle.quantile_sketches.specs.Scatter.{words_off_by}
 
 -- whether the 2m-th moment shows that at most one word in `one_in` puts a rank of a rollup off by `times` n / k or more: by a spread of
 -- at most 5 (n / k)^2, or, which is better for a k below 21, of at most n^2 / 4k
@@ -20,13 +20,13 @@ abbrev pub ShowsRareFor : (k times one_in m : ℕ) → Type 0
 ShowsRareFor k times one_in m = one_in * (odd_product m * k ^ m) ≤ 4 ^ m * times ^ (2 * m)
 
 -- each sketch with items that took each coin in once, whatever merges made it: where a moment shows that an error of `times` n / k is
--- rare, at most one word in `one_in` puts its rank off by that or more, for every query; k is its least k
-abbrev pub RollupsAreRarelyFarOff : {A : Type 0} → Kind A ℕ KllShape (Kll A) → List (Command A ℕ) → List Bool → Slots (Kll A) → Type 0
-RollupsAreRarelyFarOff {A} kind commands word slots = EachSketch (λ slot s.
+-- rare, at most one word of `bits` bits in `one_in` puts its slot's rank off by that or more, for every query; k is its least k
+abbrev pub RollupsAreRarelyFarOff : {A : Type 0} → (A → A → Ordering) → List (Command A ℕ) → (bits : ℕ) → SlotMap (Kll A) → Type 0
+RollupsAreRarelyFarOff {A} cmp commands bits = EachSketch (λ slot s.
     IsTrue (took_once (trace_of kll_rules commands) slot) → 0 < s.n →
-    (runs : AllRuns kind commands word slots) (y : A) (criteria : SearchCriteria) (times one_in m t : ℕ) →
+    (y : A) (criteria : SearchCriteria) (times one_in m t : ℕ) →
     ShowsRare times one_in m ⊎ ShowsRareFor s.min_k times one_in m → times * s.n ≤ s.min_k * t →
-    one_in * words_off_by kind commands word slots runs slot y criteria t ≤ 2 ^ length word) slots
+    one_in * words_off_by kll_rules cmp y criteria commands bits slot t ≤ 2 ^ bits)
 
 -- what moments show: at most one word in 25 puts a rank of a rollup off by 6 n / k or more, and so on; for k 200, 6 n / k is 3 % of n
 pub record RareRows : Type 0 where

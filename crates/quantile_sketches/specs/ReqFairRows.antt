@@ -3,7 +3,7 @@ use Rattle.std.specs.Prelude.{◌≡◌, ℕ, true, false, List, [], ◌∷◌, 
 use Rattle.sketch_base.specs.Trace.{coins}
 use Rattle.sketch_base.specs.Words.{sum_over_words}
 use Rattle.sketch_req.specs.declared.RankAccuracy.TheVariants.{HighRank}
-use Rattle.quantile_sketches.specs.declared.audit.commands.Command.TheVariants.{New, Merge}
+use Rattle.quantile_sketches.specs.declared.commands.Command.TheVariants.{New, Merge}
 use Rattle.quantile_sketches.specs.Plan.{trace_of}
 use Rattle.quantile_sketches.specs.ReqFair.{is_fair_slot}
 use Rattle.quantile_sketches.specs.ReqPlan.{ReqCommand}

@@ -13,7 +13,7 @@ use Rattle.sketch_req.specs.Sketch.{Req, IsSound}
 use Rattle.sketch_req.specs.Written.{image_text, written_items}
 use Rattle.sketch_req.specs.declared.RankAccuracy.{RankAccuracy}
 use Rattle.quantile_sketches.specs.ReqRules.{ReqShape, req_rules}
-use Rattle.quantile_sketches.specs.Rules.{Kind}
+use Rattle.quantile_sketches.specs.Rules.{Look, Kind}
 
 abbrev pub req_shape : {A : Type 0} → Req A → ReqShape
 req_shape s = record { k = s.k; accuracy = s.accuracy; n = s.n; layouts = layouts_of s.levels }
@@ -38,8 +38,8 @@ abbrev pub HasImage : {A : Type 0} → (A → Option (List ℕ)) → Req A → T
 HasImage spelling s = AllSpelled spelling (written_items s) × (length (image_text spelling s) < 2 ^ 64)
 
 -- a REQ sketch under an order and a codec of its items
-abbrev pub req_kind : {A : Type 0} → (A → A → Ordering) → (A → Option (List ℕ)) → Kind A (ℕ × RankAccuracy) ReqShape (Req A)
-req_kind cmp spelling = record {
+abbrev pub req_look : {A : Type 0} → (A → A → Ordering) → Look A (ℕ × RankAccuracy) ReqShape (Req A)
+req_look cmp = record {
   rules = req_rules;
   cmp = cmp;
   shape = req_shape;
@@ -47,6 +47,12 @@ req_kind cmp spelling = record {
   least = λ s. s.least;
   greatest = λ s. s.greatest;
   IsAlike = AlikeReq cmp;
+}
+
+-- the same under a codec of the items
+abbrev pub req_kind : {A : Type 0} → (A → A → Ordering) → (A → Option (List ℕ)) → Kind A (ℕ × RankAccuracy) ReqShape (Req A)
+req_kind cmp spelling = record {
+  look = req_look cmp;
   IsSound = IsSound cmp;
   HasImage = HasImage spelling;
   Meets = MeetsReq;

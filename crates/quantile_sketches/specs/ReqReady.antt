@@ -2,7 +2,7 @@
 use Rattle.std.specs.Prelude.{ℕ, ◌==◌, ◌&&◌, not, Bool, true, false, IsTrue, if◌then◌else◌, List, Option}
 use Rattle.sketch_base.specs.Trace.{changed}
 use Rattle.sketch_req.specs.Schedule.{joined_layouts, are_full}
-use Rattle.quantile_sketches.specs.declared.audit.commands.Command.TheVariants.{New, Update, UpdateWeighted, Merge, Reset, RoundTrip, Redraw, MergeRedrawn}
+use Rattle.quantile_sketches.specs.declared.commands.Command.TheVariants.{New, Update, UpdateWeighted, Merge, Reset, RoundTrip, Redraw, MergeRedrawn}
 use Rattle.quantile_sketches.specs.Plan.{Plan, start_plan, after_commands}
 use Rattle.quantile_sketches.specs.ReqFair.{is_fair_slot}
 use Rattle.quantile_sketches.specs.ReqPlan.{ReqCommand, shape_in}
@@ -56,13 +56,10 @@ accepted_fairness shapes fairs (RoundTrip slot) = changed fairs slot (with_ready
 accepted_fairness shapes fairs (Redraw slot) = changed fairs slot (with_ready (fairs slot) true)
 accepted_fairness shapes fairs (MergeRedrawn into source) = fairness_in true shapes fairs into source
 
--- after several commands, refused or not
-abbrev pub fairness_from : {A : Type 0} → Plan ReqShape → (ℕ → Fairness) → List (ReqCommand A) → ℕ → Fairness
-fairness_from = after_commands req_rules (λ plan. accepted_fairness plan.shapes)
-
 -- whether a slot stays fair, by the commands from a run's start on
 abbrev pub stays_fair : {A : Type 0} → List (ReqCommand A) → ℕ → Bool
-stays_fair commands slot = let f = fairness_from start_plan (λ s. new_fairness) commands slot in f.is_fair
+stays_fair commands slot =
+    let f = after_commands req_rules (λ plan. accepted_fairness plan.shapes) start_plan (λ s. new_fairness) commands slot in f.is_fair
 
 -- after every list of commands the slots that stay fair are fair
 abbrev pub ReqStaysFair : Type 0 → Type 0

@@ -1,11 +1,11 @@
 -- Slots of a REQ run that were only updated: their errors are relative.
-use Rattle.std.specs.Prelude.{ℕ, ◌-◌, ◌≤◌, Bool, true, false, IsTrue, List, length, Option}
+use Rattle.std.specs.Prelude.{◌≡◌, ℕ, ◌-◌, ◌≤◌, Some, Bool, true, false, IsTrue, List, length, Option}
 use Rattle.std.specs.declared.cmp.Ordering.{Ordering}
 use Rattle.sketch_base.specs.declared.common.SearchCriteria.{SearchCriteria}
 use Rattle.sketch_base.specs.Trace.{changed, coins}
 use Rattle.sketch_req.specs.Relative.{off_protected_end, IsRelative, Reaches}
-use Rattle.quantile_sketches.specs.declared.audit.commands.Command.TheVariants.{New, Update, UpdateWeighted, Merge, Reset, RoundTrip, Redraw, MergeRedrawn}
-use Rattle.quantile_sketches.specs.Plan.{Plan, start_plan, after_commands, trace_of}
+use Rattle.quantile_sketches.specs.declared.commands.Command.TheVariants.{New, Update, UpdateWeighted, Merge, Reset, RoundTrip, Redraw, MergeRedrawn}
+use Rattle.quantile_sketches.specs.Plan.{start_plan, after_commands, plan_of, trace_of}
 use Rattle.quantile_sketches.specs.ReqPlan.{ReqCommand, shape_at}
 use Rattle.quantile_sketches.specs.ReqRules.{ReqShape, req_rules}
 use Rattle.quantile_sketches.specs.ReqRun.{merged_in}
@@ -24,13 +24,9 @@ accepted_only_updated shapes only (RoundTrip slot) = changed only slot false
 accepted_only_updated shapes only (Redraw slot) = changed only slot false
 accepted_only_updated shapes only (MergeRedrawn into source) = merged_in shapes only into source
 
--- after several commands, refused or not
-abbrev pub only_updated_from : {A : Type 0} → Plan ReqShape → (ℕ → Bool) → List (ReqCommand A) → ℕ → Bool
-only_updated_from = after_commands req_rules (λ plan. accepted_only_updated plan.shapes)
-
 -- whether a slot was only updated since its New or Reset, after commands from a run's start
 abbrev pub was_only_updated : {A : Type 0} → List (ReqCommand A) → ℕ → Bool
-was_only_updated = only_updated_from start_plan (λ slot. true)
+was_only_updated = after_commands req_rules (λ plan. accepted_only_updated plan.shapes) start_plan (λ slot. true)
 
 -- how many levels of a sketch were compacted: all but the top one
 abbrev pub compacted_in : ReqShape → ℕ
@@ -41,21 +37,22 @@ abbrev pub off_tail_at : {A : Type 0} → (A → A → Ordering) → A → Searc
 off_tail_at cmp y criteria commands slot =
     let s = shape_at commands slot in off_protected_end cmp s.accuracy y criteria (stream_of req_rules commands slot)
 
--- if the slot was only updated, its errors are relative to the number of items on the query's accurate side, whatever the other
--- slots took
-abbrev pub ReqRunIsRelative : {A : Type 0} → (A → A → Ordering) → Type 0
-ReqRunIsRelative {A} cmp = (y : A) (criteria : SearchCriteria) (commands : List (ReqCommand A)) (bits slot : ℕ) →
-    IsTrue (was_only_updated commands slot) → coins (trace_of req_rules commands) ≤ bits →
-    let s = shape_at commands slot in
-    IsRelative s.k (compacted_in s) bits (squared_errors req_rules cmp y criteria commands bits slot) (off_tail_at cmp y criteria commands slot)
+module _ {A : Type 0} (cmp : A → A → Ordering) (commands : List (ReqCommand A)) (bits : ℕ) where
+  -- in the plays under all words of `bits` bits, the errors of each slot that was only updated are relative to the number of items
+  -- on the query's accurate side, whatever the other slots took; s is the shape of its sketch
+  abbrev pub AreRelative : Type 0
+  AreRelative = (y : A) (criteria : SearchCriteria) (slot : ℕ) (s : ReqShape) →
+      (plan_of req_rules commands).shapes slot ≡ Some s → IsTrue (was_only_updated commands slot) →
+      IsRelative s.k (length s.layouts - 1) bits (squared_errors req_rules cmp y criteria commands bits slot)
+      (off_protected_end cmp s.accuracy y criteria (stream_of req_rules commands slot))
 
--- and for a k of at least 24 the bound depends on k and that count alone
-abbrev pub ReqRunIsRelativeToCounts : {A : Type 0} → (A → A → Ordering) → Type 0
-ReqRunIsRelativeToCounts {A} cmp = (y : A) (criteria : SearchCriteria) (commands : List (ReqCommand A)) (bits slot levels : ℕ) →
-    IsTrue (was_only_updated commands slot) → coins (trace_of req_rules commands) ≤ bits →
-    let s = shape_at commands slot in
-    24 ≤ s.k → Reaches s.k (off_tail_at cmp y criteria commands slot) levels →
-    IsRelative s.k levels bits (squared_errors req_rules cmp y criteria commands bits slot) (off_tail_at cmp y criteria commands slot)
+  -- and for a k of at least 24 the bound depends on k and that count alone
+  abbrev pub AreRelativeToCounts : Type 0
+  AreRelativeToCounts = (y : A) (criteria : SearchCriteria) (slot : ℕ) (s : ReqShape) →
+      (plan_of req_rules commands).shapes slot ≡ Some s → IsTrue (was_only_updated commands slot) →
+      let count = off_protected_end cmp s.accuracy y criteria (stream_of req_rules commands slot) in
+      (levels : ℕ) → 24 ≤ s.k → Reaches s.k count levels →
+      IsRelative s.k levels bits (squared_errors req_rules cmp y criteria commands bits slot) count
 
 -- if the slot of an audit was only updated, the squares of its weights' distances from the true rank are relative
 abbrev pub WeightsAreRelative : {A : Type 0} → (A → A → Ordering) → A → SearchCriteria → List (ReqCommand A) → ℕ → List ℕ → ℕ → Type 0

@@ -4,15 +4,15 @@ use Rattle.sketch_base.specs.Shares.{spread, took_once}
 use Rattle.sketch_base.specs.Trace.{changed}
 use Rattle.sketch_kll.specs.Sketch.{Kll}
 use Rattle.sketch_kll.specs.Spread.{IsLittle}
-use Rattle.quantile_sketches.specs.declared.audit.commands.Command.{Command}
-use Rattle.quantile_sketches.specs.declared.audit.commands.Command.TheVariants.{New, Update, UpdateWeighted, Merge, Reset, RoundTrip, Redraw, MergeRedrawn}
+use Rattle.quantile_sketches.specs.declared.commands.Command.{Command}
+use Rattle.quantile_sketches.specs.declared.commands.Command.TheVariants.{New, Update, UpdateWeighted, Merge, Reset, RoundTrip, Redraw, MergeRedrawn}
 use Rattle.quantile_sketches.specs.KllRules.{KllShape, kll_rules}
-use Rattle.quantile_sketches.specs.Outcome.{Slots, EachSketch}
+use Rattle.quantile_sketches.specs.Outcome.{SlotMap, EachSketch}
 use Rattle.quantile_sketches.specs.Plan.{Plan, start_plan, count_of, after_commands, plan_of, trace_of}
 use Rattle.quantile_sketches.specs.Rules.{Rules}
 
 -- each sketch that took each coin in once has a small spread for its least k and its count, whatever merges made it
-abbrev pub RollsUp : {A : Type 0} → List (Command A ℕ) → Slots (Kll A) → Type 0
+abbrev pub RollsUp : {A : Type 0} → List (Command A ℕ) → SlotMap (Kll A) → Type 0
 RollsUp commands = EachSketch (λ slot s.
     IsTrue (took_once (trace_of kll_rules commands) slot) → IsLittle s.min_k s.n (spread (trace_of kll_rules commands) slot))
 
@@ -34,12 +34,12 @@ pub data Standing : Type 0 where
   Mixed : Standing
 
 -- the standing of a slot after another one is merged into it, from both standings before
-abbrev pub joined : Standing → Standing → Standing
-joined Free Free = Free
-joined Free Used = Mixed
-joined Free Mixed = Mixed
-joined Used other = Mixed
-joined Mixed other = Mixed
+abbrev pub joined_standing : Standing → Standing → Standing
+joined_standing Free Free = Free
+joined_standing Free Used = Mixed
+joined_standing Free Mixed = Mixed
+joined_standing Used other = Mixed
+joined_standing Mixed other = Mixed
 
 -- the standing of a slot after it is merged into another one
 abbrev pub used : Standing → Standing
@@ -59,7 +59,7 @@ module _ {A C Shape : Type 0} (rules : Rules A C Shape) where
   merged_standings shapes stands into source =
       if count_of rules (shapes source) == 0 then stands else
       changed (changed stands source (used (stands source))) into
-      (if into == source then Mixed else joined (stands into) (stands source))
+      (if into == source then Mixed else joined_standing (stands into) (stands source))
 
   -- and after an accepted command: a slot that takes an update with a weight is mixed too
   abbrev pub accepted_standings : (ℕ → Option Shape) → (ℕ → Standing) → Command A C → ℕ → Standing
@@ -72,13 +72,9 @@ module _ {A C Shape : Type 0} (rules : Rules A C Shape) where
   accepted_standings shapes stands (Redraw slot) = stands
   accepted_standings shapes stands (MergeRedrawn into source) = merged_standings shapes stands into source
 
-  -- and after some commands, from a given plan on
-  abbrev pub standings_from : Plan Shape → (ℕ → Standing) → List (Command A C) → ℕ → Standing
-  standings_from = after_commands rules (λ plan. accepted_standings plan.shapes)
-
   -- the standing of a slot after commands from a run's start
   abbrev pub standing_of : List (Command A C) → ℕ → Standing
-  standing_of = standings_from start_plan (λ slot. Free)
+  standing_of = after_commands rules (λ plan. accepted_standings plan.shapes) start_plan (λ slot. Free)
 
 -- after every list of commands, a slot that is free or used took each coin in once
 abbrev pub TreesTakeOnce : Type 0 → Type 0
@@ -90,7 +86,7 @@ abbrev pub accepted_alone : {A : Type 0} → (ℕ → Option KllShape) → (ℕ 
 accepted_alone shapes alone (New slot config) = changed alone slot true
 accepted_alone shapes alone (Update slot x) = alone
 accepted_alone shapes alone (UpdateWeighted slot x weight) = changed alone slot false
-accepted_alone {A} shapes alone (Merge into source) = if count_of (kll_rules {A = A}) (shapes source) == 0 then alone else changed alone into false
+accepted_alone shapes alone (Merge into source) = if count_of (kll_rules {A = Unit}) (shapes source) == 0 then alone else changed alone into false
 accepted_alone shapes alone (Reset slot) = changed alone slot true
 accepted_alone shapes alone (RoundTrip slot) = alone
 accepted_alone shapes alone (Redraw slot) = alone
@@ -101,6 +97,6 @@ abbrev pub took_alone : {A : Type 0} → List (Command A ℕ) → ℕ → Bool
 took_alone = after_commands kll_rules (λ plan. accepted_alone plan.shapes) start_plan (λ slot. true)
 
 -- each sketch of such a slot has a small spread for its own k and its count
-abbrev pub SpreadsLittle : {A : Type 0} → List (Command A ℕ) → Slots (Kll A) → Type 0
+abbrev pub SpreadsLittle : {A : Type 0} → List (Command A ℕ) → SlotMap (Kll A) → Type 0
 SpreadsLittle commands = EachSketch (λ slot s.
     IsTrue (took_alone commands slot) → 4 * s.k * spread (trace_of kll_rules commands) slot ≤ s.n * s.n)

@@ -2,40 +2,40 @@
 use Rattle.std.specs.Prelude.{◌≡◌, ℕ, Bool, true, false, List, [], ◌∷◌, ◌++◌, map}
 use Rattle.sketch_base.specs.Rows.{numbers}
 use Rattle.sketch_base.specs.Shares.{all_shares, spread, took_once}
-use Rattle.quantile_sketches.specs.declared.audit.commands.Command.{Command}
-use Rattle.quantile_sketches.specs.declared.audit.commands.Command.TheVariants.{New, Update, UpdateWeighted, Merge}
+use Rattle.quantile_sketches.specs.declared.commands.Command.{Command}
+use Rattle.quantile_sketches.specs.declared.commands.Command.TheVariants.{New, Update, UpdateWeighted, Merge}
 use Rattle.quantile_sketches.specs.KllRules.{kll_rules}
 use Rattle.quantile_sketches.specs.Plan.{trace_of}
 use Rattle.quantile_sketches.specs.Rollup.{Standing, Free, Used, Mixed, standing_of}
 
--- a slot holds a new sketch of k 8, which takes 1 to n
-abbrev pub takes : ℕ → ℕ → List (Command ℕ ℕ)
-takes slot n = New slot 8 ∷ map (λ x. Update slot x) (numbers 1 1 n)
+-- a slot holds a new sketch of k 8, which updated_with 1 to n
+abbrev pub updated_with : ℕ → ℕ → List (Command ℕ ℕ)
+updated_with slot n = New slot 8 ∷ map (λ x. Update slot x) (numbers 1 1 n)
 
 -- slots 1 and 2 take nine numbers each, and both are merged into slot 0
 abbrev pub two_hours : List (Command ℕ ℕ)
-two_hours = takes 1 9 ++ takes 2 9 ++ New 0 8 ∷ Merge 0 1 ∷ Merge 0 2 ∷ []
+two_hours = updated_with 1 9 ++ updated_with 2 9 ++ New 0 8 ∷ Merge 0 1 ∷ Merge 0 2 ∷ []
 
 -- slot 1 is merged into slot 0 twice
 abbrev pub same_twice : List (Command ℕ ℕ)
-same_twice = takes 1 9 ++ New 0 8 ∷ Merge 0 1 ∷ Merge 0 1 ∷ []
+same_twice = updated_with 1 9 ++ New 0 8 ∷ Merge 0 1 ∷ Merge 0 1 ∷ []
 
 -- the same, but slot 1 holds a new sketch of nine numbers at the second merge
 abbrev pub one_after_another : List (Command ℕ ℕ)
-one_after_another = takes 1 9 ++ New 0 8 ∷ Merge 0 1 ∷ takes 1 9 ++ Merge 0 1 ∷ []
+one_after_another = updated_with 1 9 ++ New 0 8 ∷ Merge 0 1 ∷ updated_with 1 9 ++ Merge 0 1 ∷ []
 
--- slot 1 is merged into slot 3 too; in `diamond` slot 3 is then merged into slot 0
+-- slot 1 is merged into slot 3 too; in `two_ways` slot 3 is then merged into slot 0
 abbrev pub day_and_region : List (Command ℕ ℕ)
 day_and_region = two_hours ++ New 3 8 ∷ Merge 3 1 ∷ []
 
-abbrev pub diamond : List (Command ℕ ℕ)
-diamond = day_and_region ++ Merge 0 3 ∷ []
+abbrev pub two_ways : List (Command ℕ ℕ)
+two_ways = day_and_region ++ Merge 0 3 ∷ []
 
--- slot 0 takes n numbers, and is then merged into itself
+-- slot 0 updated_with n numbers, and is then merged into itself
 abbrev pub itself : ℕ → List (Command ℕ ℕ)
-itself n = takes 0 n ++ Merge 0 0 ∷ []
+itself n = updated_with 0 n ++ Merge 0 0 ∷ []
 
--- slot 0 takes a number with a weight
+-- slot 0 updated_with a number with a weight
 abbrev pub weighted : ℕ → List (Command ℕ ℕ)
 weighted weight = New 0 8 ∷ UpdateWeighted 0 7 weight ∷ []
 
@@ -64,9 +64,9 @@ pub record RollupRows : Type 0 where
   pub region : once_in day_and_region 3 ≡ true
   pub region_stands : stands_in day_and_region 3 ≡ Mixed
   pub day_still : once_in day_and_region 0 ≡ true
-  pub brought_together : once_in diamond 0 ≡ false
-  pub brought_spread : spread_in diamond 0 ≡ 5
-  pub brought : once_in diamond 3 ≡ true
+  pub brought_together : once_in two_ways 0 ≡ false
+  pub brought_spread : spread_in two_ways 0 ≡ 5
+  pub brought : once_in two_ways 3 ≡ true
   pub no_coin : once_in (itself 8) 0 ≡ true
   pub no_coin_spread : spread_in (itself 8) 0 ≡ 1
   pub no_coin_stands : stands_in (itself 8) 0 ≡ Mixed

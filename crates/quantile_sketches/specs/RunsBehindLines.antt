@@ -3,9 +3,9 @@ use Rattle.std.specs.Prelude.{◌≡◌, ℕ, ℤ, List, [], ◌∷◌, ◌++◌
 use Rattle.std.specs.Option.{option_map}
 use Rattle.sketch_base.specs.Random.{next_state}
 use Rattle.quantile_sketches.specs.Answer.{answer_text}
-use Rattle.quantile_sketches.specs.Behaviour.{Behaviour, coin_of}
+use Rattle.quantile_sketches.specs.Behaviour.{Behaviour, coin_of_state}
 use Rattle.quantile_sketches.specs.Command.{request_of}
-use Rattle.quantile_sketches.specs.declared.audit.commands.Command.{Command}
+use Rattle.quantile_sketches.specs.declared.commands.Command.{Command}
 use Rattle.quantile_sketches.specs.declared.command.Request.{Request}
 use Rattle.quantile_sketches.specs.declared.command.Request.TheVariants.{Run, Load}
 use Rattle.quantile_sketches.specs.Reader.{Grammar}
@@ -32,7 +32,7 @@ run_after run (Some query) reply = run
 abbrev pub AreOfRunKeeping : {C Shape S : Type 0} → Kind ℤ C Shape S → (List (Command ℤ C) → ℕ → S → Type 0) → ℕ → Known C → Slots S → ℕ → Type 0
 AreOfRunKeeping kind promise seed None slots coins = ⊤
 AreOfRunKeeping {S = S} kind promise seed (Some commands) slots coins =
-    AreExecuted kind coin_of next_state [] 0 commands (λ slot. None) seed (in_slot slots) coins
+    AreExecuted kind coin_of_state next_state [] 0 commands (λ slot. None) seed (in_slot slots) coins
     × ((slot : ℕ) (s : S) → in_slot slots slot ≡ Some s → promise commands slot s)
 
 module _ {C S : Type 0} (grammar : Grammar C) (behaviour : Behaviour S ℤ C) (Holds : Known C → Slots S → ℕ → Type 0) where

@@ -7,16 +7,16 @@ use Rattle.sketch_req.specs.Sketch.{Req}
 use Rattle.sketch_req.specs.declared.RankAccuracy.{RankAccuracy}
 use Rattle.quantile_sketches.specs.Behaviour.{Behaviour}
 use Rattle.quantile_sketches.specs.RunsBehindLines.{AreOfRunKeeping, AnswersWhere}
-use Rattle.quantile_sketches.specs.declared.audit.commands.Command.{Command}
+use Rattle.quantile_sketches.specs.declared.commands.Command.{Command}
 use Rattle.quantile_sketches.specs.declared.table.TheConstants.{SLOTS}
 use Rattle.quantile_sketches.specs.KllBehaviour.{kll}
-use Rattle.quantile_sketches.specs.KllRules.{kll_kind}
-use Rattle.quantile_sketches.specs.KllRun.{IsSmall}
-use Rattle.quantile_sketches.specs.Lines.{lines, Serves, Begins}
+use Rattle.quantile_sketches.specs.KllRules.{kll_look, kll_kind}
+use Rattle.quantile_sketches.specs.KllRun.{IsWithinCapacity}
+use Rattle.quantile_sketches.specs.Lines.{lines, Serves, BeginsServing}
 use Rattle.quantile_sketches.specs.Outcome.{WeighsStream, HasExtremes}
 use Rattle.quantile_sketches.specs.Reader.{kll_grammar, req_grammar}
 use Rattle.quantile_sketches.specs.ReqBehaviour.{req}
-use Rattle.quantile_sketches.specs.ReqKind.{req_kind}
+use Rattle.quantile_sketches.specs.ReqKind.{req_look, req_kind}
 use Rattle.quantile_sketches.specs.ReqOutcome.{IsExact}
 use Rattle.quantile_sketches.specs.ReqPlan.{ReqCommand}
 
@@ -34,18 +34,18 @@ ServesFamily false seed text out = Serves kll_grammar kll_of_i64 (replicate SLOT
 
 -- a beginning of the answers to a prefix of the lines
 abbrev pub BeginsFamily : (is_req : Bool) → ℕ → List ℕ → List ℕ → Type 0
-BeginsFamily true seed text sent = Begins req_grammar req_of_i64 (replicate SLOTS None) seed (lines text) sent
-BeginsFamily false seed text sent = Begins kll_grammar kll_of_i64 (replicate SLOTS None) seed (lines text) sent
+BeginsFamily true seed text sent = BeginsServing req_grammar req_of_i64 (replicate SLOTS None) seed (lines text) sent
+BeginsFamily false seed text sent = BeginsServing kll_grammar kll_of_i64 (replicate SLOTS None) seed (lines text) sent
 
 -- what is promised of a slot's sketch after these commands: it has the weight and the extremes of the slot's stream; a KLL sketch
 -- is small, and a REQ sketch is exact on its protected tail
 abbrev pub KllPromise : List (Command ℤ ℕ) → ℕ → Kll ℤ → Type 0
 KllPromise commands slot s =
-    WeighsStream (kll_kind int_cmp i64_spelling) commands slot s × HasExtremes (kll_kind int_cmp i64_spelling) commands slot s × IsSmall s
+    WeighsStream (kll_look int_cmp) commands slot s × HasExtremes (kll_look int_cmp) commands slot s × IsWithinCapacity s
 
 abbrev pub ReqPromise : List (ReqCommand ℤ) → ℕ → Req ℤ → Type 0
 ReqPromise commands slot s =
-    WeighsStream (req_kind int_cmp i64_spelling) commands slot s × HasExtremes (req_kind int_cmp i64_spelling) commands slot s
+    WeighsStream (req_look int_cmp) commands slot s × HasExtremes (req_look int_cmp) commands slot s
     × IsExact int_cmp commands slot s
 
 -- the answers to all lines of a text; until a `load` is accepted, each is given by the sketches of a run of the commands that

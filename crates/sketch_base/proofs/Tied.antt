@@ -1,27 +1,32 @@
--- If items that compare equal are equal, so are lists that compare equal place by place, and answers that compare equal.
-use Rattle.std.proofs.Common.{◌≡◌, List, [], ◌∷◌, Option, None, Some, refl, sym, ap, ap₂, ◌∙◌, IsSorted, Ordering}
+-- Lists that compare equal place by place: sorted ones of the same items, and what is spelled for them.
+use Rattle.std.proofs.Common.{◌≡◌, ℕ, List, [], ◌∷◌, ◌++◌, Option, None, Some, refl, ap, ap₂, IsSorted, Ordering}
 use Rattle.std.specs.Cmp.{IsTotalOrder}
+use Rattle.std.specs.Option.{option_to_list, unwrap_or}
 use Rattle.sketch_base.specs.Bag.{SameItems, sort}
 use Rattle.sketch_base.specs.Queries.{SameAnswer}
-use Rattle.sketch_base.specs.Tied.{TiesAreEqual}
+use Rattle.sketch_base.specs.Spelling.{items_text}
+use Rattle.sketch_base.specs.Tied.{TiesSpellOne}
+use Rattle.sketch_base.proofs.Items.{SameItems-back, SameItems-trans}
 use Rattle.sketch_base.proofs.Sorting.{Ordered-from_sorted, sort-ordered}
 
-module _ {A : Type 0} {cmp : A → A → Ordering} (order : IsTotalOrder cmp) (tied : TiesAreEqual cmp) where
-  -- lists that compare equal are equal
-  pub same-items : (xs ys : List A) → SameItems cmp xs ys → xs ≡ ys
-  same-items [] [] s = refl
-  same-items (x ∷ xs) (y ∷ ys) s = ap₂ (λ (z : A) (zs : List A). z ∷ zs) (tied x y s.0) (same-items xs ys s.1)
-  same-items _ _ s = absurd s
+-- the items of answers that compare equal
+pub same-ends : {A : Type 0} (cmp : A → A → Ordering) (a b : Option A) → SameAnswer cmp a b → SameItems cmp (option_to_list a) (option_to_list b)
+same-ends cmp None None s = tt
+same-ends cmp (Some x) (Some y) s = (s, tt)
+same-ends cmp _ _ s = absurd s
 
-  -- sorted lists of the same items are equal
-  pub same-sorted : (xs ys : List A) → SameItems cmp (sort cmp xs) (sort cmp ys) → IsSorted cmp xs → IsSorted cmp ys → xs ≡ ys
-  same-sorted xs ys s a b = sym (put xs a) ∙ (same-items (sort cmp xs) (sort cmp ys) s ∙ put ys b)
+module _ {A : Type 0} {cmp : A → A → Ordering} where
+  -- sorted lists of the same items compare equal
+  pub same-sorted : IsTotalOrder cmp → (xs ys : List A) → SameItems cmp (sort cmp xs) (sort cmp ys) → IsSorted cmp xs → IsSorted cmp ys → SameItems cmp xs ys
+  same-sorted order xs ys s a b =
+      SameItems-trans cmp order xs (sort cmp xs) ys (SameItems-back order (sort cmp xs) xs (put xs a)) (SameItems-trans cmp order (sort cmp xs) (sort cmp ys) ys s (put ys b))
     where
-      put : (zs : List A) → IsSorted cmp zs → sort cmp zs ≡ zs
-      put zs h = same-items (sort cmp zs) zs (sort-ordered cmp order zs (Ordered-from_sorted cmp order zs h))
+      put : (zs : List A) → IsSorted cmp zs → SameItems cmp (sort cmp zs) zs
+      put zs h = sort-ordered cmp order zs (Ordered-from_sorted cmp order zs h)
 
-  -- answers that compare equal are equal
-  pub same-answers : (a b : Option A) → SameAnswer cmp a b → a ≡ b
-  same-answers None None s = refl
-  same-answers (Some x) (Some y) s = ap (λ (z : A). Some z) (tied x y s)
-  same-answers _ _ s = absurd s
+  module _ {spelling : A → Option (List ℕ)} (tied : TiesSpellOne cmp spelling) where
+    -- what is spelled for lists that compare equal is the same
+    pub same-text : (xs ys : List A) → SameItems cmp xs ys → items_text spelling xs ≡ items_text spelling ys
+    same-text [] [] s = refl
+    same-text (x ∷ xs) (y ∷ ys) s = ap₂ (λ (a b : List ℕ). a ++ b) (ap (λ (o : Option (List ℕ)). unwrap_or o []) (tied x y s.0)) (same-text xs ys s.1)
+    same-text _ _ s = absurd s

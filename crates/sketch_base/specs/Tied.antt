@@ -1,7 +1,8 @@
--- Items that compare equal are equal.
-use Rattle.std.specs.Prelude.{◌≡◌}
+-- Items that compare equal have one spelling.
+use Rattle.std.specs.Prelude.{◌≡◌, ℕ, List, Option}
 use Rattle.std.specs.declared.cmp.Ordering.{Ordering}
 use Rattle.std.specs.declared.cmp.Ordering.TheVariants.{Equal}
 
-abbrev pub TiesAreEqual : {A : Type 0} → (A → A → Ordering) → Type 0
-TiesAreEqual {A} cmp = (x y : A) → cmp x y ≡ Equal → x ≡ y
+-- as texts and whole numbers have; the converse is `SpellingsTie`
+abbrev pub TiesSpellOne : {A : Type 0} → (A → A → Ordering) → (A → Option (List ℕ)) → Type 0
+TiesSpellOne {A} cmp spelling = (x y : A) → cmp x y ≡ Equal → spelling x ≡ spelling y

@@ -110,7 +110,7 @@ module _ {A : Type 0} {cmp : A → A → Ordering} (order : IsTotalOrder cmp) wh
 
   -- the layouts after the first update, and the coins that all take
   module _ {s : Req A} {x : A} {word : List Bool} {Rest : Req A → Type 0} (d : IsUpdatedFirst cmp s x word Rest) where
-    laid-first : layouts_of d.after.levels ≡ update_layouts s.k (layouts_of s.levels)
+    pub laid-first : layouts_of d.after.levels ≡ update_layouts s.k (layouts_of s.levels)
     laid-first = d.updated.layouts ∙ ap₂ (λ (k : ℕ) (ls : List Layout). update_layouts k ls) d.is_copy.k (layouts-copied order s.levels d.copy.levels d.is_copy.levels)
 
     actions-first : (xs : List A) → updates_by d.after xs ≡ updates_actions s.k s.accuracy (update_layouts s.k (layouts_of s.levels)) xs
@@ -171,7 +171,7 @@ module _ {A : Type 0} {cmp : A → A → Ordering} (order : IsTotalOrder cmp) wh
   put-alike (l ∷ ls) [] x c bit e z = absurd z
 
   -- what the first update makes of the bag
-  bag-first : (s : Req A) (x : A) (word : List Bool) (Rest : Req A → Type 0) (d : IsUpdatedFirst cmp s x word Rest) →
+  pub bag-first : (s : Req A) (x : A) (word : List Bool) (Rest : Req A → Type 0) (d : IsUpdatedFirst cmp s x word Rest) →
       AlikeReq cmp (bag_after cmp (update_of s x) word (bag_of s.levels)) (bag_of d.after.levels)
   bag-first s x word Rest d =
       let laid = layouts-copied order s.levels d.copy.levels d.is_copy.levels in
@@ -208,7 +208,7 @@ module _ {A : Type 0} {cmp : A → A → Ordering} (order : IsTotalOrder cmp) wh
       let from : Moves order ys xs = λ P keeps. all-same P cmp keeps ys xs (SameItems-back order xs ys same) in
       greatest-moved order xs ys to from a b answer
 
-  with-clone : (a b : Option A) (x c : A) → SameAnswer cmp a b → cmp x c ≡ Equal → SameItems cmp (option_to_list b ++ c ∷ []) (option_to_list a ++ x ∷ [])
+  pub with-clone : (a b : Option A) (x c : A) → SameAnswer cmp a b → cmp x c ≡ Equal → SameItems cmp (option_to_list b ++ c ∷ []) (option_to_list a ++ x ∷ [])
   with-clone a b x c e t =
       SameItems-back order (option_to_list a ++ x ∷ []) (option_to_list b ++ c ∷ []) (SameItems-append cmp (option_to_list a) (option_to_list b) (x ∷ []) (c ∷ []) (same-answers a b e) (t, tt))
 

@@ -16,7 +16,7 @@ ghost use Rattle.quantile_sketches.specs.ReqUpdated.{was_only_updated, off_tail_
 ghost use Rattle.quantile_sketches.specs.Run.{stream_of};
 
 use super::audits::audit_family;
-use super::commands::{Audit, Command};
+use crate::commands::{Audit, Command};
 use sketch_base::common::SearchCriteria;
 use sketch_base::error::Error;
 use sketch_req::RankAccuracy;

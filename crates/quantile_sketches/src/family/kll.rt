@@ -5,7 +5,7 @@ ghost use Rattle.sketch_base.specs.Spelling.{SpellingsTie};
 ghost use Rattle.quantile_sketches.specs.KllBehaviour.{kll};
 ghost use Rattle.quantile_sketches.specs.KllRules.{KllShape, kll_kind};
 
-use super::{Family, Outcome};
+use super::Family;
 use sketch_base::common::random::RandomBits;
 use sketch_base::common::{Rank, SearchCriteria};
 use sketch_base::error::{Error, ErrorKind};
@@ -55,17 +55,22 @@ impl<T: KllValue + Ord> Family for KllSketch<T> {
         redraws || self.refuses(other)
     }
 
-    fn update<B: RandomBits>(&mut self, item: T, coins: &mut B) -> Outcome {
+    fn update<B: RandomBits>(&mut self, item: T, coins: &mut B) -> Result<(), Error> {
         // Read so that the proof knows the invariant.
         let _n = self.n();
         self.update(item, coins)
     }
 
-    fn update_weighted<B: RandomBits>(&mut self, item: T, weight: u64, coins: &mut B) -> Outcome {
+    fn update_weighted<B: RandomBits>(
+        &mut self,
+        item: T,
+        weight: u64,
+        coins: &mut B,
+    ) -> Result<(), Error> {
         self.update_weighted(item, weight, coins)
     }
 
-    fn redraw<B: RandomBits>(&mut self, _coins: &mut B) -> Outcome {
+    fn redraw<B: RandomBits>(&mut self, _coins: &mut B) -> Result<(), Error> {
         Err(Error::new(ErrorKind::InvalidArgument))
     }
 
@@ -79,7 +84,7 @@ impl<T: KllValue + Ord> Family for KllSketch<T> {
         redraws: bool,
         coins: &mut B,
         _room: &mut (),
-    ) -> Outcome {
+    ) -> Result<(), Error> {
         if redraws {
             return Err(Error::new(ErrorKind::InvalidArgument));
         }

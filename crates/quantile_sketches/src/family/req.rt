@@ -6,7 +6,7 @@ ghost use Rattle.quantile_sketches.specs.ReqBehaviour.{req};
 ghost use Rattle.quantile_sketches.specs.ReqKind.{req_kind};
 ghost use Rattle.quantile_sketches.specs.ReqRules.{ReqShape};
 
-use super::{Family, Outcome};
+use super::Family;
 use sketch_base::common::buffers::MergeRoom;
 use sketch_base::common::random::RandomBits;
 use sketch_base::common::{Rank, SearchCriteria};
@@ -58,17 +58,17 @@ impl<T: ReqValue + Clone + Ord> Family for ReqSketch<T> {
         self.refuses(other)
     }
 
-    fn update<B: RandomBits>(&mut self, item: T, coins: &mut B) -> Outcome {
+    fn update<B: RandomBits>(&mut self, item: T, coins: &mut B) -> Result<(), Error> {
         // Read so that the proof knows the invariant.
         let _n = self.n();
         self.update(item, coins)
     }
 
-    fn update_weighted<B: RandomBits>(&mut self, _: T, _: u64, _: &mut B) -> Outcome {
+    fn update_weighted<B: RandomBits>(&mut self, _: T, _: u64, _: &mut B) -> Result<(), Error> {
         Err(Error::new(ErrorKind::InvalidArgument))
     }
 
-    fn redraw<B: RandomBits>(&mut self, coins: &mut B) -> Outcome {
+    fn redraw<B: RandomBits>(&mut self, coins: &mut B) -> Result<(), Error> {
         self.redraw_coins(coins);
         Ok(())
     }
@@ -85,7 +85,7 @@ impl<T: ReqValue + Clone + Ord> Family for ReqSketch<T> {
         redraws: bool,
         coins: &mut B,
         room: &mut MergeRoom<T>,
-    ) -> Outcome {
+    ) -> Result<(), Error> {
         self.merge_in_room(other, redraws, coins, room)
     }
 

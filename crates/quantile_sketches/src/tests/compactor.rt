@@ -257,9 +257,13 @@ fn compacts_again(level: &mut Level, out: &mut Vec<i32>) -> bool {
 }
 
 fn compacts_twice(alloc: Global) -> bool {
-    match (filled(alloc, 4, HIGH, 24), Vec::from_array(alloc, [0i32; 0])) {
+    match (
+        filled(alloc, 4, HIGH, 24),
+        Vec::from_array(alloc, [0i32; 0]),
+    ) {
         (Ok(mut level), Ok(mut out)) => {
-            compacts_into(&mut level, &mut out, COMPACTIONS[0]) && compacts_again(&mut level, &mut out)
+            compacts_into(&mut level, &mut out, COMPACTIONS[0])
+                && compacts_again(&mut level, &mut out)
         }
         _ => false,
     }

@@ -106,7 +106,9 @@ impl Numbered for Nonzero {
 }
 
 fn takes(sketch: &mut KllSketch<Nonzero>, byte: u8) -> bool {
-    sketch.update(Nonzero { byte }, &mut WordBits::new(&[])).is_ok()
+    sketch
+        .update(Nonzero { byte }, &mut WordBits::new(&[]))
+        .is_ok()
 }
 
 fn is_refused_as_it_was(sketch: &KllSketch<Nonzero>) -> bool {
@@ -118,7 +120,10 @@ fn is_refused_as_it_was(sketch: &KllSketch<Nonzero>) -> bool {
 
 /// Returns whether a sketch that takes the bytes 1 and 0 has no image, and stays as it was.
 fn refuses_image(sketch: &mut KllSketch<Nonzero>) -> bool {
-    takes(sketch, 1) && sketch.serialize().is_ok() && takes(sketch, 0) && is_refused_as_it_was(sketch)
+    takes(sketch, 1)
+        && sketch.serialize().is_ok()
+        && takes(sketch, 0)
+        && is_refused_as_it_was(sketch)
 }
 
 fn refuses_unspelled(alloc: Global) -> bool {

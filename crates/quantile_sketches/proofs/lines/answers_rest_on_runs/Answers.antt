@@ -4,7 +4,7 @@ use Rattle.std.specs.Ordering.{int_cmp}
 use Rattle.sketch_base.specs.Spelling.{i64_spelling}
 use Rattle.sketch_base.specs.Random.{next_state}
 use Rattle.sketch_base.specs.SpellingLaws.{i64_prefix_free, i64_ties}
-use Rattle.quantile_sketches.specs.Behaviour.{coin_of}
+use Rattle.quantile_sketches.specs.Behaviour.{coin_of_state}
 use Rattle.quantile_sketches.specs.KllBehaviour.{kll}
 use Rattle.quantile_sketches.specs.Lines.{lines}
 use Rattle.quantile_sketches.specs.Reader.{kll_grammar, req_grammar}
@@ -24,21 +24,21 @@ use Rattle.quantile_sketches.proofs.lines.answers_rest_on_runs.Goals as goal
 rest : (is_req : Bool) (seed : ℕ) (text out : List ℕ) → ServesFamily is_req seed text out → ServesRun is_req seed text out
 rest true seed text out =
     let lawful = req_kind_lawful int_cmp_total i64_spelling in
-    let obeys = req-obeys int_cmp_total i64_spelling coin_of next_state i64_prefix_free i64_ties in
+    let obeys = req-obeys int_cmp_total i64_spelling coin_of_state next_state i64_prefix_free i64_ties in
     answers-rest req_grammar lawful (req int_cmp i64_spelling) obeys seed ReqPromise (λ commands slots coins st slot s held. (
-      standing-weight lawful coin_of next_state seed commands slots coins st slot s held,
-      standing-extremes lawful coin_of next_state seed commands slots coins st slot s held,
-      alike-exact int_cmp_total commands (given lawful coin_of next_state seed commands slots coins st slot s held) slot s
-          (standing-shape lawful coin_of next_state seed commands slots coins st slot s held)
-          (standing-is lawful coin_of next_state seed commands slots coins st slot s held).alike,
+      standing-weight lawful coin_of_state next_state seed commands slots coins st slot s held,
+      standing-extremes lawful coin_of_state next_state seed commands slots coins st slot s held,
+      alike-exact int_cmp_total commands (given lawful coin_of_state next_state seed commands slots coins st slot s held) slot s
+          (standing-shape lawful coin_of_state next_state seed commands slots coins st slot s held)
+          (standing-is lawful coin_of_state next_state seed commands slots coins st slot s held).alike,
     )) (lines text) out
 rest false seed text out =
     let lawful = kll_kind_lawful int_cmp_total i64_spelling in
-    let obeys = kll-obeys int_cmp_total i64_spelling coin_of next_state i64_prefix_free i64_ties in
+    let obeys = kll-obeys int_cmp_total i64_spelling coin_of_state next_state i64_prefix_free i64_ties in
     answers-rest kll_grammar lawful (kll int_cmp i64_spelling) obeys seed KllPromise (λ commands slots coins st slot s held. (
-      standing-weight lawful coin_of next_state seed commands slots coins st slot s held,
-      standing-extremes lawful coin_of next_state seed commands slots coins st slot s held,
-      sound-small s (standing-is lawful coin_of next_state seed commands slots coins st slot s held).sound,
+      standing-weight lawful coin_of_state next_state seed commands slots coins st slot s held,
+      standing-extremes lawful coin_of_state next_state seed commands slots coins st slot s held,
+      sound-small s (standing-is lawful coin_of_state next_state seed commands slots coins st slot s held).sound,
     )) (lines text) out
 
 pub returns : goal.returns

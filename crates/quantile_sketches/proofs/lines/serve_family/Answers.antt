@@ -4,7 +4,6 @@ use Rattle.quantile_sketches.specs.declared.table.TheConstants.{SLOTS}
 use Rattle.quantile_sketches.proofs.FirstLine.{nothing_ahead}
 use Rattle.quantile_sketches.proofs.LineRuns.{begins-after, begins-unstarted, serves-after}
 use denote.MutBor.{MutBor}
-use Rattle.quantile_sketches.proofs.lines.serve_family.Goals.{in-Err-Input, in-Err-Input-2}
 use Rattle.quantile_sketches.proofs.lines.serve_family.Goals as goal
 
 OnErr-from : {T E P : Type 0} (r : Result T E) → P → OnErr r P
@@ -17,28 +16,15 @@ returns-in_err-input g c =
     (g.W.Write.contents c.args.output.now) in
     record { served = IfOk-from_err c.from_residual.result _ c.from_residual.ensures.0; broken_off = OnErr-from c.from_residual.result begun }
 
-pub returns-in-Ok : goal.returns-in-Ok
-returns-in-Ok g c =
+pub returns : goal.returns
+returns g c =
     let known =
     nothing_ahead (λ (r : MutBor g.row.R.Denot). g.R.Read.remaining r.now) c.in_ok-input.input _ c.in_ok-input.ensures.inner c.in_ok-input.ensures.empty
     c.in_ok-input.ensures.capacity in
     record {
       served = serves-after g.S.Config.Config.grammar g.S.Family.behaviour (replicate SLOTS None) c.args.seed _ _ (g.W.Write.contents c.args.output.now)
-          (g.W.Write.contents c.answer_lines.new.output) _ known c.in-Ok.ensures;
-      broken_off = tt;
+          (g.W.Write.contents c.answer_lines.new.output) c.answer_lines.result known c.answer_lines.ensures;
+      broken_off = OnErr-from c.answer_lines.result
+          (begins-after g.S.Config.Config.grammar g.S.Family.behaviour (replicate SLOTS None) c.args.seed _ _ (g.W.Write.contents c.args.output.now)
+          (g.W.Write.contents c.answer_lines.new.output) c.answer_lines.result known c.answer_lines.ensures);
     }
-
-pub returns-clause-broken_off : goal.returns-clause-broken_off
-returns-clause-broken_off g c =
-    let known =
-    nothing_ahead (λ (r : MutBor g.row.R.Denot). g.R.Read.remaining r.now) c.in_ok-input.input _ c.in_ok-input.ensures.inner c.in_ok-input.ensures.empty
-    c.in_ok-input.ensures.capacity in
-    OnErr-from c.match-this.result
-    (begins-after g.S.Config.Config.grammar g.S.Family.behaviour (replicate SLOTS None) c.args.seed _ _ (g.W.Write.contents c.args.output.now)
-    (g.W.Write.contents c.answer_lines.new.output) c.answer_lines.result known c.answer_lines.ensures)
-
-pub returns-clause-served : goal.returns-clause-served
-returns-clause-served g c = elim c.match-this.branch [
-  | in-Err-Input w ↦ rw w.result-is tt
-  | in-Err-Input-2 w ↦ rw w.result-is tt
-]

@@ -85,30 +85,30 @@ empty_one h = omega (arith, h.length_is)
 pub returns-clause-rows : goal.returns-clause-rows
 unfolding size_of count_trailing_zeros
 returns-clause-rows g c = record {
-    within = within;
-    within_off = within_off;
-    beyond_more = beyond_more;
-    beyond_less = beyond_less;
-    beyond_few = beyond_few;
-    high_place = high_place;
-    high_place_below = high_place_below;
-    low_place = low_place;
-    low_place_above = low_place_above;
-    near_high = near_high;
-    near_high_over = near_high_over;
-    near_low = near_low;
-    near_low_over = near_low_over;
-    p999_inclusive = refl;
-    p999_inclusive_over = refl;
-    tied_off = refl;
-    tied_no = refl;
-    tied_yes = refl;
-    tied_tail = tied_tail;
-    tied_stream = refl;
-    tied_front_no = refl;
-    tied_front_yes = refl;
-    low_tail = low_tail;
-    empty = empty-summarizes {A = ℕ} {cmp = nat_cmp} nat_cmp_total 4 4 HighRank (omega arith);
-    empty_over = empty_over;
-    empty_one = empty_one;
+  within = within;
+  within_off = within_off;
+  beyond_more = beyond_more;
+  beyond_less = beyond_less;
+  beyond_few = beyond_few;
+  high_place = high_place;
+  high_place_below = high_place_below;
+  low_place = low_place;
+  low_place_above = low_place_above;
+  near_high = near_high;
+  near_high_over = near_high_over;
+  near_low = near_low;
+  near_low_over = near_low_over;
+  p999_inclusive = refl;
+  p999_inclusive_over = refl;
+  tied_off = refl;
+  tied_no = refl;
+  tied_yes = refl;
+  tied_tail = tied_tail;
+  tied_stream = refl;
+  tied_front_no = refl;
+  tied_front_yes = refl;
+  low_tail = low_tail;
+  empty = empty-summarizes {A = ℕ} {cmp = nat_cmp} nat_cmp_total 4 4 HighRank (omega arith);
+  empty_over = empty_over;
+  empty_one = empty_one;
 }

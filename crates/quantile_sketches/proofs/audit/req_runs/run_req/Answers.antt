@@ -1,13 +1,18 @@
-use Rattle.std.proofs.Common.{◌<◌, ◌-◌, ◌^◌, length, arith}
+use Rattle.std.proofs.Common.{ℕ, List, length, IfOk}
+use Rattle.quantile_sketches.specs.Refused.{accepted_of}
 use Rattle.quantile_sketches.specs.ReqFair.{is_fair_slot}
+use Rattle.quantile_sketches.specs.ReqPlan.{ReqCommand}
 use Rattle.quantile_sketches.specs.ReqReady.{stays_fair}
-use Rattle.quantile_sketches.specs.ReqUpdated.{was_only_updated}
+use Rattle.quantile_sketches.specs.ReqRules.{req_rules}
+use Rattle.quantile_sketches.specs.ReqUpdated.{was_only_updated, AreRelative, AreRelativeToCounts}
+use Rattle.quantile_sketches.specs.Run.{AreUnbiasedWhere, WithEnoughBits}
 use Rattle.quantile_sketches.proofs.Given.{given, both, five}
-use Rattle.quantile_sketches.proofs.AfterCommands.{close-by}
+use Rattle.quantile_sketches.proofs.AfterCommands.{close-by, ranks-by}
 use Rattle.quantile_sketches.proofs.ReqFair.{run-unbiased_where_fair}
 use Rattle.quantile_sketches.proofs.ReqKind.{req_kind_lawful}
 use Rattle.quantile_sketches.proofs.ReqReady.{run-unbiased_where_redrawn}
-use Rattle.quantile_sketches.proofs.ReqRuns.{req-load, run-ordered, run-levels, run-small, run-tails-own, run-images, runs-unbiased, runs-fair, runs-redrawn, runs-relative, runs-relative_to_counts, unbiased-updated, plays-unbiased}
+use Rattle.quantile_sketches.proofs.ReqRuns.{req-load, run-ordered, run-levels, run-small, run-tails-own, run-images, unbiased-updated, by-law}
+use Rattle.quantile_sketches.proofs.ReqUpdated.{run-are_relative, run-are_relative_to_counts}
 use Rattle.quantile_sketches.proofs.RunSummaries.{run-summaries, summaries-tails}
 use Rattle.quantile_sketches.proofs.audit.req_runs.run_req.Goals as goal
 
@@ -16,7 +21,11 @@ run_family-requires-clause-lawful g c = req_kind_lawful g.met.T.Ord.total g.T.Re
 
 pub returns : goal.returns
 returns g c =
-    let few : length c.args.word.now < 2 ^ 64 - 1 = omega arith in
+    let accepted : (P : List (ReqCommand g.row.T.Denot) → ℕ → Type 0) → WithEnoughBits req_rules P →
+    IfOk c.run_family.result (λ run. P (accepted_of run.refused.items c.args.commands.now) (length c.args.word.now)) = λ P law.
+    both c.run_family.result
+    (λ run refused. by-law g.met.T.Ord.total g.T.ReqValue.spelling c.args.commands.now run.slots c.args.word.now run.refused.items refused P law)
+    c.run_family.ensures.refused c.run_family.ensures.enough in
     let summaries =
     five c.run_family.result
     (λ run refused planned played weight extremes.
@@ -27,10 +36,13 @@ returns g c =
       errors = c.run_family.ensures.errors;
       refused = c.run_family.ensures.refused;
       executed = c.run_family.ensures.executed;
-      carried_out = c.run_family.ensures.carried_out;
       coins = c.run_family.ensures.coins;
       planned = c.run_family.ensures.planned;
       played = c.run_family.ensures.played;
+      ranks =
+          given c.run_family.result
+          (λ run. ranks-by (req_kind_lawful g.met.T.Ord.total g.T.ReqValue.spelling) (accepted_of run.refused.items c.args.commands.now) c.args.word.now run.slots)
+          c.run_family.ensures.played;
       weight = c.run_family.ensures.weight;
       extremes = c.run_family.ensures.extremes;
       ordered =
@@ -50,40 +62,13 @@ returns g c =
       summaries = summaries;
       own =
           given c.run_family.result (λ run. run-tails-own g.met.T.Ord.total g.T.ReqValue.spelling c.args.commands.now run.slots) c.run_family.ensures.planned;
-      fair =
-          given c.run_family.result (λ run enough. runs-fair g.met.T.Ord.total g.T.ReqValue.spelling c.args.commands.now run.slots c.args.word.now enough
-          few) c.run_family.ensures.enough;
-      redrawn =
-          given c.run_family.result (λ run enough. runs-redrawn g.met.T.Ord.total g.T.ReqValue.spelling c.args.commands.now run.slots c.args.word.now enough
-          few) c.run_family.ensures.enough;
-      plays =
-          both c.run_family.result
-          (λ run refused enough.
-          plays-unbiased g.met.T.Ord.total g.T.ReqValue.spelling c.args.commands.now run.slots c.args.word.now run.refused.items refused enough was_only_updated (unbiased-updated g.T.Ord.cmp))
-          c.run_family.ensures.refused c.run_family.ensures.enough;
-      fair_plays =
-          both c.run_family.result
-          (λ run refused enough.
-          plays-unbiased g.met.T.Ord.total g.T.ReqValue.spelling c.args.commands.now run.slots c.args.word.now run.refused.items refused enough is_fair_slot (run-unbiased_where_fair g.T.Ord.cmp))
-          c.run_family.ensures.refused c.run_family.ensures.enough;
-      redrawn_plays =
-          both c.run_family.result
-          (λ run refused enough.
-          plays-unbiased g.met.T.Ord.total g.T.ReqValue.spelling c.args.commands.now run.slots c.args.word.now run.refused.items refused enough stays_fair (run-unbiased_where_redrawn g.T.Ord.cmp))
-          c.run_family.ensures.refused c.run_family.ensures.enough;
+      fair = accepted (AreUnbiasedWhere req_rules g.T.Ord.cmp is_fair_slot) (run-unbiased_where_fair g.T.Ord.cmp);
+      redrawn = accepted (AreUnbiasedWhere req_rules g.T.Ord.cmp stays_fair) (run-unbiased_where_redrawn g.T.Ord.cmp);
       images =
           given c.run_family.result
           (λ run. run-images g.met.T.Ord.total g.T.ReqValue.spelling c.args.commands.now run.slots g.met.T.ReqValue.is_prefix_free c.requires.codec)
           c.run_family.ensures.sound;
-      unbiased =
-          given c.run_family.result (λ run enough. runs-unbiased g.met.T.Ord.total g.T.ReqValue.spelling c.args.commands.now run.slots c.args.word.now enough
-          few) c.run_family.ensures.enough;
-      relative =
-          both c.run_family.result (λ run planned enough. runs-relative g.met.T.Ord.total g.T.ReqValue.spelling c.args.commands.now run.slots c.args.word.now
-          enough few planned)
-          c.run_family.ensures.planned c.run_family.ensures.enough;
-      counts =
-          both c.run_family.result (λ run planned enough. runs-relative_to_counts g.met.T.Ord.total g.T.ReqValue.spelling c.args.commands.now run.slots
-          c.args.word.now enough few planned)
-          c.run_family.ensures.planned c.run_family.ensures.enough;
+      unbiased = accepted (AreUnbiasedWhere req_rules g.T.Ord.cmp was_only_updated) (unbiased-updated g.T.Ord.cmp);
+      relative = accepted (AreRelative g.T.Ord.cmp) (run-are_relative g.met.T.Ord.total);
+      counts = accepted (AreRelativeToCounts g.T.Ord.cmp) (run-are_relative_to_counts g.met.T.Ord.total);
     }

@@ -5,7 +5,7 @@ use Rattle.std.proofs.lemmas.Int.{to_z-of_z}
 use Rattle.quantile_sketches.specs.Command.{parse_update_weighted}
 use Rattle.quantile_sketches.specs.LineWords.{at_end, item_of, then_word}
 use Rattle.quantile_sketches.specs.Reader.{parse_number}
-use Rattle.quantile_sketches.specs.declared.audit.commands.Command.TheVariants.{UpdateWeighted}
+use Rattle.quantile_sketches.specs.declared.commands.Command.TheVariants.{UpdateWeighted}
 use Rattle.quantile_sketches.specs.declared.command.Request.TheVariants.{Run}
 use Rattle.quantile_sketches.specs.declared.command.Request.{Request}
 use Rattle.quantile_sketches.proofs.DigitNumbers.{item_fits}

@@ -3,7 +3,7 @@ use Rattle.std.proofs.lemmas.Grind.{common_steps}
 use Rattle.std.specs.Io.Buffered.{reader_remaining}
 use Rattle.quantile_sketches.specs.LineSteps.{reply_of}
 use Rattle.quantile_sketches.proofs.AnsweredLines.{line-found, line-written, line-unwritten, update-answered}
-use Rattle.quantile_sketches.proofs.LineRuns.{ends-broken, ends-fault, ends-unread, ends-well, running-out, running-start, running-with}
+use Rattle.quantile_sketches.proofs.LineRuns.{ends-broken, ends-early, ends-well, running-out, running-start, running-with}
 use Rattle.quantile_sketches.proofs.lines.Server.answer_all.Goals.{in-Some+in_ok-write_done, in_default+in_ok-answer+in-Some-2+in_ok-write_answer}
 use Rattle.quantile_sketches.proofs.lines.Server.answer_all.Goals as goal
 
@@ -17,15 +17,15 @@ returns-in_err-write_done g c =
     (update-answered g.S.Config.Config.grammar g.S.Family.behaviour g.R.Read.remaining c.loop.input _ c.buffer.result.now c.loop.self.table
     c.update-verdict.new.self c.loop.self.coins c.update-verdict.new.coins
     c.update-verdict.result c.buffer.ensures c.in-Some.ensures c.consume.ensures.bytes c.update-verdict.ensures)
-    c.in_err-write_done.ensures c.from_residual.result c.in_err-write_done.field-0.0 c.from_residual.ensures.1
+    c.in_err-write_done.ensures c.from_residual.result c.from_residual.ensures.0
 
 pub overflow_add-len : goal.overflow_add-len
 overflow_add-len g c = grind (arith, common_steps)
 
 pub returns-in_err-answer : goal.returns-in_err-answer
 returns-in_err-answer g c =
-    ends-fault g.S.Config.Config.grammar g.S.Family.behaviour c.loop.invariant refl c.in_err-answer.field-0.0 c.in_err-answer.ensures.written c.in_err-answer.ensures.unread
-    c.from_residual-in_err-answer.result c.from_residual-in_err-answer.ensures.1
+    ends-broken g.S.Config.Config.grammar g.S.Family.behaviour (running-out g.S.Config.Config.grammar g.S.Family.behaviour c.loop.invariant refl c.in_err-answer.ensures.written)
+    c.from_residual-in_err-answer.result c.from_residual-in_err-answer.ensures.0
 
 pub returns-in_default-2 : goal.returns-in_default-2
 returns-in_default-2 g c =
@@ -39,7 +39,7 @@ returns-in_err-write_answer g c =
     (line-found g.S.Config.Config.grammar g.S.Family.behaviour (reader_remaining g.R.Read.remaining c.loop.input) (reader_remaining g.R.Read.remaining c.answer_line.new.input)
     c.loop.self.table c.answer_line.new.self.table c.loop.self.coins c.answer_line.new.self.coins c.in_ok-answer.field-0 c.in-Some-2.answer
     c.in-Some-2.is c.in_ok-answer.ensures.answered) c.in_err-write_answer.ensures
-    c.from_residual-in_err-write_answer.result c.in_err-write_answer.field-0.0 c.from_residual-in_err-write_answer.ensures.1
+    c.from_residual-in_err-write_answer.result c.from_residual-in_err-write_answer.ensures.0
 
 pub loop-preserved : goal.loop-preserved
 loop-preserved g c = elim c.match-update_ahead.branch [
@@ -65,8 +65,8 @@ loop-preserved g c = elim c.match-update_ahead.branch [
 pub returns-in_err-write_out : goal.returns-in_err-write_out
 returns-in_err-write_out g c =
     ends-broken g.S.Config.Config.grammar g.S.Family.behaviour (running-out g.S.Config.Config.grammar g.S.Family.behaviour c.loop.invariant refl c.in_err-write_out.ensures.written)
-    c.from_residual-in_err-write_out.result c.in_err-write_out.field-0.0 c.from_residual-in_err-write_out.ensures.1
+    c.from_residual-in_err-write_out.result c.from_residual-in_err-write_out.ensures.0
 
 pub returns : goal.returns
 returns g c =
-    ends-unread g.S.Config.Config.grammar g.S.Family.behaviour (running-out g.S.Config.Config.grammar g.S.Family.behaviour c.loop.invariant refl c.in_ok-write_out.ensures.written) refl refl
+    ends-early g.S.Config.Config.grammar g.S.Family.behaviour (running-out g.S.Config.Config.grammar g.S.Family.behaviour c.loop.invariant refl c.in_ok-write_out.ensures.written)

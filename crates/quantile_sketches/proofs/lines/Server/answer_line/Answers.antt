@@ -4,8 +4,8 @@ use Rattle.std.proofs.lemmas.List.{append-nil}
 use Rattle.std.proofs.lemmas.Result.{IfOk-from_err}
 use Rattle.std.specs.Io.BufRead.{strip_last}
 use Rattle.std.specs.Io.Buffered.{reader_remaining}
-use Rattle.quantile_sketches.proofs.AnsweredLines.{end-kept, line-kept, not-input, read-answered, some-none}
-use Rattle.quantile_sketches.proofs.Outputs.{all-out, writes-early, writes-none, writes-passed}
+use Rattle.quantile_sketches.proofs.AnsweredLines.{end-kept, line-kept, read-answered, some-none}
+use Rattle.quantile_sketches.proofs.Outputs.{writes-early, writes-none, writes-passed}
 use Rattle.quantile_sketches.proofs.lines.Server.answer_line.Given.{Over}
 use Rattle.quantile_sketches.proofs.lines.Server.answer_line.Goals.{After-answer}
 use Rattle.quantile_sketches.proofs.lines.Server.answer_line.Goals as goal
@@ -25,7 +25,6 @@ returns-in-Ok g c =
           (stripped g c) c.as_slice-read.ensures.value c.answer.ensures);
       end = some-none;
       written = writes-passed _ c.in_ok-write_out.ensures.written refl c.in_ok-write_out.ensures.nothing_waits;
-      unread = tt;
     }
 
 pub returns-in-Ok-eq0 : goal.returns-in-Ok-eq0
@@ -37,7 +36,6 @@ returns-in-Ok-eq0 g c = record {
     c.in_ok-write_out.ensures.nothing_waits,
   );
   written = writes-passed _ c.in_ok-write_out.ensures.written refl c.in_ok-write_out.ensures.nothing_waits;
-  unread = tt;
 }
 
 pub returns-in-Err : goal.returns-in-Err
@@ -45,7 +43,6 @@ returns-in-Err g c = record {
   answered = tt;
   end = tt;
   written = writes-passed _ c.in_ok-write_out.ensures.written refl c.in_ok-write_out.ensures.nothing_waits;
-  unread = λ error is. all-out c.in_ok-write_out.ensures.written refl refl;
 }
 
 pub returns-in-Some : goal.returns-in-Some
@@ -53,7 +50,6 @@ returns-in-Some g c = record {
   answered = c.in-Some.ensures.answered;
   end = some-none;
   written = writes-none (g.W.Write.contents c.args.output.now) _ _ _ refl;
-  unread = tt;
 }
 
 pub returns-in_err-write_out : goal.returns-in_err-write_out
@@ -61,5 +57,4 @@ returns-in_err-write_out g c = record {
   answered = IfOk-from_err c.from_residual.result _ c.from_residual.ensures.0;
   end = IfOk-from_err c.from_residual.result _ c.from_residual.ensures.0;
   written = writes-early _ [] _ c.from_residual.result (sym (append-nil _)) c.from_residual.ensures.0 c.in_err-write_out.ensures.written;
-  unread = not-input _ c.from_residual.result c.in_err-write_out.field-0.0 c.from_residual.ensures.1;
 }

@@ -2,7 +2,7 @@ use Rattle.std.proofs.Common.{◌≡◌, ℤ, SFits, Ok, refl, subst, ◌∙◌,
 use Rattle.std.specs.Int.{w64}
 use Rattle.std.proofs.lemmas.Int.{to_z-of_z}
 use Rattle.sketch_base.specs.Random.{next_state}
-use Rattle.quantile_sketches.specs.Behaviour.{coin_of}
+use Rattle.quantile_sketches.specs.Behaviour.{coin_of_state}
 use Rattle.quantile_sketches.specs.LineSteps.{Asks}
 use Rattle.quantile_sketches.specs.LineWords.{words}
 use Rattle.quantile_sketches.specs.declared.answer.Answer.TheVariants.{Rank}
@@ -11,7 +11,7 @@ use Rattle.quantile_sketches.proofs.table.Table.reply.Goals as goal
 
 pub returns-in-Run : goal.returns-in-Run
 returns-in-Run g c =
-    let done = item_of_clone g.S.Family.behaviour coin_of next_state _ (λ x y e. e) c.in-Run.command c.args.self.now c.args.coins.now c.execute.result
+    let done = item_of_clone g.S.Family.behaviour coin_of_state next_state _ (λ x y e. e) c.in-Run.command c.args.self.now c.args.coins.now c.execute.result
     c.execute.new.self c.execute.new.coins c.execute.ensures in
     executed_as g.S.Family.behaviour c.args.request _ (words c.args.line.now) c.args.self.now c.args.coins.now c.and.result c.execute.new.self
     c.execute.new.coins c.in-Run.is (c.execute.result, c.and.ensures ∙ done_is c.execute.result, done)
