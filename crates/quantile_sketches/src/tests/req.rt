@@ -386,6 +386,7 @@ fn reads_back<T: ReqValue + Clone + Ord>(alloc: Global, items: &[T], len: usize)
 }
 
 #[test]
+#[tactic(auto, using(sketch_base::specs::SpellingLaws::u32_ties, sketch_base::specs::SpellingLaws::u64_ties))]
 fn images_of_u32_and_u64_read_back(rt: HostRuntime) {
     let alloc = rt.alloc();
     assert!(rt; reads_back(alloc, &[0u32, 7, 4294967295], 20));
