@@ -2,6 +2,9 @@
 //! spelling, `==`. The worked updates, merges, weights, quantiles and images of numbers are in
 //! `tests/lines`, the greatest weights in `tests/program`, and the images of texts in
 //! `text::tests`.
+ghost use Rattle.std.proofs.lemmas.Bool.{false≢true};
+ghost use Rattle.std.specs.Prelude.{None};
+
 use super::calls::are_equal;
 use super::runs::is_invalid;
 use super::sketches::Numbered;
@@ -62,9 +65,43 @@ fn capacities(rt: HostRuntime) {
     assert!(rt; level_capacity(200, 2, 0, 8) == 133 && totals == [333, 422, 16]);
 }
 
+/// A value that has no spelling.
+#[derive(Clone, Copy, PartialEq, Eq, PartialOrd, Ord)]
+pub(crate) struct Unspelled;
+
+impl KllValue for Unspelled {
+    const MIN_SERIALIZED_SIZE: usize = 1;
+
+    ghost MIN_SERIALIZED_SIZE = { 1 };
+
+    ghost spelling = { λ x. None };
+
+    ghost is_prefix_free = { λ x y text rest others h. absurd (false≢true h.spelled) };
+
+    ghost is_long = { λ x h. absurd (false≢true h) };
+
+    fn serialized_size(_value: &Self) -> usize {
+        1
+    }
+
+    fn serialize(_value: &Self, _bytes: &mut SketchBytes) -> Result<(), Error> {
+        Err(Error::new(ErrorKind::InvalidArgument))
+    }
+
+    fn deserialize(_alloc: Global, _input: &mut SketchSlice<'_>) -> Result<Self, Error> {
+        Err(Error::new(ErrorKind::InvalidData))
+    }
+}
+
+impl Numbered for Unspelled {
+    fn numbered(_alloc: Global, _number: u32) -> Result<Unspelled, AllocError> {
+        Ok(Unspelled)
+    }
+}
+
 /// A byte whose spelling is itself; 0 has none.
 #[derive(Clone, Copy, PartialEq, Eq, PartialOrd, Ord)]
-pub(crate) struct Nonzero {
+struct Nonzero {
     byte: u8,
 }
 
@@ -93,14 +130,6 @@ impl KllValue for Nonzero {
     fn deserialize(_alloc: Global, input: &mut SketchSlice<'_>) -> Result<Self, Error> {
         let byte = input.read_u8()?;
         ErrorKind::InvalidData.unless(byte != 0)?;
-        Ok(Nonzero { byte })
-    }
-}
-
-/// 1 is the byte 0.
-impl Numbered for Nonzero {
-    fn numbered(_alloc: Global, number: u32) -> Result<Nonzero, AllocError> {
-        let byte = (number.wrapping_sub(1) % 256) as u8;
         Ok(Nonzero { byte })
     }
 }

@@ -323,7 +323,8 @@ fn is_written<T: ReqValue + Clone + Ord>(sketch: &ReqSketch<T>, image: &[u8]) ->
 
 /// Returns whether the sketch of an image is written as that image.
 fn rereads<T: ReqValue + Clone + Ord>(alloc: Global, image: &[u8]) -> bool
-    requires { SpellingsTie T.cmp T.spelling }
+    requires clones { (x y : T) → T.is_clone x y → T.cmp x y ≡ Equal }
+    requires codec { SpellingsTie T.cmp T.spelling }
 {
     match ReqSketch::<T>::deserialize(alloc, image) {
         Ok(sketch) => is_written(&sketch, image),
