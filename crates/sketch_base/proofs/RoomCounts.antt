@@ -1,11 +1,7 @@
 -- The room that a vector has, lacks or gets, in numbers.
-use Rattle.std.proofs.Common.{◌≡◌, ℕ, ◌+◌, ◌-◌, ◌*◌, ◌/◌, ◌<◌, ◌≤◌, Bool, false, nat_eq, eq-eqb, min, max, sym, ◌∙◌, pos_of_ne-zero, arith}
-use Rattle.std.proofs.lemmas.Bool.{false≢true}
+use Rattle.std.proofs.Common.{◌≡◌, ℕ, ◌+◌, ◌-◌, ◌*◌, ◌/◌, ◌<◌, ◌≤◌, min, max, arith}
 
 -- a, the capacity, minus b, the length, against the number m of further items
-pub lacks-room : (a b m k l : ℕ) → a - b < m → a ≡ k → b ≡ l → k < l + m
-lacks-room a b m k l h e f = omega arith
-
 pub has-room : (a b m k l : ℕ) → m ≤ a - b → a ≡ k → b ≡ l → l ≤ k → l + m ≤ k
 has-room a b m k l h e f le = omega arith
 
@@ -30,10 +26,6 @@ below-most c k a b x y z m e f g h = omega arith
 
 pub quarter-some : (n : ℕ) → 0 < n / 4 + 4
 quarter-some n = omega arith
-
-pub back-room : (l r m s t u j k cap old : ℕ) → l + r + m ≡ s + t + u → u + (s - j) + (t - k) ≤ old → cap ≡ old → j ≤ l → j ≤ s → k ≤ r → k ≤ t →
-    m + (r - k) ≤ cap
-back-room l r m s t u j k cap old e h c jl js kr kt = omega arith
 
 pub end-room : (v m i n f s c : ℕ) → v ≡ m → m ≡ i + n → n ≤ s → i ≤ f → f + s ≤ c → v + (s - n) ≤ c
 end-room v m i n f s c e l h k r = omega (arith, e, l, h, k, r)

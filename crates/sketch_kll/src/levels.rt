@@ -15,7 +15,7 @@ pub(crate) mod merging;
 mod taking;
 
 use crate::capacity::{MINIMUM_CAPACITY, is_surely_least, level_capacity, total_capacity};
-use crate::compaction::{compact_level, order_body};
+use crate::compaction::compact_level;
 use sketch_base::common::SearchCriteria;
 use sketch_base::common::counting::{count_all, count_in_order};
 use sketch_base::common::random::RandomBits;
@@ -178,9 +178,6 @@ impl<T: Ord + Drop> Levels<T> {
             self.total_capacity = total_capacity(self.k, MINIMUM_CAPACITY, level + 2);
         }
         let needs_sorting = needs_sorting(self.is_level_zero_sorted, level);
-        if needs_sorting {
-            order_body(&mut self.items, self.bounds[1]);
-        }
         let coin = coins.random_bit();
         let (items, bounds) = (&mut self.items, &mut self.bounds);
         let count = compact_level(items, bounds, level, needs_sorting, coin);
