@@ -1,7 +1,7 @@
 //! The levels of a sketch in one vector, the highest first, and how updates change them. What a
 //! compaction does to a slice is in `compaction`. General compress is in `compress`, updates by
 //! many items are in `taking`, and merges are in `merging`.
-ghost use Rattle.std.specs.Prelude.{◌≡◌, ◌+◌, ◌-◌, ◌^◌, ◌<◌, ◌≤◌, [], ◌∷◌, length, map, IfOk, OnOk, vec_capacity, if◌then◌else◌, drop, true, false, IsSorted, IsTrue, nat_le};
+ghost use Rattle.std.specs.Prelude.{◌≡◌, ◌+◌, ◌-◌, ◌^◌, ◌<◌, ◌≤◌, [], ◌∷◌, length, map, IfOk, OnOk, OnErr, vec_capacity, if◌then◌else◌, drop, true, false, IsSorted, IsTrue, nat_le};
 ghost use Rattle.sketch_base.specs.Query.{counted};
 ghost use Rattle.sketch_kll.specs.Capacity.{capacity_at, total_of};
 ghost use Rattle.sketch_kll.specs.Flat.{levels_in, IsFlat};
@@ -88,17 +88,6 @@ impl<T: Ord + Drop> Levels<T> {
         self.total_capacity = total_capacity(self.k, MINIMUM_CAPACITY, 1);
     }
 
-    /// Makes room for one more item and one more level.
-    pub(crate) fn reserve_next(&mut self) -> Result<(), AllocError>
-        ensures kept { KeepsLevels self.old self.new }
-        ensures room { OnOk result (retained self.new.levels < self.new.items_room) }
-        ensures spare { OnOk result (length self.new.levels + 1 < self.new.bounds_room) }
-    {
-        let most = self.total_capacity as usize;
-        reserve_next(&mut self.items, most)?;
-        self.bounds.reserve(1)
-    }
-
     /// Frees memory beyond room for an eighth more items and one more level.
     pub(crate) fn give_back(&mut self)
         ensures kept { KeepsLevels self.old self.new }
@@ -115,6 +104,33 @@ impl<T: Ord + Drop> Levels<T> {
         ensures sorted { UpperSorted T.cmp self.now.levels }
     {
         self.items.len() >= self.total_capacity as usize
+    }
+
+    /// Makes room for one more item: compacts one level if the levels are at or over their total
+    /// capacity. An error leaves the levels and the source of coins unchanged.
+    #[inline(never)]
+    pub(crate) fn make_place<B: RandomBits>(&mut self, coins: &mut B) -> Result<(), AllocError>
+        requires light { weight_in self.old.levels < 2 ^ 64 }
+        requires flag { IsTrue self.old.is_sorted → IsSorted T.cmp (first_level self.old.levels) }
+        ensures k { self.new.k ≡ self.old.k }
+        ensures levels { OnOk result (SameLevels T.cmp
+            (compacted_if_full T.cmp self.old.k self.old.is_sorted (B.bit coins.old)
+            self.old.levels)
+            self.new.levels) }
+        ensures sorted { OnOk result (UpperSorted T.cmp self.new.levels) }
+        ensures room { OnOk result (retained self.new.levels < self.new.items_room) }
+        ensures coins { OnOk result (coins.new ≡ (if is_full self.old.k self.old.levels
+            then B.next coins.old else coins.old)) }
+        ensures err { OnErr result ((KeepsLevels self.old self.new) × (coins.new ≡ coins.old)) }
+    {
+        if self.items.len() < self.items.capacity() && !self.is_full() {
+            return Ok(());
+        }
+        let most = self.total_capacity as usize;
+        reserve_next(&mut self.items, most)?;
+        self.bounds.reserve(1)?;
+        self.compact_if_full(coins);
+        Ok(())
     }
 
     /// Compacts one level if the levels are at or over their total capacity.
