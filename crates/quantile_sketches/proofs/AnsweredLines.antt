@@ -25,7 +25,7 @@ module _ {S C : Type 0} (grammar : Grammar C) (behaviour : Behaviour S ℤ C) wh
   -- a line is taken from what is left, and has this answer
   abbrev pub AnswersLine : Option (List ℕ) → Option (List ℕ) → List (Option S) → ℕ → List (Option S) → ℕ → Reply → Type 0
   AnswersLine left left' slots coins slots' coins' a =
-      (line : List ℕ) × TakesLine left line left' × Answers behaviour (request_of grammar (words line)) (words line) slots coins a slots' coins'
+      (line : List ℕ) × TakesLine left line left' × Answers behaviour (request_of grammar (words line)) slots coins a slots' coins'
 
   -- the answer that a line was found to have
   pub line-found : (left left' : Option (List ℕ)) (slots slots' : List (Option S)) (coins coins' : ℕ) (found : Option Reply) (a : Reply) → found ≡ Some a →
@@ -36,7 +36,7 @@ module _ {S C : Type 0} (grammar : Grammar C) (behaviour : Behaviour S ℤ C) wh
   pub read-answered : (left left' : Option (List ℕ)) {line before cut : List ℕ} {m k n : ℕ} (bare : List ℕ) {slots slots' : List (Option S)} {coins coins' : ℕ}
       {a : Reply} →
       m ≡ length line → m ≡ k + n → k ≡ 0 → (n ≡ 0 → ⊥) → IfSome left (λ xs. line ≡ before ++ take_through 10 xs) → before ≡ [] → DropsThrough left left' 10 →
-      bare ≡ strip_last 10 cut → cut ≡ line → Answers behaviour (request_of grammar (words bare)) (words bare) slots coins a slots' coins' →
+      bare ≡ strip_last 10 cut → cut ≡ line → Answers behaviour (request_of grammar (words bare)) slots coins a slots' coins' →
       AnswersLine left left' slots coins slots' coins' a
   read-answered left left' {line} bare long more none some bytes nothing rest stripped whole answered = (
     bare,

@@ -19,7 +19,7 @@ use crate::compaction::compact_level;
 use sketch_base::common::SearchCriteria;
 use sketch_base::common::counting::{count_all, count_in_order};
 use sketch_base::common::random::RandomBits;
-use sketch_base::common::room::{give_back, reserve_next};
+use sketch_base::common::room::reserve_next;
 use std::alloc::{AllocError, Global};
 use std::marker::Model;
 
@@ -89,10 +89,11 @@ impl<T: Ord + Drop> Levels<T> {
     }
 
     /// Frees memory beyond room for an eighth more items and one more level.
-    pub(crate) fn give_back(&mut self)
+    pub(crate) fn shrink(&mut self)
         ensures kept { KeepsLevels self.old self.new }
     {
-        give_back(&mut self.items);
+        let len = self.items.len();
+        self.items.shrink_to(len + len / 8);
         self.bounds.shrink_to(self.bounds.len() + 1);
     }
 

@@ -4,10 +4,10 @@ use Rattle.sketch_kll.specs.Levels.{SameLevels, retained, weight}
 use Rattle.sketch_kll.specs.Steps.{compacted_if_full}
 use Rattle.sketch_kll.proofs.Takes.{room_below, taking_more, taking_none}
 use Rattle.sketch_kll.proofs.PutItems.{retained-put}
-use Rattle.sketch_kll.proofs.levels.Levels.take_all.Given.{Over}
-use Rattle.sketch_kll.proofs.levels.Levels.take_all.Goals.{After-compact_if_full}
-use Rattle.sketch_kll.proofs.levels.Levels.take_all.Goals as goal
-use Rattle.sketch_kll.proofs.levels.Levels.take_all.Goals.at as past
+use Rattle.sketch_kll.proofs.levels.Levels.update_all.Given.{Over}
+use Rattle.sketch_kll.proofs.levels.Levels.update_all.Goals.{After-compact_if_full}
+use Rattle.sketch_kll.proofs.levels.Levels.update_all.Goals as goal
+use Rattle.sketch_kll.proofs.levels.Levels.update_all.Goals.at as past
 
 pub loop-item-init : goal.loop-item-init
 loop-item-init g c = record {
