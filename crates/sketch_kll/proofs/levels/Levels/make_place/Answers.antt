@@ -23,8 +23,16 @@ returns-clause-room g c =
     let x = c.self.inside in
     let made = c.compact_if_full.ensures in
     let held = ap retained (ap₂ levels_in c.reserve_next.ensures.items c.reserve.ensures.items) in
-    omega (arith, made.shorter, made.kept.items_room, c.in_ok-reserve_next.ensures.ok, c.reserve_next.ensures.len, x.items.ok.0,
-    length-items x.items.items x.bounds.items c.self.invariant.flat, held)
+    omega (
+      arith,
+      made.shorter,
+      made.kept.items_room,
+      c.in_ok-reserve_next.ensures.ok,
+      c.reserve_next.ensures.len,
+      x.items.ok.0,
+      length-items x.items.items x.bounds.items c.self.invariant.flat,
+      held,
+    )
 
 pub compact_if_full-requires-clause-spare : goal.compact_if_full-requires-clause-spare
 compact_if_full-requires-clause-spare g c =
