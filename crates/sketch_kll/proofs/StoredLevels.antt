@@ -1,9 +1,9 @@
 -- Levels as they are stored: empty, those of a sound sketch, with items put in, after a compaction, and after a merge.
-use Rattle.std.proofs.Common.{Option, ◌≡◌, ℕ, ◌-◌, ◌<◌, ◌≤◌, Bool, List, [], ◌∷◌, ◌++◌, length, drop, get_or, replicate, set, take, sym, ap, ◌∙◌, subst, arith, Ordering, length-drop, true, false, IsTrue, IsPermutation, IsSorted, subst₂, ap₂}
+use Rattle.std.proofs.Common.{Option, ◌≡◌, ℕ, ◌-◌, ◌<◌, ◌≤◌, Bool, List, [], ◌∷◌, ◌++◌, length, drop, replicate, set, sym, ap, ◌∙◌, subst, arith, Ordering, length-drop, false, IsTrue, IsSorted, subst₂, ap₂}
 use Rattle.sketch_kll.specs.Capacity.{total_of}
 use Rattle.sketch_kll.specs.Flat.{levels_in, marks, IsFlat}
 use Rattle.sketch_kll.specs.Join.{joined, joined_bounds}
-use Rattle.sketch_kll.specs.Levels.{body_of, compacted, first_level, leftover_of, SameLevels, UpperSorted}
+use Rattle.sketch_kll.specs.Levels.{compacted, first_level, SameLevels, UpperSorted}
 use Rattle.sketch_kll.specs.Sketch.{IsSound, sketch_of}
 use Rattle.sketch_kll.specs.Stored.{Stored, AreClones, AreStored, KeepsLevels, stored_of}
 use Rattle.sketch_kll.specs.declared.levels.merging.Incoming.{Incoming}
@@ -12,11 +12,9 @@ use Rattle.sketch_kll.proofs.JoinedLevels.{prepared}
 use Rattle.sketch_kll.proofs.Merged.{joined_size}
 use Rattle.sketch_kll.proofs.NoMoreLevels.{few_compacted}
 use Rattle.sketch_kll.specs.Steps.{needs_sorting, put_all}
-use Rattle.std.specs.Cmp.{IsTotalOrder}
 use Rattle.sketch_kll.proofs.PutItems.{put_flat, length-put, UpperSorted-put}
 use Rattle.sketch_kll.proofs.RaisedLevels.{raised_is, Raised, Raises}
-use Rattle.sketch_kll.proofs.CompactedRuns.{known_sorted, lowest_alone}
-use Rattle.sketch_kll.proofs.CompressWalks.{SameLevels-trans}
+use Rattle.sketch_kll.proofs.CompactedRuns.{known_sorted}
 
 -- no items, between two bounds of 0, are one empty level
 pub new_levels : {A : Type 0} (items : List A) (bounds : List ℕ) → items ≡ [] → bounds ≡ 0 ∷ 0 ∷ [] →

@@ -1,11 +1,11 @@
-use Rattle.std.proofs.Common.{false, IsSorted, le_of_eq, ◌≡◌, ◌+◌, ◌-◌, ◌<◌, ◌≤◌, ap₂, ℕ, Bool, List, Ordering, [], ◌∷◌, ◌++◌, take, drop, length, get_or, arith, sym, ap, subst, ◌∙◌, inl, inr, vec_capacity, length-append, true}
+use Rattle.std.proofs.Common.{false, IsSorted, le_of_eq, ◌≡◌, ◌+◌, ◌-◌, ◌<◌, ◌≤◌, ap₂, ℕ, Bool, List, [], ◌∷◌, ◌++◌, take, drop, length, arith, sym, ap, subst, ◌∙◌, inl, inr, vec_capacity, length-append, true}
 use Rattle.sketch_kll.specs.Capacity.{total_of}
 use Rattle.sketch_kll.specs.Levels.{retained, compacted, first_level, SameLevels, UpperSorted}
 use Rattle.sketch_kll.specs.Flat.{levels_in, IsFlat}
 use Rattle.sketch_kll.specs.Steps.{needs_sorting}
-use Rattle.sketch_kll.specs.Stored.{AreStored, Stored}
+use Rattle.sketch_kll.specs.Stored.{Stored}
 use Rattle.sketch_kll.proofs.Flats.{length-items}
-use Rattle.sketch_kll.proofs.RaisedLevels.{raised_is, Raised, Raises}
+use Rattle.sketch_kll.proofs.RaisedLevels.{raised_is, Raises}
 use Rattle.sketch_kll.proofs.StoredLevels.{CompactedStored, known_total, compacted_stored, raised_sorted}
 use Rattle.sketch_kll.proofs.JoinedLevels.{whole_slice}
 use Rattle.sketch_kll.proofs.levels.Levels.compact.Goals as goal
