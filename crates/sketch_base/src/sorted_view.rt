@@ -4,13 +4,12 @@ ghost use Rattle.std.specs.Prelude.{◌≡◌, ◌↔◌, ◌<◌, ◌^◌, leng
 ghost use Rattle.std.specs.declared.cmp.Ordering.TheVariants.{Equal};
 ghost use Rattle.std.specs.List.{All};
 ghost use Rattle.std.specs.List.Sorted.{IsNonDecreasing};
-ghost use Rattle.sketch_base.specs.Answered.{EndsAt, FindsQuantiles, FindsRanks, IsFoundAmong, IsRefusedUnless};
 ghost use Rattle.sketch_base.specs.declared.error.ErrorKind.TheVariants.{OutOfMemory};
 ghost use Rattle.sketch_base.specs.Bag.{SameItems, sort};
 ghost use Rattle.sketch_base.specs.Pairs.{copies, distinct, extreme_among};
-ghost use Rattle.sketch_base.specs.Query.{true_rank};
-ghost use Rattle.sketch_base.specs.Queries.{IsFraction, IsIncreasing, SameAnswer, cdf_of, pmf_of};
-ghost use Rattle.sketch_base.specs.Views.{IsView, SameView, quantile_of, view_of};
+ghost use Rattle.sketch_base.specs.Queried.{AreQuantiles, EndsAt, IsCdf, IsPmf, IsQuantile, IsRank, quantile_of};
+ghost use Rattle.sketch_base.specs.Queries.{IsFraction};
+ghost use Rattle.sketch_base.specs.Views.{IsView, SameView, queried_view, view_of};
 ghost use Rattle.sketch_base.specs.Weighted.{items_of, pairs_in};
 
 use crate::common::counting::count_from;
@@ -153,10 +152,7 @@ impl<T: Clone + Ord> SortedView<T> {
     /// Returns the number of entries that are at most the item (`Inclusive`) or below it
     /// (`Exclusive`), out of all entries, or None if there are no entries.
     pub fn rank(&self, item: &T, criteria: SearchCriteria) -> Option<Rank>
-        ensures there { IsSome result ↔ (0 < length self.now.entries) }
-        ensures weight { IfSome result (λ r.
-            r.weight ≡ true_rank T.cmp item.now criteria self.now.entries) }
-        ensures total { IfSome result (λ r. r.total ≡ length self.now.entries) }
+        ensures { IsRank (queried_view T.cmp self.now) item.now criteria result }
     {
         if self.items.is_empty() {
             return None;
@@ -177,12 +173,10 @@ impl<T: Clone + Ord> SortedView<T> {
     /// 0 or `weight` exceeds it, even if there are no entries; any other error is `OutOfMemory`.
     pub fn quantile(&self, fraction: Rank, criteria: SearchCriteria) -> Result<Option<T>, Error>
         requires clones { (x y : T) → T.is_clone x y → T.cmp x y ≡ Equal }
-        ensures found { IfOk result (SameAnswer T.cmp (quantile_of self.now fraction criteria)) }
-        ensures there { IfOk result (IsFoundAmong (length self.now.entries)) }
-        ensures refused { IsRefusedUnless (IsFraction fraction) (length self.now.entries) result }
+        ensures { IsQuantile (queried_view T.cmp self.now) fraction criteria result }
     {
         queries::check_fraction(fraction)?;
-        clone_found(self.entry_of(fraction, criteria)).map_err(Error::from)
+        Ok(clone_found(self.entry_of(fraction, criteria))?)
     }
 
     /// Returns the entry at the quantile given by each fraction, or None if there are no entries.
@@ -194,10 +188,7 @@ impl<T: Clone + Ord> SortedView<T> {
         criteria: SearchCriteria,
     ) -> Result<Option<Vec<T>>, Error>
         requires clones { (x y : T) → T.is_clone x y → T.cmp x y ≡ Equal }
-        ensures found { IfOk result (FindsQuantiles T.cmp self.now criteria fractions.now) }
-        ensures there { IfOk result (IsFoundAmong (length self.now.entries)) }
-        ensures refused { IsRefusedUnless (All IsFraction fractions.now)
-            (length self.now.entries) result }
+        ensures { AreQuantiles (queried_view T.cmp self.now) fractions.now criteria result }
     {
         queries::check_fractions(fractions)?;
         if self.items.is_empty() {
@@ -215,14 +206,10 @@ impl<T: Clone + Ord> SortedView<T> {
     /// entries. Returns `InvalidArgument` exactly if the points do not strictly increase, even if
     /// there are no entries; any other error is `OutOfMemory`.
     pub fn cdf(&self, points: &[T], criteria: SearchCriteria) -> Result<Option<Vec<Rank>>, Error>
-        ensures found { let entries = self.now.entries in
-            IfOk result (FindsRanks (length entries) (cdf_of T.cmp criteria entries points.now)) }
+        ensures ranks { IsCdf (queried_view T.cmp self.now) points.now criteria result }
         ensures ends { IfOk result (EndsAt (length points.now) (length self.now.entries)) }
         ensures rises { IfOk result (λ found. IfSome found (λ ranks.
             IsNonDecreasing (map (λ (r : Rank). r.weight) ranks.items))) }
-        ensures there { IfOk result (IsFoundAmong (length self.now.entries)) }
-        ensures refused { IsRefusedUnless (IsIncreasing T.cmp points.now)
-            (length self.now.entries) result }
     {
         queries::check_points(points)?;
         if self.items.is_empty() {
@@ -248,13 +235,9 @@ impl<T: Clone + Ord> SortedView<T> {
     /// (`Inclusive`), or at least the lower and below the upper (`Exclusive`). Errors are as for
     /// `cdf`.
     pub fn pmf(&self, points: &[T], criteria: SearchCriteria) -> Result<Option<Vec<Rank>>, Error>
-        ensures found { let entries = self.now.entries in
-            IfOk result (FindsRanks (length entries) (pmf_of T.cmp criteria entries points.now)) }
+        ensures weights { IsPmf (queried_view T.cmp self.now) points.now criteria result }
         ensures sums { IfOk result (λ found. IfSome found (λ ranks. sum_by (λ (r : Rank).
             r.weight) ranks.items ≡ length self.now.entries)) }
-        ensures there { IfOk result (IsFoundAmong (length self.now.entries)) }
-        ensures refused { IsRefusedUnless (IsIncreasing T.cmp points.now)
-            (length self.now.entries) result }
     {
         let Some(mut ranks) = self.cdf(points, criteria)? else {
             return Ok(None);
@@ -279,7 +262,8 @@ impl<T: Clone + Ord> SortedView<T> {
     /// Returns the entry at the quantile given by `fraction`, or None if there are no entries.
     fn entry_of(&self, fraction: Rank, criteria: SearchCriteria) -> Option<&T>
         requires { IsFraction fraction }
-        ensures entry { option_copied result ≡ quantile_of self.now fraction criteria }
+        ensures entry { option_copied result
+            ≡ quantile_of (queried_view T.cmp self.now) fraction criteria }
         ensures there { IsSome result ↔ (0 < length self.now.entries) }
     {
         if fraction.weight == 0 {

@@ -7,7 +7,7 @@ use Rattle.sketch_base.specs.Views.{IsThere, IsViewOf, View}
 use Rattle.sketch_base.proofs.SketchViews.{built-view}
 use Rattle.sketch_kll.specs.Flat.{IsFlat, levels_in}
 use Rattle.sketch_kll.specs.Levels.{UpperSorted, first_level, weight}
-use Rattle.sketch_kll.specs.Sketch.{IsSound, Kll, bag_in, bag_of, sketch_of}
+use Rattle.sketch_kll.specs.Sketch.{IsSound, Kll, bag_in, bag_of, queried, sketch_of}
 use Rattle.sketch_kll.specs.Stored.{AreStored, Stored, stored_of}
 use Rattle.sketch_kll.proofs.Flats.{length-bounds, length-items}
 use Rattle.sketch_kll.proofs.Rank.{retained_is, weight_is}
@@ -69,7 +69,7 @@ module _ {A : Type 0} (cmp : A → A → Ordering) where
       greatest) →
       items' ≡ items → bounds' ≡ bounds → SameAnswer cmp least least' → SameAnswer cmp greatest greatest' → (r : Result (View A) E) →
       IfOk r (λ v. SameItems cmp (expanded cmp (bag_in is_sorted (levels_in items' bounds'))) v.entries) → IfOk r (λ v. v.least ≡ least') →
-      IfOk r (λ v. v.greatest ≡ greatest') → IfOk r (IsViewOf cmp (bag_of s) s.n s.least s.greatest)
+      IfOk r (λ v. v.greatest ≡ greatest') → IfOk r (IsViewOf (queried cmp s))
   view_as_seen {n = n} {is_sorted = is_sorted} {items = items} {bounds = bounds} {least = least} {greatest = greatest} least' greatest'
       order view_is seen_is sound items_are bounds_are low high r entries least_is greatest_is =
       let levels : List (List A) = levels_in items bounds in

@@ -1,13 +1,12 @@
 -- Calls that return an error or are not refused: what their clauses say, and the numbers that decide it.
-use Rattle.std.proofs.Common.{◌≡◌, ◌⊎◌, ◌↔◌, ◌≢◌, ◌+◌, ◌-◌, ◌/◌, ◌<◌, ◌≤◌, ◌^◌, ◌∙◌, ℕ, Bool, true, false, not, Option, None, Some, Result, Ok, Err, IsTrue, IfErr, inl, inr, refl, sym, ap, arith, List, [], ◌∷◌, ◌++◌, length}
+use Rattle.std.proofs.Common.{◌≡◌, ◌⊎◌, ◌↔◌, ◌≢◌, ◌+◌, ◌-◌, ◌/◌, ◌<◌, ◌≤◌, ◌^◌, ◌∙◌, ℕ, Bool, true, false, not, Option, None, Some, Result, IsTrue, IfErr, inl, inr, refl, sym, ap, arith, List, [], ◌∷◌, ◌++◌, length}
 use Rattle.std.proofs.lemmas.Bool.{false≢true}
 use Rattle.std.specs.Int.{w64, to_le_bytes}
 use Rattle.std.proofs.lemmas.Result.{IfErr-weaker}
-use Rattle.sketch_base.specs.Answered.{IsRefusedUnless}
 use Rattle.sketch_base.specs.Views.{IsThere}
 use Rattle.sketch_base.specs.declared.error.ErrorKind.{ErrorKind}
 use Rattle.sketch_base.specs.declared.error.ErrorKind.TheVariants.{InvalidArgument, InvalidData, OutOfMemory}
-use Rattle.sketch_base.proofs.Exits.{memory_not_argument, memory_not_data, no_error}
+use Rattle.sketch_base.proofs.Exits.{memory_not_argument, memory_not_data}
 use Rattle.sketch_req.specs.Held.{Held}
 use Rattle.sketch_req.specs.Sketch.{sketch_of}
 use Rattle.sketch_req.specs.Updates.{IsDrawnFrom}
@@ -162,10 +161,3 @@ pairs_fit e f few long = omega (arith, e, f, few, long)
 pub none_there : {A : Type 0} (extreme : Option A) {n : ℕ} → IsThere extreme n → n ≡ 0 → extreme ≡ None
 none_there None there none = refl
 none_there (Some x) there none = absurd (omega (arith, there, none))
-
--- an answer made of another one
-pub answered_too : {V W P : Type 0} {x : V} {y : W} → (Ok x ≡ Err InvalidArgument ↔ ¬ P) → IsRefusedUnless P 0 (Ok y)
-answered_too told = ((λ is. absurd (no_error is), λ no. absurd (no_error (told.1 no))), tt)
-
-pub refusal_passed : {V P : Type 0} {r : Result V ErrorKind} {x : ErrorKind} (n : ℕ) → r ≡ Err x → IsRefusedUnless {V = V} P n (Err x) → IsRefusedUnless P n r
-refusal_passed n e told = rw e told

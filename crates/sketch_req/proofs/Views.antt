@@ -20,6 +20,7 @@ use Rattle.sketch_base.proofs.Items.{SameItems-trans}
 use Rattle.sketch_base.proofs.JoinedViews.{copies-moved}
 use Rattle.sketch_base.proofs.Results.{ok-weaker}
 use Rattle.sketch_base.proofs.SketchViews.{built-view}
+use Rattle.sketch_req.specs.Views.{queried}
 use Rattle.sketch_req.specs.Actions.{bag_of}
 use Rattle.sketch_req.specs.Level.{Level}
 use Rattle.sketch_req.specs.Pairs.{pairs_of, weighed}
@@ -145,7 +146,7 @@ module _ {A : Type 0} {cmp : A → A → Ordering} (order : IsTotalOrder cmp) (s
     -- the view of them is one of the sketch
     pub entries-view : {E : Type 0} (least greatest : Option A) (r : Result (View A) E) → SameAnswer cmp s.least least → SameAnswer cmp s.greatest greatest →
         IfOk r (λ v. SameItems cmp (sort cmp (copies pairs)) v.entries) → IfOk r (λ v. v.least ≡ extreme_among entries least) → IfOk r (λ v. v.greatest ≡ extreme_among entries greatest) →
-        IfOk r (IsViewOf cmp (bag_of s.levels) s.n s.least s.greatest)
+        IfOk r (IsViewOf (queried cmp s))
     entries-view least greatest r l g found le ge =
         let whole : SameItems cmp (expanded cmp (bag_of s.levels)) (sort cmp (copies pairs)) =
         subst (λ (xs : List A). SameItems cmp (sort cmp xs) (sort cmp (copies pairs))) (copies-pairs cmp s.k s.accuracy 0 s.levels sound.placed)

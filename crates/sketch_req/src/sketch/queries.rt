@@ -1,18 +1,17 @@
 //! Quantiles, distributions and the sorted view of a sketch.
 ghost use Rattle.std.specs.Prelude.{◌≡◌, ◌≢◌, ◌^◌, ◌<◌, Some, IsSome, IsSorted, IfOk, IfErr, IfSome, length, map, slice_get, sum_by};
 ghost use Rattle.std.specs.declared.cmp.Ordering.TheVariants.{Equal};
-ghost use Rattle.std.specs.List.{All};
 ghost use Rattle.std.specs.List.Sorted.{IsNonDecreasing, IsPermutation};
 ghost use Rattle.sketch_base.specs.declared.error.ErrorKind.TheVariants.{OutOfMemory};
-ghost use Rattle.sketch_base.specs.Answered.{EndsAt, FindsQuantiles, FindsRanks, IsFoundAmong, IsRefusedUnless};
 ghost use Rattle.sketch_base.specs.Bag.{expanded};
 ghost use Rattle.sketch_base.specs.Pairs.{distinct};
-ghost use Rattle.sketch_base.specs.Queries.{IsFraction, IsIncreasing, SameAnswer, cdf_of, pmf_of};
-ghost use Rattle.sketch_base.specs.Views.{IsViewOf, quantile_of};
+ghost use Rattle.sketch_base.specs.Queried.{AreQuantiles, EndsAt, IsCdf, IsPmf, IsQuantile, quantile_of};
+ghost use Rattle.sketch_base.specs.Queries.{IsFraction, SameAnswer};
+ghost use Rattle.sketch_base.specs.Views.{IsViewOf};
 ghost use Rattle.sketch_base.specs.Weighted.{items_of, pairs_in};
 ghost use Rattle.sketch_req.specs.Actions.{bag_of};
 ghost use Rattle.sketch_req.specs.Pairs.{pairs_of};
-ghost use Rattle.sketch_req.specs.Views.{view_of};
+ghost use Rattle.sketch_req.specs.Views.{queried};
 
 use super::ReqSketch;
 use super::levels::weight_counted;
@@ -36,8 +35,7 @@ impl<T: Clone + Ord> ReqSketch<T> {
     /// A clone of an item must compare equal to it. An error is `OutOfMemory`.
     pub fn sorted_view(&self) -> Result<SortedView<T>, Error>
         requires clones { (x y : T) → T.is_clone x y → T.cmp x y ≡ Equal }
-        ensures view { let s = self.now in
-            IfOk result (IsViewOf T.cmp (bag_of s.levels) s.n s.least s.greatest) }
+        ensures view { IfOk result (IsViewOf (queried T.cmp self.now)) }
         ensures joined { IfOk result (λ v. v.held ≡ distinct T.cmp v.entries) }
         ensures memory { IfErr result (λ e. e ≡ OutOfMemory) }
         ensures some { IfErr result (λ e. self.now.n ≢ 0) }
@@ -82,10 +80,7 @@ impl<T: Clone + Ord> ReqSketch<T> {
     /// 0 or `weight` exceeds it, also for an empty sketch; any other error is `OutOfMemory`.
     pub fn quantile(&self, fraction: Rank, criteria: SearchCriteria) -> Result<Option<T>, Error>
         requires clones { (x y : T) → T.is_clone x y → T.cmp x y ≡ Equal }
-        ensures found { IfOk result
-            (SameAnswer T.cmp (quantile_of (view_of T.cmp self.now) fraction criteria)) }
-        ensures there { IfOk result (IsFoundAmong self.now.n) }
-        ensures refused { IsRefusedUnless (IsFraction fraction) self.now.n result }
+        ensures { IsQuantile (queried T.cmp self.now) fraction criteria result }
     {
         queries::check_fraction(fraction)?;
         if let Some(item) = self.find(fraction, criteria) {
@@ -99,7 +94,7 @@ impl<T: Clone + Ord> ReqSketch<T> {
     fn find(&self, fraction: Rank, criteria: SearchCriteria) -> Option<&T>
         requires { IsFraction fraction }
         ensures same { IfSome result (λ x. SameAnswer T.cmp
-            (quantile_of (view_of T.cmp self.now) fraction criteria) (Some x.now)) }
+            (quantile_of (queried T.cmp self.now) fraction criteria) (Some x.now)) }
         ensures some { IsSome result → self.now.n ≢ 0 }
     {
         match self.n() {
@@ -134,10 +129,7 @@ impl<T: Clone + Ord> ReqSketch<T> {
         criteria: SearchCriteria,
     ) -> Result<Option<Vec<T>>, Error>
         requires clones { (x y : T) → T.is_clone x y → T.cmp x y ≡ Equal }
-        ensures found { IfOk result
-            (FindsQuantiles T.cmp (view_of T.cmp self.now) criteria fractions.now) }
-        ensures there { IfOk result (IsFoundAmong self.now.n) }
-        ensures refused { IsRefusedUnless (All IsFraction fractions.now) self.now.n result }
+        ensures { AreQuantiles (queried T.cmp self.now) fractions.now criteria result }
     {
         queries::check_fractions(fractions)?;
         self.sorted_view()?.quantiles(fractions, criteria)
@@ -150,13 +142,10 @@ impl<T: Clone + Ord> ReqSketch<T> {
     /// do not strictly increase, also for an empty sketch; any other error is `OutOfMemory`.
     pub fn cdf(&self, points: &[T], criteria: SearchCriteria) -> Result<Option<Vec<Rank>>, Error>
         requires clones { (x y : T) → T.is_clone x y → T.cmp x y ≡ Equal }
-        ensures found { let s = self.now in IfOk result
-            (FindsRanks s.n (cdf_of T.cmp criteria (expanded T.cmp (bag_of s.levels)) points.now)) }
+        ensures ranks { IsCdf (queried T.cmp self.now) points.now criteria result }
         ensures ends { IfOk result (EndsAt (length points.now) self.now.n) }
         ensures rises { IfOk result (λ found. IfSome found (λ ranks.
             IsNonDecreasing (map (λ (r : Rank). r.weight) ranks.items))) }
-        ensures there { IfOk result (IsFoundAmong self.now.n) }
-        ensures refused { IsRefusedUnless (IsIncreasing T.cmp points.now) self.now.n result }
     {
         queries::check_points(points)?;
         let total = self.n();
@@ -183,12 +172,9 @@ impl<T: Clone + Ord> ReqSketch<T> {
     /// A clone of an item must compare equal to it. Errors are as for `cdf`.
     pub fn pmf(&self, points: &[T], criteria: SearchCriteria) -> Result<Option<Vec<Rank>>, Error>
         requires clones { (x y : T) → T.is_clone x y → T.cmp x y ≡ Equal }
-        ensures found { let s = self.now in IfOk result
-            (FindsRanks s.n (pmf_of T.cmp criteria (expanded T.cmp (bag_of s.levels)) points.now)) }
+        ensures weights { IsPmf (queried T.cmp self.now) points.now criteria result }
         ensures sums { IfOk result (λ found. IfSome found (λ ranks.
             sum_by (λ (r : Rank). r.weight) ranks.items ≡ self.now.n)) }
-        ensures there { IfOk result (IsFoundAmong self.now.n) }
-        ensures refused { IsRefusedUnless (IsIncreasing T.cmp points.now) self.now.n result }
     {
         // Read so that the proof knows the invariant.
         let _n = self.n();

@@ -1,13 +1,13 @@
 use Rattle.std.proofs.Common.{◌≡◌, ◌+◌, ◌-◌, ◌^◌, ◌<◌, ◌≤◌, ℕ, min, List, [], ◌∷◌, ◌++◌, length, ap, refl, sym, subst, ◌∙◌, arith, zero-le}
 use Rattle.std.specs.Prelude.{Some, slice_get}
 use Rattle.std.proofs.lemmas.Bool.{false≢true}
-use Rattle.std.proofs.lemmas.Result.{IfOk-from_err}
 use Rattle.sketch_base.specs.declared.common.Rank.{Rank}
 use Rattle.sketch_base.specs.Query.{counted, true_rank}
-use Rattle.sketch_base.specs.Queries.{IsIncreasing, cdf_of, ranks_of, spread_out}
+use Rattle.sketch_base.specs.Queries.{cdf_of, ranks_of, spread_out}
+use Rattle.sketch_base.proofs.Answered.{answer, short, unfit}
 use Rattle.sketch_base.proofs.Distributions.{next-rank-more, ranks-end, ranks-more, ranks-last, ranks-rise}
 use Rattle.sketch_base.proofs.SpreadOut.{count-spread_out}
-use Rattle.sketch_base.proofs.ViewAnswers.{at-entries, entries-there, no-entries, refused-argument, refused-memory, refused-nothing}
+use Rattle.sketch_base.proofs.ViewAnswers.{at-entries, entries-there, no-entries}
 use Rattle.sketch_base.proofs.SeenViews.{seen-cumulated, seen-sorted}
 use Rattle.sketch_base.proofs.WeightedItems.{room-after_next}
 use Rattle.sketch_base.proofs.sorted_view.SortedView.cdf.Given.{Over}
@@ -79,49 +79,25 @@ returns g c =
     c.self.invariant.no_more_items in
     let is = ranks g (past.returns g c).After-push_reserved-2 in
     record {
-      found = at-entries (λ (es : List g.row.T.Denot). c.push_reserved-2.new.self.items ≡ ranks_of (length es) (cdf_of g.T.Ord.cmp c.args.criteria es c.args.points.now)) _ _ _
-          _ _ _ _ (sym c.self.view_is) c.as_slice-items.ensures.value c.as_slice-cumulated.ensures.value is;
+      ranks = answer _ c.in_ok-check_points.ensures.good (λ t. some, λ t. refl)
+          (at-entries (λ (es : List g.row.T.Denot). c.push_reserved-2.new.self.items ≡ ranks_of (length es) (cdf_of g.T.Ord.cmp c.args.criteria es c.args.points.now)) _ _ _
+          _ _ _ _ (sym c.self.view_is) c.as_slice-items.ensures.value c.as_slice-cumulated.ensures.value is);
       ends = at-entries (λ (es : List g.row.T.Denot). slice_get c.push_reserved-2.new.self.items (length c.args.points.now) ≡ Some (record { weight = length es; total = length es })) _ _ _
           _ _ _ _ (sym c.self.view_is) c.as_slice-items.ensures.value c.as_slice-cumulated.ensures.value (ranks-end _ _ c.args.points.now _ is);
       rises = ranks-rise g.met.T.Ord.total c.args.criteria (spread_out c.as_slice-items.result.now c.as_slice-cumulated.result.now) c.args.points.now _ c.push_reserved-2.new.self.items
           c.in_ok-check_points.ensures.good is;
-      there = (λ t. some, λ t. refl);
-      refused = refused-nothing (IsIncreasing g.T.Ord.cmp c.args.points.now) (length c.args.self.now.entries) _ c.in_ok-check_points.ensures.good;
     }
 
-pub returns-then-is_empty : goal.returns-then-is_empty
-returns-then-is_empty g c = record {
-  found = tt;
-  ends = tt;
-  rises = tt;
-  there = (λ t. absurd (false≢true t), no-entries _ _ _ _ _ (sym c.self.view_is) c.is_empty.result _ c.is_empty.ensures c.self.inside.items.ok.0 c.if-is_empty.true);
-  refused = refused-nothing (IsIncreasing g.T.Ord.cmp c.args.points.now) (length c.args.self.now.entries) _ c.in_ok-check_points.ensures.good;
-}
+pub returns-then-is_empty-clause-ranks : goal.returns-then-is_empty-clause-ranks
+returns-then-is_empty-clause-ranks g c =
+    answer _ c.in_ok-check_points.ensures.good
+    (λ t. absurd (false≢true t), no-entries _ _ _ _ _ (sym c.self.view_is) c.is_empty.result _ c.is_empty.ensures c.self.inside.items.ok.0 c.if-is_empty.true) tt
 
-pub returns-in_err-check_points : goal.returns-in_err-check_points
-returns-in_err-check_points g c =
-    let r = c.from_residual.result in
-    let err = c.from_residual.ensures.0 in
-    record {
-      found = IfOk-from_err r _ err;
-      ends = IfOk-from_err r _ err;
-      rises = IfOk-from_err r _ err;
-      there = IfOk-from_err r _ err;
-      refused = refused-argument (IsIncreasing g.T.Ord.cmp c.args.points.now) (length c.args.self.now.entries) r _ c.from_residual.ensures.1
-          c.in_err-check_points.ensures.kind c.in_err-check_points.ensures.bad;
-    }
+pub returns-in_err-check_points-clause-ranks : goal.returns-in_err-check_points-clause-ranks
+returns-in_err-check_points-clause-ranks g c = unfit _ c.from_residual.ensures.1 c.in_err-check_points.ensures.kind c.in_err-check_points.ensures.bad
 
-pub returns-in_err-ranks : goal.returns-in_err-ranks
-returns-in_err-ranks g c =
-    let r = c.from_residual-in_err-ranks.result in
-    let err = c.from_residual-in_err-ranks.ensures.0 in
+pub returns-in_err-ranks-clause-ranks : goal.returns-in_err-ranks-clause-ranks
+returns-in_err-ranks-clause-ranks g c =
     let some = entries-there _ _ _ _ _ (sym c.self.view_is) c.is_empty.result _ c.is_empty.ensures c.self.inside.items.ok.0 c.if-is_empty.false
     c.self.invariant.no_more_items in
-    record {
-      found = IfOk-from_err r _ err;
-      ends = IfOk-from_err r _ err;
-      rises = IfOk-from_err r _ err;
-      there = IfOk-from_err r _ err;
-      refused = refused-memory (IsIncreasing g.T.Ord.cmp c.args.points.now) (length c.args.self.now.entries) r c.from_residual-in_err-ranks.ensures.1
-          c.in_ok-check_points.ensures.good some;
-    }
+    short _ c.from_residual-in_err-ranks.ensures.1 refl c.in_ok-check_points.ensures.good some

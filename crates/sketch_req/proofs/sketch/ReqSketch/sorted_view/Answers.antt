@@ -10,7 +10,7 @@ use Rattle.sketch_base.specs.Bag.{SameItems, sort}
 use Rattle.sketch_base.specs.Pairs.{copies, extreme_among}
 use Rattle.sketch_base.specs.Queries.{SameAnswer}
 use Rattle.sketch_base.specs.Weighted.{items_of, pairs_in}
-use Rattle.sketch_req.specs.Actions.{bag_of}
+use Rattle.sketch_req.specs.Views.{queried}
 use Rattle.sketch_req.specs.Held.{Held}
 use Rattle.sketch_req.specs.Level.{Level}
 use Rattle.sketch_req.specs.Pairs.{pairs_of}
@@ -141,7 +141,7 @@ returns g c =
     let entries = c.in_ok-entries.entries.items in
     let most = at-most-n g.met.T.Ord.total (sketch g before) (pairs_in entries) c.self.invariant (moved g before) in
     record {
-      view = subst (λ (s : Req g.row.T.Denot). IfOk c.from_weighted.result (IsViewOf g.T.Ord.cmp (bag_of s.levels) s.n s.least s.greatest)) c.self.view_is
+      view = subst (λ (s : Req g.row.T.Denot). IfOk c.from_weighted.result (IsViewOf (queried g.T.Ord.cmp s))) c.self.view_is
           (entries-view g.met.T.Ord.total (sketch g before) (pairs_in entries) c.self.invariant (moved g before) entries (sym (length-pairs_in entries))
           c.in_ok-least.least c.in_ok-greatest.greatest _ (least g before) (greatest g before) (entries_told g after)
           (least_told g after) (greatest_told g after));
