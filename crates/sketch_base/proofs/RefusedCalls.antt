@@ -49,6 +49,3 @@ not_heavy light heavy = omega (arith, light, heavy)
 
 pub none_among : {n m : ℕ} → n ≡ m → n ≡ 0 → (false ≡ true → 0 < m) × (0 < m → false ≡ true)
 none_among e none = (λ is. absurd (false≢true is), λ some. absurd (none_not e none some))
-
-pub some_among : {n : ℕ} → 0 < n → (true ≡ true → 0 < n) × (0 < n → true ≡ true)
-some_among some = (λ _. some, λ _. refl)

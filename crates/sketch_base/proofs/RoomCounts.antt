@@ -1,6 +1,5 @@
 -- The room that a vector has, lacks or gets, in numbers.
-use Rattle.std.proofs.Common.{◌≡◌, ℕ, ◌+◌, ◌-◌, ◌*◌, ◌/◌, ◌<◌, ◌≤◌, Bool, false, nat_eq, eq-eqb, min, max, sym, ◌∙◌, pos_of_ne-zero, arith}
-use Rattle.std.proofs.lemmas.Bool.{false≢true}
+use Rattle.std.proofs.Common.{◌≡◌, ℕ, ◌+◌, ◌-◌, ◌*◌, ◌/◌, ◌<◌, ◌≤◌, min, max, arith}
 
 -- a, the capacity, minus b, the length, against the number m of further items
 pub lacks-room : (a b m k l : ℕ) → a - b < m → a ≡ k → b ≡ l → k < l + m
@@ -30,13 +29,6 @@ below-most c k a b x y z m e f g h = omega arith
 
 pub quarter-some : (n : ℕ) → 0 < n / 4 + 4
 quarter-some n = omega arith
-
-pub back-room : (l r m s t u j k cap old : ℕ) → l + r + m ≡ s + t + u → u + (s - j) + (t - k) ≤ old → cap ≡ old → j ≤ l → j ≤ s → k ≤ r → k ≤ t →
-    m + (r - k) ≤ cap
-back-room l r m s t u j k cap old e h c jl js kr kt = omega arith
-
-pub end-room : (v m i n f s c : ℕ) → v ≡ m → m ≡ i + n → n ≤ s → i ≤ f → f + s ≤ c → v + (s - n) ≤ c
-end-room v m i n f s c e l h k r = omega (arith, e, l, h, k, r)
 
 -- the part of a list that isn't sorted yet fits into one empty vector, and the whole into another
 pub part-room : (v a n b cap k : ℕ) → v ≡ 0 → a - k ≤ b → a ≡ n → b ≡ cap → v + (n - k) ≤ cap
@@ -68,7 +60,3 @@ same-room a b d n c e f g h = omega arith
 
 pub within-read : (k n v l : ℕ) → n ≡ v → v ≡ l → k ≤ l → k ≤ n
 within-read k n v l e f h = omega arith
-
--- room for one more after some items of one list are merged into another
-pub pushed-room : (v p o s a n i f cap old : ℕ) → v ≡ p → p + (s - a) ≡ o + (s - n) → o ≡ i + n → n ≤ s → a ≤ s → i < f → f + s ≤ old → cap ≡ old → v < cap
-pushed-room v p o s a n i f cap old e sizes len w u l h c = omega arith

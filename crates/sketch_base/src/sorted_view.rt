@@ -1,6 +1,6 @@
 //! A sorted snapshot of a sketch's items, for many queries. Each family builds it from what its
 //! sketches hold.
-ghost use Rattle.std.specs.Prelude.{◌≡◌, ◌↔◌, ◌<◌, ◌^◌, length, map, sum_by, IsTrue, IsSome, IsSorted, IfOk, IfErr, IfSome, option_copied};
+ghost use Rattle.std.specs.Prelude.{◌≡◌, ◌↔◌, ◌<◌, ◌^◌, length, map, sum_by, IsTrue, IsSome, IfOk, IfErr, IfSome, if◌then◌else◌, option_copied};
 ghost use Rattle.std.specs.declared.cmp.Ordering.TheVariants.{Equal};
 ghost use Rattle.std.specs.List.{All};
 ghost use Rattle.std.specs.List.Sorted.{IsNonDecreasing};
@@ -10,15 +10,12 @@ ghost use Rattle.sketch_base.specs.Pairs.{copies, distinct, extreme_among};
 ghost use Rattle.sketch_base.specs.Queried.{AreQuantiles, EndsAt, IsCdf, IsPmf, IsQuantile, IsRank, quantile_of};
 ghost use Rattle.sketch_base.specs.Queries.{IsFraction};
 ghost use Rattle.sketch_base.specs.Views.{IsView, SameView, queried_view, view_of};
-ghost use Rattle.sketch_base.specs.Weighted.{items_of, pairs_in};
 
-use crate::common::counting::count_from;
 use crate::common::extremes::clone_found;
 use crate::common::{Rank, SearchCriteria, queries};
 use crate::error::Error;
-use crate::joining::{join_clones, join_equal};
-use crate::weighted::Weighted;
-use std::alloc::{AllocError, Global};
+use crate::weighted::cumulate;
+use std::alloc::AllocError;
 use std::marker::Model;
 
 /// The sorted items of a sketch, with their weights. Each item stands for as many entries as it
@@ -47,7 +44,7 @@ impl<T: Clone + Ord> SortedView<T> {
     /// `u64`. The extremes are those of the stream; they are ignored if there are no items. An
     /// error is `OutOfMemory`.
     pub fn new(
-        mut weighted: Vec<(T, u64)>,
+        weighted: Vec<(T, u64)>,
         min_item: Option<T>,
         max_item: Option<T>,
     ) -> Result<Self, Error>
@@ -64,6 +61,30 @@ impl<T: Clone + Ord> SortedView<T> {
         ensures memory { IfErr result (λ e. e ≡ OutOfMemory) }
         ensures none { IfErr result (λ e. 0 < length weighted.items) }
     {
+        SortedView::build(weighted, true, min_item, max_item)
+    }
+
+    /// Builds the view as `new` does, but joins items that compare equal only if `joins` is true.
+    pub fn build(
+        mut weighted: Vec<(T, u64)>,
+        joins: bool,
+        min_item: Option<T>,
+        max_item: Option<T>,
+    ) -> Result<Self, Error>
+        requires weights { All (λ pair. 0 < pair.1) weighted.items }
+        requires fits { sum_by (λ pair. pair.1) weighted.items < 2 ^ 64 }
+        requires least { 0 < length weighted.items → IsSome min_item }
+        requires greatest { 0 < length weighted.items → IsSome max_item }
+        ensures entries { IfOk result (λ v.
+            SameItems T.cmp (sort T.cmp (copies weighted.items)) v.entries) }
+        ensures held { IfOk result (λ v. v.held
+            ≡ (if joins then distinct T.cmp v.entries else length weighted.items)) }
+        ensures least { IfOk result (λ v. v.least ≡ extreme_among weighted.items min_item) }
+        ensures greatest { IfOk result (λ v.
+            v.greatest ≡ extreme_among weighted.items max_item) }
+        ensures memory { IfErr result (λ e. e ≡ OutOfMemory) }
+        ensures none { IfErr result (λ e. 0 < length weighted.items) }
+    {
         let alloc = *weighted.allocator();
         let count = weighted.len();
         let mut items = Vec::with_capacity(alloc, count)?;
@@ -71,40 +92,10 @@ impl<T: Clone + Ord> SortedView<T> {
         if count == 0 {
             return Ok(SortedView::from_cumulated(items, cumulated, None, None));
         }
-        // Runs that are already sorted, as levels are, are merged. The greatest then comes first.
-        weighted.sort_by(|a, b| a.0.cmp(&b.0))?;
+        weighted.sort_unstable_by(|a, b| a.0.cmp(&b.0));
+        // The greatest comes first, and the least is taken off first.
         weighted.reverse();
-        join_equal(&mut weighted, &mut items, &mut cumulated);
-        Ok(SortedView::from_cumulated(items, cumulated, min_item, max_item))
-    }
-
-    /// Builds the view of clones of sorted weighted items. Of items that compare equal, one is
-    /// cloned, with the weight of them all. A clone of an item must compare equal to it. The
-    /// weights, the extremes and errors are as for `new`.
-    pub fn from_weighted(
-        alloc: Global,
-        entries: &[Weighted<'_, T>],
-        min_item: Option<T>,
-        max_item: Option<T>,
-    ) -> Result<Self, Error>
-        requires clones { (x y : T) → T.is_clone x y → T.cmp x y ≡ Equal }
-        requires sorted { IsSorted T.cmp (items_of entries.now) }
-        requires weights { All (λ pair. 0 < pair.1) (pairs_in entries.now) }
-        requires fits { sum_by (λ pair. pair.1) (pairs_in entries.now) < 2 ^ 64 }
-        requires least { 0 < length entries.now → IsSome min_item }
-        requires greatest { 0 < length entries.now → IsSome max_item }
-        ensures entries { IfOk result (λ v.
-            SameItems T.cmp (sort T.cmp (copies (pairs_in entries.now))) v.entries) }
-        ensures joined { IfOk result (λ v. v.held ≡ distinct T.cmp v.entries) }
-        ensures least { IfOk result (λ v. v.least ≡ extreme_among entries.now min_item) }
-        ensures greatest { IfOk result (λ v. v.greatest ≡ extreme_among entries.now max_item) }
-        ensures memory { IfErr result (λ e. e ≡ OutOfMemory) }
-        ensures none { IfErr result (λ e. 0 < length entries.now) }
-    {
-        let (items, cumulated) = join_clones(alloc, entries)?;
-        if entries.is_empty() {
-            return Ok(SortedView::from_cumulated(items, cumulated, None, None));
-        }
+        cumulate(&mut weighted, joins, &mut items, &mut cumulated);
         Ok(SortedView::from_cumulated(items, cumulated, min_item, max_item))
     }
 
@@ -135,7 +126,7 @@ impl<T: Clone + Ord> SortedView<T> {
     }
 
     /// Returns the number of items that the view holds: for a KLL sketch the retained ones, for a
-    /// REQ sketch the distinct ones among them, since `new` and `from_weighted` join equal items.
+    /// REQ sketch the distinct ones among them, since `new` joins equal items.
     pub fn len(&self) -> usize
         ensures value { result ≡ self.now.held }
     {
@@ -219,10 +210,8 @@ impl<T: Clone + Ord> SortedView<T> {
         let total = queries::entries_of(items, cumulated);
         let alloc = *self.items.allocator();
         let mut ranks = Vec::with_capacity(alloc, points.len().saturating_add(1))?;
-        let mut count = 0;
         for point in points {
-            count = count_from(items, count, point, criteria);
-            let weight = queries::entries_before(cumulated, count);
+            let weight = queries::rank_among(items, cumulated, point, criteria);
             ranks.push_reserved(Rank { weight, total });
         }
         let weight = total;

@@ -1,27 +1,29 @@
 //! Quantiles, distributions and the sorted view of a sketch.
-ghost use Rattle.std.specs.Prelude.{◌≡◌, ◌≢◌, ◌^◌, ◌<◌, Some, IsSome, IsSorted, IfOk, IfErr, IfSome, length, map, slice_get, sum_by};
+ghost use Rattle.std.specs.Prelude.{◌≡◌, ◌≢◌, ◌^◌, ◌<◌, Some, IsSome, IfOk, IfErr, IfSome, length, map, slice_get, sum_by};
 ghost use Rattle.std.specs.declared.cmp.Ordering.TheVariants.{Equal};
-ghost use Rattle.std.specs.List.Sorted.{IsNonDecreasing, IsPermutation};
+ghost use Rattle.std.specs.List.Sorted.{IsNonDecreasing};
 ghost use Rattle.sketch_base.specs.declared.error.ErrorKind.TheVariants.{OutOfMemory};
 ghost use Rattle.sketch_base.specs.Bag.{expanded};
-ghost use Rattle.sketch_base.specs.Pairs.{distinct};
+ghost use Rattle.sketch_base.specs.Pairs.{SamePairs, distinct};
 ghost use Rattle.sketch_base.specs.Queried.{AreQuantiles, EndsAt, IsCdf, IsPmf, IsQuantile, quantile_of};
 ghost use Rattle.sketch_base.specs.Queries.{IsFraction, SameAnswer};
 ghost use Rattle.sketch_base.specs.Views.{IsViewOf};
-ghost use Rattle.sketch_base.specs.Weighted.{items_of, pairs_in};
 ghost use Rattle.sketch_req.specs.Actions.{bag_of};
+ghost use Rattle.sketch_base.specs.Query.{counted};
+ghost use Rattle.sketch_req.specs.Level.{criteria_of};
 ghost use Rattle.sketch_req.specs.Pairs.{pairs_of};
+ghost use Rattle.sketch_req.specs.Rank.{counted_weight};
+ghost use Rattle.sketch_req.specs.Schedule.{layouts_of, weight_of};
 ghost use Rattle.sketch_req.specs.Views.{queried};
 
 use super::ReqSketch;
-use super::levels::weight_counted;
 use crate::compactor::Compactor;
 use crate::sorted_view::SortedView;
 use sketch_base::common::extremes::clone_found;
 use sketch_base::common::finding::{Ranked, find_in};
 use sketch_base::common::{Rank, SearchCriteria, queries};
 use sketch_base::error::Error;
-use sketch_base::weighted::{Weighted, merge_weighted, weigh_in_order};
+use sketch_base::weighted::push_clones;
 use std::alloc::{AllocError, Global};
 
 /// The most split points for which `cdf` takes a rank each; for more it makes a sorted view. A rank
@@ -44,29 +46,8 @@ impl<T: Clone + Ord> ReqSketch<T> {
         let greatest = clone_found(self.max_item.as_ref())?;
         let levels = &self.levels;
         let alloc = *levels.compactors.allocator();
-        let entries = Self::merged(alloc, levels.compactors.as_slice())?;
-        SortedView::from_weighted(alloc, entries.as_slice(), least, greatest)
-    }
-
-    /// Returns the items of levels with their weights, sorted: those of the two halves of the
-    /// levels are merged. The items of neighbouring levels interleave little, so a merge mostly
-    /// goes on with the same side.
-    fn merged(alloc: Global, levels: &[Compactor<T>]) -> Result<Vec<Weighted<'_, T>>, AllocError>
-        requires some { 0 < length levels.now }
-        requires few { length (pairs_of levels.now) < 2 ^ 64 }
-        ensures moved { IfOk result (λ v.
-            IsPermutation (pairs_of levels.now) (pairs_in v.items)) }
-        ensures sorted { IfOk result (λ v. IsSorted T.cmp (items_of v.items)) }
-        ensures some { IfErr result (λ e. 0 < length (pairs_of levels.now)) }
-    {
-        if levels.len() == 1 {
-            let only = &levels[0];
-            return weigh_in_order(alloc, only.items_slice(), only.weight(), only.is_sorted());
-        }
-        let (lower, upper) = levels.split_at(levels.len() / 2);
-        let lower = Self::merged(alloc, lower)?;
-        let upper = Self::merged(alloc, upper)?;
-        merge_weighted(alloc, lower.as_slice(), upper.as_slice())
+        let weighted = weigh_levels(alloc, levels.compactors.as_slice(), levels.num_retained)?;
+        SortedView::new(weighted, least, greatest)
     }
 
     /// Returns the item at the quantile given by `fraction`, or None for an empty sketch.
@@ -190,6 +171,43 @@ impl<T: Clone + Ord> Ranked<T> for ReqSketch<T> {
     ghost bag = { λ s. bag_of s.levels };
 
     fn rank_weight(&self, item: &T, criteria: SearchCriteria) -> u64 {
-        weight_counted(self.levels.compactors.as_slice(), item, criteria)
+        let levels = self.levels.compactors.as_slice();
+        match criteria {
+            SearchCriteria::Inclusive => weight_counted(levels, item, true),
+            SearchCriteria::Exclusive => weight_counted(levels, item, false),
+        }
     }
+}
+
+/// Returns the weight of the items below `item`, or at most `item` if `inclusive` is true.
+fn weight_counted<T: Clone + Ord>(levels: &[Compactor<T>], item: &T, inclusive: bool) -> u64
+    requires { weight_of (layouts_of levels.now) < 2 ^ 64 }
+    ensures { result ≡ counted_weight (counted T.cmp item.now (criteria_of inclusive)) levels.now }
+{
+    let (mut weight, mut level) = (0, levels.len());
+    while level > 0 {
+        level -= 1;
+        weight = levels[level].count_below(item, inclusive) as u64 + 2 * weight;
+    }
+    weight
+}
+
+/// Returns clones of the items of levels with their weights, level by level. There are `count` of
+/// them.
+fn weigh_levels<T: Clone + Ord>(
+    alloc: Global,
+    levels: &[Compactor<T>],
+    count: usize,
+) -> Result<Vec<(T, u64)>, AllocError>
+    requires clones { (x y : T) → T.is_clone x y → T.cmp x y ≡ Equal }
+    requires count { count ≡ length (pairs_of levels.now) }
+    ensures same { IfOk result (λ weighted.
+        SamePairs T.cmp (pairs_of levels.now) weighted.items) }
+    ensures some { IfErr result (λ e. 0 < length (pairs_of levels.now)) }
+{
+    let mut weighted = Vec::with_capacity(alloc, count)?;
+    for level in levels {
+        push_clones(level.items_slice(), level.weight(), &mut weighted)?;
+    }
+    Ok(weighted)
 }

@@ -1,12 +1,11 @@
-use Rattle.std.proofs.Common.{◌≡◌, ◌+◌, ◌-◌, ◌^◌, ◌<◌, ◌≤◌, ℕ, min, List, [], ◌∷◌, ◌++◌, length, ap, refl, sym, subst, ◌∙◌, arith, zero-le}
+use Rattle.std.proofs.Common.{◌≡◌, ◌+◌, ◌-◌, ◌^◌, ◌<◌, ◌≤◌, ℕ, min, List, [], ◌∷◌, ◌++◌, length, ap, refl, sym, ◌∙◌, arith}
 use Rattle.std.specs.Prelude.{Some, slice_get}
 use Rattle.std.proofs.lemmas.Bool.{false≢true}
 use Rattle.sketch_base.specs.declared.common.Rank.{Rank}
-use Rattle.sketch_base.specs.Query.{counted, true_rank}
+use Rattle.sketch_base.specs.Query.{true_rank}
 use Rattle.sketch_base.specs.Queries.{cdf_of, ranks_of, spread_out}
 use Rattle.sketch_base.proofs.Answered.{answer, short, unfit}
-use Rattle.sketch_base.proofs.Distributions.{next-rank-more, ranks-end, ranks-more, ranks-last, ranks-rise}
-use Rattle.sketch_base.proofs.SpreadOut.{count-spread_out}
+use Rattle.sketch_base.proofs.Distributions.{ranks-end, ranks-more, ranks-last, ranks-rise}
 use Rattle.sketch_base.proofs.ViewAnswers.{at-entries, entries-there, no-entries}
 use Rattle.sketch_base.proofs.SeenViews.{seen-cumulated, seen-sorted}
 use Rattle.sketch_base.proofs.WeightedItems.{room-after_next}
@@ -29,7 +28,6 @@ pub loop-point-init : goal.loop-point-init
 loop-point-init g c =
     record {
       ranks = c.in_ok-ranks.ensures.items;
-      known = λ d l. zero-le;
       cumulates = seen-cumulated _ _ _ _ c.as_slice-items.ensures.value c.as_slice-cumulated.ensures.value c.self.invariant.cumulates;
       sorted = seen-sorted g.T.Ord.cmp _ _ c.as_slice-items.ensures.value c.self.invariant.sorted;
       room = room-first _ _ _ _ c.in_ok-ranks.ensures.len c.in_ok-ranks.ensures.exact c.saturating_add.ensures c.in_ok-ranks.ranks.small;
@@ -38,30 +36,17 @@ loop-point-init g c =
 pub loop-point-preserved : goal.loop-point-preserved
 loop-point-preserved g c =
     let entries = spread_out c.as_slice-items.result.now c.as_slice-cumulated.result.now in
-    let count = c.count_from-count in
-    let weight = c.entries_before-weight.ensures.value
-    ∙ sym (count-spread_out (counted g.T.Ord.cmp c.point-item.result c.args.criteria) c.as_slice-items.result.now c.as_slice-cumulated.result.now count.result count.ensures.within c.loop-point.invariant.cumulates
-    count.ensures.parts) in
     record {
-      ranks = ranks-more (λ (y : g.row.T.Denot). true_rank g.T.Ord.cmp y c.args.criteria entries) (length entries) c.args.points.now c.loop-point.point-index c.entries_before-weight.result
-          c.point-item.result c.loop-point.ranks.items c.push_reserved.new.self.items c.loop-point-test.true c.loop-point.invariant.ranks c.point-item.is weight
-          (c.push_reserved.ensures.items ∙ ap (λ (n : ℕ). let rank : Rank = record { weight = c.entries_before-weight.result; total = n } in c.loop-point.ranks.items ++ rank ∷ []) c.entries_of-total.ensures.value);
-      known = λ d l. next-rank-more g.met.T.Ord.total c.args.criteria c.as_slice-items.result.now c.args.points.now c.loop-point.point-index c.point-item.result d count.result c.in_ok-check_points.ensures.good l
-          c.point-item.is count.ensures.count;
+      ranks = ranks-more (λ (y : g.row.T.Denot). true_rank g.T.Ord.cmp y c.args.criteria entries) (length entries) c.args.points.now c.loop-point.point-index c.rank_among-weight.result
+          c.point-item.result c.loop-point.ranks.items c.push_reserved.new.self.items c.loop-point-test.true c.loop-point.invariant.ranks c.point-item.is c.rank_among-weight.ensures.value
+          (c.push_reserved.ensures.items ∙ ap (λ (n : ℕ). let rank : Rank = record { weight = c.rank_among-weight.result; total = n } in c.loop-point.ranks.items ++ rank ∷ []) c.entries_of-total.ensures.value);
       cumulates = c.loop-point.invariant.cumulates;
       sorted = c.loop-point.invariant.sorted;
       room = room-after_next _ _ _ _ _ _ (one-further _ _ c.loop-point-test.true) c.push_reserved.ensures.len c.push_reserved.ensures.capacity c.loop-point.invariant.room;
     }
 
-pub count_from-count-requires-clause-known : goal.count_from-count-requires-clause-known
-count_from-count-requires-clause-known g c =
-    subst (λ z. c.loop-point.count ≤ true_rank g.T.Ord.cmp z c.args.criteria c.as_slice-items.result.now) (sym c.point-item.is) (c.loop-point.invariant.known c.point-item.result c.loop-point-test.true)
-
 pub offset_bounds-points-point-index : goal.offset_bounds-points-point-index
 offset_bounds-points-point-index g c = c.loop-point.auto.point-index-end
-
-pub count_from-count-requires-clause-sorted : goal.count_from-count-requires-clause-sorted
-count_from-count-requires-clause-sorted g c = c.loop-point.invariant.sorted
 
 -- what the vector holds in the end
 ranks : (g : Over) (c : After-push_reserved-2 g) → let entries = spread_out c.as_slice-items.result.now c.as_slice-cumulated.result.now in
