@@ -5,8 +5,8 @@ use Rattle.std.proofs.lemmas.Bool.{false≢true}
 use Rattle.std.proofs.lemmas.Option.{slice_get_cases, slice_get_past}
 use Rattle.sketch_base.specs.declared.common.Rank.{Rank}
 use Rattle.sketch_base.specs.declared.common.SearchCriteria.{SearchCriteria}
-use Rattle.sketch_base.specs.Queries.{SameAnswer, quantile_place, spread_out}
-use Rattle.sketch_base.specs.Views.{IsThere, View, quantile_of, view_of}
+use Rattle.sketch_base.specs.Queries.{SameAnswer, quantile_in, quantile_place, spread_out}
+use Rattle.sketch_base.specs.Views.{IsThere, View, view_of}
 use denote.Ref.{Bor}
 
 -- an item within a list is found
@@ -26,7 +26,7 @@ extreme-there (Some x) extreme n e there = (λ t. subst (λ o. IsThere o n) (sym
 
 -- the quantile of a fraction, found exactly if there are entries
 pub record IsFound {A : Type 0} (v : View A) (fraction : Rank) (criteria : SearchCriteria) (r : Option (Bor A)) : Type 0 where
-  pub entry : option_copied r ≡ quantile_of v fraction criteria
+  pub entry : option_copied r ≡ quantile_in v.entries v.least v.greatest fraction.weight fraction.total criteria
   pub there : IsSome r ↔ (0 < length v.entries)
 
 module _ {A : Type 0} (v : View A) (xs : List A) (ns : List ℕ) (least greatest : Option A) (is : v ≡ view_of xs ns least greatest) (fraction : Rank)

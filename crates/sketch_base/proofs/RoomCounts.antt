@@ -27,9 +27,6 @@ below-most c k a b x y z m e f g h = omega arith
 pub quarter-some : (n : ℕ) → 0 < n / 4 + 4
 quarter-some n = omega arith
 
-pub end-room : (v m i n f s c : ℕ) → v ≡ m → m ≡ i + n → n ≤ s → i ≤ f → f + s ≤ c → v + (s - n) ≤ c
-end-room v m i n f s c e l h k r = omega (arith, e, l, h, k, r)
-
 -- the part of a list that isn't sorted yet fits into one empty vector, and the whole into another
 pub part-room : (v a n b cap k : ℕ) → v ≡ 0 → a - k ≤ b → a ≡ n → b ≡ cap → v + (n - k) ≤ cap
 part-room v a n b cap k none h e f = omega arith
@@ -60,7 +57,3 @@ same-room a b d n c e f g h = omega arith
 
 pub within-read : (k n v l : ℕ) → n ≡ v → v ≡ l → k ≤ l → k ≤ n
 within-read k n v l e f h = omega arith
-
--- room for one more after some items of one list are merged into another
-pub pushed-room : (v p o s a n i f cap old : ℕ) → v ≡ p → p + (s - a) ≡ o + (s - n) → o ≡ i + n → n ≤ s → a ≤ s → i < f → f + s ≤ old → cap ≡ old → v < cap
-pushed-room v p o s a n i f cap old e sizes len w u l h c = omega arith

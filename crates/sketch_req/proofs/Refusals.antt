@@ -1,13 +1,12 @@
 -- Calls that return an error or are not refused: what their clauses say, and the numbers that decide it.
-use Rattle.std.proofs.Common.{◌≡◌, ◌⊎◌, ◌↔◌, ◌≢◌, ◌+◌, ◌-◌, ◌/◌, ◌<◌, ◌≤◌, ◌^◌, ◌∙◌, ℕ, Bool, true, false, not, Option, None, Some, Result, Ok, Err, IsTrue, IfErr, inl, inr, refl, sym, ap, arith, List, [], ◌∷◌, ◌++◌, length}
+use Rattle.std.proofs.Common.{◌≡◌, ◌⊎◌, ◌↔◌, ◌≢◌, ◌+◌, ◌-◌, ◌/◌, ◌<◌, ◌≤◌, ◌^◌, ◌∙◌, ℕ, Bool, true, false, not, Option, None, Some, Result, IsTrue, IfErr, inl, inr, refl, sym, ap, arith, List, [], ◌∷◌, ◌++◌, length}
 use Rattle.std.proofs.lemmas.Bool.{false≢true}
 use Rattle.std.specs.Int.{w64, to_le_bytes}
 use Rattle.std.proofs.lemmas.Result.{IfErr-weaker}
-use Rattle.sketch_base.specs.Answered.{IsRefusedUnless}
 use Rattle.sketch_base.specs.Views.{IsThere}
 use Rattle.sketch_base.specs.declared.error.ErrorKind.{ErrorKind}
 use Rattle.sketch_base.specs.declared.error.ErrorKind.TheVariants.{InvalidArgument, InvalidData, OutOfMemory}
-use Rattle.sketch_base.proofs.Exits.{memory_not_argument, memory_not_data, no_error}
+use Rattle.sketch_base.proofs.Exits.{memory_not_argument, memory_not_data}
 use Rattle.sketch_req.specs.Held.{Held}
 use Rattle.sketch_req.specs.Sketch.{sketch_of}
 use Rattle.sketch_req.specs.Updates.{IsDrawnFrom}
@@ -77,35 +76,6 @@ no_refusal_of P r memory = IfErr-weaker r (λ e. e ≡ OutOfMemory) (λ e. e ≡
 pub memory_alone : {T : Type 0} (r : Result T ErrorKind) → IfErr r (λ e. e ≡ OutOfMemory) → IfErr r (λ e. e ≡ InvalidArgument → ⊥)
 memory_alone r memory = IfErr-weaker r (λ e. e ≡ OutOfMemory) (λ e. e ≡ InvalidArgument → ⊥) (λ e is k. memory_not_argument (sym is ∙ k)) memory
 
--- a part of the items is some of them
-pub first_some : {n a : ℕ} (b : ℕ) → n ≡ a + b → 0 < a → 0 < n
-first_some b e some = omega (arith, e, some)
-
-pub second_some : {n b : ℕ} (a : ℕ) → n ≡ a + b → 0 < b → 0 < n
-second_some a e some = omega (arith, e, some)
-
--- the halves of some levels
-pub first_fits : {n a : ℕ} (b : ℕ) → n ≡ a + b → n < 2 ^ 64 → a < 2 ^ 64
-first_fits b e fits = omega (arith, e, fits)
-
-pub second_fits : {n b : ℕ} (a : ℕ) → n ≡ a + b → n < 2 ^ 64 → b < 2 ^ 64
-second_fits a e fits = omega (arith, e, fits)
-
-pub half_some : {n h : ℕ} → h ≡ n / 2 → (n ≡ 1 → ⊥) → 0 < n → 0 < h
-half_some e not_one some = omega (arith, e, not_one, some)
-
-pub half_less : {n h : ℕ} → h ≡ n / 2 → 0 < n → h < n
-half_less e some = omega (arith, e, some)
-
-pub rest_some : {n r : ℕ} → r + n / 2 ≡ n → 0 < n → 0 < r
-rest_some e some = omega (arith, e, some)
-
-pub rest_less : {n r : ℕ} → r + n / 2 ≡ n → (n ≡ 1 → ⊥) → 0 < n → r < n
-rest_less e not_one some = omega (arith, e, not_one, some)
-
-pub sum_some : {a b x y n : ℕ} → 0 < a + b → a ≡ x → b ≡ y → x + y ≡ n → 0 < n
-sum_some some e f long = omega (arith, some, e, f, long)
-
 pub two_some : {n m : ℕ} → n ≡ m → 2 ≤ m → 0 < n
 two_some e some = omega (arith, e, some)
 
@@ -150,22 +120,7 @@ many_counted f e many = omega (arith, e, f, many)
 
 -- ---- queries
 
--- a view of a sketch of no items has no entries
-pub more_than_none : {n m a b p : ℕ} → 0 < a → a ≡ b → p ≡ b → p ≤ n → n ≡ m → m ≡ 0 → ⊥
-more_than_none some e f most g none = omega (arith, some, e, f, most, g, none)
-
--- levels of few items have few entries
-pub pairs_fit : {n m l r : ℕ} → n ≡ m → m ≡ l → r < 2 ^ 32 → l ≡ r → n < 2 ^ 64
-pairs_fit e f few long = omega (arith, e, f, few, long)
-
 -- no entries have no extremes
 pub none_there : {A : Type 0} (extreme : Option A) {n : ℕ} → IsThere extreme n → n ≡ 0 → extreme ≡ None
 none_there None there none = refl
 none_there (Some x) there none = absurd (omega (arith, there, none))
-
--- an answer made of another one
-pub answered_too : {V W P : Type 0} {x : V} {y : W} → (Ok x ≡ Err InvalidArgument ↔ ¬ P) → IsRefusedUnless P 0 (Ok y)
-answered_too told = ((λ is. absurd (no_error is), λ no. absurd (no_error (told.1 no))), tt)
-
-pub refusal_passed : {V P : Type 0} {r : Result V ErrorKind} {x : ErrorKind} (n : ℕ) → r ≡ Err x → IsRefusedUnless {V = V} P n (Err x) → IsRefusedUnless P n r
-refusal_passed n e told = rw e told

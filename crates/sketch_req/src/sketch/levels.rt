@@ -25,7 +25,6 @@ mod walk;
 use crate::RankAccuracy;
 use crate::compactor::Compactor;
 use joining::{join_levels, move_back};
-use sketch_base::common::SearchCriteria;
 use sketch_base::common::buffers::MergeRoom;
 use sketch_base::common::random::RandomBits;
 use sketch_base::error::Error;
@@ -285,23 +284,6 @@ fn redraw_if<T: Clone + Ord, B: RandomBits>(
     for level in 0..levels.len() {
         levels[level].redraw_coin(coins);
     }
-}
-
-/// Returns the weight of the items that a query counts.
-pub(crate) fn weight_counted<T: Clone + Ord>(
-    levels: &[Compactor<T>],
-    item: &T,
-    criteria: SearchCriteria,
-) -> u64
-    requires { weight_of (layouts_of levels.now) < 2 ^ 64 }
-    ensures { result ≡ counted_weight (counted T.cmp item.now criteria) levels.now }
-{
-    let (mut weight, mut level) = (0, levels.len());
-    while level > 0 {
-        level -= 1;
-        weight = levels[level].count(item, criteria) as u64 + 2 * weight;
-    }
-    weight
 }
 
 /// Returns copies of the levels, with clones of their items. A clone of an item must compare equal

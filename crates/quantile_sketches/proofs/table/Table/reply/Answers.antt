@@ -1,6 +1,7 @@
 use Rattle.std.proofs.Common.{◌≡◌, ℤ, SFits, Ok, refl, subst, ◌∙◌, arith}
 use Rattle.std.specs.Int.{w64}
 use Rattle.std.proofs.lemmas.Int.{to_z-of_z}
+use Rattle.sketch_base.specs.Queried.{IsRank}
 use Rattle.sketch_base.specs.Random.{next_state}
 use Rattle.quantile_sketches.specs.Behaviour.{coin_of_state}
 use Rattle.quantile_sketches.specs.LineSteps.{Asks}
@@ -23,7 +24,7 @@ returns-in-Load g c =
 pub returns-in-Rank : goal.returns-in-Rank
 returns-in-Rank g c =
     let fits : SFits w64 c.in-Rank.item = grind arith in
-    let told = subst (λ (x : ℤ). Asks (λ s r. (w : _) × g.S.Family.behaviour.rank s x c.in-Rank.criteria w × (r ≡ Ok (Rank w))) c.at.result.now c.rank.result)
+    let told = subst (λ (x : ℤ). Asks (λ s r. (w : _) × IsRank (g.S.Family.behaviour.queried s) x c.in-Rank.criteria w × (r ≡ Ok (Rank w))) c.at.result.now c.rank.result)
     (to_z-of_z w64 c.in-Rank.item fits) c.rank.ensures in
     executed_as g.S.Family.behaviour c.args.request _ c.args.self.now c.args.coins.now c.rank.result c.args.self.now c.args.coins.now
     c.in-Rank.is ((c.at.result.now, c.at.ensures, told), refl, refl)
