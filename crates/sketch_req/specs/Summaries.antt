@@ -1,6 +1,7 @@
 -- Sketches that summarize a stream: its length, its extremes, and exactly its tail at the protected end.
 use Rattle.std.specs.Prelude.{◌≡◌, ℕ, ◌+◌, ◌-◌, ◌*◌, ◌<◌, ◌≤◌, ◌⊎◌, min, Bool, List, [], ◌∷◌, ◌++◌, length, Option, slice_get}
 use Rattle.std.specs.declared.cmp.Ordering.{Ordering}
+use Rattle.sketch_base.specs.Exact.{IsExactUpTo}
 use Rattle.sketch_base.specs.declared.common.SearchCriteria.{SearchCriteria}
 use Rattle.sketch_base.specs.declared.common.Rank.{Rank}
 use Rattle.sketch_base.specs.Bag.{SameItems, expanded, sort, weighted_rank}
@@ -22,11 +23,6 @@ use Rattle.sketch_req.specs.Views.{queried, view_of}
 use Rattle.sketch_req.specs.Written.{image_text, written_items}
 use Rattle.sketch_req.specs.declared.RankAccuracy.{RankAccuracy}
 use Rattle.sketch_req.specs.declared.RankAccuracy.TheVariants.{HighRank, LowRank}
-
--- a weighted count that stands for a true one: it is the true one if that is at most `most`, and else it is at least `most`
-pub record IsExactUpTo (most true_count weighted : ℕ) : Type 0 where
-  pub same : true_count ≤ most → weighted ≡ true_count
-  pub enough : min most true_count ≤ weighted
 
 -- a sketch summarizes a stream with a tail: it has the stream's length and extremes, and at every query the weight of its
 -- items on the query's accurate side is the number of the stream's items there, up to three times the tail

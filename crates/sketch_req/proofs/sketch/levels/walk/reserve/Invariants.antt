@@ -1,7 +1,7 @@
 use Rattle.std.proofs.Common.{ℕ, suc, ◌/◌, ◌<◌, ◌≤◌, length, get_or}
 use Rattle.sketch_base.specs.Buffers.{merged_spaces}
 use Rattle.sketch_req.specs.Schedule.{layouts_of, layout_at, joined_layouts, steps_layouts}
-use Rattle.sketch_req.specs.Walk.{accuracy_of, k_of, own_space, taken_if_full, with_more}
+use Rattle.sketch_req.specs.Walk.{k_of, own_space, taken_if_full, with_more}
 use Rattle.sketch_req.proofs.ClonedBuffers.{HasClones}
 use Rattle.sketch_req.proofs.ReservedWalks.{IsPlanned}
 use Rattle.sketch_req.proofs.sketch.levels.walk.reserve.Given as goal

@@ -4,15 +4,15 @@ use Rattle.std.proofs.lemmas.List.{nil_from_length}
 use Rattle.sketch_base.proofs.Sorting.{short_sorted}
 use Rattle.sketch_base.specs.Buffers.{Space, merged_spaces}
 use Rattle.sketch_req.specs.Level.{Level, fresh}
-use Rattle.sketch_req.specs.Schedule.{Layout, layouts_of, steps_actions, steps_layouts}
+use Rattle.sketch_req.specs.Schedule.{layouts_of, steps_actions, steps_layouts}
 use Rattle.sketch_req.specs.Sections.{IsLegalK}
-use Rattle.sketch_req.specs.Walk.{AreWalked, accuracy_of, k_of, own_space}
+use Rattle.sketch_req.specs.Walk.{AreWalked, accuracy_of, k_of}
 use Rattle.sketch_req.specs.declared.RankAccuracy.{RankAccuracy}
 use Rattle.sketch_req.proofs.Buffers.{places-above, read-other, read-there}
 use Rattle.sketch_req.proofs.Held.{own-levels}
 use Rattle.sketch_req.proofs.Layouts.{length-layouts}
 use Rattle.sketch_req.proofs.MergedLevels.{is-added}
-use Rattle.sketch_req.proofs.WalkSteps.{opened, own-there, raised}
+use Rattle.sketch_req.proofs.WalkSteps.{own-there, raised}
 use Rattle.sketch_req.proofs.Turns.{IsPending, IsReady, is-ready, next-pending, pending-above, pending-start, ready-held}
 use Rattle.sketch_req.proofs.sketch.levels.walk.walk.Goals.{After-index_mut-in-loop-level, After-len-count, After-swap, After-parameters-k, After-add_level}
 use Rattle.sketch_req.proofs.sketch.levels.walk.walk.Goals as goal
