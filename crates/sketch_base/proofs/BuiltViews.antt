@@ -43,10 +43,7 @@ module _ {A B : Type 0} (cmp : A → A → Ordering) (pairs : List (A × ℕ)) (
       (subst (λ (ps : List (A × ℕ)). IsBuilt cmp ps ws least greatest empty) (sym no_pairs) (subst (λ (bs : List B). IsBuilt cmp [] bs least greatest empty) (sym none) start))
 
 pub empty-view : {A : Type 0} (cmp : A → A → Ordering) (xs : List A) (cumulated : List ℕ) → xs ≡ [] → cumulated ≡ [] → IsView cmp xs cumulated None None
-empty-view {A} cmp xs cumulated e f =
-    let nothing : List A = [] in
-    let start : IsView cmp nothing [] None None = grind (arith, common_steps) in
-    subst (λ (ys : List A). IsView cmp ys cumulated None None) (sym e) (subst (λ (ns : List ℕ). IsView cmp nothing ns None None) (sym f) start)
+empty-view {A} cmp xs cumulated e f = grind (arith, common_steps)
 
 -- the items that were joined
 pub built-joined : {A B : Type 0} {cmp : A → A → Ordering} → IsTotalOrder cmp → (weighted pairs : List (A × ℕ)) → IsPermutation weighted pairs →

@@ -1,4 +1,5 @@
 -- Sorted weighted items of which equal ones are joined: the view that they make.
+use Rattle.std.proofs.lemmas.Grind.{common_steps}
 use Rattle.std.proofs.Common.{◌≡◌, ℕ, zero, suc, ◌+◌, ◌-◌, ◌*◌, ◌<◌, ◌≤◌, Bool, true, false, cond, List, [], ◌∷◌, ◌++◌, length, map, replicate, sum_by, refl, sym, ap, ap₂, ◌∙◌, subst, append_assoc, append-nil, arith, if◌then◌else◌, IsSorted, IsPermutation, Ordering, Less, Equal, is_gt, is_lt, length-append}
 use Rattle.std.specs.Prelude.{⊤, Option, None, Some, IsSome}
 use Rattle.std.specs.Cmp.{IsTotalOrder}
@@ -68,9 +69,7 @@ module _ {A : Type 0} where
 
   sum-copies : (f : A → ℕ) (pairs : List (A × ℕ)) → sum_by f (copies pairs) ≡ weigh_pairs f pairs
   sum-copies f [] = refl
-  sum-copies f (p ∷ ps) =
-      sum_by-append f (replicate p.1 p.0) (copies ps) ∙
-      omega (arith, sum_by-replicate f p.1 p.0, sum-copies f ps, sum_by-cons (λ (pair : A × ℕ). pair.1 * f pair.0) p ps)
+  sum-copies f (p ∷ ps) = grind (arith, common_steps, sum_by-append, sum_by-replicate, sum_by-cons, sum-copies f ps)
 
   long-enough : (pairs : List (A × ℕ)) → HaveWeight pairs → length pairs ≤ weigh_pairs (λ x. 1) pairs
   long-enough [] h = omega arith
@@ -98,12 +97,7 @@ module _ {A : Type 0} (cmp : A → A → Ordering) where
 
   climbs-joined : (low before : ℕ) (pairs : List (A × ℕ)) → low ≤ before → HaveWeight pairs → Climbs low (joined_weights cmp before pairs)
   climbs-joined low before [] le h = tt
-  climbs-joined low before (p ∷ ps) le h =
-      let some = h.0 in
-      elim (is_below_next cmp p.0 ps) as (λ (b : Bool). Climbs low (if b then (before + p.1) ∷ joined_weights cmp (before + p.1) ps else joined_weights cmp (before + p.1) ps)) [
-        | true ↦ (omega (arith, le, some), climbs-joined (before + p.1) (before + p.1) ps (omega arith) h.1)
-        | false ↦ climbs-joined low (before + p.1) ps (omega (arith, le)) h.1
-      ]
+  climbs-joined low before (p ∷ ps) le h = grind (arith, common_steps, climbs-joined (before + p.1) (before + p.1) ps (omega arith) h.1, climbs-joined low (before + p.1) ps (omega (arith, le)) h.1)
 
   all-joined : (P : A → Type 0) (pairs : List (A × ℕ)) → AllByRecursion P (items_in pairs) → AllByRecursion P (joined cmp pairs)
   all-joined P [] h = tt
@@ -178,17 +172,12 @@ module _ {A : Type 0} {cmp : A → A → Ordering} (order : IsTotalOrder cmp) wh
   distinct-copies : (n : ℕ) (x : A) (rest : List A) → 0 < n → begins_equal cmp x rest ≡ false → distinct cmp (replicate n x ++ rest) ≡ 1 + distinct cmp rest
   distinct-copies zero x rest l e = absurd (omega arith)
   distinct-copies (suc zero) x rest l e = ap (λ (b : Bool). (if b then 0 else 1) + distinct cmp rest) e
-  distinct-copies (suc (suc n)) x rest l e =
-      let ih : distinct cmp (x ∷ (replicate n x ++ rest)) ≡ 1 + distinct cmp rest = distinct-copies (suc n) x rest (omega arith) e in
-      ap (λ (o : Ordering). (if is_eq o then 0 else 1) + distinct cmp (x ∷ (replicate n x ++ rest))) (tied_itself order x) ∙ (ap (λ m. 0 + m) ih ∙ omega arith)
+  distinct-copies (suc (suc n)) x rest l e = grind (arith, common_steps, tied_itself, distinct-copies (suc n) x rest (omega arith) e)
 
   distinct-spread : (before : ℕ) (xs : List A) (cs : List ℕ) → length xs ≡ length cs → Climbs before cs → AllBelow cmp xs → distinct cmp (spread_over before xs cs) ≡ length xs
   distinct-spread before [] cs e up h = refl
   distinct-spread before (x ∷ xs) [] e up h = absurd (omega (arith, e))
-  distinct-spread before (x ∷ xs) (c ∷ cs) e up h =
-      let l = up.0 in
-      distinct-copies (c - before) x (spread_over c xs cs) (omega (arith, l)) (begins-above cmp x c xs cs h.0 up.1)
-      ∙ (ap (λ m. 1 + m) (distinct-spread c xs cs (omega (arith, e)) up.1 h.1) ∙ omega arith)
+  distinct-spread before (x ∷ xs) (c ∷ cs) e up h = grind (arith, common_steps, distinct-copies, begins-above, distinct-spread c xs cs (omega (arith, e)) up.1 h.1)
 
   -- permuted pairs stand for the same items
   pub copies-moved : (ps qs : List (A × ℕ)) → IsPermutation ps qs → SameItems cmp (sort cmp (copies ps)) (sort cmp (copies qs))
@@ -307,10 +296,7 @@ module _ {A : Type 0} {cmp : A → A → Ordering} (order : IsTotalOrder cmp) wh
   -- at the end all are joined
   pub joined-whole : (all rest : List (A × ℕ)) (xs : List A) (ws : List ℕ) (total : ℕ) → rest ≡ [] → IsJoined cmp all rest xs ws total →
       SameItems cmp (joined cmp all) xs × (ws ≡ joined_weights cmp 0 all)
-  joined-whole all rest xs ws total e j =
-      let items : SameItems cmp (joined cmp all) (xs ++ []) = subst (λ (r : List (A × ℕ)). SameItems cmp (joined cmp all) (xs ++ joined cmp r)) e j.items in
-      let weights : ws ++ [] ≡ joined_weights cmp 0 all = subst (λ (r : List (A × ℕ)). ws ++ joined_weights cmp total r ≡ joined_weights cmp 0 all) e j.weights in
-      (rw append-nil at items, sym (append-nil ws) ∙ weights)
+  joined-whole all rest xs ws total e j = grind (arith, common_steps, total, append-nil)
 
   -- the total up to the next item doesn't exceed the whole weight
   pub joined-fits : (all after : List (A × ℕ)) (x : A) (w total : ℕ) (xs : List A) (ws : List ℕ) → IsJoined cmp all ((x, w) ∷ after) xs ws total →

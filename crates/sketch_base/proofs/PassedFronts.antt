@@ -1,4 +1,5 @@
 -- A prefix of a list whose items pass a test: what one item tells of its length, and where it ends in a part of the list.
+use Rattle.std.proofs.lemmas.Grind.{common_steps}
 use Rattle.std.proofs.Common.{◌≡◌, ℕ, zero, suc, ◌+◌, ◌-◌, ◌*◌, ◌^◌, ◌<◌, ◌≤◌, Bool, true, false, List, [], ◌∷◌, length, take, drop, get_or, count_by, refl, sym, ◌∙◌, subst, arith, if◌then◌else◌, length-drop}
 use Rattle.std.specs.List.Sorted.{IsPartitionedBy}
 use Rattle.std.proofs.lemmas.Bool.{false≢true}
@@ -50,12 +51,8 @@ module _ {A : Type 0} (test : A → Bool) where
   -- one step of such a search: the item at the end of the first half tells in which half the count lies
   pub counted-step : (xs : List A) (start step : ℕ) (d : A) (b : Bool) → IsPartitionedBy test xs → 0 < step → IsCountWithin xs start (2 * step) →
       test (get_or xs (start + step - 1) d) ≡ b → IsCountWithin xs (start + (if b then step else 0)) step
-  counted-step xs start step d true up some h is =
-      let more = counts-passed xs (start + step - 1) d up (omega (arith, some, h.within)) is in
-      record { starts = omega (arith, more, some); ends = omega (arith, h.ends); within = omega (arith, h.within) }
-  counted-step xs start step d false up some h is =
-      let few = counts-failed xs (start + step - 1) d up (omega (arith, some, h.within)) is in
-      record { starts = omega (arith, h.starts); ends = omega (arith, few, some); within = omega (arith, h.within) }
+  counted-step xs start step d true up some h is = grind (arith, common_steps, counts-passed)
+  counted-step xs start step d false up some h is = grind (arith, common_steps, counts-failed)
 
   -- the count, from a part of the list in which the prefix ends
   pub count-of_part : (xs : List A) (s e : ℕ) → IsPartitionedBy test xs → s ≤ count_by test xs → count_by test xs ≤ e → e ≤ length xs → s + count_by test (take (e - s) (drop s xs)) ≡ count_by test xs

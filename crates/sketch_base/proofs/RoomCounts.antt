@@ -1,6 +1,5 @@
 -- The room that a vector has, lacks or gets, in numbers.
-use Rattle.std.proofs.Common.{◌≡◌, ℕ, ◌+◌, ◌-◌, ◌*◌, ◌/◌, ◌<◌, ◌≤◌, Bool, false, nat_eq, eq-eqb, min, max, sym, ◌∙◌, pos_of_ne-zero, arith}
-use Rattle.std.proofs.lemmas.Bool.{false≢true}
+use Rattle.std.proofs.Common.{◌≡◌, ℕ, ◌+◌, ◌-◌, ◌*◌, ◌/◌, ◌<◌, ◌≤◌, min, max, arith}
 
 -- a, the capacity, minus b, the length, against the number m of further items
 pub lacks-room : (a b m k l : ℕ) → a - b < m → a ≡ k → b ≡ l → k < l + m

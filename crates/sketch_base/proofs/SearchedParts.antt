@@ -1,5 +1,6 @@
 -- Where the count of a query lies, by the steps of a search: in numbers.
-use Rattle.std.proofs.Common.{◌≡◌, ℕ, suc, ◌+◌, ◌-◌, ◌*◌, ◌^◌, ◌<◌, ◌≤◌, min, ap, ◌∙◌, arith}
+use Rattle.std.proofs.lemmas.Grind.{common_steps}
+use Rattle.std.proofs.Common.{◌≡◌, ℕ, ◌+◌, ◌-◌, ◌*◌, ◌^◌, ◌<◌, ◌≤◌, min, arith}
 
 -- k is the count, n the number of items, s a start and t a step
 pub step-within : (s t n : ℕ) → t < n - s → s ≤ n → 0 < t → s + t - 1 < n
@@ -38,10 +39,7 @@ within-half n s w = omega arith
 
 -- a step of a power of two is half of the one before
 pub power-doubled : (s : ℕ) → 0 < s → 2 ^ s ≡ 2 * 2 ^ (s - 1)
-power-doubled s some =
-    let next : s ≡ suc (s - 1) = omega (arith, some) in
-    let half : 2 ^ suc (s - 1) ≡ 2 * 2 ^ (s - 1) = omega arith in
-    ap (λ (n : ℕ). 2 ^ n) next ∙ half
+power-doubled s some = grind (arith, common_steps)
 
 pub still-below : (s n : ℕ) → s < n → s - 1 < n
 still-below s n h = omega arith

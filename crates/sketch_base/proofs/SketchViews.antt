@@ -1,6 +1,7 @@
 -- A bag and its view: the view's answers are those of the bag's expanded list.
-use Rattle.std.proofs.Common.{◌≡◌, ℕ, suc, ◌*◌, ◌+◌, ◌^◌, Bool, List, [], ◌∷◌, length, sum_by, refl, sym, ap, ap₂, ◌∙◌, subst, arith, if◌then◌else◌, Result, Ok, Err, Ordering, Equal}
-use Rattle.std.specs.Prelude.{Option, None, Some, IfOk, slice_get, ◌==◌}
+use Rattle.std.proofs.lemmas.Grind.{common_steps}
+use Rattle.std.proofs.Common.{◌≡◌, ℕ, suc, ◌*◌, ◌+◌, ◌^◌, Bool, List, [], ◌∷◌, length, sum_by, refl, sym, ap₂, ◌∙◌, subst, arith, if◌then◌else◌, Result, Ok, Err, Ordering, Equal}
+use Rattle.std.specs.Prelude.{Option, None, Some, IfOk}
 use Rattle.std.specs.Cmp.{IsTotalOrder}
 use Rattle.std.specs.declared.vec.Vec.{Vec}
 use Rattle.std.proofs.lemmas.List.{nil_from_length}
@@ -10,7 +11,7 @@ use Rattle.sketch_base.specs.declared.common.Rank.{Rank}
 use Rattle.sketch_base.specs.declared.common.SearchCriteria.{SearchCriteria}
 use Rattle.sketch_base.specs.Answered.{FindsQuantiles, FindsRanks}
 use Rattle.sketch_base.specs.Bag.{Bag, SameItems, expanded, weigh, weight}
-use Rattle.sketch_base.specs.Queries.{SameAnswer, cdf_of, quantile_place, ranks_of}
+use Rattle.sketch_base.specs.Queries.{SameAnswer, cdf_of, ranks_of}
 use Rattle.sketch_base.specs.Views.{AreQuantiles, IsThere, IsViewOf, View, expanded_view, quantile_of}
 use Rattle.sketch_base.proofs.Counts.{SameCounts-from_items}
 use Rattle.sketch_base.proofs.Entries.{SameAnswer-trans, cdf-same, quantile-same}
@@ -41,15 +42,7 @@ if-none b x y h k = grind arith
 pub quantile-empty : {A : Type 0} (cmp : A → A → Ordering) (bag : Bag A) (n : ℕ) (least greatest : Option A) (fraction : Rank) (criteria : SearchCriteria) → weight bag ≡ n →
     IsThere least n → IsThere greatest n → n ≡ 0 →
     SameAnswer cmp (quantile_of (expanded_view cmp bag least greatest) fraction criteria) None
-quantile-empty cmp bag n least greatest fraction criteria weighs l g z =
-    let a = fraction.weight in
-    let b = fraction.total in
-    let entries = expanded cmp bag in
-    let none : entries ≡ [] = nil_from_length entries (length-expanded cmp bag ∙ (weighs ∙ z)) in
-    let got : slice_get entries (quantile_place (length entries) a b criteria) ≡ None = ap (λ l. slice_get l (quantile_place (length entries) a b criteria)) none in
-    let empty = if-none (a == 0) least (if a == b then greatest else slice_get entries (quantile_place (length entries) a b criteria)) (none-there least n l z)
-    (if-none (a == b) greatest (slice_get entries (quantile_place (length entries) a b criteria)) (none-there greatest n g z) got) in
-    subst (λ q. SameAnswer cmp q None) (sym empty) tt
+quantile-empty cmp bag n least greatest fraction criteria weighs l g z = grind (arith, common_steps, nil_from_length, length-expanded, if-none, none-there)
 
 module _ {A : Type 0} {cmp : A → A → Ordering} (order : IsTotalOrder cmp) where
   -- a view whose entries compare equal to a bag's expanded list is a view of the bag

@@ -1,4 +1,5 @@
 -- What the calls on a view answer: what they refuse, and whether they find anything.
+use Rattle.std.proofs.lemmas.Grind.{common_steps}
 use Rattle.std.proofs.Common.{◌≡◌, ℕ, ◌<◌, ◌≤◌, Bool, true, false, nat_eq, List, length, sym, ap, ◌∙◌, subst, arith, Result, Ok, Err, Bor, Ordering, Equal}
 use Rattle.std.specs.Prelude.{Option, Some, IfOk, IsOk, IsErrAnd, MatchResult, is_err, option_copied}
 use Rattle.std.proofs.lemmas.Bool.{false≢true}
@@ -22,10 +23,7 @@ module _ {V : Type 0} (IsFit : Type 0) (n : ℕ) where
   -- for others memory may be refused
   pub refused-memory : (r : Result V ErrorKind) → IsErrAnd r (λ x. x ≡ OutOfMemory) → IsFit → 0 < n → IsRefusedUnless IsFit n r
   refused-memory (Ok x) h fit some = absurd h
-  refused-memory (Err x) h fit some =
-      let refused : Result V ErrorKind = Err x in
-      let memory : is_argument refused ≡ false = ap (λ (y : ErrorKind). let r : Result V ErrorKind = Err y in is_argument r) h in
-      ((λ k. absurd (false≢true (sym memory ∙ ap is_argument k)), λ unfit. absurd (unfit fit)), λ k. (h, some))
+  refused-memory (Err x) h fit some = grind (arith, common_steps, false≢true)
 
   -- what a call refuses, one that passes its errors on refuses too
   pub refusal-passed : (r : Result V ErrorKind) (e : ErrorKind) → IsErrAnd r (λ x. x ≡ e) → (let told : Result V ErrorKind = Err e in IsRefusedUnless IsFit n told) →
@@ -51,16 +49,10 @@ module _ {V : Type 0} (IsFit : Type 0) (n : ℕ) where
 module _ {A : Type 0} (v : View A) (xs : List A) (cumulated : List ℕ) (least greatest : Option A) (is : v ≡ view_of xs cumulated least greatest) (b : Bool)
     (k : ℕ) (empty : b ≡ nat_eq k 0) (len : k ≡ length xs) where
   pub entries-there : b ≡ false → length xs ≤ length (spread_out xs cumulated) → 0 < length v.entries
-  entries-there e fits =
-      let some = some-unless_empty b k xs empty e len in
-      let same : length v.entries ≡ length (spread_out xs cumulated) = ap (λ (w : View A). length w.entries) is in
-      omega (arith, some, fits, same)
+  entries-there e fits = grind (arith, common_steps, some-unless_empty)
 
   pub no-entries : b ≡ true → 0 < length v.entries → false ≡ true
-  no-entries e some =
-      let none : length v.entries ≡ 0 = ap (λ (w : View A). length w.entries) is ∙ ap (λ (ys : List A). length (spread_out ys cumulated))
-      (emptied b k xs empty e len) in
-      absurd (omega (arith, some, none))
+  no-entries e some = grind (arith, common_steps, emptied)
 
 -- what holds of the entries that a view's items stand for holds of the view's entries
 pub at-entries : {A : Type 0} (P : List A → Type 0) (v : View A) (ys xs : List A) (ns cumulated : List ℕ) (least greatest : Option A) →
