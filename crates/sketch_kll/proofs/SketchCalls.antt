@@ -1,13 +1,11 @@
 -- Calls of a sketch that return an error or a value: what their clauses say, and the numbers that decide it.
-use Rattle.std.proofs.Common.{◌≡◌, ◌+◌, ◌-◌, ◌<◌, ◌^◌, ◌∙◌, ℕ, Bool, true, false, eqb, List, [], ◌++◌, Option, Ordering, Result, Ok, Err, IfErr, length, subst, sym, ap, arith}
+use Rattle.std.proofs.lemmas.Grind.{common_steps}
+use Rattle.std.proofs.Common.{◌≡◌, ◌-◌, ◌<◌, ◌^◌, ◌∙◌, ℕ, Bool, true, false, eqb, List, [], ◌++◌, Option, Ordering, Result, Err, length, subst, sym, ap, arith}
 use Rattle.std.proofs.lemmas.Bool.{eqb-true, true≢false}
 use Rattle.std.proofs.lemmas.List.{nil_from_length}
 use Rattle.sketch_base.specs.Heads.{header_text}
 use Rattle.sketch_base.specs.declared.codec.Header.{Header}
-use Rattle.sketch_base.specs.declared.error.ErrorKind.{ErrorKind}
-use Rattle.sketch_base.specs.declared.error.ErrorKind.TheVariants.{InvalidArgument, OutOfMemory}
-use Rattle.sketch_base.proofs.Exits.{accepted, error_is}
-use Rattle.sketch_base.proofs.RefusedCalls.{no_memory}
+use Rattle.sketch_base.proofs.Exits.{error_is}
 use Rattle.sketch_kll.specs.Sketch.{IsSound, Kll, sketch_of}
 use Rattle.sketch_kll.specs.Stored.{Stored, KeepsLevels}
 
@@ -18,15 +16,7 @@ refused_there e told is = told (error_is e is)
 -- levels that are kept make the same sketch
 same_sketch : {A : Type 0} (x y : Stored A) (min_k n : ℕ) (least greatest : Option A) → KeepsLevels x y →
     sketch_of y.k min_k n y.is_sorted y.levels least greatest ≡ sketch_of x.k min_k n x.is_sorted x.levels least greatest
-same_sketch x y min_k n least greatest kept = λ j. record {
-  k = kept.k_is j;
-  min_k = min_k;
-  n = n;
-  is_sorted = kept.flag_is j;
-  levels = kept.levels_are j;
-  least = least;
-  greatest = greatest;
-}
+same_sketch x y min_k n least greatest kept = grind (arith, common_steps)
 
 -- the same, of the sketch as callers see it
 pub still_seen : {A : Type 0} (x y : Stored A) (min_k n : ℕ) (least greatest : Option A) (s : Kll A) → KeepsLevels x y →

@@ -1,7 +1,8 @@
 -- Levels as they are stored: empty, those of a sound sketch, with items put in, after a compaction, and after a merge.
+use Rattle.std.proofs.lemmas.Grind.{common_steps}
 use Rattle.std.proofs.Common.{Option, ◌≡◌, ℕ, ◌-◌, ◌<◌, ◌≤◌, Bool, List, [], ◌∷◌, ◌++◌, length, drop, get_or, replicate, set, take, sym, ap, ◌∙◌, subst, arith, Ordering, length-drop, true, false, IsTrue, IsPermutation, IsSorted, subst₂, ap₂}
 use Rattle.sketch_kll.specs.Capacity.{total_of}
-use Rattle.sketch_kll.specs.Flat.{levels_in, marks, IsFlat}
+use Rattle.sketch_kll.specs.Flat.{levels_in, IsFlat}
 use Rattle.sketch_kll.specs.Join.{joined, joined_bounds}
 use Rattle.sketch_kll.specs.Levels.{body_of, compacted, first_level, leftover_of, SameLevels, UpperSorted}
 use Rattle.sketch_kll.specs.Sketch.{IsSound, sketch_of}
@@ -175,20 +176,10 @@ stored_still {A} {cmp} {k} {total} stored e f = subst₂ (λ (xs : List A) (bs :
 pub kept_still : {A : Type 0} {k room rooms room' rooms' : ℕ} {flag : Bool} {items items' : List A} {bounds bounds' : List ℕ}
     {seen : Stored A} → stored_of k flag items bounds room rooms ≡ seen → items' ≡ items → bounds' ≡ bounds →
     KeepsLevels seen (stored_of k flag items' bounds' room' rooms')
-kept_still {A} view e f = record {
-  k_is = ap (λ (y : Stored A). y.k) view;
-  flag_is = ap (λ (y : Stored A). y.is_sorted) view;
-  levels_are = ap₂ levels_in e f ∙ ap (λ (y : Stored A). y.levels) view;
-}
+kept_still {A} view e f = grind (arith, common_steps)
 
 -- clones of the levels between these bounds
 pub clones_told : {A : Type 0} {cmp : A → A → Ordering} {items : List A} {bounds given : List ℕ} {ls : List (List A)} (y : Incoming A) → IsFlat items bounds →
     given ≡ bounds → levels_in items bounds ≡ ls → SameLevels cmp (levels_in items given) (y.low.items ∷ levels_in y.upper.items (drop 1 given)) →
     IsFlat y.upper.items (drop 1 given) → AreClones cmp ls y
-clones_told {A} {cmp} {items} y flat given_is own same fits =
-    let marks_are = given_is ∙ (sym flat.bounds_are ∙ ap marks own) in
-    record {
-      same = subst₂ (λ (xs : List (List A)) (bs : List ℕ). SameLevels cmp xs (y.low.items ∷ levels_in y.upper.items (drop 1 bs)))
-          (ap (levels_in items) given_is ∙ own) marks_are same;
-      flat = subst (λ (bs : List ℕ). IsFlat y.upper.items (drop 1 bs)) marks_are fits;
-    }
+clones_told {A} {cmp} {items} y flat given_is own same fits = grind (arith, common_steps, flat, same)
