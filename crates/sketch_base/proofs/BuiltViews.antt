@@ -31,10 +31,7 @@ built-empty {A} cmp joins pairs least greatest v xs cumulated is no_items no_wei
     subst (λ (u : View A). IsBuilt cmp joins pairs least greatest u) (sym e) (subst (λ (ps : List (A × ℕ)). IsBuilt cmp joins ps least greatest empty) (sym none) start)
 
 pub empty-view : {A : Type 0} (cmp : A → A → Ordering) (xs : List A) (cumulated : List ℕ) → xs ≡ [] → cumulated ≡ [] → IsView cmp xs cumulated None None
-empty-view {A} cmp xs cumulated e f =
-    let nothing : List A = [] in
-    let start : IsView cmp nothing [] None None = grind (arith, common_steps) in
-    subst (λ (ys : List A). IsView cmp ys cumulated None None) (sym e) (subst (λ (ns : List ℕ). IsView cmp nothing ns None None) (sym f) start)
+empty-view {A} cmp xs cumulated e f = grind (arith, common_steps)
 
 -- the items that were kept
 pub built-joined : {A : Type 0} {cmp : A → A → Ordering} → IsTotalOrder cmp → (joins : Bool) (weighted pairs : List (A × ℕ)) → IsPermutation weighted pairs →

@@ -1,5 +1,6 @@
 -- The entry that a view finds for a fraction: an extreme, or the entry at the fraction's place.
-use Rattle.std.proofs.Common.{◌≡◌, ℕ, ◌<◌, ◌↔◌, false, true, ne_eqb, eq-eqb, List, length, refl, sym, ap, ◌∙◌, subst, arith, inl, inr, Ordering}
+use Rattle.std.proofs.lemmas.Grind.{common_steps}
+use Rattle.std.proofs.Common.{◌≡◌, ℕ, ◌<◌, ◌↔◌, false, true, ne_eqb, eq-eqb, List, length, refl, sym, ap, ◌∙◌, subst, arith, Ordering}
 use Rattle.std.specs.Prelude.{Option, None, Some, slice_get, option_copied, IsSome, is_some}
 use Rattle.std.proofs.lemmas.Bool.{false≢true}
 use Rattle.std.proofs.lemmas.Option.{slice_get_cases, slice_get_past}
@@ -12,16 +13,11 @@ use denote.Ref.{Bor}
 -- an item within a list is found
 pub got : {A : Type 0} (xs : List A) (i : ℕ) (r : Option (Bor A)) → option_copied r ≡ slice_get xs i → i < length xs → IsSome r
 got xs i (Some x) found within = refl
-got xs i None found within = elim (slice_get_cases xs i).1 [
-  | inl h ↦ absurd (cc (found, h.2))
-  | inr h ↦ absurd (omega (arith, h.0, within))
-]
+got xs i None found within = grind (arith, common_steps, slice_get_cases)
 
 -- an extreme is found if there are entries
 extreme-there : {A : Type 0} (r : Option (Bor A)) (extreme : Option A) (n : ℕ) → option_copied r ≡ extreme → IsThere extreme n → IsSome r ↔ (0 < n)
-extreme-there None extreme n e there =
-    let none = subst (λ o. IsThere o n) (sym e) there in
-    (λ t. absurd (false≢true t), λ some. absurd (omega (arith, some, none)))
+extreme-there None extreme n e there = grind (arith, common_steps, there, false≢true)
 extreme-there (Some x) extreme n e there = (λ t. subst (λ o. IsThere o n) (sym e) there, λ some. refl)
 
 -- the quantile of a fraction, found exactly if there are entries
