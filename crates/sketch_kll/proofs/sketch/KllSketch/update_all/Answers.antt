@@ -1,36 +1,21 @@
--- The goals at the return are what updates by all items make of the fields.
-use Rattle.std.proofs.Common.{◌≡◌, ◌<◌, ◌≤◌, ◌^◌, ◌+◌, ◌-◌, ℕ, Bool, Ordering, Result, Ok, Err, List, [], ◌∷◌, length, ap, refl, subst, arith, ◌∙◌}
+use Rattle.std.proofs.Common.{arith, ◌≡◌, ◌<◌, ◌≤◌, ◌^◌, ◌+◌, ◌-◌, ℕ, Bool, Ordering, Result, Ok, Err, List, [], ◌∷◌, length, ap, refl, subst, ◌∙◌}
 use Rattle.std.specs.Cmp.{IsTotalOrder}
 use Rattle.std.specs.Prelude.{◌↔◌, IfErr, IsErrOf, IsOk, OnErr, OnOk}
 use Rattle.sketch_base.specs.declared.error.ErrorKind.{ErrorKind}
 use Rattle.sketch_base.specs.declared.error.ErrorKind.TheVariants.{InvalidArgument, OutOfMemory}
-use Rattle.sketch_base.proofs.Exits.{accepted, no_value, returned, with_error}
+use Rattle.sketch_base.proofs.Exits.{accepted, no_value, with_error}
 use Rattle.sketch_base.specs.Random.{after_draws, bits_from}
 use Rattle.sketch_kll.specs.Levels.{weight}
 use Rattle.sketch_base.specs.Extremes.{newer_or}
 use Rattle.sketch_kll.specs.Sketch.{IsSound, Kll, sketch_of}
 use Rattle.sketch_kll.specs.Updates.{AreUpdated, coins_of_updates}
 use Rattle.sketch_base.proofs.RefusedCalls.{no_memory, not_heavy, refused_as}
-use Rattle.sketch_kll.proofs.SketchCalls.{still_seen, still_sound}
 use Rattle.sketch_kll.proofs.CompactedSizes.{length-same}
 use Rattle.sketch_kll.proofs.UpdatesInTurn.{UpdatesFields, updates_fields, updates_none, updates_seen}
 use Rattle.sketch_kll.proofs.sketch.KllSketch.update_all.Given.{Over}
 use Rattle.sketch_kll.proofs.sketch.KllSketch.update_all.Goals.{After-set_if_some-2}
 use Rattle.sketch_kll.proofs.sketch.KllSketch.update_all.Goals as goal
 use Rattle.sketch_kll.proofs.sketch.KllSketch.update_all.Goals.at as past
-
-some_of : (n : ℕ) → (n ≡ 0 → ⊥) → 0 < n
-some_of n some = omega arith
-
--- the sum of both fits
-sum_of : (x : ℕ) {n : ℕ} → n ≤ 2 ^ 64 - 1 - x → 0 < n → x + n < 2 ^ 64
-sum_of x h some = omega arith
-
-levels_light : {A : Type 0} (ls kept : List (List A)) (x n l : ℕ) → kept ≡ ls → weight ls ≡ x → n ≡ l → x + n < 2 ^ 64 → weight kept + l < 2 ^ 64
-levels_light ls kept x n l same weighs is light = omega (arith, ap weight same, weighs, is, light)
-
-heavy_not : {x a : ℕ} (n : ℕ) → x + n < 2 ^ 64 → x ≡ a → 2 ^ 64 ≤ a + n → ⊥
-heavy_not n light e heavy = omega arith
 
 none_not : {A : Type 0} {xs : List A} → 0 < length xs → xs ≡ [] → ⊥
 none_not some e = omega (arith, ap length e)
@@ -104,6 +89,24 @@ module _ {A S : Type 0} (cmp : A → A → Ordering) (bit : S → Bool) (next : 
     sound = fields.sound;
   }
 
+pub returns-then-count-eq0-clause-ok : goal.returns-then-count-eq0-clause-ok
+returns-then-count-eq0-clause-ok g c =
+    (none_taken g.T.Ord.cmp g.B.RandomBits.bit g.B.RandomBits.next c.args.self.now c.args.items.now c.args.coins.now g.met.T.Ord.total
+    c.if-count-eq0.true
+    (subst (λ (n : ℕ). n < 2 ^ 64) (ap (λ (k : Kll g.row.T.Denot). k.n) c.self.view_is) c.self.ranges.1.0.1)
+    (subst (IsSound g.T.Ord.cmp) c.self.view_is c.self.invariant)).ok
+
+-- The goals at the return are what updates by all items make of the fields.
+some_of : (n : ℕ) → (n ≡ 0 → ⊥) → 0 < n
+some_of n some = omega arith
+
+-- the sum of both fits
+sum_of : (x : ℕ) {n : ℕ} → n ≤ 2 ^ 64 - 1 - x → 0 < n → x + n < 2 ^ 64
+sum_of x h some = omega arith
+
+levels_light : {A : Type 0} (ls kept : List (List A)) (x n l : ℕ) → kept ≡ ls → weight ls ≡ x → n ≡ l → x + n < 2 ^ 64 → weight kept + l < 2 ^ 64
+levels_light ls kept x n l same weighs is light = omega (arith, ap weight same, weighs, is, light)
+
 pub take_all-requires-clause-light : goal.take_all-requires-clause-light
 take_all-requires-clause-light g c =
     let x = c.self.inside in
@@ -112,6 +115,9 @@ take_all-requires-clause-light g c =
     levels_light x.levels.levels c.prepare_all.new.self.levels x.n (length c.args.items.now) (length clones)
     c.prepare_all.ensures.kept.levels_are c.self.invariant.weighs_n same
     (sum_of _ c.if-count-self.false (some_of _ c.if-count-eq0.false))
+
+heavy_not : {x a : ℕ} (n : ℕ) → x + n < 2 ^ 64 → x ≡ a → 2 ^ 64 ≤ a + n → ⊥
+heavy_not n light e heavy = omega arith
 
 -- what the updates make of the fields
 made : (g : Over) (c : After-set_if_some-2 g) → let x = c.self.inside in let new = c.give_back.new.self in
@@ -142,27 +148,6 @@ returns g c =
     (sketch_of new.k x.min_k (x.n + count) new.is_sorted new.levels c.set_if_some.new.place c.set_if_some-2.new.place) c.take_all.new.coins
     (updates_seen g.met.T.Ord.total c.self.view_is (made g (past.returns g c).After-set_if_some-2)) some
     (heavy_not {x = x.n} {a = c.args.self.now.n} count (sum_of x.n c.if-count-self.false some) (ap (λ (k : Kll g.row.T.Denot). k.n) c.self.view_is))
-
-pub returns-in_err-clones : goal.returns-in_err-clones
-returns-in_err-clones g c =
-    let x = c.self.inside in
-    let y = c.prepare_all.new.self in
-    let kept = c.prepare_all.ensures.kept in
-    let count = length c.args.items.now in
-    let r = c.from_residual.result in
-    let some = some_of count c.if-count-eq0.false in
-    ran_out g.T.Ord.cmp g.B.RandomBits.bit g.B.RandomBits.next c.args.self.now c.args.items.now c.args.coins.now r
-    (sketch_of y.k x.min_k x.n y.is_sorted y.levels x.min_item x.max_item) (returned r OutOfMemory c.from_residual.ensures.1) some
-    (heavy_not {x = x.n} {a = c.args.self.now.n} count (sum_of x.n c.if-count-self.false some) (ap (λ (k : Kll g.row.T.Denot). k.n) c.self.view_is))
-    (still_seen x.levels y x.min_k x.n x.min_item x.max_item c.args.self.now kept c.self.view_is)
-    (still_sound g.T.Ord.cmp x.levels y x.min_k x.n x.min_item x.max_item kept c.self.invariant)
-
-pub returns-then-count-eq0 : goal.returns-then-count-eq0
-returns-then-count-eq0 g c =
-    none_taken g.T.Ord.cmp g.B.RandomBits.bit g.B.RandomBits.next c.args.self.now c.args.items.now c.args.coins.now g.met.T.Ord.total
-    c.if-count-eq0.true
-    (subst (λ (n : ℕ). n < 2 ^ 64) (ap (λ (k : Kll g.row.T.Denot). k.n) c.self.view_is) c.self.ranges.1.0.1)
-    (subst (IsSound g.T.Ord.cmp) c.self.view_is c.self.invariant)
 
 pub invariant_of-self-2 : goal.invariant_of-self-2
 invariant_of-self-2 g c = (returns g c).sound
