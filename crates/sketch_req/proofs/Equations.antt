@@ -6,9 +6,6 @@ use Rattle.sketch_req.specs.Level.{Level}
 pub same_number : {n m l : ℕ} → n ≡ m → m ≡ l → n ≡ l
 same_number e f = e ∙ f
 
-pub same_back : {n m l : ℕ} → n ≡ m → l ≡ m → n ≡ l
-same_back e f = e ∙ sym f
-
 pub same_flag : {a b c : Bool} → a ≡ b → b ≡ c → a ≡ c
 same_flag e f = e ∙ f
 

@@ -1,10 +1,10 @@
-use Rattle.std.proofs.Common.{◌≡◌, ℕ, ◌-◌, ◌*◌, ◌%◌, ◌≤◌, vec_capacity, List, ◌++◌, length, take, drop, reverse, sym, ap, subst, not, arith, ◌∙◌, length-take}
+use Rattle.std.proofs.Common.{◌≡◌, ℕ, ◌-◌, ◌*◌, ◌%◌, ◌≤◌, vec_capacity, List, length, take, drop, reverse, sym, ap, subst, not, arith, ◌∙◌, length-take}
 use Rattle.std.proofs.lemmas.List.{length-reverse, reverse-reverse}
 use Rattle.sketch_base.specs.Bag.{half}
 use Rattle.sketch_base.proofs.MovedHalves.{half_reverse}
 use Rattle.sketch_req.specs.Level.{side_kept, side_taken}
 use Rattle.sketch_req.specs.declared.RankAccuracy.{RankAccuracy}
-use Rattle.sketch_req.proofs.Equations.{same_back, same_items, same_number}
+use Rattle.sketch_req.proofs.Equations.{same_items, same_number}
 use Rattle.sketch_req.proofs.TakenParts.{turned_parts}
 use Rattle.sketch_req.proofs.compaction.take_side.Goals.{After-reverse}
 use Rattle.sketch_req.proofs.compaction.take_side.Goals as goal

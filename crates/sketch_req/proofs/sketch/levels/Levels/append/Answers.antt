@@ -1,20 +1,21 @@
-use Rattle.std.proofs.Common.{◌<◌, ◌≤◌, ◌+◌, subst₂, ℕ, List, refl, subst, sym, ◌≡◌, ◌∙◌, true, false, ap, arith, le-leb}
-use Rattle.std.proofs.lemmas.Result.{IfOk-from_err, on_err_weaker, on_ok_weaker}
+use Rattle.std.proofs.Common.{set, ◌<◌, ◌≤◌, ◌+◌, subst₂, ℕ, List, refl, subst, sym, ◌≡◌, ◌∙◌, true, false, ap, arith, le-leb}
+use Rattle.std.proofs.lemmas.Result.{IfOk-from_err}
 use Rattle.std.proofs.lemmas.Bool.{lt-leb}
 use Rattle.sketch_req.specs.declared.RankAccuracy.{RankAccuracy}
 use Rattle.sketch_req.specs.Walk.{AreWalkedIfFull, k_of, AreWalkedOver, appended_first}
 use Rattle.sketch_req.specs.Held.{IsHeld, held_of, Held}
 use Rattle.sketch_req.specs.Level.{Level}
-use Rattle.sketch_req.specs.Schedule.{layouts_of, are_full}
-use Rattle.sketch_req.proofs.LevelEnds.{levels_only, memory_told}
+use Rattle.sketch_req.specs.Schedule.{layouts_of, are_full, retained_of}
+use Rattle.sketch_req.proofs.ListPlaces.{set-kept}
+use Rattle.sketch_req.proofs.TakenInTurn.{first-appended, first-few}
 use Rattle.sketch_req.proofs.Sounds.{some-weight}
 use Rattle.sketch_req.proofs.UpdatedLevels.{weight-appended, acted-spare, acted-walk, nominal-appended, placed-appended, retained-appended}
-use Rattle.sketch_req.proofs.Held.{with-levels, same-levels, held-sums, few-levels, own-levels}
+use Rattle.sketch_req.proofs.Held.{held-appended, with-levels, same-levels, held-sums, few-levels, own-levels}
 use Rattle.sketch_base.proofs.Exits.{on_error, only_error}
-use Rattle.sketch_req.proofs.sketch.levels.Levels.take_last.Given.{Over}
-use Rattle.sketch_req.proofs.sketch.levels.Levels.take_last.Goals.{In_ok-append_and_walk}
-use Rattle.sketch_req.proofs.sketch.levels.Levels.take_last.Goals as goal
-use Rattle.sketch_req.proofs.sketch.levels.Levels.take_last.Goals.at as past
+use Rattle.sketch_req.proofs.sketch.levels.Levels.append.Given.{Over}
+use Rattle.sketch_req.proofs.sketch.levels.Levels.append.Goals.{In_ok-append, In_ok-append_and_walk}
+use Rattle.sketch_req.proofs.sketch.levels.Levels.append.Goals as goal
+use Rattle.sketch_req.proofs.sketch.levels.Levels.append.Goals.at as past
 
 -- the levels after the walk
 walked : (g : Over) (c : In_ok-append_and_walk g) → let s = c.self.inside in
@@ -47,9 +48,6 @@ append_and_walk-requires-clause-few g c = grind arith
 pub append_and_walk-requires-clause-fits : goal.append_and_walk-requires-clause-fits
 append_and_walk-requires-clause-fits g c = grind arith
 
-pub put-requires : goal.put-requires
-put-requires g c = grind arith
-
 pub overflow_sub-max : goal.overflow_sub-max
 overflow_sub-max g c = grind arith
 
@@ -75,36 +73,57 @@ returns g c =
       memory = tt;
     }
 
+-- the levels with the item, if they are not full after it
+put : (g : Over) (c : In_ok-append g) → let s = c.self.inside in set s.compactors.items 0 c.append.new.self ≡ appended_first s.compactors.items c.args.item
+put g c = first-appended c.self.inside.compactors.items c.index_mut.result.now _ _ c.self.invariant.some c.index_mut.ensures.value c.in_ok-append.ensures.ok
+
 pub returns-then-self : goal.returns-then-self
 returns-then-self g c =
-    let s = c.args.self.now in
-    let held = subst (IsHeld g.T.Ord.cmp c.self.inside.num_retained c.self.inside.capacity) c.self.view_is c.self.invariant in
-    let more = retained-appended s.levels c.args.item held.some in
-    let same = nominal-appended s.k s.levels c.args.item in
-    let spare : are_full s.k (layouts_of (appended_first s.levels c.args.item)) ≡ false = lt-leb _ _
-    (subst₂ (λ (n m : ℕ). n < m) (ap (λ (n : ℕ). n + 1) held.retained_is ∙ sym more) (held.capacity_is ∙ sym same) c.if-self.true) in
-    let told = memory_told _ _ c.put.result c.map_err.result c.map_err.ensures.cases c.put.ensures.ok c.put.ensures.err in
+    let s = c.self.inside in
+    let same = put g (past.returns-then-self g c).In_ok-append in
+    let held = subst (IsHeld g.T.Ord.cmp s.num_retained s.capacity) c.self.view_is c.self.invariant in
+    let more = retained-appended s.compactors.items c.args.item c.self.invariant.some in
+    let nominals = nominal-appended s.k s.compactors.items c.args.item in
+    let spare : are_full s.k (layouts_of (appended_first s.compactors.items c.args.item)) ≡ false = lt-leb _ _
+    (subst₂ (λ (n m : ℕ). n < m) (ap (λ (n : ℕ). n + 1) c.self.invariant.retained_is ∙ sym more) (c.self.invariant.capacity_is ∙ sym nominals) c.if-self.true) in
     record {
-      kept = levels_only c.put.new.self s _ c.put.result c.put.ensures.ok c.put.ensures.err;
-      acted = on_ok_weaker c.map_err.result (λ put.
-          subst (AreWalkedIfFull g.T.Ord.cmp g.B.RandomBits.bit g.B.RandomBits.next c.args.coins.now c.args.coins.now s.k s.accuracy
-          (appended_first s.levels c.args.item)) (sym (ap (λ (h : Held g.row.T.Denot). h.levels) put))
-          (acted-spare g.met.T.Ord.total g.B.RandomBits.bit g.B.RandomBits.next c.args.coins.now s.k s.accuracy (appended_first s.levels c.args.item)
-          (placed-appended g.T.Ord.cmp s.k s.accuracy s.levels c.args.item held.placed c.requires.few) spare)) told.0;
-      err = on_err_weaker c.map_err.result (λ same. (same, refl)) told.1.0;
-      memory = told.1.1;
+      kept = with-levels _ _ (set s.compactors.items 0 c.append.new.self) c.self.view_is;
+      acted = subst (λ (h : Held g.row.T.Denot). AreWalkedIfFull g.T.Ord.cmp g.B.RandomBits.bit g.B.RandomBits.next c.args.coins.now c.args.coins.now
+          h.k h.accuracy (appended_first h.levels c.args.item) (set s.compactors.items 0 c.append.new.self)) c.self.view_is
+          (subst (AreWalkedIfFull g.T.Ord.cmp g.B.RandomBits.bit g.B.RandomBits.next c.args.coins.now c.args.coins.now s.k s.rank_accuracy
+          (appended_first s.compactors.items c.args.item)) (sym same)
+          (acted-spare g.met.T.Ord.total g.B.RandomBits.bit g.B.RandomBits.next c.args.coins.now s.k s.rank_accuracy (appended_first s.compactors.items c.args.item)
+          (placed-appended g.T.Ord.cmp s.k s.rank_accuracy s.compactors.items c.args.item c.self.invariant.placed
+          (subst (λ (h : Held g.row.T.Denot). retained_of (layouts_of h.levels) < 4294967295) (sym c.self.view_is) c.requires.few)) spare));
+      err = tt;
+      memory = tt;
     }
 
 pub returns-in_err-append_and_walk : goal.returns-in_err-append_and_walk
 returns-in_err-append_and_walk g c =
-    let r = c.from_residual.result in
-    let (fails, is) = c.from_residual.ensures in
+    let r = c.from_residual-in_err-append_and_walk.result in
+    let (fails, is) = c.from_residual-in_err-append_and_walk.ensures in
     let (levels, coins) = c.in_err-append_and_walk.ensures.err in
     record {
       kept = with-levels _ _ c.append_and_walk.new.levels.items c.self.view_is;
       acted = IfOk-from_err r _ fails;
       err = on_error r (same-levels _ _ _ _ _ levels c.self.view_is, coins);
       memory = only_error r is c.in_err-append_and_walk.ensures.memory;
+    }
+
+pub returns-in_err-append : goal.returns-in_err-append
+returns-in_err-append g c =
+    let s = c.self.inside in
+    let same = set-kept s.compactors.items 0 _ _ c.index_mut.ensures.value c.in_err-append.ensures.err in
+    let first = first-few s.compactors.items _ c.self.invariant.some c.index_mut.ensures.value in
+    let few = subst (λ (h : Held g.row.T.Denot). retained_of (layouts_of h.levels) < 4294967295) (sym c.self.view_is) c.requires.few in
+    let r = c.from_residual.result in
+    let (fails, is) = c.from_residual.ensures in
+    record {
+      kept = with-levels _ _ (set s.compactors.items 0 c.append.new.self) c.self.view_is;
+      acted = IfOk-from_err r _ fails;
+      err = on_error r (same-levels _ _ _ _ _ same c.self.view_is, refl);
+      memory = only_error r is (c.in_err-append.ensures.memory (omega (arith, first, few)));
     }
 
 -- a weight after an item came in
@@ -121,11 +140,24 @@ invariant_of-self-2 g c =
     (held-sums g.T.Ord.cmp _ _ _ _ _ _ some walked.acted.placed
     (c.as_slice.ensures.value ∙ c.give_back.ensures) c.sums.ensures.retained c.sums.ensures.capacity)
 
-pub invariant_of-self : goal.invariant_of-self
-invariant_of-self g c =
+pub invariant_of-self-in_err-append_and_walk : goal.invariant_of-self-in_err-append_and_walk
+invariant_of-self-in_err-append_and_walk g c =
     let s = c.self.inside in
     subst (λ (ls : List (Level g.row.T.Denot)). IsHeld g.T.Ord.cmp s.num_retained s.capacity (held_of s.k s.rank_accuracy ls))
     (sym c.in_err-append_and_walk.ensures.err.0) c.self.invariant
+
+pub invariant_of-self : goal.invariant_of-self
+invariant_of-self g c =
+    let s = c.self.inside in
+    let same = set-kept s.compactors.items 0 _ _ c.index_mut.ensures.value c.in_err-append.ensures.err in
+    subst (λ (ls : List (Level g.row.T.Denot)). IsHeld g.T.Ord.cmp s.num_retained s.capacity (held_of s.k s.rank_accuracy ls)) (sym same) c.self.invariant
+
+pub invariant_of-self-then-self : goal.invariant_of-self-then-self
+invariant_of-self-then-self g c =
+    let s = c.self.inside in
+    let few = subst (λ (h : Held g.row.T.Denot). retained_of (layouts_of h.levels) < 4294967295) (sym c.self.view_is) c.requires.few in
+    subst (λ (ls : List (Level g.row.T.Denot)). IsHeld g.T.Ord.cmp (s.num_retained + 1) s.capacity (held_of s.k s.rank_accuracy ls))
+    (sym (put g (past.invariant_of-self-then-self g c).In_ok-append)) (held-appended g.T.Ord.cmp _ _ _ _ _ c.args.item c.self.invariant few)
 
 pub append_and_walk-requires-clause-clones : goal.append_and_walk-requires-clause-clones
 append_and_walk-requires-clause-clones g c = c.requires.clones
