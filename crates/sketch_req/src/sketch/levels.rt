@@ -16,7 +16,7 @@ ghost use Rattle.sketch_req.specs.Redrawn.{redrawn};
 ghost use Rattle.sketch_req.specs.Schedule.{layouts_of, retained_of, weight_of, nominal_sum, turning_levels};
 ghost use Rattle.sketch_req.specs.ScheduleLaws.{updates_actions};
 ghost use Rattle.sketch_req.specs.Updates.{AreAllTaken, IsDrawnFrom};
-ghost use Rattle.sketch_req.specs.Walk.{AreLevels, AreWalkedIfFull, appended_first};
+ghost use Rattle.sketch_req.specs.Walk.{AreLevels, AreWalkedIfFull, AreWalkedOver, appended_first};
 ghost use Rattle.sketch_req.specs.declared.RankAccuracy.{RankAccuracy};
 
 mod joining;
@@ -86,7 +86,6 @@ impl<T: Clone + Ord> Levels<T> {
 
     /// Appends an item to level 0, and walks over the levels if they are then full together. An
     /// error is `OutOfMemory`, and leaves the levels and the source of coins unchanged.
-    #[inline(always)]
     pub(crate) fn append<B: RandomBits>(&mut self, item: T, coins: &mut B) -> Result<(), Error>
         requires clones { (x y : T) → T.is_clone x y → T.cmp x y ≡ Equal }
         requires fits { weight_of (layouts_of self.old.levels) < 2 ^ 64 - 1 }
@@ -97,11 +96,28 @@ impl<T: Clone + Ord> Levels<T> {
         ensures err { OnErr result ((self.new ≡ self.old) × (coins.new ≡ coins.old)) }
         ensures memory { IfErr result (λ e. e ≡ OutOfMemory) }
     {
-        if self.num_retained + 1 < self.capacity {
-            self.compactors[0].append(item)?;
-            self.num_retained += 1;
-            return Ok(());
+        if self.num_retained + 1 >= self.capacity {
+            return self.append_and_walk(item, coins);
         }
+        self.compactors[0].append(item)?;
+        self.num_retained += 1;
+        Ok(())
+    }
+
+    /// Appends an item to level 0 and walks over the levels. An error is `OutOfMemory`, and leaves
+    /// the levels and the source of coins unchanged.
+    #[cold]
+    #[inline(never)]
+    fn append_and_walk<B: RandomBits>(&mut self, item: T, coins: &mut B) -> Result<(), Error>
+        requires clones { (x y : T) → T.is_clone x y → T.cmp x y ≡ Equal }
+        requires fits { weight_of (layouts_of self.old.levels) < 2 ^ 64 - 1 }
+        requires few { retained_of (layouts_of self.old.levels) < 4294967295 }
+        ensures kept { self.new ≡ record self.old { levels = self.new.levels } }
+        ensures acted { OnOk result (AreWalkedOver T.cmp B.bit B.next coins.old coins.new
+            self.old.k self.old.accuracy (appended_first self.old.levels item) self.new.levels) }
+        ensures err { OnErr result ((self.new ≡ self.old) × (coins.new ≡ coins.old)) }
+        ensures memory { IfErr result (λ e. e ≡ OutOfMemory) }
+    {
         append_and_walk(&mut self.compactors, item, coins)?;
         give_back(&mut self.compactors, (self.num_retained / 8).max(24) - 24);
         (self.num_retained, self.capacity) = sums(self.compactors.as_slice());

@@ -1,91 +1,33 @@
 use Rattle.std.proofs.Common.{set, ◌<◌, ◌≤◌, ◌+◌, subst₂, ℕ, List, refl, subst, sym, ◌≡◌, ◌∙◌, true, false, ap, arith, le-leb}
-use Rattle.std.proofs.lemmas.Result.{IfOk-from_err}
+use Rattle.std.proofs.lemmas.Result.{IfOk-from_err, on_ok_weaker}
 use Rattle.std.proofs.lemmas.Bool.{lt-leb}
-use Rattle.sketch_req.specs.declared.RankAccuracy.{RankAccuracy}
-use Rattle.sketch_req.specs.Walk.{AreWalkedIfFull, k_of, AreWalkedOver, appended_first}
+use Rattle.sketch_req.specs.Walk.{AreWalkedIfFull, appended_first}
 use Rattle.sketch_req.specs.Held.{IsHeld, held_of, Held}
 use Rattle.sketch_req.specs.Level.{Level}
 use Rattle.sketch_req.specs.Schedule.{layouts_of, are_full, retained_of}
 use Rattle.sketch_req.proofs.ListPlaces.{set-kept}
 use Rattle.sketch_req.proofs.TakenInTurn.{first-appended, first-few}
-use Rattle.sketch_req.proofs.Sounds.{some-weight}
-use Rattle.sketch_req.proofs.UpdatedLevels.{weight-appended, acted-spare, acted-walk, nominal-appended, placed-appended, retained-appended}
-use Rattle.sketch_req.proofs.Held.{held-appended, with-levels, same-levels, held-sums, few-levels, own-levels}
+use Rattle.sketch_req.proofs.UpdatedLevels.{acted-spare, acted-walk, nominal-appended, placed-appended, retained-appended}
+use Rattle.sketch_req.proofs.Held.{held-appended, with-levels, same-levels}
 use Rattle.sketch_base.proofs.Exits.{on_error, only_error}
 use Rattle.sketch_req.proofs.sketch.levels.Levels.append.Given.{Over}
-use Rattle.sketch_req.proofs.sketch.levels.Levels.append.Goals.{In_ok-append, In_ok-append_and_walk}
+use Rattle.sketch_req.proofs.sketch.levels.Levels.append.Goals.{In_ok-append}
 use Rattle.sketch_req.proofs.sketch.levels.Levels.append.Goals as goal
 use Rattle.sketch_req.proofs.sketch.levels.Levels.append.Goals.at as past
-
--- the levels after the walk
-walked : (g : Over) (c : In_ok-append_and_walk g) → let s = c.self.inside in
-    AreWalkedOver g.T.Ord.cmp g.B.RandomBits.bit g.B.RandomBits.next c.args.coins.now c.append_and_walk.new.coins s.k s.rank_accuracy
-    (appended_first s.compactors.items c.args.item) c.append_and_walk.new.levels.items
-walked g c =
-    let s = c.self.inside in
-    let ls = appended_first s.compactors.items c.args.item in
-    let own = own-levels g.T.Ord.cmp _ _ _ c.self.invariant.some c.self.invariant.placed in
-    subst (λ (n : ℕ). AreWalkedOver g.T.Ord.cmp g.B.RandomBits.bit g.B.RandomBits.next c.args.coins.now c.append_and_walk.new.coins n s.rank_accuracy ls
-    c.append_and_walk.new.levels.items) own.k_is
-    (subst (λ (a : RankAccuracy). AreWalkedOver g.T.Ord.cmp g.B.RandomBits.bit g.B.RandomBits.next c.args.coins.now c.append_and_walk.new.coins
-    (k_of s.compactors.items) a ls
-    c.append_and_walk.new.levels.items) own.accuracy_is c.in_ok-append_and_walk.ensures.acted)
-
-pub sums-requires : goal.sums-requires
-sums-requires g c =
-    let walked = walked g (past.sums-requires g c).In_ok-append_and_walk in
-    record { few = few-levels g.T.Ord.cmp _ _ _ _ walked.acted.placed (c.as_slice.ensures.value ∙ c.give_back.ensures) }
-
-pub overflow_add-self-inside : goal.overflow_add-self-inside
-overflow_add-self-inside g c = grind arith
-
-pub append_and_walk-requires-clause-levels : goal.append_and_walk-requires-clause-levels
-append_and_walk-requires-clause-levels g c = (own-levels g.T.Ord.cmp _ _ _ c.self.invariant.some c.self.invariant.placed).held
-
-pub append_and_walk-requires-clause-few : goal.append_and_walk-requires-clause-few
-append_and_walk-requires-clause-few g c = grind arith
-
-pub append_and_walk-requires-clause-fits : goal.append_and_walk-requires-clause-fits
-append_and_walk-requires-clause-fits g c = grind arith
-
-pub overflow_sub-max : goal.overflow_sub-max
-overflow_sub-max g c = grind arith
-
-pub returns : goal.returns
-returns g c =
-    let s = c.self.inside in
-    let levels = c.give_back.new.levels.items in
-    let more = retained-appended s.compactors.items c.args.item c.self.invariant.some in
-    let same = nominal-appended s.k s.compactors.items c.args.item in
-    let full : are_full s.k (layouts_of (appended_first s.compactors.items c.args.item)) ≡ true =
-    le-leb _ _ (subst₂ (λ (n m : ℕ). n ≤ m) (c.self.invariant.capacity_is ∙ sym same)
-    (ap (λ (n : ℕ). n + 1) c.self.invariant.retained_is ∙ sym more) c.if-self.false) in
-    let walked = walked g (past.returns g c).In_ok-append_and_walk in
-    record {
-      kept = with-levels _ _ levels c.self.view_is;
-      acted = subst (λ (h : Held g.row.T.Denot). AreWalkedIfFull g.T.Ord.cmp g.B.RandomBits.bit g.B.RandomBits.next c.args.coins.now c.append_and_walk.new.coins
-          h.k h.accuracy
-          (appended_first h.levels c.args.item) levels) c.self.view_is (subst (λ (ls : List (Level g.row.T.Denot)).
-          AreWalkedIfFull g.T.Ord.cmp g.B.RandomBits.bit g.B.RandomBits.next c.args.coins.now c.append_and_walk.new.coins s.k s.rank_accuracy
-          (appended_first s.compactors.items c.args.item) ls)
-          (sym c.give_back.ensures) (acted-walk _ _ _ _ _ _ _ _ full walked));
-      err = tt;
-      memory = tt;
-    }
 
 -- the levels with the item, if they are not full after it
 put : (g : Over) (c : In_ok-append g) → let s = c.self.inside in set s.compactors.items 0 c.append.new.self ≡ appended_first s.compactors.items c.args.item
 put g c = first-appended c.self.inside.compactors.items c.index_mut.result.now _ _ c.self.invariant.some c.index_mut.ensures.value c.in_ok-append.ensures.ok
 
-pub returns-then-self : goal.returns-then-self
-returns-then-self g c =
+pub returns : goal.returns
+returns g c =
     let s = c.self.inside in
-    let same = put g (past.returns-then-self g c).In_ok-append in
+    let same = put g (past.returns g c).In_ok-append in
     let held = subst (IsHeld g.T.Ord.cmp s.num_retained s.capacity) c.self.view_is c.self.invariant in
     let more = retained-appended s.compactors.items c.args.item c.self.invariant.some in
     let nominals = nominal-appended s.k s.compactors.items c.args.item in
     let spare : are_full s.k (layouts_of (appended_first s.compactors.items c.args.item)) ≡ false = lt-leb _ _
-    (subst₂ (λ (n m : ℕ). n < m) (ap (λ (n : ℕ). n + 1) c.self.invariant.retained_is ∙ sym more) (c.self.invariant.capacity_is ∙ sym nominals) c.if-self.true) in
+    (subst₂ (λ (n m : ℕ). n < m) (ap (λ (n : ℕ). n + 1) c.self.invariant.retained_is ∙ sym more) (c.self.invariant.capacity_is ∙ sym nominals) c.if-self.false) in
     record {
       kept = with-levels _ _ (set s.compactors.items 0 c.append.new.self) c.self.view_is;
       acted = subst (λ (h : Held g.row.T.Denot). AreWalkedIfFull g.T.Ord.cmp g.B.RandomBits.bit g.B.RandomBits.next c.args.coins.now c.args.coins.now
@@ -99,16 +41,20 @@ returns-then-self g c =
       memory = tt;
     }
 
-pub returns-in_err-append_and_walk : goal.returns-in_err-append_and_walk
-returns-in_err-append_and_walk g c =
-    let r = c.from_residual-in_err-append_and_walk.result in
-    let (fails, is) = c.from_residual-in_err-append_and_walk.ensures in
-    let (levels, coins) = c.in_err-append_and_walk.ensures.err in
+pub returns-then-self : goal.returns-then-self
+returns-then-self g c =
+    let s = c.self.inside in
+    let more = retained-appended s.compactors.items c.args.item c.self.invariant.some in
+    let same = nominal-appended s.k s.compactors.items c.args.item in
+    let full : are_full s.k (layouts_of (appended_first s.compactors.items c.args.item)) ≡ true =
+    le-leb _ _ (subst₂ (λ (n m : ℕ). n ≤ m) (c.self.invariant.capacity_is ∙ sym same)
+    (ap (λ (n : ℕ). n + 1) c.self.invariant.retained_is ∙ sym more) c.if-self.true) in
     record {
-      kept = with-levels _ _ c.append_and_walk.new.levels.items c.self.view_is;
-      acted = IfOk-from_err r _ fails;
-      err = on_error r (same-levels _ _ _ _ _ levels c.self.view_is, coins);
-      memory = only_error r is c.in_err-append_and_walk.ensures.memory;
+      kept = c.append_and_walk.ensures.kept;
+      acted = on_ok_weaker c.append_and_walk.result (acted-walk _ _ _ _ _ _ _ _
+          (subst (λ (h : Held g.row.T.Denot). are_full h.k (layouts_of (appended_first h.levels c.args.item)) ≡ true) c.self.view_is full)) c.append_and_walk.ensures.acted;
+      err = c.append_and_walk.ensures.err;
+      memory = c.append_and_walk.ensures.memory;
     }
 
 pub returns-in_err-append : goal.returns-in_err-append
@@ -126,38 +72,15 @@ returns-in_err-append g c =
       memory = only_error r is (c.in_err-append.ensures.memory (omega (arith, first, few)));
     }
 
--- a weight after an item came in
-some-more : (n m k : ℕ) → n ≡ m + 0 → m ≡ k + 1 → 0 < n
-some-more n m k e f = omega (arith, e, f)
-
-pub invariant_of-self-2 : goal.invariant_of-self-2
-invariant_of-self-2 g c =
-    let s = c.self.inside in
-    let walked = walked g (past.invariant_of-self-2 g c).In_ok-append_and_walk in
-    let more = weight-appended s.compactors.items c.args.item c.self.invariant.some in
-    let some = some-weight _ (some-more _ _ _ walked.acted.weigh more) in
-    subst (λ (ls : List (Level g.row.T.Denot)). IsHeld g.T.Ord.cmp c.sums.result.0 c.sums.result.1 (held_of s.k s.rank_accuracy ls)) (sym c.give_back.ensures)
-    (held-sums g.T.Ord.cmp _ _ _ _ _ _ some walked.acted.placed
-    (c.as_slice.ensures.value ∙ c.give_back.ensures) c.sums.ensures.retained c.sums.ensures.capacity)
-
-pub invariant_of-self-in_err-append_and_walk : goal.invariant_of-self-in_err-append_and_walk
-invariant_of-self-in_err-append_and_walk g c =
-    let s = c.self.inside in
-    subst (λ (ls : List (Level g.row.T.Denot)). IsHeld g.T.Ord.cmp s.num_retained s.capacity (held_of s.k s.rank_accuracy ls))
-    (sym c.in_err-append_and_walk.ensures.err.0) c.self.invariant
-
 pub invariant_of-self : goal.invariant_of-self
 invariant_of-self g c =
     let s = c.self.inside in
     let same = set-kept s.compactors.items 0 _ _ c.index_mut.ensures.value c.in_err-append.ensures.err in
     subst (λ (ls : List (Level g.row.T.Denot)). IsHeld g.T.Ord.cmp s.num_retained s.capacity (held_of s.k s.rank_accuracy ls)) (sym same) c.self.invariant
 
-pub invariant_of-self-then-self : goal.invariant_of-self-then-self
-invariant_of-self-then-self g c =
+pub invariant_of-self-2 : goal.invariant_of-self-2
+invariant_of-self-2 g c =
     let s = c.self.inside in
     let few = subst (λ (h : Held g.row.T.Denot). retained_of (layouts_of h.levels) < 4294967295) (sym c.self.view_is) c.requires.few in
     subst (λ (ls : List (Level g.row.T.Denot)). IsHeld g.T.Ord.cmp (s.num_retained + 1) s.capacity (held_of s.k s.rank_accuracy ls))
-    (sym (put g (past.invariant_of-self-then-self g c).In_ok-append)) (held-appended g.T.Ord.cmp _ _ _ _ _ c.args.item c.self.invariant few)
-
-pub append_and_walk-requires-clause-clones : goal.append_and_walk-requires-clause-clones
-append_and_walk-requires-clause-clones g c = c.requires.clones
+    (sym (put g (past.invariant_of-self-2 g c).In_ok-append)) (held-appended g.T.Ord.cmp _ _ _ _ _ c.args.item c.self.invariant few)
