@@ -24,9 +24,8 @@ mod walk;
 
 use crate::RankAccuracy;
 use crate::compactor::Compactor;
-use joining::{join_levels, move_back};
+use joining::{clone_items, join_levels};
 use sketch_base::common::SearchCriteria;
-use sketch_base::common::buffers::MergeRoom;
 use sketch_base::common::random::RandomBits;
 use sketch_base::error::Error;
 use std::alloc::AllocError;
@@ -155,12 +154,11 @@ impl<T: Clone + Ord> Levels<T> {
     /// Joins other levels in, redraws coins if `redraws` is true, and walks if the levels together
     /// are then at or over their nominal capacities. An error leaves the levels and the source of
     /// coins unchanged.
-    pub(crate) fn take_in<B: RandomBits>(
+    pub(crate) fn merge<B: RandomBits>(
         &mut self,
         others: &Self,
         redraws: bool,
         coins: &mut B,
-        room: &mut MergeRoom<T>,
     ) -> Result<(), AllocError>
         requires clones { (x y : T) → T.is_clone x y → T.cmp x y ≡ Equal }
         requires accuracy { self.old.accuracy ≡ others.now.accuracy }
@@ -174,17 +172,17 @@ impl<T: Clone + Ord> Levels<T> {
             self.new.levels) }
         ensures err { OnErr result ((self.new ≡ self.old) × (coins.new ≡ coins.old)) }
     {
-        let more = others.compactors.as_slice();
-        reserve(self.compactors.as_slice(), more, 0, room)?;
+        let (alloc, more) = (*self.compactors.allocator(), others.compactors.as_slice());
+        let mut clones = clone_items(alloc, self.compactors.as_slice(), more)?;
+        let mut buffers = reserve(alloc, self.compactors.as_slice(), more, 0)?;
         let new = more.len().saturating_sub(self.compactors.len());
         self.compactors.reserve_exact(new + 1)?;
-        join_levels(&mut self.compactors, more, room);
+        join_levels(&mut self.compactors, more, &mut clones, &mut buffers);
         redraw_if(redraws, &mut self.compactors, coins);
         let (num_retained, capacity) = sums(self.compactors.as_slice());
         if num_retained >= capacity {
-            walk(&mut self.compactors, room, coins);
+            walk(&mut self.compactors, &mut buffers, coins);
         }
-        move_back(&mut self.compactors, &mut room.rooms);
         give_back(&mut self.compactors, 0);
         (self.num_retained, self.capacity) = sums(self.compactors.as_slice());
         Ok(())
