@@ -177,7 +177,8 @@ impl<T: Clone + Ord> Levels<T> {
         let mut buffers = reserve(alloc, self.compactors.as_slice(), more, 0)?;
         let new = more.len().saturating_sub(self.compactors.len());
         self.compactors.reserve_exact(new + 1)?;
-        join_levels(&mut self.compactors, more, &mut clones, &mut buffers);
+        join_levels(&mut self.compactors, more, &mut clones, &mut buffers.up);
+        buffers.up.clear();
         redraw_if(redraws, &mut self.compactors, coins);
         let (num_retained, capacity) = sums(self.compactors.as_slice());
         if num_retained >= capacity {

@@ -5,7 +5,7 @@ ghost use Rattle.sketch_req.specs.Merged.{AreJoined, AreCloned};
 ghost use Rattle.sketch_req.specs.Schedule.{layouts_of, layout_at, joined_layouts, retained_of};
 ghost use Rattle.sketch_req.specs.Walk.{AreHeld, AreLevels, accuracy_of, k_of, lists_of, spaces_of};
 
-use super::walk::{WalkBuffers, add_level, count_at};
+use super::walk::{add_level, count_at};
 use crate::compactor::Compactor;
 use std::alloc::{AllocError, Global};
 
@@ -33,12 +33,12 @@ pub(super) fn clone_items<T: Clone + Ord>(
 }
 
 /// Joins clones of the other levels' items into the levels at the same places. Missing levels are
-/// added.
+/// added. The items of `room` are lost.
 pub(super) fn join_levels<T: Clone + Ord>(
     levels: &mut Vec<Compactor<T>>,
     others: &[Compactor<T>],
     clones: &mut Vec<Vec<T>>,
-    buffers: &mut WalkBuffers<T>,
+    room: &mut Vec<T>,
 )
     requires levels { AreHeld T.cmp levels.old.items }
     requires others { AreLevels T.cmp (k_of others.now) (accuracy_of levels.old.items) 0
@@ -49,25 +49,18 @@ pub(super) fn join_levels<T: Clone + Ord>(
         < vec_capacity levels.old }
     requires cloned { AreCloned T.cmp levels.old.items others.now (lists_of clones.old.items)
         (spaces_of clones.old.items) }
-    requires empty { buffers.old.coming.items ≡ [] }
-    requires space { (h : ℕ) → (layout_at (joined_layouts (k_of levels.old.items)
-        (layouts_of levels.old.items) (layouts_of others.now)) h).count
-        ≤ vec_capacity buffers.old.coming }
-    requires nothing { buffers.old.up.items ≡ [] }
+    requires room { (h : ℕ) → (layout_at (joined_layouts (k_of levels.old.items)
+        (layouts_of levels.old.items) (layouts_of others.now)) h).count ≤ vec_capacity room.old }
     ensures joined { AreJoined T.cmp (k_of levels.old.items) (accuracy_of levels.old.items)
         levels.old.items others.now levels.new.items }
     ensures count { length levels.new.items ≡ max (length levels.old.items) (length others.now) }
     ensures spare { vec_len levels.new < vec_capacity levels.new }
-    ensures merged { buffers.new.merged ≡ buffers.old.merged }
-    ensures empty { buffers.new.coming.items ≡ [] }
-    ensures coming { vec_capacity buffers.new.coming ≡ vec_capacity buffers.old.coming }
-    ensures nothing { buffers.new.up.items ≡ [] }
-    ensures up { vec_capacity buffers.new.up ≡ vec_capacity buffers.old.up }
+    ensures room { vec_capacity room.new ≡ vec_capacity room.old }
 {
     let (k, rank_accuracy) = levels[0].parameters();
     for level in 0..others.len() {
         add_level(levels, level, k, rank_accuracy);
         let clones = &mut clones[level];
-        levels[level].join(&others[level], clones, &mut buffers.coming, &mut buffers.up);
+        levels[level].join(&others[level], clones, room);
     }
 }

@@ -84,7 +84,8 @@ pub(super) fn reserve<T: Clone + Ord>(
     let (mut came, mut most) = (more, 0);
     for level in 0..count {
         let here = count_at(levels, level) + count_at(others, level) + came;
-        let space = if came > 0 { here } else { 0 };
+        let risen = came.min(level);
+        let space = if risen > 0 { here } else { 0 };
         merged.push_reserved(Vec::with_capacity(alloc, space)?);
         most = most.max(here);
         came = count_to_take_at(levels, others, level, came, &blank) / 2;

@@ -25,11 +25,7 @@ loop-level-init g c =
       spare = c.requires.spare;
       enough = subst (λ (n : ℕ). length c.args.others.now ≤ n) (length-map c.args.clones.now.items (λ v. v.items)) c.requires.cloned.enough;
       cloned = λ h l m. c.requires.cloned.cloned h m;
-      merged = refl;
-      empty = c.requires.empty;
-      coming = refl;
-      nothing = c.requires.nothing;
-      up = refl;
+      room = refl;
     }
 
 -- the level was there, or was added
@@ -55,12 +51,12 @@ module _ (g : Over) (c : After-index_mut g) (added : let ls = c.args.levels.now.
       next-copied g.met.T.Ord.total _ _ _ _ c.requires.levels.placed _ _ _ _ legal (omega (arith, low, placed.place_is))
       c.loop-level.invariant.joined added c.index_mut.ensures.value
 
-  ready : IsReady g.T.Ord.cmp c.args.levels.now.items c.args.others.now c.index_mut.result.now other c.index_mut-clones.result.now (vec_capacity c.args.buffers.now.coming)
+  ready : IsReady g.T.Ord.cmp c.args.levels.now.items c.args.others.now c.index_mut.result.now other c.index_mut-clones.result.now (vec_capacity c.args.room.now)
   ready =
       let i = c.loop-level.invariant in
       is-ready _ _ _ _ _ _ c.loop-level.clones.items _ _ _ _ copied c.loop-level-test.true is (lt_of_lt_of_le c.loop-level-test.true i.enough)
       c.index_mut-clones.ensures.value (i.cloned c.loop-level.level (le_refl c.loop-level.level) c.loop-level-test.true)
-      (c.requires.space c.loop-level.level)
+      (c.requires.room c.loop-level.level)
 
 pub add_level-requires-clause-legal : goal.add_level-requires-clause-legal
 add_level-requires-clause-legal g c =
@@ -104,17 +100,11 @@ join-requires-clause-space g c =
     let at = past.join-requires-clause-space g c in
     (ready g at.After-index_mut (added g at.After-add_level) c.index-others-level.result c.index-others-level.is).space
 
-pub join-requires-clause-empty : goal.join-requires-clause-empty
-join-requires-clause-empty g c = c.loop-level.invariant.empty
-
-pub join-requires-clause-promoted : goal.join-requires-clause-promoted
-join-requires-clause-promoted g c =
-    let at = past.join-requires-clause-promoted g c in
+pub join-requires-clause-room : goal.join-requires-clause-room
+join-requires-clause-room g c =
+    let at = past.join-requires-clause-room g c in
     let ready = ready g at.After-index_mut (added g at.After-add_level) c.index-others-level.result c.index-others-level.is in
-    subst (λ (n : ℕ). length c.index_mut.result.now.items + length c.index-others-level.result.items ≤ n) (sym c.loop-level.invariant.coming) ready.promoted
-
-pub join-requires-clause-spare : goal.join-requires-clause-spare
-join-requires-clause-spare g c = c.loop-level.invariant.nothing
+    subst (λ (n : ℕ). length c.index_mut.result.now.items + length c.index-others-level.result.items ≤ n) (sym c.loop-level.invariant.room) ready.promoted
 
 pub loop-level-preserved : goal.loop-level-preserved
 loop-level-preserved g c =
@@ -130,11 +120,7 @@ loop-level-preserved g c =
       spare = lt_of_lt_of_le i.spare c.add_level.ensures.capacity;
       enough = subst (λ (n : ℕ). length c.args.others.now ≤ n) (sym (length-set clones c.loop-level.level _)) i.enough;
       cloned = λ h l m. let other = places-above _ h l in cloned-other g.T.Ord.cmp _ _ clones c.loop-level.level _ h other.0 (i.cloned h other.1 m);
-      merged = i.merged;
-      empty = c.join.ensures.empty;
-      coming = c.join.ensures.promoted ∙ i.coming;
-      nothing = c.join.ensures.spare;
-      up = c.join.ensures.spare_capacity ∙ i.up;
+      room = c.join.ensures.room ∙ i.room;
     }
 
 pub offset_bounds-others-level : goal.offset_bounds-others-level
@@ -153,9 +139,5 @@ returns g c =
       joined = all-joined-to g.met.T.Ord.total _ _ _ _ c.requires.levels.placed c.loop-level.level _ end i.joined;
       count = count;
       spare = subst (λ (n : ℕ). n < vec_capacity c.loop-level.levels) (sym (c.loop-level.levels.ok.0 ∙ count)) i.spare;
-      merged = i.merged;
-      empty = i.empty;
-      coming = i.coming;
-      nothing = i.nothing;
-      up = i.up;
+      room = i.room;
     }

@@ -12,9 +12,5 @@ invariant-loop-level g l =
       spare : max (length ls) (length l.others) < vec_capacity l.levels;
       enough : length l.others ≤ length l.clones.items;
       cloned : (h : ℕ) → l.level ≤ h → h < length l.others → HasClones g.T.Ord.cmp ls l.others l.clones.items h;
-      merged : l.buffers.merged ≡ l.initial.buffers.merged;
-      empty : l.buffers.coming.items ≡ [];
-      coming : vec_capacity l.buffers.coming ≡ vec_capacity l.initial.buffers.coming;
-      nothing : l.buffers.up.items ≡ [];
-      up : vec_capacity l.buffers.up ≡ vec_capacity l.initial.buffers.up;
+      room : vec_capacity l.room ≡ vec_capacity l.initial.room;
     }

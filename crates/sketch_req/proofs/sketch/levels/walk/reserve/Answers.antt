@@ -17,7 +17,7 @@ use Rattle.sketch_req.proofs.WalkSteps.{own-there}
 use Rattle.sketch_req.proofs.sketch.levels.walk.reserve.Given.{Over}
 use Rattle.sketch_req.proofs.sketch.levels.walk.reserve.Goals as goal
 use Rattle.sketch_req.proofs.sketch.levels.walk.reserve.Goals.at as past
-use Rattle.sketch_req.proofs.sketch.levels.walk.reserve.Goals.{After-count_at-in-loop-level, After-max-most, After-parameters-k, Joined-came-gt0, then-came-gt0, else-came-gt0}
+use Rattle.sketch_req.proofs.sketch.levels.walk.reserve.Goals.{After-count_at-in-loop-level, After-max-most, After-parameters-k, Joined-risen-gt0, then-risen-gt0, else-risen-gt0}
 
 -- the greater of two numbers
 at-most-greater : (greater m n : ℕ) → greater ≡ ord_max nat_cmp m n → (m ≤ greater) × (n ≤ greater)
@@ -78,11 +78,12 @@ most_is : (g : Over) (c : After-max-most g) →
     (c.loop-level.most ≤ c.max-most.result) × (c.count_at.result + c.count_at-in-loop-level.result + c.loop-level.came ≤ c.max-most.result)
 most_is g c = at-most-greater _ _ _ c.max-most.ensures
 
--- if any items come, there is space for all
-spaced : (g : Over) (c : Joined-came-gt0 g) → 0 < c.loop-level.came → c.count_at.result + c.count_at-in-loop-level.result + c.loop-level.came ≤ c.if-came-gt0.space
-spaced g c some = elim c.if-came-gt0.branch [
-  | then-came-gt0 w ↦ omega (arith, w.space-is)
-  | else-came-gt0 w ↦ absurd (omega (arith, some, w.if-came-gt0.false))
+-- if any items come up, there is space for all
+spaced : (g : Over) (c : Joined-risen-gt0 g) → 0 < c.loop-level.level → 0 < c.loop-level.came →
+    c.count_at.result + c.count_at-in-loop-level.result + c.loop-level.came ≤ c.if-risen-gt0.space
+spaced g c up some = elim c.if-risen-gt0.branch [
+  | then-risen-gt0 w ↦ omega (arith, w.space-is)
+  | else-risen-gt0 w ↦ absurd (omega (arith, some, up, w.if-risen-gt0.false, c.min-risen.ensures))
 ]
 
 pub loop-level-preserved : goal.loop-level-preserved
@@ -111,7 +112,7 @@ loop-level-preserved g c =
         | inr high ↦
             let place : at ≡ h = omega (arith, l, high) in
             let came = own-reserved c.loop-level.came count (vec_capacity new) (layout_at both at) (ap (λ (n : ℕ). n + c.loop-level.came) held)
-            (λ some. omega (arith, spaced g (past.loop-level-preserved g c).Joined-came-gt0 some, c.in_ok-with_capacity.ensures.capacity)) in
+            (λ some. omega (arith, spaced g (past.loop-level-preserved g c).Joined-risen-gt0 (omega (arith, place, q)) some, c.in_ok-with_capacity.ensures.capacity)) in
             rw (read-last space 0 _ _ new c.push_reserved.ensures.items h (long ∙ place), sym place) (planned-own k at c.loop-level.came (vec_capacity new) start both i.planned came j (place ∙ q))
       ];
     }
