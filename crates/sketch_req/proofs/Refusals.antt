@@ -1,7 +1,6 @@
 -- Calls that return an error or are not refused: what their clauses say, and the numbers that decide it.
-use Rattle.std.proofs.Common.{◌≡◌, ◌⊎◌, ◌↔◌, ◌≢◌, ◌+◌, ◌-◌, ◌/◌, ◌<◌, ◌≤◌, ◌^◌, ◌∙◌, ℕ, Bool, true, false, not, Option, None, Some, Result, IsTrue, IfErr, inl, inr, refl, sym, ap, arith, List, [], ◌∷◌, ◌++◌, length}
+use Rattle.std.proofs.Common.{◌≡◌, ◌⊎◌, ◌↔◌, ◌≢◌, ◌+◌, ◌-◌, ◌/◌, ◌<◌, ◌≤◌, ◌^◌, ◌∙◌, ℕ, Bool, true, false, not, Option, None, Some, Result, IsTrue, IfErr, inl, inr, refl, sym, ap, arith, List, [], ◌∷◌, ◌++◌, length, Ok, Err}
 use Rattle.std.proofs.lemmas.Bool.{false≢true}
-use Rattle.std.specs.Int.{w64, to_le_bytes}
 use Rattle.std.proofs.lemmas.Result.{IfErr-weaker}
 use Rattle.sketch_base.specs.Views.{IsThere}
 use Rattle.sketch_base.specs.declared.error.ErrorKind.{ErrorKind}
@@ -9,15 +8,11 @@ use Rattle.sketch_base.specs.declared.error.ErrorKind.TheVariants.{InvalidArgume
 use Rattle.sketch_base.proofs.Exits.{memory_not_argument, memory_not_data}
 use Rattle.sketch_req.specs.Held.{Held}
 use Rattle.sketch_req.specs.Sketch.{sketch_of}
-use Rattle.sketch_req.specs.Updates.{IsDrawnFrom}
 
 -- levels that are kept make the same sketch
 pub same_sketch : {A : Type 0} (n : ℕ) (least greatest : Option A) {held old : Held A} → held ≡ old →
     sketch_of held.k held.accuracy n held.levels least greatest ≡ sketch_of old.k old.accuracy n old.levels least greatest
 same_sketch {A} n least greatest e = ap (λ (h : Held A). sketch_of h.k h.accuracy n h.levels least greatest) e
-
-pub none_drawn : {S : Type 0} (next : S → S) (most : ℕ) (source : S) → IsDrawnFrom next most source source
-none_drawn next most source = record { count = 0; few = omega arith; after_is = refl }
 
 -- what holds if and only if a flag is set doesn't hold if it isn't
 pub not_flagged : {P : Type 0} {b : Bool} → (IsTrue b ↔ P) → b ≡ false → P → ⊥
@@ -33,15 +28,6 @@ items_fit e fits told off (inr many) = false≢true (sym off ∙ told.1 (inr man
 pub weight_fits : {n : ℕ} (l : ℕ) → l ≤ 2 ^ 64 - 1 - n → n < 2 ^ 64 → n + l < 2 ^ 64
 weight_fits l most fits = omega (arith, most, fits)
 
--- and those whose number is
-pub too_heavy : {n m : ℕ} (l : ℕ) → n ≡ m → 2 ^ 64 - 1 - n < l → 2 ^ 64 ≤ m + l
-too_heavy l same over = omega (arith, over, same)
-
--- a full sketch takes in no items
-pub none_fit : {m l r : ℕ} {full : Bool} → (IsTrue full ↔ ((m ≡ 2 ^ 64 - 1) ⊎ (r ≡ 4294967295))) → full ≡ true → (l ≡ 0 → ⊥) →
-    (2 ^ 64 ≤ m + l) ⊎ ((0 < l) × (r ≡ 4294967295))
-none_fit told on some = elim (told.0 on) [ inl all ↦ inl (omega (arith, all, some)) | inr most ↦ inr (omega (arith, some), most) ]
-
 pub not_both : (m l : ℕ) {r : ℕ} → (2 ^ 64 ≤ m + l) ⊎ ((0 < l) × (r ≡ 4294967295)) → m + l < 2 ^ 64 → r < 4294967295 → ⊥
 not_both m l (inl heavy) light few = omega (arith, heavy, light)
 not_both m l (inr many) light few = omega (arith, many.1, few)
@@ -50,18 +36,10 @@ pub not_full_both : {n r : ℕ} → (n ≡ 2 ^ 64 - 1) ⊎ (r ≡ 4294967295) �
 not_full_both (inl all) light few = omega (arith, all, light)
 not_full_both (inr most) light few = omega (arith, most, few)
 
-pub next_fits : {n : ℕ} → n < 2 ^ 64 - 1 → n + 1 < 2 ^ 64
-next_fits small = omega (arith, small)
-
 -- no items leave the weight as it is
 pub light_still : {n m l r : ℕ} → n ≡ m → n < 2 ^ 64 → l ≡ 0 → (2 ^ 64 ≤ m + l) ⊎ ((0 < l) × (r ≡ 4294967295)) → ⊥
 light_still e fits none (inl heavy) = omega (arith, e, fits, none, heavy)
 light_still e fits none (inr many) = omega (arith, none, many.0)
-
--- what isn't granted is refused
-pub flagged : (b : Bool) → (not b ≡ true → false ≡ true) → b ≡ true
-flagged true told = refl
-flagged false told = absurd (false≢true (told refl))
 
 -- a merge that is refused, by its reasons
 pub not_apart : {A : Type 0} {a b : A} (x y : ℕ) → (a ≢ b) ⊎ ((2 ^ 64 ≤ x) ⊎ (2 ^ 32 ≤ y)) → a ≡ b → x < 2 ^ 64 → y < 2 ^ 32 → ⊥
@@ -83,9 +61,6 @@ two_some e some = omega (arith, e, some)
 pub pushed_alone : {A : Type 0} {xs ys : List A} {x : A} → ys ≡ xs ++ x ∷ [] → xs ≡ [] → ys ≡ x ∷ []
 pushed_alone {A} {x = x} e none = e ∙ ap (λ (zs : List A). zs ++ x ∷ []) none
 
-pub one_counted : {A : Type 0} {xs : List A} {x : A} → xs ≡ x ∷ [] → 0 < length xs
-one_counted e = omega (arith, ap length e)
-
 pub from_zero : {n most : ℕ} → n ≤ most → 0 + n ≤ most
 from_zero few = omega (arith, few)
 
@@ -98,22 +73,11 @@ both_fit e f fits = omega (arith, e, f, fits)
 
 -- ---- images
 
--- a text of fewer than 8 bytes begins with no weight
-pub no_weight : {text behind : List ℕ} (n : ℕ) → length text < 8 → text ≡ to_le_bytes w64 n ++ behind → ⊥
-no_weight n short e = omega (arith, short, ap length e)
-
 pub still_many : {p q l n : ℕ} → p ≡ q → p ≡ l → 5 ≤ q → n ≡ l → 4 < n
 still_many e f many g = omega (arith, e, f, many, g)
 
 pub few_counted : {n m most : ℕ} → n ≡ m → m ≤ most → n ≤ most
 few_counted e few = omega (arith, e, few)
-
--- a level of more than four items
-pub over_four : {n m : ℕ} → n ≡ m → 4 < n → m ≤ 4 → ⊥
-over_four e many few = omega (arith, e, many, few)
-
-pub five_some : {n m : ℕ} → n ≡ m → 4 < n → 0 < m
-five_some e many = omega (arith, e, many)
 
 pub many_counted : {n m l : ℕ} → l ≡ m → n ≡ m → 4 < n → 5 ≤ l
 many_counted f e many = omega (arith, e, f, many)
