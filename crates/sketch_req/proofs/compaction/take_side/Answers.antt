@@ -1,5 +1,5 @@
-use Rattle.std.proofs.Common.{◌≡◌, ℕ, ◌-◌, ◌*◌, ◌%◌, ◌≤◌, vec_capacity, List, length, take, drop, reverse, sym, ap, subst, not, arith, ◌∙◌, length-take}
-use Rattle.std.proofs.lemmas.List.{length-reverse, reverse-reverse}
+use Rattle.std.proofs.Common.{◌≡◌, ℕ, ◌-◌, ◌%◌, List, length, take, reverse, sym, ap, subst, not, arith, length-take}
+use Rattle.std.proofs.lemmas.List.{reverse-reverse}
 use Rattle.sketch_base.specs.Bag.{half}
 use Rattle.sketch_base.proofs.MovedHalves.{half_reverse}
 use Rattle.sketch_req.specs.Level.{side_kept, side_taken}
