@@ -1,12 +1,11 @@
 -- What the calls that build a view give: the view of joined items, that of no items, or an error.
-use Rattle.std.proofs.Common.{Bool, true, false, if◌then◌else◌, ◌≡◌, ℕ, ◌<◌, List, [], ◌∷◌, length, map, refl, sym, ap₂, ◌∙◌, subst, arith, Ordering, IsPermutation, IsSorted}
-use Rattle.std.specs.Prelude.{Option, None}
+use Rattle.std.proofs.Common.{Bool, if◌then◌else◌, ◌≡◌, ℕ, ◌<◌, List, [], ◌∷◌, length, map, refl, arith, Ordering, IsPermutation, IsSorted}
+use Rattle.std.specs.Prelude.{Option}
 use Rattle.std.specs.Cmp.{IsTotalOrder}
 use Rattle.std.specs.List.{All}
-use Rattle.std.proofs.lemmas.Grind.{common_steps}
 use Rattle.sketch_base.specs.Bag.{SameItems, sort}
 use Rattle.sketch_base.specs.Pairs.{copies, distinct, extreme_among, joined, joined_weights}
-use Rattle.sketch_base.specs.Views.{IsView, View, view_of}
+use Rattle.sketch_base.specs.Views.{View, view_of}
 use Rattle.sketch_base.proofs.JoinedViews.{held-joined, joined-entries}
 
 -- the view of weighted items, and their extremes if there are any
@@ -19,19 +18,6 @@ pub record IsBuilt {A : Type 0} (cmp : A → A → Ordering) (joins : Bool) (pai
 extreme-there : {A B : Type 0} (ws : List B) (extreme : Option A) → 0 < length ws → extreme ≡ extreme_among ws extreme
 extreme-there [] extreme h = absurd (omega (arith, h))
 extreme-there (w ∷ ws) extreme h = refl
-
--- if there are no items
-pub built-empty : {A : Type 0} (cmp : A → A → Ordering) (joins : Bool) (pairs : List (A × ℕ)) (least greatest : Option A) (v : View A) (xs : List A)
-    (cumulated : List ℕ) → v ≡ view_of xs cumulated None None → xs ≡ [] → cumulated ≡ [] → pairs ≡ [] → IsBuilt cmp joins pairs least greatest v
-built-empty {A} cmp joins pairs least greatest v xs cumulated is no_items no_weights none =
-    let empty : View A = view_of [] [] None None in
-    let start : IsBuilt {A = A} cmp joins [] least greatest empty =
-    record { entries = tt; held_is = elim joins as (λ (b : Bool). 0 ≡ (if b then 0 else 0)) [ true ↦ refl | false ↦ refl ]; least_is = refl; greatest_is = refl } in
-    let e : v ≡ empty = is ∙ ap₂ (λ (ys : List A) (ns : List ℕ). view_of ys ns None None) no_items no_weights in
-    subst (λ (u : View A). IsBuilt cmp joins pairs least greatest u) (sym e) (subst (λ (ps : List (A × ℕ)). IsBuilt cmp joins ps least greatest empty) (sym none) start)
-
-pub empty-view : {A : Type 0} (cmp : A → A → Ordering) (xs : List A) (cumulated : List ℕ) → xs ≡ [] → cumulated ≡ [] → IsView cmp xs cumulated None None
-empty-view {A} cmp xs cumulated e f = grind (arith, common_steps)
 
 -- the items that were kept
 pub built-joined : {A : Type 0} {cmp : A → A → Ordering} → IsTotalOrder cmp → (joins : Bool) (weighted pairs : List (A × ℕ)) → IsPermutation weighted pairs →

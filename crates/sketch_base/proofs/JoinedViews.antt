@@ -258,6 +258,3 @@ module _ {A : Type 0} {cmp : A → A → Ordering} (order : IsTotalOrder cmp) wh
       sym (distinct-spread 0 (joined cmp true pairs) (joined_weights cmp true 0 pairs) (same-length cmp true 0 pairs)
       (climbs-joined cmp true 0 0 pairs (omega arith) (weigh true weighted pairs same sorted weights)) (below-joined pairs (up true weighted pairs same sorted weights)))
 
-pub some-unless_none : (n : ℕ) → (n ≡ 0 → false ≡ true) → 0 < n
-some-unless_none zero h = absurd (false≢true (h refl))
-some-unless_none (suc n) h = omega arith

@@ -1,6 +1,5 @@
 -- Calls that are refused or aren't: what their clauses say, and the numbers that decide it.
-use Rattle.std.proofs.Common.{◌≡◌, ◌+◌, ◌-◌, ◌<◌, ◌≤◌, ◌^◌, ℕ, true, false, Result, Ok, Err, arith}
-use Rattle.std.proofs.lemmas.Bool.{false≢true}
+use Rattle.std.proofs.Common.{◌≡◌, ◌+◌, ◌-◌, ◌<◌, ◌≤◌, ◌^◌, ℕ, Result, Ok, Err, arith}
 use Rattle.sketch_base.specs.declared.error.ErrorKind.{ErrorKind}
 use Rattle.sketch_base.specs.declared.error.ErrorKind.TheVariants.{InvalidArgument, OutOfMemory}
 use Rattle.sketch_base.proofs.Exits.{no_error, other_kind}
@@ -44,8 +43,3 @@ not_between low high = omega (arith, low, high)
 
 pub not_heavy : {n : ℕ} → n < 2 ^ 64 → 2 ^ 64 ≤ n → ⊥
 not_heavy light heavy = omega (arith, light, heavy)
-
--- ---- queries
-
-pub none_among : {n m : ℕ} → n ≡ m → n ≡ 0 → (false ≡ true → 0 < m) × (0 < m → false ≡ true)
-none_among e none = (λ is. absurd (false≢true is), λ some. absurd (none_not e none some))

@@ -1,18 +1,17 @@
 -- A bag and its view: the view's answers are those of the bag's expanded list.
-use Rattle.std.proofs.Common.{◌≡◌, ℕ, suc, ◌*◌, ◌+◌, ◌^◌, Bool, List, [], ◌∷◌, length, sum_by, refl, sym, ap, ap₂, ◌∙◌, subst, arith, if◌then◌else◌, Result, Ok, Err, Ordering, Equal}
-use Rattle.std.specs.Prelude.{Option, None, Some, IfOk, slice_get, ◌==◌}
+use Rattle.std.proofs.Common.{◌≡◌, ℕ, suc, ◌*◌, ◌+◌, ◌^◌, List, [], ◌∷◌, length, sum_by, refl, sym, ap₂, ◌∙◌, subst, arith, Result, Ok, Err, Ordering, Equal}
+use Rattle.std.specs.Prelude.{Option, Some, IfOk}
 use Rattle.std.specs.Cmp.{IsTotalOrder}
 use Rattle.std.specs.declared.alloc.Global.{Global}
 use Rattle.std.specs.declared.vec.Vec.{Vec}
-use Rattle.std.proofs.lemmas.List.{nil_from_length}
 use Rattle.std.proofs.lemmas.List.Sums.{sum_by-cons}
 use Rattle.std.proofs.lemmas.List.Elements.{length_all_zip}
 use Rattle.sketch_base.specs.declared.common.Rank.{Rank}
 use Rattle.sketch_base.specs.declared.common.SearchCriteria.{SearchCriteria}
 use Rattle.sketch_base.specs.Bag.{Bag, SameItems, expanded, weigh, weight}
 use Rattle.sketch_base.specs.Queried.{AreAtFractions, AreQuantiles, IsCdf, IsQuantile, Masses, Queried, quantile_of}
-use Rattle.sketch_base.specs.Queries.{SameAnswer, cdf_of, quantile_in, quantile_place, ranks_of}
-use Rattle.sketch_base.specs.Views.{IsThere, IsViewOf, View, queried_view}
+use Rattle.sketch_base.specs.Queries.{SameAnswer, cdf_of, ranks_of}
+use Rattle.sketch_base.specs.Views.{IsViewOf, View, queried_view}
 use Rattle.sketch_base.specs.declared.error.ErrorKind.{ErrorKind}
 use Rattle.sketch_base.proofs.Answered.{wanted-too}
 use Rattle.sketch_base.proofs.Counts.{SameCounts-from_items}
@@ -32,27 +31,6 @@ weigh-ones h (l ∷ ls) = ap₂ (λ m n. 2 ^ h * m + n) (sum-ones l) (weigh-ones
 -- the length of the expanded list is the bag's weight
 pub length-expanded : {A : Type 0} (cmp : A → A → Ordering) (bag : Bag A) → length (expanded cmp bag) ≡ weight bag
 length-expanded cmp bag = sym (sum-ones (expanded cmp bag)) ∙ (sum_by-expanded (λ x. 1) cmp bag ∙ weigh-ones 0 bag.levels)
-
-none-there : {A : Type 0} (o : Option A) (n : ℕ) → IsThere o n → n ≡ 0 → o ≡ None
-none-there None n h z = refl
-none-there (Some x) n h z = absurd (omega (arith, h, z))
-
-if-none : {A : Type 0} (b : Bool) (x y : Option A) → x ≡ None → y ≡ None → (if b then x else y) ≡ None
-if-none b x y h k = grind arith
-
--- a bag without items has no quantiles
-pub quantile-empty : {A : Type 0} (cmp : A → A → Ordering) (bag : Bag A) (n : ℕ) (least greatest : Option A) (fraction : Rank) (criteria : SearchCriteria) → weight bag ≡ n →
-    IsThere least n → IsThere greatest n → n ≡ 0 →
-    SameAnswer cmp (quantile_in (expanded cmp bag) least greatest fraction.weight fraction.total criteria) None
-quantile-empty cmp bag n least greatest fraction criteria weighs l g z =
-    let a = fraction.weight in
-    let b = fraction.total in
-    let entries = expanded cmp bag in
-    let none : entries ≡ [] = nil_from_length entries (length-expanded cmp bag ∙ (weighs ∙ z)) in
-    let got : slice_get entries (quantile_place (length entries) a b criteria) ≡ None = ap (λ l. slice_get l (quantile_place (length entries) a b criteria)) none in
-    let empty = if-none (a == 0) least (if a == b then greatest else slice_get entries (quantile_place (length entries) a b criteria)) (none-there least n l z)
-    (if-none (a == b) greatest (slice_get entries (quantile_place (length entries) a b criteria)) (none-there greatest n g z) got) in
-    subst (λ q. SameAnswer cmp q None) (sym empty) tt
 
 -- what queries see of a bag of weight n with these extremes
 abbrev pub bag_queried : {A : Type 0} → (A → A → Ordering) → Bag A → ℕ → Option A → Option A → Queried A

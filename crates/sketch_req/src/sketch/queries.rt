@@ -26,9 +26,7 @@ use sketch_base::error::Error;
 use sketch_base::weighted::push_clones;
 use std::alloc::{AllocError, Global};
 
-/// The most split points for which `cdf` takes a rank each; for more it makes a sorted view. A rank
-/// looks at all items that are not sorted yet, so a view takes as long as 120 ranks at k 12, and as
-/// long as 300 at k 1024.
+/// The most split points for which `cdf` takes a rank each; for more it makes a sorted view.
 const FEW_POINTS: usize = 64;
 
 impl<T: Clone + Ord> ReqSketch<T> {

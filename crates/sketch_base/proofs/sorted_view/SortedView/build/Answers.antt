@@ -1,31 +1,28 @@
-use Rattle.std.proofs.Common.{◌≡◌, ◌∙◌, ℕ, List, ap, subst, subst₂, map, reverse, sym, arith, IsSorted, IsPermutation, is_lt, rules, of_calls}
+use Rattle.std.proofs.Common.{arith, rules, ◌≡◌, ◌∙◌, ℕ, List, ap, subst, subst₂, map, reverse, sym, IsSorted, IsPermutation, is_lt, of_calls}
 use Rattle.std.proofs.lemmas.Fn.{always_returns_same}
-use Rattle.std.proofs.lemmas.List.{nil_from_length, reverse-reverse}
+use Rattle.std.proofs.lemmas.List.{reverse-reverse}
 use Rattle.std.proofs.lemmas.List.Sorted.{ranks_by, sum_by-IsPermutation}
-use Rattle.std.proofs.lemmas.Result.{IfOk-from_err, MatchResult-from_err}
 use Rattle.sketch_base.specs.Views.{IsView}
-use Rattle.sketch_base.proofs.Exits.{error_known}
-use Rattle.sketch_base.proofs.BuiltViews.{built-empty, built-joined, empty-view}
-use Rattle.sketch_base.proofs.JoinedViews.{joined-view, some-unless_none, sorted-items}
+use Rattle.sketch_base.proofs.BuiltViews.{built-joined}
+use Rattle.sketch_base.proofs.JoinedViews.{joined-view, sorted-items}
 use Rattle.sketch_base.proofs.MovedCounts.{some-unless_zero}
 use Rattle.sketch_base.proofs.sorted_view.SortedView.build.Given.{Over}
 use Rattle.sketch_base.proofs.sorted_view.SortedView.build.Goals.{After-reverse}
-use Rattle.sketch_base.proofs.RoomCounts.{same-room}
 use Rattle.sketch_base.proofs.sorted_view.SortedView.build.Goals as goal
 use Rattle.sketch_base.proofs.sorted_view.SortedView.build.Goals.at as past
 
 -- the weighted items as they are joined, from the last to the first
 module _ (g : Over) (c : After-reverse g) where
-  turned : reverse c.reverse.new.self.items ≡ c.sort_unstable_by.new.self.items
-  turned = ap reverse c.reverse.ensures.items ∙ reverse-reverse c.sort_unstable_by.new.self.items
+  turned : reverse c.reverse.new.self.items ≡ c.sort_by.new.self.items
+  turned = ap reverse c.reverse.ensures.items ∙ reverse-reverse c.sort_by.new.self.items
 
   moved : IsPermutation c.args.weighted.items (reverse c.reverse.new.self.items)
-  moved = subst (λ (pairs : List (g.row.T.Denot × ℕ)). IsPermutation c.args.weighted.items pairs) (sym turned) c.sort_unstable_by.ensures.permutation
+  moved = subst (λ (pairs : List (g.row.T.Denot × ℕ)). IsPermutation c.args.weighted.items pairs) (sym turned) c.in_ok-sort_by.ensures.permutation
 
   sorted : IsSorted g.T.Ord.cmp (map (λ (pair : g.row.T.Denot × ℕ). pair.0) (reverse c.reverse.new.self.items))
   sorted =
-      subst (λ (pairs : List (g.row.T.Denot × ℕ)). IsSorted g.T.Ord.cmp (map (λ (pair : g.row.T.Denot × ℕ). pair.0) pairs)) (sym turned) (sorted-items g.T.Ord.cmp c.sort_unstable_by.new.self.items
-      (c.sort_unstable_by.ensures.sorted (λ (a b : g.row.T.Denot × ℕ). is_lt (g.T.Ord.cmp a.0 b.0)) (ranks_by g.met.T.Ord.total (λ (p : g.row.T.Denot × ℕ). p.0))
+      subst (λ (pairs : List (g.row.T.Denot × ℕ)). IsSorted g.T.Ord.cmp (map (λ (pair : g.row.T.Denot × ℕ). pair.0) pairs)) (sym turned) (sorted-items g.T.Ord.cmp c.sort_by.new.self.items
+      (c.in_ok-sort_by.ensures.sorted (λ (a b : g.row.T.Denot × ℕ). is_lt (g.T.Ord.cmp a.0 b.0)) (ranks_by g.met.T.Ord.total (λ (p : g.row.T.Denot × ℕ). p.0))
       (always_returns_same _ _ _ (λ a r f k. search (rules, of_calls)))))
 
 pub cumulate-requires-clause-fits : goal.cumulate-requires-clause-fits
@@ -41,9 +38,6 @@ from_cumulated-requires-2 g c =
     (sym c.cumulate.ensures.weights)
     (joined-view g.met.T.Ord.total c.args.joins _ _ (moved g after) (sorted g after) c.requires.weights c.args.min_item c.args.max_item some (c.requires.least some) (c.requires.greatest some))
 
-pub from_cumulated-requires : goal.from_cumulated-requires
-from_cumulated-requires g c = empty-view g.T.Ord.cmp _ _ c.in_ok-items.ensures.items c.in_ok-cumulated.ensures.items
-
 pub returns : goal.returns
 returns g c =
     let after = (past.returns g c).After-reverse in
@@ -52,50 +46,3 @@ returns g c =
     c.from_cumulated-2.ensures
     c.cumulate.ensures.items c.cumulate.ensures.weights some in
     record { entries = b.entries; held = b.held_is; least = b.least_is; greatest = b.greatest_is; memory = tt; none = tt }
-
-pub returns-then-count-eq0 : goal.returns-then-count-eq0
-returns-then-count-eq0 g c =
-    let none = nil_from_length c.args.weighted.items (sym c.args.weighted.ok.0 ∙ (sym c.len-count.ensures ∙ c.if-count-eq0.true)) in
-    let b = built-empty g.T.Ord.cmp c.args.joins c.args.weighted.items c.args.min_item c.args.max_item _ _ _ c.from_cumulated.ensures
-    c.in_ok-items.ensures.items
-    c.in_ok-cumulated.ensures.items none in
-    record { entries = b.entries; held = b.held_is; least = b.least_is; greatest = b.greatest_is; memory = tt; none = tt }
-
-pub returns-in_err-items : goal.returns-in_err-items
-returns-in_err-items g c =
-    let r = c.from_residual.result in
-    let err = c.from_residual.ensures.0 in
-    record {
-      entries = IfOk-from_err r _ err;
-      held = IfOk-from_err r _ err;
-      least = IfOk-from_err r _ err;
-      greatest = IfOk-from_err r _ err;
-      memory = error_known r _ c.from_residual.ensures.1;
-      none = MatchResult-from_err r _ _ err (λ e. some-unless_none _ (λ z. c.in_err-items.ensures.succeeds (c.len-count.ensures ∙ (c.args.weighted.ok.0 ∙ z))));
-    }
-
-pub returns-in_err-cumulated : goal.returns-in_err-cumulated
-returns-in_err-cumulated g c =
-    let r = c.from_residual-in_err-cumulated.result in
-    let err = c.from_residual-in_err-cumulated.ensures.0 in
-    record {
-      entries = IfOk-from_err r _ err;
-      held = IfOk-from_err r _ err;
-      least = IfOk-from_err r _ err;
-      greatest = IfOk-from_err r _ err;
-      memory = error_known r _ c.from_residual-in_err-cumulated.ensures.1;
-      none = MatchResult-from_err r _ _ err
-          (λ e. some-unless_none _ (λ z. c.in_err-cumulated.ensures.succeeds (c.len-count.ensures ∙ (c.args.weighted.ok.0 ∙ z))));
-    }
-
-pub cumulate-requires-clause-items : goal.cumulate-requires-clause-items
-cumulate-requires-clause-items g c = c.in_ok-items.ensures.items
-
-pub cumulate-requires-clause-weights : goal.cumulate-requires-clause-weights
-cumulate-requires-clause-weights g c = c.in_ok-cumulated.ensures.items
-
-pub cumulate-requires-clause-room : goal.cumulate-requires-clause-room
-cumulate-requires-clause-room g c = same-room _ _ _ _ _ c.reverse.ensures.len c.sort_unstable_by.ensures.len c.len-count.ensures c.in_ok-items.ensures.capacity
-
-pub cumulate-requires-clause-weights_room : goal.cumulate-requires-clause-weights_room
-cumulate-requires-clause-weights_room g c = same-room _ _ _ _ _ c.reverse.ensures.len c.sort_unstable_by.ensures.len c.len-count.ensures c.in_ok-cumulated.ensures.capacity

@@ -1,15 +1,8 @@
-use Rattle.std.proofs.Common.{◌∙◌, is_some, ap, length, refl, subst, sym, List, map}
-use Rattle.std.proofs.lemmas.Bool.{false≢true}
-use Rattle.std.specs.List.Sorted.{IsNonDecreasing}
-use Rattle.sketch_base.specs.declared.common.Rank.{Rank}
+use Rattle.std.proofs.Common.{is_some, ap, length, refl}
 use Rattle.sketch_base.specs.Queries.{cdf_of}
-use Rattle.sketch_base.proofs.Answered.{answer-too, passed, told-fit}
+use Rattle.sketch_base.proofs.Answered.{answer-too, told-fit}
 use Rattle.sketch_base.proofs.Distributions.{differences-left, increasing-told, ranks-sum}
 use Rattle.sketch_base.proofs.sorted_view.SortedView.pmf.Goals as goal
-
-pub take_differences-requires : goal.take_differences-requires
-take_differences-requires g c =
-    subst (λ (l : List Rank). IsNonDecreasing (map (λ (r : Rank). r.weight) l)) (sym c.as_mut_slice.ensures.value) (rw c.in-Some.is at c.in_ok-ranks.ensures.rises)
 
 pub returns : goal.returns
 returns g c =
@@ -23,11 +16,3 @@ returns g c =
       weights = answer-too _ told (λ t. some, λ t. refl) found;
       sums = ranks-sum g.met.T.Ord.total c.args.criteria entries c.args.points.now (length entries) _ (increasing-told g.T.Ord.cmp c.args.points.now (told-fit told)) found;
     }
-
-pub returns-in_err-ranks-clause-weights : goal.returns-in_err-ranks-clause-weights
-returns-in_err-ranks-clause-weights g c = passed _ c.from_residual.ensures.1 c.in_err-ranks.ensures.ranks
-
-pub returns-in_default-clause-weights : goal.returns-in_default-clause-weights
-returns-in_default-clause-weights g c =
-    let told = c.in_ok-ranks.ensures.ranks in
-    answer-too _ told (λ t. absurd (false≢true t), λ some. sym (ap (λ o. is_some o) c.in_default.is) ∙ told.there.1 some) tt
