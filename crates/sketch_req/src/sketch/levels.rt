@@ -84,6 +84,7 @@ impl<T: Clone + Ord> Levels<T> {
 
     /// Appends an item to level 0, and walks over the levels if they are then full together. An
     /// error is `OutOfMemory`, and leaves the levels and the source of coins unchanged.
+    #[inline(never)]
     pub(crate) fn append<B: RandomBits>(&mut self, item: T, coins: &mut B) -> Result<(), Error>
         requires clones { (x y : T) → T.is_clone x y → T.cmp x y ≡ Equal }
         requires fits { weight_of (layouts_of self.old.levels) < 2 ^ 64 - 1 }
@@ -176,7 +177,9 @@ impl<T: Clone + Ord> Levels<T> {
         let mut buffers = reserve(alloc, self.compactors.as_slice(), more, 0)?;
         let new = more.len().saturating_sub(self.compactors.len());
         self.compactors.reserve_exact(new + 1)?;
-        join_levels(&mut self.compactors, more, &mut clones, &mut buffers.up);
+        let (room, spare) = (&mut buffers.up, &mut buffers.coming);
+        join_levels(&mut self.compactors, more, &mut clones, room, spare);
+        buffers.coming.clear();
         buffers.up.clear();
         redraw_if(redraws, &mut self.compactors, coins);
         let (num_retained, capacity) = sums(self.compactors.as_slice());

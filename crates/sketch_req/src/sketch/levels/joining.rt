@@ -33,12 +33,13 @@ pub(super) fn clone_items<T: Clone + Ord>(
 }
 
 /// Joins clones of the other levels' items into the levels at the same places. Missing levels are
-/// added. The items of `room` are lost.
+/// added. `room` and `spare` lose their items.
 pub(super) fn join_levels<T: Clone + Ord>(
     levels: &mut Vec<Compactor<T>>,
     others: &[Compactor<T>],
     clones: &mut Vec<Vec<T>>,
     room: &mut Vec<T>,
+    spare: &mut Vec<T>,
 )
     requires levels { AreHeld T.cmp levels.old.items }
     requires others { AreLevels T.cmp (k_of others.now) (accuracy_of levels.old.items) 0
@@ -56,11 +57,12 @@ pub(super) fn join_levels<T: Clone + Ord>(
     ensures count { length levels.new.items ≡ max (length levels.old.items) (length others.now) }
     ensures spare { vec_len levels.new < vec_capacity levels.new }
     ensures room { vec_capacity room.new ≡ vec_capacity room.old }
+    ensures spare_room { vec_capacity spare.new ≡ vec_capacity spare.old }
 {
     let (k, rank_accuracy) = levels[0].parameters();
     for level in 0..others.len() {
         add_level(levels, level, k, rank_accuracy);
         let clones = &mut clones[level];
-        levels[level].join(&others[level], clones, room);
+        levels[level].join(&others[level], clones, room, spare);
     }
 }

@@ -26,6 +26,7 @@ loop-level-init g c =
       enough = subst (λ (n : ℕ). length c.args.others.now ≤ n) (length-map c.args.clones.now.items (λ v. v.items)) c.requires.cloned.enough;
       cloned = λ h l m. c.requires.cloned.cloned h m;
       room = refl;
+      spare_room = refl;
     }
 
 -- the level was there, or was added
@@ -121,6 +122,7 @@ loop-level-preserved g c =
       enough = subst (λ (n : ℕ). length c.args.others.now ≤ n) (sym (length-set clones c.loop-level.level _)) i.enough;
       cloned = λ h l m. let other = places-above _ h l in cloned-other g.T.Ord.cmp _ _ clones c.loop-level.level _ h other.0 (i.cloned h other.1 m);
       room = c.join.ensures.room ∙ i.room;
+      spare_room = c.join.ensures.spare ∙ i.spare_room;
     }
 
 pub offset_bounds-others-level : goal.offset_bounds-others-level
@@ -140,4 +142,5 @@ returns g c =
       count = count;
       spare = subst (λ (n : ℕ). n < vec_capacity c.loop-level.levels) (sym (c.loop-level.levels.ok.0 ∙ count)) i.spare;
       room = i.room;
+      spare_room = i.spare_room;
     }

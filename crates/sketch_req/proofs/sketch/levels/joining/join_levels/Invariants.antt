@@ -13,4 +13,5 @@ invariant-loop-level g l =
       enough : length l.others ≤ length l.clones.items;
       cloned : (h : ℕ) → l.level ≤ h → h < length l.others → HasClones g.T.Ord.cmp ls l.others l.clones.items h;
       room : vec_capacity l.room ≡ vec_capacity l.initial.room;
+      spare_room : vec_capacity l.spare ≡ vec_capacity l.initial.spare;
     }
