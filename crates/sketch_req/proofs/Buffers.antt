@@ -1,4 +1,5 @@
 -- The buffers of a walk's turns: what stays when those of one turn are set.
+use Rattle.std.proofs.lemmas.Grind.{common_steps}
 use Rattle.std.proofs.Common.{◌≢◌, ◌≡◌, ℕ, suc, ◌+◌, ◌<◌, ◌≤◌, List, length, map, get_or, set, sym, ap, ◌∙◌, arith, inl, inr}
 use Rattle.std.proofs.lemmas.Bool.{cases_lt}
 use Rattle.std.proofs.lemmas.List.{map-set, length-map, get_or-map, get_or-set_other, get_or-set_same}
@@ -27,26 +28,12 @@ module _ {A : Type 0} where
   pub own-more : (need : ℕ → ℕ) (buffers : List (Space A)) (own : Space A) (h : ℕ) → h < length buffers →
       ((j : ℕ) → suc j < h → need j ≤ get_or (merged_spaces buffers) (suc j) 0) → ((j : ℕ) → h ≡ suc j → need j ≤ own.merged_space) →
       (j : ℕ) → suc j < h + 1 → need j ≤ get_or (merged_spaces (set buffers h own)) (suc j) 0
-  own-more need buffers own h inside below here j within =
-      elim (cases_lt (suc j) h) [
-        | inl low ↦
-            let other : suc j ≢ h = omega (arith, low) in
-            omega (arith, below j low, read-other (λ b. b.merged_space) 0 buffers h own (suc j) other)
-        | inr high ↦
-            let place : h ≡ suc j = omega (arith, within, high) in
-            let set_here : get_or (merged_spaces (set buffers h own)) (suc j) 0 ≡ own.merged_space =
-            ap (λ (n : ℕ). get_or (merged_spaces (set buffers h own)) n 0) (sym place) ∙ read-here (λ b. b.merged_space) 0 buffers h own inside in
-            omega (arith, here j place, set_here)
-      ]
+  own-more need buffers own h inside below here j within = grind (arith, common_steps, cases_lt, read-other, read-here)
 
   -- other buffers with the same space serve too, and so does a vector with more space
   pub space-kept : (k : ℕ) (accuracy : RankAccuracy) (layouts : List Layout) (buffers news : List (Space A)) (most more : ℕ) → merged_spaces news ≡ merged_spaces buffers → most ≤ more →
       HaveSpace k accuracy layouts buffers most → HaveSpace k accuracy layouts news more
-  space-kept k accuracy layouts buffers news most more merged grows fit = record {
-    enough = omega (arith, fit.enough, ap length merged, length-map news (λ (b : Space A). b.merged_space), length-map buffers (λ (b : Space A). b.merged_space));
-    promoted = λ h within. omega (arith, fit.promoted h within, grows);
-    own = λ h within. omega (arith, fit.own h within, ap (λ (spaces : List ℕ). get_or spaces (suc h) 0) merged);
-  }
+  space-kept k accuracy layouts buffers news most more merged grows fit = grind (arith, common_steps, length-map)
 
 -- the places above one
 pub places-above : (h j : ℕ) → h + 1 ≤ j → (j ≢ h) × (h ≤ j)

@@ -1,4 +1,5 @@
 -- Along a trace whose compactions leave at least m items of their levels, counts on the accurate side are exact up to m.
+use Rattle.std.proofs.lemmas.Grind.{common_steps}
 use Rattle.std.proofs.Common.{◌≡◌, ◌≢◌, ℕ, ◌+◌, ◌≤◌, Bool, true, false, ◌&&◌, ◌||◌, ◌==◌, nat_le, IsTrue, if◌then◌else◌, List, [], ◌∷◌, length, drop, sum, slice_index, refl, sym, ap, ◌∙◌, subst, arith, eqb-true, leb-true, Ordering}
 use Rattle.std.proofs.lemmas.Bool.{and_parts, eqb-false}
 use Rattle.sketch_base.specs.Bag.{Bag, Taken, level_at}
@@ -17,11 +18,7 @@ module _ {A : Type 0} (cmp : A → A → Ordering) (test : A → Bool) (m : ℕ)
   -- counts that are exact up to m stay so after a change of one slot
   exact-changed : (f g : ℕ → ℕ) (leaves leaves' : ℕ → Bool) (s u v : ℕ) → ((i : ℕ) → leaves i ≡ true → IsExactUpTo m (g i) (f i)) → ((i : ℕ) → i ≢ s → leaves' i ≡ true → leaves i ≡ true) →
       (leaves' s ≡ true → IsExactUpTo m v u) → (i : ℕ) → leaves' i ≡ true → IsExactUpTo m (changed g s v i) (changed f s u i)
-  exact-changed f g leaves leaves' s u v inv same at i left = go (i == s) refl
-    where
-      go : (b : Bool) → (i == s) ≡ b → IsExactUpTo m (if b then v else g i) (if b then u else f i)
-      go true e = at (ap leaves' (sym (eqb-true i s e)) ∙ left)
-      go false e = inv i (same i (eqb-false i s e) left)
+  exact-changed f g leaves leaves' s u v inv same at i left = grind (arith, common_steps, eqb-true, eqb-false)
 
   -- what a slot holds is exact up to m, if its compactions left at least m items
   abbrev AreExact : World (Bag A) → (ℕ → ℕ) → (ℕ → Bool) → Type 0
@@ -55,26 +52,7 @@ module _ {A : Type 0} (cmp : A → A → Ordering) (test : A → Bool) (m : ℕ)
       exact-as m _ _ _ _ refl (sym (held-event test cmp (At s Clear) next world refl rule i))
       (exact-changed (held test world) ranks leaves (changed leaves s true) s 0 0 inv (λ j ne l. sym (changed-other leaves s true j ne) ∙ l)
       (λ l. record { same = λ le. refl; enough = omega arith }) i left)
-  exact-event (At s (Compact h coin taken)) next world ranks leaves rule inv i left = go (i == s) refl
-    where
-      n : ℕ
-      n = slice_index (bag_lengths (world.slots s)) h
-
-      fits : Bool
-      fits = side taken && nat_le (m + takes taken n) n
-
-      go : (b : Bool) → (i == s) ≡ b → IsExactUpTo m (ranks i) (held test (happens (act cmp) (At s (Compact h coin taken)) next world) i)
-      go true e =
-          let p = eqb-true i s e in
-          let own = and_parts (leaves s) (side taken && nat_le (m + takes taken (slice_index (bag_lengths (world.slots s)) h)) (slice_index (bag_lengths (world.slots s)) h))
-          (sym (changed-there leaves s _) ∙ subst (λ j. leaves_after {A = A} side m (At s (Compact h coin taken)) (world_lengths world) leaves j ≡ true) p left) in
-          let room = and_parts (side taken) (nat_le (m + takes taken (slice_index (bag_lengths (world.slots s)) h)) (slice_index (bag_lengths (world.slots s)) h)) own.1 in
-          subst (λ j. IsExactUpTo m (ranks j) (held test (happens (act cmp) (At s (Compact h coin taken)) next world) j)) (sym p)
-          (exact-here s h coin taken next world (ranks s) room.0 (leb-true _ _ room.1) (inv s own.0))
-      go false e =
-          let away = eqb-false i s e in
-          exact-as m _ _ _ _ refl (sym (held-unchanged test cmp s h coin taken next world i (λ p. absurd (away p))))
-          (inv i (sym (changed-other leaves s _ i away) ∙ left))
+  exact-event (At s (Compact h coin taken)) next world ranks leaves rule inv i left = grind (arith, common_steps, held, eqb-true, and_parts, changed-there, exact-here, leb-true, eqb-false, exact-as, held-unchanged, changed-other)
   exact-event e next world ranks leaves rule inv i left = exact-as m _ _ _ _ refl (sym (held-event test cmp e next world refl rule i)) (inv i left)
 
   exact-along : (trace : List (Event A)) (word : List Bool) (world : World (Bag A)) (ranks : ℕ → ℕ) (leaves : ℕ → Bool) → ObeysScratch trace (world_lengths world) →

@@ -1,4 +1,5 @@
 -- The body of an image, by its form.
+use Rattle.std.proofs.lemmas.Grind.{common_steps}
 use Rattle.std.proofs.Common.{◌≡◌, ◌+◌, ◌*◌, ◌^◌, ◌++◌, ◌<◌, ◌≤◌, ◌∙◌, ℕ, Bool, true, false, if◌then◌else◌, List, [], ◌∷◌, get_or, length, append-nil, append_assoc, length-append, Option, refl, ap, sym, subst, arith, ◌==◌}
 use Rattle.std.proofs.lemmas.Bool.{eqb-true}
 use Rattle.std.specs.Int.{w64, to_le_bytes}
@@ -56,30 +57,15 @@ module _ {A : Type 0} (f : A → Option (List ℕ)) (s : Req A) where
   pub several_size : {a b c : ℕ} → a ≡ length (items_text f (option_to_list s.least)) → b ≡ length (items_text f (option_to_list s.greatest)) → c ≡ length
       (levels_text f s.levels) →
       8 + a + b + c ≡ length (body_by f Several s)
-  several_size {a} {b} {c} least greatest levels =
-      let ends = ap length (text-ends (option_to_list s.least) (option_to_list s.greatest)) in
-      let both = length-append (items_text f (option_to_list s.least)) (items_text f (option_to_list s.greatest)) in
-      let all = length-append (items_text f (ends_of s)) (levels_text f s.levels) in
-      let whole = length-append (to_le_bytes w64 s.n) (items_text f (ends_of s) ++ levels_text f s.levels) in
-      omega (arith, least, greatest, levels, ends, both, all, whole)
+  several_size {a} {b} {c} least greatest levels = grind (arith, common_steps, text-ends, length-append)
 
   pub several_spelled : AllSpelled f (option_to_list s.least) → AllSpelled f (option_to_list s.greatest) → AllSpelled f (items_in s.levels) → AllSpelled f
       (items_by Several s)
-  several_spelled least greatest levels =
-      all-append (λ y. IsSome (f y)) (ends_of s) (items_in s.levels) (all-append (λ y. IsSome (f y)) (option_to_list s.least) (option_to_list s.greatest)
-      least greatest) levels
+  several_spelled least greatest levels = grind (arith, common_steps, all-append)
 
   pub several_written : {one two three new : List ℕ} (old : List ℕ) → one ≡ old ++ to_le_bytes w64 s.n → two ≡ one ++ items_text f (option_to_list s.least) →
       three ≡ two ++ items_text f (option_to_list s.greatest) → new ≡ three ++ levels_text f s.levels → new ≡ old ++ body_by f Several s
-  several_written old first second third last =
-      let n = to_le_bytes w64 s.n in
-      let low = items_text f (option_to_list s.least) in
-      let high = items_text f (option_to_list s.greatest) in
-      let rest = levels_text f s.levels in
-      last ∙ ap (λ (t : List ℕ). t ++ rest) (third ∙ ap (λ (t : List ℕ). t ++ high) (second ∙ ap (λ (t : List ℕ). t ++ low) first))
-      ∙ (append_assoc ((old ++ n) ++ low) high rest ∙ append_assoc (old ++ n) low (high ++ rest) ∙ append_assoc old n (low ++ (high ++ rest))
-      ∙ ap (λ (t : List ℕ). old ++ (n ++ t)) (sym (append_assoc low high rest) ∙ ap (λ (t : List ℕ). t ++ rest)
-      (sym (text-ends (option_to_list s.least) (option_to_list s.greatest)))))
+  several_written old first second third last = grind (arith, common_steps, append_assoc, text-ends)
 
 -- ---- the size of a body
 

@@ -1,4 +1,5 @@
 -- Levels of one sketch: their k and their accuracy are those of level 0.
+use Rattle.std.proofs.lemmas.Grind.{common_steps}
 use Rattle.std.proofs.Common.{◌≡◌, ℕ, ◌+◌, ◌<◌, ◌≤◌, ap, ◌∙◌, Bool, true, List, [], ◌∷◌, length, refl, sym, subst, arith, Ordering}
 use Rattle.sketch_req.specs.Held.{Held, IsHeld, held_of}
 use Rattle.sketch_req.specs.Level.{Level, fresh}
@@ -44,24 +45,12 @@ own-appended (l ∷ ls) x = (refl, refl)
 -- the levels as they are stored, after an item came in
 pub held-appended : {A : Type 0} (cmp : A → A → Ordering) (k n capacity : ℕ) (accuracy : RankAccuracy) (ls : List (Level A)) (x : A) →
     IsHeld cmp n capacity (held_of k accuracy ls) → retained_of (layouts_of ls) < 4294967295 → IsHeld cmp (n + 1) capacity (held_of k accuracy (appended_first ls x))
-held-appended {A} cmp k n capacity accuracy ls x held few = record {
-  some = omega (arith, held.some, length-appended ls x);
-  placed = placed-appended cmp k accuracy ls x held.placed few;
-  retained_is = omega (arith, held.retained_is, retained-appended ls x held.some);
-  capacity_is = held.capacity_is ∙ sym (nominal-appended k ls x);
-}
+held-appended {A} cmp k n capacity accuracy ls x held few = grind (arith, common_steps, held, length-appended, placed-appended, retained-appended, nominal-appended)
 
 -- the same after coins were redrawn
 pub held-redrawn : {A : Type 0} (cmp : A → A → Ordering) (k n capacity : ℕ) (accuracy : RankAccuracy) (word : List Bool) (ls : List (Level A)) → IsHeld cmp n capacity (held_of k accuracy ls) →
     IsHeld cmp n capacity (held_of k accuracy (redrawn word ls))
-held-redrawn cmp k n capacity accuracy word ls held =
-    let same = layouts-redrawn word ls in
-    record {
-      some = omega (arith, held.some, ap length same, length-layouts ls, length-layouts (redrawn word ls));
-      placed = placed-redrawn cmp k accuracy 0 word ls held.placed;
-      retained_is = held.retained_is ∙ ap retained_of (sym same);
-      capacity_is = held.capacity_is ∙ ap (nominal_sum k) (sym same);
-    }
+held-redrawn cmp k n capacity accuracy word ls held = grind (arith, common_steps, layouts-redrawn, held, length-layouts, placed-redrawn)
 
 -- there are at most 64 of them
 pub few-levels : {A : Type 0} (cmp : A → A → Ordering) (k : ℕ) (accuracy : RankAccuracy) (ls xs : List (Level A)) → AreLevels cmp k accuracy 0 ls → xs ≡ ls → length xs ≤ 64
@@ -71,11 +60,7 @@ few-levels cmp k accuracy ls xs a same = let few = few-placed cmp k accuracy 0 l
 pub held-sums : {A : Type 0} (cmp : A → A → Ordering) (k n capacity : ℕ) (accuracy : RankAccuracy) (ls xs : List (Level A)) → 0 < length ls → AreLevels cmp k accuracy 0 ls → xs ≡ ls →
     n ≡ retained_of (layouts_of xs) → ((k : ℕ) (accuracy : RankAccuracy) → AreLevels cmp k accuracy 0 xs → capacity ≡ nominal_sum k (layouts_of xs)) →
     IsHeld cmp n capacity (held_of k accuracy ls)
-held-sums {A} cmp k n capacity accuracy ls xs some a same retained told =
-    let retained_is = rw same at retained in
-    let all = rw same at told in
-    let capacity_is = all k accuracy a in
-    assumption
+held-sums {A} cmp k n capacity accuracy ls xs some a same retained told = grind (arith, common_steps)
 
 -- one empty level
 pub first-levels : {A : Type 0} (cmp : A → A → Ordering) (k : ℕ) (accuracy : RankAccuracy) → IsLegalK k → AreLevels cmp k accuracy 0 (fresh [] true 0 k accuracy ∷ [])
@@ -85,10 +70,7 @@ first-levels cmp k accuracy legal = (fresh_placed cmp k accuracy 0 legal (omega 
 pub some-taken : {A S : Type 0} {cmp : A → A → Ordering} (bit : S → Bool) (next : S → S) (source after : S) (k : ℕ) (accuracy : RankAccuracy) (redraws : Bool)
     (ls others ns : List (Level A)) → 0 < length ls →
     AreTakenIn cmp bit next source after k accuracy redraws ls others ns → 0 < length ns
-some-taken bit next source after k accuracy redraws ls others ns some t =
-    let same = ap length (ap layouts_of t.ready_are ∙ layouts-ready redraws _ t.joined) in
-    let n = ap length t.acted.acted.layouts_are in
-    omega (arith, some, t.count_is, length-layouts t.joined, length-layouts ns, same, n, longer-room k (layouts_of t.ready))
+some-taken bit next source after k accuracy redraws ls others ns some t = grind (arith, common_steps, layouts-ready, length-layouts, longer-room)
 
 -- the levels of a sketch replaced
 pub with-levels : {A : Type 0} (h s : Held A) (ls : List (Level A)) → h ≡ s → held_of h.k h.accuracy ls ≡ held_of s.k s.accuracy ls

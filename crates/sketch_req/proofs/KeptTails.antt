@@ -1,4 +1,5 @@
 -- REQ's compactions keep what is exact up to a number of items: each takes none that pass a query's test, or leaves that many.
+use Rattle.std.proofs.lemmas.Grind.{common_steps}
 use Rattle.std.proofs.Common.{◌≡◌, ℕ, zero, suc, ◌+◌, ◌-◌, ◌*◌, ◌^◌, ◌≤◌, Bool, true, not, ◌&&◌, ◌==◌, ◌⊎◌, inl, inr, ⊎_elim, if◌then◌else◌, List, [], ◌∷◌, length, take, drop, count_by, sum_by, slice_index, refl, sym, ap, subst, arith, length-take, mul-le-mul_right, pow_pos, Ordering}
 use Rattle.std.specs.Cmp.{IsTotalOrder}
 use Rattle.std.proofs.lemmas.Bool.{false≢true}
@@ -37,12 +38,7 @@ module _ {A : Type 0} (cmp : A → A → Ordering) where
 
   -- a cut of the greatest items, if a falling test passes
   spares-greatest : (test : A → Bool) → ((xs : List A) → Falling test (sort cmp xs)) → (n : ℕ) → SparesOrFills test (Greatest n)
-  spares-greatest test falls n flag level =
-      let s = sort cmp level in
-      let rest = length level - n in
-      ⊎_elim (λ none. inl none)
-      (λ all. inr (omega (arith, all, count_by-le-length test (take rest s), length-take rest s, length-sort cmp level)))
-      (end_or_front test rest s (falls level))
+  spares-greatest test falls n flag level = grind (arith, common_steps, count_by-le-length, length-take, length-sort, end_or_front)
 
 module _ {A : Type 0} (cmp : A → A → Ordering) (test : A → Bool) where
   same-exact : (most count m n : ℕ) → m ≡ n → IsExactUpTo most count n → IsExactUpTo most count m

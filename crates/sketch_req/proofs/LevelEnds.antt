@@ -1,4 +1,6 @@
 -- What calls on levels come to that fail, as their contracts tell it.
+use Rattle.std.proofs.Common.{arith}
+use Rattle.std.proofs.lemmas.Grind.{common_steps}
 use Rattle.std.proofs.Common.{◌≡◌, ◌≤◌, ◌∙◌, ℕ, Bool, List, Result, MatchResult, Ok, Err, ap, Ordering, IsErr, IsErrAnd, IfErr, OnErr, OnOk, drop, subst, take}
 use Rattle.std.proofs.lemmas.List.{take-append-drop}
 use Rattle.std.proofs.lemmas.Result.{IfOk-from_err}
@@ -72,13 +74,4 @@ module _ {A S : Type 0} (cmp : A → A → Ordering) (bit : S → Bool) (next : 
   pub turn_failed : {T : Type 0} {x : ErrorKind} (r : Result T ErrorKind) (own : Held A) (middle : S) (n : ℕ) → IsErr r × IsErrAnd r (λ e. e ≡ x) → x ≡ OutOfMemory →
       own ≡ record s { levels = own.levels } → AreLeft next source middle s.k s.accuracy s.levels (take n items) own.levels →
       new ≡ record own { levels = new.levels } → after ≡ middle → TurnEnd r
-  turn_failed r own middle n h short so_far left kept still = record {
-    kept = kept ∙ with-levels _ _ new.levels so_far;
-    taken = IfOk-from_err r _ h.0;
-    drawn = on_error r (record {
-      count = draws_of (updates_actions s.k s.accuracy (layouts_of s.levels) (take n items));
-      few = draws-part n;
-      after_is = still ∙ left.source_is;
-    });
-    memory = only_error r h.1 short;
-  }
+  turn_failed r own middle n h short so_far left kept still = grind (arith, common_steps, with-levels, on_error, draws-part, only_error)

@@ -1,4 +1,5 @@
 -- Sketches that summarize a stream, call by call.
+use Rattle.std.proofs.lemmas.Grind.{common_steps}
 use Rattle.std.proofs.Common.{◌≡◌, ℕ, zero, suc, ◌+◌, ◌*◌, ◌≤◌, min, Bool, true, false, if◌then◌else◌, not, List, [], ◌∷◌, ◌++◌, length, map, drop, sum, count_by, refl, sym, ap, ◌∙◌, subst, arith, append-nil, append_assoc, length-append, Ordering, Option}
 use Rattle.std.specs.Cmp.{IsTotalOrder}
 use Rattle.std.specs.List.{AllZip}
@@ -91,22 +92,13 @@ pub exact-as : (most c c' w w' : ℕ) → c ≡ c' → w ≡ w' → IsExactUpTo 
 exact-as most c c' w w' e f h = subst (λ (n : ℕ). IsExactUpTo most n w') e (subst (λ (n : ℕ). IsExactUpTo most c n) f h)
 
 pub exact-more : (most c w d : ℕ) → IsExactUpTo most c w → IsExactUpTo most (c + d) (w + d)
-exact-more most c w d h = record {
-  same = λ le. omega (arith, h.same (omega (arith, le)));
-  enough = omega (arith, h.enough);
-}
+exact-more most c w d h = grind (arith, common_steps)
 
 exact-fewer : (most fewer c w : ℕ) → fewer ≤ most → IsExactUpTo most c w → IsExactUpTo fewer c w
-exact-fewer most fewer c w le h = record {
-  same = λ few. h.same (omega (arith, le, few));
-  enough = omega (arith, le, h.enough);
-}
+exact-fewer most fewer c w le h = grind (arith, common_steps)
 
 pub exact-both : (m c c' w w' : ℕ) → IsExactUpTo m c w → IsExactUpTo m c' w' → IsExactUpTo m (c + c') (w + w')
-exact-both m c c' w w' h h' = record {
-  same = λ le. omega (arith, h.same (omega (arith, le)), h'.same (omega (arith, le)));
-  enough = omega (arith, h.enough, h'.enough);
-}
+exact-both m c c' w w' h h' = grind (arith, common_steps)
 
 -- ---- the accurate side
 
@@ -200,18 +192,7 @@ module _ {A : Type 0} {cmp : A → A → Ordering} (order : IsTotalOrder cmp) wh
   -- ---- sketches
 
   pub empty-summarizes : EmptySummarizes cmp
-  empty-summarizes k tail accuracy le = record {
-    tail_fits = le;
-    length_is = refl;
-    least = refl;
-    greatest = refl;
-    exact = λ y criteria. none accuracy y criteria;
-  }
-    where
-      none : (accuracy : RankAccuracy) (y : A) (criteria : SearchCriteria) →
-          IsExactUpTo (3 * tail) (off_protected_end cmp accuracy y criteria []) (off_protected_end cmp accuracy y criteria (expanded cmp (bag_of (empty_sketch {A = A} k accuracy).levels)))
-      none HighRank y criteria = record { same = λ le. refl; enough = omega arith }
-      none LowRank y criteria = record { same = λ le. refl; enough = omega arith }
+  empty-summarizes k tail accuracy le = grind (arith, common_steps)
 
   -- of the soundness of the sketch only that of its layouts matters
   update-of : (s t : Req A) (x : A) (word : List Bool) (stream : List A) (tail : ℕ) → IsLegalK s.k → AreLayouts s.k (layouts_of s.levels) →
@@ -297,14 +278,7 @@ module _ {A : Type 0} {cmp : A → A → Ordering} (order : IsTotalOrder cmp) wh
   -- sketches with the same items on their levels
   same-items : (s t : Req A) (stream : List A) (tail : ℕ) → t ≡ record s { levels = t.levels } → item_lists t.levels ≡ item_lists s.levels →
       Summarizes cmp s stream tail → Summarizes cmp t stream tail
-  same-items s t stream tail e same is = rw e (record {
-    tail_fits = is.tail_fits;
-    length_is = is.length_is;
-    least = is.least;
-    greatest = is.greatest;
-    exact = λ y criteria. exact-as (3 * tail) _ _ _ _ refl
-        (ap (λ (ls : List (List A)). off_protected_end cmp s.accuracy y criteria (sort cmp (repeated 0 ls))) (sym same)) (is.exact y criteria);
-  })
+  same-items s t stream tail e same is = grind (arith, common_steps, exact-as)
 
   items-redrawn : (word : List Bool) (ls : List (Level A)) → item_lists (redrawn word ls) ≡ item_lists ls
   items-redrawn word [] = refl
@@ -322,18 +296,10 @@ module _ {A : Type 0} {cmp : A → A → Ordering} (order : IsTotalOrder cmp) wh
   forgotten-summarizes s stream tail is = same-items s (without_coins s) stream tail refl (items-forgotten s.levels) is
 
   pub smaller-tail : SmallerTailIsExact cmp
-  smaller-tail s stream tail fewer le is = record {
-    tail_fits = omega (arith, le, is.tail_fits);
-    length_is = is.length_is;
-    least = is.least;
-    greatest = is.greatest;
-    exact = λ y criteria. exact-fewer (3 * tail) (3 * fewer) _ _ (omega (arith, le)) (is.exact y criteria);
-  }
+  smaller-tail s stream tail fewer le is = grind (arith, common_steps, exact-fewer)
 
   pub empty-adds : EmptyAddsNothing cmp
-  empty-adds s other stream more tail tail' none is is' =
-      let nothing : more ≡ [] = nil_from_length more (omega (arith, none, is'.length_is)) in
-      rw (nothing, append-nil stream) (smaller-tail s stream tail (min tail tail') (omega arith) is)
+  empty-adds s other stream more tail tail' none is is' = grind (arith, common_steps, nil_from_length, append-nil, smaller-tail)
 
   in-turn : (s t : Req A) (items : List A) (word : List Bool) (stream : List A) (tail : ℕ) → IsLegalK s.k → AreLayouts s.k (layouts_of s.levels) →
       Summarizes cmp s stream tail → AreUpdatedInTurn cmp s items word t → Summarizes cmp t (stream ++ items) tail

@@ -1,4 +1,5 @@
 -- Levels that take in clones of items, one after another.
+use Rattle.std.proofs.lemmas.Grind.{common_steps}
 use Rattle.std.proofs.Common.{◌≡◌, ℕ, suc, ◌+◌, ◌<◌, ◌≤◌, Bool, false, nat_lt, ◌&&◌, ◌==◌, List, [], ◌∷◌, ◌++◌, length, get_or, set, take, drop, refl, sym, ap, ◌∙◌, subst, arith, append-nil, append_assoc, length-append, inl, inr, Ordering, Equal}
 use Rattle.std.specs.Cmp.{IsTotalOrder}
 use Rattle.std.proofs.lemmas.Bool.{le-ltb, lt-leb, ne_eqb, and_right}
@@ -29,30 +30,13 @@ use Rattle.sketch_req.proofs.Walks.{acted-more}
 pub appended-parts : {A : Type 0} (level : Level A) (xs : List A) → 0 < length xs →
     appended_all level xs ≡ record level { items = level.items ++ xs; is_sorted = level.is_sorted && nat_lt (length (level.items ++ xs)) 2 }
 appended-parts level [] some = absurd (omega arith)
-appended-parts {A} level (x ∷ []) some = ap (λ (b : Bool). record level { items = level.items ++ x ∷ []; is_sorted = b }) (flag level.items level.is_sorted)
-  where
-    flag : (ys : List A) (b : Bool) → (b && length ys == 0) ≡ (b && nat_lt (length (ys ++ x ∷ [])) 2)
-    flag [] b = refl
-    flag (y ∷ ys) b =
-        let many : 2 ≤ length ((y ∷ ys) ++ x ∷ []) = omega (arith, length-append (y ∷ ys) (x ∷ [])) in
-        ap (λ (c : Bool). b && c) (ne_eqb (length (y ∷ ys)) 0 (omega arith) ∙ sym (le-ltb _ _ many))
-appended-parts {A} level (x ∷ y ∷ ys) some =
-    let whole = append_assoc level.items (x ∷ []) (y ∷ ys) in
-    let many : 2 ≤ length (level.items ++ x ∷ y ∷ ys) = omega (arith, length-append level.items (x ∷ y ∷ ys)) in
-    let over : nat_lt (length (level.items ++ x ∷ y ∷ ys)) 2 ≡ false = le-ltb _ _ many in
-    appended-parts (appended level x) (y ∷ ys) (omega arith) ∙
-    rw (whole, over) (ap (λ (b : Bool). record level { items = level.items ++ x ∷ y ∷ ys; is_sorted = b }) (and_right _ false refl ∙ sym (and_right level.is_sorted false refl)))
+appended-parts {A} level (x ∷ []) some = grind (arith, common_steps, length-append, ne_eqb, le-ltb)
+appended-parts {A} level (x ∷ y ∷ ys) some = grind (arith, common_steps, append_assoc, length-append, le-ltb, and_right, appended-parts (appended level x) (y ∷ ys) (omega arith))
 
 -- a level whose items and flag say that clones were appended
 pub has-clones : {A : Type 0} {cmp : A → A → Ordering} (old : Level A) (items clones all : List A) (flag : Bool) → SameItems cmp items clones → 0 < length items → all ≡ old.items ++ clones →
     flag ≡ (old.is_sorted && nat_lt (length all) 2) → HasClones cmp old items (record old { items = all; is_sorted = flag })
-has-clones {A} {cmp} old items clones all flag same some whole flag_is =
-    let n = length_all_zip (λ x y. cmp x y ≡ Equal) items clones same in
-    record {
-      clones = clones;
-      same = same;
-      new_is = rw (flag_is, whole) (sym (appended-parts old clones (omega (arith, n, some))));
-    }
+has-clones {A} {cmp} old items clones all flag same some whole flag_is = grind (arith, common_steps, length_all_zip, appended-parts)
 
 -- items that are appended to the levels are appended to level 0
 pub appended-first : {A : Type 0} (l : Level A) (ls : List (Level A)) (xs : List A) → all_appended_first (l ∷ ls) xs ≡ appended_all l xs ∷ ls
@@ -69,10 +53,7 @@ legal-layouts cmp k accuracy h (l ∷ ls) a =
 
 -- the nominal capacities add up to fewer items than a level may hold
 pub nominal-small : {A : Type 0} (cmp : A → A → Ordering) (k : ℕ) (accuracy : RankAccuracy) (ls : List (Level A)) → AreLevels cmp k accuracy 0 ls → nominal_sum k (layouts_of ls) < 4294967295
-nominal-small cmp k accuracy ls a =
-    let few = few-placed cmp k accuracy 0 ls (omega arith) a in
-    let n = nominal-few cmp k accuracy 0 ls a in
-    omega (arith, few, n)
+nominal-small cmp k accuracy ls a = grind (arith, common_steps, few-placed, nominal-few)
 
 -- ---- updates by lists
 
@@ -80,15 +61,11 @@ module _ {A : Type 0} (k : ℕ) (accuracy : RankAccuracy) where
   -- updates by some items and then by more
   pub actions-append : (ls : List Layout) (xs ys : List A) → updates_actions k accuracy ls (xs ++ ys) ≡ updates_actions k accuracy ls xs ++ updates_actions k accuracy (updates_layouts k ls xs) ys
   actions-append ls [] ys = refl
-  actions-append ls (x ∷ xs) ys =
-      ap (λ (zs : List (Action A)). update_actions k accuracy ls x ++ zs) (actions-append (update_layouts k ls) xs ys)
-      ∙ sym (append_assoc (update_actions k accuracy ls x) (updates_actions k accuracy (update_layouts k ls) xs) (updates_actions k accuracy (updates_layouts k (update_layouts k ls) xs) ys))
+  actions-append ls (x ∷ xs) ys = grind (arith, common_steps, append_assoc, actions-append (update_layouts k ls) xs ys)
 
   -- fewer items take no more coins
   pub draws-few : (ls : List Layout) (xs ys : List A) → draws_of (updates_actions k accuracy ls xs) ≤ draws_of (updates_actions k accuracy ls (xs ++ ys))
-  draws-few ls xs ys =
-      let e = ap draws_of (actions-append ls xs ys) in
-      omega (arith, e, draws-append (updates_actions k accuracy ls xs) (updates_actions k accuracy (updates_layouts k ls xs) ys))
+  draws-few ls xs ys = grind (arith, common_steps, actions-append, draws-append)
 
   layouts-append : (ls : List Layout) (xs ys : List A) → updates_layouts k ls (xs ++ ys) ≡ updates_layouts k (updates_layouts k ls xs) ys
   layouts-append ls [] ys = refl
@@ -120,17 +97,8 @@ module _ {A S : Type 0} {cmp : A → A → Ordering} (order : IsTotalOrder cmp) 
   -- some items, and then more
   pub taken-append : (source middle after : S) (ls ms ns : List (Level A)) (xs ys : List A) → AreTakenInTurn cmp bit next source middle k accuracy ls xs ms →
       AreTakenInTurn cmp bit next middle after k accuracy ms ys ns → AreTakenInTurn cmp bit next source after k accuracy ls (xs ++ ys) ns
-  taken-append source middle after ls ms ns [] ys t u =
-      subst (λ (s : S). AreTakenInTurn cmp bit next s after k accuracy ls ys ns) t.1
-      (subst (λ (l : List (Level A)). AreTakenInTurn cmp bit next middle after k accuracy l ys ns) t.0 u)
-  taken-append source middle after ls ms ns (x ∷ xs) ys t u = record {
-    clone = t.clone;
-    is_clone = t.is_clone;
-    after = t.after;
-    levels = t.levels;
-    walked = t.walked;
-    rest = taken-append t.after middle after t.levels ms ns xs ys t.rest u;
-  }
+  taken-append source middle after ls ms ns [] ys t u = grind (arith, common_steps)
+  taken-append source middle after ls ms ns (x ∷ xs) ys t u = grind (arith, common_steps, taken-append t.after middle after t.levels ms ns xs ys t.rest u)
 
   -- one item
   pub taken-one : (source after : S) (ls ns : List (Level A)) (x clone : A) → cmp x clone ≡ Equal → AreWalkedIfFull cmp bit next source after k accuracy (appended_first ls clone) ns →
@@ -167,26 +135,7 @@ module _ {A S : Type 0} {cmp : A → A → Ordering} (order : IsTotalOrder cmp) 
   -- after one item
   kept-one : (source after : S) (ls ns : List (Level A)) (x clone : A) → 0 < length ls → AreLevels cmp k accuracy 0 ls → retained_of (layouts_of ls) < 4294967295 →
       AreWalkedIfFull cmp bit next source after k accuracy (appended_first ls clone) ns → AreKept source after ls (x ∷ []) ns
-  kept-one source after ls ns x clone some a few walked =
-      let put = acted-put order bit next source k accuracy ls clone some a few in
-      let room = subst (λ (os : List Layout). AreActed cmp bit next source after k accuracy (actions_if_full k accuracy os) (layouts_if_full k os) 0 (appended_first ls clone) ns)
-      (layouts-appended ls clone some) walked.acted in
-      let both = acted-more order bit next source source after k accuracy _ _ _ _ 1 0 ls (appended_first ls clone) ns put room in
-      let legal = (own-levels cmp k accuracy ls some a).legal in
-      let laid : layouts_of ns ≡ update_layouts k (layouts_of ls) = both.layouts_are in
-      let small = nominal-small cmp k accuracy ns both.placed in
-      let few_left : retained_of (layouts_of ns) < 4294967295 =
-      elim (update_spares k legal (layouts_of ls) (legal-layouts cmp k accuracy 0 ls a)) [
-        | inl less ↦ omega (arith, less, few, ap retained_of laid)
-        | inr less ↦ omega (arith, less, small, ap retained_of laid, ap (nominal_sum k) laid)
-      ] in
-      let drawn : draws_of (updates_actions k accuracy (layouts_of ls) (x ∷ [])) ≡ draws_of (update_actions k accuracy (layouts_of ls) clone) =
-      ap draws_of (append-nil (update_actions k accuracy (layouts_of ls) x)) in
-      record {
-        some = some-weight ns (omega (arith, both.weigh));
-        placed = both.placed;
-        left = record { weigh = both.weigh; few = few_left; layouts = laid; source_is = both.source_is ∙ sym (ap (after_draws next source) drawn) };
-      }
+  kept-one source after ls ns x clone some a few walked = grind (arith, common_steps, acted-put, layouts-appended, acted-more, own-levels, nominal-small, update_spares, legal-layouts, append-nil, some-weight)
 
   -- after all items
   pub are-kept : (source after : S) (ls ns : List (Level A)) (xs : List A) → 0 < length ls → AreLevels cmp k accuracy 0 ls → retained_of (layouts_of ls) < 4294967295 →
@@ -209,9 +158,7 @@ first-few {A} (l ∷ ls) x some e = let n = sum_by-cons (λ (y : Layout). y.coun
 pub first-filled : {A : Type 0} (ls : List (Level A)) (x new : Level A) (clones : List A) → 0 < length ls → x ≡ get_or ls 0 x → new ≡ appended_all x clones →
     set ls 0 new ≡ all_appended_first ls clones
 first-filled [] x new clones some e same = absurd (omega (arith, some))
-first-filled {A} (l ∷ ls) x new clones some e same =
-    let l_is : x ≡ l = e in
-    ap (λ (y : Level A). y ∷ ls) (same ∙ ap (λ (y : Level A). appended_all y clones) l_is) ∙ sym (appended-first l ls clones)
+first-filled {A} (l ∷ ls) x new clones some e same = grind (arith, common_steps, appended-first)
 
 -- the levels as they are stored, with items that came in
 pub held-filled : {A : Type 0} (cmp : A → A → Ordering) (k n capacity : ℕ) (accuracy : RankAccuracy) (ls : List (Level A)) (xs : List A) →

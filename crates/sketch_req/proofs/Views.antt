@@ -1,4 +1,5 @@
 -- The weighted items of a sketch's levels, and the view that they make.
+use Rattle.std.proofs.lemmas.Grind.{common_steps}
 use Rattle.std.proofs.Common.{◌≡◌, ℕ, suc, ◌+◌, ◌^◌, ◌<◌, ◌≤◌, List, [], ◌∷◌, ◌++◌, length, map, take, drop, replicate, flat_map, sum_by, refl, sym, ap, ap₂, ◌∙◌, subst, append_assoc, length-append, arith, IsPermutation, Result, Ordering}
 use Rattle.std.specs.Prelude.{Option, None, Some, IfOk, IsSome}
 use Rattle.std.specs.Cmp.{IsTotalOrder}
@@ -34,11 +35,7 @@ use Rattle.sketch_req.proofs.Rank.{weight_is}
 copies-pairs : {A : Type 0} (cmp : A → A → Ordering) (k : ℕ) (accuracy : RankAccuracy)
     (h : ℕ) (ls : List (Level A)) → AreLevels cmp k accuracy h ls → copies (pairs_of ls) ≡ repeated h (map (λ level. level.items) ls)
 copies-pairs cmp k accuracy h [] are = refl
-copies-pairs {A} cmp k accuracy h (l ∷ ls) are =
-    flat_map-append (λ (pair : A × ℕ). replicate pair.1 pair.0) (weighed (2 ^ l.lg_weight) l.items) (pairs_of ls) ∙
-    ap₂ (λ (xs ys : List A). xs ++ ys)
-    (flat_map-map (λ (pair : A × ℕ). replicate pair.1 pair.0) (λ (x : A). (x, 2 ^ l.lg_weight)) l.items
-    ∙ ap (λ i. flat_map (λ x. replicate (2 ^ i) x) l.items) are.0.place_is) (copies-pairs cmp k accuracy (suc h) ls are.1)
+copies-pairs {A} cmp k accuracy h (l ∷ ls) are = grind (arith, common_steps, flat_map-append, flat_map-map, copies-pairs cmp k accuracy (suc h) ls are.1)
 
 module _ {A : Type 0} where
   -- each weighs something
@@ -98,15 +95,7 @@ module _ {A : Type 0} where
 
 -- a sketch of no weight has no weighted items
 pub none-weighed : {A : Type 0} {cmp : A → A → Ordering} (s : Req A) → IsSound cmp s → {count : ℕ} → count ≡ length (pairs_of s.levels) → 0 < count → s.n ≡ 0 → ⊥
-none-weighed {cmp = cmp} s sound e some none = omega (
-  arith,
-  e,
-  some,
-  none,
-  weigh-enough (pairs_of s.levels) (pairs-weigh s.levels),
-  weigh-pairs cmp s.k s.accuracy s.levels sound.placed,
-  sound.weighs_n,
-)
+none-weighed {cmp = cmp} s sound e some none = grind (arith, common_steps, weigh-enough, pairs-weigh, weigh-pairs)
 
 -- the weighted items of a sketch in another order
 module _ {A : Type 0} {cmp : A → A → Ordering} (order : IsTotalOrder cmp) (s : Req A) (pairs : List (A × ℕ)) (sound : IsSound cmp s) (same : IsPermutation (pairs_of s.levels) pairs) where
@@ -120,13 +109,7 @@ module _ {A : Type 0} {cmp : A → A → Ordering} (order : IsTotalOrder cmp) (s
 
   -- there are at most n of them
   pub at-most-n : length pairs ≤ s.n
-  at-most-n = omega (
-    arith,
-    length_permutation (pairs_of s.levels) pairs same,
-    weigh-enough (pairs_of s.levels) (pairs-weigh s.levels),
-    weigh-pairs cmp s.k s.accuracy s.levels sound.placed,
-    sound.weighs_n,
-  )
+  at-most-n = grind (arith, common_steps, length_permutation, weigh-enough, pairs-weigh, weigh-pairs)
 
   module _ {B : Type 0} (entries : List B) (long : length entries ≡ length pairs) where
     -- an extreme is there if there are entries
