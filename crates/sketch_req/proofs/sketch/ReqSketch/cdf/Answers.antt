@@ -1,5 +1,4 @@
-use Rattle.std.proofs.Common.{ℕ, ◌+◌, ◌<◌, ◌≤◌, ◌≡◌, ◌++◌, [], ◌∷◌, IfOk, refl, length, map, arith, ap, subst, sym, ◌∙◌}
-use Rattle.sketch_base.specs.Queried.{EndsAt}
+use Rattle.std.proofs.Common.{arith, ℕ, ◌+◌, ◌<◌, ◌≤◌, ◌≡◌, ◌++◌, [], ◌∷◌, refl, length, map, ap, subst, sym, ◌∙◌}
 use Rattle.sketch_base.specs.Bag.{expanded}
 use Rattle.sketch_base.specs.Query.{true_rank}
 use Rattle.sketch_base.specs.Queries.{ranks_of}
@@ -7,24 +6,30 @@ use Rattle.sketch_base.proofs.Distributions.{ranks-end, ranks-more, ranks-last, 
 use Rattle.sketch_base.proofs.SketchViews.{cdf-result, length-expanded}
 use Rattle.sketch_req.specs.Actions.{bag_of}
 use Rattle.sketch_req.proofs.Equations.{same_number}
-use Rattle.sketch_base.proofs.Answered.{answer, short, unfit}
-use Rattle.sketch_base.proofs.RefusedCalls.{some_now, some_of}
+use Rattle.sketch_base.proofs.Answered.{answer}
+use Rattle.sketch_base.proofs.RefusedCalls.{some_now}
 use Rattle.sketch_req.proofs.sketch.ReqSketch.cdf.Given.{Over}
 use Rattle.sketch_req.proofs.sketch.ReqSketch.cdf.Goals.{After-allocator-alloc, After-push_reserved-2}
 use Rattle.sketch_req.proofs.sketch.ReqSketch.cdf.Goals as goal
 use Rattle.sketch_req.proofs.sketch.ReqSketch.cdf.Goals.at as past
 
+-- the ranks
+ranks : (g : Over) (c : After-push_reserved-2 g) →
+    c.push_reserved-2.new.self.items
+    ≡ ranks_of c.args.self.now.n (map (λ y. true_rank g.T.Ord.cmp y c.args.criteria (expanded g.T.Ord.cmp (bag_of c.args.self.now.levels))) c.args.points.now ++ c.args.self.now.n ∷ [])
+ranks g c =
+    let s = c.args.self.now in
+    ranks-last _ s.n c.args.points.now c.loop-point.point-index _ c.push_reserved-2.new.self.items c.loop-point-test.false c.loop-point.invariant.told
+    (c.push_reserved-2.ensures.items ∙ ap (λ (t : ℕ). c.loop-point.ranks.items ++ record { weight = t; total = t } ∷ []) c.n-total.ensures.value)
+
+pub returns-then-total-eq0-clause-ranks : goal.returns-then-total-eq0-clause-ranks
+returns-then-total-eq0-clause-ranks g c =
+    let told = c.cdf-then-total-eq0.ensures in
+    let view = c.in_ok-sorted_view.ensures.view in
+    cdf-result g.met.T.Ord.total view c.args.criteria c.args.points.now c.cdf-then-total-eq0.result told.ranks
+
 one_more : {i n : ℕ} → i < n → i + 1 ≤ n
 one_more less = omega (arith, less)
-
-at_first : (n : ℕ) → 0 ≤ n
-at_first n = omega arith
-
-above : {n m : ℕ} → n + 1 ≤ m → n < m
-above room = omega (arith, room)
-
-pub bounds-points-point-index : goal.bounds-points-point-index
-bounds-points-point-index g c = c.loop-point-test.true
 
 pub loop-point-preserved : goal.loop-point-preserved
 loop-point-preserved g c =
@@ -41,45 +46,9 @@ loop-point-preserved g c =
       room = subst (λ (n : ℕ). length c.args.points.now < n) (sym pushed.capacity) i.room;
     }
 
-pub returns-in_err-check_points-clause-ranks : goal.returns-in_err-check_points-clause-ranks
-returns-in_err-check_points-clause-ranks g c = unfit _ c.from_residual.ensures.1 c.in_err-check_points.ensures.kind c.in_err-check_points.ensures.bad
-
-pub sorted_view-requires : goal.sorted_view-requires
-sorted_view-requires g c = record { clones = c.requires.clones }
-
-pub returns-in_err-sorted_view-clause-ranks : goal.returns-in_err-sorted_view-clause-ranks
-returns-in_err-sorted_view-clause-ranks g c =
-    let told = c.in_err-sorted_view.ensures in
-    short _ c.from_residual-in_err-sorted_view.ensures.1 told.memory c.in_ok-check_points.ensures.good (some_of told.some)
-
--- the view's answer
-pub returns-then-total-eq0 : goal.returns-then-total-eq0
-returns-then-total-eq0 g c =
-    let told = c.cdf-then-total-eq0.ensures in
-    let view = c.in_ok-sorted_view.ensures.view in
-    record {
-      ranks = cdf-result g.met.T.Ord.total view c.args.criteria c.args.points.now c.cdf-then-total-eq0.result told.ranks;
-      ends = subst (λ (n : ℕ). IfOk c.cdf-then-total-eq0.result (EndsAt (length c.args.points.now) n)) view.weighs_n told.ends;
-      rises = told.rises;
-    }
-
 -- the sketch has items
 some : (g : Over) (c : After-allocator-alloc g) → 0 < c.args.self.now.n
 some g c = some_now c.n-total.ensures.value c.if-total-eq0.false
-
-pub returns-in_err-ranks-clause-ranks : goal.returns-in_err-ranks-clause-ranks
-returns-in_err-ranks-clause-ranks g c =
-    short _ c.from_residual-in_err-ranks.ensures.1 refl c.in_ok-check_points.ensures.good
-    (some g (past.returns-in_err-ranks-clause-ranks g c).After-allocator-alloc)
-
--- the ranks
-ranks : (g : Over) (c : After-push_reserved-2 g) →
-    c.push_reserved-2.new.self.items
-    ≡ ranks_of c.args.self.now.n (map (λ y. true_rank g.T.Ord.cmp y c.args.criteria (expanded g.T.Ord.cmp (bag_of c.args.self.now.levels))) c.args.points.now ++ c.args.self.now.n ∷ [])
-ranks g c =
-    let s = c.args.self.now in
-    ranks-last _ s.n c.args.points.now c.loop-point.point-index _ c.push_reserved-2.new.self.items c.loop-point-test.false c.loop-point.invariant.told
-    (c.push_reserved-2.ensures.items ∙ ap (λ (t : ℕ). c.loop-point.ranks.items ++ record { weight = t; total = t } ∷ []) c.n-total.ensures.value)
 
 pub returns : goal.returns
 returns g c =
@@ -95,17 +64,3 @@ returns g c =
       ends = ranks-end _ s.n c.args.points.now _ ranks;
       rises = ranks-rise g.met.T.Ord.total c.args.criteria entries c.args.points.now _ _ good found;
     }
-
-pub loop-point-init : goal.loop-point-init
-loop-point-init g c = record {
-  told = c.in_ok-ranks.ensures.items;
-  len = c.in_ok-ranks.ensures.len;
-  within = at_first _;
-  room = above c.in_ok-ranks.ensures.capacity;
-}
-
-pub offset_bounds-points-point-index : goal.offset_bounds-points-point-index
-offset_bounds-points-point-index g c = grind arith
-
-pub overflow_add-points : goal.overflow_add-points
-overflow_add-points g c = grind arith

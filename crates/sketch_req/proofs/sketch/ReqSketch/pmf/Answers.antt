@@ -1,18 +1,11 @@
-use Rattle.std.proofs.Common.{◌≡◌, length, refl, sym, ◌∙◌, ap, is_some, arith}
-use Rattle.std.proofs.lemmas.Bool.{false≢true}
+use Rattle.std.proofs.Common.{◌≡◌, length, refl, sym, ◌∙◌, ap, is_some}
 use Rattle.sketch_base.specs.Bag.{expanded}
 use Rattle.sketch_base.specs.Queries.{cdf_of}
-use Rattle.sketch_base.proofs.Answered.{answer-too, passed, told-fit}
+use Rattle.sketch_base.proofs.Answered.{answer-too, told-fit}
 use Rattle.sketch_base.proofs.Distributions.{differences-left, increasing-told, ranks-sum}
 use Rattle.sketch_base.proofs.SketchViews.{length-expanded}
 use Rattle.sketch_req.specs.Actions.{bag_of}
 use Rattle.sketch_req.proofs.sketch.ReqSketch.pmf.Goals as goal
-
-pub cdf-requires : goal.cdf-requires
-cdf-requires g c = record { clones = c.requires.clones }
-
-pub returns-in_err-ranks-clause-weights : goal.returns-in_err-ranks-clause-weights
-returns-in_err-ranks-clause-weights g c = passed _ c.from_residual.ensures.1 c.in_err-ranks.ensures.ranks
 
 pub returns : goal.returns
 returns g c =
@@ -30,11 +23,3 @@ returns g c =
       sums = ranks-sum g.met.T.Ord.total c.args.criteria entries c.args.points.now s.n _
           (increasing-told g.T.Ord.cmp c.args.points.now (told-fit told)) found ∙ whole;
     }
-
-pub take_differences-requires : goal.take_differences-requires
-take_differences-requires g c = grind arith
-
-pub returns-in_default-clause-weights : goal.returns-in_default-clause-weights
-returns-in_default-clause-weights g c =
-    let told = c.in_ok-ranks.ensures.ranks in
-    answer-too _ told (λ t. absurd (false≢true t), λ some. sym (ap (λ o. is_some o) c.in_default.is) ∙ told.there.1 some) tt

@@ -1,24 +1,25 @@
-use Rattle.std.proofs.Common.{◌≡◌, ◌≢◌, ◌<◌, ◌^◌, ◌∙◌, IfOk, List, length, subst, sym, ap, arith}
+use Rattle.std.proofs.Common.{arith, ◌≡◌, ◌≢◌, ◌<◌, ◌^◌, ◌∙◌, IfOk, List, length, subst, sym, ap}
 use Rattle.std.specs.Prelude.{Option}
-use Rattle.std.proofs.lemmas.Bool.{false≢true}
 use Rattle.std.proofs.lemmas.Result.{IfErr-weaker}
-use Rattle.sketch_base.specs.declared.error.ErrorKind.TheVariants.{OutOfMemory}
 use Rattle.sketch_base.specs.Pairs.{SamePairs}
 use Rattle.sketch_base.specs.Queries.{SameAnswer}
 use Rattle.sketch_base.specs.Views.{IsViewOf}
-use Rattle.sketch_base.proofs.Exits.{returned, with_error}
 use Rattle.sketch_req.specs.Held.{Held}
 use Rattle.sketch_req.specs.Level.{Level}
 use Rattle.sketch_req.specs.Pairs.{pairs_of}
 use Rattle.sketch_req.specs.Sketch.{Req, sketch_of}
 use Rattle.sketch_req.specs.Views.{queried}
 use Rattle.sketch_req.proofs.Pairs.{length-pairs}
-use Rattle.sketch_req.proofs.Refusals.{none_there}
-use Rattle.sketch_req.proofs.Views.{AreWeighed, are-weighed, entries-view, none-weighed, view-extreme}
+use Rattle.sketch_req.proofs.Views.{AreWeighed, are-weighed, entries-view, none-weighed}
 use Rattle.sketch_req.proofs.sketch.ReqSketch.sorted_view.Given.{Over}
 use Rattle.sketch_req.proofs.sketch.ReqSketch.sorted_view.Goals.{In_ok-weighted}
 use Rattle.sketch_req.proofs.sketch.ReqSketch.sorted_view.Goals as goal
 use Rattle.sketch_req.proofs.sketch.ReqSketch.sorted_view.Goals.at as past
+
+pub weigh_levels-requires-clause-count : goal.weigh_levels-requires-clause-count
+weigh_levels-requires-clause-count g c =
+    let ls = c.levels.inside.compactors.items in
+    c.levels.invariant.retained_is ∙ (sym (length-pairs ls) ∙ ap (λ (l : List (Level g.row.T.Denot)). length (pairs_of l)) (sym c.as_slice.ensures.value))
 
 -- the weighted items, and what they are items of
 module _ (g : Over) (c : In_ok-weighted g) where
@@ -39,11 +40,6 @@ module _ (g : Over) (c : In_ok-weighted g) where
   greatest : SameAnswer g.T.Ord.cmp sketch.greatest c.in_ok-greatest.greatest
   greatest = subst (λ (x : Option g.row.T.Denot). SameAnswer g.T.Ord.cmp x c.in_ok-greatest.greatest) c.as_ref-2.ensures.value c.in_ok-greatest.ensures.same
 
-pub weigh_levels-requires-clause-count : goal.weigh_levels-requires-clause-count
-weigh_levels-requires-clause-count g c =
-    let ls = c.levels.inside.compactors.items in
-    c.levels.invariant.retained_is ∙ (sym (length-pairs ls) ∙ ap (λ (l : List (Level g.row.T.Denot)). length (pairs_of l)) (sym c.as_slice.ensures.value))
-
 pub new-requires-clause-weights : goal.new-requires-clause-weights
 new-requires-clause-weights g c = (weighed g (past.new-requires-clause-weights g c).In_ok-weighted).some
 
@@ -51,34 +47,6 @@ pub new-requires-clause-fits : goal.new-requires-clause-fits
 new-requires-clause-fits g c =
     let small : c.self.inside.n < 2 ^ 64 = c.self.invariant.n_fits in
     omega (arith, small, (weighed g (past.new-requires-clause-fits g c).In_ok-weighted).sum)
-
-pub new-requires-clause-least : goal.new-requires-clause-least
-new-requires-clause-least g c =
-    let before = (past.new-requires-clause-least g c).In_ok-weighted in
-    (view-extreme g.met.T.Ord.total (sketch g before) c.self.invariant _ (weighed g before) _ _ c.self.invariant.least_there (least g before)).0
-
-pub new-requires-clause-greatest : goal.new-requires-clause-greatest
-new-requires-clause-greatest g c =
-    let before = (past.new-requires-clause-greatest g c).In_ok-weighted in
-    (view-extreme g.met.T.Ord.total (sketch g before) c.self.invariant _ (weighed g before) _ _ c.self.invariant.greatest_there (greatest g before)).0
-
-pub returns-in_err-least-clause-some : goal.returns-in_err-least-clause-some
-returns-in_err-least-clause-some g c =
-    with_error _ (returned c.from_residual.result OutOfMemory c.from_residual.ensures.1) (λ none. false≢true (c.in_err-least.ensures.none (c.as_ref.ensures.value
-    ∙ none_there _ c.self.invariant.least_there (ap (λ (s : Req g.row.T.Denot). s.n) c.self.view_is ∙ none))))
-
-pub returns-in_err-greatest-clause-some : goal.returns-in_err-greatest-clause-some
-returns-in_err-greatest-clause-some g c =
-    with_error _ (returned c.from_residual-in_err-greatest.result OutOfMemory c.from_residual-in_err-greatest.ensures.1)
-    (λ none. false≢true (c.in_err-greatest.ensures.none (c.as_ref-2.ensures.value
-    ∙ none_there _ c.self.invariant.greatest_there (ap (λ (s : Req g.row.T.Denot). s.n) c.self.view_is ∙ none))))
-
-pub returns-in_err-weighted-clause-some : goal.returns-in_err-weighted-clause-some
-returns-in_err-weighted-clause-some g c =
-    let held = ap (λ (h : Held g.row.T.Denot). length (pairs_of h.levels)) c.levels.view_is in
-    let all = ap (λ (ls : List (Level g.row.T.Denot)). length (pairs_of ls)) c.as_slice.ensures.value in
-    with_error _ (returned c.from_residual-in_err-weighted.result OutOfMemory c.from_residual-in_err-weighted.ensures.1)
-    (λ none. none-weighed _ c.self.invariant (all ∙ held) c.in_err-weighted.ensures.some (ap (λ (s : Req g.row.T.Denot). s.n) c.self.view_is ∙ none))
 
 pub returns : goal.returns
 returns g c =

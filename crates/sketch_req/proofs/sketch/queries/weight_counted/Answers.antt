@@ -1,5 +1,4 @@
 use Rattle.std.proofs.Common.{arith}
-use Rattle.std.proofs.lemmas.Grind.{common_steps}
 use Rattle.sketch_base.specs.Query.{counted}
 use Rattle.sketch_req.specs.Level.{criteria_of}
 use Rattle.sketch_req.proofs.Rank.{more_weight}
@@ -16,12 +15,3 @@ overflow_add-weight g c =
     let m = more_weight (counted g.T.Ord.cmp c.args.item.now (criteria_of c.args.inclusive)) _ _ _ _ _ c.loop-level-test.true c.loop-level.invariant.within
     c.loop-level.invariant.so_far c.index-levels-level.is c.count_below.ensures.value in
     omega (arith, m.1, c.requires)
-
-pub loop-level-preserved : goal.loop-level-preserved
-loop-level-preserved g c =
-    let m = more_weight (counted g.T.Ord.cmp c.args.item.now (criteria_of c.args.inclusive)) _ _ _ _ _ c.loop-level-test.true c.loop-level.invariant.within
-    c.loop-level.invariant.so_far c.index-levels-level.is c.count_below.ensures.value in
-    record { within = omega (arith, c.loop-level.invariant.within); so_far = omega (arith, m.0) }
-
-pub loop-level-init : goal.loop-level-init
-loop-level-init g c = grind (arith, common_steps)
