@@ -257,4 +257,3 @@ module _ {A : Type 0} {cmp : A → A → Ordering} (order : IsTotalOrder cmp) wh
   held-joined true weighted pairs same sorted weights =
       sym (distinct-spread 0 (joined cmp true pairs) (joined_weights cmp true 0 pairs) (same-length cmp true 0 pairs)
       (climbs-joined cmp true 0 0 pairs (omega arith) (weigh true weighted pairs same sorted weights)) (below-joined pairs (up true weighted pairs same sorted weights)))
-
