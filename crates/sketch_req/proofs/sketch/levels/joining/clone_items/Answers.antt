@@ -1,27 +1,9 @@
--- The loop keeps that there are clones of the levels so far.
-use Rattle.std.proofs.Common.{ap, arith, length, lt_of_lt_of_le, not-suc-le-zero}
-use Rattle.std.proofs.lemmas.List.{length-map}
-use Rattle.sketch_req.specs.Schedule.{Layout, layouts_of}
+use Rattle.std.proofs.Common.{arith, ap, length}
+use Rattle.sketch_req.specs.Schedule.{Layout}
 use Rattle.sketch_req.proofs.ClonedBuffers.{cloned-more}
 use Rattle.sketch_req.proofs.MergedLevels.{items-there, layout-there}
 use Rattle.sketch_req.proofs.Order.{SameItems-clones}
-use Rattle.sketch_req.proofs.ReservedWalks.{count-within}
 use Rattle.sketch_req.proofs.sketch.levels.joining.clone_items.Goals as goal
-
-pub overflow_add-count_at : goal.overflow_add-count_at
-overflow_add-count_at g c =
-    let own = count-within c.loop-level.level (layouts_of c.args.levels.now) in
-    let there = ap (λ (l : Layout). l.count) (layout-there c.args.others.now c.loop-level.level _ c.loop-level-test.true c.index-others-level.is) in
-    let its = count-within c.loop-level.level (layouts_of c.args.others.now) in
-    let items = ap length c.items_slice-items.ensures.value in
-    omega (arith, c.count_at.ensures, own, there, its, items, c.requires.few)
-
-pub loop-level-init : goal.loop-level-init
-loop-level-init g c = record {
-  len = c.in_ok-lists.ensures.len;
-  spare = omega (arith, c.in_ok-lists.ensures.capacity);
-  cloned = λ h l. absurd (not-suc-le-zero l);
-}
 
 pub loop-level-preserved : goal.loop-level-preserved
 loop-level-preserved g c =
@@ -46,13 +28,4 @@ loop-level-preserved g c =
               ap (λ (l : Layout). l.count) (layout-there c.args.others.now at other c.loop-level-test.true is),
             );
           });
-    }
-
-pub returns : goal.returns
-returns g c =
-    let i = c.loop-level.invariant in
-    let done = c.loop-level-test.false in
-    record {
-      enough = omega (arith, done, i.len, c.loop-level.lists.ok, length-map c.loop-level.lists.items (λ v. v.items));
-      cloned = λ h l. i.cloned h (lt_of_lt_of_le l done);
     }

@@ -1,5 +1,4 @@
--- The level at a place, or a fresh one, and the other's level at the same place.
-use Rattle.std.proofs.Common.{rules, ◌≡◌, ℕ, List, get_or, Option, unwrap_or, sym, ap, ap₂, ◌∙◌, arith}
+use Rattle.std.proofs.Common.{arith, rules, ◌≡◌, ℕ, List, get_or, Option, unwrap_or, sym, ap, ap₂, ◌∙◌}
 use Rattle.std.specs.Option.{option_map}
 use Rattle.sketch_req.specs.Level.{Level}
 use Rattle.sketch_req.specs.Schedule.{Layout, layout_of, layouts_of, layout_at, joined_layout, filled}
@@ -7,10 +6,11 @@ use Rattle.sketch_req.specs.Walk.{k_of, accuracy_of, taken_if_full}
 use Rattle.sketch_req.proofs.Layouts.{length-layouts}
 use Rattle.sketch_req.proofs.MergedLevels.{joined-at, joined-past, k-at, layout-there, reads}
 use Rattle.sketch_req.proofs.sketch.levels.walk.count_to_take_at.Given.{Over}
+use Rattle.sketch_req.proofs.sketch.levels.walk.count_to_take_at.Goals.{After-unwrap_or-own}
 use Rattle.sketch_req.proofs.sketch.levels.walk.count_to_take_at.Goals as goal
 use Rattle.sketch_req.proofs.sketch.levels.walk.count_to_take_at.Goals.at as past
-use Rattle.sketch_req.proofs.sketch.levels.walk.count_to_take_at.Goals.{After-unwrap_or-own}
 
+-- The level at a place, or a fresh one, and the other's level at the same place.
 -- what is found, or else another one
 found : {R A : Type 0} (read : R → A) (r : Option R) (none : R) → read (unwrap_or r none) ≡ unwrap_or (option_map read r) (read none)
 found read r none = search rules
@@ -32,12 +32,6 @@ module _ (g : Over) (c : After-unwrap_or-own g) where
   k_is =
       ap (λ (l : Level g.row.T.Denot). l.k) own_is
       ∙ k-at g.T.Ord.cmp _ _ 0 c.args.level c.args.levels.now c.args.blank.now c.requires.levels.placed (ap (λ (l : Level g.row.T.Denot). l.k) c.requires.blank)
-
-pub count_to_take_joined-requires : goal.count_to_take_joined-requires
-count_to_take_joined-requires g c =
-    let at = (past.count_to_take_joined-requires g c).After-unwrap_or-own in
-    let other = layout-there c.args.others.now c.args.level c.in-Some.other.now c.in-Some.ensures.lookup.3.0 c.in-Some.ensures.lookup.1 in
-    omega (arith, c.requires.few, ap (λ (l : Layout). l.count) (layout_is g at), ap (λ (l : Layout). l.count) other)
 
 pub returns-in-Some : goal.returns-in-Some
 returns-in-Some g c =

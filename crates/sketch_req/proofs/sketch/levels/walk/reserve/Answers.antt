@@ -1,27 +1,21 @@
--- The loop keeps what is known of the next level's turn, and that there is room for the turns so far.
-use Rattle.std.proofs.Common.{nat_cmp, zero, [], ◌∷◌, true, ◌≡◌, ℕ, suc, ◌+◌, ◌<◌, ◌≤◌, List, Vec, length, refl, sym, ap, ap₂, ◌∙◌, subst, arith, le_trans, lt_of_lt_of_le, max, not-suc-le-zero, inl, inr, vec_capacity}
+use Rattle.std.proofs.Common.{arith, nat_cmp, zero, [], ◌∷◌, ◌≡◌, ℕ, suc, ◌+◌, ◌<◌, ◌≤◌, List, Vec, length, refl, sym, ap, ap₂, ◌∙◌, subst, le_trans, lt_of_lt_of_le, max, inl, inr, vec_capacity}
+use Rattle.std.proofs.lemmas.Grind.{common_steps}
 use Rattle.std.specs.Ordering.{ord_max}
 use Rattle.std.proofs.lemmas.Bool.{cases_lt}
-use Rattle.std.proofs.lemmas.Grind.{common_steps}
 use Rattle.std.proofs.lemmas.List.{length-map}
-use Rattle.sketch_req.specs.Level.{Level, fresh}
+use Rattle.sketch_req.specs.Level.{Level}
 use Rattle.sketch_req.specs.Schedule.{Layout, layouts_of, layout_at, joined_layouts, filled, steps_layouts}
 use Rattle.sketch_req.specs.Walk.{accuracy_of, k_of, with_more}
-use Rattle.sketch_req.specs.declared.RankAccuracy.{RankAccuracy}
 use Rattle.sketch_req.proofs.Buffers.{read-before, read-last}
 use Rattle.sketch_req.proofs.Layouts.{empty-layout, length-layouts, retained-with}
 use Rattle.sketch_req.proofs.MergedLevels.{joined-count}
-use Rattle.sketch_req.proofs.ReservedWalks.{own-reserved, planned-start, planned-more, planned-carried, planned-own, length-more}
+use Rattle.sketch_req.proofs.ReservedWalks.{own-reserved, planned-more, planned-carried, planned-own, length-more}
 use Rattle.sketch_req.proofs.WalkCapacities.{length-joined, retained-joined}
 use Rattle.sketch_req.proofs.WalkSteps.{own-there}
 use Rattle.sketch_req.proofs.sketch.levels.walk.reserve.Given.{Over}
+use Rattle.sketch_req.proofs.sketch.levels.walk.reserve.Goals.{After-count_at-in-loop-level, After-max-most, After-parameters-k, Joined-risen-gt0, then-risen-gt0, else-risen-gt0}
 use Rattle.sketch_req.proofs.sketch.levels.walk.reserve.Goals as goal
 use Rattle.sketch_req.proofs.sketch.levels.walk.reserve.Goals.at as past
-use Rattle.sketch_req.proofs.sketch.levels.walk.reserve.Goals.{After-count_at-in-loop-level, After-max-most, After-parameters-k, Joined-risen-gt0, then-risen-gt0, else-risen-gt0}
-
--- the greater of two numbers
-at-most-greater : (greater m n : ℕ) → greater ≡ ord_max nat_cmp m n → (m ≤ greater) × (n ≤ greater)
-at-most-greater greater m n e = (grind (arith, common_steps), grind (arith, common_steps))
 
 -- a level holds few items after some came
 few-come : (a b here came start first both n m more bound : ℕ) → a + b ≡ here → here + came ≤ start → start + first ≡ both + (first + more) → both ≡ n + m →
@@ -55,14 +49,14 @@ count_to_take_at-came-requires-clause-few g c =
     subst (λ (n : ℕ). n + c.loop-level.came < 4294967296) (ap₂ (λ (n m : ℕ). n + m) c.count_at.ensures c.count_at-in-loop-level.ensures)
     (few g (past.count_to_take_at-came-requires-clause-few g c).After-count_at-in-loop-level)
 
+-- The loop keeps what is known of the next level's turn, and that there is room for the turns so far.
+-- the greater of two numbers
+at-most-greater : (greater m n : ℕ) → greater ≡ ord_max nat_cmp m n → (m ≤ greater) × (n ≤ greater)
+at-most-greater greater m n e = (grind (arith, common_steps), grind (arith, common_steps))
+
 -- the k and accuracy of the sketch
 own : (g : Over) (c : After-parameters-k g) → c.parameters-k.result ≡ (k_of c.args.levels.now, accuracy_of c.args.levels.now)
 own g c = own-there g.T.Ord.cmp _ _ 0 _ _ _ c.requires.levels.placed c.requires.levels.some c.index-levels-0.is c.parameters-k.ensures
-
-pub count_to_take_at-came-requires-clause-blank : goal.count_to_take_at-came-requires-clause-blank
-count_to_take_at-came-requires-clause-blank g c =
-    let told = own g (past.count_to_take_at-came-requires-clause-blank g c).After-parameters-k in
-    c.new-blank.ensures.value ∙ ap (λ (p : ℕ × RankAccuracy). fresh [] true 0 p.0 p.1) told
 
 -- no level up to this one holds more
 none-holds-more : (counts : ℕ → ℕ) (at most more : ℕ) → most ≤ more → counts at ≤ more → ((h : ℕ) → h < at → counts h ≤ most) → (h : ℕ) → h < at + 1 →
@@ -155,22 +149,3 @@ returns g c =
         own = λ h l. i.own (suc h) (lt_of_lt_of_le l (le_trans lengths.0 done)) h refl;
       };
     }
-
-pub overflow_add-here : goal.overflow_add-here
-overflow_add-here g c = let f = few g c in grind (arith, common_steps)
-
-pub new-blank-requires-clause-legal : goal.new-blank-requires-clause-legal
-new-blank-requires-clause-legal g c = grind arith
-
-pub count_to_take_at-came-requires-clause-levels : goal.count_to_take_at-came-requires-clause-levels
-count_to_take_at-came-requires-clause-levels g c = c.requires.levels
-
-pub loop-level-init : goal.loop-level-init
-loop-level-init g c = record {
-  len = c.in_ok-merged.ensures.len;
-  spare = omega (arith, c.in_ok-merged.ensures.capacity);
-  planned = planned-start _ _ _;
-  promoted = λ h l. absurd (not-suc-le-zero l);
-  joined = λ h l. absurd (not-suc-le-zero l);
-  own = λ h l. absurd (not-suc-le-zero l);
-}

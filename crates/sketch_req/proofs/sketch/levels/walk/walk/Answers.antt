@@ -1,10 +1,8 @@
--- The loop keeps what is pending after the turns so far.
-use Rattle.std.proofs.Common.{Vec, le_antisymm, le_of_eq, le_refl, le_trans, lt_of_lt_of_le, Ordering, ◌≡◌, ℕ, ◌+◌, ◌-◌, ◌<◌, ◌≤◌, ◌==◌, Bool, true, if◌then◌else◌, eq-eqb, length-append, List, [], ◌∷◌, ◌++◌, get_or, length, length-set, set, refl, sym, ap, ap₂, ◌∙◌, subst, arith, lt_of_le_of_lt, vec_capacity, IsSorted}
+use Rattle.std.proofs.Common.{arith, Vec, le_antisymm, le_of_eq, le_refl, le_trans, lt_of_lt_of_le, Ordering, ◌≡◌, ℕ, ◌+◌, ◌-◌, ◌<◌, ◌≤◌, ◌==◌, Bool, true, if◌then◌else◌, eq-eqb, length-append, List, [], ◌∷◌, ◌++◌, get_or, length, length-set, set, refl, sym, ap, ap₂, ◌∙◌, subst, lt_of_le_of_lt, vec_capacity, IsSorted}
 use Rattle.std.proofs.lemmas.List.{length-map, nil_from_length}
 use Rattle.sketch_base.proofs.Sorting.{short_sorted}
 use Rattle.sketch_req.specs.Level.{Level, fresh}
 use Rattle.sketch_req.specs.Schedule.{layouts_of, steps_actions, steps_layouts}
-use Rattle.sketch_req.specs.Sections.{IsLegalK}
 use Rattle.sketch_req.specs.Walk.{AreWalked, accuracy_of, k_of, spaces_of}
 use Rattle.sketch_req.specs.declared.RankAccuracy.{RankAccuracy}
 use Rattle.sketch_req.proofs.Buffers.{places-above, read-other, read-there}
@@ -17,6 +15,7 @@ use Rattle.sketch_req.proofs.sketch.levels.walk.walk.Goals.{After-index_mut, Aft
 use Rattle.sketch_req.proofs.sketch.levels.walk.walk.Goals as goal
 use Rattle.sketch_req.proofs.sketch.levels.walk.walk.Goals.at as past
 
+-- The loop keeps what is pending after the turns so far.
 -- how many levels there are
 count_is : (g : _) (c : After-len-count g) → c.len-count.result ≡ length c.args.levels.now.items
 count_is g c = c.len-count.ensures ∙ c.args.levels.now.ok.0
@@ -61,9 +60,6 @@ module _ (g : _) (c : After-index_mut g) where
       ∙ read-there (λ b. vec_capacity b) 0 c.loop-level.buffers.merged.items c.loop-level.level c.index_mut-merged.result.now
       (lt_of_lt_of_le c.loop-level-test.true i.enough) c.index_mut-merged.ensures.value
 
-pub turn-requires-clause-sorted : goal.turn-requires-clause-sorted
-turn-requires-clause-sorted g c = c.loop-level.invariant.sorted
-
 pub turn-requires-clause-few : goal.turn-requires-clause-few
 turn-requires-clause-few g c =
     lt_of_le_of_lt (ready g (past.turn-requires-clause-few g c).After-index_mut).few c.requires.few_items
@@ -73,8 +69,27 @@ turn-requires-clause-space g c =
     let at = (past.turn-requires-clause-space g c).After-index_mut in
     le_trans ((ready g at).own (inside g at)) (le_of_eq (own-there_is g at))
 
-pub turn-requires-clause-nothing : goal.turn-requires-clause-nothing
-turn-requires-clause-nothing g c = c.loop-level.invariant.empty
+-- the highest level gave up items
+module _ (g : _) (c : After-parameters-k g) where
+  abbrev k : ℕ
+  k = k_of c.args.levels.now.items
+
+  abbrev accuracy : RankAccuracy
+  accuracy = accuracy_of c.args.levels.now.items
+
+  some : 0 < length c.loop-level.buffers.coming.items
+  some = grind (arith, c.if-not-is_empty.true, c.is_empty.ensures, c.loop-level.buffers.coming.ok.0)
+
+  ends : c.len-count.result ≡ (c.loop-level.level - 1) + 1
+  ends = le_antisymm c.loop-level-test.false c.loop-level.auto.level-end
+      ∙ pending-above g.met.T.Ord.total _ _ _ _ _ _ _ _ _ _ _ _ c.loop-level.invariant.pending some
+
+  own : c.parameters-k.result ≡ (k, accuracy)
+  own =
+      own-there g.T.Ord.cmp _ _ _ _ _ _ c.loop-level.invariant.pending.placed
+      (subst (λ (n : ℕ). 0 < n) (sym c.args.levels.now.ok.0 ∙ (sym c.len-count.ensures ∙ (sym c.loop-level.invariant.len ∙ c.loop-level.levels.ok.0)))
+      c.requires.levels.some) c.index.ensures
+      c.parameters-k.ensures
 
 pub turn-requires-clause-above : goal.turn-requires-clause-above
 turn-requires-clause-above g c =
@@ -122,50 +137,6 @@ loop-level-preserved g c =
       above = capacity-kept _ _ _ _ (swapped g c).1 c.turn.ensures.coming_capacity i.room;
     }
 
--- the highest level gave up items
-module _ (g : _) (c : After-parameters-k g) where
-  abbrev k : ℕ
-  k = k_of c.args.levels.now.items
-
-  abbrev accuracy : RankAccuracy
-  accuracy = accuracy_of c.args.levels.now.items
-
-  some : 0 < length c.loop-level.buffers.coming.items
-  some = grind (arith, c.if-not-is_empty.true, c.is_empty.ensures, c.loop-level.buffers.coming.ok.0)
-
-  ends : c.len-count.result ≡ (c.loop-level.level - 1) + 1
-  ends = le_antisymm c.loop-level-test.false c.loop-level.auto.level-end
-      ∙ pending-above g.met.T.Ord.total _ _ _ _ _ _ _ _ _ _ _ _ c.loop-level.invariant.pending some
-
-  own : c.parameters-k.result ≡ (k, accuracy)
-  own =
-      own-there g.T.Ord.cmp _ _ _ _ _ _ c.loop-level.invariant.pending.placed
-      (subst (λ (n : ℕ). 0 < n) (sym c.args.levels.now.ok.0 ∙ (sym c.len-count.ensures ∙ (sym c.loop-level.invariant.len ∙ c.loop-level.levels.ok.0)))
-      c.requires.levels.some) c.index.ensures
-      c.parameters-k.ensures
-
-pub add_level-requires-clause-legal : goal.add_level-requires-clause-legal
-add_level-requires-clause-legal g c =
-    let before = (past.add_level-requires-clause-legal g c).After-parameters-k in
-    subst IsLegalK (sym (ap (λ (p : ℕ × RankAccuracy). p.0) (own g before)))
-    (own-levels g.T.Ord.cmp _ _ _ c.requires.levels.some c.requires.levels.placed).legal
-
-pub add_level-requires-clause-few : goal.add_level-requires-clause-few
-add_level-requires-clause-few g c =
-    let before = (past.add_level-requires-clause-few g c).After-parameters-k in
-    omega (arith, c.loop-level-test.false, c.loop-level.invariant.pending.low (some g before))
-
-pub add_level-requires-clause-spare : goal.add_level-requires-clause-spare
-add_level-requires-clause-spare g c = λ _. omega (arith, c.loop-level.invariant.spare, c.loop-level.invariant.len)
-
--- the level that was added is empty
-none : (g : _) (c : After-add_level g) (upper : Level g.row.T.Denot) → upper ≡ get_or c.add_level.new.levels.items c.len-count.result upper →
-    length upper.items ≡ 0
-none g c upper e =
-    let same : c.len-count.result ≡ length c.loop-level.levels.items = sym c.loop-level.invariant.len ∙ c.loop-level.levels.ok.0 in
-    let added = is-added _ _ _ _ (le_of_eq same) c.add_level.ensures.items in
-    ap (λ (l : Level g.row.T.Denot). length l.items) (e ∙ added.new upper (sym same))
-
 -- a list that an item was appended to
 longer-by-one : {A : Type 0} (n : ℕ) (ls ns : List A) (last : A) → n ≡ length ls → ns ≡ (if n == length ls then ls ++ last ∷ [] else ls) → length ns ≡ n + 1
 longer-by-one {A} n ls ns last all e =
@@ -183,20 +154,6 @@ module _ (g : _) (c : After-add_level g) (own : c.parameters-k.result ≡ (k_of 
 
   longer : length c.add_level.new.levels.items ≡ c.len-count.result + 1
   longer = longer-by-one _ _ _ _ (sym c.loop-level.invariant.len ∙ c.loop-level.levels.ok.0) c.add_level.ensures.items
-
-pub index_mut-requires-then-not-is_empty : goal.index_mut-requires-then-not-is_empty
-index_mut-requires-then-not-is_empty g c =
-    let at = past.index_mut-requires-then-not-is_empty g c in
-    let before = at.After-parameters-k in
-    omega (arith, longer g at.After-add_level (own g before) (ends g before), c.add_level.new.levels.ok)
-
-pub absorb-requires-clause-sorted : goal.absorb-requires-clause-sorted
-absorb-requires-clause-sorted g c = c.loop-level.invariant.sorted
-
-pub absorb-requires-clause-capacity : goal.absorb-requires-clause-capacity
-absorb-requires-clause-capacity g c =
-    let none = none g (past.absorb-requires-clause-capacity g c).After-add_level _ c.index_mut-then-not-is_empty.ensures.value in
-    omega (arith, none, c.loop-level.invariant.pending.short, c.loop-level.invariant.above)
 
 pub absorb-requires-clause-few : goal.absorb-requires-clause-few
 absorb-requires-clause-few g c =
@@ -241,6 +198,14 @@ returns-then-not-is_empty g c =
           (accuracy_of ls) ls _ _ count
           (ap₂ (λ (l : List (Level g.row.T.Denot)) (n : ℕ). set l n new) (sym all) (sym ends)) walked;
     }
+
+-- the level that was added is empty
+none : (g : _) (c : After-add_level g) (upper : Level g.row.T.Denot) → upper ≡ get_or c.add_level.new.levels.items c.len-count.result upper →
+    length upper.items ≡ 0
+none g c upper e =
+    let same : c.len-count.result ≡ length c.loop-level.levels.items = sym c.loop-level.invariant.len ∙ c.loop-level.levels.ok.0 in
+    let added = is-added _ _ _ _ (le_of_eq same) c.add_level.ensures.items in
+    ap (λ (l : Level g.row.T.Denot). length l.items) (e ∙ added.new upper (sym same))
 
 pub returns-else-not-is_empty : goal.returns-else-not-is_empty
 returns-else-not-is_empty g c =
