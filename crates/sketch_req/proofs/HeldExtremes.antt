@@ -1,6 +1,6 @@
 -- The extremes of a sketch bound what it retains, and those of a sketch of one level are its items'.
 use Rattle.std.proofs.lemmas.Grind.{common_steps}
-use Rattle.std.proofs.Common.{◌≡◌, ℕ, zero, suc, ◌/◌, ◌<◌, ◌≤◌, inl, inr, Bool, true, false, if◌then◌else◌, List, [], ◌∷◌, ◌++◌, length, map, drop, Option, None, Some, refl, sym, ap, ap₂, ◌∙◌, subst, arith, Ordering, Equal, is_gt, nat_le}
+use Rattle.std.proofs.Common.{◌≡◌, ℕ, zero, suc, ◌/◌, ◌<◌, ◌≤◌, inl, inr, Bool, true, false, if◌then◌else◌, List, [], ◌∷◌, ◌++◌, length, map, drop, Option, None, Some, refl, sym, ap, ◌∙◌, subst, arith, Ordering, Equal, is_gt}
 use Rattle.std.specs.List.{AllByRecursion}
 use Rattle.std.specs.Cmp.{IsTotalOrder}
 use Rattle.std.specs.Option.{option_to_list}
@@ -15,7 +15,7 @@ use Rattle.sketch_base.proofs.Entries.{SameAnswer-itself}
 use Rattle.sketch_base.proofs.AllParts.{AllIn, all-alike, all-compaction, all-alike-levels, all-flat, all-by-level, all-map}
 use Rattle.sketch_req.specs.Actions.{bag_of, coin_kind}
 use Rattle.sketch_req.specs.Level.{Level, taken_side}
-use Rattle.sketch_req.specs.Schedule.{Layout, new_layout, layouts_of, layout_at, nominal, nominal_sum, retained_of, is_full, are_full, taken, compacted, compact_level, compacted_at, step_layouts, steps_actions, steps_layouts, walk_layouts, layouts_if_full, filled}
+use Rattle.sketch_req.specs.Schedule.{Layout, new_layout, layouts_of, layout_at, is_full, are_full, taken, compacted, compact_level, compacted_at, step_layouts, steps_actions, steps_layouts, walk_layouts, layouts_if_full, filled}
 use Rattle.sketch_req.specs.Sketch.{Req, IsSound, HasEnds, IsSmall, items_in, sketch_of}
 use Rattle.sketch_req.specs.Walk.{AreActed, room_of}
 use Rattle.sketch_req.specs.declared.RankAccuracy.{RankAccuracy}

@@ -5,7 +5,7 @@ use Rattle.std.proofs.lemmas.Bool.{false≢true, or_parts}
 use Rattle.sketch_base.specs.Trace.{Action, Compact, Coin, joins_actions}
 use Rattle.sketch_base.specs.Bag.{Taken}
 use Rattle.sketch_req.specs.Level.{Level}
-use Rattle.sketch_req.specs.Moved.{AreMoved, is_moved, moves}
+use Rattle.sketch_req.specs.Moved.{AreMoved, is_moved}
 
 -- without actions nothing is moved
 pub moved-none : {A : Type 0} (ls : List (Level A)) → AreMoved {A = A} [] ls ls

@@ -20,7 +20,6 @@ use Rattle.sketch_req.specs.Level.{Level, IsMerged as IsLevelMerged}
 use Rattle.sketch_req.specs.Merged.{IsMergedBy, item_lists, merge_by, redrawn_if}
 use Rattle.sketch_req.specs.Moved.{AreMoved, AreMergedIn, is_moved, level_or_fresh}
 use Rattle.sketch_req.specs.Schedule.{Layout, layout_of, layouts_of, layout_at}
-use Rattle.sketch_req.specs.Stored.{level_of}
 use Rattle.sketch_req.specs.Sketch.{Req, IsSound, IsUpdated, coins_of_update, update_of, items_in}
 use Rattle.sketch_req.specs.Updates.{AreUpdated, AreUpdatedInTurn, IsUpdatedFirst}
 use Rattle.sketch_req.specs.Walk.{IsPlaced, AreLevels, appended_first}
@@ -31,13 +30,12 @@ use Rattle.sketch_req.proofs.Layouts.{length-layouts}
 use Rattle.sketch_req.proofs.UpdatesInTurn.{bag-first, copy-copied, in-turn-from, laid-first, one_updates, with-clone}
 use Rattle.sketch_base.specs.declared.codec.Header.{Header}
 use Rattle.sketch_base.specs.Heads.{header_text}
-use Rattle.sketch_base.specs.Trace.{next_bit}
-use Rattle.std.proofs.Common.{Equal, Some, None, Option, ◌&&◌, ◌==◌, if◌then◌else◌, nat_le}
+use Rattle.std.proofs.Common.{Equal, Option, ◌&&◌, ◌==◌, if◌then◌else◌, nat_le}
 use Rattle.std.proofs.lemmas.Cmp.{tied_back}
 use Rattle.sketch_req.specs.declared.compactor.image.Front.{Front}
 use Rattle.sketch_req.specs.declared.image.Form.{Form}
 use Rattle.sketch_req.specs.declared.image.Form.TheVariants.{Empty, Raw, One, Several}
-use Rattle.sketch_req.specs.Level.{appended, redrawn_level, turns_coin}
+use Rattle.sketch_req.specs.Level.{appended, turns_coin}
 use Rattle.sketch_req.specs.LevelImage.{front_of, front_text, levels_text}
 use Rattle.sketch_req.specs.Redrawn.{redrawn}
 use Rattle.sketch_req.specs.Written.{form_of, is_first_sorted, header_by, ends_of, body_by, image_text}

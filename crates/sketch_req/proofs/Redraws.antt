@@ -8,14 +8,14 @@ use Rattle.std.proofs.lemmas.List.Folds.{flat_map-map}
 use Rattle.std.proofs.lemmas.List.Sums.{sum_by-cons}
 use Rattle.sketch_base.specs.Bag.{Bag, AlikeReq}
 use Rattle.sketch_base.specs.Random.{bits_from, after_draws}
-use Rattle.sketch_base.specs.Trace.{Action, Redraw, Work, act, acts, alone, bag_after, draws, draws_of, next_bit}
+use Rattle.sketch_base.specs.Trace.{Action, Redraw, Work, act, acts, alone, bag_after, draws_of, next_bit}
 use Rattle.sketch_base.proofs.Changes.{changed-there, changed-other}
 use Rattle.sketch_req.specs.Actions.{bag_of, coins_of}
 use Rattle.sketch_req.specs.Level.{Level, turns_coin, redrawn_level}
 use Rattle.sketch_req.specs.Merged.{redrawn_if, redraws_of}
 use Rattle.sketch_req.specs.Moved.{is_moved}
 use Rattle.sketch_req.specs.Redrawn.{redrawn}
-use Rattle.sketch_req.specs.Schedule.{Layout, layout_of, layouts_of, turning_levels, redraws_from, redraw_actions, retained_of, weight_of}
+use Rattle.sketch_req.specs.Schedule.{Layout, layout_of, layouts_of, turning_levels, redraws_from, redraw_actions}
 use Rattle.sketch_req.specs.Sketch.{items_in}
 use Rattle.sketch_req.specs.Walk.{AreLevels, AreOwn, AreActed}
 use Rattle.sketch_req.specs.declared.RankAccuracy.{RankAccuracy}

@@ -13,7 +13,7 @@ use Rattle.sketch_base.specs.Trace.{Action, Put, Work, act, acts, alone, bag_aft
 use Rattle.sketch_base.proofs.Alikes.{acts-req}
 use Rattle.sketch_base.proofs.AllParts.{all-same}
 use Rattle.sketch_base.proofs.CallsInTurn.{acts-enough, bits-take, bits-drop, draws-append}
-use Rattle.sketch_base.proofs.Entries.{SameAnswer-itself, SameAnswer-trans}
+use Rattle.sketch_base.proofs.Entries.{SameAnswer-itself}
 use Rattle.sketch_base.proofs.Extremes.{least-on, greatest-on, least_itself, greatest_itself}
 use Rattle.sketch_base.proofs.Items.{SameItems-refl, SameItems-trans, SameItems-back, SameItems-append}
 use Rattle.sketch_base.proofs.OneExtreme.{one_least, one_greatest}

@@ -24,7 +24,7 @@ pub fn reserve_next<T: Drop>(items: &mut Vec<T>, most: usize) -> Result<(), Allo
 }
 
 /// Makes room for a quarter and 4 more items, or up to `most` items if that is less, but for at
-/// least one. It is rarely called and not inlined, so that an update that finds room stays short.
+/// least one.
 #[cold]
 #[inline(never)]
 fn grow<T: Drop>(items: &mut Vec<T>, most: usize) -> Result<(), AllocError>
@@ -42,20 +42,6 @@ fn grow<T: Drop>(items: &mut Vec<T>, most: usize) -> Result<(), AllocError>
     items.reserve_exact((len / 4 + 4).min(left))
 }
 
-/// Makes room for `more` additional items. A vector that lacks it grows by at least a quarter.
-pub fn reserve_more<T>(items: &mut Vec<T>, more: usize) -> Result<(), AllocError>
-    ensures items { items.new.items ≡ items.old.items }
-    ensures ok { OnOk result (vec_len items.new + more ≤ vec_capacity items.new) }
-    ensures lean { OnOk result (vec_capacity items.new
-        ≤ max (vec_capacity items.old) (vec_len items.old + max more (vec_len items.old / 4))) }
-{
-    let len = items.len();
-    if items.capacity() - len >= more {
-        return Ok(());
-    }
-    items.reserve_exact(more.max(len / 4))
-}
-
 /// Moves the items to the other vector and swaps the two, if the first has room for over a quarter
 /// more items. The other one is emptied first, and grows if it lacks room for the items. If memory
 /// runs out, the items stay where they are.
@@ -65,7 +51,7 @@ pub fn move_if_loose<T: Drop>(items: &mut Vec<T>, other: &mut Vec<T>)
 {
     let len = items.len();
     other.clear();
-    if items.capacity() - len > len / 4 && reserve_more(other, len).is_ok() {
+    if items.capacity() - len > len / 4 && other.reserve_exact(len).is_ok() {
         other.append(items).unwrap();
         mem::swap(items, other);
     }
