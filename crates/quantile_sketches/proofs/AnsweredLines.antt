@@ -1,104 +1,42 @@
 -- A line is answered: the run goes on by it, or ends where its answer can't be written.
-use Rattle.std.proofs.Common.{◌≡◌, ◌∙◌, ℕ, ℤ, ◌+◌, ◌≤◌, ◌<◌, ◌==◌, List, [], ◌∷◌, ◌++◌, length, take, sym, ap, subst, arith, length-take-le, Option, Some, None, IfSome, Result, Ok, Err, IfErr, IsOk, IsErr}
+use Rattle.std.proofs.Common.{◌≡◌, ◌∙◌, ℕ, ℤ, ◌+◌, ◌<◌, List, [], ◌∷◌, ◌++◌, length, ap, subst, arith, Option, Some, IfSome, Result, Ok, IsOk, IsErr}
 use Rattle.std.proofs.lemmas.Option.{MatchOption-at_some}
-use Rattle.std.specs.Int.{w64}
-use Rattle.std.specs.Io.BufRead.{DropsConsumable, DropsThrough, strip_last, take_through}
-use Rattle.std.specs.Io.Buffered.{reader_buffer, reader_remaining}
-use Rattle.std.specs.Io.KnownBytes.{IsAtEnd}
-use Rattle.std.specs.List.{position_or_len}
-use Rattle.std.specs.Result.{IsErrAnd}
-use Rattle.std.specs.declared.io.buffered.BufReader.{BufReader}
-use Rattle.sketch_base.specs.Random.{next_state}
-use Rattle.quantile_sketches.specs.declared.answer.Refusal.{Refusal}
+use Rattle.std.specs.Io.BufRead.{DropsThrough, strip_last, take_through}
 use Rattle.quantile_sketches.specs.Answer.{answer_text}
-use Rattle.quantile_sketches.specs.Behaviour.{Behaviour, coin_of_state}
+use Rattle.quantile_sketches.specs.Behaviour.{Behaviour}
 use Rattle.quantile_sketches.specs.Command.{request_of}
-use Rattle.quantile_sketches.specs.LineSteps.{Answers, CarriesOutItem, Reply, reply_of}
-use Rattle.quantile_sketches.specs.LineWords.{words, BeginsWithUpdate}
+use Rattle.quantile_sketches.specs.LineSteps.{Answers, Reply}
+use Rattle.quantile_sketches.specs.LineWords.{words}
 use Rattle.quantile_sketches.specs.Lines.{Ends, TakesLine}
 use Rattle.quantile_sketches.specs.Output.{Writes}
 use Rattle.quantile_sketches.specs.Reader.{Grammar}
-use Rattle.quantile_sketches.specs.declared.commands.Command.TheVariants.{Update}
-use Rattle.quantile_sketches.proofs.FirstLine.{takes_buffered, takes_read}
+use Rattle.quantile_sketches.proofs.FirstLine.{takes_read}
 use Rattle.quantile_sketches.proofs.LineRuns.{Running, ends-broken, running-line}
 use Rattle.quantile_sketches.proofs.Outputs.{writes-as}
-use Rattle.quantile_sketches.proofs.UpdateLines.{answers-update}
-use mir.Val.{to_z, of_z}
-
--- a place that isn't the end is before it
-inside : (n : ℕ) {k l m : ℕ} → n ≤ k → (n ≡ l → ⊥) → k ≡ m → l ≡ m → n < m
-inside n most ends e f = omega (arith, most, ends, e, f)
-
--- the first n of the same bytes
-pub taken-whole : (n : ℕ) (b b' : List ℕ) {whole : List ℕ} → n ≤ length b → b ≡ whole → b' ≡ whole → n ≡ length (take n b')
-taken-whole n b b' most e f = sym (length-take-le n b' (subst (λ (xs : List ℕ). n ≤ length xs) (e ∙ sym f) most))
 
 -- what was read isn't empty
 some-read : {k l m n : ℕ} → m ≡ l → m ≡ k + n → k ≡ 0 → (n ≡ 0 → ⊥) → 0 < l
 some-read long more none some = omega (arith, long, more, none, some)
-
--- a value isn't none
-pub some-none : {A P : Type 0} {x : A} → Some x ≡ None → P
-some-none e = absurd cc
-
--- the end of the input, where nothing was taken before
-pub end-kept : {A B X : Type 0} {a a' : A} {b b' : B} (remaining : X → Option (List ℕ)) (x x' : X) → (a' ≡ a) × (b' ≡ b) × (x' ≡ x) → IsAtEnd (remaining x') →
-    IsAtEnd (remaining x)
-end-kept remaining x x' (same, same', same_left) end = rw (← same_left) end
 
 abbrev done : Result Unit Unit
 done = Ok tt
 
 module _ {S C : Type 0} (grammar : Grammar C) (behaviour : Behaviour S ℤ C) where
   -- a line is taken from what is left, and has this answer
-  abbrev AnswersLine : Option (List ℕ) → Option (List ℕ) → List (Option S) → ℕ → List (Option S) → ℕ → Reply → Type 0
+  abbrev pub AnswersLine : Option (List ℕ) → Option (List ℕ) → List (Option S) → ℕ → List (Option S) → ℕ → Reply → Type 0
   AnswersLine left left' slots coins slots' coins' a =
-      (line : List ℕ) × TakesLine left line left' × Answers behaviour (request_of grammar (words line)) (words line) slots coins a slots' coins'
-
-  -- the line of an update that lies whole in the buffer
-  pub update-answered : {T A : Type 0} (remaining : T → Option (List ℕ)) (input : BufReader T A) (left : Option (List ℕ)) (text : List ℕ) {slot len : ℕ}
-      {item : ℤ}
-      (slots slots' : List (Option S)) (coins coins' : ℕ) (v : Result Unit Refusal) → text ≡ reader_buffer input → BeginsWithUpdate text slot item len →
-      DropsConsumable (reader_remaining remaining input) left (Some (length (reader_buffer input))) (len + 1) →
-      CarriesOutItem behaviour coin_of_state next_state (Update slot (to_z w64 (of_z w64 item))) slots coins v slots' coins' →
-      AnswersLine (reader_remaining remaining input) left slots coins slots' coins' (reply_of v)
-  update-answered remaining input left text {slot} {len} {item} slots slots' coins coins' v same begins dropped carried =
-      let ahead : BeginsWithUpdate (reader_buffer input) slot item len = subst (λ (t : List ℕ). BeginsWithUpdate t slot item len) same begins in (
-        take len (reader_buffer input),
-        takes_buffered _ (reader_buffer input) _ left len ahead.place ahead.within dropped,
-        answers-update grammar behaviour (reader_buffer input) slot item len ahead slots slots' coins coins' v carried,
-      )
-
-  -- a line that lies whole in the buffer, which was read three times
-  pub buffered-answered : {T A : Type 0} (remaining : T → Option (List ℕ)) (input : BufReader T A) (left : Option (List ℕ)) (n : ℕ) {b b' b'' : List ℕ}
-      (slots slots' : List (Option S)) (coins coins' : ℕ) (a : Reply) → n ≡ position_or_len (λ x. x == 10) b → n ≤ length b → (n ≡ length b' → ⊥) →
-      b ≡ reader_buffer input → b' ≡ reader_buffer input → b'' ≡ reader_buffer input →
-      DropsConsumable (reader_remaining remaining input) left (Some (length (reader_buffer input))) (n + 1) →
-      Answers behaviour (request_of grammar (words (take n b''))) (words (take n b'')) slots coins a slots' coins' →
-      AnswersLine (reader_remaining remaining input) left slots coins slots' coins' a
-  buffered-answered remaining input left n slots slots' coins coins' a place most ends same same' same'' dropped answered = (
-    take n (reader_buffer input),
-    takes_buffered _ (reader_buffer input) _ left n (place ∙ ap (position_or_len (λ x. x == 10)) same) (inside n most ends (ap length same) (ap length same'))
-        dropped,
-    subst (λ (b : List ℕ). Answers behaviour (request_of grammar (words (take n b))) (words (take n b)) slots coins a slots' coins') same'' answered,
-  )
+      (line : List ℕ) × TakesLine left line left' × Answers behaviour (request_of grammar (words line)) slots coins a slots' coins'
 
   -- the answer that a line was found to have
   pub line-found : (left left' : Option (List ℕ)) (slots slots' : List (Option S)) (coins coins' : ℕ) (found : Option Reply) (a : Reply) → found ≡ Some a →
       IfSome found (AnswersLine left left' slots coins slots' coins') → AnswersLine left left' slots coins slots' coins' a
   line-found left left' slots slots' coins coins' found a is answered = MatchOption-at_some _ _ a is answered
 
-  -- a line is taken where nothing was taken before
-  pub line-kept : {X : Type 0} (remaining : X → Option (List ℕ)) (x x' : X) (left' : Option (List ℕ)) {slots slots' slots'' : List (Option S)}
-      {coins coins' coins'' : ℕ} (a : Reply) → (slots' ≡ slots) × (coins' ≡ coins) × (x' ≡ x) →
-      AnswersLine (remaining x') left' slots' coins' slots'' coins'' a → AnswersLine (remaining x) left' slots coins slots'' coins'' a
-  line-kept remaining x x' left' a (same_slots, same_coins, same_left) answered = rw (← same_left, ← same_slots, ← same_coins) answered
-
   -- a line that is read behind nothing, with its line feed
   pub read-answered : (left left' : Option (List ℕ)) {line before cut : List ℕ} {m k n : ℕ} (bare : List ℕ) {slots slots' : List (Option S)} {coins coins' : ℕ}
       {a : Reply} →
       m ≡ length line → m ≡ k + n → k ≡ 0 → (n ≡ 0 → ⊥) → IfSome left (λ xs. line ≡ before ++ take_through 10 xs) → before ≡ [] → DropsThrough left left' 10 →
-      bare ≡ strip_last 10 cut → cut ≡ line → Answers behaviour (request_of grammar (words bare)) (words bare) slots coins a slots' coins' →
+      bare ≡ strip_last 10 cut → cut ≡ line → Answers behaviour (request_of grammar (words bare)) slots coins a slots' coins' →
       AnswersLine left left' slots coins slots' coins' a
   read-answered left left' {line} bare long more none some bytes nothing rest stripped whole answered = (
     bare,

@@ -112,11 +112,6 @@ writes-fail w first rest text waiting' r' e fails h =
 pub writes-as : {T E T' E' : Type 0} {r : Result T E} {c c' : Option (List ℕ)} {owed waiting : List ℕ} (r' : Result T' E') → Writes r c c' owed waiting → IsOk r → Writes r' c c' owed waiting
 writes-as {r = r} r' h ok = record { sent = h.sent; left = h.left; parts = h.parts; out = h.out; waits = ok-so r' (held-ok r ok h.waits) }
 
--- the same where nothing waits any more
-pub writes-passed : {T E T' E' : Type 0} {r : Result T E} {c c' : Option (List ℕ)} {owed waiting : List ℕ} (r' : Result T' E') → Writes r c c' owed [] → IsOk r →
-    waiting ≡ [] → Writes r' c c' owed waiting
-writes-passed r' h ok nothing = rw nothing (writes-as r' h ok)
-
 -- all that was owed is out if nothing waits
 pub all-out : {T E : Type 0} {r : Result T E} {c c' : Option (List ℕ)} {owed waiting : List ℕ} → Writes r c c' owed waiting → IsOk r → waiting ≡ [] → Appends c c' owed
 all-out {r = r} h ok nothing = rw (h.parts, held-ok r ok h.waits ∙ nothing, append-nil h.sent) h.out

@@ -2,6 +2,7 @@
 use Rattle.std.proofs.Common.{◌≡◌, ℕ, ◌*◌, ◌≤◌, Bool, List, Option, Some, sym, ap, ◌∙◌, subst, Ordering}
 use Rattle.std.specs.Cmp.{IsTotalOrder}
 use Rattle.std.specs.Option.{option_map}
+use Rattle.sketch_base.specs.Exact.{IsExactUpTo}
 use Rattle.sketch_base.specs.declared.common.SearchCriteria.{SearchCriteria}
 use Rattle.sketch_base.specs.Bag.{Bag, AlikeReq, expanded}
 use Rattle.sketch_base.specs.Lengths.{start_lengths}
@@ -19,16 +20,15 @@ use Rattle.quantile_sketches.specs.ReqRules.{ReqShape, req_rules}
 use Rattle.quantile_sketches.specs.Run.{stream_of}
 use Rattle.quantile_sketches.specs.ReqOutcome.{TailsAreExact}
 use Rattle.quantile_sketches.specs.RunSummaries.{AreSummaries}
-use Rattle.sketch_req.specs.Summaries.{IsExactUpTo}
 use Rattle.sketch_req.proofs.ExactAnswers.{tail-ranks}
-use Rattle.sketch_req.proofs.ExactTraces.{exact-trace}
+use Rattle.sketch_base.proofs.ExactTails.{exact-as, exact-trace}
 use Rattle.sketch_req.proofs.KeptTails.{is_protected, spares-tail}
 use Rattle.quantile_sketches.proofs.LegalPlans.{along-even, run-legal}
 use Rattle.quantile_sketches.proofs.ReqLeftOut.{req-left-out}
 use Rattle.quantile_sketches.proofs.ReqRuleLaws.{req_lawful}
 use Rattle.quantile_sketches.proofs.ReqTails.{run-leaves, run-tails}
 use Rattle.quantile_sketches.proofs.Streams.{run-ranks}
-use Rattle.sketch_req.proofs.Summaries.{exact-as, off-is, off-rank, off-alike}
+use Rattle.sketch_req.proofs.Summaries.{off-is, off-rank, off-alike}
 
 module _ {A : Type 0} {cmp : A → A → Ordering} (o : IsTotalOrder cmp) where
   -- a sketch of the planned shape that is alike to its slot's bag in the play of the commands counts the accurate side exactly up to the tail

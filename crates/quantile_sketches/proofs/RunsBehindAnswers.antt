@@ -59,19 +59,19 @@ module _ {C Shape S : Type 0} (grammar : Grammar C) {kind : Kind ℤ C Shape S} 
             standing-same lawful coin_of_state next_state seed commands (in_slot slots) (in_slot slots') coins coins' st same.0 same.1,
           )
 
-  loaded : (run : Known C) (slot : ℕ) (made : Result S ErrorKind → Type 0) (slots : Slots S) (coins : ℕ) (v : Result Unit Refusal) (slots' : Slots S) (coins' : ℕ) →
-      Makes made slot slots v slots' → coins' ≡ coins → OfRun run slots coins → OfRun (run_after run (Some (Load slot)) (reply_of v)) slots' coins'
-  loaded run slot made slots coins (Ok tt) slots' coins' h same of = tt
-  loaded run slot made slots coins (Err (Sketch e)) slots' coins' h same of = stays run slots coins slots' coins' h.1 same of
-  loaded run slot made slots coins v slots' coins' h same of = absurd h
+  loaded : (run : Known C) (slot : ℕ) (image : List (List ℕ)) (made : Result S ErrorKind → Type 0) (slots : Slots S) (coins : ℕ) (v : Result Unit Refusal) (slots' : Slots S) (coins' : ℕ) →
+      Makes made slot slots v slots' → coins' ≡ coins → OfRun run slots coins → OfRun (run_after run (Some (Load slot image)) (reply_of v)) slots' coins'
+  loaded run slot image made slots coins (Ok tt) slots' coins' h same of = tt
+  loaded run slot image made slots coins (Err (Sketch e)) slots' coins' h same of = stays run slots coins slots' coins' h.1 same of
+  loaded run slot image made slots coins v slots' coins' h same of = absurd h
 
-  answered : (run : Known C) (command : Option (Request C)) (line : List (List ℕ)) (slots : Slots S) (coins : ℕ) (r : Reply) (slots' : Slots S) (coins' : ℕ) →
-      Answers behaviour command line slots coins r slots' coins' → OfRun run slots coins → OfRun (run_after run command r) slots' coins'
-  answered run None line slots coins r slots' coins' h of = stays run slots coins slots' coins' h.1 h.2 of
-  answered run (Some (Run command)) line slots coins r slots' coins' (v, is, h) of = rw is (carried run command slots coins v slots' coins' h of)
-  answered run (Some (Load slot)) line slots coins r slots' coins' (v, is, h, same) of =
-      rw is (loaded run slot (ReadsImage behaviour (image_in line)) slots coins v slots' coins' h same of)
-  answered run (Some query) line slots coins r slots' coins' h of = stays run slots coins slots' coins' h.1 h.2 of
+  answered : (run : Known C) (command : Option (Request C)) (slots : Slots S) (coins : ℕ) (r : Reply) (slots' : Slots S) (coins' : ℕ) →
+      Answers behaviour command slots coins r slots' coins' → OfRun run slots coins → OfRun (run_after run command r) slots' coins'
+  answered run None slots coins r slots' coins' h of = stays run slots coins slots' coins' h.1 h.2 of
+  answered run (Some (Run command)) slots coins r slots' coins' (v, is, h) of = rw is (carried run command slots coins v slots' coins' h of)
+  answered run (Some (Load slot image)) slots coins r slots' coins' (v, is, h, same) of =
+      rw is (loaded run slot image (ReadsImage behaviour (image_in image)) slots coins v slots' coins' h same of)
+  answered run (Some query) slots coins r slots' coins' h of = stays run slots coins slots' coins' h.1 h.2 of
 
   -- before each line that is answered, the sketches are those of a run, and keep every promise that the sketches of a run keep
   module _ (promise : List (Command ℤ C) → ℕ → S → Type 0)
@@ -84,7 +84,7 @@ module _ {C Shape S : Type 0} (grammar : Grammar C) {kind : Kind ℤ C Shape S} 
         AnswersWhere grammar behaviour (AreOfRunKeeping kind promise seed) run slots coins ls out
     answers-where run slots coins [] out of e = (of-run run slots coins of, e)
     answers-where run slots coins (l ∷ ls) out of (r, slots', coins', rest, a, more, e) =
-        let after = answered run (request_of grammar (words l)) (words l) slots coins r slots' coins' a of in
+        let after = answered run (request_of grammar (words l)) slots coins r slots' coins' a of in
         (of-run run slots coins of, r, slots', coins', rest, a, answers-where (run_after run (request_of grammar (words l)) r) slots' coins' ls rest after more, e)
 
     -- from empty slots on

@@ -4,7 +4,8 @@ use Rattle.std.specs.Prelude.{MatchResult}
 use Rattle.sketch_base.specs.declared.error.ErrorKind.{ErrorKind}
 use Rattle.sketch_base.specs.declared.error.ErrorKind.TheVariants.{InvalidArgument}
 use Rattle.quantile_sketches.specs.declared.answer.Refusal.{Refusal}
-use Rattle.quantile_sketches.specs.Behaviour.{Behaviour, Change, Masses}
+use Rattle.sketch_base.specs.Queried.{Masses}
+use Rattle.quantile_sketches.specs.Behaviour.{Behaviour, Change}
 use Rattle.quantile_sketches.specs.LineSteps.{Reply, Asks, Turns, Joins, JoinsCopy, IsRefusal, AnswersMasses}
 use Rattle.quantile_sketches.specs.LineWords.{rise}
 use Rattle.quantile_sketches.specs.declared.answer.Answer.TheVariants.{Ranks}

@@ -3,7 +3,7 @@ use Rattle.std.proofs.Common.{◌≡◌, ◌≢◌, ℕ, ℤ, ◌==◌, Bool, tr
 use Rattle.std.specs.Cmp.{IsTotalOrder}
 use Rattle.std.specs.Option.{option_and_then, option_map}
 use Rattle.std.specs.Ordering.{int_cmp}
-use Rattle.std.specs.Prelude.{unwrap_or}
+use Rattle.std.specs.Prelude.{drop, slice_get, unwrap_or}
 use Rattle.std.specs.Result.{result_ok}
 use Rattle.std.proofs.lemmas.Bool.{eqb-false, false≢true}
 use Rattle.std.proofs.lemmas.Cmp.{int_cmp_total}
@@ -284,25 +284,25 @@ module _ {cmp : ℤ → ℤ → Ordering} (order : IsTotalOrder cmp) (spelling :
       let same = (one image o.0 s o.1 h.0.0.0 o.2 h.0.0.1).0 in
       record { sound = h.0.1; as_told = (same.k ∙ o.3.0, copy-summarizes order o.0 s w.stream w.tail same o.3.1) }
 
-  answered : (told : ℕ → Option (Told ℤ)) (request : Option (Request (ℕ × RankAccuracy))) (line : List (List ℕ)) (slots : Slots (Req ℤ)) (coins : ℕ) (r : Reply) (slots' : Slots (Req ℤ)) (coins' : ℕ) →
-      Answers (req cmp spelling) request line slots coins r slots' coins' → Good told slots → Good (told_after origins told request line r) slots'
-  answered told None line slots coins r slots' coins' h good = subst (Good told) (sym h.1) good
-  answered told (Some (Run command)) line slots coins r slots' coins' (v, is, h) good =
+  answered : (told : ℕ → Option (Told ℤ)) (request : Option (Request (ℕ × RankAccuracy))) (slots : Slots (Req ℤ)) (coins : ℕ) (r : Reply) (slots' : Slots (Req ℤ)) (coins' : ℕ) →
+      Answers (req cmp spelling) request slots coins r slots' coins' → Good told slots → Good (told_after origins told request r) slots'
+  answered told None slots coins r slots' coins' h good = subst (Good told) (sym h.1) good
+  answered told (Some (Run command)) slots coins r slots' coins' (v, is, h) good =
       rw is (ran v (carried order spelling one coin_of_state next_state told slots slots' coins coins' good command v h))
     where
-      ran : (v : Result Unit Refusal) → After order spelling one coin_of_state next_state told (told_after_command told command) v slots' → Good (told_after origins told (Some (Run command)) line (reply_of v)) slots'
+      ran : (v : Result Unit Refusal) → After order spelling one coin_of_state next_state told (told_after_command told command) v slots' → Good (told_after origins told (Some (Run command)) (reply_of v)) slots'
       ran (Ok done) a = a
       ran (Err refusal) a = a
-  answered told (Some (Load slot)) line slots coins r slots' coins' (v, is, h, same) good = rw is (go v h)
+  answered told (Some (Load slot image)) slots coins r slots' coins' (v, is, h, same) good = rw is (go v h)
     where
-      go : (v : Result Unit Refusal) → Makes (ReadsImage (req cmp spelling) (image_in line)) slot slots v slots' → Good (told_after origins told (Some (Load slot)) line (reply_of v)) slots'
+      go : (v : Result Unit Refusal) → Makes (ReadsImage (req cmp spelling) (image_in image)) slot slots v slots' → Good (told_after origins told (Some (Load slot image)) (reply_of v)) slots'
       go (Ok done) (s, o, held, made, set_is) =
-          put order spelling one coin_of_state next_state told slots slots' slot o (Some s) (origins (image_in line)) held set_is good
-          (λ t e. subst (IsGood order spelling one coin_of_state next_state (origins (image_in line))) (some-same order spelling one coin_of_state next_state s t e) (from-origin (image_in line) s made (origins (image_in line)) refl))
+          put order spelling one coin_of_state next_state told slots slots' slot o (Some s) (origins (image_in image)) held set_is good
+          (λ t e. subst (IsGood order spelling one coin_of_state next_state (origins (image_in image))) (some-same order spelling one coin_of_state next_state s t e) (from-origin (image_in image) s made (origins (image_in image)) refl))
       go (Err (Sketch e)) h = subst (Good told) (sym h.1) good
       go (Err BadLine) h = absurd h
       go (Err AbsentSlot) h = absurd h
-  answered told (Some query) line slots coins r slots' coins' h good = subst (Good told) (sym h.1) good
+  answered told (Some query) slots coins r slots' coins' h good = subst (Good told) (sym h.1) good
 
   told-of : (told : ℕ → Option (Told ℤ)) (slots : Slots (Req ℤ)) → Good told slots → AreAsTold cmp told slots
   told-of told slots good slot s e = (good slot s e).as_told
@@ -311,14 +311,14 @@ module _ {cmp : ℤ → ℤ → Ordering} (order : IsTotalOrder cmp) (spelling :
       Serves grammar (req cmp spelling) slots coins ls out → AnswersAsTold cmp grammar (req cmp spelling) origins told slots coins ls out
   answers-told grammar told slots coins [] out good e = (told-of told slots good, e)
   answers-told grammar told slots coins (l ∷ ls) out good (r, slots', coins', rest, a, more, e) =
-      let next = answered told (request_of grammar (words l)) (words l) slots coins r slots' coins' a good in (
+      let next = answered told (request_of grammar (words l)) slots coins r slots' coins' a good in (
         told-of told slots good,
         r,
         slots',
         coins',
         rest,
         a,
-        answers-told grammar (told_after origins told (request_of grammar (words l)) (words l) r) slots' coins' ls rest next more,
+        answers-told grammar (told_after origins told (request_of grammar (words l)) r) slots' coins' ls rest next more,
         e,
       )
 
@@ -333,11 +333,16 @@ module _ {cmp : ℤ → ℤ → Ordering} (order : IsTotalOrder cmp) (spelling :
       none : Good (λ slot. None) (replicate SLOTS None)
       none q s e = absurd (not-some s (sym (in_slot-none SLOTS q) ∙ e))
 
+third-word : (line : List (List ℕ)) → slice_get (drop 2 line) 0 ≡ slice_get line 2
+third-word [] = refl
+third-word (verb ∷ []) = refl
+third-word (verb ∷ slot ∷ ws) = refl
+
 -- what is answered as an image is true of it
 pub shown-true : ShownAreTrue
 shown-true s told bytes line as_told imaged fits third =
-    let read : image_in line ≡ bytes.items =
-    ap (λ (o : Option (List ℕ)). unwrap_or (option_and_then hex_of o) []) third
+    let read : image_in (drop 2 line) ≡ bytes.items =
+    ap (λ (o : Option (List ℕ)). unwrap_or (option_and_then hex_of o) []) (third-word line ∙ third)
     ∙ ap (λ (r : Result (List ℕ) _). unwrap_or (result_ok r) []) (decode_of-encode_lower bytes.items fits) in (
       without_coins s,
       [],

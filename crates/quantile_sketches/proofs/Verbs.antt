@@ -10,11 +10,6 @@ use Rattle.quantile_sketches.specs.declared.command.Request.{Request}
 use Rattle.quantile_sketches.specs.declared.command.Request.TheVariants.{Run}
 use Rattle.quantile_sketches.proofs.ReadWords.{then-none, then-read}
 
--- the words of an update
-pub asks_for_update : {C : Type 0} (grammar : Grammar C) (s i : List ℕ) (slot : ℕ) (item : ℤ) → unsigned_of 8 s ≡ Some slot → item_of i ≡ Some item →
-    request_of grammar (codes "update" ∷ s ∷ i ∷ []) ≡ Some (Run (Update slot item))
-asks_for_update grammar s i slot item is_slot is_item = rw (is_slot, is_item) refl
-
 -- a verb and a slot are read one after the other
 pub asked-by : {C : Type 0} (grammar : Grammar C) (ws ws' : List (List ℕ)) {ws'' : List (List ℕ)} (verb : List ℕ) {slot : ℕ} {r : Option (Request C)} →
     r ≡ parse_asked grammar verb slot ws'' → Some verb ≡ slice_get ws 0 → ws' ≡ drop 1 ws → Some slot ≡ option_and_then parse_slot (slice_get ws' 0) →

@@ -3,8 +3,7 @@ use Rattle.std.specs.Prelude.{◌≡◌, ◌≢◌, ◌⊎◌, ◌^◌, ◌+◌,
 use Rattle.std.specs.declared.alloc.Global.{Global}
 use Rattle.std.specs.declared.vec.Vec.{Vec}
 use Rattle.std.specs.declared.cmp.Ordering.{Ordering}
-use Rattle.sketch_base.specs.Bag.{expanded, retained}
-use Rattle.sketch_base.specs.Queries.{cdf_of, pmf_of}
+use Rattle.sketch_base.specs.Bag.{retained}
 use Rattle.sketch_base.specs.Random.{bits_from, after_draws}
 use Rattle.sketch_base.specs.declared.error.ErrorKind.{ErrorKind}
 use Rattle.sketch_base.specs.declared.error.ErrorKind.TheVariants.{InvalidArgument, InvalidData, OutOfMemory}
@@ -17,10 +16,10 @@ use Rattle.sketch_req.specs.Redrawn.{redrawn_sketch, coins_of_redraw}
 use Rattle.sketch_req.specs.Sections.{IsLegalK}
 use Rattle.sketch_req.specs.ImageLaws.{without_coins}
 use Rattle.sketch_req.specs.Sketch.{Req, IsSound, IsUpdated, coins_of_update}
+use Rattle.sketch_req.specs.Views.{queried}
 use Rattle.sketch_req.specs.Written.{image_text}
 use Rattle.sketch_req.specs.declared.RankAccuracy.{RankAccuracy}
 use Rattle.quantile_sketches.specs.Behaviour.{Behaviour}
-use Rattle.quantile_sketches.specs.Queried.{IsRank, IsQuantile, AreRanks}
 use Rattle.quantile_sketches.specs.ReqKind.{HasImage}
 
 module _ {A : Type 0} (cmp : A → A → Ordering) (spelling : A → Option (List ℕ)) where
@@ -110,10 +109,7 @@ module _ {A : Type 0} (cmp : A → A → Ordering) (spelling : A → Option (Lis
     redrawn = λ Source bit next. DrawsAnew bit next;
     joined = λ redraws other Source bit next. JoinsIn bit next redraws other;
     refuses = λ redraws s o answer. IsTrue answer ↔ IsUnfit s o;
-    rank = λ s. IsRank cmp s.n (bag_of s.levels);
-    quantile = λ s. IsQuantile cmp s.n (bag_of s.levels) s.least s.greatest;
-    cdf = λ s points criteria. AreRanks cmp s.n points (cdf_of cmp criteria (expanded cmp (bag_of s.levels)) points);
-    pmf = λ s points criteria. AreRanks cmp s.n points (pmf_of cmp criteria (expanded cmp (bag_of s.levels)) points);
+    queried = queried cmp;
     imaged = IsImaged;
     loaded = IsLoaded;
   }

@@ -23,8 +23,8 @@ abbrev pub run_after : {C : Type 0} → Known C → Option (Request C) → Reply
 run_after run None reply = run
 run_after run (Some (Run command)) (Ok answer) = option_map (λ commands. commands ++ command ∷ []) run
 run_after run (Some (Run command)) (Err refusal) = run
-run_after run (Some (Load slot)) (Ok answer) = None
-run_after run (Some (Load slot)) (Err refusal) = run
+run_after run (Some (Load slot image)) (Ok answer) = None
+run_after run (Some (Load slot image)) (Err refusal) = run
 run_after run (Some query) reply = run
 
 -- the sketches and the coins are those that a run of these commands gives, from empty slots and the seed of SplitMix64 on; the
@@ -42,6 +42,6 @@ module _ {C S : Type 0} (grammar : Grammar C) (behaviour : Behaviour S ℤ C) (H
   AnswersWhere run slots coins (l ∷ ls) out =
       Holds run slots coins
       × (r : _) × (slots' : _) × (coins' : _) × (rest : _)
-      × Answers behaviour (request_of grammar (words l)) (words l) slots coins r slots' coins'
+      × Answers behaviour (request_of grammar (words l)) slots coins r slots' coins'
       × AnswersWhere (run_after run (request_of grammar (words l)) r) slots' coins' ls rest
       × (out ≡ answer_text r ++ (10 ∷ rest))

@@ -1,5 +1,5 @@
 -- What the sketches behind the answers to lines summarize, also after images were loaded.
-use Rattle.std.specs.Prelude.{◌≡◌, ◌++◌, ℕ, ℤ, min, List, [], ◌∷◌, Option, None, Some, Ok, Err, MatchOption, ⊤, replicate, slice_get}
+use Rattle.std.specs.Prelude.{◌≡◌, ◌++◌, ℕ, ℤ, min, List, [], ◌∷◌, Option, None, Some, Ok, Err, MatchOption, ⊤, replicate, slice_get, drop}
 use Rattle.std.specs.Option.{option_map}
 use Rattle.std.specs.Ordering.{int_cmp}
 use Rattle.std.specs.declared.alloc.Global.{Global}
@@ -75,14 +75,14 @@ told_after_command told (RoundTrip slot) = changed told slot (told slot)
 told_after_command told (Redraw slot) = changed told slot (told slot)
 told_after_command told (MergeRedrawn into source) = changed told into (told_both (told into) (told source))
 
--- and after a line of these words; a `load` tells what its image's origin tells
-abbrev pub told_after : Origins ℤ → (ℕ → Option (Told ℤ)) → Option (Request (ℕ × RankAccuracy)) → List (List ℕ) → Reply → ℕ → Option (Told ℤ)
-told_after origins told None line reply = told
-told_after origins told (Some (Run command)) line (Ok answer) = told_after_command told command
-told_after origins told (Some (Run command)) line (Err refusal) = told
-told_after origins told (Some (Load slot)) line (Ok answer) = changed told slot (origins (image_in line))
-told_after origins told (Some (Load slot)) line (Err refusal) = told
-told_after origins told (Some query) line reply = told
+-- and after a line; a `load` tells what its image's origin tells
+abbrev pub told_after : Origins ℤ → (ℕ → Option (Told ℤ)) → Option (Request (ℕ × RankAccuracy)) → Reply → ℕ → Option (Told ℤ)
+told_after origins told None reply = told
+told_after origins told (Some (Run command)) (Ok answer) = told_after_command told command
+told_after origins told (Some (Run command)) (Err refusal) = told
+told_after origins told (Some (Load slot image)) (Ok answer) = changed told slot (origins (image_in image))
+told_after origins told (Some (Load slot image)) (Err refusal) = told
+told_after origins told (Some query) reply = told
 
 -- each sketch in the slots is as told
 abbrev pub AreAsTold : {A : Type 0} → (A → A → Ordering) → (ℕ → Option (Told A)) → Slots (Req A) → Type 0
@@ -95,8 +95,8 @@ module _ (cmp : ℤ → ℤ → Ordering) (grammar : Grammar (ℕ × RankAccurac
   AnswersAsTold told slots coins (l ∷ ls) out =
       AreAsTold cmp told slots
       × (r : _) × (slots' : _) × (coins' : _) × (rest : _)
-      × Answers behaviour (request_of grammar (words l)) (words l) slots coins r slots' coins'
-      × AnswersAsTold (told_after origins told (request_of grammar (words l)) (words l) r) slots' coins' ls rest
+      × Answers behaviour (request_of grammar (words l)) slots coins r slots' coins'
+      × AnswersAsTold (told_after origins told (request_of grammar (words l)) r) slots' coins' ls rest
       × (out ≡ answer_text r ++ (10 ∷ rest))
 
 -- the answers to all lines of a text on REQ sketches, from empty slots on, with the sketches as told
@@ -108,4 +108,4 @@ ServesAsTold origins seed text out =
 abbrev pub ShownAreTrue : Type 0
 ShownAreTrue = (s : Req ℤ) (told : Told ℤ) (bytes : Vec ℕ Global) (line : List (List ℕ)) → IsAsTold int_cmp (Some told) s →
     req_of_i64.imaged s (Ok bytes) → IsBytes bytes.items → slice_get line 2 ≡ Some (encode_lower bytes.items) →
-    IsTrueOf int_cmp i64_spelling (image_in line) told
+    IsTrueOf int_cmp i64_spelling (image_in (drop 2 line)) told

@@ -15,7 +15,6 @@ pub const MOST_WAITING: usize = 16384;
 
 /// Adds bytes to those that wait. If there is no room for them, all bytes go out, and nothing
 /// grows.
-#[inline(always)]
 pub fn add<W: Write>(output: &mut W, waiting: &mut Vec<u8>, bytes: &[u8]) -> io::Result<()>
     ensures { Writes result (W.contents output.old) (W.contents output.new)
         (waiting.old.items ++ bytes.now) waiting.new.items }
@@ -28,8 +27,6 @@ pub fn add<W: Write>(output: &mut W, waiting: &mut Vec<u8>, bytes: &[u8]) -> io:
 }
 
 /// Writes out all bytes that wait, and then `bytes`.
-// Kept out of the loop over the lines.
-#[inline(never)]
 fn write_through<W: Write>(output: &mut W, waiting: &mut Vec<u8>, bytes: &[u8]) -> io::Result<()>
     ensures { Writes result (W.contents output.old) (W.contents output.new)
         (waiting.old.items ++ bytes.now) waiting.new.items }

@@ -1,7 +1,8 @@
 -- If P holds for each item of a list, it holds for each item of its parts; the same for levels, also after a compaction.
-use Rattle.std.proofs.Common.{◌≡◌, ℕ, zero, suc, ◌-◌, ◌%◌, ◌<◌, Bool, true, false, not, ◌&&◌, ◌==◌, if◌then◌else◌, List, [], ◌∷◌, ◌++◌, length, take, drop, map, flat_map, arith, Ordering, Equal, is_gt}
+use Rattle.std.proofs.Common.{rules}
+use Rattle.std.proofs.Common.{◌≡◌, ℕ, zero, suc, ◌-◌, ◌%◌, ◌<◌, Bool, true, false, if◌then◌else◌, List, [], ◌∷◌, ◌++◌, length, take, drop, map, flat_map, arith, Ordering, Equal, is_gt}
 use Rattle.std.specs.List.{AllByRecursion, AllZip}
-use Rattle.sketch_base.specs.Bag.{Bag, Taken, AllButLeftover, Lowest, Greatest, SameItems, half, sort, cut, insert_in_order, level_at, with_level, parity_up, compaction}
+use Rattle.sketch_base.specs.Bag.{Bag, Taken, AllButLeftover, Lowest, Greatest, SameItems, half, sort, cut, insert_in_order, level_at, with_level, compaction}
 
 module _ {A : Type 0} (P : A → Type 0) where
   -- for each item of two lists, so for each item of one followed by the other
@@ -97,14 +98,7 @@ module _ {A : Type 0} (P : A → Type 0) where
 
   -- P holds in the levels after a compaction if it holds in those before
   pub all-compaction : (cmp : A → A → Ordering) (h : ℕ) (taken : Taken) (bit : Bool) (bag : Bag A) → AllIn bag.levels → AllIn (compaction cmp h taken bit bag).levels
-  all-compaction cmp h taken bit bag a =
-      let above = level_at bag.levels (suc h) in
-      let parts = cut cmp taken (h == 0 && not bag.is_sorted) (level_at bag.levels h) in
-      let c = all-cut cmp taken (h == 0 && not bag.is_sorted) (level_at bag.levels h) (all-level bag.levels h a) in
-      let up = half (parity_up taken bit above) parts.1 in
-      all-with_level (suc h) (λ l. l ++ up) (with_level [] h (λ l. parts.0) bag.levels)
-      (λ l k. all-append l up k (all-half (parity_up taken bit above) parts.1 c.1))
-      (all-with_level h (λ l. parts.0) bag.levels (λ l k. c.0) a)
+  all-compaction cmp h taken bit bag a = search (rules, all-cut, all-level, all-with_level, all-append, all-half)
 
   -- P holds in the levels of a bag if it holds in those of an alike bag, and doesn't distinguish items that compare equal
   pub all-alike-levels : (cmp : A → A → Ordering) → ((x y : A) → cmp x y ≡ Equal → P x → P y) → (ls ms : List (List A)) →

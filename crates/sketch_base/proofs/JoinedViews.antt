@@ -1,32 +1,29 @@
 -- Sorted weighted items of which equal ones are joined: the view that they make.
-use Rattle.std.proofs.Common.{◌≡◌, ℕ, zero, suc, ◌+◌, ◌-◌, ◌*◌, ◌<◌, ◌≤◌, Bool, true, false, cond, List, [], ◌∷◌, ◌++◌, length, map, replicate, sum_by, refl, sym, ap, ap₂, ◌∙◌, subst, append_assoc, append-nil, arith, if◌then◌else◌, IsSorted, IsPermutation, Ordering, Less, Equal, is_gt, is_lt, length-append}
+use Rattle.std.proofs.Common.{◌≡◌, ℕ, zero, suc, ◌+◌, ◌-◌, ◌*◌, ◌<◌, ◌≤◌, Bool, true, false, cond, List, [], ◌∷◌, ◌++◌, length, map, replicate, sum_by, refl, sym, ap, ap₂, ◌∙◌, arith, if◌then◌else◌, IsSorted, IsPermutation, Ordering, Less, Equal, is_gt, is_lt}
 use Rattle.std.specs.Prelude.{⊤, Option, None, Some, IsSome}
 use Rattle.std.specs.Cmp.{IsTotalOrder}
 use Rattle.std.specs.List.{All, AllByRecursion}
-use Rattle.std.specs.Ordering.{is_eq, ordering_reverse}
+use Rattle.std.specs.Ordering.{is_eq}
 use Rattle.std.proofs.lemmas.Bool.{false≢true}
 use Rattle.std.specs.List.Sorted.{IsSortedBy}
 use Rattle.std.proofs.lemmas.List.{get_or-map, length-map}
 use Rattle.std.proofs.lemmas.Cmp.{tied_itself}
-use Rattle.std.proofs.lemmas.List.Elements.{length_all_zip}
 use Rattle.std.proofs.lemmas.List.Sums.{sum_by-cons, sum_by-append}
 use Rattle.std.proofs.lemmas.List.Folds.{sum_by-replicate}
-use Rattle.std.proofs.lemmas.List.Sorted.{All-permutation, IsPermutation-refl, length_permutation, sum_by-IsPermutation}
+use Rattle.std.proofs.lemmas.List.Sorted.{All-permutation, length_permutation, sum_by-IsPermutation}
 use Rattle.sketch_base.specs.Bag.{SameItems, sort}
-use Rattle.sketch_base.specs.Pairs.{begins_equal, copies, distinct, is_below_next, joined, joined_weights}
+use Rattle.sketch_base.specs.Pairs.{begins_equal, copies, distinct, is_kept, joined, joined_weights}
 use Rattle.sketch_base.specs.Query.{counted}
 use Rattle.sketch_base.specs.Queries.{spread_out, spread_over}
 use Rattle.sketch_base.specs.Views.{IsThere, IsView}
 use Rattle.sketch_base.proofs.AllParts.{all-map}
 use Rattle.sketch_base.proofs.Counts.{Ordered, Ordered-sort, below, counted-equal, items-from_counts}
-use Rattle.sketch_base.proofs.Entries.{Ordered-spread_over, SameAnswer-itself, same-spread}
-use Rattle.sketch_base.proofs.Items.{SameItems-append, SameItems-refl, SameItems-trans}
+use Rattle.sketch_base.proofs.Entries.{Ordered-spread_over}
 use Rattle.sketch_base.proofs.Orders.{equal-from_neither, less-from_is_lt}
 use Rattle.sketch_base.proofs.Rises.{Rises, non_decreasing_from_rises}
 use Rattle.sketch_base.proofs.SketchViews.{sum-ones}
 use Rattle.sketch_base.proofs.Sorting.{IsSorted-from_ordered, Ordered-from_sorted}
 use Rattle.sketch_base.proofs.Sums.{sum_by-sort}
-use Rattle.sketch_base.proofs.ViewClones.{view-of_clones}
 
 all-by_recursion : {A : Type 0} (P : A → Type 0) (xs : List A) → All P xs → AllByRecursion P xs
 all-by_recursion P [] h = tt
@@ -87,29 +84,30 @@ module _ {A : Type 0} where
   carried-none n f [] e = refl
   carried-none n f (p ∷ ps) e = ap (λ m. m * f p.0) e ∙ omega arith
 
-module _ {A : Type 0} (cmp : A → A → Ordering) where
-  same-length : (before : ℕ) (pairs : List (A × ℕ)) → length (joined cmp pairs) ≡ length (joined_weights cmp before pairs)
+module _ {A : Type 0} (cmp : A → A → Ordering) (joins : Bool) where
+  same-length : (before : ℕ) (pairs : List (A × ℕ)) → length (joined cmp joins pairs) ≡ length (joined_weights cmp joins before pairs)
   same-length before [] = refl
   same-length before (p ∷ ps) = grind (arith, same-length (before + p.1) ps)
 
-  few-joined : (pairs : List (A × ℕ)) → length (joined cmp pairs) ≤ length pairs
+  few-joined : (pairs : List (A × ℕ)) → length (joined cmp joins pairs) ≤ length pairs
   few-joined [] = omega arith
   few-joined (p ∷ ps) = grind (arith, few-joined ps)
 
-  climbs-joined : (low before : ℕ) (pairs : List (A × ℕ)) → low ≤ before → HaveWeight pairs → Climbs low (joined_weights cmp before pairs)
+  climbs-joined : (low before : ℕ) (pairs : List (A × ℕ)) → low ≤ before → HaveWeight pairs → Climbs low (joined_weights cmp joins before pairs)
   climbs-joined low before [] le h = tt
   climbs-joined low before (p ∷ ps) le h =
       let some = h.0 in
-      elim (is_below_next cmp p.0 ps) as (λ (b : Bool). Climbs low (if b then (before + p.1) ∷ joined_weights cmp (before + p.1) ps else joined_weights cmp (before + p.1) ps)) [
+      elim (is_kept cmp joins p.0 ps) as (λ (b : Bool). Climbs low (if b then (before + p.1) ∷ joined_weights cmp joins (before + p.1) ps else joined_weights cmp joins (before + p.1) ps)) [
         | true ↦ (omega (arith, le, some), climbs-joined (before + p.1) (before + p.1) ps (omega arith) h.1)
         | false ↦ climbs-joined low (before + p.1) ps (omega (arith, le)) h.1
       ]
 
-  all-joined : (P : A → Type 0) (pairs : List (A × ℕ)) → AllByRecursion P (items_in pairs) → AllByRecursion P (joined cmp pairs)
+  all-joined : (P : A → Type 0) (pairs : List (A × ℕ)) → AllByRecursion P (items_in pairs) → AllByRecursion P (joined cmp joins pairs)
   all-joined P [] h = tt
   all-joined P (p ∷ ps) h =
-      elim (is_below_next cmp p.0 ps) as (λ (b : Bool). AllByRecursion P (if b then p.0 ∷ joined cmp ps else joined cmp ps)) [ true ↦ (h.0, all-joined P ps h.1) | false ↦ all-joined P ps h.1 ]
+      elim (is_kept cmp joins p.0 ps) as (λ (b : Bool). AllByRecursion P (if b then p.0 ∷ joined cmp joins ps else joined cmp joins ps)) [ true ↦ (h.0, all-joined P ps h.1) | false ↦ all-joined P ps h.1 ]
 
+module _ {A : Type 0} (cmp : A → A → Ordering) where
   -- each item is below all items after it
   abbrev AllBelow : List A → Type 0
   AllBelow [] = ⊤
@@ -124,32 +122,33 @@ module _ {A : Type 0} (cmp : A → A → Ordering) where
   begins-above x before _ _ h up = refl
 
 module _ {A : Type 0} {cmp : A → A → Ordering} (order : IsTotalOrder cmp) where
-  ordered-joined : (pairs : List (A × ℕ)) → Ordered order (items_in pairs) → Ordered order (joined cmp pairs)
-  ordered-joined [] up = tt
-  ordered-joined (p ∷ ps) up =
-      elim (is_below_next cmp p.0 ps) as (λ (b : Bool). Ordered order (if b then p.0 ∷ joined cmp ps else joined cmp ps)) [
-        | true ↦ (all-joined cmp (λ y. is_gt (cmp p.0 y) ≡ false) ps up.0, ordered-joined ps up.1)
-        | false ↦ ordered-joined ps up.1
+  ordered-joined : (joins : Bool) (pairs : List (A × ℕ)) → Ordered order (items_in pairs) → Ordered order (joined cmp joins pairs)
+  ordered-joined joins [] up = tt
+  ordered-joined joins (p ∷ ps) up =
+      elim (is_kept cmp joins p.0 ps) as (λ (b : Bool). Ordered order (if b then p.0 ∷ joined cmp joins ps else joined cmp joins ps)) [
+        | true ↦ (all-joined cmp joins (λ y. is_gt (cmp p.0 y) ≡ false) ps up.0, ordered-joined joins ps up.1)
+        | false ↦ ordered-joined joins ps up.1
       ]
 
   -- a weight that is carried on counts the same, since the next item compares equal
-  carried-on : (f : A → ℕ) → ((x y : A) → cmp x y ≡ Equal → f x ≡ f y) → (n : ℕ) (x : A) (pairs : List (A × ℕ)) → is_below_next cmp x pairs ≡ false →
+  carried-on : (f : A → ℕ) → ((x y : A) → cmp x y ≡ Equal → f x ≡ f y) → (joins : Bool) (n : ℕ) (x : A) (pairs : List (A × ℕ)) → is_kept cmp joins x pairs ≡ false →
       AllByRecursion (λ y. is_gt (cmp x y) ≡ false) (items_in pairs) → carried n f pairs ≡ n * f x
-  carried-on f respects n x [] e up = absurd (false≢true (sym e))
-  carried-on f respects n x (p ∷ ps) e up = ap (λ m. n * m) (sym (respects x p.0 (equal-from_neither (cmp x p.0) e up.0)))
+  carried-on f respects joins n x [] e up = absurd (false≢true (sym e))
+  carried-on f respects false n x (p ∷ ps) e up = absurd (false≢true (sym e))
+  carried-on f respects true n x (p ∷ ps) e up = ap (λ m. n * m) (sym (respects x p.0 (equal-from_neither (cmp x p.0) e up.0)))
 
   -- the list that joined items stand for has the sum of the weighted items, and of the weight carried on to them
-  sum-joined : (f : A → ℕ) → ((x y : A) → cmp x y ≡ Equal → f x ≡ f y) → (low before : ℕ) (pairs : List (A × ℕ)) → low ≤ before → Ordered order (items_in pairs) →
-      sum_by f (spread_over low (joined cmp pairs) (joined_weights cmp before pairs)) ≡ carried (before - low) f pairs + weigh_pairs f pairs
-  sum-joined f respects low before [] le up = refl
-  sum-joined f respects low before (p ∷ ps) le up =
+  sum-joined : (f : A → ℕ) → ((x y : A) → cmp x y ≡ Equal → f x ≡ f y) → (joins : Bool) (low before : ℕ) (pairs : List (A × ℕ)) → low ≤ before → Ordered order (items_in pairs) →
+      sum_by f (spread_over low (joined cmp joins pairs) (joined_weights cmp joins before pairs)) ≡ carried (before - low) f pairs + weigh_pairs f pairs
+  sum-joined f respects joins low before [] le up = refl
+  sum-joined f respects joins low before (p ∷ ps) le up =
       grind (
         arith,
         times,
         carry,
-        sum-joined f respects (before + p.1) (before + p.1) ps (omega arith) up.1,
-        sum-joined f respects low (before + p.1) ps (omega (arith, le)) up.1,
-        sum_by-append f (replicate (before + p.1 - low) p.0) (spread_over (before + p.1) (joined cmp ps) (joined_weights cmp (before + p.1) ps)),
+        sum-joined f respects joins (before + p.1) (before + p.1) ps (omega arith) up.1,
+        sum-joined f respects joins low (before + p.1) ps (omega (arith, le)) up.1,
+        sum_by-append f (replicate (before + p.1 - low) p.0) (spread_over (before + p.1) (joined cmp joins ps) (joined_weights cmp joins (before + p.1) ps)),
         sum_by-replicate f (before + p.1 - low) p.0,
         carried-none (before + p.1 - (before + p.1)) f ps (omega arith),
         sum_by-cons (λ (pair : A × ℕ). pair.1 * f pair.0) p ps,
@@ -158,20 +157,20 @@ module _ {A : Type 0} {cmp : A → A → Ordering} (order : IsTotalOrder cmp) wh
       times : (before + p.1 - low) * f p.0 ≡ (before - low) * f p.0 + p.1 * f p.0
       times = let more : before + p.1 - low ≡ (before - low) + p.1 = omega (arith, le) in ap (λ n. n * f p.0) more ∙ omega arith
 
-      carry : is_below_next cmp p.0 ps ≡ false → carried (before + p.1 - low) f ps ≡ (before + p.1 - low) * f p.0
-      carry e = carried-on f respects (before + p.1 - low) p.0 ps e up.0
+      carry : is_kept cmp joins p.0 ps ≡ false → carried (before + p.1 - low) f ps ≡ (before + p.1 - low) * f p.0
+      carry e = carried-on f respects joins (before + p.1 - low) p.0 ps e up.0
 
   -- an item that is below the next one is below all items that follow
-  below-all : (x : A) (pairs : List (A × ℕ)) → is_below_next cmp x pairs ≡ true → Ordered order (items_in pairs) → AllByRecursion (λ y. cmp x y ≡ Less) (items_in pairs)
+  below-all : (x : A) (pairs : List (A × ℕ)) → is_kept cmp true x pairs ≡ true → Ordered order (items_in pairs) → AllByRecursion (λ y. cmp x y ≡ Less) (items_in pairs)
   below-all x [] e up = tt
   below-all x (p ∷ ps) e up =
       let first = less-from_is_lt (cmp x p.0) e in (first, all-map (λ y. is_gt (cmp p.0 y) ≡ false) (λ y. cmp x y ≡ Less) (λ y. below order x p.0 y first) (items_in ps) up.0)
 
-  below-joined : (pairs : List (A × ℕ)) → Ordered order (items_in pairs) → AllBelow cmp (joined cmp pairs)
+  below-joined : (pairs : List (A × ℕ)) → Ordered order (items_in pairs) → AllBelow cmp (joined cmp true pairs)
   below-joined [] up = tt
   below-joined (p ∷ ps) up =
-      (elim (is_below_next cmp p.0 ps) as (λ (b : Bool). is_below_next cmp p.0 ps ≡ b → AllBelow cmp (if b then p.0 ∷ joined cmp ps else joined cmp ps)) [
-        | true ↦ λ e. (all-joined cmp (λ y. cmp p.0 y ≡ Less) ps (below-all p.0 ps e up.1), below-joined ps up.1)
+      (elim (is_kept cmp true p.0 ps) as (λ (b : Bool). is_kept cmp true p.0 ps ≡ b → AllBelow cmp (if b then p.0 ∷ joined cmp true ps else joined cmp true ps)) [
+        | true ↦ λ e. (all-joined cmp true (λ y. cmp p.0 y ≡ Less) ps (below-all p.0 ps e up.1), below-joined ps up.1)
         | false ↦ λ e. below-joined ps up.1
       ]) refl
 
@@ -200,173 +199,61 @@ module _ {A : Type 0} {cmp : A → A → Ordering} (order : IsTotalOrder cmp) wh
       sym (sum_by-sort one cmp (copies qs) ∙ sum-copies one qs))))
 
   -- weighted items, and the same items sorted
-  module _ (weighted pairs : List (A × ℕ)) (same : IsPermutation weighted pairs) (sorted : IsSorted cmp (items_in pairs)) (weights : All (λ (pair : A × ℕ). 0 < pair.1) weighted) where
+  module _ (joins : Bool) (weighted pairs : List (A × ℕ)) (same : IsPermutation weighted pairs) (sorted : IsSorted cmp (items_in pairs)) (weights : All (λ (pair : A × ℕ). 0 < pair.1) weighted) where
     up : Ordered order (items_in pairs)
     up = Ordered-from_sorted cmp order (items_in pairs) sorted
 
     weigh : HaveWeight pairs
     weigh = all-by_recursion (λ (pair : A × ℕ). 0 < pair.1) pairs (All-permutation (λ (pair : A × ℕ). 0 < pair.1) weighted pairs same weights)
 
-    sum-spread : (f : A → ℕ) → ((x y : A) → cmp x y ≡ Equal → f x ≡ f y) → sum_by f (spread_out (joined cmp pairs) (joined_weights cmp 0 pairs)) ≡ weigh_pairs f pairs
-    sum-spread f respects = omega (arith, sum-joined f respects 0 0 pairs (omega arith) up, carried-none (0 - 0) f pairs (omega arith))
+    sum-spread : (f : A → ℕ) → ((x y : A) → cmp x y ≡ Equal → f x ≡ f y) → sum_by f (spread_out (joined cmp joins pairs) (joined_weights cmp joins 0 pairs)) ≡ weigh_pairs f pairs
+    sum-spread f respects = omega (arith, sum-joined f respects joins 0 0 pairs (omega arith) up, carried-none (0 - 0) f pairs (omega arith))
 
-    long : length (spread_out (joined cmp pairs) (joined_weights cmp 0 pairs)) ≡ weigh_pairs (λ x. 1) pairs
-    long = sym (sum-ones (spread_out (joined cmp pairs) (joined_weights cmp 0 pairs))) ∙ sum-spread (λ x. 1) (λ x y e. refl)
+    long : length (spread_out (joined cmp joins pairs) (joined_weights cmp joins 0 pairs)) ≡ weigh_pairs (λ x. 1) pairs
+    long = sym (sum-ones (spread_out (joined cmp joins pairs) (joined_weights cmp joins 0 pairs))) ∙ sum-spread (λ x. 1) (λ x y e. refl)
 
     -- the entries are the copies of the weighted items, sorted
-    pub joined-entries : SameItems cmp (sort cmp (copies weighted)) (spread_out (joined cmp pairs) (joined_weights cmp 0 pairs))
+    pub joined-entries : SameItems cmp (sort cmp (copies weighted)) (spread_out (joined cmp joins pairs) (joined_weights cmp joins 0 pairs))
     joined-entries =
-        items-from_counts order (sort cmp (copies weighted)) (spread_out (joined cmp pairs) (joined_weights cmp 0 pairs)) (Ordered-sort order (copies weighted))
-        (Ordered-spread_over order 0 (joined cmp pairs) (joined_weights cmp 0 pairs) (ordered-joined pairs up))
+        items-from_counts order (sort cmp (copies weighted)) (spread_out (joined cmp joins pairs) (joined_weights cmp joins 0 pairs)) (Ordered-sort order (copies weighted))
+        (Ordered-spread_over order 0 (joined cmp joins pairs) (joined_weights cmp joins 0 pairs) (ordered-joined joins pairs up))
         (λ z c.
         let one : A → ℕ = λ x. cond (counted cmp z c x) 1 0 in
         sum_by-sort one cmp (copies weighted) ∙ (sum-copies one weighted ∙ (sym (sum_by-IsPermutation (λ (pair : A × ℕ). pair.1 * one pair.0) weighted pairs same) ∙
         sym (sum-spread one (λ x y e. ap (λ (b : Bool). cond b 1 0) (counted-equal order x y e z c))))))
-
-    -- the number of joined items is the number of distinct entries
-    pub joined-distinct : length (joined cmp pairs) ≡ distinct cmp (spread_out (joined cmp pairs) (joined_weights cmp 0 pairs))
-    joined-distinct = sym (distinct-spread 0 (joined cmp pairs) (joined_weights cmp 0 pairs) (same-length cmp 0 pairs) (climbs-joined cmp 0 0 pairs (omega arith) weigh) (below-joined pairs up))
 
     there : (extreme : Option A) → IsSome extreme → (n : ℕ) → 0 < n → IsThere extreme n
     there None h n l = absurd (false≢true h)
     there (Some x) h n l = l
 
     -- the joined items make a view
-    pub joined-view : (least greatest : Option A) → 0 < length weighted → IsSome least → IsSome greatest → IsView cmp (joined cmp pairs) (joined_weights cmp 0 pairs) least greatest
+    pub joined-view : (least greatest : Option A) → 0 < length weighted → IsSome least → IsSome greatest → IsView cmp (joined cmp joins pairs) (joined_weights cmp joins 0 pairs) least greatest
     joined-view least greatest some l g =
         let enough = long-enough pairs weigh in
-        let few = few-joined cmp pairs in
+        let few = few-joined cmp joins pairs in
         let as_long = length_permutation weighted pairs same in
-        let whole : 0 < length (spread_out (joined cmp pairs) (joined_weights cmp 0 pairs)) = omega (arith, long, enough, as_long, some) in
+        let whole : 0 < length (spread_out (joined cmp joins pairs) (joined_weights cmp joins 0 pairs)) = omega (arith, long, enough, as_long, some) in
         record {
           cumulates = record {
-            one_each = same-length cmp 0 pairs;
+            one_each = same-length cmp joins 0 pairs;
             none_falls =
-                non_decreasing_from_rises 0 (joined_weights cmp 0 pairs) (rises-from_climbs 0 (joined_weights cmp 0 pairs) (climbs-joined cmp 0 0 pairs (omega arith) weigh));
+                non_decreasing_from_rises 0 (joined_weights cmp joins 0 pairs) (rises-from_climbs 0 (joined_weights cmp joins 0 pairs) (climbs-joined cmp joins 0 0 pairs (omega arith) weigh));
           };
-          sorted = IsSorted-from_ordered cmp order (joined cmp pairs) (ordered-joined pairs up);
+          sorted = IsSorted-from_ordered cmp order (joined cmp joins pairs) (ordered-joined joins pairs up);
           no_more_items = omega (arith, long, enough, few);
-          least_there = there least l (length (spread_out (joined cmp pairs) (joined_weights cmp 0 pairs))) whole;
-          greatest_there = there greatest g (length (spread_out (joined cmp pairs) (joined_weights cmp 0 pairs))) whole;
+          least_there = there least l (length (spread_out (joined cmp joins pairs) (joined_weights cmp joins 0 pairs))) whole;
+          greatest_there = there greatest g (length (spread_out (joined cmp joins pairs) (joined_weights cmp joins 0 pairs))) whole;
         }
 
-  -- ---- clones of the joined items
+  -- all items are held, or one of each group of equal entries
+  all-kept : (pairs : List (A × ℕ)) → length (joined cmp false pairs) ≡ length pairs
+  all-kept [] = refl
+  all-kept (p ∷ []) = refl
+  all-kept (p ∷ q ∷ ps) = ap suc (all-kept (q ∷ ps))
 
-  begins-same : (x y : A) (xs ys : List A) → cmp x y ≡ Equal → SameItems cmp xs ys → begins_equal cmp x xs ≡ begins_equal cmp y ys
-  begins-same x y [] [] e s = refl
-  begins-same x y (u ∷ us) (v ∷ vs) e s =
-      ap is_eq (order.congr x y u e ∙ (order.antisymm y u ∙ (ap ordering_reverse (order.congr u v y s.0) ∙ sym (order.antisymm y v))))
-  begins-same x y _ _ e s = absurd s
-
-  distinct-same : (xs ys : List A) → SameItems cmp xs ys → distinct cmp xs ≡ distinct cmp ys
-  distinct-same [] [] s = refl
-  distinct-same (x ∷ xs) (y ∷ ys) s = ap₂ (λ (b : Bool) (n : ℕ). (if b then 0 else 1) + n) (begins-same x y xs ys s.0 s.1) (distinct-same xs ys s.1)
-  distinct-same _ _ s = absurd s
-
-  module _ (pairs : List (A × ℕ)) (sorted : IsSorted cmp (items_in pairs)) (weights : All (λ (pair : A × ℕ). 0 < pair.1) pairs)
-      (items : List A) (cumulated : List ℕ) (same : SameItems cmp (joined cmp pairs) items) (sums : cumulated ≡ joined_weights cmp 0 pairs) where
-    clones-spread : SameItems cmp (spread_out (joined cmp pairs) (joined_weights cmp 0 pairs)) (spread_out items cumulated)
-    clones-spread = subst (λ cs. SameItems cmp (spread_out (joined cmp pairs) (joined_weights cmp 0 pairs)) (spread_out items cs)) (sym sums) (same-spread order 0 (joined cmp pairs) items (joined_weights cmp 0 pairs) same)
-
-    -- the entries are the copies of the weighted items, sorted
-    pub clones-entries : SameItems cmp (sort cmp (copies pairs)) (spread_out items cumulated)
-    clones-entries =
-        SameItems-trans cmp order (sort cmp (copies pairs)) (spread_out (joined cmp pairs) (joined_weights cmp 0 pairs)) (spread_out items cumulated)
-        (joined-entries pairs pairs (IsPermutation-refl pairs) sorted weights) clones-spread
-
-    -- the number of clones is the number of distinct entries
-    pub clones-distinct : length items ≡ distinct cmp (spread_out items cumulated)
-    clones-distinct =
-        sym (length_all_zip (λ x y. cmp x y ≡ Equal) (joined cmp pairs) items same)
-        ∙ (joined-distinct pairs pairs (IsPermutation-refl pairs) sorted weights
-        ∙ distinct-same (spread_out (joined cmp pairs) (joined_weights cmp 0 pairs)) (spread_out items cumulated) clones-spread)
-
-    -- the clones make a view
-    pub clones-view : (least greatest : Option A) → 0 < length pairs → IsSome least → IsSome greatest → IsView cmp items cumulated least greatest
-    clones-view least greatest some l g =
-        view-of_clones order (joined cmp pairs) items (joined_weights cmp 0 pairs) cumulated least least greatest greatest
-        (joined-view pairs pairs (IsPermutation-refl pairs) sorted weights least greatest some l g) same sums (SameAnswer-itself order least) (SameAnswer-itself order greatest)
-
--- ---- the loops
-
--- all sorted weighted items but `rest` are joined: xs has the clones, ws the weights up to them, `so_far` the total weight
-pub record IsJoined {A : Type 0} (cmp : A → A → Ordering) (all rest : List (A × ℕ)) (xs : List A) (ws : List ℕ) (so_far : ℕ) : Type 0 where
-  pub items : SameItems cmp (joined cmp all) (xs ++ joined cmp rest)
-  pub weights : ws ++ joined_weights cmp so_far rest ≡ joined_weights cmp 0 all
-  pub total : so_far + sum_by (λ (pair : A × ℕ). pair.1) rest ≡ sum_by (λ (pair : A × ℕ). pair.1) all
-
-module _ {A : Type 0} {cmp : A → A → Ordering} (order : IsTotalOrder cmp) where
-  -- at the start none are joined
-  pub joined-none : (all : List (A × ℕ)) (xs : List A) (ws : List ℕ) → xs ≡ [] → ws ≡ [] → IsJoined cmp all all xs ws 0
-  joined-none all xs ws e f = record {
-    items = subst (λ (ys : List A). SameItems cmp (joined cmp all) (ys ++ joined cmp all)) (sym e) (SameItems-refl cmp order (joined cmp all));
-    weights = ap (λ (vs : List ℕ). vs ++ joined_weights cmp 0 all) f;
-    total = omega arith;
-  }
-
-  -- at the end all are joined
-  pub joined-whole : (all rest : List (A × ℕ)) (xs : List A) (ws : List ℕ) (total : ℕ) → rest ≡ [] → IsJoined cmp all rest xs ws total →
-      SameItems cmp (joined cmp all) xs × (ws ≡ joined_weights cmp 0 all)
-  joined-whole all rest xs ws total e j =
-      let items : SameItems cmp (joined cmp all) (xs ++ []) = subst (λ (r : List (A × ℕ)). SameItems cmp (joined cmp all) (xs ++ joined cmp r)) e j.items in
-      let weights : ws ++ [] ≡ joined_weights cmp 0 all = subst (λ (r : List (A × ℕ)). ws ++ joined_weights cmp total r ≡ joined_weights cmp 0 all) e j.weights in
-      (rw append-nil at items, sym (append-nil ws) ∙ weights)
-
-  -- the total up to the next item doesn't exceed the whole weight
-  pub joined-fits : (all after : List (A × ℕ)) (x : A) (w total : ℕ) (xs : List A) (ws : List ℕ) → IsJoined cmp all ((x, w) ∷ after) xs ws total →
-      total + w ≤ sum_by (λ (pair : A × ℕ). pair.1) all
-  joined-fits all after x w total xs ws j = omega (arith, j.total, sum_by-cons (λ (pair : A × ℕ). pair.1) (x, w) after)
-
-  module _ (all after : List (A × ℕ)) (x : A) (w total : ℕ) (xs : List A) (ws : List ℕ) (j : IsJoined cmp all ((x, w) ∷ after) xs ws total) where
-    sums : total + w + sum_by (λ (pair : A × ℕ). pair.1) after ≡ sum_by (λ (pair : A × ℕ). pair.1) all
-    sums = omega (arith, j.total, sum_by-cons (λ (pair : A × ℕ). pair.1) (x, w) after)
-
-    -- an item that compares equal to the next one is skipped
-    pub joined-over : (xs' : List A) (ws' : List ℕ) → is_below_next cmp x after ≡ false → xs' ≡ xs → ws' ≡ ws → IsJoined cmp all after xs' ws' (total + w)
-    joined-over xs' ws' e is_xs is_ws =
-        let items : SameItems cmp (joined cmp all) (xs ++ joined cmp after) =
-        subst (λ (b : Bool). SameItems cmp (joined cmp all) (xs ++ (if b then x ∷ joined cmp after else joined cmp after))) e j.items in
-        record {
-          items = subst (λ (ys : List A). SameItems cmp (joined cmp all) (ys ++ joined cmp after)) (sym is_xs) items;
-          weights = ap (λ (vs : List ℕ). vs ++ joined_weights cmp (total + w) after) is_ws
-              ∙ (ap (λ (b : Bool). ws ++ (if b then (total + w) ∷ joined_weights cmp (total + w) after else joined_weights cmp (total + w) after)) (sym e) ∙ j.weights);
-          total = sums;
-        }
-
-    -- for any other item a clone is pushed
-    pub joined-push : (y : A) (xs' : List A) (ws' : List ℕ) → is_below_next cmp x after ≡ true → cmp x y ≡ Equal → xs' ≡ xs ++ y ∷ [] → ws' ≡ ws ++ (total + w) ∷ [] →
-        IsJoined cmp all after xs' ws' (total + w)
-    joined-push y xs' ws' e same is_xs is_ws =
-        let rest : List A = joined cmp after in
-        let on : SameItems cmp (joined cmp all) (xs ++ x ∷ rest) = subst (λ (b : Bool). SameItems cmp (joined cmp all) (xs ++ (if b then x ∷ rest else rest))) e j.items in
-        let put = SameItems-append cmp xs xs (x ∷ rest) (y ∷ rest) (SameItems-refl cmp order xs) (same, SameItems-refl cmp order rest) in
-        record {
-          items = rw (is_xs, append_assoc xs (y ∷ []) rest) (SameItems-trans cmp order (joined cmp all) (xs ++ x ∷ rest) (xs ++ y ∷ rest) on put);
-          weights =
-              rw (is_ws, append_assoc ws ((total + w) ∷ []) (joined_weights cmp (total + w) after))
-              (ap (λ (b : Bool). ws ++ (if b then (total + w) ∷ joined_weights cmp (total + w) after else joined_weights cmp (total + w) after)) (sym e) ∙ j.weights);
-          total = sums;
-        }
-
--- the lengths of what was pushed so far don't exceed the number of entries that were seen
-pub pushed-within : {A : Type 0} (xs ys : List A) (x : A) (n : ℕ) → length xs ≤ n → ys ≡ xs ++ x ∷ [] → length ys ≤ n + 1
-pushed-within xs ys x n h e = omega (arith, h, ap length e, length-append xs (x ∷ []))
-
-pub none-within : {A : Type 0} (xs : List A) → xs ≡ [] → length xs ≤ 0
-none-within xs e = omega (arith, ap length e)
-
-pub same-within : {A : Type 0} (xs ys : List A) (n : ℕ) → length xs ≤ n → ys ≡ xs → length ys ≤ n + 1
-same-within xs ys n h e = omega (arith, h, ap length e)
-
-pub still-holds : (n a b : ℕ) → n ≤ a → b ≡ a → n ≤ b
-still-holds n a b h e = omega arith
-
-pub some-after : (n k : ℕ) → k < n → 0 < n
-some-after n k h = omega arith
-
-pub next-within : (n k : ℕ) → k < n → k + 1 ≤ n
-next-within n k h = omega arith
-
-pub some-unless_none : (n : ℕ) → (n ≡ 0 → false ≡ true) → 0 < n
-some-unless_none zero h = absurd (false≢true (h refl))
-some-unless_none (suc n) h = omega arith
+  pub held-joined : (joins : Bool) (weighted pairs : List (A × ℕ)) → IsPermutation weighted pairs → IsSorted cmp (items_in pairs) → All (λ (pair : A × ℕ). 0 < pair.1) weighted →
+      length (joined cmp joins pairs) ≡ (if joins then distinct cmp (spread_out (joined cmp joins pairs) (joined_weights cmp joins 0 pairs)) else length weighted)
+  held-joined false weighted pairs same sorted weights = all-kept pairs ∙ length_permutation weighted pairs same
+  held-joined true weighted pairs same sorted weights =
+      sym (distinct-spread 0 (joined cmp true pairs) (joined_weights cmp true 0 pairs) (same-length cmp true 0 pairs)
+      (climbs-joined cmp true 0 0 pairs (omega arith) (weigh true weighted pairs same sorted weights)) (below-joined pairs (up true weighted pairs same sorted weights)))

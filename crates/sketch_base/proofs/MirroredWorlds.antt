@@ -1,8 +1,10 @@
 -- Two worlds whose slots agree up to a level, with complementary kept bits there if a coin was drawn, and the events
 -- that keep them so.
-use Rattle.std.proofs.Common.{◌≡◌, ◌≢◌, ℕ, ◌≤◌, ◌<◌, Bool, true, false, not, ◌==◌, List, [], ◌∷◌, ◌++◌, take, drop, refl, sym, ap, ap₂, ◌∙◌, arith, if◌then◌else◌, subst, Ordering}
+use Rattle.std.proofs.Common.{rules}
+use Rattle.std.proofs.lemmas.Grind.{common_steps}
+use Rattle.std.proofs.Common.{◌≡◌, ◌≢◌, ℕ, ◌≤◌, ◌<◌, Bool, true, false, not, ◌==◌, List, [], ◌∷◌, ◌++◌, take, drop, refl, sym, ap, ◌∙◌, arith, if◌then◌else◌, subst, Ordering}
 use Rattle.std.proofs.lemmas.Bool.{ne_eqb, false≢true}
-use Rattle.sketch_base.specs.Bag.{Bag, Taken, empty_bag, level_at, with_level}
+use Rattle.sketch_base.specs.Bag.{Bag, Taken, level_at, with_level}
 use Rattle.sketch_base.specs.Trace.{Put, Pull, Join, Forget, Redraw, Clear, Action, Snap, At, World, changed, is_req, happens, act}
 use Rattle.sketch_base.proofs.Changes.{changed-own}
 use Rattle.sketch_base.proofs.Compactions.{compacted}
@@ -23,11 +25,7 @@ module _ {A : Type 0} (cmp : A → A → Ordering) (f : A → ℕ) where
       Mirrored cmp f g drawn
       (record { levels = with_level [] h (λ level. level ++ front) bag.levels; is_sorted = flag; kept = bag.kept })
       (record { levels = with_level [] h (λ level. level ++ front') bag'.levels; is_sorted = flag'; kept = bag'.kept })
-  mirror-appended g h drawn flag flag' front front' bag bag' same m = record {
-    levels = agree-changed g h (λ level. level ++ front) (λ level. level ++ front') bag.levels bag'.levels m.levels (λ le. ap₂ (λ (l r : List A). l ++ r) (m.levels h le) (same le));
-    below = m.below;
-    turned = m.turned;
-  }
+  mirror-appended g h drawn flag flag' front front' bag bag' same m = grind (arith, common_steps, agree-changed)
 
   -- a slot's bags are replaced by mirrored ones, and the levels that drew a coin change
   one-drawn : (g s : ℕ) (drawn : ℕ → ℕ → Bool) (row : ℕ → Bool) (slots slots' : ℕ → Bag A) (bag bag' : Bag A) → ((i : ℕ) → Mirrored cmp f g (drawn i g) (slots i) (slots' i)) →
@@ -98,11 +96,7 @@ module _ {A : Type 0} (cmp : A → A → Ordering) (f : A → ℕ) (g : ℕ) (dr
       }
 
   pub mirrored-clear : MirroredWorlds cmp f g (changed drawn s (λ h. false)) (happens (act cmp) (At s Clear) false world) (happens (act cmp) (At s Clear) false world')
-  mirrored-clear = record {
-    slots = one-drawn cmp f g s drawn (λ h. false) world.slots world'.slots empty_bag empty_bag m.slots
-        (record { levels = λ i le. refl; below = λ i lt. refl; turned = λ e. absurd (false≢true e) });
-    scratch = m.scratch;
-  }
+  mirrored-clear = search (rules, one-drawn, false≢true)
 
   -- so does a compaction by a drawn coin
   pub mirrored-draw : (h : ℕ) (taken : Taken) (row : ℕ → Bool) (bit bit' : Bool) → is_req taken ≡ true → (h < g → bit ≡ bit') → (h ≡ g → row g ≡ true → bit' ≡ not bit) →

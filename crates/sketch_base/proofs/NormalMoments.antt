@@ -1,4 +1,6 @@
 -- The moments of a number plus a normal noise, and what one more coin does to them.
+use Rattle.std.proofs.Common.{rules}
+use Rattle.std.proofs.lemmas.Grind.{common_steps}
 use Rattle.std.proofs.Common.{◌≡◌, ℕ, zero, suc, ◌+◌, ◌*◌, ◌^◌, ◌≤◌, Bool, true, false, not, refl, sym, ap, arith, if◌then◌else◌, ⊎_elim, mul-le-mul, mul-le-mul_left, pow-suc}
 use Rattle.std.proofs.Math.Nat.{pow-zero}
 use Rattle.std.proofs.lemmas.Bool.{cases_lt}
@@ -60,9 +62,7 @@ module _ (x d v : ℕ) where
   sum-within : (c : ℕ) → d ≤ c → (n : ℕ) → both false n ≤ 2 * moment n x (v + c * c)
   sum-within c le zero = omega arith
   sum-within c le (suc zero) = omega arith
-  sum-within c le (suc (suc n)) =
-      sum_step (suc n) x d c v (both false n) (both true (suc n)) (both false (suc n)) (moment n x (v + c * c)) (moment (suc n) x (v + c * c)) le
-      (sum-within c le n) (sum-within c le (suc n)) (difference-within n)
+  sum-within c le (suc (suc n)) = grind (arith, common_steps, sum_step, difference-within, sum-within c le n, sum-within c le (suc n))
 
 -- a sum and a difference of two numbers
 record IsApart (sum difference a b : ℕ) : Type 0 where
@@ -95,10 +95,7 @@ turned : (z x v m : ℕ) →
     IsApart (both x (z + x) v false (double m)) (both x (z + x) v true (double m)) (moment (double m) (x + (z + x)) v) (moment (double m) z v)
     × IsApart (both x (z + x) v true (suc (double m))) (both x (z + x) v false (suc (double m))) (moment (suc (double m)) (x + (z + x)) v) (moment (suc (double m)) z v)
 turned z x v zero = (record { sums = refl; differs = refl }, record { sums = omega arith; differs = omega arith })
-turned z x v (suc m) =
-    let (even, odd) = turned z x v m in
-    let next = turned_step z x (suc (double m)) v _ _ _ _ _ _ _ _ even odd in
-    (next, turned_step z x (suc (suc (double m))) v _ _ _ _ _ _ _ _ odd next)
+turned z x v (suc m) = search (rules, turned_step, turned z x v m)
 
 both-plain : (m x d v z : ℕ) → x ≡ z + d → both x d v false (double m) ≡ moment (double m) (x + d) v + moment (double m) z v
 both-plain m x d v z e = rw e (plain z d v (double m)).sums

@@ -1,7 +1,9 @@
 -- How two items compare, and what this tells of the reverse comparison.
+use Rattle.std.proofs.Common.{arith}
+use Rattle.std.proofs.lemmas.Grind.{common_steps}
 use Rattle.std.proofs.Common.{◌≡◌, true, false, refl, sym, ap, ◌∙◌, Option, Some, Ordering, Less, Equal, Greater, is_gt, is_lt, is_le}
 use Rattle.std.specs.Cmp.{IsTotalOrder}
-use Rattle.std.specs.Ordering.{ordering_reverse, is_some_and, partial_le}
+use Rattle.std.specs.Ordering.{ordering_reverse, partial_le}
 use Rattle.std.proofs.lemmas.Bool.{false≢true}
 
 -- the tests of an ordering tell which one it is
@@ -51,6 +53,4 @@ gt_not_gt o _ e h = refl
 -- if an item is found to be at most another, the two are sorted
 pub found-in_order : {A : Type 0} {cmp : A → A → Ordering} → IsTotalOrder cmp → (found : A → A → Option Ordering) → ((x y : A) → found x y ≡ Some (cmp x y)) → (x y : A) →
     partial_le found x y ≡ true → is_lt (cmp y x) ≡ false
-found-in_order {A} {cmp} o found same x y e =
-    let le : is_le (cmp x y) ≡ true = sym (ap (λ m. is_some_and is_le m) (same x y)) ∙ e in
-    not_gt_lt (cmp y x) (cmp x y) (o.antisymm y x) (le_not_gt (cmp x y) le)
+found-in_order {A} {cmp} o found same x y e = grind (arith, common_steps, not_gt_lt, le_not_gt)

@@ -1,8 +1,7 @@
 -- A prefix of a list whose items pass a test: what one item tells of its length, and where it ends in a part of the list.
-use Rattle.std.proofs.Common.{◌≡◌, ℕ, zero, suc, ◌+◌, ◌-◌, ◌*◌, ◌^◌, ◌<◌, ◌≤◌, Bool, true, false, List, [], ◌∷◌, length, take, drop, get_or, count_by, refl, sym, ◌∙◌, subst, arith, if◌then◌else◌, length-drop}
+use Rattle.std.proofs.Common.{◌≡◌, ℕ, zero, suc, ◌+◌, ◌<◌, ◌≤◌, Bool, true, false, List, [], ◌∷◌, length, get_or, count_by, refl, sym, ◌∙◌, subst, arith}
 use Rattle.std.specs.List.Sorted.{IsPartitionedBy}
 use Rattle.std.proofs.lemmas.Bool.{false≢true}
-use Rattle.std.proofs.lemmas.List.{get_or-take, get_or-drop, length-take-le}
 use Rattle.sketch_base.specs.Queries.{IsSplitAt}
 use Rattle.sketch_base.proofs.Counts.{counted-parts}
 
@@ -40,37 +39,3 @@ module _ {A : Type 0} (test : A → Bool) where
 
   pub counts-failed : (xs : List A) (i : ℕ) (d : A) → IsPartitionedBy test xs → i < length xs → test (get_or xs i d) ≡ false → count_by test xs ≤ i
   counts-failed xs i d up l h = grind (arith, (parts-count xs up).0 i d)
-
-  -- the state of a binary search: the count sought exceeds `count` by less than `step`, and the step ends within the list
-  pub record IsCountWithin (xs : List A) (count step : ℕ) : Type 0 where
-    pub starts : count ≤ count_by test xs
-    pub ends : count_by test xs < count + step
-    pub within : count + step ≤ length xs + 1
-
-  -- one step of such a search: the item at the end of the first half tells in which half the count lies
-  pub counted-step : (xs : List A) (start step : ℕ) (d : A) (b : Bool) → IsPartitionedBy test xs → 0 < step → IsCountWithin xs start (2 * step) →
-      test (get_or xs (start + step - 1) d) ≡ b → IsCountWithin xs (start + (if b then step else 0)) step
-  counted-step xs start step d true up some h is =
-      let more = counts-passed xs (start + step - 1) d up (omega (arith, some, h.within)) is in
-      record { starts = omega (arith, more, some); ends = omega (arith, h.ends); within = omega (arith, h.within) }
-  counted-step xs start step d false up some h is =
-      let few = counts-failed xs (start + step - 1) d up (omega (arith, some, h.within)) is in
-      record { starts = omega (arith, h.starts); ends = omega (arith, few, some); within = omega (arith, h.within) }
-
-  -- the count, from a part of the list in which the prefix ends
-  pub count-of_part : (xs : List A) (s e : ℕ) → IsPartitionedBy test xs → s ≤ count_by test xs → count_by test xs ≤ e → e ≤ length xs → s + count_by test (take (e - s) (drop s xs)) ≡ count_by test xs
-  count-of_part xs s e up le ge l =
-      let p = parts-count xs up in
-      let long : length (take (e - s) (drop s xs)) ≡ e - s = length-take-le (e - s) (drop s xs) (omega (arith, length-drop s xs)) in
-      let at : (k : ℕ) (d : A) → k < e - s → get_or (take (e - s) (drop s xs)) k d ≡ get_or xs (s + k) d = λ k d m. get_or-take (e - s) (drop s xs) k d m ∙ get_or-drop s xs k d in
-      let here = counted-parts test (take (e - s) (drop s xs)) (count_by test xs - s) (omega (arith, long)) (
-        (λ k d a b. rw (at k d (omega (arith, long))) (p.0 (s + k) d (omega arith) (omega (arith, long)))),
-        (λ k d a b. rw (at k d (omega (arith, long))) (p.1 (s + k) d (omega arith) (omega (arith, long)))),
-      ) in
-      omega (arith, here)
-
--- the steps of a binary search without the first ones: each is half of the one before
-pub step-doubled : (steps shift : ℕ) → 0 < shift → shift - 1 < steps → 2 ^ (steps - (steps - shift)) ≡ 2 * 2 ^ (shift - 1)
-step-doubled steps shift some more =
-    let next : steps - (steps - shift) ≡ suc (shift - 1) = omega (arith, some, more) in
-    rw next (omega arith)

@@ -1,19 +1,10 @@
 -- What a look-up at a place of a list found, or didn't.
-use Rattle.std.proofs.Common.{◌≡◌, ℕ, ◌-◌, ◌<◌, List, length, get_or, sym, ap, ◌∙◌, arith, inl, inr}
-use Rattle.std.specs.Prelude.{Option, None, Some, slice_get, option_copied, is_some}
-use Rattle.std.proofs.lemmas.Bool.{false≢true}
-use Rattle.std.proofs.lemmas.List.{get_or_default}
-use Rattle.std.proofs.lemmas.Option.{slice_get_cases}
-use Rattle.sketch_base.proofs.FoundEntries.{got}
-use denote.Ref.{Bor}
+use Rattle.std.proofs.Common.{◌≡◌, ℕ, ◌-◌, ◌<◌, List, length, get_or, arith}
 
 -- the item there
 pub record IsAt {A : Type 0} (xs : List A) (i : ℕ) (x : A) : Type 0 where
   pub within : i < length xs
   pub item : (d : A) → get_or xs i d ≡ x
-
-pub not-within : (n i : ℕ) → n ≡ 0 → i < n → ⊥
-not-within n i e h = omega arith
 
 pub last-within : (n : ℕ) → 0 < n → n - 1 < n
 last-within n h = omega arith

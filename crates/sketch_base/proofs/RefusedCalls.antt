@@ -1,10 +1,8 @@
 -- Calls that are refused or aren't: what their clauses say, and the numbers that decide it.
-use Rattle.std.proofs.Common.{◌≡◌, ◌+◌, ◌-◌, ◌<◌, ◌≤◌, ◌^◌, ℕ, true, false, Result, Ok, Err, refl, arith}
-use Rattle.std.proofs.lemmas.Bool.{false≢true}
-use Rattle.sketch_base.specs.Answered.{IsRefusedUnless}
+use Rattle.std.proofs.Common.{◌≡◌, ◌+◌, ◌-◌, ◌<◌, ◌≤◌, ◌^◌, ℕ, Result, Ok, Err, arith}
 use Rattle.sketch_base.specs.declared.error.ErrorKind.{ErrorKind}
 use Rattle.sketch_base.specs.declared.error.ErrorKind.TheVariants.{InvalidArgument, OutOfMemory}
-use Rattle.sketch_base.proofs.Exits.{accepted, no_error, other_kind, with_error}
+use Rattle.sketch_base.proofs.Exits.{no_error, other_kind}
 
 -- a call that runs out of memory returns that and no other error
 pub no_memory : {T P : Type 0} {r : Result T ErrorKind} → r ≡ Err OutOfMemory → (P → ⊥) → (r ≡ Err InvalidArgument → P) × (P → r ≡ Err InvalidArgument)
@@ -45,21 +43,3 @@ not_between low high = omega (arith, low, high)
 
 pub not_heavy : {n : ℕ} → n < 2 ^ 64 → 2 ^ 64 ≤ n → ⊥
 not_heavy light heavy = omega (arith, light, heavy)
-
--- ---- queries
-
-pub none_among : {n m : ℕ} → n ≡ m → n ≡ 0 → (false ≡ true → 0 < m) × (0 < m → false ≡ true)
-none_among e none = (λ is. absurd (false≢true is), λ some. absurd (none_not e none some))
-
-pub some_among : {n : ℕ} → 0 < n → (true ≡ true → 0 < n) × (0 < n → true ≡ true)
-some_among some = (λ _. some, λ _. refl)
-
--- an answer is no error, whatever number of entries there is
-pub fit_answer : {V P : Type 0} {x : V} → P → IsRefusedUnless P 0 (Ok x)
-fit_answer fit = (accepted (λ unfit. unfit fit), tt)
-
-pub unfit_refused : {V P : Type 0} {r : Result V ErrorKind} (n : ℕ) → r ≡ Err InvalidArgument → ¬ P → IsRefusedUnless P n r
-unfit_refused n e unfit = (refused_as e unfit, with_error _ e (λ fit. absurd (unfit fit)))
-
-pub fit_short : {V P : Type 0} {r : Result V ErrorKind} {n : ℕ} → r ≡ Err OutOfMemory → P → 0 < n → IsRefusedUnless P n r
-fit_short e fit some = (no_memory e (λ unfit. unfit fit), with_error _ e (λ _. (refl, some)))

@@ -1,6 +1,6 @@
 -- What holds of a value in a result or an option may be weakened.
-use Rattle.std.proofs.Common.{◌≡◌, ◌∙◌, ap, if◌then◌else◌, Result, Ok, Err}
-use Rattle.std.specs.Prelude.{Option, None, Some, IfOk, IfSome, is_ok}
+use Rattle.std.proofs.Common.{Result, Ok, Err}
+use Rattle.std.specs.Prelude.{Option, None, Some, IfOk, IfSome}
 
 -- the value of a result
 pub ok-weaker : {T E : Type 0} (r : Result T E) (P Q : T → Type 0) → ((x : T) → P x → Q x) → IfOk r P → IfOk r Q

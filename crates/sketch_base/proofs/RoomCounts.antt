@@ -1,11 +1,7 @@
 -- The room that a vector has, lacks or gets, in numbers.
-use Rattle.std.proofs.Common.{◌≡◌, ℕ, ◌+◌, ◌-◌, ◌*◌, ◌/◌, ◌<◌, ◌≤◌, Bool, false, nat_eq, eq-eqb, min, max, sym, ◌∙◌, pos_of_ne-zero, arith}
-use Rattle.std.proofs.lemmas.Bool.{false≢true}
+use Rattle.std.proofs.Common.{◌≡◌, ℕ, ◌+◌, ◌-◌, ◌*◌, ◌/◌, ◌<◌, ◌≤◌, min, max, arith}
 
 -- a, the capacity, minus b, the length, against the number m of further items
-pub lacks-room : (a b m k l : ℕ) → a - b < m → a ≡ k → b ≡ l → k < l + m
-lacks-room a b m k l h e f = omega arith
-
 pub has-room : (a b m k l : ℕ) → m ≤ a - b → a ≡ k → b ≡ l → l ≤ k → l + m ≤ k
 has-room a b m k l h e f le = omega arith
 
@@ -31,13 +27,6 @@ below-most c k a b x y z m e f g h = omega arith
 pub quarter-some : (n : ℕ) → 0 < n / 4 + 4
 quarter-some n = omega arith
 
-pub back-room : (l r m s t u j k cap old : ℕ) → l + r + m ≡ s + t + u → u + (s - j) + (t - k) ≤ old → cap ≡ old → j ≤ l → j ≤ s → k ≤ r → k ≤ t →
-    m + (r - k) ≤ cap
-back-room l r m s t u j k cap old e h c jl js kr kt = omega arith
-
-pub end-room : (v m i n f s c : ℕ) → v ≡ m → m ≡ i + n → n ≤ s → i ≤ f → f + s ≤ c → v + (s - n) ≤ c
-end-room v m i n f s c e l h k r = omega (arith, e, l, h, k, r)
-
 -- the part of a list that isn't sorted yet fits into one empty vector, and the whole into another
 pub part-room : (v a n b cap k : ℕ) → v ≡ 0 → a - k ≤ b → a ≡ n → b ≡ cap → v + (n - k) ≤ cap
 part-room v a n b cap k none h e f = omega arith
@@ -50,12 +39,6 @@ moved-first m r k c a b d e f g h = omega arith
 pub moved-after : (m p r k c n s d : ℕ) → k < n → n ≡ r → p ≡ m + 1 → s + 1 ≡ r → d ≡ c → m + (r - k) ≤ c → p + (s - k) ≤ d
 moved-after m p r k c n s d l e is f g h = omega arith
 
-pub one-over : (m n l k c d : ℕ) → n ≡ m + 1 → k + 1 ≡ l → d ≡ c → m + l ≤ c → n + k ≤ d
-one-over m n l k c d e f g h = omega arith
-
-pub one-out : (m l k c : ℕ) → k + 1 ≡ l → m + l ≤ c → m + k ≤ c
-one-out m l k c e h = omega arith
-
 -- every other one of some items moves to an empty vector
 pub spare-first : (n l k m c d : ℕ) → n ≡ l → m ≡ 0 → c ≡ d → l - k ≤ 2 * d → n - k ≤ 2 * (c - m)
 spare-first n l k m c d e f g h = omega arith
@@ -63,12 +46,5 @@ spare-first n l k m c d e f g h = omega arith
 pub spare-after : (r s t k m n c d : ℕ) → t + 1 ≡ s → s + 1 ≡ r → n ≡ m + 1 → d ≡ c → r - k ≤ 2 * (c - m) → t - k ≤ 2 * (d - n)
 spare-after r s t k m n c d e f g h l = omega arith
 
-pub same-room : (a b d n c : ℕ) → a ≡ b → b ≡ d → n ≡ d → n ≤ c → a ≤ c
-same-room a b d n c e f g h = omega arith
-
 pub within-read : (k n v l : ℕ) → n ≡ v → v ≡ l → k ≤ l → k ≤ n
 within-read k n v l e f h = omega arith
-
--- room for one more after some items of one list are merged into another
-pub pushed-room : (v p o s a n i f cap old : ℕ) → v ≡ p → p + (s - a) ≡ o + (s - n) → o ≡ i + n → n ≤ s → a ≤ s → i < f → f + s ≤ old → cap ≡ old → v < cap
-pushed-room v p o s a n i f cap old e sizes len w u l h c = omega arith

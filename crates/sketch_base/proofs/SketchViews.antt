@@ -1,20 +1,22 @@
 -- A bag and its view: the view's answers are those of the bag's expanded list.
-use Rattle.std.proofs.Common.{◌≡◌, ℕ, suc, ◌*◌, ◌+◌, ◌^◌, Bool, List, [], ◌∷◌, length, sum_by, refl, sym, ap, ap₂, ◌∙◌, subst, arith, if◌then◌else◌, Result, Ok, Err, Ordering, Equal}
-use Rattle.std.specs.Prelude.{Option, None, Some, IfOk, slice_get, ◌==◌}
+use Rattle.std.proofs.Common.{◌≡◌, ℕ, suc, ◌*◌, ◌+◌, ◌^◌, List, [], ◌∷◌, length, sum_by, refl, sym, ap₂, ◌∙◌, subst, arith, Result, Ok, Err, Ordering, Equal}
+use Rattle.std.specs.Prelude.{Option, Some, IfOk}
 use Rattle.std.specs.Cmp.{IsTotalOrder}
+use Rattle.std.specs.declared.alloc.Global.{Global}
 use Rattle.std.specs.declared.vec.Vec.{Vec}
-use Rattle.std.proofs.lemmas.List.{nil_from_length}
 use Rattle.std.proofs.lemmas.List.Sums.{sum_by-cons}
 use Rattle.std.proofs.lemmas.List.Elements.{length_all_zip}
 use Rattle.sketch_base.specs.declared.common.Rank.{Rank}
 use Rattle.sketch_base.specs.declared.common.SearchCriteria.{SearchCriteria}
-use Rattle.sketch_base.specs.Answered.{FindsQuantiles, FindsRanks}
 use Rattle.sketch_base.specs.Bag.{Bag, SameItems, expanded, weigh, weight}
-use Rattle.sketch_base.specs.Queries.{SameAnswer, cdf_of, quantile_place, ranks_of}
-use Rattle.sketch_base.specs.Views.{AreQuantiles, IsThere, IsViewOf, View, expanded_view, quantile_of}
+use Rattle.sketch_base.specs.Queried.{AreAtFractions, AreQuantiles, IsCdf, IsQuantile, Masses, Queried, quantile_of}
+use Rattle.sketch_base.specs.Queries.{SameAnswer, cdf_of, ranks_of}
+use Rattle.sketch_base.specs.Views.{IsViewOf, View, queried_view}
+use Rattle.sketch_base.specs.declared.error.ErrorKind.{ErrorKind}
+use Rattle.sketch_base.proofs.Answered.{wanted-too}
 use Rattle.sketch_base.proofs.Counts.{SameCounts-from_items}
 use Rattle.sketch_base.proofs.Entries.{SameAnswer-trans, cdf-same, quantile-same}
-use Rattle.sketch_base.proofs.Results.{ok-weaker, some-weaker}
+use Rattle.sketch_base.proofs.Results.{some-weaker}
 use Rattle.sketch_base.proofs.Sums.{sum_by-expanded}
 
 -- the sum of ones is the length
@@ -30,78 +32,54 @@ weigh-ones h (l ∷ ls) = ap₂ (λ m n. 2 ^ h * m + n) (sum-ones l) (weigh-ones
 pub length-expanded : {A : Type 0} (cmp : A → A → Ordering) (bag : Bag A) → length (expanded cmp bag) ≡ weight bag
 length-expanded cmp bag = sym (sum-ones (expanded cmp bag)) ∙ (sum_by-expanded (λ x. 1) cmp bag ∙ weigh-ones 0 bag.levels)
 
-none-there : {A : Type 0} (o : Option A) (n : ℕ) → IsThere o n → n ≡ 0 → o ≡ None
-none-there None n h z = refl
-none-there (Some x) n h z = absurd (omega (arith, h, z))
+-- what queries see of a bag of weight n with these extremes
+abbrev pub bag_queried : {A : Type 0} → (A → A → Ordering) → Bag A → ℕ → Option A → Option A → Queried A
+bag_queried cmp bag n least greatest = record { cmp = cmp; n = n; entries = expanded cmp bag; least = least; greatest = greatest }
 
-if-none : {A : Type 0} (b : Bool) (x y : Option A) → x ≡ None → y ≡ None → (if b then x else y) ≡ None
-if-none b x y h k = grind arith
+-- a view built from entries that compare equal to a bag's expanded list is a view of the bag
+pub built-view : {A E : Type 0} {cmp : A → A → Ordering} → IsTotalOrder cmp → (bag : Bag A) (n : ℕ) (least least' greatest greatest' : Option A)
+    (r : Result (View A) E) → weight bag ≡ n → SameAnswer cmp least least' → SameAnswer cmp greatest greatest' →
+    IfOk r (λ v. SameItems cmp (expanded cmp bag) v.entries) → IfOk r (λ v. v.least ≡ least') → IfOk r (λ v. v.greatest ≡ greatest') →
+    IfOk r (IsViewOf (bag_queried cmp bag n least greatest))
+built-view order bag n least least' greatest greatest' (Err e) weighs l g same le ge = tt
+built-view {cmp = cmp} order bag n least least' greatest greatest' (Ok v) weighs l g same le ge =
+    record {
+      entries = same;
+      weighs_n = sym (length_all_zip (λ x y. cmp x y ≡ Equal) (expanded cmp bag) v.entries same) ∙ (length-expanded cmp bag ∙ weighs);
+      least = subst (λ x. SameAnswer cmp least x) (sym le) l;
+      greatest = subst (λ x. SameAnswer cmp greatest x) (sym ge) g;
+      ranks = λ y criteria. sym (SameCounts-from_items order (expanded cmp bag) v.entries same y criteria);
+    }
 
--- a bag without items has no quantiles
-pub quantile-empty : {A : Type 0} (cmp : A → A → Ordering) (bag : Bag A) (n : ℕ) (least greatest : Option A) (fraction : Rank) (criteria : SearchCriteria) → weight bag ≡ n →
-    IsThere least n → IsThere greatest n → n ≡ 0 →
-    SameAnswer cmp (quantile_of (expanded_view cmp bag least greatest) fraction criteria) None
-quantile-empty cmp bag n least greatest fraction criteria weighs l g z =
-    let a = fraction.weight in
-    let b = fraction.total in
-    let entries = expanded cmp bag in
-    let none : entries ≡ [] = nil_from_length entries (length-expanded cmp bag ∙ (weighs ∙ z)) in
-    let got : slice_get entries (quantile_place (length entries) a b criteria) ≡ None = ap (λ l. slice_get l (quantile_place (length entries) a b criteria)) none in
-    let empty = if-none (a == 0) least (if a == b then greatest else slice_get entries (quantile_place (length entries) a b criteria)) (none-there least n l z)
-    (if-none (a == b) greatest (slice_get entries (quantile_place (length entries) a b criteria)) (none-there greatest n g z) got) in
-    subst (λ q. SameAnswer cmp q None) (sym empty) tt
+-- the answers of a view of what queries see of a sketch are the sketch's
+module _ {A : Type 0} {q : Queried A} (order : IsTotalOrder q.cmp) {v : View A} (h : IsViewOf q v) (criteria : SearchCriteria) where
+  abbrev theirs : Queried A
+  theirs = queried_view q.cmp v
 
-module _ {A : Type 0} {cmp : A → A → Ordering} (order : IsTotalOrder cmp) where
-  -- a view whose entries compare equal to a bag's expanded list is a view of the bag
-  is-view_of : (bag : Bag A) (n : ℕ) (least greatest : Option A) (v : View A) → SameItems cmp (expanded cmp bag) v.entries → weight bag ≡ n → SameAnswer cmp least v.least →
-      SameAnswer cmp greatest v.greatest → IsViewOf cmp bag n least greatest v
-  is-view_of bag n least greatest v same weighs l g = record {
-    entries = same;
-    weighs_n = sym (length_all_zip (λ x y. cmp x y ≡ Equal) (expanded cmp bag) v.entries same) ∙ (length-expanded cmp bag ∙ weighs);
-    least = l;
-    greatest = g;
-    ranks = λ y criteria. sym (SameCounts-from_items order (expanded cmp bag) v.entries same y criteria);
-  }
+  one-quantile : (fraction : Rank) (found : Option A) → SameAnswer q.cmp (quantile_of theirs fraction criteria) found → SameAnswer q.cmp (quantile_of q fraction criteria) found
+  one-quantile fraction found k =
+      SameAnswer-trans order (quantile_of q fraction criteria) (quantile_of theirs fraction criteria) found
+      (quantile-same q.cmp q.entries v.entries q.least v.least q.greatest v.greatest fraction.weight fraction.total criteria h.entries h.least h.greatest) k
 
-  -- a view built from such entries is one
-  pub built-view : {E : Type 0} (bag : Bag A) (n : ℕ) (least least' greatest greatest' : Option A) (r : Result (View A) E) → weight bag ≡ n → SameAnswer cmp least least' →
-      SameAnswer cmp greatest greatest' →
-      IfOk r (λ v. SameItems cmp (expanded cmp bag) v.entries) → IfOk r (λ v. v.least ≡ least') → IfOk r (λ v. v.greatest ≡ greatest') → IfOk r (IsViewOf cmp bag n least greatest)
-  built-view bag n least least' greatest greatest' (Err e) weighs l g same le ge = tt
-  built-view bag n least least' greatest greatest' (Ok v) weighs l g same le ge =
-      is-view_of bag n least greatest v same weighs (subst (λ x. SameAnswer cmp least x) (sym le) l) (subst (λ x. SameAnswer cmp greatest x) (sym ge) g)
+  many-quantiles : (fractions : List Rank) (found : List A) → AreAtFractions theirs criteria fractions found → AreAtFractions q criteria fractions found
+  many-quantiles [] [] k = tt
+  many-quantiles (f ∷ fs) (x ∷ xs) k = (one-quantile f (Some x) k.0, many-quantiles fs xs k.1)
+  many-quantiles _ _ k = absurd k
 
-  module _ (bag : Bag A) (n : ℕ) (least greatest : Option A) (v : View A) (h : IsViewOf cmp bag n least greatest v) (criteria : SearchCriteria) where
-    abbrev whole : View A
-    whole = expanded_view cmp bag least greatest
+  pub quantile-result : (fraction : Rank) (r : Result (Option A) ErrorKind) → IsQuantile theirs fraction criteria r → IsQuantile q fraction criteria r
+  quantile-result fraction r = wanted-too r h.weighs_n (one-quantile fraction)
 
-    one-quantile : (fraction : Rank) (found : Option A) → SameAnswer cmp (quantile_of v fraction criteria) found → SameAnswer cmp (quantile_of whole fraction criteria) found
-    one-quantile fraction found k =
-        SameAnswer-trans order (quantile_of whole fraction criteria) (quantile_of v fraction criteria) found
-        (quantile-same cmp (expanded cmp bag) v.entries least v.least greatest v.greatest fraction.weight fraction.total criteria h.entries h.least h.greatest) k
+  pub quantiles-result : (fractions : List Rank) (r : Result (Option (Vec A Global)) ErrorKind) → AreQuantiles theirs fractions criteria r →
+      AreQuantiles q fractions criteria r
+  quantiles-result fractions r =
+      wanted-too r h.weighs_n
+      (λ found. some-weaker found (λ xs. AreAtFractions theirs criteria fractions xs.items) (λ xs. AreAtFractions q criteria fractions xs.items)
+      (λ xs. many-quantiles fractions xs.items))
 
-    many-quantiles : (fractions : List Rank) (found : List A) → AreQuantiles cmp v criteria fractions found → AreQuantiles cmp whole criteria fractions found
-    many-quantiles [] [] k = tt
-    many-quantiles (f ∷ fs) (x ∷ xs) k = (one-quantile f (Some x) k.0, many-quantiles fs xs k.1)
-    many-quantiles _ _ k = absurd k
-
-    -- the quantiles that the view gives are the bag's
-    pub quantile-result : {E : Type 0} (fraction : Rank) (r : Result (Option A) E) → IfOk r (SameAnswer cmp (quantile_of v fraction criteria)) →
-        IfOk r (SameAnswer cmp (quantile_of whole fraction criteria))
-    quantile-result fraction r = ok-weaker r (SameAnswer cmp (quantile_of v fraction criteria)) (SameAnswer cmp (quantile_of whole fraction criteria)) (one-quantile fraction)
-
-    pub quantiles-result : {E Z : Type 0} (fractions : List Rank) (r : Result (Option (Vec A Z)) E) → IfOk r (FindsQuantiles cmp v criteria fractions) →
-        IfOk r (FindsQuantiles cmp whole criteria fractions)
-    quantiles-result fractions r =
-        ok-weaker r (FindsQuantiles cmp v criteria fractions) (FindsQuantiles cmp whole criteria fractions)
-        (λ found. some-weaker found (λ xs. AreQuantiles cmp v criteria fractions xs.items) (λ xs. AreQuantiles cmp whole criteria fractions xs.items) (λ xs. many-quantiles fractions xs.items))
-
-    -- so are the ranks of split points
-    pub cdf-result : {E Z : Type 0} (points : List A) (r : Result (Option (Vec Rank Z)) E) → IfOk r (FindsRanks (length v.entries) (cdf_of cmp criteria v.entries points)) →
-        IfOk r (FindsRanks n (cdf_of cmp criteria (expanded cmp bag) points))
-    cdf-result points r =
-        let theirs = cdf_of cmp criteria v.entries points in
-        let ours = cdf_of cmp criteria (expanded cmp bag) points in
-        let same : ranks_of (length v.entries) theirs ≡ ranks_of n ours = ap₂ ranks_of h.weighs_n (sym (cdf-same order criteria (expanded cmp bag) v.entries points h.entries)) in
-        ok-weaker r (FindsRanks (length v.entries) theirs) (FindsRanks n ours)
-        (λ found. some-weaker found (λ ranks. ranks.items ≡ ranks_of (length v.entries) theirs) (λ ranks. ranks.items ≡ ranks_of n ours) (λ ranks e. e ∙ same))
+  pub cdf-result : (points : List A) (r : Masses) → IsCdf theirs points criteria r → IsCdf q points criteria r
+  cdf-result points r =
+      let of_view = cdf_of q.cmp criteria v.entries points in
+      let ours = cdf_of q.cmp criteria q.entries points in
+      let same : ranks_of (length v.entries) of_view ≡ ranks_of q.n ours = ap₂ ranks_of h.weighs_n (sym (cdf-same order criteria q.entries v.entries points h.entries)) in
+      wanted-too r h.weighs_n
+      (λ found. some-weaker found (λ ranks. ranks.items ≡ ranks_of (length v.entries) of_view) (λ ranks. ranks.items ≡ ranks_of q.n ours) (λ ranks e. e ∙ same))

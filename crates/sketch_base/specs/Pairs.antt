@@ -1,7 +1,9 @@
 -- Items with weights, and the list that they stand for.
-use Rattle.std.specs.Prelude.{ℕ, ◌+◌, Bool, true, false, if◌then◌else◌, List, [], ◌∷◌, replicate, flat_map, Option, None}
+use Rattle.std.specs.Prelude.{◌≡◌, ℕ, ◌+◌, Bool, true, false, not, ◌||◌, if◌then◌else◌, List, [], ◌∷◌, replicate, flat_map, Option, None}
+use Rattle.std.specs.List.{AllZip}
 use Rattle.std.specs.Ordering.{is_eq, is_lt}
 use Rattle.std.specs.declared.cmp.Ordering.{Ordering}
+use Rattle.std.specs.declared.cmp.Ordering.TheVariants.{Equal}
 
 -- each item repeated by its weight
 abbrev pub copies : {A : Type 0} → List (A × ℕ) → List A
@@ -22,19 +24,23 @@ abbrev pub extreme_among : {A B : Type 0} → List B → Option A → Option A
 extreme_among [] extreme = None
 extreme_among (x ∷ xs) extreme = extreme
 
--- whether the first of these sorted weighted items is above x, or there is none
-abbrev pub is_below_next : {A : Type 0} → (A → A → Ordering) → A → List (A × ℕ) → Bool
-is_below_next cmp x [] = true
-is_below_next cmp x (pair ∷ pairs) = is_lt (cmp x pair.0)
+-- whether x is kept before these sorted weighted items: where equal items are joined, the first of them must be above it
+abbrev pub is_kept : {A : Type 0} → (A → A → Ordering) → (joins : Bool) → A → List (A × ℕ) → Bool
+is_kept cmp joins x [] = true
+is_kept cmp joins x (pair ∷ pairs) = not joins || is_lt (cmp x pair.0)
 
--- of sorted weighted items, the last of each group whose items compare equal
-abbrev pub joined : {A : Type 0} → (A → A → Ordering) → List (A × ℕ) → List A
-joined cmp [] = []
-joined cmp (pair ∷ pairs) = if is_below_next cmp pair.0 pairs then pair.0 ∷ joined cmp pairs else joined cmp pairs
+-- sorted weighted items without their weights, all or the last of each group whose items compare equal
+abbrev pub joined : {A : Type 0} → (A → A → Ordering) → (joins : Bool) → List (A × ℕ) → List A
+joined cmp joins [] = []
+joined cmp joins (pair ∷ pairs) = if is_kept cmp joins pair.0 pairs then pair.0 ∷ joined cmp joins pairs else joined cmp joins pairs
 
 -- the weight up to each of them, plus the weight before the list
-abbrev pub joined_weights : {A : Type 0} → (A → A → Ordering) → ℕ → List (A × ℕ) → List ℕ
-joined_weights cmp before [] = []
-joined_weights cmp before (pair ∷ pairs) =
-    if is_below_next cmp pair.0 pairs then (before + pair.1) ∷ joined_weights cmp (before + pair.1) pairs
-    else joined_weights cmp (before + pair.1) pairs
+abbrev pub joined_weights : {A : Type 0} → (A → A → Ordering) → (joins : Bool) → ℕ → List (A × ℕ) → List ℕ
+joined_weights cmp joins before [] = []
+joined_weights cmp joins before (pair ∷ pairs) =
+    if is_kept cmp joins pair.0 pairs then (before + pair.1) ∷ joined_weights cmp joins (before + pair.1) pairs
+    else joined_weights cmp joins (before + pair.1) pairs
+
+-- pairs of equal weight whose items compare equal, place by place
+abbrev pub SamePairs : {A : Type 0} → (A → A → Ordering) → List (A × ℕ) → List (A × ℕ) → Type 0
+SamePairs cmp = AllZip (λ p q. (cmp p.0 q.0 ≡ Equal) × (q.1 ≡ p.1))

@@ -1,25 +1,21 @@
 //! A sorted snapshot of a sketch's items, for many queries. Each family builds it from what its
 //! sketches hold.
-ghost use Rattle.std.specs.Prelude.{◌≡◌, ◌↔◌, ◌<◌, ◌^◌, length, map, sum_by, IsTrue, IsSome, IsSorted, IfOk, IfErr, IfSome, option_copied};
+ghost use Rattle.std.specs.Prelude.{◌≡◌, ◌↔◌, ◌<◌, ◌^◌, length, map, sum_by, IsTrue, IsSome, IfOk, IfErr, IfSome, if◌then◌else◌, option_copied};
 ghost use Rattle.std.specs.declared.cmp.Ordering.TheVariants.{Equal};
 ghost use Rattle.std.specs.List.{All};
 ghost use Rattle.std.specs.List.Sorted.{IsNonDecreasing};
-ghost use Rattle.sketch_base.specs.Answered.{EndsAt, FindsQuantiles, FindsRanks, IsFoundAmong, IsRefusedUnless};
 ghost use Rattle.sketch_base.specs.declared.error.ErrorKind.TheVariants.{OutOfMemory};
 ghost use Rattle.sketch_base.specs.Bag.{SameItems, sort};
 ghost use Rattle.sketch_base.specs.Pairs.{copies, distinct, extreme_among};
-ghost use Rattle.sketch_base.specs.Query.{true_rank};
-ghost use Rattle.sketch_base.specs.Queries.{IsFraction, IsIncreasing, SameAnswer, cdf_of, pmf_of};
-ghost use Rattle.sketch_base.specs.Views.{IsView, SameView, quantile_of, view_of};
-ghost use Rattle.sketch_base.specs.Weighted.{items_of, pairs_in};
+ghost use Rattle.sketch_base.specs.Queried.{AreQuantiles, EndsAt, IsCdf, IsPmf, IsQuantile, IsRank, quantile_of};
+ghost use Rattle.sketch_base.specs.Queries.{IsFraction};
+ghost use Rattle.sketch_base.specs.Views.{IsView, SameView, queried_view, view_of};
 
-use crate::common::counting::count_from;
 use crate::common::extremes::clone_found;
 use crate::common::{Rank, SearchCriteria, queries};
 use crate::error::Error;
-use crate::joining::{join_clones, join_equal};
-use crate::weighted::Weighted;
-use std::alloc::{AllocError, Global};
+use crate::weighted::cumulate;
+use std::alloc::AllocError;
 use std::marker::Model;
 
 /// The sorted items of a sketch, with their weights. Each item stands for as many entries as it
@@ -48,7 +44,7 @@ impl<T: Clone + Ord> SortedView<T> {
     /// `u64`. The extremes are those of the stream; they are ignored if there are no items. An
     /// error is `OutOfMemory`.
     pub fn new(
-        mut weighted: Vec<(T, u64)>,
+        weighted: Vec<(T, u64)>,
         min_item: Option<T>,
         max_item: Option<T>,
     ) -> Result<Self, Error>
@@ -65,6 +61,30 @@ impl<T: Clone + Ord> SortedView<T> {
         ensures memory { IfErr result (λ e. e ≡ OutOfMemory) }
         ensures none { IfErr result (λ e. 0 < length weighted.items) }
     {
+        SortedView::build(weighted, true, min_item, max_item)
+    }
+
+    /// Builds the view as `new` does, but joins items that compare equal only if `joins` is true.
+    pub fn build(
+        mut weighted: Vec<(T, u64)>,
+        joins: bool,
+        min_item: Option<T>,
+        max_item: Option<T>,
+    ) -> Result<Self, Error>
+        requires weights { All (λ pair. 0 < pair.1) weighted.items }
+        requires fits { sum_by (λ pair. pair.1) weighted.items < 2 ^ 64 }
+        requires least { 0 < length weighted.items → IsSome min_item }
+        requires greatest { 0 < length weighted.items → IsSome max_item }
+        ensures entries { IfOk result (λ v.
+            SameItems T.cmp (sort T.cmp (copies weighted.items)) v.entries) }
+        ensures held { IfOk result (λ v. v.held
+            ≡ (if joins then distinct T.cmp v.entries else length weighted.items)) }
+        ensures least { IfOk result (λ v. v.least ≡ extreme_among weighted.items min_item) }
+        ensures greatest { IfOk result (λ v.
+            v.greatest ≡ extreme_among weighted.items max_item) }
+        ensures memory { IfErr result (λ e. e ≡ OutOfMemory) }
+        ensures none { IfErr result (λ e. 0 < length weighted.items) }
+    {
         let alloc = *weighted.allocator();
         let count = weighted.len();
         let mut items = Vec::with_capacity(alloc, count)?;
@@ -72,40 +92,10 @@ impl<T: Clone + Ord> SortedView<T> {
         if count == 0 {
             return Ok(SortedView::from_cumulated(items, cumulated, None, None));
         }
-        // Runs that are already sorted, as levels are, are merged. The greatest then comes first.
         weighted.sort_by(|a, b| a.0.cmp(&b.0))?;
+        // The greatest comes first, and the least is taken off first.
         weighted.reverse();
-        join_equal(&mut weighted, &mut items, &mut cumulated);
-        Ok(SortedView::from_cumulated(items, cumulated, min_item, max_item))
-    }
-
-    /// Builds the view of clones of sorted weighted items. Of items that compare equal, one is
-    /// cloned, with the weight of them all. A clone of an item must compare equal to it. The
-    /// weights, the extremes and errors are as for `new`.
-    pub fn from_weighted(
-        alloc: Global,
-        entries: &[Weighted<'_, T>],
-        min_item: Option<T>,
-        max_item: Option<T>,
-    ) -> Result<Self, Error>
-        requires clones { (x y : T) → T.is_clone x y → T.cmp x y ≡ Equal }
-        requires sorted { IsSorted T.cmp (items_of entries.now) }
-        requires weights { All (λ pair. 0 < pair.1) (pairs_in entries.now) }
-        requires fits { sum_by (λ pair. pair.1) (pairs_in entries.now) < 2 ^ 64 }
-        requires least { 0 < length entries.now → IsSome min_item }
-        requires greatest { 0 < length entries.now → IsSome max_item }
-        ensures entries { IfOk result (λ v.
-            SameItems T.cmp (sort T.cmp (copies (pairs_in entries.now))) v.entries) }
-        ensures joined { IfOk result (λ v. v.held ≡ distinct T.cmp v.entries) }
-        ensures least { IfOk result (λ v. v.least ≡ extreme_among entries.now min_item) }
-        ensures greatest { IfOk result (λ v. v.greatest ≡ extreme_among entries.now max_item) }
-        ensures memory { IfErr result (λ e. e ≡ OutOfMemory) }
-        ensures none { IfErr result (λ e. 0 < length entries.now) }
-    {
-        let (items, cumulated) = join_clones(alloc, entries)?;
-        if entries.is_empty() {
-            return Ok(SortedView::from_cumulated(items, cumulated, None, None));
-        }
+        cumulate(&mut weighted, joins, &mut items, &mut cumulated);
         Ok(SortedView::from_cumulated(items, cumulated, min_item, max_item))
     }
 
@@ -136,7 +126,7 @@ impl<T: Clone + Ord> SortedView<T> {
     }
 
     /// Returns the number of items that the view holds: for a KLL sketch the retained ones, for a
-    /// REQ sketch the distinct ones among them, since `new` and `from_weighted` join equal items.
+    /// REQ sketch the distinct ones among them, since `new` joins equal items.
     pub fn len(&self) -> usize
         ensures value { result ≡ self.now.held }
     {
@@ -153,10 +143,7 @@ impl<T: Clone + Ord> SortedView<T> {
     /// Returns the number of entries that are at most the item (`Inclusive`) or below it
     /// (`Exclusive`), out of all entries, or None if there are no entries.
     pub fn rank(&self, item: &T, criteria: SearchCriteria) -> Option<Rank>
-        ensures there { IsSome result ↔ (0 < length self.now.entries) }
-        ensures weight { IfSome result (λ r.
-            r.weight ≡ true_rank T.cmp item.now criteria self.now.entries) }
-        ensures total { IfSome result (λ r. r.total ≡ length self.now.entries) }
+        ensures { IsRank (queried_view T.cmp self.now) item.now criteria result }
     {
         if self.items.is_empty() {
             return None;
@@ -177,12 +164,10 @@ impl<T: Clone + Ord> SortedView<T> {
     /// 0 or `weight` exceeds it, even if there are no entries; any other error is `OutOfMemory`.
     pub fn quantile(&self, fraction: Rank, criteria: SearchCriteria) -> Result<Option<T>, Error>
         requires clones { (x y : T) → T.is_clone x y → T.cmp x y ≡ Equal }
-        ensures found { IfOk result (SameAnswer T.cmp (quantile_of self.now fraction criteria)) }
-        ensures there { IfOk result (IsFoundAmong (length self.now.entries)) }
-        ensures refused { IsRefusedUnless (IsFraction fraction) (length self.now.entries) result }
+        ensures { IsQuantile (queried_view T.cmp self.now) fraction criteria result }
     {
         queries::check_fraction(fraction)?;
-        clone_found(self.entry_of(fraction, criteria)).map_err(Error::from)
+        Ok(clone_found(self.entry_of(fraction, criteria))?)
     }
 
     /// Returns the entry at the quantile given by each fraction, or None if there are no entries.
@@ -194,10 +179,7 @@ impl<T: Clone + Ord> SortedView<T> {
         criteria: SearchCriteria,
     ) -> Result<Option<Vec<T>>, Error>
         requires clones { (x y : T) → T.is_clone x y → T.cmp x y ≡ Equal }
-        ensures found { IfOk result (FindsQuantiles T.cmp self.now criteria fractions.now) }
-        ensures there { IfOk result (IsFoundAmong (length self.now.entries)) }
-        ensures refused { IsRefusedUnless (All IsFraction fractions.now)
-            (length self.now.entries) result }
+        ensures { AreQuantiles (queried_view T.cmp self.now) fractions.now criteria result }
     {
         queries::check_fractions(fractions)?;
         if self.items.is_empty() {
@@ -215,14 +197,10 @@ impl<T: Clone + Ord> SortedView<T> {
     /// entries. Returns `InvalidArgument` exactly if the points do not strictly increase, even if
     /// there are no entries; any other error is `OutOfMemory`.
     pub fn cdf(&self, points: &[T], criteria: SearchCriteria) -> Result<Option<Vec<Rank>>, Error>
-        ensures found { let entries = self.now.entries in
-            IfOk result (FindsRanks (length entries) (cdf_of T.cmp criteria entries points.now)) }
+        ensures ranks { IsCdf (queried_view T.cmp self.now) points.now criteria result }
         ensures ends { IfOk result (EndsAt (length points.now) (length self.now.entries)) }
         ensures rises { IfOk result (λ found. IfSome found (λ ranks.
             IsNonDecreasing (map (λ (r : Rank). r.weight) ranks.items))) }
-        ensures there { IfOk result (IsFoundAmong (length self.now.entries)) }
-        ensures refused { IsRefusedUnless (IsIncreasing T.cmp points.now)
-            (length self.now.entries) result }
     {
         queries::check_points(points)?;
         if self.items.is_empty() {
@@ -232,10 +210,8 @@ impl<T: Clone + Ord> SortedView<T> {
         let total = queries::entries_of(items, cumulated);
         let alloc = *self.items.allocator();
         let mut ranks = Vec::with_capacity(alloc, points.len().saturating_add(1))?;
-        let mut count = 0;
         for point in points {
-            count = count_from(items, count, point, criteria);
-            let weight = queries::entries_before(cumulated, count);
+            let weight = queries::rank_among(items, cumulated, point, criteria);
             ranks.push_reserved(Rank { weight, total });
         }
         let weight = total;
@@ -248,13 +224,9 @@ impl<T: Clone + Ord> SortedView<T> {
     /// (`Inclusive`), or at least the lower and below the upper (`Exclusive`). Errors are as for
     /// `cdf`.
     pub fn pmf(&self, points: &[T], criteria: SearchCriteria) -> Result<Option<Vec<Rank>>, Error>
-        ensures found { let entries = self.now.entries in
-            IfOk result (FindsRanks (length entries) (pmf_of T.cmp criteria entries points.now)) }
+        ensures weights { IsPmf (queried_view T.cmp self.now) points.now criteria result }
         ensures sums { IfOk result (λ found. IfSome found (λ ranks. sum_by (λ (r : Rank).
             r.weight) ranks.items ≡ length self.now.entries)) }
-        ensures there { IfOk result (IsFoundAmong (length self.now.entries)) }
-        ensures refused { IsRefusedUnless (IsIncreasing T.cmp points.now)
-            (length self.now.entries) result }
     {
         let Some(mut ranks) = self.cdf(points, criteria)? else {
             return Ok(None);
@@ -279,7 +251,8 @@ impl<T: Clone + Ord> SortedView<T> {
     /// Returns the entry at the quantile given by `fraction`, or None if there are no entries.
     fn entry_of(&self, fraction: Rank, criteria: SearchCriteria) -> Option<&T>
         requires { IsFraction fraction }
-        ensures entry { option_copied result ≡ quantile_of self.now fraction criteria }
+        ensures entry { option_copied result
+            ≡ quantile_of (queried_view T.cmp self.now) fraction criteria }
         ensures there { IsSome result ↔ (0 < length self.now.entries) }
     {
         if fraction.weight == 0 {

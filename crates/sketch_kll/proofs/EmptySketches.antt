@@ -1,27 +1,11 @@
 -- An empty sketch is sound.
-use Rattle.std.proofs.Common.{None, ◌≡◌, ℕ, ◌<◌, ◌≤◌, ◌^◌, Bool, false, List, [], ◌∷◌, refl, sym, subst, arith, Ordering}
+use Rattle.std.proofs.lemmas.Grind.{common_steps}
+use Rattle.std.proofs.Common.{None, ◌≡◌, ℕ, ◌<◌, ◌≤◌, ◌^◌, Bool, false, List, [], ◌∷◌, sym, subst, arith, Ordering}
 use Rattle.sketch_kll.specs.Sketch.{IsSound, sketch_of, empty_sketch}
 
 -- an empty sketch is sound
 pub empty_sound : {A : Type 0} (cmp : A → A → Ordering) (k : ℕ) (flag : Bool) → 8 ≤ k → k < 2 ^ 16 → IsSound cmp (empty_sketch {A = A} k flag)
-empty_sound cmp k flag h w = record {
-  eight_below_min_k = h;
-  min_k_below_k = omega arith;
-  k_fits = w;
-  weighs_n = refl;
-  has_level = omega arith;
-  has_few_levels = omega arith;
-  within_capacity = omega arith;
-  upper_sorted = tt;
-  flag_holds = λ _ i d low lt. absurd (omega arith);
-  least_there = refl;
-  greatest_there = refl;
-  extremes_in_order = tt;
-  items_between = (tt, tt);
-  one_level_at_first = λ h. refl;
-  min_k_at_first = λ h. refl;
-  one_item_ties = λ h. absurd (omega arith);
-}
+empty_sound cmp k flag h w = grind (arith, common_steps)
 
 -- a sketch with one empty level that does not count as sorted is the empty sketch
 pub new_empty : {A : Type 0} (k k0 : ℕ) (flag : Bool) (levels : List (List A)) → k ≡ k0 → flag ≡ false → levels ≡ [] ∷ [] →

@@ -1,4 +1,5 @@
 -- The loop that looks for the lowest full level, and what it finds, for levels and for their lengths.
+use Rattle.std.proofs.lemmas.Grind.{common_steps}
 use Rattle.std.proofs.Common.{◌≡◌, ℕ, suc, ◌+◌, ◌-◌, ◌<◌, ◌≤◌, Bool, true, false, not, nat_le, List, [], ◌∷◌, length, map, sum, slice_index, drop, refl, ap₂, sym, ap, ◌∙◌, arith, Ordering, length-drop, leb-true, leb-false, le-leb, le-ltb, lt-ltb, inl, inr, nat_lt}
 use Rattle.std.proofs.lemmas.Bool.{cases_Bool, cases_lt, lt-leb}
 use Rattle.std.proofs.lemmas.List.{drop_all}
@@ -54,14 +55,7 @@ passes_by_levels k ls level =
 -- if the levels are full, the level's own capacity decides
 pub passes_is : {A : Type 0} (k level : ℕ) (ls : List (List A)) → is_full k ls ≡ true →
     passes k ls level ≡ not (nat_le (capacity_at k 8 (length ls - 1 - level)) (length (first_level (drop level ls))))
-passes_is k level ls full =
-    let h : nat_lt (retained ls) (total_of k 8 (length ls)) ≡ false = le-ltb (retained ls) (total_of k 8 (length ls)) (full_holds k ls full) in
-    let c : ℕ = capacity_at k 8 (length ls - 1 - level) in
-    let n : ℕ = length (first_level (drop level ls)) in
-    passes_by_levels k ls level ∙ rw h (elim (cases_Bool (nat_le c n)) [
-      | inl e ↦ rw (e, le-ltb n c (leb-true c n e)) refl
-      | inr e ↦ rw (e, lt-ltb n c (leb-false c n e)) refl
-    ])
+passes_is k level ls full = grind (arith, common_steps, le-ltb, full_holds, passes_by_levels, cases_Bool, leb-true, lt-ltb, leb-false)
 
 -- the invariant of the loop that looks for a level to compact
 pub record SeeksFull {A : Type 0} (k : ℕ) (ls : List (List A)) (level : ℕ) : Type 0 where
@@ -117,12 +111,7 @@ seeks_on {A} {k} {level} {ls} full within s on =
 -- it ends at the lowest full level
 pub seeks_end : {A : Type 0} {k level : ℕ} {ls : List (List A)} → is_full k ls ≡ true → level < length ls → SeeksFull k ls level → passes k ls level ≡ false →
     level ≡ full_level k ls
-seeks_end {A} {k} {level} {ls} full within s off =
-    sym (seeks_found k ls level within s (leb-true _ _ (reached (sym (passes_is k level ls full) ∙ off))))
-  where
-    reached : {b : Bool} → not b ≡ false → b ≡ true
-    reached {b = true} e = refl
-    reached {b = false} e = cc
+seeks_end {A} {k} {level} {ls} full within s off = grind (arith, common_steps, seeks_found, leb-true, passes_is)
 
 -- if the levels are full, there is a lowest full one, which is at or over its capacity
 pub lowest_full_due : (k : ℕ) (lengths : List ℕ) → 0 < length lengths → total_of k 8 (length lengths) ≤ sum lengths →

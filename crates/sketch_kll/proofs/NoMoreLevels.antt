@@ -1,4 +1,5 @@
 -- A compaction never makes a 62nd level, since a full level 60 would weigh too much.
+use Rattle.std.proofs.lemmas.Grind.{common_steps}
 use Rattle.std.proofs.Common.{◌≡◌, ℕ, zero, suc, ◌+◌, ◌-◌, ◌*◌, ◌^◌, ◌<◌, ◌≤◌, Bool, false, nat_le, List, [], ◌∷◌, length, refl, sym, ap, ◌∙◌, subst, arith, Ordering, leb-false, inl, inr}
 use Rattle.std.proofs.Math.Nat.{pow-succ'}
 use Rattle.std.proofs.lemmas.Bool.{cases_Bool, lt-leb, cases_lt, cases_eq}
@@ -50,9 +51,7 @@ no_more_levels k ls few h w t f =
 -- a compaction of the lowest full level leaves at most 61 levels
 still_few : {A : Type 0} (cmp : A → A → Ordering) (k : ℕ) (last coin : Bool) (ls : List (List A)) → 0 < length ls → length ls ≤ 61 → weight ls < 2 ^ 64 →
     total_of k 8 (length ls) ≤ retained ls → length (compacted cmp last coin (full_level k ls) ls) ≤ 61
-still_few cmp k last coin ls h few w f =
-    let s = compacted_size cmp last coin (full_level k ls) ls (full_level_at k ls h f).0 in
-    grind (arith, few, s.same, s.at_most, no_more_levels k ls few h w f)
+still_few cmp k last coin ls h few w f = grind (arith, common_steps, compacted_size, full_level_at, few, no_more_levels)
 
 -- a compaction below level 60 leaves at least one level and at most 61
 pub few_compacted : {A : Type 0} (cmp : A → A → Ordering) (level : ℕ) (last coin : Bool) (ls raised ms : List (List A)) → length ls ≤ 61 →

@@ -1,13 +1,10 @@
 -- Calls of a sketch that return an error or a value: what their clauses say, and the numbers that decide it.
-use Rattle.std.proofs.Common.{◌≡◌, ◌+◌, ◌-◌, ◌<◌, ◌^◌, ◌∙◌, ℕ, Bool, true, false, eqb, List, [], ◌++◌, Option, Ordering, Result, Ok, Err, IfErr, length, subst, sym, ap, arith}
+use Rattle.std.proofs.Common.{◌≡◌, ◌-◌, ◌<◌, ◌^◌, ◌∙◌, ℕ, Bool, true, false, eqb, List, [], ◌++◌, Option, Ordering, Result, Err, length, subst, sym, ap, arith}
 use Rattle.std.proofs.lemmas.Bool.{eqb-true, true≢false}
 use Rattle.std.proofs.lemmas.List.{nil_from_length}
 use Rattle.sketch_base.specs.Heads.{header_text}
 use Rattle.sketch_base.specs.declared.codec.Header.{Header}
-use Rattle.sketch_base.specs.declared.error.ErrorKind.{ErrorKind}
-use Rattle.sketch_base.specs.declared.error.ErrorKind.TheVariants.{InvalidArgument, OutOfMemory}
-use Rattle.sketch_base.proofs.Exits.{accepted, error_is}
-use Rattle.sketch_base.proofs.RefusedCalls.{no_memory}
+use Rattle.sketch_base.proofs.Exits.{error_is}
 use Rattle.sketch_kll.specs.Sketch.{IsSound, Kll, sketch_of}
 use Rattle.sketch_kll.specs.Stored.{Stored, KeepsLevels}
 

@@ -1,4 +1,6 @@
 -- What a call says that returns what a write of an item's spelling or a read of one returns.
+use Rattle.std.proofs.Common.{arith}
+use Rattle.std.proofs.lemmas.Grind.{common_steps}
 use Rattle.std.proofs.Common.{◌≡◌, ◌≢◌, ◌∙◌, ◌<◌, ◌^◌, ℕ, ℤ, List, [], ◌++◌, length, Option, Some, None, Result, Ok, Err, ap, refl, sym, append-nil, append_assoc, unwrap_or}
 use Rattle.std.specs.Int.{cast_unsigned, to_le_bytes, w32, w64}
 use Rattle.std.specs.Prelude.{◌↔◌, FitsSigned, IfErr, IfOk, IsErrOf, IsSome, OnErr, OnOk, is_some}
@@ -96,17 +98,5 @@ pub item_written : {A : Type 0} (spelling : A → Option (List ℕ)) (x : A) (fo
       refused : IfErr r (λ e. e ≡ InvalidArgument → ¬ AllSpelled spelling (option_to_list found));
       kind : IfErr r (λ e. e ≢ InvalidData);
     }
-item_written spelling x found (Ok y) before after is spelled appended refused kind = record {
-  ok = rw is (appended ∙ ap (λ (bytes : List ℕ). before ++ bytes) (sym (append-nil (bytes_of spelling x))));
-  spelled = rw is (spelled, tt);
-  refused = tt;
-  kind = tt;
-}
-item_written spelling x found (Err e) before after is spelled appended refused kind = record {
-  ok = tt;
-  spelled = tt;
-  refused = λ argument. rw is (λ all. not_some (spelling x) (refused.0 (ap Err argument)) all.0);
-  kind = kind;
-} where
-  not_some : (o : Option (List ℕ)) → o ≡ None → IsSome o → ⊥
-  not_some o none some = cc
+item_written spelling x found (Ok y) before after is spelled appended refused kind = grind (arith, common_steps, append-nil)
+item_written spelling x found (Err e) before after is spelled appended refused kind = grind (arith, common_steps)

@@ -1,9 +1,9 @@
 -- Levels as they are stored: empty, those of a sound sketch, with items put in, after a compaction, and after a merge.
-use Rattle.std.proofs.Common.{Option, ◌≡◌, ℕ, ◌-◌, ◌<◌, ◌≤◌, Bool, List, [], ◌∷◌, ◌++◌, length, drop, get_or, replicate, set, take, sym, ap, ◌∙◌, subst, arith, Ordering, length-drop, true, false, IsTrue, IsPermutation, IsSorted, subst₂, ap₂}
+use Rattle.std.proofs.Common.{Option, ◌≡◌, ℕ, ◌-◌, ◌<◌, ◌≤◌, Bool, List, [], ◌∷◌, ◌++◌, length, drop, replicate, set, sym, ap, ◌∙◌, subst, arith, Ordering, length-drop, false, IsTrue, IsSorted, subst₂, ap₂}
 use Rattle.sketch_kll.specs.Capacity.{total_of}
 use Rattle.sketch_kll.specs.Flat.{levels_in, marks, IsFlat}
 use Rattle.sketch_kll.specs.Join.{joined, joined_bounds}
-use Rattle.sketch_kll.specs.Levels.{body_of, compacted, first_level, leftover_of, SameLevels, UpperSorted}
+use Rattle.sketch_kll.specs.Levels.{compacted, first_level, SameLevels, UpperSorted}
 use Rattle.sketch_kll.specs.Sketch.{IsSound, sketch_of}
 use Rattle.sketch_kll.specs.Stored.{Stored, AreClones, AreStored, KeepsLevels, stored_of}
 use Rattle.sketch_kll.specs.declared.levels.merging.Incoming.{Incoming}
@@ -11,13 +11,10 @@ use Rattle.sketch_kll.proofs.Flats.{is_flat, levels_of_flat, length-bounds}
 use Rattle.sketch_kll.proofs.JoinedLevels.{prepared}
 use Rattle.sketch_kll.proofs.Merged.{joined_size}
 use Rattle.sketch_kll.proofs.NoMoreLevels.{few_compacted}
-use Rattle.sketch_kll.proofs.OrderedLevels.{ordered_level, same_level, IsOrdered}
 use Rattle.sketch_kll.specs.Steps.{needs_sorting, put_all}
-use Rattle.std.specs.Cmp.{IsTotalOrder}
 use Rattle.sketch_kll.proofs.PutItems.{put_flat, length-put, UpperSorted-put}
 use Rattle.sketch_kll.proofs.RaisedLevels.{raised_is, Raised, Raises}
-use Rattle.sketch_kll.proofs.CompactedRuns.{known_sorted, lowest_alone}
-use Rattle.sketch_kll.proofs.CompressWalks.{SameLevels-trans}
+use Rattle.sketch_kll.proofs.CompactedRuns.{known_sorted}
 
 -- no items, between two bounds of 0, are one empty level
 pub new_levels : {A : Type 0} (items : List A) (bounds : List ℕ) → items ≡ [] → bounds ≡ 0 ∷ 0 ∷ [] →
@@ -75,14 +72,13 @@ pub record CompactedStored {A : Type 0} (cmp : A → A → Ordering) (last coin 
 pub compacted_stored : {A : Type 0} {cmp : A → A → Ordering} {k total level : ℕ} {items items' : List A} {bounds wide bounds' : List ℕ} {ls : List (List A)} (last coin : Bool) →
     AreStored cmp k items bounds total → levels_in items bounds ≡ ls → level < length ls → level < 60 → Raises level bounds wide → IsFlat items' bounds' →
     SameLevels cmp (compacted cmp last coin level (levels_in items wide)) (levels_in items' bounds') →
-    (UpperSorted cmp (levels_in items wide) → UpperSorted cmp (levels_in items' bounds')) → CompactedStored cmp last coin k level ls items' bounds'
-compacted_stored {A} {cmp} {k} {total} {level} {items} {items'} {bounds} {wide} {bounds'} {ls} last coin stored own within low widened flat alike ordered =
+    UpperSorted cmp (levels_in items' bounds') → CompactedStored cmp last coin k level ls items' bounds'
+compacted_stored {A} {cmp} {k} {total} {level} {items} {items'} {bounds} {wide} {bounds'} {ls} last coin stored own within low widened flat alike sorted =
     let up = raised_is last coin stored own within widened in
     let inside : level < length (levels_in items bounds) = omega (arith, ap length own, within) in
     let few = few_compacted cmp level last coin (levels_in items bounds) (levels_in items wide) (levels_in items' bounds') stored.few inside low
     up.same alike in
     let bounds_len = length-bounds items' bounds' flat in
-    let sorted = ordered (up.sorted stored.sorted) in
     record {
       flat = flat;
       few = omega (arith, bounds_len, few.1);
@@ -124,47 +120,15 @@ joined_stored {A} {cmp} {k} {total} {total'} {items} {upper} {taken} {merged} {i
     let sizes = joined_size cmp ls us (levels_in merged (joined_bounds wide runs)) stored.some stored.few (omega (arith, upper_len, length-drop 1 runs, few)) same in
     rw (items_are, bounds_are) (record { stored = record { k_above = stored.k_above; flat = flat; total_is = total; some = sizes.some; few = sizes.few; sorted = sorted }; same = same })
 
--- level 0 after its items were sorted
-pub ordered_anew : {A : Type 0} {cmp : A → A → Ordering} → IsTotalOrder cmp → (is_sorted : Bool) {needs coin : Bool} {level from : ℕ} {items given new : List A} {bounds wide : List ℕ} →
-    Raised cmp needs coin level items bounds wide → UpperSorted cmp (levels_in items bounds) → needs ≡ needs_sorting is_sorted level → needs ≡ true →
-    from ≡ get_or wide 1 0 → given ≡ items → take from new ≡ take from given → IsPermutation (body_of true (drop from given)) (body_of true (drop from new)) →
-    IsSorted cmp (body_of true (drop from new)) → leftover_of true (drop from new) ≡ leftover_of true (drop from given) → length new ≡ length given →
-    IsOrdered cmp needs level items new wide
-ordered_anew {A} {cmp} o is_sorted {needs} {level = level} {items = items} {new = new} {wide = wide} up sorted needs_is anew from_is given_is =
-    let within : 1 < length wide = omega (arith, up.within) in
-    rw (anew, lowest_alone is_sorted level (sym needs_is ∙ anew)) (
-    subst₂
-    (λ (from : ℕ) (xs : List A). take from new ≡ take from xs → IsPermutation (body_of true (drop from xs)) (body_of true (drop from new)) →
-    IsSorted cmp (body_of true (drop from new)) → leftover_of true (drop from new) ≡ leftover_of true (drop from xs) → length new ≡ length xs →
-    IsOrdered cmp true 0 items new wide) (sym from_is) (sym given_is) (ordered_level cmp o items new wide up.flat within (up.sorted sorted))
-    )
-
--- a level that needn't be sorted, whose items are left as they were
-pub ordered_before : {A : Type 0} {cmp : A → A → Ordering} → IsTotalOrder cmp → {needs is_sorted coin : Bool} {level : ℕ} {items new : List A} {bounds wide : List ℕ}
+-- a level that needs no sorting is sorted, also once there is a level above it
+pub raised_sorted : {A : Type 0} {cmp : A → A → Ordering} {needs is_sorted coin : Bool} {level : ℕ} {items : List A} {bounds wide : List ℕ}
     {ls : List (List A)} → Raised cmp needs coin level items bounds wide → UpperSorted cmp (levels_in items bounds) → levels_in items bounds ≡ ls →
-    needs ≡ needs_sorting is_sorted level → (IsTrue is_sorted → level ≡ 0 → IsSorted cmp (first_level ls)) → needs ≡ false → new ≡ items →
-    IsOrdered cmp needs level items new wide
-ordered_before {A} {cmp} o {needs} {is_sorted} {level = level} {items = items} {wide = wide} up sorted own needs_is flag left new_is =
+    needs ≡ needs_sorting is_sorted level → (IsTrue is_sorted → level ≡ 0 → IsSorted cmp (first_level ls)) → needs ≡ false →
+    IsSorted cmp (first_level (drop level (levels_in items wide)))
+raised_sorted {A} {cmp} {is_sorted = is_sorted} {level = level} {items = items} {wide = wide} up sorted own needs_is flag left =
     let first = up.first ∙ ap (λ (xs : List (List A)). first_level xs) own in
-    let known = known_sorted cmp is_sorted level (levels_in items wide) (up.sorted sorted)
-    (λ t z. subst (λ (y : List A). IsSorted cmp y) (sym first) (flag t z)) (sym needs_is ∙ left) in
-    rw (left, new_is) (same_level cmp o level items wide up.flat (up.sorted sorted) known)
-
--- what a compaction leaves, where the vectors are given as they were ordered and raised, and what it leaves is cut off
-pub compacted_left : {A : Type 0} {cmp : A → A → Ordering} → IsTotalOrder cmp → {k total level : ℕ}
-    {items ordered given cut items' : List A} {bounds wide given_bounds made bounds' : List ℕ} {ls : List (List A)} (last coin : Bool) →
-    AreStored cmp k items bounds total → levels_in items bounds ≡ ls → level < length ls → level < 60 → Raises level bounds wide →
-    IsOrdered cmp last level items ordered wide →
-    given ≡ ordered → given_bounds ≡ wide → items' ≡ cut → bounds' ≡ made → IsFlat cut made →
-    SameLevels cmp (compacted cmp last coin level (levels_in given given_bounds)) (levels_in cut made) → UpperSorted cmp (levels_in cut made) →
-    CompactedStored cmp last coin k level ls items' bounds'
-compacted_left {A} {cmp} o {k} {level = level} {cut = cut} {items' = items'} {made = made} {bounds' = bounds'} {ls = ls}
-    last coin stored own within low widened order given_is bounds_given cut_is made_is flat alike sorted =
-    let before = ap₂ levels_in given_is bounds_given in
-    let same = SameLevels-trans cmp o _ _ _ (order.same coin)
-    (subst (λ (xs : List (List A)). SameLevels cmp (compacted cmp last coin level xs) (levels_in cut made)) before alike) in
-    subst₂ (λ (xs : List A) (bs : List ℕ). CompactedStored cmp last coin k level ls xs bs) (sym cut_is) (sym made_is)
-    (compacted_stored last coin stored own within low widened flat same (λ _. sorted))
+    known_sorted cmp is_sorted level (levels_in items wide) (up.sorted sorted)
+    (λ t z. subst (λ (y : List A). IsSorted cmp y) (sym first) (flag t z)) (sym needs_is ∙ left)
 
 -- ---- vectors that hold what they held
 

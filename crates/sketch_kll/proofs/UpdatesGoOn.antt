@@ -1,4 +1,5 @@
 -- Updates by a single item are its update, and updates by some items and then by more are updates by all.
+use Rattle.std.proofs.lemmas.Grind.{common_steps}
 use Rattle.std.proofs.Common.{◌≡◌, ℕ, ◌+◌, ◌^◌, ◌<◌, Bool, true, false, cond, eqb, ◌&&◌, List, [], ◌∷◌, ◌++◌, length, map, Option, refl, sym, ap, ◌∙◌, subst, arith, append_assoc, append-nil, drop, length-append, Ordering}
 use Rattle.std.specs.Option.{option_to_list}
 use Rattle.std.specs.Cmp.{IsTotalOrder}
@@ -27,12 +28,7 @@ use Rattle.sketch_kll.proofs.UpdatesInTurn.{updates_fields}
 module _ {A : Type 0} {cmp : A → A → Ordering} (o : IsTotalOrder cmp) where
   -- updates by a single item are its update
   pub one_updates : OneUpdates cmp
-  one_updates s x word t =
-      let off = and_right s.is_sorted false refl in
-      let whole = append-nil (update_of s x) in (
-        λ h. record { k = h.k; min_k = h.min_k; n = h.n; is_sorted = h.is_sorted ∙ off; bag = rw (← whole) h.bag; least = h.least; greatest = h.greatest },
-        λ h. record { k = h.k; min_k = h.min_k; n = h.n; is_sorted = h.is_sorted ∙ sym off; bag = rw whole h.bag; least = h.least; greatest = h.greatest },
-      )
+  one_updates s x word t = grind (arith, common_steps, and_right, append-nil)
 
   -- what an update makes of the fields of a sketch
   pub record UpdatedFields {S : Type 0} (bit : S → Bool) (next : S → S) (source after : S) (s : Kll A) (x : A) (t : Kll A) : Type 0 where

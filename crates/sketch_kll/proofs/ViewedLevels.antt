@@ -1,13 +1,13 @@
 -- The levels of a sound sketch as a view is built from them, and the view as callers see it.
-use Rattle.std.proofs.Common.{◌≡◌, ◌<◌, ◌≤◌, ◌^◌, ◌∙◌, ℕ, Bool, List, Option, None, Some, Ordering, Result, IfOk, IsSorted, IsTrue, ap, ap₂, arith, length, subst, sym}
+use Rattle.std.proofs.Common.{◌≡◌, ◌<◌, ◌≤◌, ◌^◌, ◌∙◌, ℕ, Bool, List, Option, None, Some, Ordering, Result, IfOk, ap, ap₂, arith, length, subst, sym}
 use Rattle.std.specs.Cmp.{IsTotalOrder}
 use Rattle.sketch_base.specs.Bag.{SameItems, expanded, retained}
 use Rattle.sketch_base.specs.Queries.{SameAnswer}
 use Rattle.sketch_base.specs.Views.{IsThere, IsViewOf, View}
 use Rattle.sketch_base.proofs.SketchViews.{built-view}
 use Rattle.sketch_kll.specs.Flat.{IsFlat, levels_in}
-use Rattle.sketch_kll.specs.Levels.{UpperSorted, first_level, weight}
-use Rattle.sketch_kll.specs.Sketch.{IsSound, Kll, bag_in, bag_of, sketch_of}
+use Rattle.sketch_kll.specs.Levels.{weight}
+use Rattle.sketch_kll.specs.Sketch.{IsSound, Kll, bag_in, bag_of, queried, sketch_of}
 use Rattle.sketch_kll.specs.Stored.{AreStored, Stored, stored_of}
 use Rattle.sketch_kll.proofs.Flats.{length-bounds, length-items}
 use Rattle.sketch_kll.proofs.Rank.{retained_is, weight_is}
@@ -22,12 +22,10 @@ module _ {A : Type 0} (cmp : A → A → Ordering) where
   there_too (Some x) None n m same e there = absurd same
 
   -- what a view needs of the levels, and of copies of the extremes
-  pub record CanBeViewed (items : List A) (bounds : List ℕ) (is_sorted : Bool) (least greatest : Option A) : Type 0 where
+  pub record CanBeViewed (items : List A) (bounds : List ℕ) (least greatest : Option A) : Type 0 where
     pub flat : IsFlat items bounds
     pub few : length bounds ≤ 62
     pub weighs : weight (levels_in items bounds) < 2 ^ 64
-    pub upper : UpperSorted cmp (levels_in items bounds)
-    pub flag : IsTrue is_sorted → IsSorted cmp (first_level (levels_in items bounds))
     pub least_there : IsThere least (weight (levels_in items bounds))
     pub greatest_there : IsThere greatest (weight (levels_in items bounds))
 
@@ -36,7 +34,7 @@ module _ {A : Type 0} (cmp : A → A → Ordering) where
       {least greatest : Option A} (least' greatest' : Option A) →
       AreStored cmp k items bounds total → stored_of k is_sorted items bounds items_room bounds_room ≡ seen →
       IsSound cmp (sketch_of seen.k min_k n seen.is_sorted seen.levels least greatest) → n < 2 ^ 64 → items' ≡ items → bounds' ≡ bounds →
-      SameAnswer cmp least least' → SameAnswer cmp greatest greatest' → CanBeViewed items' bounds' is_sorted least' greatest'
+      SameAnswer cmp least least' → SameAnswer cmp greatest greatest' → CanBeViewed items' bounds' least' greatest'
   can_be_viewed {items = items} {bounds = bounds} {least = least} {greatest = greatest} least' greatest'
       stored view_is sound fits items_are bounds_are low high =
       let own = sound_inside view_is sound in
@@ -45,8 +43,6 @@ module _ {A : Type 0} (cmp : A → A → Ordering) where
         flat = stored.flat;
         few = omega (arith, len, stored.few);
         weighs = omega (arith, own.weighs_n, fits);
-        upper = stored.sorted;
-        flag = own.flag_holds;
         least_there = there_too least least' _ _ low (sym own.weighs_n) own.least_there;
         greatest_there = there_too greatest greatest' _ _ high (sym own.weighs_n) own.greatest_there;
       })
@@ -69,7 +65,7 @@ module _ {A : Type 0} (cmp : A → A → Ordering) where
       greatest) →
       items' ≡ items → bounds' ≡ bounds → SameAnswer cmp least least' → SameAnswer cmp greatest greatest' → (r : Result (View A) E) →
       IfOk r (λ v. SameItems cmp (expanded cmp (bag_in is_sorted (levels_in items' bounds'))) v.entries) → IfOk r (λ v. v.least ≡ least') →
-      IfOk r (λ v. v.greatest ≡ greatest') → IfOk r (IsViewOf cmp (bag_of s) s.n s.least s.greatest)
+      IfOk r (λ v. v.greatest ≡ greatest') → IfOk r (IsViewOf (queried cmp s))
   view_as_seen {n = n} {is_sorted = is_sorted} {items = items} {bounds = bounds} {least = least} {greatest = greatest} least' greatest'
       order view_is seen_is sound items_are bounds_are low high r entries least_is greatest_is =
       let levels : List (List A) = levels_in items bounds in

@@ -1,7 +1,7 @@
 //! The levels of a sketch in one vector, the highest first, and how updates change them. What a
 //! compaction does to a slice is in `compaction`. General compress is in `compress`, updates by
 //! many items are in `taking`, and merges are in `merging`.
-ghost use Rattle.std.specs.Prelude.{◌≡◌, ◌+◌, ◌-◌, ◌^◌, ◌<◌, ◌≤◌, [], ◌∷◌, length, map, IfOk, OnOk, vec_capacity, if◌then◌else◌, drop, true, false, IsSorted, IsTrue, nat_le};
+ghost use Rattle.std.specs.Prelude.{◌≡◌, ◌+◌, ◌-◌, ◌^◌, ◌<◌, ◌≤◌, [], ◌∷◌, length, map, IfOk, OnOk, OnErr, vec_capacity, if◌then◌else◌, drop, true, false, IsSorted, IsTrue, nat_le};
 ghost use Rattle.sketch_base.specs.Query.{counted};
 ghost use Rattle.sketch_kll.specs.Capacity.{capacity_at, total_of};
 ghost use Rattle.sketch_kll.specs.Flat.{levels_in, IsFlat};
@@ -15,11 +15,11 @@ pub(crate) mod merging;
 mod taking;
 
 use crate::capacity::{MINIMUM_CAPACITY, is_surely_least, level_capacity, total_capacity};
-use crate::compaction::{compact_level, order_body};
+use crate::compaction::compact_level;
 use sketch_base::common::SearchCriteria;
 use sketch_base::common::counting::{count_all, count_in_order};
 use sketch_base::common::random::RandomBits;
-use sketch_base::common::room::{give_back, reserve_next};
+use sketch_base::common::room::reserve_next;
 use std::alloc::{AllocError, Global};
 use std::marker::Model;
 
@@ -88,22 +88,12 @@ impl<T: Ord + Drop> Levels<T> {
         self.total_capacity = total_capacity(self.k, MINIMUM_CAPACITY, 1);
     }
 
-    /// Makes room for one more item and one more level.
-    pub(crate) fn reserve_next(&mut self) -> Result<(), AllocError>
-        ensures kept { KeepsLevels self.old self.new }
-        ensures room { OnOk result (retained self.new.levels < self.new.items_room) }
-        ensures spare { OnOk result (length self.new.levels + 1 < self.new.bounds_room) }
-    {
-        let most = self.total_capacity as usize;
-        reserve_next(&mut self.items, most)?;
-        self.bounds.reserve(1)
-    }
-
     /// Frees memory beyond room for an eighth more items and one more level.
-    pub(crate) fn give_back(&mut self)
+    pub(crate) fn shrink(&mut self)
         ensures kept { KeepsLevels self.old self.new }
     {
-        give_back(&mut self.items);
+        let len = self.items.len();
+        self.items.shrink_to(len + len / 8);
         self.bounds.shrink_to(self.bounds.len() + 1);
     }
 
@@ -115,6 +105,33 @@ impl<T: Ord + Drop> Levels<T> {
         ensures sorted { UpperSorted T.cmp self.now.levels }
     {
         self.items.len() >= self.total_capacity as usize
+    }
+
+    /// Makes room for one more item: compacts one level if the levels are at or over their total
+    /// capacity. An error leaves the levels and the source of coins unchanged.
+    #[inline(never)]
+    pub(crate) fn make_place<B: RandomBits>(&mut self, coins: &mut B) -> Result<(), AllocError>
+        requires light { weight_in self.old.levels < 2 ^ 64 }
+        requires flag { IsTrue self.old.is_sorted → IsSorted T.cmp (first_level self.old.levels) }
+        ensures k { self.new.k ≡ self.old.k }
+        ensures levels { OnOk result (SameLevels T.cmp
+            (compacted_if_full T.cmp self.old.k self.old.is_sorted (B.bit coins.old)
+            self.old.levels)
+            self.new.levels) }
+        ensures sorted { OnOk result (UpperSorted T.cmp self.new.levels) }
+        ensures room { OnOk result (retained self.new.levels < self.new.items_room) }
+        ensures coins { OnOk result (coins.new ≡ (if is_full self.old.k self.old.levels
+            then B.next coins.old else coins.old)) }
+        ensures err { OnErr result ((KeepsLevels self.old self.new) × (coins.new ≡ coins.old)) }
+    {
+        if self.items.len() < self.items.capacity() && !self.is_full() {
+            return Ok(());
+        }
+        let most = self.total_capacity as usize;
+        reserve_next(&mut self.items, most)?;
+        self.bounds.reserve(1)?;
+        self.compact_if_full(coins);
+        Ok(())
     }
 
     /// Compacts one level if the levels are at or over their total capacity.
@@ -178,9 +195,6 @@ impl<T: Ord + Drop> Levels<T> {
             self.total_capacity = total_capacity(self.k, MINIMUM_CAPACITY, level + 2);
         }
         let needs_sorting = needs_sorting(self.is_level_zero_sorted, level);
-        if needs_sorting {
-            order_body(&mut self.items, self.bounds[1]);
-        }
         let coin = coins.random_bit();
         let (items, bounds) = (&mut self.items, &mut self.bounds);
         let count = compact_level(items, bounds, level, needs_sorting, coin);

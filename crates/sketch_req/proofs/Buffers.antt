@@ -1,58 +1,30 @@
--- The buffers of a walk's turns: what stays when those of one turn are set.
-use Rattle.std.proofs.Common.{◌≢◌, ◌≡◌, ℕ, suc, ◌+◌, ◌<◌, ◌≤◌, List, length, map, get_or, set, sym, ap, ◌∙◌, arith, inl, inr}
-use Rattle.std.proofs.lemmas.Bool.{cases_lt}
-use Rattle.std.proofs.lemmas.List.{map-set, length-map, get_or-map, get_or-set_other, get_or-set_same}
-use Rattle.sketch_base.specs.Buffers.{Space, merged_spaces}
-use Rattle.sketch_req.specs.Schedule.{Layout}
-use Rattle.sketch_req.specs.Walk.{HaveSpace}
-use Rattle.sketch_req.specs.declared.RankAccuracy.{RankAccuracy}
+-- Vectors that levels are moved through, one for each level, as they are made and as one is set.
+use Rattle.std.proofs.Common.{◌≢◌, ◌≡◌, ℕ, ◌+◌, ◌<◌, ◌≤◌, List, [], ◌∷◌, ◌++◌, length, map, get_or, set, sym, ap, ap₂, ◌∙◌, arith}
+use Rattle.std.proofs.Math.Seq.{get_or-append_seam}
+use Rattle.std.proofs.lemmas.List.{length-map, map-append, map-set, get_or-map, get_or-set_other, get_or_append_left}
 
--- what is read from the buffers of each turn
+-- what is read from the vector of each level
 module _ {R B : Type 0} (read : R → B) (d : B) (rooms : List R) (h : ℕ) (room : R) where
-  -- at a place it is read from the buffers of that place
+  -- at a place it is read from the vector of that place
   pub read-there : h < length rooms → room ≡ get_or rooms h room → get_or (map read rooms) h d ≡ read room
   read-there within e = get_or-map read rooms h room d within ∙ ap read (sym e)
 
-  -- at other places it stays when the buffers of one place are set
+  -- at other places it stays when the vector of one place is set
   pub read-other : (j : ℕ) → j ≢ h → get_or (map read (set rooms h room)) j d ≡ get_or (map read rooms) j d
   read-other j other = ap (λ (xs : List B). get_or xs j d) (map-set read rooms h room) ∙ get_or-set_other (map read rooms) h j (read room) d other
 
-  -- at that place it is read from the buffers that were set
-  pub read-here : h < length rooms → get_or (map read (set rooms h room)) h d ≡ read room
-  read-here inside = ap (λ (xs : List B). get_or xs h d) (map-set read rooms h room) ∙ get_or-set_same (map read rooms) h (read room) d (omega (arith, inside, length-map rooms read))
+-- what is read once there is one more
+module _ {R B : Type 0} (read : R → B) (d : B) (rooms all : List R) (room : R) (e : all ≡ rooms ++ room ∷ []) where
+  more : map read all ≡ map read rooms ++ read room ∷ []
+  more = ap (map read) e ∙ map-append read rooms (room ∷ [])
 
--- space in buffers, and in others that have as much
-module _ {A : Type 0} where
-  -- once the buffers of a turn are set, the levels of all turns up to this one have space of their own
-  pub own-more : (need : ℕ → ℕ) (buffers : List (Space A)) (own : Space A) (h : ℕ) → h < length buffers →
-      ((j : ℕ) → suc j < h → need j ≤ get_or (merged_spaces buffers) (suc j) 0) → ((j : ℕ) → h ≡ suc j → need j ≤ own.merged_space) →
-      (j : ℕ) → suc j < h + 1 → need j ≤ get_or (merged_spaces (set buffers h own)) (suc j) 0
-  own-more need buffers own h inside below here j within =
-      elim (cases_lt (suc j) h) [
-        | inl low ↦
-            let other : suc j ≢ h = omega (arith, low) in
-            omega (arith, below j low, read-other (λ b. b.merged_space) 0 buffers h own (suc j) other)
-        | inr high ↦
-            let place : h ≡ suc j = omega (arith, within, high) in
-            let set_here : get_or (merged_spaces (set buffers h own)) (suc j) 0 ≡ own.merged_space =
-            ap (λ (n : ℕ). get_or (merged_spaces (set buffers h own)) n 0) (sym place) ∙ read-here (λ b. b.merged_space) 0 buffers h own inside in
-            omega (arith, here j place, set_here)
-      ]
+  pub read-before : (j : ℕ) → j < length rooms → get_or (map read all) j d ≡ get_or (map read rooms) j d
+  read-before j low = ap (λ (xs : List B). get_or xs j d) more ∙ get_or_append_left (map read rooms) (read room ∷ []) d j (omega (arith, low, length-map rooms read))
 
-  -- other buffers with the same space serve too, and so does a vector with more space
-  pub space-kept : (k : ℕ) (accuracy : RankAccuracy) (layouts : List Layout) (buffers news : List (Space A)) (most more : ℕ) → merged_spaces news ≡ merged_spaces buffers → most ≤ more →
-      HaveSpace k accuracy layouts buffers most → HaveSpace k accuracy layouts news more
-  space-kept k accuracy layouts buffers news most more merged grows fit = record {
-    enough = omega (arith, fit.enough, ap length merged, length-map news (λ (b : Space A). b.merged_space), length-map buffers (λ (b : Space A). b.merged_space));
-    promoted = λ h within. omega (arith, fit.promoted h within, grows);
-    own = λ h within. omega (arith, fit.own h within, ap (λ (spaces : List ℕ). get_or spaces (suc h) 0) merged);
-  }
+  pub read-last : (j : ℕ) → length rooms ≡ j → get_or (map read all) j d ≡ read room
+  read-last j place =
+      ap₂ (λ (xs : List B) (n : ℕ). get_or xs n d) more (sym (length-map rooms read ∙ place)) ∙ get_or-append_seam (map read rooms) (read room) [] d
 
 -- the places above one
 pub places-above : (h j : ℕ) → h + 1 ≤ j → (j ≢ h) × (h ≤ j)
 places-above h j low = (λ e. absurd (omega (arith, e, low)), omega arith)
-
--- space for the walk of a sketch, by its k and its accuracy
-pub space-told : {A : Type 0} (k n : ℕ) (accuracy a : RankAccuracy) (layouts : List Layout) (buffers : List (Space A)) (most : ℕ) → k ≡ n → accuracy ≡ a →
-    HaveSpace k accuracy layouts buffers most → HaveSpace n a layouts buffers most
-space-told k n accuracy a layouts buffers most e f fit = rw (← e, ← f) fit

@@ -1,63 +1,59 @@
--- Buffers with clones: the buffers of one turn for each level that comes in.
-use Rattle.std.proofs.Common.{◌≢◌, ◌≡◌, ℕ, ◌+◌, ◌<◌, ◌≤◌, List, [], length, get_or, set, ap, subst, arith, inl, inr, Ordering}
-use Rattle.std.proofs.lemmas.Bool.{cases_lt}
+-- Clones of the levels that come in: what a join of one level finds.
+use Rattle.std.proofs.Common.{◌∷◌, ◌++◌, inl, inr, ◌≢◌, ◌≡◌, ℕ, ◌+◌, ◌<◌, ◌≤◌, List, Vec, [], length, get_or, set, ap, subst, arith, vec_capacity, Ordering}
 use Rattle.sketch_base.specs.Bag.{SameItems}
-use Rattle.sketch_base.specs.Buffers.{Space, clones_of, clones_spaces}
 use Rattle.sketch_req.specs.Level.{Level}
 use Rattle.sketch_req.specs.Merged.{IsCopied, IsCloned}
-use Rattle.sketch_req.specs.Schedule.{Layout, layouts_of, layout_at, retained_of}
+use Rattle.sketch_req.specs.Schedule.{Layout, layouts_of, layout_at, joined_layouts, retained_of}
+use Rattle.sketch_req.specs.Walk.{lists_of, spaces_of}
 use Rattle.sketch_req.specs.declared.RankAccuracy.{RankAccuracy}
-use Rattle.sketch_req.proofs.MergedLevels.{copied-few, items-there, layout-there}
-use Rattle.sketch_req.proofs.Buffers.{read-there, read-other, read-here}
+use Rattle.sketch_req.proofs.MergedLevels.{copied-few, items-there, joined-count, layout-there}
+use Rattle.sketch_req.proofs.Buffers.{read-before, read-last, read-other, read-there}
+use Rattle.std.proofs.lemmas.Bool.{cases_lt}
 
 -- what a join of a level needs
-pub record IsReady {A : Type 0} (cmp : A → A → Ordering) (ls others : List (Level A)) (old o : Level A) (own : Space A) (promoted_space : ℕ) : Type 0 where
-  pub same : SameItems cmp o.items own.clones
-  pub space : length old.items + length o.items ≤ own.clones_space
+pub record IsReady {A Z : Type 0} (cmp : A → A → Ordering) (ls others : List (Level A)) (old o : Level A) (own : Vec A Z) (promoted_space : ℕ) : Type 0 where
+  pub same : SameItems cmp o.items own.items
+  pub space : length old.items + length o.items ≤ vec_capacity own
   pub promoted : length old.items + length o.items ≤ promoted_space
   pub few : length old.items + length o.items ≤ retained_of (layouts_of ls) + retained_of (layouts_of others)
 
-module _ {A : Type 0} (cmp : A → A → Ordering) (ls others : List (Level A)) where
-  -- the buffers of place h have clones of level h of the others
-  abbrev pub HasClones : List (Space A) → ℕ → ℕ → Type 0
-  HasClones buffers promoted h = IsCloned cmp h ls others (get_or (clones_of buffers) h []) (get_or (clones_spaces buffers) h 0) promoted
+module _ {A Z : Type 0} (cmp : A → A → Ordering) (ls others : List (Level A)) where
+  -- the vector at place h has clones of level h of the others
+  abbrev pub HasClones : List (Vec A Z) → ℕ → Type 0
+  HasClones vectors h = IsCloned cmp h ls others (get_or (lists_of vectors) h []) (get_or (spaces_of vectors) h 0)
 
-  -- a vector with more space serves too
-  pub cloned-grown : (buffers : List (Space A)) (promoted more h : ℕ) → promoted ≤ more → HasClones buffers promoted h → HasClones buffers more h
-  cloned-grown buffers promoted more h grows has = record { same = has.same; space = has.space; promoted = omega (arith, has.promoted, grows) }
+  -- the vectors of other places stay
+  pub cloned-other : (vectors : List (Vec A Z)) (h : ℕ) (own : Vec A Z) (j : ℕ) → j ≢ h → HasClones vectors j → HasClones (set vectors h own) j
+  cloned-other vectors h own j other has =
+      rw (read-other (λ (v : Vec A Z). v.items) [] vectors h own j other, read-other (λ (v : Vec A Z). vec_capacity v) 0 vectors h own j other) has
 
-  -- the buffers of other places stay
-  pub cloned-other : (buffers : List (Space A)) (h : ℕ) (own : Space A) (promoted j : ℕ) → j ≢ h → HasClones buffers promoted j → HasClones (set buffers h own) promoted j
-  cloned-other buffers h own promoted j other has =
-      rw (read-other (λ b. b.clones) [] buffers h own j other, read-other (λ b. b.clones_space) 0 buffers h own j other) has
-
-  -- the buffers of one more level have taken clones
-  pub cloned-more : (buffers : List (Space A)) (h : ℕ) (own : Space A) (promoted more : ℕ) → h < length buffers → promoted ≤ more →
-      ((j : ℕ) → j < h → j < length others → HasClones buffers promoted j) →
-      (h < length others → IsCloned cmp h ls others own.clones own.clones_space more) →
-      (j : ℕ) → j < h + 1 → j < length others → HasClones (set buffers h own) more j
-  cloned-more buffers h own promoted more inside grows below here j l m =
+  -- a vector with clones of one more level
+  pub cloned-more : (vectors all : List (Vec A Z)) (own : Vec A Z) (h : ℕ) → length vectors ≡ h → all ≡ vectors ++ own ∷ [] → ((j : ℕ) → j < h → HasClones vectors j) →
+      IsCloned cmp h ls others own.items (vec_capacity own) → (j : ℕ) → j < h + 1 → HasClones all j
+  cloned-more vectors all own h long e below here j within =
+      let items = λ (v : Vec A Z). v.items in
+      let space = λ (v : Vec A Z). vec_capacity v in
       elim (cases_lt j h) [
         | inl low ↦
-            cloned-other buffers h own more j (omega (arith, low)) (cloned-grown buffers promoted more j grows (below j low m))
+            let there : j < length vectors = omega (arith, low, long) in
+            rw (read-before items [] vectors all own e j there, read-before space 0 vectors all own e j there) (below j low)
         | inr high ↦
-            let place : h ≡ j = omega (arith, l, high) in
-            subst (λ (n : ℕ). n < length others → HasClones (set buffers h own) more n) place
-            (λ n. rw (read-here (λ b. b.clones) [] buffers h own inside, read-here (λ b. b.clones_space) 0 buffers h own inside) (here n)) m
+            let place : h ≡ j = omega (arith, within, high) in
+            subst (HasClones all) place (rw (read-last items [] vectors all own e h long, read-last space 0 vectors all own e h long) here)
       ]
 
   -- clones and space are ready for it
-  pub is-ready : (k : ℕ) (accuracy : RankAccuracy) (h : ℕ) (buffers : List (Space A)) (own : Space A) (promoted : ℕ) (old o : Level A) → IsCopied cmp k accuracy h ls old → h < length others →
-      o ≡ get_or others h o → h < length buffers → own ≡ get_or buffers h own →
-      HasClones buffers promoted h → IsReady cmp ls others old o own promoted
-  is-ready k accuracy h buffers own promoted old o c i e j f a =
-      let same : SameItems cmp o.items own.clones =
-      subst (λ (xs : List A). SameItems cmp xs own.clones) (items-there others h o i e) (subst (SameItems cmp _) (read-there (λ b. b.clones) [] buffers h own j f) a.same) in
+  pub is-ready : (k : ℕ) (accuracy : RankAccuracy) (h : ℕ) (vectors : List (Vec A Z)) (own : Vec A Z) (promoted : ℕ) (old o : Level A) → IsCopied cmp k accuracy h ls old → h < length others →
+      o ≡ get_or others h o → h < length vectors → own ≡ get_or vectors h own → HasClones vectors h →
+      (layout_at (joined_layouts k (layouts_of ls) (layouts_of others)) h).count ≤ promoted → IsReady cmp ls others old o own promoted
+  is-ready k accuracy h vectors own promoted old o c i e j f a most =
+      let same : SameItems cmp o.items own.items =
+      subst (λ (xs : List A). SameItems cmp xs own.items) (items-there others h o i e) (subst (SameItems cmp _) (read-there (λ (v : Vec A Z). v.items) [] vectors h own j f) a.same) in
       let mine : length old.items ≡ (layout_at (layouts_of ls) h).count = ap (λ (l : Layout). l.count) c.layout in
       let its : (layout_at (layouts_of others) h).count ≡ length o.items = ap (λ (l : Layout). l.count) (layout-there others h o i e) in
       record {
         same = same;
-        space = omega (arith, mine, its, a.space, read-there (λ b. b.clones_space) 0 buffers h own j f);
-        promoted = omega (arith, mine, its, a.promoted);
+        space = omega (arith, mine, its, a.space, read-there (λ (v : Vec A Z). vec_capacity v) 0 vectors h own j f);
+        promoted = omega (arith, mine, its, most, joined-count k (layouts_of ls) (layouts_of others) h);
         few = omega (arith, mine, its, copied-few h ls others old o c.layout i e);
       }

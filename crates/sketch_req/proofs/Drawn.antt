@@ -1,4 +1,6 @@
 -- If each level at an odd state has drawn a coin, walks turn only drawn coins, and leave it so.
+use Rattle.std.proofs.Common.{arith}
+use Rattle.std.proofs.lemmas.Grind.{common_steps}
 use Rattle.std.specs.Prelude.{⊤}
 use Rattle.std.proofs.Common.{◌≡◌, ◌≢◌, ℕ, suc, ◌/◌, ◌%◌, Bool, true, false, not, ◌==◌, if◌then◌else◌, List, ◌∷◌, ◌++◌, refl, sym, ap, ◌∙◌, inl, inr}
 use Rattle.std.proofs.lemmas.Bool.{cases_Bool, cases_eq}
@@ -22,11 +24,7 @@ emptied l = record l { count = 0 }
 
 -- a level that is filled keeps both
 pub emptied-filled : (h n : ℕ) (ls : List Layout) (j : ℕ) → emptied (layout_at (with_level new_layout h (filled n) ls) j) ≡ emptied (layout_at ls j)
-emptied-filled h n ls j =
-    elim (cases_eq j h) [
-      | inl here ↦ rw here (ap emptied (layout-same h (filled n) ls))
-      | inr other ↦ ap emptied (layout-other h j (filled n) ls other)
-    ]
+emptied-filled h n ls j = grind (arith, common_steps, cases_eq, layout-same, layout-other)
 
 -- so does each level except the one that is compacted
 pub emptied-other : (k h : ℕ) (ls : List Layout) (j : ℕ) → j ≢ h → emptied (layout_at (compacted_at k h ls) j) ≡ emptied (layout_at ls j)
@@ -35,11 +33,7 @@ emptied-other k h ls j other =
 
 -- if the compacted level has drawn a coin, each level that turns its coin has still drawn one
 drawn_compacted : (k h : ℕ) (ls : List Layout) (drawn : ℕ → Bool) → AreDrawn ls drawn → drawn h ≡ true → AreDrawn (compacted_at k h ls) drawn
-drawn_compacted k h ls drawn a e j p =
-    elim (cases_eq j h) [
-      | inl here ↦ ap drawn here ∙ e
-      | inr other ↦ a j (ap (λ (l : Layout). turns_coin l.state) (sym (emptied-other k h ls j other)) ∙ p)
-    ]
+drawn_compacted k h ls drawn a e j p = grind (arith, common_steps, cases_eq, emptied-other)
 
 drawn_put : (ls : List Layout) (drawn : ℕ → Bool) → AreDrawn ls drawn → AreDrawn (put_layouts ls) drawn
 drawn_put ls drawn a j p = a j (ap (λ (l : Layout). turns_coin l.state) (sym (emptied-filled 0 1 ls j)) ∙ p)
@@ -60,12 +54,7 @@ if-true false c e = e
 
 -- what was drawn before stays drawn
 pub rises-with : (drawn : ℕ → ℕ → Bool) (s h : ℕ) → Rises drawn (with_drawn drawn s h)
-rises-with drawn s h t j e =
-    let own = changed (drawn s) h true in
-    elim (cases_eq t s) [
-      | inl here ↦ rw (here, changed-there drawn s own) (if-true (j == h) (drawn s j) (rw here at e))
-      | inr other ↦ rw (changed-other drawn s own t other) e
-    ]
+rises-with drawn s h t j e = grind (arith, common_steps, cases_eq, changed-there, if-true, changed-other)
 
 -- that level has drawn one
 pub drawn-there : (drawn : ℕ → ℕ → Bool) (s h : ℕ) → with_drawn drawn s h s h ≡ true

@@ -1,23 +1,12 @@
 -- One equation after another, of numbers, of flags and of items.
-use Rattle.std.proofs.Common.{◌≡◌, ◌∙◌, ℕ, Bool, true, false, List, length, ap, sym}
-use Rattle.std.proofs.lemmas.Bool.{false≢true}
+use Rattle.std.proofs.Common.{◌≡◌, ◌∙◌, ℕ, List, length, ap}
 use Rattle.sketch_req.specs.Level.{Level}
 
 pub same_number : {n m l : ℕ} → n ≡ m → m ≡ l → n ≡ l
 same_number e f = e ∙ f
 
-pub same_back : {n m l : ℕ} → n ≡ m → l ≡ m → n ≡ l
-same_back e f = e ∙ sym f
-
-pub same_flag : {a b c : Bool} → a ≡ b → b ≡ c → a ≡ c
-same_flag e f = e ∙ f
-
 pub same_items : {A : Type 0} {xs ys zs : List A} → xs ≡ ys → ys ≡ zs → xs ≡ zs
 same_items e f = e ∙ f
-
--- a flag that is both
-pub not_both : {P : Type 0} {b : Bool} → b ≡ true → b ≡ false → P
-not_both on off = absurd (false≢true (sym off ∙ on))
 
 -- the items of a level, and how many there are
 pub own_items : {A : Type 0} {start level : Level A} {xs : List A} → start ≡ level → xs ≡ start.items → xs ≡ level.items

@@ -1,10 +1,11 @@
 -- What a summary answers about its tail: ranks, entries and quantiles are those of the stream.
-use Rattle.std.proofs.Common.{◌≡◌, ℕ, zero, suc, ◌+◌, ◌-◌, ◌*◌, ◌/◌, ◌<◌, ◌≤◌, Bool, true, false, not, ◌⊎◌, inl, inr, ⊎_elim, if◌then◌else◌, List, length, get_or, refl, sym, ap, ◌∙◌, subst, arith, eq-eqb, Ordering, Option, None, Some, is_lt, is_le}
+use Rattle.std.proofs.Common.{◌≡◌, ℕ, zero, suc, ◌+◌, ◌-◌, ◌*◌, ◌/◌, ◌<◌, ◌≤◌, true, false, not, ◌⊎◌, inl, inr, ⊎_elim, List, length, get_or, refl, sym, ap, ◌∙◌, subst, arith, eq-eqb, Ordering, Option, None, Some, is_lt, is_le}
 use Rattle.std.specs.Prelude.{slice_get, ◌==◌}
 use Rattle.std.specs.Cmp.{IsTotalOrder}
 use Rattle.std.proofs.Math.Nat.{div-lt_iff_lt-mul, lt-div-mul-add, lt_of_mul-lt-mul_left}
 use Rattle.std.proofs.lemmas.Cmp.{tied_back, tied_itself}
 use Rattle.std.proofs.lemmas.Option.{slice_get_cases, slice_get_past}
+use Rattle.sketch_base.specs.Exact.{IsExactUpTo}
 use Rattle.sketch_base.specs.declared.common.SearchCriteria.{SearchCriteria}
 use Rattle.sketch_base.specs.declared.common.SearchCriteria.TheVariants.{Inclusive, Exclusive}
 use Rattle.sketch_base.specs.Bag.{expanded, repeated, sort}
@@ -19,7 +20,7 @@ use Rattle.sketch_base.proofs.QuantilePlaces.{item-enclosed}
 use Rattle.sketch_base.proofs.SketchViews.{length-expanded}
 use Rattle.sketch_base.proofs.Sorting.{IsSorted-sort}
 use Rattle.sketch_base.proofs.Sums.{sum_by-sort}
-use Rattle.sketch_base.proofs.Tails.{both_counts}
+use Rattle.sketch_base.proofs.ExactTails.{both_counts}
 use Rattle.sketch_base.proofs.Worlds.{one}
 use Rattle.sketch_req.specs.Actions.{bag_of}
 use Rattle.sketch_req.specs.Relative.{off_protected_end}
@@ -27,7 +28,7 @@ use Rattle.sketch_req.specs.Sketch.{Req, IsSound}
 use Rattle.sketch_req.specs.declared.RankAccuracy.{RankAccuracy}
 use Rattle.sketch_req.specs.declared.RankAccuracy.TheVariants.{HighRank, LowRank}
 use Rattle.sketch_req.proofs.Rank.{weight_is}
-use Rattle.sketch_req.specs.Summaries.{IsExactUpTo, Summarizes, IsProtectedPlace, IsProtectedFraction, TailRanksAreExact, TailEntriesAreExact, NearFractionsAreProtected, TailQuantilesAreExact, SketchIsViewOfItself}
+use Rattle.sketch_req.specs.Summaries.{Summarizes, IsProtectedPlace, IsProtectedFraction, TailRanksAreExact, TailEntriesAreExact, NearFractionsAreProtected, TailQuantilesAreExact, SketchIsViewOfItself}
 
 module _ {A : Type 0} (cmp : A → A → Ordering) where
   -- a sound summary's expanded list is as long as the stream

@@ -1,5 +1,7 @@
 -- Which slots stay ready and fair along the events of commands. Ready: each level whose next compaction turns its coin
 -- has drawn one. Fair: each coin that was turned for what is in the slot complements one that was drawn.
+use Rattle.std.proofs.Common.{arith}
+use Rattle.std.proofs.lemmas.Grind.{common_steps}
 use Rattle.std.proofs.Common.{◌≡◌, ◌≢◌, ℕ, Bool, true, false, not, ◌&&◌, ◌||◌, ◌==◌, if◌then◌else◌, List, [], ◌∷◌, ◌++◌, length, refl, sym, ap, ap₂, ◌∙◌, subst, inl, inr, eqb-true}
 use Rattle.std.proofs.lemmas.Bool.{cases_Bool, cases_eq, and_left, and_right, false≢true}
 use Rattle.sketch_base.specs.Fair.{reaches}
@@ -22,11 +24,7 @@ AreReady layouts ready drawn = (j : ℕ) → ready j ≡ true → AreDrawn (layo
 -- after a command on one slot: the others stay as they were, and this one is ready if the flag says so
 ready-after : (s : ℕ) (layouts : ℕ → List Layout) (after : List Layout) (ready : ℕ → Bool) (is_ready : Bool) (drawn more : ℕ → ℕ → Bool) → AreReady layouts ready drawn →
     ((j : ℕ) → j ≢ s → (h : ℕ) → drawn j h ≡ true → more j h ≡ true) → (is_ready ≡ true → AreDrawn after (more s)) → AreReady (changed layouts s after) (changed ready s is_ready) more
-ready-after s layouts after ready is_ready drawn more a up here j r =
-    elim (cases_eq j s) [
-      | inl own ↦ rw (own, changed-there layouts s after) (here (rw (own, changed-there ready s is_ready) at r))
-      | inr other ↦ rw (changed-other layouts s after j other) (λ h t. up j other h (a j (rw (changed-other ready s is_ready j other) at r) h t))
-    ]
+ready-after s layouts after ready is_ready drawn more a up here j r = grind (arith, common_steps, cases_eq, changed-there, changed-other)
 
 -- the same if its layouts stay
 ready-kept : (s : ℕ) (layouts : ℕ → List Layout) (ready : ℕ → Bool) (is_ready : Bool) (drawn more : ℕ → ℕ → Bool) → AreReady layouts ready drawn →
@@ -40,11 +38,7 @@ none-drawn_up drawn s j other h d = ap (λ (f : ℕ → Bool). f h) (changed-oth
 
 -- flags that are false stay false if the changed one does
 lowered : (flags : ℕ → Bool) (s : ℕ) (b : Bool) (j : ℕ) → (flags s ≡ false → b ≡ false) → flags j ≡ false → changed flags s b j ≡ false
-lowered flags s b j here e =
-    elim (cases_Bool (j == s)) as (λ _. changed flags s b j ≡ false) [
-      | inl t ↦ ap (λ (c : Bool). if c then b else flags j) t ∙ here (ap flags (sym (eqb-true j s t)) ∙ e)
-      | inr t ↦ ap (λ (c : Bool). if c then b else flags j) t ∙ e
-    ]
+lowered flags s b j here e = grind (arith, common_steps, cases_Bool, eqb-true)
 
 module _ {A : Type 0} (slot : ℕ) where
   -- what comes after is fair to the asked slot if the slots said to be ready are; and no slot that is not fair gets into it
@@ -54,54 +48,27 @@ module _ {A : Type 0} (slot : ℕ) where
 
   -- at the end, if the slot is fair
   pub stands-end : (layouts : ℕ → List Layout) (ready fair : ℕ → Bool) → fair slot ≡ true → Stands layouts ready fair []
-  stands-end layouts ready fair e = record { fairs = λ drawn a. refl; apart = other }
-    where
-      other : (j : ℕ) → fair j ≡ false → (j == slot) ≡ false
-      other j f = elim (cases_Bool (j == slot)) [
-        | inl t ↦ absurd (false≢true (sym f ∙ (ap fair (eqb-true j slot t) ∙ e)))
-        | inr t ↦ t
-      ]
+  stands-end layouts ready fair e = grind (arith, common_steps, cases_Bool, false≢true, eqb-true)
 
   -- equal flags and layouts
   pub stands-same : (layouts layouts' : ℕ → List Layout) (ready ready' fair fair' : ℕ → Bool) (rest : List (Event A)) →
       ((j : ℕ) → layouts j ≡ layouts' j) → ((j : ℕ) → ready j ≡ ready' j) → ((j : ℕ) → fair j ≡ fair' j) → Stands layouts ready fair rest → Stands layouts' ready' fair' rest
-  stands-same layouts layouts' ready ready' fair fair' rest l r f n = record {
-    fairs = λ drawn a. n.fairs drawn (λ j e. subst (λ (ls : List Layout). AreDrawn ls (drawn j)) (sym (l j)) (a j (sym (r j) ∙ e)));
-    apart = λ j e. n.apart j (f j ∙ e);
-  }
+  stands-same layouts layouts' ready ready' fair fair' rest l r f n = grind (arith, common_steps)
 
   -- a sketch that is made or emptied
   pub stands-clear : (s : ℕ) (layouts : ℕ → List Layout) (ready fair : ℕ → Bool) (rest : List (Event A)) →
       Stands (changed layouts s (new_layout ∷ [])) (changed ready s true) (changed fair s true) rest → Stands layouts ready fair (At s Clear ∷ rest)
-  stands-clear s layouts ready fair rest n = record {
-    fairs = λ drawn a. n.fairs (changed drawn s (λ h. false))
-        (ready-after s layouts (new_layout ∷ []) ready true drawn _ a (none-drawn_up drawn s) (λ _. none_drawn (changed drawn s (λ h. false) s)));
-    apart = other;
-  }
-    where
-      other : (j : ℕ) → fair j ≡ false → (not (j == s) && reaches rest slot j) ≡ false
-      other j f = elim (cases_Bool (j == s)) [
-        | inl t ↦ and_left (not (j == s)) (reaches rest slot j) (ap not t)
-        | inr t ↦ and_right (not (j == s)) (reaches rest slot j) (n.apart j (ap (λ (b : Bool). if b then true else fair j) t ∙ f))
-      ]
+  stands-clear s layouts ready fair rest n = grind (arith, common_steps, ready-after, none-drawn_up, none_drawn, cases_Bool, and_left, and_right)
 
   -- a round trip
   pub stands-forget : (s : ℕ) (layouts : ℕ → List Layout) (ready fair : ℕ → Bool) (rest : List (Event A)) →
       Stands layouts (changed ready s false) fair rest → Stands layouts ready fair (At s Forget ∷ rest)
-  stands-forget s layouts ready fair rest n = record {
-    fairs = λ drawn a. n.fairs (changed drawn s (λ h. false))
-        (ready-kept s layouts ready false drawn _ a (none-drawn_up drawn s) (λ r. absurd (false≢true r)));
-    apart = n.apart;
-  }
+  stands-forget s layouts ready fair rest n = grind (arith, common_steps, ready-kept, none-drawn_up, false≢true)
 
   -- redrawn coins
   pub stands-redraw : (s : ℕ) (layouts : ℕ → List Layout) (ready fair : ℕ → Bool) (rest : List (Event A)) →
       Stands layouts (changed ready s true) fair rest → Stands layouts ready fair (events_at s (redraw_actions (layouts s)) ++ rest)
-  stands-redraw s layouts ready fair rest n = record {
-    fairs = λ drawn a. fair-redraw slot s rest (layouts s) drawn
-        (λ more up d. n.fairs more (ready-kept s layouts ready true drawn more a (λ j _. up j) (λ _. d)));
-    apart = λ j f. reaches-own slot s j (redraw_actions (layouts s)) rest (own-redraws A 0 (layouts s)) ∙ n.apart j f;
-  }
+  stands-redraw s layouts ready fair rest n = grind (arith, common_steps, fair-redraw, ready-kept, reaches-own, own-redraws)
 
   -- an update: in a slot that is not ready it may turn a coin that complements no drawn one
   pub stands-update : (k : ℕ) (accuracy : RankAccuracy) (s : ℕ) (x : A) (layouts : ℕ → List Layout) (ready fair : ℕ → Bool) (rest : List (Event A)) →
@@ -134,18 +101,7 @@ module _ {A : Type 0} (slot : ℕ) where
   merged-apart : (source into : ℕ) (fair : ℕ → Bool) (b : Bool) (actions : List (Action A)) (rest : List (Event A)) → AreOwn actions → (more : ℕ) →
       (fair into ≡ false → b ≡ false) → (fair source ≡ false → b ≡ false) → ((j : ℕ) → changed fair into b j ≡ false → reaches rest slot j ≡ false) →
       (j : ℕ) → fair j ≡ false → reaches (Snap source into ∷ events_at into (joins_actions more 0 ++ actions) ++ rest) slot j ≡ false
-  merged-apart source into fair b actions rest own more mine its next j f =
-      ap₂ (λ (x y : Bool). x || (j == source && y)) (passed j) (passed into)
-      ∙ (ap (λ (x : Bool). x || (j == source && reaches rest slot into)) (next j (lowered fair into b j mine f)) ∙ other)
-    where
-      passed : (i : ℕ) → reaches (events_at into (joins_actions more 0 ++ actions) ++ rest) slot i ≡ reaches rest slot i
-      passed i = reaches-joins slot into i more 0 actions rest ∙ reaches-own slot into i actions rest own
-
-      other : (j == source && reaches rest slot into) ≡ false
-      other = elim (cases_Bool (j == source)) [
-        | inl t ↦ and_right (j == source) (reaches rest slot into) (next into (changed-there fair into b ∙ its (ap fair (sym (eqb-true j source t)) ∙ f)))
-        | inr t ↦ and_left (j == source) (reaches rest slot into) t
-      ]
+  merged-apart source into fair b actions rest own more mine its next j f = grind (arith, common_steps, lowered, reaches-joins, reaches-own, cases_Bool, and_right, changed-there, eqb-true, and_left)
 
   -- a merge that redraws coins
   pub stands-merge_redrawn : (k : ℕ) (accuracy : RankAccuracy) (source into : ℕ) (layouts : ℕ → List Layout) (ready fair : ℕ → Bool) (rest : List (Event A)) →

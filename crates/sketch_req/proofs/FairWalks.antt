@@ -1,5 +1,6 @@
 -- What updates, redraws and merges add to fair traces: they turn only drawn coins, if each level whose next compaction
 -- turns its coin has drawn one.
+use Rattle.std.proofs.lemmas.Grind.{common_steps}
 use Rattle.std.proofs.Common.{◌≡◌, ℕ, zero, suc, ◌+◌, Bool, true, false, not, ◌&&◌, ◌||◌, List, [], ◌∷◌, ◌++◌, length, refl, sym, ap, ap₂, ◌∙◌, arith, inl, inr}
 use Rattle.std.specs.Prelude.{⊤}
 use Rattle.std.proofs.lemmas.Bool.{cases_Bool, false≢true, or_right}
@@ -31,11 +32,7 @@ module _ {A : Type 0} (slot : ℕ) where
   IsFair es drawn = is_fair es slot drawn ≡ true
 
   are_fair : (s : ℕ) → HoldsByDrawn s IsFair
-  are_fair s = record {
-    put = λ x es drawn p. p;
-    fresh = λ h taken es drawn r p. ap₂ (λ (a b : Bool). a && b) r p;
-    turned = λ h taken es drawn r d p. ap₂ (λ (a b : Bool). a && b) r (ap₂ (λ (a b : Bool). (a || not (reaches es slot s)) && b) d p);
-  }
+  are_fair s = grind (arith, common_steps)
 
   -- what comes after is fair, whatever was drawn since
   abbrev pub GoesFair : (s : ℕ) (rest : List (Event A)) → List Layout → (ℕ → ℕ → Bool) → Type 0
@@ -114,10 +111,7 @@ module _ {A : Type 0} (slot : ℕ) where
   fair-apart s (Put h x ∷ more) rest drawn o apart go = fair-apart s more rest drawn o.1 apart go
   fair-apart s (Compact h Fresh taken ∷ more) rest drawn o apart go =
       ap₂ (λ (a b : Bool). a && b) o.0 (fair-apart s more rest (with_drawn drawn s h) o.1 apart (λ m up. go m (λ t j d. up t j (rises-with drawn s h t j d))))
-  fair-apart s (Compact h Turned taken ∷ more) rest drawn o apart go =
-      let misses = reaches-own s s more rest o.1 ∙ apart in
-      ap₂ (λ (a b : Bool). a && b) o.0
-      (ap₂ (λ (a b : Bool). (drawn s h || not a) && b) misses (fair-apart s more rest drawn o.1 apart go) ∙ ap (λ (b : Bool). b && true) (or_right (drawn s h) true refl))
+  fair-apart s (Compact h Turned taken ∷ more) rest drawn o apart go = grind (arith, common_steps, reaches-own, or_right, fair-apart s more rest drawn o.1 apart go)
   fair-apart s (Redraw h ∷ more) rest drawn o apart go =
       fair-apart s more rest (with_drawn drawn s h) o.1 apart (λ m up. go m (λ t j d. up t j (rises-with drawn s h t j d)))
   fair-apart s (other ∷ more) rest drawn o apart go = absurd (false≢true o.0)

@@ -1,11 +1,10 @@
 -- A level that is read: its items are filled into a new one, and then its state and its sections are set.
-use Rattle.std.proofs.Common.{◌≡◌, ◌∙◌, ◌^◌, ◌<◌, ◌≤◌, ℕ, Bool, true, List, [], ◌++◌, Option, Ordering, IsSorted, sym, ap, ap₂, subst}
+use Rattle.std.proofs.Common.{◌≡◌, ◌∙◌, ◌≤◌, ℕ, Bool, true, List, [], ◌++◌, Option, Ordering, IsSorted, sym, ap, subst}
 use Rattle.sketch_base.specs.Spelling.{ReadsItems}
 use Rattle.sketch_req.specs.Fronts.{IsFront}
 use Rattle.sketch_req.specs.Level.{Level, fresh}
 use Rattle.sketch_req.specs.LevelImage.{Place, BeginsLevel, front_text}
-use Rattle.sketch_req.specs.Sections.{IsLegalLayout, IsLegalState, IsReached, sections_of, size_of}
-use Rattle.sketch_req.specs.Stored.{IsStored}
+use Rattle.sketch_req.specs.Sections.{IsLegalState, sections_of}
 use Rattle.sketch_req.specs.declared.RankAccuracy.{RankAccuracy}
 use Rattle.sketch_req.specs.declared.compactor.image.Front.{Front}
 use Rattle.sketch_req.proofs.LevelImages.{read_found}
@@ -16,35 +15,6 @@ filled_new : {A : Type 0} {start filled made : Level A} {xs : List A} {flag : Bo
     filled ≡ record made { items = xs; is_sorted = flag } → start ≡ fresh xs flag lg_weight k accuracy
 filled_new {A} {xs = xs} {flag} same made_is filled_is = same ∙ filled_is ∙ ap
     (λ (l : Level A). let m : Level A = record l { items = xs; is_sorted = flag } in m) made_is
-
--- what is then known of it
-pub read_stored : {A : Type 0} {cmp : A → A → Ordering} {start : Level A} {size len section_size num_sections lg_weight k doublings : ℕ} {xs : List A}
-    {flag : Bool} {accuracy : RankAccuracy} (state : ℕ) {filled made : Level A} →
-    IsStored cmp start size len → start ≡ filled → made ≡ fresh [] true lg_weight k accuracy → filled ≡ record made { items = xs; is_sorted = flag } →
-    IsLegalLayout k state section_size num_sections →
-    ((j : ℕ) → j ≤ 5 → num_sections ≡ sections_of j → doublings ≡ j) → state < 2 ^ 64 →
-    IsStored cmp (record start { state = state; doublings = doublings }) section_size len
-read_stored {A} {section_size = section_size} state stored begun empty filled_is layout known fits =
-    let made_is = filled_new begun empty filled_is in
-    let same = known layout.doublings layout.few layout.sections in
-    let k_is = ap (λ (l : Level A). l.k) made_is in
-    let size = layout.size ∙ ap₂ size_of (sym k_is) (sym same) in
-    let was = stored.kept in
-    record {
-      size_is = size;
-      kept = record {
-        legal_k = was.legal_k;
-        state_fits = fits;
-        few_doublings = subst (λ (n : ℕ). n ≤ 5) (sym same) layout.few;
-        reached = subst (λ (n : ℕ). IsReached state n) (sym same) layout.reached;
-        size_at_least = subst (λ (n : ℕ). 4 ≤ n) size layout.at_least;
-        weight_fits = was.weight_fits;
-        few_items = was.few_items;
-        in_order = was.in_order;
-      };
-      within = stored.within;
-      front = stored.front;
-    }
 
 -- the text begins with it
 pub read_begins : {A : Type 0} {cmp : A → A → Ordering} (spelling : A → Option (List ℕ)) (place : Place) {text after rest : List ℕ} (f : Front)

@@ -1,5 +1,5 @@
 -- Levels of one sketch: their k and their accuracy are those of level 0.
-use Rattle.std.proofs.Common.{◌≡◌, ℕ, ◌+◌, ◌<◌, ◌≤◌, ap, ◌∙◌, Bool, true, List, [], ◌∷◌, length, refl, sym, subst, arith, Ordering}
+use Rattle.std.proofs.Common.{◌≡◌, ℕ, ◌<◌, ◌≤◌, ap, ◌∙◌, Bool, true, List, [], ◌∷◌, length, refl, sym, subst, arith, Ordering}
 use Rattle.sketch_req.specs.Held.{Held, IsHeld, held_of}
 use Rattle.sketch_req.specs.Level.{Level, fresh}
 use Rattle.sketch_req.specs.Merged.{AreTakenIn}
@@ -13,7 +13,6 @@ use Rattle.sketch_req.proofs.Layouts.{length-layouts}
 use Rattle.sketch_req.proofs.KeptLevels.{fresh_placed}
 use Rattle.sketch_req.proofs.Redraws.{layouts-ready, layouts-redrawn, placed-redrawn}
 use Rattle.sketch_req.proofs.Sounds.{few-placed}
-use Rattle.sketch_req.proofs.UpdatedLevels.{length-appended, nominal-appended, placed-appended, retained-appended}
 
 -- what is known of levels whose k and accuracy are given
 pub record IsOwn {A : Type 0} (cmp : A → A → Ordering) (k : ℕ) (accuracy : RankAccuracy) (ls : List (Level A)) : Type 0 where
@@ -40,16 +39,6 @@ own-levels cmp k accuracy (l ∷ ls) some a = record {
 pub own-appended : {A : Type 0} (ls : List (Level A)) (x : A) → (k_of (appended_first ls x) ≡ k_of ls) × (accuracy_of (appended_first ls x) ≡ accuracy_of ls)
 own-appended [] x = (refl, refl)
 own-appended (l ∷ ls) x = (refl, refl)
-
--- the levels as they are stored, after an item came in
-pub held-appended : {A : Type 0} (cmp : A → A → Ordering) (k n capacity : ℕ) (accuracy : RankAccuracy) (ls : List (Level A)) (x : A) →
-    IsHeld cmp n capacity (held_of k accuracy ls) → retained_of (layouts_of ls) < 4294967295 → IsHeld cmp (n + 1) capacity (held_of k accuracy (appended_first ls x))
-held-appended {A} cmp k n capacity accuracy ls x held few = record {
-  some = omega (arith, held.some, length-appended ls x);
-  placed = placed-appended cmp k accuracy ls x held.placed few;
-  retained_is = omega (arith, held.retained_is, retained-appended ls x held.some);
-  capacity_is = held.capacity_is ∙ sym (nominal-appended k ls x);
-}
 
 -- the same after coins were redrawn
 pub held-redrawn : {A : Type 0} (cmp : A → A → Ordering) (k n capacity : ℕ) (accuracy : RankAccuracy) (word : List Bool) (ls : List (Level A)) → IsHeld cmp n capacity (held_of k accuracy ls) →
@@ -93,10 +82,6 @@ some-taken bit next source after k accuracy redraws ls others ns some t =
 -- the levels of a sketch replaced
 pub with-levels : {A : Type 0} (h s : Held A) (ls : List (Level A)) → h ≡ s → held_of h.k h.accuracy ls ≡ held_of s.k s.accuracy ls
 with-levels {A} h s ls e = ap (λ (x : Held A). held_of x.k x.accuracy ls) e
-
--- if only the levels changed, the rest is as it was
-pub only-levels : {A : Type 0} (h s : Held A) (ls : List (Level A)) → h ≡ held_of s.k s.accuracy ls → h ≡ held_of s.k s.accuracy h.levels
-only-levels {A} h s ls e = e ∙ ap (held_of s.k s.accuracy) (sym (ap (λ (x : Held A). x.levels) e))
 
 -- if the levels are as they were, so is the whole
 pub same-levels : {A : Type 0} (k : ℕ) (accuracy : RankAccuracy) (ls ms : List (Level A)) (s : Held A) → ms ≡ ls → held_of k accuracy ls ≡ s →

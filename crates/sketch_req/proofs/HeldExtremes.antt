@@ -1,4 +1,5 @@
 -- The extremes of a sketch bound what it retains, and those of a sketch of one level are its items'.
+use Rattle.std.proofs.lemmas.Grind.{common_steps}
 use Rattle.std.proofs.Common.{◌≡◌, ℕ, zero, suc, ◌/◌, ◌<◌, ◌≤◌, inl, inr, Bool, true, false, if◌then◌else◌, List, [], ◌∷◌, ◌++◌, length, map, drop, Option, None, Some, refl, sym, ap, ap₂, ◌∙◌, subst, arith, Ordering, Equal, is_gt, nat_le}
 use Rattle.std.specs.List.{AllByRecursion}
 use Rattle.std.specs.Cmp.{IsTotalOrder}
@@ -40,39 +41,23 @@ longer-step k h ls =
 
 longer-steps : (k more h : ℕ) (ls : List Layout) → length ls ≤ length (steps_layouts k more h ls)
 longer-steps k zero h ls = omega arith
-longer-steps k (suc more) h ls =
-    let a = longer-step k h ls in
-    let b = longer-steps k more (suc h) (step_layouts k h ls) in
-    omega (arith, a, b)
+longer-steps k (suc more) h ls = grind (arith, common_steps, longer-step, longer-steps k more (suc h) (step_layouts k h ls))
 
 -- a walk removes no level
 pub longer-room : (k : ℕ) (ls : List Layout) → length ls ≤ length (layouts_if_full k ls)
-longer-room k ls =
-    elim (are_full k ls) as (λ b. length ls ≤ length (if b then walk_layouts k ls else ls)) [
-      | true ↦ longer-steps k (length ls) 0 ls
-      | false ↦ omega arith
-    ]
+longer-room k ls = grind (arith, common_steps, longer-steps)
 
 full-one : (k : ℕ) (l : Layout) → are_full k (l ∷ []) ≡ true → is_full k l ≡ true
-full-one k l e =
-    let cap : nominal_sum k (l ∷ []) ≡ nominal k l = omega (arith, sum_by-cons (nominal k) l []) in
-    let num : retained_of (l ∷ []) ≡ l.count = omega (arith, sum_by-cons (λ (y : Layout). y.count) l []) in
-    sym (ap₂ (λ (a b : ℕ). nat_le a b) cap num) ∙ e
+full-one k l e = grind (arith, common_steps, sum_by-cons)
 
 walk-adds : (k : ℕ) (ls : List Layout) → 0 < length ls → are_full k ls ≡ true → 1 < length (walk_layouts k ls)
 walk-adds k [] some e = absurd (omega arith)
-walk-adds k (l ∷ []) some e =
-    let two : length (step_layouts k 0 (l ∷ [])) ≡ 2 = rw (full-one k l e) refl in
-    omega (arith, two)
+walk-adds k (l ∷ []) some e = grind (arith, common_steps, full-one)
 walk-adds k (l ∷ m ∷ ls) some e = let a = longer-steps k (length (l ∷ m ∷ ls)) 0 (l ∷ m ∷ ls) in omega (arith, a)
 
 -- so if one level is left, there was no walk
 one-left : (k : ℕ) (ls : List Layout) → 0 < length ls → length (layouts_if_full k ls) ≡ 1 → are_full k ls ≡ false
-one-left k ls some one =
-    elim (cases_Bool (are_full k ls)) [
-      | inl e ↦ let left = rw e at one in absurd (omega (arith, walk-adds k ls some e, left))
-      | inr e ↦ e
-    ]
+one-left k ls some one = grind (arith, common_steps, cases_Bool, walk-adds)
 
 module _ {A : Type 0} {cmp : A → A → Ordering} (order : IsTotalOrder cmp) where
   abbrev pub Keeps : (A → Type 0) → Type 0
@@ -247,9 +232,7 @@ module _ {A : Type 0} {cmp : A → A → Ordering} (order : IsTotalOrder cmp) wh
   -- levels with the layouts of new levels are new
   pub news : (ls ms : List (Level A)) → layouts_of ms ≡ layouts_of ls → AllByRecursion IsNew ls → AllByRecursion IsNew ms
   news [] [] e n = tt
-  news (l ∷ ls) (m ∷ ms) e n =
-      let head = ap (λ (xs : List Layout). layout_at xs 0) e in
-      ((ap (λ (x : Layout). x.state) head ∙ n.0.0, ap (λ (x : Layout). x.doublings) head ∙ n.0.1), news ls ms (ap (λ (xs : List Layout). drop 1 xs) e) n.1)
+  news (l ∷ ls) (m ∷ ms) e n = grind (arith, common_steps, news ls ms (ap (λ (xs : List Layout). drop 1 xs) e) n.1)
   news ls ms e n = absurd cc
 
   module _ {S : Type 0} {bit : S → Bool} {next : S → S} {source after : S} (k : ℕ) (accuracy : RankAccuracy) (ms ns : List (Level A))

@@ -1,97 +1,33 @@
 -- REQ's compactions keep what is exact up to a number of items: each takes none that pass a query's test, or leaves that many.
-use Rattle.std.proofs.Common.{◌≡◌, ℕ, zero, suc, ◌+◌, ◌-◌, ◌*◌, ◌^◌, ◌≤◌, Bool, true, not, ◌&&◌, ◌==◌, ◌⊎◌, inl, inr, ⊎_elim, if◌then◌else◌, List, [], ◌∷◌, length, take, drop, count_by, sum_by, slice_index, refl, sym, ap, subst, arith, length-take, mul-le-mul_right, pow_pos, Ordering}
+use Rattle.std.proofs.Common.{◌≡◌, ℕ, ◌+◌, ◌*◌, ◌≤◌, Bool, true, not, if◌then◌else◌, List, [], ◌∷◌, length, drop, slice_index, refl, sym, ap, subst, arith, Ordering}
 use Rattle.std.specs.Cmp.{IsTotalOrder}
 use Rattle.std.proofs.lemmas.Bool.{false≢true}
-use Rattle.std.proofs.lemmas.List.Sums.{count_by-le-length}
 use Rattle.sketch_base.specs.declared.common.SearchCriteria.{SearchCriteria}
-use Rattle.sketch_base.specs.Bag.{Bag, Taken, Lowest, Greatest, weigh, sort, half, cut, parity_up, level_at, with_level}
+use Rattle.sketch_base.specs.Bag.{Bag, Taken, Lowest, Greatest, level_at}
+use Rattle.sketch_base.specs.Exact.{IsExactUpTo}
 use Rattle.sketch_base.specs.Lengths.{takes, bag_lengths, TakesFew}
 use Rattle.sketch_base.specs.Query.{counted}
 use Rattle.sketch_base.specs.Trace.{Action, Compact, Redraw, Coin, At, Work, World, act, acts, bit_of, draws, next_bit}
-use Rattle.sketch_base.proofs.Acts.{rank, weigh-added, sum_by-cut}
-use Rattle.sketch_base.proofs.Compactions.{down, up, compacted, compacted-moves}
-use Rattle.sketch_base.proofs.ComplementedBits.{level_at-same}
-use Rattle.sketch_base.proofs.Falling.{Falling, counted-falls}
-use Rattle.sketch_base.proofs.Fixed.{length-left, length-level_at, length-sort, lengths-happens}
-use Rattle.sketch_base.proofs.Sums.{sum_by-halves}
-use Rattle.sketch_base.proofs.Tails.{both_counts, end_or_front, front_or_end, half_none, level-le-rank, spared_sums}
+use Rattle.sketch_base.proofs.Acts.{rank}
+use Rattle.sketch_base.proofs.Compactions.{compacted}
+use Rattle.sketch_base.proofs.Falling.{counted-falls}
+use Rattle.sketch_base.proofs.Fixed.{length-level_at, lengths-happens}
+use Rattle.sketch_base.proofs.ExactTails.{SparesOrFills, spares-lowest, spares-greatest, exact-as, exact-beside}
 use Rattle.sketch_base.proofs.Worlds.{one}
 use Rattle.sketch_req.specs.ScheduleLaws.{tail_side}
 use Rattle.sketch_req.specs.declared.RankAccuracy.{RankAccuracy}
 use Rattle.sketch_req.specs.declared.RankAccuracy.TheVariants.{HighRank, LowRank}
 use Rattle.sketch_req.proofs.LegalTraces.{takes-few}
 use Rattle.sketch_req.proofs.LegalWalks.{Fits, lengths_after_compact}
-use Rattle.sketch_req.specs.Summaries.{IsExactUpTo}
-
-module _ {A : Type 0} (cmp : A → A → Ordering) where
-  -- a cut takes nothing that passes, or leaves nothing but what passes
-  abbrev pub SparesOrFills : (A → Bool) → Taken → Type 0
-  SparesOrFills test taken = (flag : Bool) (level : List A) →
-      (count_by test (cut cmp taken flag level).1 ≡ 0) ⊎ (count_by test (cut cmp taken flag level).0 ≡ length (cut cmp taken flag level).0)
-
-  -- a cut of the lowest items, if what fails passes a falling test
-  spares-lowest : (test : A → Bool) → ((xs : List A) → Falling test (sort cmp xs)) → (n : ℕ) → SparesOrFills (λ x. not (test x)) (Lowest n)
-  spares-lowest test falls n flag level =
-      let s = sort cmp level in
-      ⊎_elim (λ none. inl none) (λ none. inr (omega (arith, none, both_counts test (drop n s)))) (front_or_end test n s (falls level))
-
-  -- a cut of the greatest items, if a falling test passes
-  spares-greatest : (test : A → Bool) → ((xs : List A) → Falling test (sort cmp xs)) → (n : ℕ) → SparesOrFills test (Greatest n)
-  spares-greatest test falls n flag level =
-      let s = sort cmp level in
-      let rest = length level - n in
-      ⊎_elim (λ none. inl none)
-      (λ all. inr (omega (arith, all, count_by-le-length test (take rest s), length-take rest s, length-sort cmp level)))
-      (end_or_front test rest s (falls level))
 
 module _ {A : Type 0} (cmp : A → A → Ordering) (test : A → Bool) where
-  same-exact : (most count m n : ℕ) → m ≡ n → IsExactUpTo most count n → IsExactUpTo most count m
-  same-exact most count m n e h = subst (λ (w : ℕ). IsExactUpTo most count w) (sym e) h
-
-  -- a compaction that leaves at least `most` items keeps a count that is exact up to `most`, beside what else is counted
-  pub exact-beside : (most count extra h : ℕ) (taken : Taken) (bit : Bool) (bag : Bag A) → SparesOrFills cmp test taken →
-      most + takes taken (length (level_at bag.levels h)) ≤ length (level_at bag.levels h) →
-      IsExactUpTo most count (rank (one test) bag + extra) → IsExactUpTo most count (rank (one test) (compacted cmp (one test) h taken bit bag) + extra)
-  exact-beside most count extra h taken bit bag spares room exact =
-      let flag = h == 0 && not bag.is_sorted in
-      let level = level_at bag.levels h in
-      let parts = cut cmp taken flag level in
-      let parity = parity_up taken bit (level_at bag.levels (suc h)) in
-      let new = rank (one test) (compacted cmp (one test) h taken bit bag) in
-      let none : count_by test parts.1 ≡ 0 → IsExactUpTo most count (new + extra) = λ none.
-      same-exact most count (new + extra) (rank (one test) bag + extra)
-      (ap (λ n. n + extra) (spared_sums cmp test (2 ^ h) (2 ^ suc h) _ _ _ _ (compacted-moves cmp (one test) h taken bit bag) none (half_none cmp test parity parts.1 none))) exact in
-      ⊎_elim none (λ all. go (count_by test parts.1) refl all none) (spares flag level)
-    where
-      go : (n : ℕ) → count_by test (cut cmp taken (h == 0 && not bag.is_sorted) (level_at bag.levels h)).1 ≡ n →
-          count_by test (cut cmp taken (h == 0 && not bag.is_sorted) (level_at bag.levels h)).0 ≡ length (cut cmp taken (h == 0 && not bag.is_sorted) (level_at bag.levels h)).0 →
-          (count_by test (cut cmp taken (h == 0 && not bag.is_sorted) (level_at bag.levels h)).1 ≡ 0 → IsExactUpTo most count (rank (one test) (compacted cmp (one test) h taken bit bag) + extra)) →
-          IsExactUpTo most count (rank (one test) (compacted cmp (one test) h taken bit bag) + extra)
-      go zero e all none = none e
-      go (suc n) e all none =
-          let flag = h == 0 && not bag.is_sorted in
-          let level = level_at bag.levels h in
-          let parts = cut cmp taken flag level in
-          let left : List (List A) = with_level [] h (λ l. parts.0) bag.levels in
-          let stay : most ≤ count_by test parts.0 = omega (arith, all, length-left cmp taken flag level, room) in
-          let many : suc most ≤ rank (one test) bag = omega (arith, stay, e, sum_by-cut (one test) cmp taken flag level, level-le-rank cmp test h 0 bag.levels) in
-          let here : count_by test parts.0 ≤ weigh (sum_by (one test)) 0 left =
-          subst (λ (l : List A). count_by test l ≤ weigh (sum_by (one test)) 0 left) (level_at-same h (λ m. parts.0) bag.levels) (level-le-rank cmp test h 0 left) in
-          let more : most ≤ rank (one test) (compacted cmp (one test) h taken bit bag) =
-          omega (arith, stay, here, weigh-added (one test) (suc h) (half (parity_up taken bit (level_at bag.levels (suc h))) parts.1) left) in
-          record {
-            same = λ le. absurd (omega (arith, le, exact.same le, many));
-            enough = omega (arith, more);
-          }
-
   -- and with nothing beside it
   pub exact-compacted : (most count h : ℕ) (taken : Taken) (bit : Bool) (bag : Bag A) → SparesOrFills cmp test taken →
       most + takes taken (length (level_at bag.levels h)) ≤ length (level_at bag.levels h) →
       IsExactUpTo most count (rank (one test) bag) → IsExactUpTo most count (rank (one test) (compacted cmp (one test) h taken bit bag))
   exact-compacted most count h taken bit bag spares room exact =
-      let old = rank (one test) bag in
-      let new = rank (one test) (compacted cmp (one test) h taken bit bag) in
-      same-exact most count new (new + 0) (omega arith) (exact-beside most count 0 h taken bit bag spares room (same-exact most count (old + 0) old (omega arith) exact))
+      exact-as most _ _ _ _ refl (omega arith)
+      (exact-beside cmp test most count 0 h taken bit bag spares room (exact-as most _ _ _ (rank (one test) bag + 0) refl (omega arith) exact))
 
 -- the items on a query's accurate side
 abbrev pub is_protected : {A : Type 0} → (A → A → Ordering) → RankAccuracy → A → SearchCriteria → A → Bool

@@ -12,7 +12,7 @@ use Rattle.sketch_req.specs.Imaged.{IsSameLevel, IsSameSketch}
 use Rattle.sketch_req.specs.Held.{Held, held_of}
 use Rattle.sketch_req.specs.Level.{Level}
 use Rattle.sketch_req.specs.Merged.{AreTakenIn, IsMergedBy, coins_of_merge_by}
-use Rattle.sketch_req.specs.Schedule.{layouts_of, layouts_if_full, nominal_sum, retained_of}
+use Rattle.sketch_req.specs.Schedule.{layouts_of, layouts_if_full, retained_of}
 use Rattle.sketch_req.specs.Sections.{IsLegalK}
 use Rattle.sketch_req.specs.Sketch.{Req, IsSound, IsUpdated, Ties, coins_of_update, empty_sketch, greatest_with, least_with, sketch_of}
 use Rattle.sketch_req.specs.Updates.{AreTakenInTurn, AreUpdated, coins_of_updates}
@@ -22,7 +22,7 @@ use Rattle.sketch_req.specs.declared.RankAccuracy.{RankAccuracy}
 use Rattle.sketch_req.proofs.Held.{first-levels}
 use Rattle.sketch_req.proofs.Mergings.{Merges, merged_sketch}
 use Rattle.sketch_req.proofs.Refusals.{same_sketch}
-use Rattle.sketch_req.proofs.UpdatedLevels.{updated_sketch, updated_spare}
+use Rattle.sketch_req.proofs.UpdatedLevels.{updated_sketch}
 use Rattle.sketch_req.proofs.UpdatesInTurn.{updates_sketch}
 
 -- the fields of the levels, where nothing but the levels changed
@@ -50,16 +50,6 @@ module _ {A S : Type 0} {cmp : A → A → Ordering} (order : IsTotalOrder cmp) 
   update_makes source after {x} small few kept walked least_ties least_is greatest_ties greatest_is =
       rw (← seen, ap (λ (h : Held A). h.k) kept, ap (λ (h : Held A). h.accuracy) kept, least_is, greatest_is)
       (updated_sketch order bit next source after s x held.levels least greatest sound small few walked least_ties greatest_ties)
-
-  pub put_makes : (source : S) {x : A} → s.n < 2 ^ 64 - 1 → retained_of (layouts_of s.levels) + 1 < nominal_sum s.k (layouts_of s.levels) →
-      held ≡ with_levels s (appended_first s.levels x) →
-      Ties cmp (least_with cmp x s.least) least → kept_least ≡ least → Ties cmp (greatest_with cmp x s.greatest) greatest → kept_greatest ≡ greatest →
-      IsSound cmp (sketch_of held.k held.accuracy (s.n + 1) held.levels kept_least kept_greatest)
-      × IsUpdated cmp s' x (bits_from bit next source (coins_of_update s' x)) (sketch_of held.k held.accuracy (s.n + 1) held.levels kept_least kept_greatest)
-      × (source ≡ after_draws next source (coins_of_update s' x))
-  put_makes source {x} small room kept least_ties least_is greatest_ties greatest_is =
-      rw (← seen, kept, least_is, greatest_is)
-      (updated_spare order bit next source s x least greatest sound small room least_ties greatest_ties)
 
   pub updates_make : (source after : S) (copies : List (Level A)) {xs : List A} → s.n + length xs < 2 ^ 64 →
       retained_of (layouts_of s.levels) < 4294967295 → held ≡ with_levels s held.levels →

@@ -1,4 +1,5 @@
 -- Which levels a walk moves, and that the others stay as they are.
+use Rattle.std.proofs.lemmas.Grind.{common_steps}
 use Rattle.std.proofs.Common.{◌≡◌, ℕ, zero, suc, ◌==◌, ◌||◌, ◌⊎◌, inl, inr, eq-eqb, eqb-true, Bool, true, false, List, [], ◌∷◌, ◌++◌, length, get_or, refl, sym, ap, ◌∙◌, arith}
 use Rattle.std.proofs.lemmas.Bool.{false≢true, or_parts}
 use Rattle.sketch_base.specs.Trace.{Action, Compact, Coin, joins_actions}
@@ -12,25 +13,11 @@ moved-none ls = record { stays = λ h none e. refl; sorted = λ h none e. absurd
 
 moved-append : {A : Type 0} (xs ys : List (Action A)) (h : ℕ) → is_moved (xs ++ ys) h ≡ (is_moved xs h || is_moved ys h)
 moved-append [] ys h = refl
-moved-append {A} (x ∷ xs) ys h = ap (λ (b : Bool). moves h x || b) (moved-append xs ys h) ∙ assoc (moves h x) (is_moved xs h) (is_moved ys h)
-  where
-    assoc : (a b c : Bool) → (a || (b || c)) ≡ ((a || b) || c)
-    assoc true b c = refl
-    assoc false b c = refl
+moved-append {A} (x ∷ xs) ys h = grind (arith, common_steps, moved-append xs ys h)
 
 -- actions after others
 pub moved-more : {A : Type 0} (xs ys : List (Action A)) (ls ms ns : List (Level A)) → AreMoved xs ls ms → AreMoved ys ms ns → AreMoved (xs ++ ys) ls ns
-moved-more {A} xs ys ls ms ns s t = record {
-  stays = λ h none e.
-      let off = or_parts (is_moved xs h) (is_moved ys h) (sym (moved-append xs ys h) ∙ e) in
-      t.stays h none off.1 ∙ s.stays h none off.0;
-  sorted = λ h none e. go h none (is_moved xs h) (is_moved ys h) refl refl (sym (moved-append xs ys h) ∙ e);
-}
-  where
-    go : (h : ℕ) (none : Level A) (a b : Bool) → is_moved xs h ≡ a → is_moved ys h ≡ b → (a || b) ≡ true → (get_or ns h none).is_sorted ≡ true
-    go h none a true p q e = t.sorted h none q
-    go h none true false p q e = ap (λ (l : Level A). l.is_sorted) (t.stays h none q) ∙ s.sorted h none p
-    go h none false false p q e = absurd (false≢true e)
+moved-more {A} xs ys ls ms ns s t = grind (arith, common_steps, or_parts, moved-append, false≢true)
 
 -- Joins and Puts move nothing
 pub joins-move : {A : Type 0} (n i : ℕ) (rest : List (Action A)) (h : ℕ) → is_moved (joins_actions n i ++ rest) h ≡ is_moved rest h
@@ -39,10 +26,7 @@ joins-move (suc n) i rest h = joins-move n (suc i) rest h
 
 -- actions that move the same levels
 pub moved-alike : {A : Type 0} (xs ys : List (Action A)) (ls ns : List (Level A)) → ((h : ℕ) → is_moved ys h ≡ is_moved xs h) → AreMoved xs ls ns → AreMoved ys ls ns
-moved-alike xs ys ls ns e m = record {
-  stays = λ h none off. m.stays h none (sym (e h) ∙ off);
-  sorted = λ h none on. m.sorted h none (sym (e h) ∙ on);
-}
+moved-alike xs ys ls ns e m = grind (arith, common_steps)
 
 -- a compaction into the level above moves only these two levels
 pub moved-around : {A : Type 0} (coin : Coin) (part : Taken) (below rest rest' : List (Level A)) (old new upper : Level A) → new.is_sorted ≡ true → upper.is_sorted ≡ true →

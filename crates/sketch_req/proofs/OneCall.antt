@@ -1,4 +1,5 @@
 -- A call under one word makes only one sketch of a sketch, up to items that compare equal, and so one image.
+use Rattle.std.proofs.lemmas.Grind.{common_steps}
 use Rattle.std.proofs.Common.{◌≡◌, ℕ, zero, suc, ◌<◌, Bool, true, false, List, [], ◌∷◌, ◌++◌, length, drop, get_or, refl, sym, ap, ap₂, ◌∙◌, subst, arith, inl, inr, Ordering}
 use Rattle.std.specs.Cmp.{IsTotalOrder}
 use Rattle.std.specs.List.{AllZip}
@@ -55,11 +56,7 @@ module _ {A : Type 0} {cmp : A → A → Ordering} (order : IsTotalOrder cmp) wh
   -- levels with the same parts and items that compare equal
   same-level : (a b : Level A) → SameItems cmp a.items b.items → a.is_sorted ≡ b.is_sorted → layout_of a ≡ layout_of b →
       a.coin ≡ b.coin → a.lg_weight ≡ b.lg_weight → a.k ≡ b.k → a.accuracy ≡ b.accuracy → IsSameLevel cmp a b
-  same-level a b items sorted layout coin place k accuracy =
-      let state : a.state ≡ b.state = ap (λ (l : Layout). l.state) layout in
-      let doublings : a.doublings ≡ b.doublings = ap (λ (l : Layout). l.doublings) layout in
-      let whole : level_of b.items b.is_sorted b.state b.doublings b.coin b.lg_weight b.k b.accuracy ≡ level_of b.items a.is_sorted a.state a.doublings a.coin a.lg_weight a.k a.accuracy = cc in
-      record { items = items; rest = whole }
+  same-level a b items sorted layout coin place k accuracy = grind (arith, common_steps)
 
   level-itself : (a : Level A) → IsSameLevel cmp a a
   level-itself a = record { items = SameItems-refl cmp order a.items; rest = refl }
@@ -89,9 +86,7 @@ module _ {A : Type 0} {cmp : A → A → Ordering} (order : IsTotalOrder cmp) wh
   one-moved : (k : ℕ) (accuracy : RankAccuracy) (h : ℕ) (a b : Level A) → IsPlaced cmp k accuracy h a → IsPlaced cmp k accuracy h b →
       layout_of a ≡ layout_of b → a.coin ≡ b.coin → a.is_sorted ≡ true → b.is_sorted ≡ true →
       SameItems cmp (sort cmp a.items) (sort cmp b.items) → IsSameLevel cmp a b
-  one-moved k accuracy h a b p q layout coin c d s =
-      same-level a b (same-sorted order a.items b.items s (p.sound.in_order c) (q.sound.in_order d))
-      (c ∙ sym d) layout coin (p.place_is ∙ sym q.place_is) (p.k_is ∙ sym q.k_is) (p.accuracy_is ∙ sym q.accuracy_is)
+  one-moved k accuracy h a b p q layout coin c d s = grind (arith, common_steps, same-level, same-sorted)
 
   -- levels after compactions of the same places of the same levels
   one-walk : (k : ℕ) (accuracy : RankAccuracy) (actions others : List (Action A)) → ((h : ℕ) → is_moved others h ≡ is_moved actions h) → (ls ms ts us : List (Level A)) →
@@ -148,19 +143,7 @@ module _ {A : Type 0} {cmp : A → A → Ordering} (order : IsTotalOrder cmp) wh
   both-appended _ _ x y e c = absurd c
 
   copies-of-one : (s t u : Req A) → IsSameSketch cmp s t → IsSameSketch cmp s u → IsSameSketch cmp t u
-  copies-of-one s t u c d = copy-copied order t s u (record {
-    k = sym c.k;
-    accuracy = sym c.accuracy;
-    n = sym c.n;
-    levels = levels-back s.levels t.levels c.levels;
-    least = SameAnswer-back s.least t.least c.least;
-    greatest = SameAnswer-back s.greatest t.greatest c.greatest;
-  }) d
-    where
-      SameAnswer-back : (a b : Option A) → SameAnswer cmp a b → SameAnswer cmp b a
-      SameAnswer-back None None e = tt
-      SameAnswer-back (Some a) (Some b) e = tied_back order a b e
-      SameAnswer-back a b e = absurd e
+  copies-of-one s t u c d = grind (arith, common_steps, copy-copied, levels-back, tied_back)
 
   -- the first updates of two rows of updates of one sketch make one sketch
   one-first : (s : Req A) (x : A) (word : List Bool) (P Q : Req A → Type 0) (p : IsUpdatedFirst cmp s x word P) (q : IsUpdatedFirst cmp s x word Q) → IsSameSketch cmp p.after q.after
@@ -236,11 +219,7 @@ module _ {A : Type 0} {cmp : A → A → Ordering} (order : IsTotalOrder cmp) wh
 
   both-redrawn : (word : List Bool) (ls ms : List (Level A)) → AllZip (IsSameLevel cmp) ls ms → AllZip (IsSameLevel cmp) (redrawn word ls) (redrawn word ms)
   both-redrawn word [] [] c = tt
-  both-redrawn word (l ∷ ls) (m ∷ ms) c = (
-    record { items = c.0.items; rest = ap (λ (v : Level A). redrawn_level v (next_bit word)) c.0.rest },
-    subst (λ (n : ℕ). AllZip (IsSameLevel cmp) (redrawn (if turns_coin l.state then drop 1 word else word) ls) (redrawn (if turns_coin n then drop 1 word else word) ms))
-        (sym (ap (λ (v : Level A). v.state) c.0.rest)) (both-redrawn (if turns_coin l.state then drop 1 word else word) ls ms c.1),
-  )
+  both-redrawn word (l ∷ ls) (m ∷ ms) c = grind (arith, common_steps, both-redrawn (if turns_coin l.state then drop 1 word else word) ls ms c.1)
   both-redrawn word _ _ c = absurd c
 
   -- a merge has only one result

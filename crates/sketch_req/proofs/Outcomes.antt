@@ -1,4 +1,6 @@
 -- What updates and merges come to, as their contracts tell it: they fail, they are refused, or they are done.
+use Rattle.std.proofs.Common.{arith}
+use Rattle.std.proofs.lemmas.Grind.{common_steps}
 use Rattle.std.proofs.Common.{◌≡◌, ◌≢◌, ◌⊎◌, ◌↔◌, ◌+◌, ◌-◌, ◌^◌, ◌<◌, ◌≤◌, ◌∙◌, Bool, List, [], length, Result, Ok, Err, Ordering, IsErrAnd, IsOk, IfErr, OnOk, OnErr, ap, refl}
 use Rattle.sketch_base.specs.Bag.{retained}
 use Rattle.sketch_base.specs.Random.{after_draws, bits_from}
@@ -49,16 +51,7 @@ module _ {A S T : Type 0} (cmp : A → A → Ordering) (bit : S → Bool) (next 
 
   pub update_failed : (x : A) {y : ErrorKind} → IsErrAnd r (λ e. e ≡ y) → y ≡ OutOfMemory → IsSound cmp new → new ≡ s → after ≡ source → (IsFull s → ⊥) →
       UpdateEnds x
-  update_failed x h short sound same still not_full =
-      let e : r ≡ Err OutOfMemory = short_of h short in
-      record {
-        ok = no_value _ e;
-        sound = sound;
-        coins = no_value _ e;
-        err = with_error _ e (same, still);
-        full = no_memory e not_full;
-        memory = with_error _ e (λ _ _. refl);
-      }
+  update_failed x h short sound same still not_full = grind (arith, common_steps, short_of, no_value, with_error, no_memory)
 
   -- ---- updates by all items
 
@@ -77,19 +70,7 @@ module _ {A S T : Type 0} (cmp : A → A → Ordering) (bit : S → Bool) (next 
 
   pub updates_failed : (xs : List A) {y : ErrorKind} → IsErrAnd r (λ e. e ≡ y) → y ≡ OutOfMemory → IsSound cmp new → new ≡ s →
       IsDrawnFrom next (coins_of_updates s xs) source after → (length xs ≡ 0 → ⊥) → (AreTooMany s xs → ⊥) → UpdatesEnd xs
-  updates_failed xs h short sound same drawn some few =
-      let e : r ≡ Err OutOfMemory = short_of h short in
-      record {
-        empty = λ none. absurd (some (ap length none));
-        ok = no_value _ e;
-        sound = sound;
-        coins = no_value _ e;
-        err = with_error _ e same;
-        full = no_memory e few;
-        refused = no_refusal _ e;
-        drawn = with_error _ e drawn;
-        memory = with_error _ e (λ _ _. refl);
-      }
+  updates_failed xs h short sound same drawn some few = grind (arith, common_steps, short_of, no_value, with_error, no_memory, no_refusal)
 
   -- ---- a merge
 
@@ -107,61 +88,20 @@ module _ {A S T : Type 0} (cmp : A → A → Ordering) (bit : S → Bool) (next 
   pub merge_failed : (redraws : Bool) (t : Req A) {y : ErrorKind} → IsErrAnd r (λ e. e ≡ y) → y ≡ OutOfMemory → IsSound cmp new → new ≡ s → after ≡ source →
       (t.n ≡ 0 → ⊥) →
       (AreApart s t → ⊥) → MergeEnds redraws t
-  merge_failed redraws t h short sound same still some near =
-      let e : r ≡ Err OutOfMemory = short_of h short in
-      record {
-        empty = λ _ none. absurd (some none);
-        ok = no_value _ e;
-        sound = sound;
-        coins = no_value _ e;
-        err = with_error _ e (same, still);
-        refused = no_memory e near;
-        memory = with_error _ e (λ _ _ _. refl);
-      }
+  merge_failed redraws t h short sound same still some near = grind (arith, common_steps, short_of, no_value, with_error, no_memory)
 
   pub merge_refused : (redraws : Bool) (t : Req A) {y : ErrorKind} → IsErrAnd r (λ e. e ≡ y) → y ≡ InvalidArgument → IsSound cmp new → new ≡ s →
       after ≡ source →
       (s.accuracy ≡ t.accuracy → t.n ≡ 0 → ⊥) → AreApart s t → MergeEnds redraws t
-  merge_refused redraws t h refusal sound same still some apart =
-      let e : r ≡ Err InvalidArgument = refused_of h refusal in
-      record {
-        empty = λ near none. absurd (some near none);
-        ok = no_value _ e;
-        sound = sound;
-        coins = no_value _ e;
-        err = with_error _ e (same, still);
-        refused = refused_as e apart;
-        memory = with_error _ e (λ near light few. absurd (not_apart _ _ apart near light few));
-      }
+  merge_refused redraws t h refusal sound same still some apart = grind (arith, common_steps, refused_of, no_value, with_error, refused_as, not_apart)
 
   pub update_refused : (x : A) {y : ErrorKind} → IsErrAnd r (λ e. e ≡ y) → y ≡ InvalidArgument → IsSound cmp new → new ≡ s → after ≡ source → IsFull s →
       UpdateEnds x
-  update_refused x h refusal sound same still full =
-      let e : r ≡ Err InvalidArgument = refused_of h refusal in
-      record {
-        ok = no_value _ e;
-        sound = sound;
-        coins = no_value _ e;
-        err = with_error _ e (same, still);
-        full = refused_as e full;
-        memory = with_error _ e (λ light few. absurd (not_full_both full light few));
-      }
+  update_refused x h refusal sound same still full = grind (arith, common_steps, refused_of, no_value, with_error, refused_as, not_full_both)
 
   pub updates_refused : (xs : List A) {y : ErrorKind} → IsErrAnd r (λ e. e ≡ y) → y ≡ InvalidArgument → IsSound cmp new → new ≡ s → after ≡ source →
       IsDrawnFrom next (coins_of_updates s xs) source after → (length xs ≡ 0 → ⊥) → AreTooMany s xs → UpdatesEnd xs
-  updates_refused xs h refusal sound same still drawn some many =
-      let e : r ≡ Err InvalidArgument = refused_of h refusal in
-      record {
-        empty = λ none. absurd (some (ap length none));
-        ok = no_value _ e;
-        sound = sound;
-        coins = no_value _ e;
-        err = with_error _ e same;
-        full = refused_as e many;
-        refused = λ _. still;
-        drawn = with_error _ e drawn;
-        memory = with_error _ e (λ light few. absurd (not_both _ _ many light few));
-      }
+  updates_refused xs h refusal sound same still drawn some many = grind (arith, common_steps, refused_of, no_value, with_error, refused_as, not_both)
 
 -- ---- calls that are done
 
@@ -184,42 +124,16 @@ module _ {A S T : Type 0} (cmp : A → A → Ordering) (bit : S → Bool) (next 
 
   pub updates_done : (xs : List A) → AreDone cmp bit next s new source after xs →
       (length xs ≡ 0 → ⊥) → (AreTooMany s xs → ⊥) → UpdatesEnd cmp bit next s new source after (Ok v) xs
-  updates_done xs made some few = record {
-    empty = λ none. absurd (some (ap length none));
-    ok = made.1;
-    sound = made.0;
-    coins = made.2;
-    err = tt;
-    full = accepted few;
-    refused = accepted_alone _;
-    drawn = tt;
-    memory = tt;
-  }
+  updates_done xs made some few = grind (arith, common_steps, accepted, accepted_alone)
 
   pub merge_done : (redraws : Bool) (t : Req A) → IsMerged cmp bit next s new source after redraws t →
       (t.n ≡ 0 → ⊥) → (AreApart s t → ⊥) → MergeEnds cmp bit next s new source after (Ok v) redraws t
-  merge_done redraws t made some near = record {
-    empty = λ _ none. absurd (some none);
-    ok = λ _. made.1;
-    sound = made.0;
-    coins = λ _. made.2;
-    err = tt;
-    refused = accepted near;
-    memory = tt;
-  }
+  merge_done redraws t made some near = grind (arith, common_steps, accepted)
 
 -- ---- calls that take nothing in
 module _ {A S T : Type 0} (cmp : A → A → Ordering) (bit : S → Bool) (next : S → S) (s : Req A) (source : S) (v : T) where
   pub merge_none : (redraws : Bool) (t : Req A) → t.n ≡ 0 → IsSound cmp s → (AreApart s t → ⊥) → MergeEnds cmp bit next s s source source (Ok v) redraws t
-  merge_none redraws t none sound near = record {
-    empty = λ _ _. (refl, refl, refl);
-    ok = λ some. absurd (none_or_some none some);
-    sound = sound;
-    coins = λ some. absurd (none_or_some none some);
-    err = tt;
-    refused = accepted near;
-    memory = tt;
-  }
+  merge_none redraws t none sound near = grind (arith, common_steps, none_or_some, accepted)
 
   pub updates_of_none : IsTotalOrder cmp → (xs : List A) → length xs ≡ 0 → IsSound cmp s → (AreTooMany s xs → ⊥) → UpdatesEnd cmp bit next s s source source
       (Ok v) xs

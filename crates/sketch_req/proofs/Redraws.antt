@@ -1,4 +1,5 @@
 -- Redraws of the levels' coins, level by level.
+use Rattle.std.proofs.lemmas.Grind.{common_steps}
 use Rattle.std.proofs.Common.{inl, inr, ◌≡◌, ℕ, zero, suc, ◌+◌, ◌-◌, ◌<◌, ◌≤◌, Bool, true, false, cond, if◌then◌else◌, List, [], ◌∷◌, ◌++◌, length, map, flat_map, take, drop, get_or, set, refl, sym, ap, ◌∙◌, subst, arith, append_assoc, Ordering}
 use Rattle.std.specs.Cmp.{IsTotalOrder}
 use Rattle.std.proofs.lemmas.Bool.{cases_Bool}
@@ -39,21 +40,13 @@ module _ {A S : Type 0} (bit : S → Bool) (next : S → S) where
 
   redrawn-next : (source : S) (n m : ℕ) (x : Level A) (rest : List (Level A)) → n ≡ cond (turns_coin x.state) 1 0 + m →
       redrawn (bits_from bit next source n) (x ∷ rest) ≡ redrawn_level x (bit source) ∷ redrawn (bits_from bit next (source_past source x) m) rest
-  redrawn-next source n m x rest e =
-      elim (cases_Bool (turns_coin x.state)) [
-        | inl turns ↦ let one = rw turns at e in let more : n ≡ suc m = omega (arith, one) in rw (turns, more) refl
-        | inr stays ↦ let none = rw stays at e in let same : n ≡ m = omega (arith, none) in rw (stays, same) refl
-      ]
+  redrawn-next source n m x rest e = grind (arith, common_steps, cases_Bool)
 
   redrawn-first : (source : S) (x : Level A) (rest : List (Level A)) → redrawn_by source (x ∷ rest) ≡ redrawn_level x (bit source) ∷ redrawn_by (source_past source x) rest
   redrawn-first source x rest = redrawn-next source (turning_levels (layouts_of (x ∷ rest))) (turning_levels (layouts_of rest)) x rest (turning-first x rest)
 
   source-first : (source : S) (x : Level A) (rest : List (Level A)) → source_by source (x ∷ rest) ≡ source_by (source_past source x) rest
-  source-first source x rest = ap (after_draws next source) (turning-first x rest) ∙ go (turns_coin x.state)
-    where
-      go : (b : Bool) → after_draws next source (cond b 1 0 + turning_levels (layouts_of rest)) ≡ source_by (if b then next source else source) rest
-      go true = let e : 1 + turning_levels (layouts_of rest) ≡ suc (turning_levels (layouts_of rest)) = omega arith in ap (after_draws next source) e
-      go false = let e : 0 + turning_levels (layouts_of rest) ≡ turning_levels (layouts_of rest) = omega arith in ap (after_draws next source) e
+  source-first source x rest = grind (arith, common_steps, turning-first)
 
   -- more bits than there are levels that take one make no difference
   pub redrawn-enough : (source : S) (n : ℕ) (ls : List (Level A)) → turning_levels (layouts_of ls) ≤ n → redrawn (bits_from bit next source n) ls ≡ redrawn_by source ls
@@ -71,14 +64,7 @@ module _ {A S : Type 0} (bit : S → Bool) (next : S → S) where
   pub redrawn-more : (source : S) (i : ℕ) (ls : List (Level A)) (x : Level A) → i < length ls → x ≡ get_or ls i x →
       (drawn_so_far (source_past source x) (i + 1) (set ls i (redrawn_level x (bit source))) ≡ drawn_so_far source i ls)
       × (source_by (source_past source x) (drop (i + 1) (set ls i (redrawn_level x (bit source)))) ≡ source_by source (drop i ls))
-  redrawn-more source i ls x h e =
-      let y : Level A = redrawn_level x (bit source) in
-      let rest : List (Level A) = drop (i + 1) ls in
-      let left : drop i ls ≡ x ∷ rest = drop_more ls i x h ∙ ap (λ (l : Level A). l ∷ rest) (sym e) in
-      let up : i < i + 1 = omega arith in
-      let after : drop (i + 1) (set ls i y) ≡ rest = drop-set-lt (i + 1) ls i y up in
-      rw (after, left, take_more_set ls i y h, append_assoc (take i ls) (y ∷ []) (redrawn_by (source_past source x) rest))
-      (ap (λ l. take i ls ++ l) (sym (redrawn-first source x rest)), sym (source-first source x rest))
+  redrawn-more source i ls x h e = grind (arith, common_steps, drop_more, drop-set-lt, take_more_set, append_assoc, redrawn-first, source-first)
 
 -- ---- what stays
 
@@ -108,33 +94,17 @@ placed-redrawn cmp k accuracy h word (x ∷ rest) a =
 -- they draw one coin for each level at an odd state
 pub redraws-draw : (A : Type 0) (h : ℕ) (ls : List Layout) → draws_of (redraws_from {A = A} h ls) ≡ turning_levels ls
 redraws-draw A h [] = refl
-redraws-draw A h (l ∷ ls) =
-    let first = sum_by-cons (λ (l : Layout). cond (turns_coin l.state) 1 0) l ls in
-    let rest = redraws-draw A (suc h) ls in
-    elim (cases_Bool (turns_coin l.state)) [
-      | inl turns ↦
-          let one = rw turns at first in
-          rw turns (omega (arith, sum_by-cons (λ (a : Action A). cond (draws a) 1 0) (Redraw h) (redraws_from (suc h) ls), rest, one))
-      | inr stays ↦ let none = rw stays at first in rw stays (omega (arith, rest, none))
-    ]
+redraws-draw A h (l ∷ ls) = grind (arith, common_steps, sum_by-cons, cases_Bool, redraws-draw A (suc h) ls)
 
 -- they leave the scratch alone
 pub own-redraws : (A : Type 0) (h : ℕ) (ls : List Layout) → AreOwn {A = A} (redraws_from h ls)
 own-redraws A h [] = tt
-own-redraws A h (l ∷ ls) = go (turns_coin l.state) (own-redraws A (suc h) ls)
-  where
-    go : (b : Bool) → AreOwn {A = A} (redraws_from (suc h) ls) → AreOwn {A = A} ((if b then Redraw h ∷ [] else []) ++ redraws_from (suc h) ls)
-    go true o = (refl, o)
-    go false o = o
+own-redraws A h (l ∷ ls) = grind (arith, common_steps, own-redraws A (suc h) ls)
 
 -- they move nothing
 pub redraws-move : {A : Type 0} (h : ℕ) (ls : List Layout) (rest : List (Action A)) (i : ℕ) → is_moved (redraws_from h ls ++ rest) i ≡ is_moved rest i
 redraws-move h [] rest i = refl
-redraws-move {A} h (l ∷ ls) rest i = go (turns_coin l.state) (redraws-move (suc h) ls rest i)
-  where
-    go : (b : Bool) → is_moved (redraws_from (suc h) ls ++ rest) i ≡ is_moved rest i → is_moved {A = A} (((if b then Redraw h ∷ [] else []) ++ redraws_from (suc h) ls) ++ rest) i ≡ is_moved rest i
-    go true e = e
-    go false e = e
+redraws-move {A} h (l ∷ ls) rest i = grind (arith, common_steps, redraws-move (suc h) ls rest i)
 
 -- a bag of the same items, whose kept bits from level h up are the coins of some levels
 record IsKept {A : Type 0} (h : ℕ) (ns : List (Level A)) (old new : Bag A) : Type 0 where
@@ -188,19 +158,7 @@ module _ {A : Type 0} {cmp : A → A → Ordering} (order : IsTotalOrder cmp) wh
 
   acted-redrawn : {S : Type 0} (bit : S → Bool) (next : S → S) (source : S) (k : ℕ) (accuracy : RankAccuracy) (ls : List (Level A)) → AreLevels cmp k accuracy 0 ls →
       AreActed cmp bit next source (source_by bit next source ls) k accuracy (redraw_actions (layouts_of ls)) (layouts_of ls) 0 ls (redrawn_by bit next source ls)
-  acted-redrawn bit next source k accuracy ls a =
-      let n = redraws-draw A 0 (layouts_of ls) in
-      let word = bits_from bit next source (turning_levels (layouts_of ls)) in
-      let same = layouts-redrawn word ls in
-      record {
-        bag = subst (λ (i : ℕ). AlikeReq cmp (bag_after cmp (redraw_actions (layouts_of ls)) (bits_from bit next source i) (bag_of ls)) (bag_of (redrawn word ls))) (sym n) (redraws-are word ls);
-        own = own-redraws A 0 (layouts_of ls);
-        source_is = ap (after_draws next source) (sym n);
-        layouts_are = same;
-        placed = placed-redrawn cmp k accuracy 0 word ls a;
-        weigh = omega (arith, ap weight_of same);
-        fewer = omega (arith, ap retained_of same);
-      }
+  acted-redrawn bit next source k accuracy ls a = grind (arith, common_steps, redraws-draw, layouts-redrawn, redraws-are, own-redraws, placed-redrawn)
 
 -- ---- redrawn or not
 

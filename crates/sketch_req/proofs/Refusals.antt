@@ -1,24 +1,18 @@
 -- Calls that return an error or are not refused: what their clauses say, and the numbers that decide it.
-use Rattle.std.proofs.Common.{◌≡◌, ◌⊎◌, ◌↔◌, ◌≢◌, ◌+◌, ◌-◌, ◌/◌, ◌<◌, ◌≤◌, ◌^◌, ◌∙◌, ℕ, Bool, true, false, not, Option, None, Some, Result, Ok, Err, IsTrue, IfErr, inl, inr, refl, sym, ap, arith, List, [], ◌∷◌, ◌++◌, length}
+use Rattle.std.proofs.Common.{◌≡◌, ◌⊎◌, ◌↔◌, ◌≢◌, ◌+◌, ◌-◌, ◌<◌, ◌≤◌, ◌^◌, ◌∙◌, ℕ, Bool, false, Option, None, Some, Result, IsTrue, IfErr, inl, inr, refl, sym, ap, arith, List, [], ◌∷◌, ◌++◌}
 use Rattle.std.proofs.lemmas.Bool.{false≢true}
-use Rattle.std.specs.Int.{w64, to_le_bytes}
 use Rattle.std.proofs.lemmas.Result.{IfErr-weaker}
-use Rattle.sketch_base.specs.Answered.{IsRefusedUnless}
 use Rattle.sketch_base.specs.Views.{IsThere}
 use Rattle.sketch_base.specs.declared.error.ErrorKind.{ErrorKind}
 use Rattle.sketch_base.specs.declared.error.ErrorKind.TheVariants.{InvalidArgument, InvalidData, OutOfMemory}
-use Rattle.sketch_base.proofs.Exits.{memory_not_argument, memory_not_data, no_error}
+use Rattle.sketch_base.proofs.Exits.{memory_not_argument, memory_not_data}
 use Rattle.sketch_req.specs.Held.{Held}
 use Rattle.sketch_req.specs.Sketch.{sketch_of}
-use Rattle.sketch_req.specs.Updates.{IsDrawnFrom}
 
 -- levels that are kept make the same sketch
 pub same_sketch : {A : Type 0} (n : ℕ) (least greatest : Option A) {held old : Held A} → held ≡ old →
     sketch_of held.k held.accuracy n held.levels least greatest ≡ sketch_of old.k old.accuracy n old.levels least greatest
 same_sketch {A} n least greatest e = ap (λ (h : Held A). sketch_of h.k h.accuracy n h.levels least greatest) e
-
-pub none_drawn : {S : Type 0} (next : S → S) (most : ℕ) (source : S) → IsDrawnFrom next most source source
-none_drawn next most source = record { count = 0; few = omega arith; after_is = refl }
 
 -- what holds if and only if a flag is set doesn't hold if it isn't
 pub not_flagged : {P : Type 0} {b : Bool} → (IsTrue b ↔ P) → b ≡ false → P → ⊥
@@ -34,15 +28,6 @@ items_fit e fits told off (inr many) = false≢true (sym off ∙ told.1 (inr man
 pub weight_fits : {n : ℕ} (l : ℕ) → l ≤ 2 ^ 64 - 1 - n → n < 2 ^ 64 → n + l < 2 ^ 64
 weight_fits l most fits = omega (arith, most, fits)
 
--- and those whose number is
-pub too_heavy : {n m : ℕ} (l : ℕ) → n ≡ m → 2 ^ 64 - 1 - n < l → 2 ^ 64 ≤ m + l
-too_heavy l same over = omega (arith, over, same)
-
--- a full sketch takes in no items
-pub none_fit : {m l r : ℕ} {full : Bool} → (IsTrue full ↔ ((m ≡ 2 ^ 64 - 1) ⊎ (r ≡ 4294967295))) → full ≡ true → (l ≡ 0 → ⊥) →
-    (2 ^ 64 ≤ m + l) ⊎ ((0 < l) × (r ≡ 4294967295))
-none_fit told on some = elim (told.0 on) [ inl all ↦ inl (omega (arith, all, some)) | inr most ↦ inr (omega (arith, some), most) ]
-
 pub not_both : (m l : ℕ) {r : ℕ} → (2 ^ 64 ≤ m + l) ⊎ ((0 < l) × (r ≡ 4294967295)) → m + l < 2 ^ 64 → r < 4294967295 → ⊥
 not_both m l (inl heavy) light few = omega (arith, heavy, light)
 not_both m l (inr many) light few = omega (arith, many.1, few)
@@ -51,18 +36,10 @@ pub not_full_both : {n r : ℕ} → (n ≡ 2 ^ 64 - 1) ⊎ (r ≡ 4294967295) �
 not_full_both (inl all) light few = omega (arith, all, light)
 not_full_both (inr most) light few = omega (arith, most, few)
 
-pub next_fits : {n : ℕ} → n < 2 ^ 64 - 1 → n + 1 < 2 ^ 64
-next_fits small = omega (arith, small)
-
 -- no items leave the weight as it is
 pub light_still : {n m l r : ℕ} → n ≡ m → n < 2 ^ 64 → l ≡ 0 → (2 ^ 64 ≤ m + l) ⊎ ((0 < l) × (r ≡ 4294967295)) → ⊥
 light_still e fits none (inl heavy) = omega (arith, e, fits, none, heavy)
 light_still e fits none (inr many) = omega (arith, none, many.0)
-
--- what isn't granted is refused
-pub flagged : (b : Bool) → (not b ≡ true → false ≡ true) → b ≡ true
-flagged true told = refl
-flagged false told = absurd (false≢true (told refl))
 
 -- a merge that is refused, by its reasons
 pub not_apart : {A : Type 0} {a b : A} (x y : ℕ) → (a ≢ b) ⊎ ((2 ^ 64 ≤ x) ⊎ (2 ^ 32 ≤ y)) → a ≡ b → x < 2 ^ 64 → y < 2 ^ 32 → ⊥
@@ -77,44 +54,12 @@ no_refusal_of P r memory = IfErr-weaker r (λ e. e ≡ OutOfMemory) (λ e. e ≡
 pub memory_alone : {T : Type 0} (r : Result T ErrorKind) → IfErr r (λ e. e ≡ OutOfMemory) → IfErr r (λ e. e ≡ InvalidArgument → ⊥)
 memory_alone r memory = IfErr-weaker r (λ e. e ≡ OutOfMemory) (λ e. e ≡ InvalidArgument → ⊥) (λ e is k. memory_not_argument (sym is ∙ k)) memory
 
--- a part of the items is some of them
-pub first_some : {n a : ℕ} (b : ℕ) → n ≡ a + b → 0 < a → 0 < n
-first_some b e some = omega (arith, e, some)
-
-pub second_some : {n b : ℕ} (a : ℕ) → n ≡ a + b → 0 < b → 0 < n
-second_some a e some = omega (arith, e, some)
-
--- the halves of some levels
-pub first_fits : {n a : ℕ} (b : ℕ) → n ≡ a + b → n < 2 ^ 64 → a < 2 ^ 64
-first_fits b e fits = omega (arith, e, fits)
-
-pub second_fits : {n b : ℕ} (a : ℕ) → n ≡ a + b → n < 2 ^ 64 → b < 2 ^ 64
-second_fits a e fits = omega (arith, e, fits)
-
-pub half_some : {n h : ℕ} → h ≡ n / 2 → (n ≡ 1 → ⊥) → 0 < n → 0 < h
-half_some e not_one some = omega (arith, e, not_one, some)
-
-pub half_less : {n h : ℕ} → h ≡ n / 2 → 0 < n → h < n
-half_less e some = omega (arith, e, some)
-
-pub rest_some : {n r : ℕ} → r + n / 2 ≡ n → 0 < n → 0 < r
-rest_some e some = omega (arith, e, some)
-
-pub rest_less : {n r : ℕ} → r + n / 2 ≡ n → (n ≡ 1 → ⊥) → 0 < n → r < n
-rest_less e not_one some = omega (arith, e, not_one, some)
-
-pub sum_some : {a b x y n : ℕ} → 0 < a + b → a ≡ x → b ≡ y → x + y ≡ n → 0 < n
-sum_some some e f long = omega (arith, some, e, f, long)
-
 pub two_some : {n m : ℕ} → n ≡ m → 2 ≤ m → 0 < n
 two_some e some = omega (arith, e, some)
 
 -- an item alone in a list
 pub pushed_alone : {A : Type 0} {xs ys : List A} {x : A} → ys ≡ xs ++ x ∷ [] → xs ≡ [] → ys ≡ x ∷ []
 pushed_alone {A} {x = x} e none = e ∙ ap (λ (zs : List A). zs ++ x ∷ []) none
-
-pub one_counted : {A : Type 0} {xs : List A} {x : A} → xs ≡ x ∷ [] → 0 < length xs
-one_counted e = omega (arith, ap length e)
 
 pub from_zero : {n most : ℕ} → n ≤ most → 0 + n ≤ most
 from_zero few = omega (arith, few)
@@ -128,44 +73,18 @@ both_fit e f fits = omega (arith, e, f, fits)
 
 -- ---- images
 
--- a text of fewer than 8 bytes begins with no weight
-pub no_weight : {text behind : List ℕ} (n : ℕ) → length text < 8 → text ≡ to_le_bytes w64 n ++ behind → ⊥
-no_weight n short e = omega (arith, short, ap length e)
-
 pub still_many : {p q l n : ℕ} → p ≡ q → p ≡ l → 5 ≤ q → n ≡ l → 4 < n
 still_many e f many g = omega (arith, e, f, many, g)
 
 pub few_counted : {n m most : ℕ} → n ≡ m → m ≤ most → n ≤ most
 few_counted e few = omega (arith, e, few)
 
--- a level of more than four items
-pub over_four : {n m : ℕ} → n ≡ m → 4 < n → m ≤ 4 → ⊥
-over_four e many few = omega (arith, e, many, few)
-
-pub five_some : {n m : ℕ} → n ≡ m → 4 < n → 0 < m
-five_some e many = omega (arith, e, many)
-
 pub many_counted : {n m l : ℕ} → l ≡ m → n ≡ m → 4 < n → 5 ≤ l
 many_counted f e many = omega (arith, e, f, many)
 
 -- ---- queries
 
--- a view of a sketch of no items has no entries
-pub more_than_none : {n m a b p : ℕ} → 0 < a → a ≡ b → p ≡ b → p ≤ n → n ≡ m → m ≡ 0 → ⊥
-more_than_none some e f most g none = omega (arith, some, e, f, most, g, none)
-
--- levels of few items have few entries
-pub pairs_fit : {n m l r : ℕ} → n ≡ m → m ≡ l → r < 2 ^ 32 → l ≡ r → n < 2 ^ 64
-pairs_fit e f few long = omega (arith, e, f, few, long)
-
 -- no entries have no extremes
 pub none_there : {A : Type 0} (extreme : Option A) {n : ℕ} → IsThere extreme n → n ≡ 0 → extreme ≡ None
 none_there None there none = refl
 none_there (Some x) there none = absurd (omega (arith, there, none))
-
--- an answer made of another one
-pub answered_too : {V W P : Type 0} {x : V} {y : W} → (Ok x ≡ Err InvalidArgument ↔ ¬ P) → IsRefusedUnless P 0 (Ok y)
-answered_too told = ((λ is. absurd (no_error is), λ no. absurd (no_error (told.1 no))), tt)
-
-pub refusal_passed : {V P : Type 0} {r : Result V ErrorKind} {x : ErrorKind} (n : ℕ) → r ≡ Err x → IsRefusedUnless {V = V} P n (Err x) → IsRefusedUnless P n r
-refusal_passed n e told = rw e told

@@ -7,6 +7,7 @@ use Rattle.std.proofs.lemmas.List.{nil_from_length}
 use Rattle.std.proofs.lemmas.List.Sums.{sum_by-cons, sum_by-append, sum-map}
 use Rattle.sketch_base.specs.declared.common.SearchCriteria.{SearchCriteria}
 use Rattle.sketch_base.specs.Bag.{Bag, Alike, SameItems, expanded, repeated, sort, with_level, level_at}
+use Rattle.sketch_base.specs.Exact.{IsExactUpTo}
 use Rattle.sketch_base.specs.Lengths.{Along, TakesEven, acts_on_lengths, bag_lengths, lengths_after, world_lengths}
 use Rattle.sketch_base.specs.Query.{counted}
 use Rattle.sketch_base.specs.Trace.{Action, Put, Join, At, Work, World, act, acts, alone, bag_after, bag_beside, draws, draws_of, events_at, joins_actions, next_bit}
@@ -20,7 +21,7 @@ use Rattle.sketch_base.proofs.Items.{SameItems-refl, SameItems-back, SameItems-a
 use Rattle.sketch_base.proofs.PlaysInParts.{in_turn-append, play-at}
 use Rattle.sketch_base.proofs.Sorting.{SameItems-sort}
 use Rattle.sketch_base.proofs.Sums.{sum_by-expanded}
-use Rattle.sketch_base.proofs.Tails.{both_counts}
+use Rattle.sketch_base.proofs.ExactTails.{both_counts, exact-as, exact-more, exact-both}
 use Rattle.sketch_base.proofs.Worlds.{one}
 use Rattle.sketch_req.specs.Actions.{bag_of}
 use Rattle.sketch_req.specs.Imaged.{IsSameLevel}
@@ -43,7 +44,7 @@ use Rattle.sketch_req.proofs.LegalLayouts.{counts-with_level, filled_are, joined
 use Rattle.sketch_req.proofs.LegalTraces.{JoinsAre, lengths_at, merge_lengths}
 use Rattle.sketch_req.proofs.LegalWalks.{Fits, leads-redraws, room_leads}
 use Rattle.sketch_req.proofs.TakenInTurn.{legal-layouts}
-use Rattle.sketch_req.specs.Summaries.{IsExactUpTo, Summarizes, EmptySummarizes, UpdateSummarizes, UpdatesSummarize, MergeSummarizes, EmptyAddsNothing, RedrawnSummarizes, CopySummarizes, AnyOrderIsSummarized, SmallerTailIsExact, ImageSummarizes, WrittenSummarizes}
+use Rattle.sketch_req.specs.Summaries.{Summarizes, EmptySummarizes, UpdateSummarizes, UpdatesSummarize, MergeSummarizes, EmptyAddsNothing, RedrawnSummarizes, CopySummarizes, AnyOrderIsSummarized, SmallerTailIsExact, ImageSummarizes, WrittenSummarizes}
 use Rattle.sketch_req.proofs.KeptTails.{is_protected, spares-tail, exact-acts}
 
 -- ---- joins
@@ -87,25 +88,10 @@ module _ {A : Type 0} (cmp : A → A → Ordering) where
 
 -- ---- counts that are exact up to a number
 
-pub exact-as : (most c c' w w' : ℕ) → c ≡ c' → w ≡ w' → IsExactUpTo most c w → IsExactUpTo most c' w'
-exact-as most c c' w w' e f h = subst (λ (n : ℕ). IsExactUpTo most n w') e (subst (λ (n : ℕ). IsExactUpTo most c n) f h)
-
-pub exact-more : (most c w d : ℕ) → IsExactUpTo most c w → IsExactUpTo most (c + d) (w + d)
-exact-more most c w d h = record {
-  same = λ le. omega (arith, h.same (omega (arith, le)));
-  enough = omega (arith, h.enough);
-}
-
 exact-fewer : (most fewer c w : ℕ) → fewer ≤ most → IsExactUpTo most c w → IsExactUpTo fewer c w
 exact-fewer most fewer c w le h = record {
   same = λ few. h.same (omega (arith, le, few));
   enough = omega (arith, le, h.enough);
-}
-
-pub exact-both : (m c c' w w' : ℕ) → IsExactUpTo m c w → IsExactUpTo m c' w' → IsExactUpTo m (c + c') (w + w')
-exact-both m c c' w w' h h' = record {
-  same = λ le. omega (arith, h.same (omega (arith, le)), h'.same (omega (arith, le)));
-  enough = omega (arith, h.enough, h'.enough);
 }
 
 -- ---- the accurate side

@@ -1,63 +1,23 @@
 -- Levels that take in clones of items, one after another.
-use Rattle.std.proofs.Common.{◌≡◌, ℕ, suc, ◌+◌, ◌<◌, ◌≤◌, Bool, false, nat_lt, ◌&&◌, ◌==◌, List, [], ◌∷◌, ◌++◌, length, get_or, set, take, drop, refl, sym, ap, ◌∙◌, subst, arith, append-nil, append_assoc, length-append, inl, inr, Ordering, Equal}
+use Rattle.std.proofs.Common.{◌≡◌, ℕ, suc, ◌<◌, ◌≤◌, Bool, List, [], ◌∷◌, ◌++◌, length, get_or, set, take, drop, refl, sym, ap, ◌∙◌, subst, arith, append-nil, append_assoc, length-append, inl, inr, Ordering, Equal}
 use Rattle.std.specs.Cmp.{IsTotalOrder}
-use Rattle.std.proofs.lemmas.Bool.{le-ltb, lt-leb, ne_eqb, and_right}
 use Rattle.std.proofs.lemmas.List.{drop_more}
-use Rattle.std.proofs.lemmas.List.Elements.{length_all_zip}
 use Rattle.std.proofs.lemmas.List.Sums.{sum_by-cons}
-use Rattle.sketch_base.specs.Bag.{SameItems}
 use Rattle.sketch_base.specs.Random.{after_draws}
 use Rattle.sketch_base.specs.Trace.{Action, draws_of}
 use Rattle.sketch_base.proofs.CallsInTurn.{draws-append, source-composes}
-use Rattle.sketch_req.specs.Held.{IsHeld, held_of}
 use Rattle.sketch_req.specs.Level.{Level, appended}
-use Rattle.sketch_req.specs.Schedule.{Layout, layout_of, layouts_of, are_full, nominal_sum, retained_of, update_actions, update_layouts, actions_if_full, layouts_if_full}
+use Rattle.sketch_req.specs.Schedule.{Layout, layout_of, layouts_of, nominal_sum, retained_of, update_actions, update_layouts, actions_if_full, layouts_if_full}
 use Rattle.sketch_req.specs.ScheduleLaws.{AreLayouts, updates_actions, updates_layouts}
-use Rattle.sketch_req.specs.Updates.{AreLeft, AreTakenInTurn, HasClones, appended_all, all_appended_first}
+use Rattle.sketch_req.specs.Updates.{AreLeft, AreTakenInTurn}
 use Rattle.sketch_req.specs.Walk.{AreActed, AreLevels, AreWalkedIfFull, appended_first}
 use Rattle.sketch_req.specs.declared.RankAccuracy.{RankAccuracy}
-use Rattle.sketch_req.proofs.Held.{held-appended, own-levels}
+use Rattle.sketch_req.proofs.Held.{own-levels}
 use Rattle.sketch_req.proofs.Sounds.{few-placed, some-weight}
 use Rattle.sketch_req.proofs.Totals.{nominal-few}
-use Rattle.sketch_req.proofs.UpdatedLevels.{acted-put, acted-spare, layouts-appended, length-appended, nominal-appended, placed-appended, retained-appended}
+use Rattle.sketch_req.proofs.UpdatedLevels.{acted-put, layouts-appended}
 use Rattle.sketch_req.proofs.WalkCapacities.{update_spares}
 use Rattle.sketch_req.proofs.Walks.{acted-more}
-
--- ---- a level
-
--- a level after items were appended, by its parts
-pub appended-parts : {A : Type 0} (level : Level A) (xs : List A) → 0 < length xs →
-    appended_all level xs ≡ record level { items = level.items ++ xs; is_sorted = level.is_sorted && nat_lt (length (level.items ++ xs)) 2 }
-appended-parts level [] some = absurd (omega arith)
-appended-parts {A} level (x ∷ []) some = ap (λ (b : Bool). record level { items = level.items ++ x ∷ []; is_sorted = b }) (flag level.items level.is_sorted)
-  where
-    flag : (ys : List A) (b : Bool) → (b && length ys == 0) ≡ (b && nat_lt (length (ys ++ x ∷ [])) 2)
-    flag [] b = refl
-    flag (y ∷ ys) b =
-        let many : 2 ≤ length ((y ∷ ys) ++ x ∷ []) = omega (arith, length-append (y ∷ ys) (x ∷ [])) in
-        ap (λ (c : Bool). b && c) (ne_eqb (length (y ∷ ys)) 0 (omega arith) ∙ sym (le-ltb _ _ many))
-appended-parts {A} level (x ∷ y ∷ ys) some =
-    let whole = append_assoc level.items (x ∷ []) (y ∷ ys) in
-    let many : 2 ≤ length (level.items ++ x ∷ y ∷ ys) = omega (arith, length-append level.items (x ∷ y ∷ ys)) in
-    let over : nat_lt (length (level.items ++ x ∷ y ∷ ys)) 2 ≡ false = le-ltb _ _ many in
-    appended-parts (appended level x) (y ∷ ys) (omega arith) ∙
-    rw (whole, over) (ap (λ (b : Bool). record level { items = level.items ++ x ∷ y ∷ ys; is_sorted = b }) (and_right _ false refl ∙ sym (and_right level.is_sorted false refl)))
-
--- a level whose items and flag say that clones were appended
-pub has-clones : {A : Type 0} {cmp : A → A → Ordering} (old : Level A) (items clones all : List A) (flag : Bool) → SameItems cmp items clones → 0 < length items → all ≡ old.items ++ clones →
-    flag ≡ (old.is_sorted && nat_lt (length all) 2) → HasClones cmp old items (record old { items = all; is_sorted = flag })
-has-clones {A} {cmp} old items clones all flag same some whole flag_is =
-    let n = length_all_zip (λ x y. cmp x y ≡ Equal) items clones same in
-    record {
-      clones = clones;
-      same = same;
-      new_is = rw (flag_is, whole) (sym (appended-parts old clones (omega (arith, n, some))));
-    }
-
--- items that are appended to the levels are appended to level 0
-pub appended-first : {A : Type 0} (l : Level A) (ls : List (Level A)) (xs : List A) → all_appended_first (l ∷ ls) xs ≡ appended_all l xs ∷ ls
-appended-first l ls [] = refl
-appended-first l ls (x ∷ xs) = appended-first (appended l x) ls xs
 
 -- ---- layouts
 
@@ -137,27 +97,6 @@ module _ {A S : Type 0} {cmp : A → A → Ordering} (order : IsTotalOrder cmp) 
       AreTakenInTurn cmp bit next source after k accuracy ls (x ∷ []) ns
   taken-one source after ls ns x clone same walked = record { clone = clone; is_clone = same; after = after; levels = ns; walked = walked; rest = (refl, refl) }
 
-  -- items that cause no walk
-  pub taken-filled : (source : S) (ls : List (Level A)) (xs clones : List A) → 0 < length ls → AreLevels cmp k accuracy 0 ls → SameItems cmp xs clones →
-      retained_of (layouts_of ls) + length xs < nominal_sum k (layouts_of ls) → AreTakenInTurn cmp bit next source source k accuracy ls xs (all_appended_first ls clones)
-  taken-filled source ls [] [] some a same room = (refl, refl)
-  taken-filled source ls (x ∷ xs) (c ∷ cs) some a same room =
-      let small = nominal-small cmp k accuracy ls a in
-      let more = retained-appended ls c some in
-      let nominals = nominal-appended k ls c in
-      let placed = placed-appended cmp k accuracy ls c a (omega (arith, room, small)) in
-      let spare : are_full k (layouts_of (appended_first ls c)) ≡ false = lt-leb _ _ (omega (arith, more, nominals, room)) in
-      record {
-        clone = c;
-        is_clone = same.0;
-        after = source;
-        levels = appended_first ls c;
-        walked = acted-spare order bit next source k accuracy (appended_first ls c) placed spare;
-        rest = taken-filled source (appended_first ls c) xs cs (omega (arith, some, length-appended ls c)) placed same.1 (omega (arith, more, nominals, room));
-      }
-  taken-filled source ls [] (c ∷ cs) some a same room = absurd same
-  taken-filled source ls (x ∷ xs) [] some a same room = absurd same
-
   -- what is known of the levels after it, and of the source of coins
   pub record AreKept (source after : S) (ls : List (Level A)) (xs : List A) (ns : List (Level A)) : Type 0 where
     pub some : 0 < length ns
@@ -198,30 +137,12 @@ module _ {A S : Type 0} {cmp : A → A → Ordering} (order : IsTotalOrder cmp) 
       let rest = are-kept t.after after t.levels ns xs one.some one.placed one.left.few t.rest in
       record { some = rest.some; placed = rest.placed; left = left-append next source t.after after k accuracy ls t.levels ns (x ∷ []) xs one.left rest.left }
 
--- ---- level 0 filled
+-- ---- level 0
 
 -- level 0 holds no more than all levels
 pub first-few : {A : Type 0} (ls : List (Level A)) (x : Level A) → 0 < length ls → x ≡ get_or ls 0 x → length x.items ≤ retained_of (layouts_of ls)
 first-few [] x some e = absurd (omega (arith, some))
 first-few {A} (l ∷ ls) x some e = let n = sum_by-cons (λ (y : Layout). y.count) (layout_of l) (layouts_of ls) in omega (arith, n, ap (λ (y : Level A). length y.items) e)
-
--- if level 0 took the items, the levels as a whole took them
-pub first-filled : {A : Type 0} (ls : List (Level A)) (x new : Level A) (clones : List A) → 0 < length ls → x ≡ get_or ls 0 x → new ≡ appended_all x clones →
-    set ls 0 new ≡ all_appended_first ls clones
-first-filled [] x new clones some e same = absurd (omega (arith, some))
-first-filled {A} (l ∷ ls) x new clones some e same =
-    let l_is : x ≡ l = e in
-    ap (λ (y : Level A). y ∷ ls) (same ∙ ap (λ (y : Level A). appended_all y clones) l_is) ∙ sym (appended-first l ls clones)
-
--- the levels as they are stored, with items that came in
-pub held-filled : {A : Type 0} (cmp : A → A → Ordering) (k n capacity : ℕ) (accuracy : RankAccuracy) (ls : List (Level A)) (xs : List A) →
-    IsHeld cmp n capacity (held_of k accuracy ls) → retained_of (layouts_of ls) + length xs < 4294967295 → IsHeld cmp (n + length xs) capacity (held_of k accuracy (all_appended_first ls xs))
-held-filled cmp k n capacity accuracy ls [] held few = subst (λ (m : ℕ). IsHeld cmp m capacity (held_of k accuracy ls)) (omega arith) held
-held-filled cmp k n capacity accuracy ls (x ∷ xs) held few =
-    let one = held-appended cmp k n capacity accuracy ls x held (omega (arith, few)) in
-    let more = retained-appended ls x held.some in
-    let rest = held-filled cmp k (n + 1) capacity accuracy (appended_first ls x) xs one (omega (arith, few, more)) in
-    subst (λ (m : ℕ). IsHeld cmp m capacity (held_of k accuracy (all_appended_first (appended_first ls x) xs))) (omega arith) rest
 
 -- the next of some items
 pub next-item : {A : Type 0} (xs : List A) (n : ℕ) (x : A) → n < length xs → x ≡ get_or xs n x → take 1 (drop n xs) ≡ x ∷ []

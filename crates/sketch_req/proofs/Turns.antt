@@ -1,4 +1,5 @@
 -- The turns of a walk: what a level gives up is pending until the turn of the level above.
+use Rattle.std.proofs.lemmas.Grind.{common_steps}
 use Rattle.std.proofs.Common.{◌≡◌, ℕ, zero, suc, ◌+◌, ◌-◌, ◌/◌, ◌<◌, ◌≤◌, ◌&&◌, ◌^◌, Bool, true, false, if◌then◌else◌, List, [], ◌∷◌, ◌++◌, length, get_or, set, length-set, refl, sym, ap, ap₂, ◌∙◌, subst, arith, Ordering, le-leb, leb-true, leb-false}
 use Rattle.std.specs.Cmp.{IsTotalOrder}
 use Rattle.std.proofs.lemmas.Bool.{lt-leb, ne_eqb}
@@ -130,16 +131,7 @@ module _ {A S : Type 0} {cmp : A → A → Ordering} (order : IsTotalOrder cmp) 
   -- there is room for all that it then holds
   pub ready-held : (spaces : List ℕ) (n most : ℕ) (now : S) (ls : List (Level A)) (old : Level A) (coming : List A) → IsReady spaces n now ls old coming →
       (layout_at (steps_layouts k n 0 (layouts_of start)) n).count ≤ most → length old.items + length coming ≤ most
-  ready-held spaces n most now ls old coming r fit =
-      let mid : Level A = with_coming cmp old coming in
-      let o = opened k accuracy n r.all mid r.walked.acted.placed r.within r.there in
-      omega (
-        arith,
-        fit,
-        length-coming order old coming,
-        ap (λ (l : Layout). l.count) o.layout,
-        ap (λ (ls : List Layout). (layout_at ls n).count) r.walked.acted.layouts_are,
-      )
+  ready-held spaces n most now ls old coming r fit = grind (arith, common_steps, opened, length-coming)
 
   -- a level that isn't full at its turn
   settled : (spaces : List ℕ) (most n : ℕ) (now : S) (ls : List (Level A)) (new : Level A) → IsWalked n now (set ls n new) → n < length ls → length new.items < nominal_of new →

@@ -1,4 +1,5 @@
 -- A sketch after updates by some items in turn, up to copies of the sketches and clones of the items.
+use Rattle.std.proofs.lemmas.Grind.{common_steps}
 use Rattle.std.proofs.Common.{◌≡◌, ℕ, zero, suc, ◌+◌, ◌^◌, ◌<◌, ◌≤◌, Bool, List, [], ◌∷◌, ◌++◌, length, take, drop, drop-drop, Option, None, Some, refl, sym, ap, ap₂, ◌∙◌, subst, arith, append-nil, append_assoc, Ordering, Equal}
 use Rattle.std.specs.Cmp.{IsTotalOrder}
 use Rattle.std.specs.List.{AllZip}
@@ -52,25 +53,11 @@ module _ {A : Type 0} {cmp : A → A → Ordering} (order : IsTotalOrder cmp) wh
 
   -- a sketch is a copy of itself
   pub copy-itself : (s : Req A) → IsSameSketch cmp s s
-  copy-itself s = record {
-    k = refl;
-    accuracy = refl;
-    n = refl;
-    levels = levels-itself order s.levels;
-    least = SameAnswer-itself order s.least;
-    greatest = SameAnswer-itself order s.greatest;
-  }
+  copy-itself s = grind (arith, common_steps, levels-itself)
 
   -- a copy of a copy is a copy
   pub copy-copied : (s t u : Req A) → IsSameSketch cmp s t → IsSameSketch cmp t u → IsSameSketch cmp s u
-  copy-copied s t u c d = record {
-    k = d.k ∙ c.k;
-    accuracy = d.accuracy ∙ c.accuracy;
-    n = d.n ∙ c.n;
-    levels = levels-copied s.levels t.levels u.levels c.levels d.levels;
-    least = SameAnswer-trans order s.least t.least u.least c.least d.least;
-    greatest = SameAnswer-trans order s.greatest t.greatest u.greatest c.greatest d.greatest;
-  }
+  copy-copied s t u c d = grind (arith, common_steps, levels-copied)
 
   -- ---- updates of copies
 
@@ -97,16 +84,7 @@ module _ {A : Type 0} {cmp : A → A → Ordering} (order : IsTotalOrder cmp) wh
 
   pub in-turn-to : (s t u : Req A) (xs : List A) (word : List Bool) → AreUpdatedInTurn cmp s xs word t → IsSameSketch cmp t u → AreUpdatedInTurn cmp s xs word u
   in-turn-to s t u [] word d c = copy-copied s t u d c
-  in-turn-to s t u (x ∷ xs) word d c = record {
-    copy = d.copy;
-    clone = d.clone;
-    is_copy = d.is_copy;
-    is_clone = d.is_clone;
-    after = d.after;
-    updated = d.updated;
-    sound = d.sound;
-    rest = in-turn-to d.after t u xs (drop (coins_of_update s x) word) d.rest c;
-  }
+  in-turn-to s t u (x ∷ xs) word d c = grind (arith, common_steps, in-turn-to d.after t u xs (drop (coins_of_update s x) word) d.rest c)
 
   -- the layouts after the first update, and the coins that all take
   module _ {s : Req A} {x : A} {word : List Bool} {Rest : Req A → Type 0} (d : IsUpdatedFirst cmp s x word Rest) where
@@ -265,17 +243,7 @@ module _ {A : Type 0} {cmp : A → A → Ordering} (order : IsTotalOrder cmp) wh
 
   -- an update is updates by a single item
   pub one_updates : OneUpdates cmp
-  one_updates s x word t sound updated =
-      whole s t (x ∷ []) word (record {
-        copy = s;
-        clone = x;
-        is_copy = copy-itself s;
-        is_clone = tied_itself order x;
-        after = t;
-        updated = updated;
-        sound = sound;
-        rest = copy-itself t;
-      })
+  one_updates s x word t sound updated = grind (arith, common_steps, whole, copy-itself, tied_itself)
 
   -- updates by some items and then by more are updates by all
   pub updates_go_on : UpdatesGoOn cmp

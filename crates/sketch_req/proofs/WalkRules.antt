@@ -1,5 +1,7 @@
 -- What each compaction keeps holds along walks and updates: of the actions that they give,
 -- and of the moves of a query's items that these actions are.
+use Rattle.std.proofs.Common.{arith}
+use Rattle.std.proofs.lemmas.Grind.{common_steps}
 use Rattle.std.proofs.Common.{◌≡◌, ℕ, zero, suc, ◌-◌, Bool, true, cond, if◌then◌else◌, List, [], ◌∷◌, ◌++◌, length, inl, inr}
 use Rattle.std.proofs.lemmas.Bool.{cases_Bool}
 use Rattle.std.proofs.lemmas.List.{append-nil}
@@ -48,11 +50,7 @@ module _ {A : Type 0} (k : ℕ) (accuracy : RankAccuracy) (Fits : List Layout �
   -- along a walk, if the levels are full together
   pub holds-room : (ls after : List Layout) (actions : List (Action A)) (moves : List Move) → Fits ls →
       (Fits (layouts_if_full k ls) → Holds (layouts_if_full k ls) actions moves after) → Holds ls (actions_if_full k accuracy ls ++ actions) (room_moves k ls ++ moves) after
-  holds-room ls after actions moves fits go =
-      elim (cases_Bool (are_full k ls)) [
-        | inl full ↦ rw full (holds-steps (length ls) 0 ls after actions moves fits (rw full at go))
-        | inr not_full ↦ rw not_full (rw not_full at go fits)
-      ]
+  holds-room ls after actions moves fits go = grind (arith, common_steps, cases_Bool, holds-steps)
 
   -- along a walk with nothing after it
   pub holds-walk : ((ls : List Layout) → Fits ls → Holds ls [] [] ls) → (ls : List Layout) → Fits ls → Holds ls (actions_if_full k accuracy ls) (room_moves k ls) (layouts_if_full k ls)

@@ -1,6 +1,7 @@
 -- Sketches that summarize a stream: its length, its extremes, and exactly its tail at the protected end.
 use Rattle.std.specs.Prelude.{◌≡◌, ℕ, ◌+◌, ◌-◌, ◌*◌, ◌<◌, ◌≤◌, ◌⊎◌, min, Bool, List, [], ◌∷◌, ◌++◌, length, Option, slice_get}
 use Rattle.std.specs.declared.cmp.Ordering.{Ordering}
+use Rattle.sketch_base.specs.Exact.{IsExactUpTo}
 use Rattle.sketch_base.specs.declared.common.SearchCriteria.{SearchCriteria}
 use Rattle.sketch_base.specs.declared.common.Rank.{Rank}
 use Rattle.sketch_base.specs.Bag.{SameItems, expanded, sort, weighted_rank}
@@ -8,7 +9,8 @@ use Rattle.sketch_base.specs.Extremes.{IsLeastOf, IsGreatestOf}
 use Rattle.sketch_base.specs.Queries.{SameAnswer, quantile_in, quantile_place}
 use Rattle.sketch_base.specs.Query.{counted, true_rank}
 use Rattle.sketch_base.specs.Spelling.{AllSpelled}
-use Rattle.sketch_base.specs.Views.{View, IsViewOf, quantile_of}
+use Rattle.sketch_base.specs.Queried.{quantile_of}
+use Rattle.sketch_base.specs.Views.{View, IsViewOf, queried_view}
 use Rattle.sketch_req.specs.Actions.{bag_of}
 use Rattle.sketch_req.specs.Image.{BeginsImage}
 use Rattle.sketch_req.specs.Imaged.{IsSameSketch}
@@ -17,15 +19,10 @@ use Rattle.sketch_req.specs.Redrawn.{redrawn_sketch}
 use Rattle.sketch_req.specs.Relative.{off_protected_end}
 use Rattle.sketch_req.specs.Sketch.{Req, IsSound, IsUpdated, empty_sketch}
 use Rattle.sketch_req.specs.Updates.{AreUpdated}
-use Rattle.sketch_req.specs.Views.{view_of}
+use Rattle.sketch_req.specs.Views.{queried, view_of}
 use Rattle.sketch_req.specs.Written.{image_text, written_items}
 use Rattle.sketch_req.specs.declared.RankAccuracy.{RankAccuracy}
 use Rattle.sketch_req.specs.declared.RankAccuracy.TheVariants.{HighRank, LowRank}
-
--- a weighted count that stands for a true one: it is the true one if that is at most `most`, and else it is at least `most`
-pub record IsExactUpTo (most true_count weighted : ℕ) : Type 0 where
-  pub same : true_count ≤ most → weighted ≡ true_count
-  pub enough : min most true_count ≤ weighted
 
 -- a sketch summarizes a stream with a tail: it has the stream's length and extremes, and at every query the weight of its
 -- items on the query's accurate side is the number of the stream's items there, up to three times the tail
@@ -135,11 +132,11 @@ NearFractionsAreProtected = (accuracy : RankAccuracy) (most n : ℕ) (fraction :
 abbrev pub TailQuantilesAreExact : {A : Type 0} → (A → A → Ordering) → Type 0
 TailQuantilesAreExact {A} cmp = (s : Req A) (view : View A) (stream : List A) (tail : ℕ) (least greatest found : Option A) (fraction : Rank) (criteria : SearchCriteria) →
     IsSound cmp s → Summarizes cmp s stream tail → IsLeastOf cmp stream least → IsGreatestOf cmp stream greatest →
-    IsViewOf cmp (bag_of s.levels) s.n s.least s.greatest view →
+    IsViewOf (queried cmp s) view →
     IsProtectedFraction s.accuracy (3 * tail) (length stream) fraction criteria →
-    SameAnswer cmp (quantile_of view fraction criteria) found →
+    SameAnswer cmp (quantile_of (queried_view cmp view) fraction criteria) found →
     SameAnswer cmp (quantile_in (sort cmp stream) least greatest fraction.weight fraction.total criteria) found
 
 -- so does what is found in the sketch itself
 abbrev pub SketchIsViewOfItself : {A : Type 0} → (A → A → Ordering) → Type 0
-SketchIsViewOfItself {A} cmp = (s : Req A) → IsSound cmp s → IsViewOf cmp (bag_of s.levels) s.n s.least s.greatest (view_of cmp s)
+SketchIsViewOfItself {A} cmp = (s : Req A) → IsSound cmp s → IsViewOf (queried cmp s) (view_of cmp s)

@@ -1,6 +1,7 @@
 -- Worked rows of summaries: the tail of a stream with ties, and what bounds it.
 use Rattle.std.specs.Prelude.{◌≡◌, ℕ, Bool, true, false, List, [], ◌∷◌, replicate, slice_get, map, Option, Some}
 use Rattle.std.specs.Ordering.{nat_cmp}
+use Rattle.sketch_base.specs.Exact.{IsExactUpTo}
 use Rattle.sketch_base.specs.declared.common.SearchCriteria.TheVariants.{Inclusive, Exclusive}
 use Rattle.sketch_base.specs.Bag.{expanded, sort}
 use Rattle.sketch_base.specs.Queries.{quantile_place}
@@ -9,7 +10,7 @@ use Rattle.sketch_req.specs.Relative.{off_protected_end}
 use Rattle.sketch_req.specs.RelativeRows.{rising}
 use Rattle.sketch_req.specs.ScheduleLaws.{updates_trace}
 use Rattle.sketch_req.specs.Sketch.{empty_sketch}
-use Rattle.sketch_req.specs.Summaries.{IsExactUpTo, Summarizes, IsProtectedPlace, IsNearProtectedEnd}
+use Rattle.sketch_req.specs.Summaries.{Summarizes, IsProtectedPlace, IsNearProtectedEnd}
 use Rattle.sketch_req.specs.declared.RankAccuracy.{RankAccuracy}
 use Rattle.sketch_req.specs.declared.RankAccuracy.TheVariants.{HighRank, LowRank}
 

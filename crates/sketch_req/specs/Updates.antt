@@ -4,13 +4,13 @@ use Rattle.std.specs.List.{AllZip}
 use Rattle.std.specs.Option.{option_to_list}
 use Rattle.std.specs.declared.cmp.Ordering.{Ordering}
 use Rattle.std.specs.declared.cmp.Ordering.TheVariants.{Equal}
-use Rattle.sketch_base.specs.Bag.{AlikeReq, SameItems}
+use Rattle.sketch_base.specs.Bag.{AlikeReq}
 use Rattle.sketch_base.specs.Extremes.{IsLeastOf, IsGreatestOf}
 use Rattle.sketch_base.specs.Random.{after_draws}
 use Rattle.sketch_base.specs.Trace.{Action, bag_after, draws_of}
 use Rattle.sketch_req.specs.Actions.{bag_of}
 use Rattle.sketch_req.specs.Imaged.{IsSameLevel, IsSameSketch}
-use Rattle.sketch_req.specs.Level.{Level, appended}
+use Rattle.sketch_req.specs.Level.{Level}
 use Rattle.sketch_req.specs.Schedule.{layouts_of, retained_of, weight_of}
 use Rattle.sketch_req.specs.ScheduleLaws.{updates_actions, updates_layouts}
 use Rattle.sketch_req.specs.Sketch.{Req, IsSound, IsUpdated, coins_of_update}
@@ -69,28 +69,6 @@ pub record IsDrawnFrom {S : Type 0} (next : S → S) (most : ℕ) (source after 
   pub after_is : after ≡ after_draws next source count
 
 -- ---- what happens to the levels
-
--- a level after items were appended in turn
-abbrev pub appended_all : {A : Type 0} → Level A → List A → Level A
-appended_all level [] = level
-appended_all level (x ∷ xs) = appended_all (appended level x) xs
-
--- levels after items were appended to level 0 in turn
-abbrev pub all_appended_first : {A : Type 0} → List (Level A) → List A → List (Level A)
-all_appended_first ls [] = ls
-all_appended_first ls (x ∷ xs) = all_appended_first (appended_first ls x) xs
-
--- a level after clones of items were appended
-pub record HasClones {A : Type 0} (cmp : A → A → Ordering) (old : Level A) (items : List A) (new : Level A) : Type 0 where
-  pub clones : List A
-  pub same : SameItems cmp items clones
-  pub new_is : new ≡ appended_all old clones
-
--- levels after clones of items were appended to level 0
-pub record HaveClones {A : Type 0} (cmp : A → A → Ordering) (ls : List (Level A)) (items : List A) (ns : List (Level A)) : Type 0 where
-  pub clones : List A
-  pub same : SameItems cmp items clones
-  pub levels_are : ns ≡ all_appended_first ls clones
 
 -- after items came in: the weight is greater by their number, the layouts and the coins are as updates by them leave them,
 -- and fewer items are retained than a level may hold

@@ -7,7 +7,6 @@ ghost use Rattle.quantile_sketches.specs.ReqKind.{req_kind};
 ghost use Rattle.quantile_sketches.specs.ReqRules.{ReqShape};
 
 use super::Family;
-use sketch_base::common::buffers::MergeRoom;
 use sketch_base::common::random::RandomBits;
 use sketch_base::common::{Rank, SearchCriteria};
 use sketch_base::error::{Error, ErrorKind};
@@ -73,20 +72,22 @@ impl<T: ReqValue + Clone + Ord> Family for ReqSketch<T> {
         Ok(())
     }
 
-    type Room = MergeRoom<T>;
+    type Room = ();
 
-    fn room(alloc: Global) -> MergeRoom<T> {
-        MergeRoom::new(alloc)
-    }
+    fn room(_alloc: Global) {}
 
     fn merge<B: RandomBits>(
         &mut self,
         other: &Self,
         redraws: bool,
         coins: &mut B,
-        room: &mut MergeRoom<T>,
+        _room: &mut (),
     ) -> Result<(), Error> {
-        self.merge_in_room(other, redraws, coins, room)
+        if redraws {
+            self.merge_redrawn(other, coins)
+        } else {
+            self.merge(other, coins)
+        }
     }
 
     fn rank_of(&self, item: &T, criteria: SearchCriteria) -> Option<Rank> {

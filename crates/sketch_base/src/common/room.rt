@@ -70,11 +70,3 @@ pub fn move_if_loose<T: Drop>(items: &mut Vec<T>, other: &mut Vec<T>)
         mem::swap(items, other);
     }
 }
-
-/// Frees the room beyond that for an eighth more items.
-pub fn give_back<T>(items: &mut Vec<T>)
-    ensures items { items.new.items ≡ items.old.items }
-    ensures capacity { vec_capacity items.new ≤ vec_capacity items.old }
-{
-    items.shrink_to(items.len() + items.len() / 8);
-}

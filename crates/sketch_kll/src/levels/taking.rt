@@ -17,7 +17,7 @@ use std::alloc::AllocError;
 
 impl<T: Ord + Drop> Levels<T> {
     /// Takes items one after another, as updates do. The memory that it needs must be there already.
-    pub(crate) fn take_all<B: RandomBits>(&mut self, items: Vec<T>, coins: &mut B)
+    pub(crate) fn update_all<B: RandomBits>(&mut self, items: Vec<T>, coins: &mut B)
         requires kept { AreKept T.cmp self.old.k self.old.is_sorted self.old.levels }
         requires light { weight self.old.levels + length items.items < 2 ^ 64 }
         requires room { min (retained self.old.levels + vec_len items) (total_of self.old.k 8 61)

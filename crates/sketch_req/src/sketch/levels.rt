@@ -15,8 +15,8 @@ ghost use Rattle.sketch_req.specs.Rank.{counted_weight};
 ghost use Rattle.sketch_req.specs.Redrawn.{redrawn};
 ghost use Rattle.sketch_req.specs.Schedule.{layouts_of, retained_of, weight_of, nominal_sum, turning_levels};
 ghost use Rattle.sketch_req.specs.ScheduleLaws.{updates_actions};
-ghost use Rattle.sketch_req.specs.Updates.{AreAllTaken, AreTakenInTurn, HaveClones, IsDrawnFrom};
-ghost use Rattle.sketch_req.specs.Walk.{AreLevels, AreWalkedIfFull, appended_first};
+ghost use Rattle.sketch_req.specs.Updates.{AreAllTaken, IsDrawnFrom};
+ghost use Rattle.sketch_req.specs.Walk.{AreLevels, AreWalkedIfFull, AreWalkedOver, appended_first};
 ghost use Rattle.sketch_req.specs.declared.RankAccuracy.{RankAccuracy};
 
 mod joining;
@@ -24,9 +24,7 @@ mod walk;
 
 use crate::RankAccuracy;
 use crate::compactor::Compactor;
-use joining::{join_levels, move_back};
-use sketch_base::common::SearchCriteria;
-use sketch_base::common::buffers::MergeRoom;
+use joining::{clone_items, join_levels};
 use sketch_base::common::random::RandomBits;
 use sketch_base::error::Error;
 use std::alloc::AllocError;
@@ -84,27 +82,10 @@ impl<T: Clone + Ord> Levels<T> {
         (self.num_retained, self.capacity) = sums(self.compactors.as_slice());
     }
 
-    /// Appends an item to level 0. The levels together must not be full after it. An error leaves
-    /// the levels unchanged.
-    #[inline(always)]
-    pub(crate) fn put(&mut self, item: T) -> Result<(), AllocError>
-        requires spare { retained_of (layouts_of self.old.levels) + 1
-            < nominal_sum self.old.k (layouts_of self.old.levels) }
-        ensures ok { OnOk result
-            (self.new ≡ record self.old { levels = appended_first self.old.levels item }) }
-        ensures err { OnErr result (self.new ≡ self.old) }
-    {
-        self.compactors[0].put(item)?;
-        self.num_retained += 1;
-        Ok(())
-    }
-
-    /// Appends an item to level 0, and walks over the levels if they are then full together. It is
-    /// rarely called and not inlined, so that an update without a walk stays short. An error is
-    /// `OutOfMemory`, and leaves the levels and the source of coins unchanged.
-    #[cold]
+    /// Appends an item to level 0, and walks over the levels if they are then full together. An
+    /// error is `OutOfMemory`, and leaves the levels and the source of coins unchanged.
     #[inline(never)]
-    pub(crate) fn take_last<B: RandomBits>(&mut self, item: T, coins: &mut B) -> Result<(), Error>
+    pub(crate) fn append<B: RandomBits>(&mut self, item: T, coins: &mut B) -> Result<(), Error>
         requires clones { (x y : T) → T.is_clone x y → T.cmp x y ≡ Equal }
         requires fits { weight_of (layouts_of self.old.levels) < 2 ^ 64 - 1 }
         requires few { retained_of (layouts_of self.old.levels) < 4294967295 }
@@ -114,25 +95,43 @@ impl<T: Clone + Ord> Levels<T> {
         ensures err { OnErr result ((self.new ≡ self.old) × (coins.new ≡ coins.old)) }
         ensures memory { IfErr result (λ e. e ≡ OutOfMemory) }
     {
-        if self.num_retained + 1 < self.capacity {
-            return self.put(item).map_err(Error::from);
+        if self.num_retained + 1 >= self.capacity {
+            return self.append_and_walk(item, coins);
         }
+        self.compactors[0].append(item)?;
+        self.num_retained += 1;
+        Ok(())
+    }
+
+    /// Appends an item to level 0 and walks over the levels. An error is `OutOfMemory`, and leaves
+    /// the levels and the source of coins unchanged.
+    #[cold]
+    #[inline(never)]
+    fn append_and_walk<B: RandomBits>(&mut self, item: T, coins: &mut B) -> Result<(), Error>
+        requires clones { (x y : T) → T.is_clone x y → T.cmp x y ≡ Equal }
+        requires fits { weight_of (layouts_of self.old.levels) < 2 ^ 64 - 1 }
+        requires few { retained_of (layouts_of self.old.levels) < 4294967295 }
+        ensures kept { self.new ≡ record self.old { levels = self.new.levels } }
+        ensures acted { OnOk result (AreWalkedOver T.cmp B.bit B.next coins.old coins.new
+            self.old.k self.old.accuracy (appended_first self.old.levels item) self.new.levels) }
+        ensures err { OnErr result ((self.new ≡ self.old) × (coins.new ≡ coins.old)) }
+        ensures memory { IfErr result (λ e. e ≡ OutOfMemory) }
+    {
         append_and_walk(&mut self.compactors, item, coins)?;
         give_back(&mut self.compactors, (self.num_retained / 8).max(24) - 24);
         (self.num_retained, self.capacity) = sums(self.compactors.as_slice());
         Ok(())
     }
 
-    /// Takes in clones of all items, or of none. If they make no walk, they are appended to level 0
-    /// at once; else a copy of the levels takes them in and then replaces the levels. An error is
-    /// `OutOfMemory`, and leaves the levels unchanged; some coins may then have been drawn.
-    pub(crate) fn take_all<B: RandomBits>(
+    /// Appends clones of all items, or of none: a copy of the levels takes them and then replaces
+    /// the levels. An error is `OutOfMemory`, and leaves the levels unchanged; some coins may then
+    /// have been drawn.
+    pub(crate) fn append_all<B: RandomBits>(
         &mut self,
         items: &[T],
         coins: &mut B,
     ) -> Result<(), Error>
         requires clones { (x y : T) → T.is_clone x y → T.cmp x y ≡ Equal }
-        requires some { 0 < length items.now }
         requires fits { weight_of (layouts_of self.old.levels) + length items.now < 2 ^ 64 }
         requires few { retained_of (layouts_of self.old.levels) < 4294967295 }
         ensures kept { self.new ≡ record self.old { levels = self.new.levels } }
@@ -144,71 +143,22 @@ impl<T: Clone + Ord> Levels<T> {
             coins.old coins.new) }
         ensures memory { IfErr result (λ e. e ≡ OutOfMemory) }
     {
-        if self.num_retained + items.len() < self.capacity {
-            return self.fill(items);
-        }
         let mut copy = Levels::new(self.k, self.rank_accuracy, copy_levels(&self.compactors)?);
-        copy.take_in_turn(items, coins)?;
-        *self = copy;
-        Ok(())
-    }
-
-    /// Takes in clones of the items, one part after another: as many as there is room for before
-    /// the next walk, or one with its walk. An error is `OutOfMemory`; part of the items may then
-    /// have been taken in.
-    fn take_in_turn<B: RandomBits>(&mut self, items: &[T], coins: &mut B) -> Result<(), Error>
-        requires clones { (x y : T) → T.is_clone x y → T.cmp x y ≡ Equal }
-        requires fits { weight_of (layouts_of self.old.levels) + length items.now < 2 ^ 64 }
-        requires few { retained_of (layouts_of self.old.levels) < 4294967295 }
-        ensures kept { self.new ≡ record self.old { levels = self.new.levels } }
-        ensures taken { OnOk result (AreTakenInTurn T.cmp B.bit B.next coins.old coins.new
-            self.old.k self.old.accuracy self.old.levels items.now self.new.levels) }
-        ensures drawn { OnErr result (IsDrawnFrom B.next (draws_of (updates_actions
-            self.old.k self.old.accuracy (layouts_of self.old.levels) items.now))
-            coins.old coins.new) }
-        ensures memory { IfErr result (λ e. e ≡ OutOfMemory) }
-    {
-        let mut taken = 0;
-        while taken < items.len() {
-            let room = self.capacity.saturating_sub(self.num_retained + 1);
-            if room == 0 {
-                self.take_last(items[taken].clone()?, coins)?;
-                taken += 1;
-            } else {
-                let end = taken + room.min(items.len() - taken);
-                self.fill(&items[taken..end])?;
-                taken = end;
-            }
+        for item in items {
+            copy.append(item.clone()?, coins)?;
         }
-        Ok(())
-    }
-
-    /// Appends clones of items to level 0. The levels together must not be full after them. An
-    /// error is `OutOfMemory`, and leaves the levels unchanged.
-    fn fill(&mut self, items: &[T]) -> Result<(), Error>
-        requires clones { (x y : T) → T.is_clone x y → T.cmp x y ≡ Equal }
-        requires some { 0 < length items.now }
-        requires room { retained_of (layouts_of self.old.levels) + length items.now
-            < nominal_sum self.old.k (layouts_of self.old.levels) }
-        ensures kept { self.new ≡ record self.old { levels = self.new.levels } }
-        ensures filled { OnOk result (HaveClones T.cmp self.old.levels items.now self.new.levels) }
-        ensures err { OnErr result (self.new ≡ self.old) }
-        ensures memory { IfErr result (λ e. e ≡ OutOfMemory) }
-    {
-        self.compactors[0].append_clones(items)?;
-        self.num_retained += items.len();
+        *self = copy;
         Ok(())
     }
 
     /// Joins other levels in, redraws coins if `redraws` is true, and walks if the levels together
     /// are then at or over their nominal capacities. An error leaves the levels and the source of
     /// coins unchanged.
-    pub(crate) fn take_in<B: RandomBits>(
+    pub(crate) fn merge<B: RandomBits>(
         &mut self,
         others: &Self,
         redraws: bool,
         coins: &mut B,
-        room: &mut MergeRoom<T>,
     ) -> Result<(), AllocError>
         requires clones { (x y : T) → T.is_clone x y → T.cmp x y ≡ Equal }
         requires accuracy { self.old.accuracy ≡ others.now.accuracy }
@@ -222,17 +172,20 @@ impl<T: Clone + Ord> Levels<T> {
             self.new.levels) }
         ensures err { OnErr result ((self.new ≡ self.old) × (coins.new ≡ coins.old)) }
     {
-        let more = others.compactors.as_slice();
-        reserve(self.compactors.as_slice(), more, 0, room)?;
+        let (alloc, more) = (*self.compactors.allocator(), others.compactors.as_slice());
+        let mut clones = clone_items(alloc, self.compactors.as_slice(), more)?;
+        let mut buffers = reserve(alloc, self.compactors.as_slice(), more, 0)?;
         let new = more.len().saturating_sub(self.compactors.len());
         self.compactors.reserve_exact(new + 1)?;
-        join_levels(&mut self.compactors, more, room);
+        let (room, spare) = (&mut buffers.up, &mut buffers.coming);
+        join_levels(&mut self.compactors, more, &mut clones, room, spare);
+        buffers.coming.clear();
+        buffers.up.clear();
         redraw_if(redraws, &mut self.compactors, coins);
         let (num_retained, capacity) = sums(self.compactors.as_slice());
         if num_retained >= capacity {
-            walk(&mut self.compactors, room, coins);
+            walk(&mut self.compactors, &mut buffers, coins);
         }
-        move_back(&mut self.compactors, &mut room.rooms);
         give_back(&mut self.compactors, 0);
         (self.num_retained, self.capacity) = sums(self.compactors.as_slice());
         Ok(())
@@ -285,23 +238,6 @@ fn redraw_if<T: Clone + Ord, B: RandomBits>(
     for level in 0..levels.len() {
         levels[level].redraw_coin(coins);
     }
-}
-
-/// Returns the weight of the items that a query counts.
-pub(crate) fn weight_counted<T: Clone + Ord>(
-    levels: &[Compactor<T>],
-    item: &T,
-    criteria: SearchCriteria,
-) -> u64
-    requires { weight_of (layouts_of levels.now) < 2 ^ 64 }
-    ensures { result ≡ counted_weight (counted T.cmp item.now criteria) levels.now }
-{
-    let (mut weight, mut level) = (0, levels.len());
-    while level > 0 {
-        level -= 1;
-        weight = levels[level].count(item, criteria) as u64 + 2 * weight;
-    }
-    weight
 }
 
 /// Returns copies of the levels, with clones of their items. A clone of an item must compare equal

@@ -1,33 +1,32 @@
 //! Quantiles, distributions and the sorted view of a sketch.
-ghost use Rattle.std.specs.Prelude.{◌≡◌, ◌≢◌, ◌^◌, ◌<◌, Some, IsSome, IsSorted, IfOk, IfErr, IfSome, length, map, slice_get, sum_by};
+ghost use Rattle.std.specs.Prelude.{◌≡◌, ◌≢◌, ◌^◌, ◌<◌, Some, IsSome, IfOk, IfErr, IfSome, length, map, slice_get, sum_by};
 ghost use Rattle.std.specs.declared.cmp.Ordering.TheVariants.{Equal};
-ghost use Rattle.std.specs.List.{All};
-ghost use Rattle.std.specs.List.Sorted.{IsNonDecreasing, IsPermutation};
+ghost use Rattle.std.specs.List.Sorted.{IsNonDecreasing};
 ghost use Rattle.sketch_base.specs.declared.error.ErrorKind.TheVariants.{OutOfMemory};
-ghost use Rattle.sketch_base.specs.Answered.{EndsAt, FindsQuantiles, FindsRanks, IsFoundAmong, IsRefusedUnless};
 ghost use Rattle.sketch_base.specs.Bag.{expanded};
-ghost use Rattle.sketch_base.specs.Pairs.{distinct};
-ghost use Rattle.sketch_base.specs.Queries.{IsFraction, IsIncreasing, SameAnswer, cdf_of, pmf_of};
-ghost use Rattle.sketch_base.specs.Views.{IsViewOf, quantile_of};
-ghost use Rattle.sketch_base.specs.Weighted.{items_of, pairs_in};
+ghost use Rattle.sketch_base.specs.Pairs.{SamePairs, distinct};
+ghost use Rattle.sketch_base.specs.Queried.{AreQuantiles, EndsAt, IsCdf, IsPmf, IsQuantile, quantile_of};
+ghost use Rattle.sketch_base.specs.Queries.{IsFraction, SameAnswer};
+ghost use Rattle.sketch_base.specs.Views.{IsViewOf};
 ghost use Rattle.sketch_req.specs.Actions.{bag_of};
+ghost use Rattle.sketch_base.specs.Query.{counted};
+ghost use Rattle.sketch_req.specs.Level.{criteria_of};
 ghost use Rattle.sketch_req.specs.Pairs.{pairs_of};
-ghost use Rattle.sketch_req.specs.Views.{view_of};
+ghost use Rattle.sketch_req.specs.Rank.{counted_weight};
+ghost use Rattle.sketch_req.specs.Schedule.{layouts_of, weight_of};
+ghost use Rattle.sketch_req.specs.Views.{queried};
 
 use super::ReqSketch;
-use super::levels::weight_counted;
 use crate::compactor::Compactor;
 use crate::sorted_view::SortedView;
 use sketch_base::common::extremes::clone_found;
 use sketch_base::common::finding::{Ranked, find_in};
 use sketch_base::common::{Rank, SearchCriteria, queries};
 use sketch_base::error::Error;
-use sketch_base::weighted::{Weighted, merge_weighted, weigh_in_order};
+use sketch_base::weighted::push_clones;
 use std::alloc::{AllocError, Global};
 
-/// The most split points for which `cdf` takes a rank each; for more it makes a sorted view. A rank
-/// looks at all items that are not sorted yet, so a view takes as long as 120 ranks at k 12, and as
-/// long as 300 at k 1024.
+/// The most split points for which `cdf` takes a rank each; for more it makes a sorted view.
 const FEW_POINTS: usize = 64;
 
 impl<T: Clone + Ord> ReqSketch<T> {
@@ -36,8 +35,7 @@ impl<T: Clone + Ord> ReqSketch<T> {
     /// A clone of an item must compare equal to it. An error is `OutOfMemory`.
     pub fn sorted_view(&self) -> Result<SortedView<T>, Error>
         requires clones { (x y : T) → T.is_clone x y → T.cmp x y ≡ Equal }
-        ensures view { let s = self.now in
-            IfOk result (IsViewOf T.cmp (bag_of s.levels) s.n s.least s.greatest) }
+        ensures view { IfOk result (IsViewOf (queried T.cmp self.now)) }
         ensures joined { IfOk result (λ v. v.held ≡ distinct T.cmp v.entries) }
         ensures memory { IfErr result (λ e. e ≡ OutOfMemory) }
         ensures some { IfErr result (λ e. self.now.n ≢ 0) }
@@ -46,29 +44,8 @@ impl<T: Clone + Ord> ReqSketch<T> {
         let greatest = clone_found(self.max_item.as_ref())?;
         let levels = &self.levels;
         let alloc = *levels.compactors.allocator();
-        let entries = Self::merged(alloc, levels.compactors.as_slice())?;
-        SortedView::from_weighted(alloc, entries.as_slice(), least, greatest)
-    }
-
-    /// Returns the items of levels with their weights, sorted: those of the two halves of the
-    /// levels are merged. The items of neighbouring levels interleave little, so a merge mostly
-    /// goes on with the same side.
-    fn merged(alloc: Global, levels: &[Compactor<T>]) -> Result<Vec<Weighted<'_, T>>, AllocError>
-        requires some { 0 < length levels.now }
-        requires few { length (pairs_of levels.now) < 2 ^ 64 }
-        ensures moved { IfOk result (λ v.
-            IsPermutation (pairs_of levels.now) (pairs_in v.items)) }
-        ensures sorted { IfOk result (λ v. IsSorted T.cmp (items_of v.items)) }
-        ensures some { IfErr result (λ e. 0 < length (pairs_of levels.now)) }
-    {
-        if levels.len() == 1 {
-            let only = &levels[0];
-            return weigh_in_order(alloc, only.items_slice(), only.weight(), only.is_sorted());
-        }
-        let (lower, upper) = levels.split_at(levels.len() / 2);
-        let lower = Self::merged(alloc, lower)?;
-        let upper = Self::merged(alloc, upper)?;
-        merge_weighted(alloc, lower.as_slice(), upper.as_slice())
+        let weighted = weigh_levels(alloc, levels.compactors.as_slice(), levels.num_retained)?;
+        SortedView::new(weighted, least, greatest)
     }
 
     /// Returns the item at the quantile given by `fraction`, or None for an empty sketch.
@@ -82,10 +59,7 @@ impl<T: Clone + Ord> ReqSketch<T> {
     /// 0 or `weight` exceeds it, also for an empty sketch; any other error is `OutOfMemory`.
     pub fn quantile(&self, fraction: Rank, criteria: SearchCriteria) -> Result<Option<T>, Error>
         requires clones { (x y : T) → T.is_clone x y → T.cmp x y ≡ Equal }
-        ensures found { IfOk result
-            (SameAnswer T.cmp (quantile_of (view_of T.cmp self.now) fraction criteria)) }
-        ensures there { IfOk result (IsFoundAmong self.now.n) }
-        ensures refused { IsRefusedUnless (IsFraction fraction) self.now.n result }
+        ensures { IsQuantile (queried T.cmp self.now) fraction criteria result }
     {
         queries::check_fraction(fraction)?;
         if let Some(item) = self.find(fraction, criteria) {
@@ -99,7 +73,7 @@ impl<T: Clone + Ord> ReqSketch<T> {
     fn find(&self, fraction: Rank, criteria: SearchCriteria) -> Option<&T>
         requires { IsFraction fraction }
         ensures same { IfSome result (λ x. SameAnswer T.cmp
-            (quantile_of (view_of T.cmp self.now) fraction criteria) (Some x.now)) }
+            (quantile_of (queried T.cmp self.now) fraction criteria) (Some x.now)) }
         ensures some { IsSome result → self.now.n ≢ 0 }
     {
         match self.n() {
@@ -134,10 +108,7 @@ impl<T: Clone + Ord> ReqSketch<T> {
         criteria: SearchCriteria,
     ) -> Result<Option<Vec<T>>, Error>
         requires clones { (x y : T) → T.is_clone x y → T.cmp x y ≡ Equal }
-        ensures found { IfOk result
-            (FindsQuantiles T.cmp (view_of T.cmp self.now) criteria fractions.now) }
-        ensures there { IfOk result (IsFoundAmong self.now.n) }
-        ensures refused { IsRefusedUnless (All IsFraction fractions.now) self.now.n result }
+        ensures { AreQuantiles (queried T.cmp self.now) fractions.now criteria result }
     {
         queries::check_fractions(fractions)?;
         self.sorted_view()?.quantiles(fractions, criteria)
@@ -150,13 +121,10 @@ impl<T: Clone + Ord> ReqSketch<T> {
     /// do not strictly increase, also for an empty sketch; any other error is `OutOfMemory`.
     pub fn cdf(&self, points: &[T], criteria: SearchCriteria) -> Result<Option<Vec<Rank>>, Error>
         requires clones { (x y : T) → T.is_clone x y → T.cmp x y ≡ Equal }
-        ensures found { let s = self.now in IfOk result
-            (FindsRanks s.n (cdf_of T.cmp criteria (expanded T.cmp (bag_of s.levels)) points.now)) }
+        ensures ranks { IsCdf (queried T.cmp self.now) points.now criteria result }
         ensures ends { IfOk result (EndsAt (length points.now) self.now.n) }
         ensures rises { IfOk result (λ found. IfSome found (λ ranks.
             IsNonDecreasing (map (λ (r : Rank). r.weight) ranks.items))) }
-        ensures there { IfOk result (IsFoundAmong self.now.n) }
-        ensures refused { IsRefusedUnless (IsIncreasing T.cmp points.now) self.now.n result }
     {
         queries::check_points(points)?;
         let total = self.n();
@@ -183,12 +151,9 @@ impl<T: Clone + Ord> ReqSketch<T> {
     /// A clone of an item must compare equal to it. Errors are as for `cdf`.
     pub fn pmf(&self, points: &[T], criteria: SearchCriteria) -> Result<Option<Vec<Rank>>, Error>
         requires clones { (x y : T) → T.is_clone x y → T.cmp x y ≡ Equal }
-        ensures found { let s = self.now in IfOk result
-            (FindsRanks s.n (pmf_of T.cmp criteria (expanded T.cmp (bag_of s.levels)) points.now)) }
+        ensures weights { IsPmf (queried T.cmp self.now) points.now criteria result }
         ensures sums { IfOk result (λ found. IfSome found (λ ranks.
             sum_by (λ (r : Rank). r.weight) ranks.items ≡ self.now.n)) }
-        ensures there { IfOk result (IsFoundAmong self.now.n) }
-        ensures refused { IsRefusedUnless (IsIncreasing T.cmp points.now) self.now.n result }
     {
         // Read so that the proof knows the invariant.
         let _n = self.n();
@@ -204,6 +169,43 @@ impl<T: Clone + Ord> Ranked<T> for ReqSketch<T> {
     ghost bag = { λ s. bag_of s.levels };
 
     fn rank_weight(&self, item: &T, criteria: SearchCriteria) -> u64 {
-        weight_counted(self.levels.compactors.as_slice(), item, criteria)
+        let levels = self.levels.compactors.as_slice();
+        match criteria {
+            SearchCriteria::Inclusive => weight_counted(levels, item, true),
+            SearchCriteria::Exclusive => weight_counted(levels, item, false),
+        }
     }
+}
+
+/// Returns the weight of the items below `item`, or at most `item` if `inclusive` is true.
+fn weight_counted<T: Clone + Ord>(levels: &[Compactor<T>], item: &T, inclusive: bool) -> u64
+    requires { weight_of (layouts_of levels.now) < 2 ^ 64 }
+    ensures { result ≡ counted_weight (counted T.cmp item.now (criteria_of inclusive)) levels.now }
+{
+    let (mut weight, mut level) = (0, levels.len());
+    while level > 0 {
+        level -= 1;
+        weight = levels[level].count_below(item, inclusive) as u64 + 2 * weight;
+    }
+    weight
+}
+
+/// Returns clones of the items of levels with their weights, level by level. There are `count` of
+/// them.
+fn weigh_levels<T: Clone + Ord>(
+    alloc: Global,
+    levels: &[Compactor<T>],
+    count: usize,
+) -> Result<Vec<(T, u64)>, AllocError>
+    requires clones { (x y : T) → T.is_clone x y → T.cmp x y ≡ Equal }
+    requires count { count ≡ length (pairs_of levels.now) }
+    ensures same { IfOk result (λ weighted.
+        SamePairs T.cmp (pairs_of levels.now) weighted.items) }
+    ensures some { IfErr result (λ e. 0 < length (pairs_of levels.now)) }
+{
+    let mut weighted = Vec::with_capacity(alloc, count)?;
+    for level in levels {
+        push_clones(level.items_slice(), level.weight(), &mut weighted)?;
+    }
+    Ok(weighted)
 }

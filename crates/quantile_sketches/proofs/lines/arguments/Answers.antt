@@ -6,6 +6,7 @@ use Rattle.std.proofs.lemmas.Slice.Eq.{bytes_eq-Decides}
 use Rattle.std.specs.Option.{option_map}
 use Rattle.quantile_sketches.specs.Command.{arguments_of}
 use Rattle.quantile_sketches.specs.LineWords.{unsigned_of}
+use Rattle.quantile_sketches.proofs.DigitNumbers.{parses_unsigned}
 use Rattle.quantile_sketches.proofs.lines.arguments.Goals as goal
 
 -- a list of two elements
@@ -44,9 +45,9 @@ module _ {words : List (List ℕ)} (family seed read : List ℕ) (are : words �
 
 pub returns-in_default-as_str : goal.returns-in_default-as_str
 returns-in_default-as_str c = record {
-  value = asked-other (string_bytes c.family-item.result) (string_bytes c.seed-item.result) c.as_bytes.result.now
+  value = asked-other (string_bytes c.family-item.result) (string_bytes c.seed-item.result) c.as_str.result.now
       (two string_bytes c.args.words.now c.family-item.result c.seed-item.result c.in-len2.len_at_least c.in-len2.len_below c.family-item.is c.seed-item.is)
-      c.as_bytes.ensures.value (λ e. c.in_default-as_str.not-kll (c.as_str.ensures.value ∙ e)) (λ e. c.in_default-as_str.not-req (c.as_str.ensures.value ∙ e));
+      c.as_str.ensures.value (λ e. c.in_default-as_str.not-kll (c.as_str-2.ensures.value ∙ e)) (λ e. c.in_default-as_str.not-req (c.as_str-2.ensures.value ∙ e));
 }
 
 pub returns-in_default : goal.returns-in_default
@@ -54,23 +55,23 @@ returns-in_default c = grind (arith, common_steps)
 
 pub returns-in_err-seed : goal.returns-in_err-seed
 returns-in_err-seed c = record {
-  value = asked-none (string_bytes c.family-item.result) (string_bytes c.seed-item.result) c.as_bytes.result.now
+  value = asked-none (string_bytes c.family-item.result) (string_bytes c.seed-item.result) c.as_str.result.now
       (two string_bytes c.args.words.now c.family-item.result c.seed-item.result c.in-len2.len_at_least c.in-len2.len_below c.family-item.is c.seed-item.is)
-      c.as_bytes.ensures.value c.from_residual.ensures c.in_err-seed.ensures;
+      c.as_str.ensures.value c.from_residual.ensures (c.in_err-seed.ensures.value ∙ parses_unsigned 64 c.as_str.result.now c.parse.result c.parse.ensures.value.0);
 }
 
 pub returns-in-kll : goal.returns-in-kll
 returns-in-kll c = record {
-  value = asked-kll (string_bytes c.family-item.result) (string_bytes c.seed-item.result) c.as_bytes.result.now
+  value = asked-kll (string_bytes c.family-item.result) (string_bytes c.seed-item.result) c.as_str.result.now
       (two string_bytes c.args.words.now c.family-item.result c.seed-item.result c.in-len2.len_at_least c.in-len2.len_below c.family-item.is c.seed-item.is)
-      c.as_bytes.ensures.value c.in_ok-seed.seed c.in_ok-seed.ensures (sym c.as_str.ensures.value ∙ c.in-kll.is);
+      c.as_str.ensures.value c.in_ok-seed.seed (c.in_ok-seed.ensures.value ∙ parses_unsigned 64 c.as_str.result.now c.parse.result c.parse.ensures.value.0) (sym c.as_str-2.ensures.value ∙ c.in-kll.is);
 }
 
 pub returns-in-req : goal.returns-in-req
 returns-in-req c = record {
-  value = asked-req (string_bytes c.family-item.result) (string_bytes c.seed-item.result) c.as_bytes.result.now
+  value = asked-req (string_bytes c.family-item.result) (string_bytes c.seed-item.result) c.as_str.result.now
       (two string_bytes c.args.words.now c.family-item.result c.seed-item.result c.in-len2.len_at_least c.in-len2.len_below c.family-item.is c.seed-item.is)
-      c.as_bytes.ensures.value c.in_ok-seed.seed c.in_ok-seed.ensures (sym c.as_str.ensures.value ∙ c.in-req.is);
+      c.as_str.ensures.value c.in_ok-seed.seed (c.in_ok-seed.ensures.value ∙ parses_unsigned 64 c.as_str.result.now c.parse.result c.parse.ensures.value.0) (sym c.as_str-2.ensures.value ∙ c.in-req.is);
 }
 
 pub returns-in_default-2 : goal.returns-in_default-2

@@ -2,10 +2,11 @@ use Rattle.std.proofs.Common.{◌≡◌, ℕ, Bool, true, false, [], ◌∷◌, 
 use Rattle.std.specs.Int.Count.{count_trailing_zeros}
 use Rattle.std.specs.Ordering.{nat_cmp}
 use Rattle.std.proofs.lemmas.Cmp.{nat_cmp_total}
+use Rattle.sketch_base.specs.Exact.{IsExactUpTo}
 use Rattle.sketch_req.specs.RelativeRows.{rising}
 use Rattle.sketch_req.specs.Sections.{size_of}
 use Rattle.sketch_req.specs.Sketch.{empty_sketch}
-use Rattle.sketch_req.specs.Summaries.{IsExactUpTo, Summarizes, IsProtectedPlace, IsNearProtectedEnd}
+use Rattle.sketch_req.specs.Summaries.{Summarizes, IsProtectedPlace, IsNearProtectedEnd}
 use Rattle.sketch_req.specs.SummaryRows.{entries_under, tied, at_places}
 use Rattle.sketch_req.specs.declared.RankAccuracy.TheVariants.{HighRank, LowRank}
 use Rattle.sketch_req.proofs.Summaries.{empty-summarizes}

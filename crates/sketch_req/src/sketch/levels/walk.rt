@@ -1,17 +1,15 @@
 //! The walk over levels: each full level is compacted into the one above. What can fail comes
 //! first, in `reserve`.
-ghost use Rattle.std.specs.Prelude.{◌≡◌, ◌+◌, ◌*◌, ◌-◌, ◌^◌, ◌<◌, ◌≤◌, [], ◌∷◌, ◌++◌, length, vec_len, vec_capacity, IfErr, OnOk, OnErr, true, if◌then◌else◌, ◌==◌};
+ghost use Rattle.std.specs.Prelude.{◌≡◌, ℕ, ◌+◌, ◌*◌, ◌-◌, ◌^◌, ◌<◌, ◌≤◌, [], ◌∷◌, ◌++◌, length, vec_len, vec_capacity, IfOk, IfErr, OnOk, OnErr, true, if◌then◌else◌, ◌==◌};
 ghost use Rattle.std.specs.declared.cmp.Ordering.TheVariants.{Equal};
 ghost use Rattle.sketch_base.specs.declared.error.ErrorKind.TheVariants.{OutOfMemory};
 ghost use Rattle.sketch_req.specs.Level.{fresh};
-ghost use Rattle.sketch_req.specs.Merged.{AreCloned};
 ghost use Rattle.sketch_req.specs.Schedule.{layouts_of, layout_at, filled, joined_layouts, retained_of, weight_of};
 ghost use Rattle.sketch_req.specs.Sections.{IsLegalK};
-ghost use Rattle.sketch_req.specs.Walk.{AreHeld, HaveSpace, AreWalkedOver, accuracy_of, appended_first, k_of, taken_if_full, with_more};
+ghost use Rattle.sketch_req.specs.Walk.{AreHeld, HaveSpace, AreWalkedOver, accuracy_of, appended_first, k_of, spaces_of, taken_if_full, with_more};
 
 use crate::RankAccuracy;
 use crate::compactor::Compactor;
-use sketch_base::common::buffers::{Buffers, MergeRoom};
 use sketch_base::common::random::RandomBits;
 use sketch_base::error::Error;
 use std::alloc::{AllocError, Global};
@@ -50,48 +48,51 @@ fn count_to_take_at<T: Clone + Ord>(
     }
 }
 
-/// Makes room for all that a walk moves, if other levels are joined in first or `more` items come
-/// into level 0: two empty vectors for what a level gives up, each with room for all that it holds,
-/// and buffers with clones of the others' items, and with room for the levels that items come to.
+/// The vectors that a walk moves items through: what comes up to a level, what goes up from it, and
+/// for each level one that takes its items with those that come up.
+#[derive(Debug, Drop)]
+pub(super) struct WalkBuffers<T> {
+    pub(super) coming: Vec<T>,
+    pub(super) up: Vec<T>,
+    pub(super) merged: Vec<Vec<T>>,
+}
+
+/// Makes the buffers for a walk, if other levels are joined in first or `more` items come into
+/// level 0. What goes up has space for all that a level holds.
 pub(super) fn reserve<T: Clone + Ord>(
+    alloc: Global,
     levels: &[Compactor<T>],
     others: &[Compactor<T>],
     more: usize,
-    room: &mut MergeRoom<T>,
-) -> Result<(), AllocError>
-    requires clones { (x y : T) → T.is_clone x y → T.cmp x y ≡ Equal }
+) -> Result<WalkBuffers<T>, AllocError>
     requires levels { AreHeld T.cmp levels.now }
     requires few { retained_of (layouts_of levels.now) + retained_of (layouts_of others.now) + more
         < 2 ^ 32 }
-    ensures empty { OnOk result (room.new.coming.items ≡ []) }
-    ensures nothing { OnOk result (room.new.up.items ≡ []) }
-    ensures above { OnOk result (vec_capacity room.new.coming ≤ vec_capacity room.new.up) }
-    ensures cloned { OnOk result (AreCloned T.cmp levels.now others.now room.new.rooms.items
-        (vec_capacity room.new.coming)) }
-    ensures fit { OnOk result (HaveSpace (k_of levels.now) (accuracy_of levels.now)
-        (with_more more (joined_layouts (k_of levels.now) (layouts_of levels.now)
-        (layouts_of others.now))) room.new.rooms.items (vec_capacity room.new.coming)) }
+    ensures empty { IfOk result (λ b. b.coming.items ≡ []) }
+    ensures nothing { IfOk result (λ b. b.up.items ≡ []) }
+    ensures above { IfOk result (λ b. vec_capacity b.coming ≤ vec_capacity b.up) }
+    ensures joined { IfOk result (λ b. (h : ℕ) → (layout_at (joined_layouts (k_of levels.now)
+        (layouts_of levels.now) (layouts_of others.now)) h).count ≤ vec_capacity b.coming) }
+    ensures fit { IfOk result (λ b. HaveSpace (k_of levels.now) (with_more more (joined_layouts
+        (k_of levels.now) (layouts_of levels.now) (layouts_of others.now)))
+        (spaces_of b.merged.items) (vec_capacity b.coming)) }
 {
     let count = levels.len().max(others.len());
-    Buffers::for_levels(&mut room.rooms, count)?;
     let (k, rank_accuracy) = levels[0].parameters();
-    let blank = Compactor::new(*room.up.allocator(), 0, k, rank_accuracy);
+    let blank = Compactor::new(alloc, 0, k, rank_accuracy);
+    let mut merged = Vec::with_capacity(alloc, count)?;
     let (mut came, mut most) = (more, 0);
     for level in 0..count {
         let here = count_at(levels, level) + count_at(others, level) + came;
-        let taken = count_to_take_at(levels, others, level, came, &blank);
-        let own = &mut room.rooms[level];
-        if level < others.len() {
-            own.take_clones(others[level].items_slice(), here)?;
-        }
-        own.reserve(here, came)?;
+        let risen = came.min(level);
+        let space = if risen > 0 { here } else { 0 };
+        merged.push_reserved(Vec::with_capacity(alloc, space)?);
         most = most.max(here);
-        came = taken / 2;
+        came = count_to_take_at(levels, others, level, came, &blank) / 2;
     }
-    room.coming.clear();
-    room.up.clear();
-    room.coming.reserve_exact(most)?;
-    room.up.reserve_exact(room.coming.capacity())
+    let coming = Vec::with_capacity(alloc, most)?;
+    let up = Vec::with_capacity(alloc, coming.capacity())?;
+    Ok(WalkBuffers { coming, up, merged })
 }
 
 /// Adds an empty level at the top if `level` is the number of levels.
@@ -120,31 +121,31 @@ pub(super) fn add_level<T: Clone + Ord>(
 /// counting what comes up from the level below. A level that is added isn't compacted.
 pub(super) fn walk<T: Clone + Ord, B: RandomBits>(
     levels: &mut Vec<Compactor<T>>,
-    room: &mut MergeRoom<T>,
+    buffers: &mut WalkBuffers<T>,
     coins: &mut B,
 )
     requires levels { AreHeld T.cmp levels.old.items }
     requires fits { weight_of (layouts_of levels.old.items) < 2 ^ 64 }
     requires few_items { retained_of (layouts_of levels.old.items) < 2 ^ 32 }
     requires spare { vec_len levels.old < vec_capacity levels.old }
-    requires empty { room.old.coming.items ≡ [] }
-    requires nothing { room.old.up.items ≡ [] }
-    requires fit { HaveSpace (k_of levels.old.items) (accuracy_of levels.old.items)
-        (layouts_of levels.old.items) room.old.rooms.items (vec_capacity room.old.coming) }
-    requires above { vec_capacity room.old.coming ≤ vec_capacity room.old.up }
+    requires empty { buffers.old.coming.items ≡ [] }
+    requires nothing { buffers.old.up.items ≡ [] }
+    requires fit { HaveSpace (k_of levels.old.items) (layouts_of levels.old.items)
+        (spaces_of buffers.old.merged.items) (vec_capacity buffers.old.coming) }
+    requires above { vec_capacity buffers.old.coming ≤ vec_capacity buffers.old.up }
     ensures acted { AreWalkedOver T.cmp B.bit B.next coins.old coins.new (k_of levels.old.items)
         (accuracy_of levels.old.items) levels.old.items levels.new.items }
 {
     let count = levels.len();
     for level in 0..count {
-        let merged = &mut room.rooms[level].merged;
-        levels[level].turn(&mut room.coming, &mut room.up, merged, coins);
-        std::mem::swap(&mut room.coming, &mut room.up);
+        let merged = &mut buffers.merged[level];
+        levels[level].turn(&mut buffers.coming, &mut buffers.up, merged, coins);
+        std::mem::swap(&mut buffers.coming, &mut buffers.up);
     }
-    if !room.coming.is_empty() {
+    if !buffers.coming.is_empty() {
         let (k, rank_accuracy) = levels[0].parameters();
         add_level(levels, count, k, rank_accuracy);
-        levels[count].absorb(&mut room.coming, &mut room.up);
+        levels[count].absorb(&mut buffers.coming, &mut buffers.up);
     }
 }
 
@@ -177,10 +178,9 @@ pub(super) fn append_and_walk<T: Clone + Ord, B: RandomBits>(
     ensures memory { IfErr result (λ e. e ≡ OutOfMemory) }
 {
     levels.reserve_exact(1)?;
-    let mut room = MergeRoom::new(*levels.allocator());
     let own = levels.as_slice();
-    reserve(own, &own[..0], 1, &mut room)?;
+    let mut buffers = reserve(*levels.allocator(), own, &own[..0], 1)?;
     levels[0].append(item)?;
-    walk(levels, &mut room, coins);
+    walk(levels, &mut buffers, coins);
     Ok(())
 }

@@ -1,35 +1,36 @@
 use Rattle.std.proofs.Common.{◌∙◌}
+use Rattle.sketch_base.specs.Queried.{IsPmf}
 use Rattle.quantile_sketches.specs.declared.answer.Refusal.TheVariants.{Sketch}
 use Rattle.quantile_sketches.specs.LineSteps.{AnswersMasses}
-use Rattle.quantile_sketches.specs.LineWords.{words, points_of}
+use Rattle.quantile_sketches.specs.LineWords.{items_in_line}
 use Rattle.quantile_sketches.proofs.SlotCalls.{asks-absent, asks-held, masses-refused, masses-error, masses-given}
 use Rattle.quantile_sketches.proofs.Slots.{error_is}
 use Rattle.quantile_sketches.proofs.table.Table.pmf.Goals as goal
 
 pub returns : goal.returns
 returns g c =
-    asks-held (λ s. AnswersMasses g.S.Family.behaviour (points_of (words c.args.line.now)) (g.S.Family.behaviour.pmf s (points_of (words c.args.line.now)) c.args.criteria)) c.args.slot.now c.in-Some.sketch _ c.in-Some.is
-    (masses-given g.S.Family.behaviour (points_of (words c.args.line.now)) (λ points. g.S.Family.behaviour.pmf c.in-Some.sketch points c.args.criteria)
+    asks-held (λ s. AnswersMasses g.S.Family.behaviour (items_in_line c.args.points) (IsPmf (g.S.Family.behaviour.queried s) (items_in_line c.args.points) c.args.criteria)) c.args.slot.now c.in-Some.sketch _ c.in-Some.is
+    (masses-given g.S.Family.behaviour (items_in_line c.args.points) (λ points. IsPmf (g.S.Family.behaviour.queried c.in-Some.sketch) points c.args.criteria)
     c.as_slice.result.now
-    (c.as_slice.ensures.value ∙ c.in_ok-points.ensures.points) c.in_ok-points.ensures.good _ c.in_ok-pmf_of.ensures)
+    (c.as_slice.ensures.value ∙ c.in_ok-points.ensures.items) c.in_ok-points.ensures.rise _ c.in_ok-pmf_of.ensures)
 
 pub returns-in_err-pmf_of : goal.returns-in_err-pmf_of
 returns-in_err-pmf_of g c =
     let r = c.from_residual-in_err-pmf_of in
-    asks-held (λ s. AnswersMasses g.S.Family.behaviour (points_of (words c.args.line.now)) (g.S.Family.behaviour.pmf s (points_of (words c.args.line.now)) c.args.criteria)) c.args.slot.now c.in-Some.sketch r.result c.in-Some.is
-    (masses-error g.S.Family.behaviour (points_of (words c.args.line.now)) (λ points. g.S.Family.behaviour.pmf c.in-Some.sketch points c.args.criteria)
+    asks-held (λ s. AnswersMasses g.S.Family.behaviour (items_in_line c.args.points) (IsPmf (g.S.Family.behaviour.queried s) (items_in_line c.args.points) c.args.criteria)) c.args.slot.now c.in-Some.sketch r.result c.in-Some.is
+    (masses-error g.S.Family.behaviour (items_in_line c.args.points) (λ points. IsPmf (g.S.Family.behaviour.queried c.in-Some.sketch) points c.args.criteria)
     c.as_slice.result.now
-    (c.as_slice.ensures.value ∙ c.in_ok-points.ensures.points) c.in_ok-points.ensures.good r.result c.in_err-pmf_of.field-0.0
+    (c.as_slice.ensures.value ∙ c.in_ok-points.ensures.items) c.in_ok-points.ensures.rise r.result c.in_err-pmf_of.field-0.0
     (error_is r.result (Sketch c.in_err-pmf_of.field-0.0) r.ensures.1) c.in_err-pmf_of.ensures)
 
 pub returns-in_err-points : goal.returns-in_err-points
 returns-in_err-points g c =
     let r = c.from_residual in
-    let points = points_of (words c.args.line.now) in
-    asks-held (λ s. AnswersMasses g.S.Family.behaviour (points_of (words c.args.line.now)) (g.S.Family.behaviour.pmf s (points_of (words c.args.line.now)) c.args.criteria)) c.args.slot.now c.in-Some.sketch r.result c.in-Some.is
-    (masses-refused g.S.Family.behaviour points (g.S.Family.behaviour.pmf c.in-Some.sketch points c.args.criteria) r.result c.in_err-points.field-0.0
+    let points = items_in_line c.args.points in
+    asks-held (λ s. AnswersMasses g.S.Family.behaviour (items_in_line c.args.points) (IsPmf (g.S.Family.behaviour.queried s) (items_in_line c.args.points) c.args.criteria)) c.args.slot.now c.in-Some.sketch r.result c.in-Some.is
+    (masses-refused g.S.Family.behaviour points (IsPmf (g.S.Family.behaviour.queried c.in-Some.sketch) points c.args.criteria) r.result c.in_err-points.field-0.0
     (error_is r.result (Sketch c.in_err-points.field-0.0) r.ensures.1) c.in_err-points.ensures.refused)
 
 pub returns-in_default : goal.returns-in_default
 returns-in_default g c =
-    asks-absent (λ s. AnswersMasses g.S.Family.behaviour (points_of (words c.args.line.now)) (g.S.Family.behaviour.pmf s (points_of (words c.args.line.now)) c.args.criteria)) c.args.slot.now c.in_default.is
+    asks-absent (λ s. AnswersMasses g.S.Family.behaviour (items_in_line c.args.points) (IsPmf (g.S.Family.behaviour.queried s) (items_in_line c.args.points) c.args.criteria)) c.args.slot.now c.in_default.is

@@ -1,4 +1,3 @@
-use Rattle.quantile_sketches.specs.LineWords.{words}
 use Rattle.quantile_sketches.proofs.ReadItems.{read-shorter, rise-all, rise-first, rise-none, rise-off, rise-on}
 use Rattle.quantile_sketches.proofs.words.Words.items_rise.Goals as goal
 
@@ -6,11 +5,11 @@ pub loop-item-smaller : goal.loop-item-smaller
 loop-item-smaller c = read-shorter c.loop-item.words c.item-in-loop-item.new.self c.in-Some-item.item c.in-Some-item.ensures.value c.in-Some-item.ensures.rest
 
 pub returns-in_default : goal.returns-in_default
-returns-in_default c = rise-none (words c.self.inside.rest.now) c.args.self.now c.self.view_is c.in_default.ensures.value
+returns-in_default c = rise-none c.copy-words.result c.args.self.now c.copy-words.ensures c.in_default.ensures.value
 
 pub loop-item-init : goal.loop-item-init
 loop-item-init c =
-    rise-first (words c.self.inside.rest.now) c.item.new.self c.in-Some.last c.in-Some.ensures.value c.in-Some.ensures.rest c.args.self.now c.self.view_is
+    rise-first c.copy-words.result c.item.new.self c.in-Some.last c.in-Some.ensures.value c.in-Some.ensures.rest c.args.self.now c.copy-words.ensures
 
 pub loop-item-preserved : goal.loop-item-preserved
 loop-item-preserved c =

@@ -1,26 +1,15 @@
-use Rattle.std.proofs.Common.{◌≡◌, count_by, sym, subst}
-use Rattle.std.proofs.lemmas.List.Sums.{count_by-le-length}
+use Rattle.std.proofs.Common.{of_calls, rules}
+use Rattle.std.proofs.lemmas.List.Sorted.{IsPartitionPoint-from_clause}
 use Rattle.sketch_base.specs.Query.{counted}
-use Rattle.sketch_base.proofs.MovedCounts.{from-equal}
-use Rattle.sketch_base.proofs.QuantilePlaces.{sorted-split}
+use Rattle.sketch_base.proofs.Counts.{counted-parts}
+use Rattle.sketch_base.proofs.Entries.{counted-parted}
 use Rattle.sketch_base.proofs.common.counting.count_in_order.Goals as goal
 
-pub returns-in-Exclusive : goal.returns-in-Exclusive
-returns-in-Exclusive g c =
+pub returns : goal.returns
+returns g c =
+    let test = counted g.T.Ord.cmp c.args.query.now c.args.criteria in
     let items = c.args.items.now in
-    let count = subst (λ k. c.count_by_halves-in-Exclusive.result ≡ count_by (counted g.T.Ord.cmp c.args.query.now k) items) (sym c.in-Exclusive.is) c.count_by_halves-in-Exclusive.ensures in
-    record {
-      within = from-equal _ _ _ (sym count) (count_by-le-length (counted g.T.Ord.cmp c.args.query.now c.args.criteria) items);
-      parts = sorted-split g.met.T.Ord.total items c.args.query.now c.args.criteria _ c.requires.sorted count;
-      count = count;
-    }
-
-pub returns-in-Inclusive : goal.returns-in-Inclusive
-returns-in-Inclusive g c =
-    let items = c.args.items.now in
-    let count = subst (λ k. c.count_by_halves.result ≡ count_by (counted g.T.Ord.cmp c.args.query.now k) items) (sym c.in-Inclusive.is) c.count_by_halves.ensures in
-    record {
-      within = from-equal _ _ _ (sym count) (count_by-le-length (counted g.T.Ord.cmp c.args.query.now c.args.criteria) items);
-      parts = sorted-split g.met.T.Ord.total items c.args.query.now c.args.criteria _ c.requires.sorted count;
-      count = count;
-    }
+    let within = c.partition_point.ensures.bound in
+    let parts = IsPartitionPoint-from_clause test items c.partition_point.result c.partition_point.ensures.partitioned
+    (counted-parted g.met.T.Ord.total items c.args.query.now c.args.criteria c.requires.sorted) (λ a r q k. search (rules, of_calls)) in
+    record { within = within; parts = parts; count = counted-parts test items c.partition_point.result within parts }

@@ -1,4 +1,4 @@
-use Rattle.std.proofs.Common.{◌≡◌, ◌-◌, Bool, true, false, not, length, subst, sym, ap, ◌∙◌, arith, is_gt}
+use Rattle.std.proofs.Common.{◌≡◌, ◌-◌, Bool, true, false, not, length, subst, sym, ap, ◌∙◌, is_gt}
 use Rattle.std.proofs.ByRecursion.{All-get_or}
 use Rattle.std.proofs.lemmas.Bool.{false≢true}
 use Rattle.sketch_base.specs.Extremes.{IsBetween}
@@ -10,21 +10,6 @@ use Rattle.sketch_base.proofs.common.extremes.are_between_if.Goals as goal
 truth-not : (b c : Bool) → not b ≡ c → b ≡ not c
 truth-not true c e = ap not e
 truth-not false c e = ap not e
-
-pub returns : goal.returns
-returns g c = c.are_between.ensures
-
-pub bounds-items-0 : goal.bounds-items-0
-bounds-items-0 g c = c.if-count-gt0.true
-
-pub overflow_sub-count : goal.overflow_sub-count
-overflow_sub-count g c = c.if-count-gt0.true
-
-pub offset_bounds-items-count : goal.offset_bounds-items-count
-offset_bounds-items-count g c = grind arith
-
-pub bounds-items-count : goal.bounds-items-count
-bounds-items-count g c = last-within _ c.if-count-gt0.true
 
 pub returns-then-count-gt0 : goal.returns-then-count-gt0
 returns-then-count-gt0 g c =

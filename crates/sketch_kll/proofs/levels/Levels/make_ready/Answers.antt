@@ -1,6 +1,5 @@
-use Rattle.std.proofs.Common.{◌≡◌, ◌+◌, ◌<◌, ◌≤◌, ℕ, List, length, get_or, take, drop, ap, ap₂, arith, refl, ◌∙◌, length-append, take-append-drop}
+use Rattle.std.proofs.Common.{arith, ◌≡◌, ◌+◌, ◌<◌, ◌≤◌, ℕ, List, length, get_or, take, drop, ap, ap₂, refl, ◌∙◌, length-append, take-append-drop}
 use Rattle.std.proofs.lemmas.Grind.{get_or_default_zero}
-use Rattle.std.proofs.lemmas.Result.{IfOk-from_err}
 use Rattle.sketch_kll.specs.Flat.{levels_in}
 use Rattle.sketch_kll.specs.Levels.{retained}
 use Rattle.sketch_kll.specs.Stored.{Stored}
@@ -9,17 +8,36 @@ use Rattle.sketch_kll.proofs.LevelClones.{same_clones, cloned}
 use Rattle.sketch_kll.proofs.StoredLevels.{kept_still, clones_told}
 use Rattle.sketch_kll.proofs.levels.Levels.make_ready.Goals as goal
 
+some_held : {own len n : ℕ} → own ≡ len → len ≡ n + 1 → 0 < n → 1 < own
+some_held own is some = omega (arith, own, is, some)
+
+pub index-requires : goal.index-requires
+index-requires g c =
+    let x = c.others.inside in
+    some_held x.bounds.ok.0 (length-bounds x.items.items x.bounds.items c.others.invariant.flat) c.others.invariant.some
+
 some_of : {len n : ℕ} → len ≡ n + 1 → 0 < n → 1 < len
 some_of is some = omega (arith, is, some)
 
-some_held : {own len n : ℕ} → own ≡ len → len ≡ n + 1 → 0 < n → 1 < own
-some_held own is some = omega (arith, own, is, some)
+within_of : {at from held len own : ℕ} → at ≡ from → from ≤ held → len ≡ own → own ≡ held → at ≤ len
+within_of at within len own = omega (arith, at, within, len, own)
+
+-- where level 0 begins
+begins_at : {from : ℕ} (bounds : List ℕ) {n : ℕ} → length bounds ≡ n + 1 → 0 < n → from ≡ get_or bounds 1 from → from ≡ get_or bounds 1 0
+begins_at {from} bounds is some from_is = from_is ∙ get_or_default_zero bounds 1 from (some_of is some)
+
+pub split_off-requires : goal.split_off-requires
+split_off-requires g c =
+    let x = c.others.inside in
+    let flat = c.others.invariant.flat in
+    let from = begins_at x.bounds.items (length-bounds x.items.items x.bounds.items flat) c.others.invariant.some c.index.ensures in
+    within_of from (bound_within x.items.items x.bounds.items flat 1) c.in_ok-upper.ensures.cases.1 x.items.ok.0
 
 few_of : {len n : ℕ} → len ≡ n + 1 → n ≤ 61 → len ≤ 62
 few_of is few = omega (arith, is, few)
 
-within_of : {at from held len own : ℕ} → at ≡ from → from ≤ held → len ≡ own → own ≡ held → at ≤ len
-within_of at within len own = omega (arith, at, within, len, own)
+pub reserve_merged-requires-clause-few : goal.reserve_merged-requires-clause-few
+reserve_merged-requires-clause-few g c = few_of (length-bounds c.self.inside.items.items c.self.inside.bounds.items c.self.invariant.flat) c.self.invariant.few
 
 room_of : {items count now own low room : ℕ} → items + count ≤ room → now ≡ own → items ≡ own → count ≡ low → now + low ≤ room
 room_of room now items low = omega (arith, room, now, items, low)
@@ -27,10 +45,6 @@ room_of room now items low = omega (arith, room, now, items, low)
 merged_of : (low upper : ℕ) {items count now own all room : ℕ} → items + count ≤ room → now ≡ own → items ≡ own → count ≡ all → low + upper ≡ all →
     now + low + upper ≤ room
 merged_of low upper room now items count both = omega (arith, room, now, items, count, both)
-
--- where level 0 begins
-begins_at : {from : ℕ} (bounds : List ℕ) {n : ℕ} → length bounds ≡ n + 1 → 0 < n → from ≡ get_or bounds 1 from → from ≡ get_or bounds 1 0
-begins_at {from} bounds is some from_is = from_is ∙ get_or_default_zero bounds 1 from (some_of is some)
 
 parts_of : {A : Type 0} (n : ℕ) (copy : List A) {xs ys : List A} {low upper len all : ℕ} → low ≡ length xs → xs ≡ drop n copy → upper ≡ length ys →
     ys ≡ take n copy → len ≡ length copy → len ≡ all →
@@ -63,28 +77,3 @@ returns g c =
       };
       clones = clones_told _ flat refl (ap (λ (y : Stored g.row.T.Denot). y.levels) c.others.view_is) split.same split.fits;
     }
-
-pub returns-in_err-merged : goal.returns-in_err-merged
-returns-in_err-merged g c =
-    let r = c.from_residual-in_err-merged.result in
-    let err = c.from_residual-in_err-merged.ensures.0 in
-    record {
-      kept = kept_still c.self.view_is c.reserve_merged.ensures.items c.reserve_merged.ensures.bounds;
-      ready = IfOk-from_err r _ err;
-      clones = IfOk-from_err r _ err;
-    }
-
-pub reserve_merged-requires-clause-few : goal.reserve_merged-requires-clause-few
-reserve_merged-requires-clause-few g c = few_of (length-bounds c.self.inside.items.items c.self.inside.bounds.items c.self.invariant.flat) c.self.invariant.few
-
-pub index-requires : goal.index-requires
-index-requires g c =
-    let x = c.others.inside in
-    some_held x.bounds.ok.0 (length-bounds x.items.items x.bounds.items c.others.invariant.flat) c.others.invariant.some
-
-pub split_off-requires : goal.split_off-requires
-split_off-requires g c =
-    let x = c.others.inside in
-    let flat = c.others.invariant.flat in
-    let from = begins_at x.bounds.items (length-bounds x.items.items x.bounds.items flat) c.others.invariant.some c.index.ensures in
-    within_of from (bound_within x.items.items x.bounds.items flat 1) c.in_ok-upper.ensures.cases.1 x.items.ok.0

@@ -27,9 +27,9 @@ light_of low upper old p q r light = omega arith
 pub compress-requires-clause-light : goal.compress-requires-clause-light
 compress-requires-clause-light g c =
     let clones = cloned g (past.compress-requires-clause-light g c).After-as_slice-other_bounds in
-    let taken = c.take_all.ensures.taken in
+    let taken = c.update_all.ensures.taken in
     let upper : List (List g.row.T.Denot) = levels_in c.args.parts.upper.items (drop 1 c.as_slice-other_bounds.result.now) in
-    let sizes = joined_size g.T.Ord.cmp c.take_all.new.self.levels upper c.merge_higher_levels-old.new.self.levels taken.kept.some taken.kept.few
+    let sizes = joined_size g.T.Ord.cmp c.update_all.new.self.levels upper c.merge_higher_levels-old.new.self.levels taken.kept.some taken.kept.few
     (few_of _ clones.upper_are clones.few)
     c.merge_higher_levels-old.ensures.levels in
     light_of _ _ _ sizes.weighs taken.weighs clones.weighs c.requires.light
@@ -49,21 +49,21 @@ returns g c =
     let levels_are = ap (λ (xs : List g.row.T.Denot). levels_in xs c.self.inside.bounds.items) c.move_if_loose.ensures.items
     ∙ ap (λ (y : Stored g.row.T.Denot). y.levels) seen in
     record {
-      k = c.give_back-2.ensures.kept.k_is ∙ (ap (λ (y : Stored g.row.T.Denot). y.k) seen ∙ (made.kept.k_is ∙ (c.merge_higher_levels-old.ensures.k ∙ c.take_all.ensures.k)));
+      k = c.shrink-2.ensures.kept.k_is ∙ (ap (λ (y : Stored g.row.T.Denot). y.k) seen ∙ (made.kept.k_is ∙ (c.merge_higher_levels-old.ensures.k ∙ c.update_all.ensures.k)));
       merged = subst₂ (λ (f : Bool) (ms : List (List g.row.T.Denot)).
           HaveMerged g.T.Ord.cmp g.B.RandomBits.bit g.B.RandomBits.next c.args.coins.now c.compress.new.coins c.args.self.now.k c.args.self.now.is_sorted f
           c.args.self.now.levels c.args.others.now.levels ms)
-          (sym (c.give_back-2.ensures.kept.flag_is ∙ ap (λ (y : Stored g.row.T.Denot). y.is_sorted) seen))
-          (sym (c.give_back-2.ensures.kept.levels_are ∙ levels_are))
+          (sym (c.shrink-2.ensures.kept.flag_is ∙ ap (λ (y : Stored g.row.T.Denot). y.is_sorted) seen))
+          (sym (c.shrink-2.ensures.kept.levels_are ∙ levels_are))
           (merged_same g.met.T.Ord.total g.B.RandomBits.bit g.B.RandomBits.next c.args.coins.now c.compress.new.coins c.args.self.now.k
           c.args.self.now.is_sorted c.compress.new.self.is_sorted c.args.self.now.levels c.args.others.now.levels (c.args.parts.low.items ∷ upper)
           c.compress.new.self.levels c.requires.kept.some clones.same
-          (merged_by_calls g.T.Ord.cmp g.met.T.Ord.total g.B.RandomBits.bit g.B.RandomBits.next c.args.coins.now c.take_all.new.coins c.compress.new.coins
-          c.args.self.now.k c.merge_higher_levels-old.new.self.k c.args.self.now.is_sorted c.take_all.new.self.is_sorted
+          (merged_by_calls g.T.Ord.cmp g.met.T.Ord.total g.B.RandomBits.bit g.B.RandomBits.next c.args.coins.now c.update_all.new.coins c.compress.new.coins
+          c.args.self.now.k c.merge_higher_levels-old.new.self.k c.args.self.now.is_sorted c.update_all.new.self.is_sorted
           c.merge_higher_levels-old.new.self.is_sorted c.compress.new.self.is_sorted c.args.self.now.levels c.args.parts.low.items upper
-          c.take_all.new.self.levels c.merge_higher_levels-old.new.self.levels c.compress.new.self.levels
-          (c.merge_higher_levels-old.ensures.k ∙ c.take_all.ensures.k) c.merge_higher_levels-old.ensures.flag made.kept.flag_is
-          c.take_all.ensures.taken c.merge_higher_levels-old.ensures.levels c.requires.kept.some
+          c.update_all.new.self.levels c.merge_higher_levels-old.new.self.levels c.compress.new.self.levels
+          (c.merge_higher_levels-old.ensures.k ∙ c.update_all.ensures.k) c.merge_higher_levels-old.ensures.flag made.kept.flag_is
+          c.update_all.ensures.taken c.merge_higher_levels-old.ensures.levels c.requires.kept.some
           (some_upper clones.upper_are c.if-other_bounds-le2.false)
           made.levels made.bag made.coins made.few made.below made.sorted));
     }
@@ -73,17 +73,17 @@ returns-then-other_bounds-le2 g c =
     let clones = cloned g (past.returns-then-other_bounds-le2 g c).After-as_slice-other_bounds in
     let upper : List (List g.row.T.Denot) = levels_in c.args.parts.upper.items (drop 1 c.as_slice-other_bounds.result.now) in
     record {
-      k = c.give_back.ensures.kept.k_is ∙ c.take_all.ensures.k;
+      k = c.shrink.ensures.kept.k_is ∙ c.update_all.ensures.k;
       merged = subst₂ (λ (f : Bool) (ms : List (List g.row.T.Denot)).
-          HaveMerged g.T.Ord.cmp g.B.RandomBits.bit g.B.RandomBits.next c.args.coins.now c.take_all.new.coins c.args.self.now.k c.args.self.now.is_sorted f
+          HaveMerged g.T.Ord.cmp g.B.RandomBits.bit g.B.RandomBits.next c.args.coins.now c.update_all.new.coins c.args.self.now.k c.args.self.now.is_sorted f
           c.args.self.now.levels c.args.others.now.levels ms)
-          (sym c.give_back.ensures.kept.flag_is) (sym c.give_back.ensures.kept.levels_are)
-          (merged_same g.met.T.Ord.total g.B.RandomBits.bit g.B.RandomBits.next c.args.coins.now c.take_all.new.coins c.args.self.now.k
-          c.args.self.now.is_sorted c.take_all.new.self.is_sorted c.args.self.now.levels c.args.others.now.levels (c.args.parts.low.items ∷ upper)
-          c.take_all.new.self.levels c.requires.kept.some clones.same
-          (merged_only g.T.Ord.cmp g.met.T.Ord.total g.B.RandomBits.bit g.B.RandomBits.next c.args.coins.now c.take_all.new.coins c.args.self.now.k
-          c.args.self.now.is_sorted c.take_all.new.self.is_sorted c.args.self.now.levels c.args.parts.low.items upper c.take_all.new.self.levels
-          c.take_all.ensures.taken (none_upper clones.upper_are clones.some c.if-other_bounds-le2.true)));
+          (sym c.shrink.ensures.kept.flag_is) (sym c.shrink.ensures.kept.levels_are)
+          (merged_same g.met.T.Ord.total g.B.RandomBits.bit g.B.RandomBits.next c.args.coins.now c.update_all.new.coins c.args.self.now.k
+          c.args.self.now.is_sorted c.update_all.new.self.is_sorted c.args.self.now.levels c.args.others.now.levels (c.args.parts.low.items ∷ upper)
+          c.update_all.new.self.levels c.requires.kept.some clones.same
+          (merged_only g.T.Ord.cmp g.met.T.Ord.total g.B.RandomBits.bit g.B.RandomBits.next c.args.coins.now c.update_all.new.coins c.args.self.now.k
+          c.args.self.now.is_sorted c.update_all.new.self.is_sorted c.args.self.now.levels c.args.parts.low.items upper c.update_all.new.self.levels
+          c.update_all.ensures.taken (none_upper clones.upper_are clones.some c.if-other_bounds-le2.true)));
     }
 
 pub merge_higher_levels-old-requires-clause-upper_sorted : goal.merge_higher_levels-old-requires-clause-upper_sorted
@@ -96,7 +96,7 @@ merge_higher_levels-old-requires-clause-few g c = (cloned g (past.merge_higher_l
 pub compress-requires-clause-flag : goal.compress-requires-clause-flag
 compress-requires-clause-flag g c =
     let higher = c.merge_higher_levels-old.ensures in
-    let levels = c.take_all.new.self.levels in
+    let levels = c.update_all.new.self.levels in
     let upper : List (List g.row.T.Denot) = levels_in c.args.parts.upper.items (drop 1 c.as_slice-other_bounds.result.now) in
     λ h. first-same g.T.Ord.cmp g.met.T.Ord.total (joined g.T.Ord.cmp levels upper) c.merge_higher_levels-old.new.self.levels higher.levels
-    (joined-first g.T.Ord.cmp g.met.T.Ord.total levels upper (c.take_all.ensures.taken.kept.flag_holds (subst (λ (f : Bool). IsTrue f) higher.flag h)))
+    (joined-first g.T.Ord.cmp g.met.T.Ord.total levels upper (c.update_all.ensures.taken.kept.flag_holds (subst (λ (f : Bool). IsTrue f) higher.flag h)))

@@ -1,39 +1,15 @@
-use Rattle.std.proofs.Common.{◌≡◌, ℕ, List, ◌+◌, ◌-◌, ◌<◌, ◌≤◌, ◌++◌, suc, length, get_or, take, drop, reverse, refl, sym, ap, ap₂, subst, subst₂, ◌∙◌, arith, append_assoc, length-append, length-drop, length-take-le, le_refl, take-append-drop}
+use Rattle.std.proofs.Common.{arith, ◌≡◌, ℕ, List, ◌+◌, ◌-◌, ◌<◌, ◌≤◌, ◌++◌, suc, length, get_or, take, drop, reverse, refl, sym, ap, ap₂, subst, subst₂, ◌∙◌, append_assoc, length-append, length-drop, length-take-le, le_refl, take-append-drop}
 use Rattle.std.proofs.lemmas.List.{length-reverse}
 use Rattle.sketch_base.proofs.Pourings.{reverse_back}
 use Rattle.sketch_kll.specs.Flat.{levels_in}
 use Rattle.sketch_kll.proofs.Flats.{bound_at, bound_within, length-bounds}
 use Rattle.sketch_kll.proofs.JoinedLevels.{AreJoining, IsRunAt, NextRuns, run_at, next_runs, joining_start, joining_more, joining_end, moved_run}
+use Rattle.sketch_kll.proofs.levels.merging.merge_runs_back.Goals.{After-move_back}
 use Rattle.sketch_kll.proofs.levels.merging.merge_runs_back.Goals as goal
 use Rattle.sketch_kll.proofs.levels.merging.merge_runs_back.Goals.at as past
-use Rattle.sketch_kll.proofs.levels.merging.merge_runs_back.Goals.{After-move_back}
-
--- what is moved back is in both no more and no less
-moved_count : {A : Type 0} (keep : ℕ) (from to : List A) {from' to' : List A} → from' ≡ take keep from → to' ≡ to ++ reverse (drop keep from) →
-    keep ≤ length from →
-    length to' + length from' ≡ length to + length from
-moved_count keep from to e f within =
-    omega (
-      arith,
-      ap length e,
-      length-take-le keep from within,
-      ap length f,
-      length-append to (reverse (drop keep from)),
-      length-reverse (drop keep from),
-      length-drop keep from,
-    )
 
 some_levels : (l : ℕ) {n runs : ℕ} → n ≡ l + 1 → runs ≤ n → 2 ≤ runs → 0 < l
 some_levels l n fewer some = omega (arith, n, fewer, some)
-
-fewer_levels : (l u : ℕ) {n m runs : ℕ} → n ≡ l + 1 → m ≡ u + 1 → m ≡ runs - 1 → runs ≤ n → 2 ≤ runs → u < l
-fewer_levels l u n m runs fewer some = omega (arith, n, m, runs, fewer, some)
-
-all_joined : (u : ℕ) {m runs level : ℕ} → m ≡ u + 1 → m ≡ runs - 1 → runs - 1 ≤ level → 2 ≤ runs → u ≤ level - 1
-all_joined u m runs end some = omega (arith, m, runs, end, some)
-
-there : {level runs n : ℕ} → level < runs - 1 → runs ≤ n → level < n
-there lt fewer = omega (arith, lt, fewer)
 
 -- what is left to join after the items of a level are moved
 joining : (g : _) (c : After-move_back g) →
@@ -54,13 +30,6 @@ runs g c =
     next_runs c.loop-level.level c.args.other_bounds.now c.requires.flat c.requires.upper c.requires.sorted c.requires.upper_sorted
     c.loop-level.invariant.within (joining g c)
 
--- how many items there are then
-counted : (g : _) (c : After-move_back g) →
-    length c.move_back.new.to.items + length c.move_back.new.from.items ≡ length c.loop-level.merged.items + length c.loop-level.items.items
-counted g c =
-    moved_count (get_or c.args.bounds.now c.loop-level.level 0) c.loop-level.items.items c.loop-level.merged.items c.move_back.ensures.from
-    c.move_back.ensures.to c.loop-level.invariant.below
-
 none_moved : (own up : ℕ) {to : ℕ} → to ≡ 0 → to + own + up ≡ own + up
 none_moved own up none = omega (arith, none)
 
@@ -79,6 +48,40 @@ loop-level-init g c =
       joining = joining_start g.met.T.Ord.total (some_levels _ n c.requires.fewer c.requires.some) r.rest (sym c.requires.upper.items_are)
           (reverse_back c.args.merged.now.items first ∙ ap₂ (λ (x y : List g.row.T.Denot). x ++ y) r.run (ap reverse c.requires.empty));
     }
+
+pub merge_from_back-requires-clause-left : goal.merge_from_back-requires-clause-left
+merge_from_back-requires-clause-left g c = (runs g (past.merge_from_back-requires-clause-left g c).After-move_back).left_at.within
+
+pub merge_from_back-requires-clause-right : goal.merge_from_back-requires-clause-right
+merge_from_back-requires-clause-right g c = (runs g (past.merge_from_back-requires-clause-right g c).After-move_back).right_at.within
+
+pub merge_from_back-requires-clause-left_sorted : goal.merge_from_back-requires-clause-left_sorted
+merge_from_back-requires-clause-left_sorted g c = (runs g (past.merge_from_back-requires-clause-left_sorted g c).After-move_back).left_sorted
+
+pub merge_from_back-requires-clause-right_sorted : goal.merge_from_back-requires-clause-right_sorted
+merge_from_back-requires-clause-right_sorted g c = (runs g (past.merge_from_back-requires-clause-right_sorted g c).After-move_back).right_sorted
+
+-- what is moved back is in both no more and no less
+moved_count : {A : Type 0} (keep : ℕ) (from to : List A) {from' to' : List A} → from' ≡ take keep from → to' ≡ to ++ reverse (drop keep from) →
+    keep ≤ length from →
+    length to' + length from' ≡ length to + length from
+moved_count keep from to e f within =
+    omega (
+      arith,
+      ap length e,
+      length-take-le keep from within,
+      ap length f,
+      length-append to (reverse (drop keep from)),
+      length-reverse (drop keep from),
+      length-drop keep from,
+    )
+
+-- how many items there are then
+counted : (g : _) (c : After-move_back g) →
+    length c.move_back.new.to.items + length c.move_back.new.from.items ≡ length c.loop-level.merged.items + length c.loop-level.items.items
+counted g c =
+    moved_count (get_or c.args.bounds.now c.loop-level.level 0) c.loop-level.items.items c.loop-level.merged.items c.move_back.ensures.from
+    c.move_back.ensures.to c.loop-level.invariant.below
 
 lower_of : (ls : ℕ) {level runs bounds : ℕ} → level < runs - 1 → bounds ≡ ls + 1 → runs ≤ bounds → 1 ≤ level → suc (level - 1) < ls
 lower_of ls lt n fewer some = omega (arith, lt, n, fewer, some)
@@ -126,6 +129,12 @@ loop-level-preserved g c =
           (moved_run c.move_back.new.to.items to (to ++ reverse (drop kl left)) (drop kl left) e.to refl) r.left_at.run r.right_at.run e.moved e.sorted (joining g at));
     }
 
+fewer_levels : (l u : ℕ) {n m runs : ℕ} → n ≡ l + 1 → m ≡ u + 1 → m ≡ runs - 1 → runs ≤ n → 2 ≤ runs → u < l
+fewer_levels l u n m runs fewer some = omega (arith, n, m, runs, fewer, some)
+
+all_joined : (u : ℕ) {m runs level : ℕ} → m ≡ u + 1 → m ≡ runs - 1 → runs - 1 ≤ level → 2 ≤ runs → u ≤ level - 1
+all_joined u m runs end some = omega (arith, m, runs, end, some)
+
 -- all that is left is moved at once
 last_moved : {A : Type 0} (b : ℕ) (items merged : List A) {all : List A} → all ≡ merged ++ reverse items →
     reverse all ≡ take b items ++ reverse (merged ++ reverse (drop b items))
@@ -144,15 +153,3 @@ returns g c =
     (sym c.requires.upper.bounds_are)
     (last_moved (get_or c.args.bounds.now c.loop-level.level 0) c.loop-level.items.items c.loop-level.merged.items c.move_back-2.ensures.to) i.joining in
     record { flat = r.fits; levels = r.same; sorted = r.sorted }
-
-pub merge_from_back-requires-clause-left : goal.merge_from_back-requires-clause-left
-merge_from_back-requires-clause-left g c = (runs g (past.merge_from_back-requires-clause-left g c).After-move_back).left_at.within
-
-pub merge_from_back-requires-clause-right : goal.merge_from_back-requires-clause-right
-merge_from_back-requires-clause-right g c = (runs g (past.merge_from_back-requires-clause-right g c).After-move_back).right_at.within
-
-pub merge_from_back-requires-clause-left_sorted : goal.merge_from_back-requires-clause-left_sorted
-merge_from_back-requires-clause-left_sorted g c = (runs g (past.merge_from_back-requires-clause-left_sorted g c).After-move_back).left_sorted
-
-pub merge_from_back-requires-clause-right_sorted : goal.merge_from_back-requires-clause-right_sorted
-merge_from_back-requires-clause-right_sorted g c = (runs g (past.merge_from_back-requires-clause-right_sorted g c).After-move_back).right_sorted

@@ -104,8 +104,8 @@ module _ {A S : Type 0} (cmp : A → A → Ordering) (bit : S → Bool) (next : 
     sound = fields.sound;
   }
 
-pub take_all-requires-clause-light : goal.take_all-requires-clause-light
-take_all-requires-clause-light g c =
+pub update_all-requires-clause-light : goal.update_all-requires-clause-light
+update_all-requires-clause-light g c =
     let x = c.self.inside in
     let clones = c.in_ok-clones.clones.items in
     let same = length-same g.T.Ord.cmp c.args.items.now clones c.in_ok-clones.ensures.clones in
@@ -114,32 +114,32 @@ take_all-requires-clause-light g c =
     (sum_of _ c.if-count-self.false (some_of _ c.if-count-eq0.false))
 
 -- what the updates make of the fields
-made : (g : Over) (c : After-set_if_some-2 g) → let x = c.self.inside in let new = c.give_back.new.self in
-    UpdatesFields g.met.T.Ord.total g.B.RandomBits.bit g.B.RandomBits.next c.args.coins.now c.take_all.new.coins
+made : (g : Over) (c : After-set_if_some-2 g) → let x = c.self.inside in let new = c.shrink.new.self in
+    UpdatesFields g.met.T.Ord.total g.B.RandomBits.bit g.B.RandomBits.next c.args.coins.now c.update_all.new.coins
     (sketch_of x.levels.k x.min_k x.n x.levels.is_sorted x.levels.levels x.min_item x.max_item) c.args.items.now
     (sketch_of new.k x.min_k (x.n + length c.args.items.now) new.is_sorted new.levels c.set_if_some.new.place c.set_if_some-2.new.place)
 made g c =
     let x = c.self.inside in
     let old = c.prepare_all.new.self in
-    let new = c.give_back.new.self in
+    let new = c.shrink.new.self in
     let kept = c.prepare_all.ensures.kept in
     let told = c.in_ok-clones.ensures in
-    let last = c.give_back.ensures.kept in
-    updates_fields g.met.T.Ord.total g.B.RandomBits.bit g.B.RandomBits.next {source = c.args.coins.now} {after = c.take_all.new.coins}
+    let last = c.shrink.ensures.kept in
+    updates_fields g.met.T.Ord.total g.B.RandomBits.bit g.B.RandomBits.next {source = c.args.coins.now} {after = c.update_all.new.coins}
     {items = c.args.items.now} {clones = c.in_ok-clones.clones.items} {k = new.k} {old_k = old.k} {old_flag = old.is_sorted} {flag = new.is_sorted}
     {rows = old.levels} {ms = new.levels} {least = newer_or c.in_ok-clones.least x.min_item} {greatest = newer_or c.in_ok-clones.greatest x.max_item}
     {kept_least = c.set_if_some.new.place} {kept_greatest = c.set_if_some-2.new.place}
-    c.self.invariant (some_of _ c.if-count-eq0.false) told.clones kept.k_is kept.flag_is kept.levels_are (last.k_is ∙ c.take_all.ensures.k)
-    (rw (last.flag_is, last.levels_are) c.take_all.ensures.taken) told.least c.set_if_some.ensures told.greatest c.set_if_some-2.ensures
+    c.self.invariant (some_of _ c.if-count-eq0.false) told.clones kept.k_is kept.flag_is kept.levels_are (last.k_is ∙ c.update_all.ensures.k)
+    (rw (last.flag_is, last.levels_are) c.update_all.ensures.taken) told.least c.set_if_some.ensures told.greatest c.set_if_some-2.ensures
 
 pub returns : goal.returns
 returns g c =
     let x = c.self.inside in
-    let new = c.give_back.new.self in
+    let new = c.shrink.new.self in
     let count = length c.args.items.now in
     let some = some_of _ c.if-count-eq0.false in
     some_taken g.T.Ord.cmp g.B.RandomBits.bit g.B.RandomBits.next c.args.self.now c.args.items.now c.args.coins.now {o = g.met.T.Ord.total}
-    (sketch_of new.k x.min_k (x.n + count) new.is_sorted new.levels c.set_if_some.new.place c.set_if_some-2.new.place) c.take_all.new.coins
+    (sketch_of new.k x.min_k (x.n + count) new.is_sorted new.levels c.set_if_some.new.place c.set_if_some-2.new.place) c.update_all.new.coins
     (updates_seen g.met.T.Ord.total c.self.view_is (made g (past.returns g c).After-set_if_some-2)) some
     (heavy_not {x = x.n} {a = c.args.self.now.n} count (sum_of x.n c.if-count-self.false some) (ap (λ (k : Kll g.row.T.Denot). k.n) c.self.view_is))
 

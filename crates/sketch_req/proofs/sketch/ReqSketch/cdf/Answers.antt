@@ -1,31 +1,35 @@
-use Rattle.std.proofs.Common.{ℕ, ◌+◌, ◌<◌, ◌≤◌, ◌≡◌, ◌++◌, [], ◌∷◌, Err, IfOk, length, map, arith, ap, subst, sym, ◌∙◌}
-use Rattle.sketch_base.specs.declared.error.ErrorKind.TheVariants.{OutOfMemory}
-use Rattle.sketch_base.specs.Answered.{EndsAt, IsFoundAmong, IsRefusedUnless}
+use Rattle.std.proofs.Common.{arith, ℕ, ◌+◌, ◌<◌, ◌≤◌, ◌≡◌, ◌++◌, [], ◌∷◌, refl, length, map, ap, subst, sym, ◌∙◌}
 use Rattle.sketch_base.specs.Bag.{expanded}
 use Rattle.sketch_base.specs.Query.{true_rank}
-use Rattle.sketch_base.specs.Queries.{IsIncreasing, ranks_of}
+use Rattle.sketch_base.specs.Queries.{ranks_of}
 use Rattle.sketch_base.proofs.Distributions.{ranks-end, ranks-more, ranks-last, ranks-rise}
 use Rattle.sketch_base.proofs.SketchViews.{cdf-result, length-expanded}
 use Rattle.sketch_req.specs.Actions.{bag_of}
 use Rattle.sketch_req.proofs.Equations.{same_number}
-use Rattle.sketch_base.proofs.Exits.{no_found, returned}
-use Rattle.sketch_base.proofs.RefusedCalls.{fit_answer, fit_short, some_among, some_now, some_of, unfit_refused}
+use Rattle.sketch_base.proofs.Answered.{answer}
+use Rattle.sketch_base.proofs.RefusedCalls.{some_now}
 use Rattle.sketch_req.proofs.sketch.ReqSketch.cdf.Given.{Over}
 use Rattle.sketch_req.proofs.sketch.ReqSketch.cdf.Goals.{After-allocator-alloc, After-push_reserved-2}
 use Rattle.sketch_req.proofs.sketch.ReqSketch.cdf.Goals as goal
 use Rattle.sketch_req.proofs.sketch.ReqSketch.cdf.Goals.at as past
 
+-- the ranks
+ranks : (g : Over) (c : After-push_reserved-2 g) →
+    c.push_reserved-2.new.self.items
+    ≡ ranks_of c.args.self.now.n (map (λ y. true_rank g.T.Ord.cmp y c.args.criteria (expanded g.T.Ord.cmp (bag_of c.args.self.now.levels))) c.args.points.now ++ c.args.self.now.n ∷ [])
+ranks g c =
+    let s = c.args.self.now in
+    ranks-last _ s.n c.args.points.now c.loop-point.point-index _ c.push_reserved-2.new.self.items c.loop-point-test.false c.loop-point.invariant.told
+    (c.push_reserved-2.ensures.items ∙ ap (λ (t : ℕ). c.loop-point.ranks.items ++ record { weight = t; total = t } ∷ []) c.n-total.ensures.value)
+
+pub returns-then-total-eq0-clause-ranks : goal.returns-then-total-eq0-clause-ranks
+returns-then-total-eq0-clause-ranks g c =
+    let told = c.cdf-then-total-eq0.ensures in
+    let view = c.in_ok-sorted_view.ensures.view in
+    cdf-result g.met.T.Ord.total view c.args.criteria c.args.points.now c.cdf-then-total-eq0.result told.ranks
+
 one_more : {i n : ℕ} → i < n → i + 1 ≤ n
 one_more less = omega (arith, less)
-
-at_first : (n : ℕ) → 0 ≤ n
-at_first n = omega arith
-
-above : {n m : ℕ} → n + 1 ≤ m → n < m
-above room = omega (arith, room)
-
-pub bounds-points-point-index : goal.bounds-points-point-index
-bounds-points-point-index g c = c.loop-point-test.true
 
 pub loop-point-preserved : goal.loop-point-preserved
 loop-point-preserved g c =
@@ -42,54 +46,9 @@ loop-point-preserved g c =
       room = subst (λ (n : ℕ). length c.args.points.now < n) (sym pushed.capacity) i.room;
     }
 
-pub returns-in_err-check_points : goal.returns-in_err-check_points
-returns-in_err-check_points g c =
-    let told = c.in_err-check_points.ensures in
-    let e = returned c.from_residual.result _ c.from_residual.ensures.1 ∙ ap Err told.kind in
-    record { found = no_found _ e; ends = no_found _ e; rises = no_found _ e; there = no_found _ e; refused = unfit_refused _ e told.bad }
-
-pub sorted_view-requires : goal.sorted_view-requires
-sorted_view-requires g c = record { clones = c.requires.clones }
-
-pub returns-in_err-sorted_view : goal.returns-in_err-sorted_view
-returns-in_err-sorted_view g c =
-    let told = c.in_err-sorted_view.ensures in
-    let e = returned c.from_residual-in_err-sorted_view.result _ c.from_residual-in_err-sorted_view.ensures.1 ∙ ap Err told.memory in
-    record { found = no_found _ e; ends = no_found _ e; rises = no_found _ e; there = no_found _ e; refused = fit_short e c.in_ok-check_points.ensures.good (some_of told.some) }
-
--- the view's answer
-pub returns-then-total-eq0 : goal.returns-then-total-eq0
-returns-then-total-eq0 g c =
-    let s = c.args.self.now in
-    let told = c.cdf-then-total-eq0.ensures in
-    let weighs = c.in_ok-sorted_view.ensures.view.weighs_n in
-    record {
-      found = cdf-result g.met.T.Ord.total (bag_of s.levels) s.n s.least s.greatest c.in_ok-sorted_view.field-0 c.in_ok-sorted_view.ensures.view
-          c.args.criteria c.args.points.now c.cdf-then-total-eq0.result told.found;
-      ends = subst (λ (n : ℕ). IfOk c.cdf-then-total-eq0.result (EndsAt (length c.args.points.now) n)) weighs told.ends;
-      rises = told.rises;
-      there = subst (λ (n : ℕ). IfOk c.cdf-then-total-eq0.result (IsFoundAmong n)) weighs told.there;
-      refused = subst (λ (n : ℕ). IsRefusedUnless (IsIncreasing g.T.Ord.cmp c.args.points.now) n c.cdf-then-total-eq0.result) weighs told.refused;
-    }
-
 -- the sketch has items
 some : (g : Over) (c : After-allocator-alloc g) → 0 < c.args.self.now.n
 some g c = some_now c.n-total.ensures.value c.if-total-eq0.false
-
-pub returns-in_err-ranks : goal.returns-in_err-ranks
-returns-in_err-ranks g c =
-    let e = returned c.from_residual-in_err-ranks.result OutOfMemory c.from_residual-in_err-ranks.ensures.1 in
-    let some = some g (past.returns-in_err-ranks g c).After-allocator-alloc in
-    record { found = no_found _ e; ends = no_found _ e; rises = no_found _ e; there = no_found _ e; refused = fit_short e c.in_ok-check_points.ensures.good some }
-
--- the ranks
-ranks : (g : Over) (c : After-push_reserved-2 g) →
-    c.push_reserved-2.new.self.items
-    ≡ ranks_of c.args.self.now.n (map (λ y. true_rank g.T.Ord.cmp y c.args.criteria (expanded g.T.Ord.cmp (bag_of c.args.self.now.levels))) c.args.points.now ++ c.args.self.now.n ∷ [])
-ranks g c =
-    let s = c.args.self.now in
-    ranks-last _ s.n c.args.points.now c.loop-point.point-index _ c.push_reserved-2.new.self.items c.loop-point-test.false c.loop-point.invariant.told
-    (c.push_reserved-2.ensures.items ∙ ap (λ (t : ℕ). c.loop-point.ranks.items ++ record { weight = t; total = t } ∷ []) c.n-total.ensures.value)
 
 pub returns : goal.returns
 returns g c =
@@ -99,24 +58,9 @@ returns g c =
     let ranks = ranks g (past.returns g c).After-push_reserved-2 in
     let whole : length entries ≡ s.n = length-expanded g.T.Ord.cmp (bag_of s.levels) ∙ (sym c.n-total.ensures.weight ∙ c.n-total.ensures.value) in
     let found = ranks ∙ ap (λ (m : ℕ). ranks_of s.n (map (λ y. true_rank g.T.Ord.cmp y c.args.criteria entries) c.args.points.now ++ m ∷ [])) (sym whole) in
+    let some = some g (past.returns g c).After-allocator-alloc in
     record {
-      found = found;
+      ranks = answer _ good (λ t. some, λ t. refl) found;
       ends = ranks-end _ s.n c.args.points.now _ ranks;
       rises = ranks-rise g.met.T.Ord.total c.args.criteria entries c.args.points.now _ _ good found;
-      there = some_among (some g (past.returns g c).After-allocator-alloc);
-      refused = fit_answer good;
     }
-
-pub loop-point-init : goal.loop-point-init
-loop-point-init g c = record {
-  told = c.in_ok-ranks.ensures.items;
-  len = c.in_ok-ranks.ensures.len;
-  within = at_first _;
-  room = above c.in_ok-ranks.ensures.capacity;
-}
-
-pub offset_bounds-points-point-index : goal.offset_bounds-points-point-index
-offset_bounds-points-point-index g c = grind arith
-
-pub overflow_add-points : goal.overflow_add-points
-overflow_add-points g c = grind arith

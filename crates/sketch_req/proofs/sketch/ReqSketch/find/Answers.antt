@@ -1,6 +1,5 @@
-use Rattle.std.proofs.Common.{◌≡◌, length, false, sym, subst, ◌∙◌, arith}
+use Rattle.std.proofs.Common.{arith, ◌≡◌, length, false, sym, subst, ◌∙◌}
 use Rattle.std.proofs.lemmas.Grind.{common_steps}
-use Rattle.std.proofs.lemmas.Bool.{false≢true}
 use Rattle.std.specs.Prelude.{Option, Some, IfSome, ◌==◌}
 use Rattle.sketch_base.specs.Bag.{expanded}
 use Rattle.sketch_base.specs.Queries.{SameAnswer}
@@ -19,12 +18,3 @@ returns-in_default-3-clause-same g c =
     let part : (f.weight == f.total) ≡ false = grind (arith, common_steps) in
     subst (λ (q : Option g.row.T.Denot). IfSome c.find_at.result (λ x. SameAnswer g.T.Ord.cmp q (Some x.now)))
     (quantile-at entries s.least s.greatest f.weight f.total c.n.result c.place_of.result c.args.criteria some part whole c.place_of.ensures.place) c.find_at.ensures
-
-pub returns-then-fraction-eq0 : goal.returns-then-fraction-eq0
-returns-then-fraction-eq0 g c = record { same = grind arith; some = c.min_item.ensures.there.0 }
-
-pub returns-then-fraction : goal.returns-then-fraction
-returns-then-fraction g c = record { same = grind arith; some = c.max_item.ensures.there.0 }
-
-pub returns-in-0 : goal.returns-in-0
-returns-in-0 g c = record { same = tt; some = λ is. absurd (false≢true is) }

@@ -1,17 +1,13 @@
-use Rattle.std.proofs.Common.{[], ◌∷◌, ◌≡◌, ◌<◌, ◌∙◌, length, refl, sym, ap, subst, List, None}
-use Rattle.sketch_base.specs.declared.error.ErrorKind.TheVariants.{OutOfMemory}
+use Rattle.std.proofs.Common.{◌≡◌, length, refl, sym, ap, subst, List, None}
 use Rattle.sketch_base.specs.Extremes.{IsGreatestOf, IsLeastOf, newer_or}
 use Rattle.sketch_req.specs.Sketch.{Req, IsSound, sketch_of}
 use Rattle.sketch_req.specs.Image.{accuracy_in, IsTold}
-use Rattle.sketch_req.specs.Level.{Level}
-use Rattle.sketch_req.specs.Walk.{AreLevels}
 use Rattle.sketch_req.specs.Held.{held_of}
 use Rattle.sketch_req.specs.declared.RankAccuracy.{RankAccuracy}
-use Rattle.sketch_base.proofs.Exits.{no_found, returned, with_error}
-use Rattle.sketch_req.proofs.Refusals.{one_counted, pushed_alone, same_sketch}
+use Rattle.sketch_req.proofs.Refusals.{pushed_alone, same_sketch}
 use Rattle.sketch_req.proofs.Sounds.{IsRebuilt, rebuilt}
 use Rattle.sketch_req.proofs.sketch.ReqSketch.from_level.Given.{Over}
-use Rattle.sketch_req.proofs.sketch.ReqSketch.from_level.Goals.{After-from_levels, After-new-levels}
+use Rattle.sketch_req.proofs.sketch.ReqSketch.from_level.Goals.{After-new-levels}
 use Rattle.sketch_req.proofs.sketch.ReqSketch.from_level.Goals as goal
 use Rattle.sketch_req.proofs.sketch.ReqSketch.from_level.Goals.at as past
 
@@ -42,57 +38,7 @@ module _ (g : Over) (c : After-new-levels g) where
   told : IsTold g.T.Ord.cmp c.args.header.now sketch
   told = record { k_is = refl; accuracy_is = refl; n_is = made.n_is; least_is = made.least_is; greatest_is = made.greatest_is }
 
-pub returns-in_err-ends : goal.returns-in_err-ends
-returns-in_err-ends g c =
-    let e = returned c.from_residual.result OutOfMemory c.from_residual.ensures.1 in
-    record { told = no_found _ e; memory = with_error _ e refl }
-
-pub returns-in_err-levels : goal.returns-in_err-levels
-returns-in_err-levels g c =
-    let e = returned c.from_residual-in_err-levels.result OutOfMemory c.from_residual-in_err-levels.ensures.1 in
-    record { told = no_found _ e; memory = with_error _ e refl }
-
 pub from_levels-requires : goal.from_levels-requires
 from_levels-requires g c =
     let before = (past.from_levels-requires g c).After-new-levels in
     subst (IsSound g.T.Ord.cmp) (sym (same g before)) (made g before).sound
-
--- the sketch that is made
-made_is : (g : Over) (c : After-from_levels g) → c.from_levels.result
-    ≡ sketch_of c.new-levels.result.k c.new-levels.result.accuracy (length c.items_slice-items.result.now) c.new-levels.result.levels c.in_ok-ends.ends.0 c.in_ok-ends.ends.1
-made_is g c = c.from_levels.ensures
-
--- it is of this level
-found : (g : Over) (c : After-from_levels g) →
-    let h = c.args.header.now in
-    let made = sketch_of h.k (accuracy_in h.flags) (length c.items_slice-items.result.now) c.push_reserved.new.self.items c.in_ok-ends.ends.0 c.in_ok-ends.ends.1 in
-    sketch_of c.new-levels.result.k c.new-levels.result.accuracy (length c.items_slice-items.result.now) c.new-levels.result.levels
-    c.in_ok-ends.ends.0 c.in_ok-ends.ends.1 ≡ made → IsTold g.T.Ord.cmp h made →
-    (c.from_levels.result.levels ≡ c.args.level ∷ []) × IsTold g.T.Ord.cmp h c.from_levels.result
-found g c same told = (
-  ap (λ (s : Req g.row.T.Denot). s.levels) (made_is g c ∙ same) ∙ (pushed_alone c.push_reserved.ensures.items c.in_ok-levels.ensures.items),
-  subst (IsTold g.T.Ord.cmp c.args.header.now) (sym (made_is g c ∙ same)) told,
-)
-
-pub returns : goal.returns
-returns g c =
-    let before = (past.returns g c).After-new-levels in
-    record { told = found g (past.returns g c).After-from_levels (same g before) (told g before); memory = tt }
-
-pub new-levels-requires-clause-levels : goal.new-levels-requires-clause-levels
-new-levels-requires-clause-levels g c =
-    let h = c.args.header.now in
-    subst (λ (a : RankAccuracy). AreLevels g.T.Ord.cmp h.k a 0 c.push_reserved.new.self.items) (sym c.rank_accuracy.ensures)
-    (subst (λ (ls : List (Level g.row.T.Denot)). AreLevels g.T.Ord.cmp h.k (accuracy_in h.flags) 0 ls) (sym (pushed_alone c.push_reserved.ensures.items c.in_ok-levels.ensures.items)) (c.requires.placed, tt))
-
-pub same-level : goal.same-level
-same-level g c = refl
-
-pub new-levels-requires-clause-some : goal.new-levels-requires-clause-some
-new-levels-requires-clause-some g c = one_counted (pushed_alone c.push_reserved.ensures.items c.in_ok-levels.ensures.items)
-
-pub clone_passing_extremes-requires-clause-clones : goal.clone_passing_extremes-requires-clause-clones
-clone_passing_extremes-requires-clause-clones g c = c.requires.clones
-
-pub clone_passing_extremes-requires-clause-some : goal.clone_passing_extremes-requires-clause-some
-clone_passing_extremes-requires-clause-some g c = subst (λ (xs : List g.row.T.Denot). 0 < length xs) (sym c.items_slice-items.ensures.value) c.requires.some

@@ -1,12 +1,10 @@
-use Rattle.std.proofs.Common.{arith}
-use Rattle.std.proofs.lemmas.Grind.{common_steps}
--- The sketch stays sound.
 use Rattle.sketch_base.specs.Random.{bits_from}
 use Rattle.sketch_req.specs.Schedule.{layouts_of, turning_levels}
 use Rattle.sketch_req.specs.Sketch.{sketch_of}
 use Rattle.sketch_req.proofs.RedrawnSketches.{redrawn-sound}
 use Rattle.sketch_req.proofs.sketch.ReqSketch.redraw_coins.Goals as goal
 
+-- The sketch stays sound.
 pub invariant_of-self : goal.invariant_of-self
 invariant_of-self g c =
     let inside = c.self.inside in
@@ -16,9 +14,3 @@ invariant_of-self g c =
 
 pub returns-clause-sound : goal.returns-clause-sound
 returns-clause-sound g c = invariant_of-self g c
-
-pub returns-clause-value : goal.returns-clause-value
-returns-clause-value g c = grind (arith, common_steps)
-
-pub returns-clause-coins : goal.returns-clause-coins
-returns-clause-coins g c = grind (arith, common_steps)

@@ -1,5 +1,3 @@
-use Rattle.std.proofs.Common.{arith}
-use Rattle.std.proofs.lemmas.Grind.{common_steps}
 use Rattle.sketch_req.proofs.MadeSketches.{empty_sound}
 use Rattle.sketch_req.proofs.sketch.ReqSketch.reset.Goals as goal
 
@@ -8,6 +6,3 @@ invariant_of-self g c = rw c.clear.ensures (empty_sound g.T.Ord.cmp _ _ c.self.i
 
 pub returns-clause-sound : goal.returns-clause-sound
 returns-clause-sound g c = invariant_of-self g c
-
-pub returns-clause-empty : goal.returns-clause-empty
-returns-clause-empty g c = grind (arith, common_steps)

@@ -1,12 +1,7 @@
--- The loop keeps that what it has drawn, and what is left to draw, make up the whole.
-use Rattle.std.proofs.Common.{◌≡◌, Bool, ℕ, ◌+◌, ap₂, drop, ◌<◌, List, length, length-set, set, refl, ◌∙◌, arith}
-use Rattle.std.proofs.lemmas.Grind.{common_steps}
+use Rattle.std.proofs.Common.{arith, ◌≡◌, Bool, ℕ, ◌+◌, ap₂, drop, ◌<◌, List, length, length-set, set, ◌∙◌}
 use Rattle.sketch_req.specs.Level.{Level}
 use Rattle.sketch_req.proofs.Redraws.{drawn_so_far, source_by, redrawn-more}
 use Rattle.sketch_req.proofs.sketch.levels.redraw_if.Goals as goal
-
-pub loop-level-init : goal.loop-level-init
-loop-level-init g c = record { len = omega (arith, c.len-level-end.ensures, c.args.levels.now.ok); levels = refl; coins = refl; room = refl }
 
 -- one more level that has drawn, and what is left to draw after it
 module _ {A S : Type 0} (bit : S → Bool) (next : S → S) (source after : S) (h : ℕ) (ls : List (Level A)) (new redrawn : Level A) where
@@ -33,9 +28,3 @@ loop-level-preserved g c =
           (more.1 ∙ i.coins);
       room = i.room;
     }
-
-pub returns : goal.returns
-returns g c = record { levels = grind (arith, common_steps); coins = grind (arith, common_steps); room = c.loop-level.invariant.room }
-
-pub returns-then-not-redraws : goal.returns-then-not-redraws
-returns-then-not-redraws g c = record { levels = grind (arith, common_steps); coins = grind (arith, common_steps); room = refl }

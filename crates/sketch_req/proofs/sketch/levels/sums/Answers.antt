@@ -1,10 +1,9 @@
--- The loop keeps the sums over the levels so far.
-use Rattle.std.proofs.Common.{◌≡◌, ℕ, ◌*◌, ◌+◌, ◌<◌, ◌≤◌, arith, refl}
-use Rattle.std.proofs.lemmas.Grind.{common_steps}
+use Rattle.std.proofs.Common.{arith, ◌≡◌, ℕ, ◌*◌, ◌+◌, ◌<◌, ◌≤◌, refl}
 use Rattle.sketch_req.specs.Schedule.{Layout, nominal}
 use Rattle.sketch_req.proofs.Totals.{sum-more, nominal-there}
 use Rattle.sketch_req.proofs.sketch.levels.sums.Goals as goal
 
+-- The loop keeps the sums over the levels so far.
 -- one more level holds few items
 few-more : (n m i : ℕ) → n ≤ i * 4294967295 → m < 4294967296 → n + m ≤ (i + 1) * 4294967295
 few-more n m i l s = omega (arith, l, s)
@@ -12,12 +11,6 @@ few-more n m i l s = omega (arith, l, s)
 -- one more level in a sum
 one-more : (n m all more sum own : ℕ) → more ≡ all + sum → n ≡ all → m ≡ own → own ≡ sum → n + m ≡ more
 one-more n m all more sum own e f h s = grind arith
-
-pub overflow_add-count : goal.overflow_add-count
-overflow_add-count g c = omega (arith, c.requires.few, c.loop-level-test.true, c.loop-level.invariant.few)
-
-pub overflow_add-sum : goal.overflow_add-sum
-overflow_add-sum g c = omega (arith, c.requires.few, c.loop-level-test.true, c.loop-level.invariant.small)
 
 pub loop-level-preserved : goal.loop-level-preserved
 loop-level-preserved g c =
@@ -32,6 +25,3 @@ loop-level-preserved g c =
       few = few-more _ _ _ i.few c.num_items.type_inv;
       small = few-more _ _ _ i.small c.nominal_capacity.type_inv;
     }
-
-pub returns : goal.returns
-returns g c = record { retained = grind (arith, common_steps); capacity = grind (arith, common_steps) }

@@ -1,7 +1,5 @@
 use Rattle.std.proofs.Common.{arith}
 use Rattle.quantile_sketches.proofs.family.req.ReqSketchFamily.rank_of.Goals as goal
 
-pub returns : goal.returns
-returns g c =
-    let is = c.rank.ensures in
-    record { exact = (is.empty, is.weight, is.total); weight = is.weight; empty = grind arith }
+pub returns-clause-empty : goal.returns-clause-empty
+returns-clause-empty g c = let there = c.rank.ensures.there in grind arith

@@ -1,4 +1,4 @@
-use Rattle.std.proofs.Common.{◌≡◌, ◌∷◌, [], true, arith, ap, length, sym, subst}
+use Rattle.std.proofs.Common.{arith, ◌≡◌, ◌∷◌, [], true, ap, length, sym, subst}
 use Rattle.std.proofs.lemmas.Grind.{common_steps}
 use Rattle.sketch_req.specs.Level.{fresh}
 use Rattle.sketch_req.specs.Walk.{AreLevels}
@@ -15,12 +15,3 @@ invariant_of-self g c =
     let legal = (own-levels g.T.Ord.cmp _ _ _ c.self.invariant.some c.self.invariant.placed).legal in
     held-sums g.T.Ord.cmp _ _ _ _ _ _ (omega (arith, ap length first)) (subst (AreLevels g.T.Ord.cmp x.k x.rank_accuracy 0) (sym first) (first-levels g.T.Ord.cmp _ _ legal))
     c.as_slice.ensures.value c.sums.ensures.retained c.sums.ensures.capacity
-
-pub returns : goal.returns
-returns g c = grind (arith, common_steps)
-
-pub sums-requires : goal.sums-requires
-sums-requires g c = grind arith
-
-pub add_level-requires-clause-spare : goal.add_level-requires-clause-spare
-add_level-requires-clause-spare g c = grind arith

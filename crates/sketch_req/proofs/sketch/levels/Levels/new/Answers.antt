@@ -1,9 +1,5 @@
-use Rattle.std.proofs.Common.{arith}
 use Rattle.sketch_req.proofs.Held.{few-levels}
 use Rattle.sketch_req.proofs.sketch.levels.Levels.new.Goals as goal
 
 pub sums-num_retained-requires : goal.sums-num_retained-requires
 sums-num_retained-requires g c = record { few = few-levels g.T.Ord.cmp _ _ _ _ c.requires.levels c.as_slice.ensures.value }
-
-pub invariant_of-result : goal.invariant_of-result
-invariant_of-result g c = grind arith

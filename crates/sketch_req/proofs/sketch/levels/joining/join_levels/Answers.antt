@@ -3,9 +3,7 @@ use Rattle.sketch_req.proofs.Buffers.{places-above}
 use Rattle.sketch_req.proofs.Held.{own-levels}
 -- The loop keeps that the levels below are joined, and that there are clones and room for the others.
 use Rattle.std.proofs.Common.{◌≡◌, ℕ, true, get_or, [], vec_capacity, length-set, ap, sym, ◌∙◌, refl, subst, arith}
-use Rattle.std.proofs.Math.Seq.{map-set_same}
-use Rattle.sketch_base.specs.Bag.{SameItems}
-use Rattle.sketch_base.specs.Buffers.{Space}
+use Rattle.std.proofs.lemmas.List.{length-map}
 use Rattle.sketch_req.specs.Level.{Level, fresh}
 use Rattle.sketch_req.specs.Merged.{IsCopied}
 use Rattle.sketch_req.specs.Sections.{IsLegalK}
@@ -16,7 +14,7 @@ use Rattle.sketch_req.proofs.MergedLevels.{IsAdded, all-joined-to, is-added, joi
 use Rattle.sketch_req.proofs.WalkSteps.{own-there}
 use Rattle.sketch_req.proofs.Sounds.{few-placed}
 use Rattle.sketch_req.proofs.sketch.levels.joining.join_levels.Given.{Over}
-use Rattle.sketch_req.proofs.sketch.levels.joining.join_levels.Goals.{After-add_level, After-index_mut-in-loop-level}
+use Rattle.sketch_req.proofs.sketch.levels.joining.join_levels.Goals.{After-add_level, After-index_mut}
 use Rattle.sketch_req.proofs.sketch.levels.joining.join_levels.Goals as goal
 use Rattle.sketch_req.proofs.sketch.levels.joining.join_levels.Goals.at as past
 
@@ -25,13 +23,10 @@ loop-level-init g c =
     record {
       joined = joined-none _ _ _ _ _;
       spare = c.requires.spare;
-      enough = c.requires.cloned.enough;
+      enough = subst (λ (n : ℕ). length c.args.others.now ≤ n) (length-map c.args.clones.now.items (λ v. v.items)) c.requires.cloned.enough;
       cloned = λ h l m. c.requires.cloned.cloned h m;
-      merged_spaces = refl;
-      empty = c.requires.empty;
-      coming = refl;
-      nothing = c.requires.nothing;
-      up = refl;
+      room = refl;
+      spare_room = refl;
     }
 
 -- the level was there, or was added
@@ -44,24 +39,25 @@ added g c =
     (is-added _ _ _ _ (omega (arith, c.loop-level.invariant.joined.len)) c.add_level.ensures.items)
 
 -- one turn, before the join
-module _ (g : Over) (c : After-index_mut-in-loop-level g) (added : let ls = c.args.levels.now.items in
+module _ (g : Over) (c : After-index_mut g) (added : let ls = c.args.levels.now.items in
     IsAdded c.loop-level.level (fresh [] true c.loop-level.level (k_of ls) (accuracy_of ls)) c.loop-level.levels.items c.add_level.new.levels.items)
     (other : Level g.row.T.Denot) (is : other ≡ get_or c.args.others.now c.loop-level.level other) where
   placed : IsPlaced g.T.Ord.cmp (k_of c.args.others.now) (accuracy_of c.args.levels.now.items) c.loop-level.level other
   placed = placed-at-place _ _ _ _ c.args.others.now other c.requires.others c.loop-level-test.true is
 
-  copied : IsCopied g.T.Ord.cmp (k_of c.args.levels.now.items) (accuracy_of c.args.levels.now.items) c.loop-level.level c.args.levels.now.items c.index_mut-in-loop-level.result.now
+  copied : IsCopied g.T.Ord.cmp (k_of c.args.levels.now.items) (accuracy_of c.args.levels.now.items) c.loop-level.level c.args.levels.now.items c.index_mut.result.now
   copied =
       let low = placed.sound.weight_fits in
       let legal = (own-levels g.T.Ord.cmp _ _ _ c.requires.levels.some c.requires.levels.placed).legal in
       next-copied g.met.T.Ord.total _ _ _ _ c.requires.levels.placed _ _ _ _ legal (omega (arith, low, placed.place_is))
-      c.loop-level.invariant.joined added c.index_mut-in-loop-level.ensures.value
+      c.loop-level.invariant.joined added c.index_mut.ensures.value
 
-  ready : IsReady g.T.Ord.cmp c.args.levels.now.items c.args.others.now c.index_mut-in-loop-level.result.now other c.index_mut.result.now (vec_capacity c.args.room.now.coming)
+  ready : IsReady g.T.Ord.cmp c.args.levels.now.items c.args.others.now c.index_mut.result.now other c.index_mut-clones.result.now (vec_capacity c.args.room.now)
   ready =
       let i = c.loop-level.invariant in
-      is-ready _ _ _ _ _ _ c.loop-level.room.rooms.items _ _ _ _ copied c.loop-level-test.true is (lt_of_lt_of_le c.loop-level-test.true i.enough)
-      c.index_mut.ensures.value (i.cloned c.loop-level.level (le_refl c.loop-level.level) c.loop-level-test.true)
+      is-ready _ _ _ _ _ _ c.loop-level.clones.items _ _ _ _ copied c.loop-level-test.true is (lt_of_lt_of_le c.loop-level-test.true i.enough)
+      c.index_mut-clones.ensures.value (i.cloned c.loop-level.level (le_refl c.loop-level.level) c.loop-level-test.true)
+      (c.requires.room c.loop-level.level)
 
 pub add_level-requires-clause-legal : goal.add_level-requires-clause-legal
 add_level-requires-clause-legal g c =
@@ -83,7 +79,7 @@ index_mut-requires g c = omega (arith, (added g (past.index_mut-requires g c).Af
 pub join-requires-clause-weight : goal.join-requires-clause-weight
 join-requires-clause-weight g c =
     let at = past.join-requires-clause-weight g c in
-    let before = at.After-index_mut-in-loop-level in
+    let before = at.After-index_mut in
     let new = added g at.After-add_level in
     let other = c.index-others-level.result in
     let is = c.index-others-level.is in
@@ -92,59 +88,41 @@ join-requires-clause-weight g c =
 pub join-requires-clause-clones : goal.join-requires-clause-clones
 join-requires-clause-clones g c =
     let at = past.join-requires-clause-clones g c in
-    subst (λ (b : Space g.row.T.Denot). SameItems g.T.Ord.cmp c.index-others-level.result.items b.clones) (sym c.behind-room.view_is)
-    (ready g at.After-index_mut-in-loop-level (added g at.After-add_level) c.index-others-level.result c.index-others-level.is).same
+    (ready g at.After-index_mut (added g at.After-add_level) c.index-others-level.result c.index-others-level.is).same
 
 pub join-requires-clause-few : goal.join-requires-clause-few
 join-requires-clause-few g c =
     let at = past.join-requires-clause-few g c in
-    let ready = ready g at.After-index_mut-in-loop-level (added g at.After-add_level) c.index-others-level.result c.index-others-level.is in
+    let ready = ready g at.After-index_mut (added g at.After-add_level) c.index-others-level.result c.index-others-level.is in
     omega (arith, ready.few, c.requires.few)
 
 pub join-requires-clause-space : goal.join-requires-clause-space
 join-requires-clause-space g c =
     let at = past.join-requires-clause-space g c in
-    subst (λ (b : Space g.row.T.Denot). length c.index_mut-in-loop-level.result.now.items + length c.index-others-level.result.items ≤ b.clones_space)
-    (sym c.behind-room.view_is)
-    (ready g at.After-index_mut-in-loop-level (added g at.After-add_level) c.index-others-level.result c.index-others-level.is).space
+    (ready g at.After-index_mut (added g at.After-add_level) c.index-others-level.result c.index-others-level.is).space
 
-pub invariant_of-behind-room : goal.invariant_of-behind-room
-invariant_of-behind-room g c = c.behind-room.invariant
-
-pub join-requires-clause-empty : goal.join-requires-clause-empty
-join-requires-clause-empty g c = c.loop-level.invariant.empty
-
-pub join-requires-clause-promoted : goal.join-requires-clause-promoted
-join-requires-clause-promoted g c =
-    let at = past.join-requires-clause-promoted g c in
-    let ready = ready g at.After-index_mut-in-loop-level (added g at.After-add_level) c.index-others-level.result c.index-others-level.is in
-    subst (λ (n : ℕ). length c.index_mut-in-loop-level.result.now.items + length c.index-others-level.result.items ≤ n) (sym c.loop-level.invariant.coming) ready.promoted
-
-pub join-requires-clause-spare : goal.join-requires-clause-spare
-join-requires-clause-spare g c = c.loop-level.invariant.nothing
+pub join-requires-clause-room : goal.join-requires-clause-room
+join-requires-clause-room g c =
+    let at = past.join-requires-clause-room g c in
+    let ready = ready g at.After-index_mut (added g at.After-add_level) c.index-others-level.result c.index-others-level.is in
+    subst (λ (n : ℕ). length c.index_mut.result.now.items + length c.index-others-level.result.items ≤ n) (sym c.loop-level.invariant.room) ready.promoted
 
 pub loop-level-preserved : goal.loop-level-preserved
 loop-level-preserved g c =
     let at = past.loop-level-preserved g c in
-    let before = at.After-index_mut-in-loop-level in
+    let before = at.After-index_mut in
     let new = added g at.After-add_level in
     let i = c.loop-level.invariant in
-    let buffers = c.loop-level.room.rooms.items in
-    let old = c.index_mut.result.now in
-    let merged = λ (b : Space g.row.T.Denot). b.merged_space in
-    let same = ap merged c.behind-room.view_is ∙ ap merged c.index_mut.ensures.value in
-    let joined = joined-there g.met.T.Ord.total _ (k_of c.args.others.now) _ _ _ _ c.index_mut-in-loop-level.result.now _ _
+    let clones = c.loop-level.clones.items in
+    let joined = joined-there g.met.T.Ord.total _ (k_of c.args.others.now) _ _ _ _ c.index_mut.result.now _ _
     (copied g before new c.index-others-level.result c.index-others-level.is) c.loop-level-test.true c.index-others-level.is c.join.ensures.ok c.join.ensures.sound in
     record {
       joined = next-joined g.met.T.Ord.total _ _ _ _ c.requires.levels.placed _ _ _ _ c.join.new.self i.joined new joined;
       spare = lt_of_lt_of_le i.spare c.add_level.ensures.capacity;
-      enough = subst (λ (n : ℕ). length c.args.others.now ≤ n) (sym (length-set buffers c.loop-level.level _)) i.enough;
-      cloned = λ h l m. let other = places-above _ h l in cloned-other g.T.Ord.cmp _ _ buffers c.loop-level.level _ _ h other.0 (i.cloned h other.1 m);
-      merged_spaces = map-set_same (λ b. b.merged_space) buffers c.loop-level.level _ old same ∙ i.merged_spaces;
-      empty = c.join.ensures.empty;
-      coming = c.join.ensures.promoted ∙ i.coming;
-      nothing = c.join.ensures.spare;
-      up = c.join.ensures.spare_capacity ∙ i.up;
+      enough = subst (λ (n : ℕ). length c.args.others.now ≤ n) (sym (length-set clones c.loop-level.level _)) i.enough;
+      cloned = λ h l m. let other = places-above _ h l in cloned-other g.T.Ord.cmp _ _ clones c.loop-level.level _ h other.0 (i.cloned h other.1 m);
+      room = c.join.ensures.room ∙ i.room;
+      spare_room = c.join.ensures.spare ∙ i.spare_room;
     }
 
 pub offset_bounds-others-level : goal.offset_bounds-others-level
@@ -163,9 +141,6 @@ returns g c =
       joined = all-joined-to g.met.T.Ord.total _ _ _ _ c.requires.levels.placed c.loop-level.level _ end i.joined;
       count = count;
       spare = subst (λ (n : ℕ). n < vec_capacity c.loop-level.levels) (sym (c.loop-level.levels.ok.0 ∙ count)) i.spare;
-      merged_spaces = i.merged_spaces;
-      empty = i.empty;
-      coming = i.coming;
-      nothing = i.nothing;
-      up = i.up;
+      room = i.room;
+      spare_room = i.spare_room;
     }

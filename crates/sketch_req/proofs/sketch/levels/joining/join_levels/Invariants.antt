@@ -1,5 +1,4 @@
-use Rattle.std.proofs.Common.{◌≡◌, ℕ, ◌<◌, ◌≤◌, [], length, max, vec_capacity}
-use Rattle.sketch_base.specs.Buffers.{merged_spaces}
+use Rattle.std.proofs.Common.{◌≡◌, ℕ, ◌<◌, ◌≤◌, length, max, vec_capacity}
 use Rattle.sketch_req.specs.Walk.{accuracy_of, k_of}
 use Rattle.sketch_req.proofs.ClonedBuffers.{HasClones}
 use Rattle.sketch_req.proofs.MergedLevels.{AreJoinedTo}
@@ -11,11 +10,8 @@ invariant-loop-level g l =
     record {
       joined : AreJoinedTo g.T.Ord.cmp (k_of ls) (accuracy_of ls) l.level ls l.others l.levels.items;
       spare : max (length ls) (length l.others) < vec_capacity l.levels;
-      enough : length l.others ≤ length l.room.rooms.items;
-      cloned : (h : ℕ) → l.level ≤ h → h < length l.others → HasClones g.T.Ord.cmp ls l.others l.room.rooms.items (vec_capacity l.initial.room.coming) h;
-      merged_spaces : merged_spaces l.room.rooms.items ≡ merged_spaces l.initial.room.rooms.items;
-      empty : l.room.coming.items ≡ [];
-      coming : vec_capacity l.room.coming ≡ vec_capacity l.initial.room.coming;
-      nothing : l.room.up.items ≡ [];
-      up : vec_capacity l.room.up ≡ vec_capacity l.initial.room.up;
+      enough : length l.others ≤ length l.clones.items;
+      cloned : (h : ℕ) → l.level ≤ h → h < length l.others → HasClones g.T.Ord.cmp ls l.others l.clones.items h;
+      room : vec_capacity l.room ≡ vec_capacity l.initial.room;
+      spare_room : vec_capacity l.spare ≡ vec_capacity l.initial.spare;
     }

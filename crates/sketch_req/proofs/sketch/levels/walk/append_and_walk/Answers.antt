@@ -1,8 +1,7 @@
 use Rattle.std.proofs.Common.{ℕ, le_of_eq, le_trans, lt_of_le_of_lt, refl, subst, sym, vec_capacity, ◌≡◌, ◌<◌, ◌∙◌, List, [], ◌∷◌, length, slice_set, ap, arith, Ordering}
 use Rattle.std.proofs.lemmas.Result.{IfOk-from_err}
-use Rattle.sketch_base.specs.Buffers.{Space}
 use Rattle.sketch_req.specs.declared.RankAccuracy.{RankAccuracy}
-use Rattle.sketch_req.specs.Walk.{AreWalkedOver, HaveSpace, accuracy_of, k_of, with_more, AreHeld, appended_first}
+use Rattle.sketch_req.specs.Walk.{AreWalkedOver, HaveSpace, accuracy_of, k_of, spaces_of, with_more, AreHeld, appended_first}
 use Rattle.sketch_req.specs.Schedule.{Layout, weight_of, layouts_of, retained_of}
 use Rattle.sketch_req.specs.Level.{Level}
 use Rattle.sketch_req.proofs.UpdatedLevels.{layouts-appended, retained-appended, weight-appended, length-appended, placed-appended}
@@ -29,12 +28,10 @@ module _ (g : Over) (c : After-walk-arg-2-1 g) where
       ∙ ap (λ (ls : List (Level g.row.T.Denot)). appended_first ls c.args.item) held
 
 -- space for a walk after an item came in is space for a walk over the levels with it
-space-appended : {A : Type 0} (ls : List (Level A)) (x : A) (rooms : List (Space A)) (most : ℕ) → 0 < length ls → HaveSpace (k_of ls) (accuracy_of ls)
-    (with_more 1 (layouts_of ls)) rooms most →
-    let ns = appended_first ls x in HaveSpace (k_of ns) (accuracy_of ns) (layouts_of ns) rooms most
-space-appended [] x rooms most some fit = absurd (omega (arith, some))
-space-appended (l ∷ ls) x rooms most some fit = subst (λ (os : List Layout). HaveSpace l.k l.accuracy os rooms most)
-    (sym (layouts-appended (l ∷ ls) x some)) fit
+space-appended : {A : Type 0} (ls : List (Level A)) (x : A) (spaces : List ℕ) (most : ℕ) → 0 < length ls → HaveSpace (k_of ls) (with_more 1 (layouts_of ls)) spaces most →
+    let ns = appended_first ls x in HaveSpace (k_of ns) (layouts_of ns) spaces most
+space-appended [] x spaces most some fit = absurd (omega (arith, some))
+space-appended (l ∷ ls) x spaces most some fit = subst (λ (os : List Layout). HaveSpace l.k os spaces most) (sym (layouts-appended (l ∷ ls) x some)) fit
 
 -- levels stay held if an item is appended to the first
 held-first : {A : Type 0} (cmp : A → A → Ordering) (ls : List (Level A)) (x : A) → AreHeld cmp ls → retained_of (layouts_of ls) < 4294967295 →
@@ -87,10 +84,10 @@ returns-in_err-append g c =
       memory = only_error r c.from_residual-in_err-append.ensures.1 (c.in_err-append.ensures.memory (few g at));
     }
 
-pub returns-in_err-reserve : goal.returns-in_err-reserve
-returns-in_err-reserve g c =
-    let r = c.from_residual-in_err-reserve.result in
-    let (fails, is) = c.from_residual-in_err-reserve.ensures in
+pub returns-in_err-buffers : goal.returns-in_err-buffers
+returns-in_err-buffers g c =
+    let r = c.from_residual-in_err-buffers.result in
+    let (fails, is) = c.from_residual-in_err-buffers.ensures in
     record { acted = IfOk-from_err r _ fails; err = on_error r (c.reserve_exact.ensures.items, refl); memory = error_known r _ is }
 
 pub returns-in_err-reserve_exact : goal.returns-in_err-reserve_exact
@@ -111,13 +108,13 @@ walk-requires-clause-few_items g c =
 
 pub walk-requires-clause-fit : goal.walk-requires-clause-fit
 walk-requires-clause-fit g c =
-    let rooms = c.reserve.new.room.rooms.items in
-    let most = vec_capacity c.reserve.new.room.coming in
-    subst (λ (xs : List (Level g.row.T.Denot)). HaveSpace (k_of xs) (accuracy_of xs) (layouts_of xs) rooms most) (sym (put g c))
-    (space-appended c.args.levels.now.items c.args.item rooms most c.requires.levels.some
-    (subst (λ (xs : List (Level g.row.T.Denot)). HaveSpace (k_of xs) (accuracy_of xs) (with_more 1 (layouts_of xs)) rooms most)
+    let spaces = spaces_of c.in_ok-buffers.buffers.merged.items in
+    let most = vec_capacity c.in_ok-buffers.buffers.coming in
+    subst (λ (xs : List (Level g.row.T.Denot)). HaveSpace (k_of xs) (layouts_of xs) spaces most) (sym (put g (past.walk-requires-clause-fit g c).After-walk-arg-2-1))
+    (space-appended c.args.levels.now.items c.args.item spaces most c.requires.levels.some
+    (subst (λ (xs : List (Level g.row.T.Denot)). HaveSpace (k_of xs) (with_more 1 (layouts_of xs)) spaces most)
     (c.as_slice-own.ensures.value ∙ c.reserve_exact.ensures.items)
-    c.in_ok-reserve.ensures.fit))
+    c.in_ok-buffers.ensures.fit))
 
 pub reserve-requires-clause-levels : goal.reserve-requires-clause-levels
 reserve-requires-clause-levels g c = subst (AreHeld g.T.Ord.cmp) (sym (c.as_slice-own.ensures.value ∙ c.reserve_exact.ensures.items)) c.requires.levels
@@ -128,16 +125,13 @@ reserve-requires-clause-few g c =
     omega (arith, all, c.requires.few)
 
 pub walk-requires-clause-nothing : goal.walk-requires-clause-nothing
-walk-requires-clause-nothing g c = c.in_ok-reserve.ensures.nothing
+walk-requires-clause-nothing g c = c.in_ok-buffers.ensures.nothing
 
 pub walk-requires-clause-empty : goal.walk-requires-clause-empty
-walk-requires-clause-empty g c = c.in_ok-reserve.ensures.empty
+walk-requires-clause-empty g c = c.in_ok-buffers.ensures.empty
 
 pub walk-requires-clause-above : goal.walk-requires-clause-above
-walk-requires-clause-above g c = c.in_ok-reserve.ensures.above
+walk-requires-clause-above g c = c.in_ok-buffers.ensures.above
 
 pub walk-requires-clause-spare : goal.walk-requires-clause-spare
 walk-requires-clause-spare g c = omega (arith, c.in_ok-reserve_exact.ensures.ok, c.reserve_exact.ensures.len)
-
-pub reserve-requires-clause-clones : goal.reserve-requires-clause-clones
-reserve-requires-clause-clones g c = c.requires.clones

@@ -1,20 +1,19 @@
 -- The loop keeps what is pending after the turns so far.
 use Rattle.std.proofs.Common.{Vec, le_antisymm, le_of_eq, le_refl, le_trans, lt_of_lt_of_le, Ordering, ◌≡◌, ℕ, ◌+◌, ◌-◌, ◌<◌, ◌≤◌, ◌==◌, Bool, true, if◌then◌else◌, eq-eqb, length-append, List, [], ◌∷◌, ◌++◌, get_or, length, length-set, set, refl, sym, ap, ap₂, ◌∙◌, subst, arith, lt_of_le_of_lt, vec_capacity, IsSorted}
-use Rattle.std.proofs.lemmas.List.{nil_from_length}
+use Rattle.std.proofs.lemmas.List.{length-map, nil_from_length}
 use Rattle.sketch_base.proofs.Sorting.{short_sorted}
-use Rattle.sketch_base.specs.Buffers.{Space, merged_spaces}
 use Rattle.sketch_req.specs.Level.{Level, fresh}
-use Rattle.sketch_req.specs.Schedule.{Layout, layouts_of, steps_actions, steps_layouts}
+use Rattle.sketch_req.specs.Schedule.{layouts_of, steps_actions, steps_layouts}
 use Rattle.sketch_req.specs.Sections.{IsLegalK}
-use Rattle.sketch_req.specs.Walk.{AreWalked, accuracy_of, k_of, own_space}
+use Rattle.sketch_req.specs.Walk.{AreWalked, accuracy_of, k_of, spaces_of}
 use Rattle.sketch_req.specs.declared.RankAccuracy.{RankAccuracy}
 use Rattle.sketch_req.proofs.Buffers.{places-above, read-other, read-there}
 use Rattle.sketch_req.proofs.Held.{own-levels}
 use Rattle.sketch_req.proofs.Layouts.{length-layouts}
 use Rattle.sketch_req.proofs.MergedLevels.{is-added}
-use Rattle.sketch_req.proofs.WalkSteps.{opened, own-there, raised}
+use Rattle.sketch_req.proofs.WalkSteps.{own-there, raised}
 use Rattle.sketch_req.proofs.Turns.{IsPending, IsReady, is-ready, next-pending, pending-above, pending-start, ready-held}
-use Rattle.sketch_req.proofs.sketch.levels.walk.walk.Goals.{After-index_mut-in-loop-level, After-len-count, After-swap, After-parameters-k, After-add_level}
+use Rattle.sketch_req.proofs.sketch.levels.walk.walk.Goals.{After-index_mut, After-len-count, After-swap, After-parameters-k, After-add_level}
 use Rattle.sketch_req.proofs.sketch.levels.walk.walk.Goals as goal
 use Rattle.sketch_req.proofs.sketch.levels.walk.walk.Goals.at as past
 
@@ -27,8 +26,9 @@ loop-level-init g c = record {
   pending = pending-start g.met.T.Ord.total _ _ _ _ _ _ _ _ _ c.requires.empty c.requires.levels.placed;
   len = sym c.len-count.ensures;
   spare = subst (λ (n : ℕ). n < vec_capacity c.args.levels.now) (sym c.len-count.ensures) c.requires.spare;
-  enough = subst (λ (n : ℕ). n ≤ length c.args.room.now.rooms.items)
-      (length-layouts c.args.levels.now.items ∙ sym (count_is g (past.loop-level-init g c).After-len-count)) c.requires.fit.enough;
+  enough = subst (λ (n : ℕ). n ≤ length c.args.buffers.now.merged.items)
+      (length-layouts c.args.levels.now.items ∙ sym (count_is g (past.loop-level-init g c).After-len-count))
+      (subst (λ (n : ℕ). length (layouts_of c.args.levels.now.items) ≤ n) (length-map c.args.buffers.now.merged.items (λ v. vec_capacity v)) c.requires.fit.enough);
   merged = λ j _. refl;
   sorted = subst (IsSorted g.T.Ord.cmp) (sym c.requires.empty) (short_sorted g.T.Ord.cmp [] (omega arith));
   empty = c.requires.nothing;
@@ -37,16 +37,16 @@ loop-level-init g c = record {
 }
 
 -- a turn
-module _ (g : _) (c : After-index_mut-in-loop-level g) where
+module _ (g : _) (c : After-index_mut g) where
   within : c.loop-level.level < length c.loop-level.levels.items
   within = subst (λ (n : ℕ). c.loop-level.level < n) (sym c.loop-level.invariant.len ∙ c.loop-level.levels.ok.0) c.loop-level-test.true
 
   abbrev spaces : List ℕ
-  spaces = merged_spaces c.args.room.now.rooms.items
+  spaces = spaces_of c.args.buffers.now.merged.items
 
   ready : IsReady g.met.T.Ord.total g.B.RandomBits.bit g.B.RandomBits.next c.args.coins.now (k_of c.args.levels.now.items) (accuracy_of c.args.levels.now.items) c.args.levels.now.items
-      spaces c.loop-level.level c.loop-level.coins c.loop-level.levels.items c.index_mut-in-loop-level.result.now c.loop-level.room.coming.items
-  ready = is-ready g.met.T.Ord.total _ _ _ _ _ _ _ _ _ _ _ _ _ c.requires.few_items c.loop-level.invariant.pending within c.index_mut-in-loop-level.ensures.value
+      spaces c.loop-level.level c.loop-level.coins c.loop-level.levels.items c.index_mut.result.now c.loop-level.buffers.coming.items
+  ready = is-ready g.met.T.Ord.total _ _ _ _ _ _ _ _ _ _ _ _ _ c.requires.few_items c.loop-level.invariant.pending within c.index_mut.ensures.value
 
   inside : c.loop-level.level < length (layouts_of c.args.levels.now.items)
   inside =
@@ -54,35 +54,31 @@ module _ (g : _) (c : After-index_mut-in-loop-level g) where
       subst (λ (n : ℕ). c.loop-level.level < n) (c.len-count.ensures ∙ (levels.ok.0 ∙ sym (length-layouts levels.items))) c.loop-level-test.true
 
   -- the space of the level's buffers
-  own-there_is : get_or spaces c.loop-level.level 0 ≡ c.index_mut.result.now.merged_space
+  own-there_is : get_or spaces c.loop-level.level 0 ≡ vec_capacity c.index_mut-merged.result.now
   own-there_is =
       let i = c.loop-level.invariant in
       sym (i.merged c.loop-level.level (le_refl _))
-      ∙ read-there (λ b. b.merged_space) 0 c.loop-level.room.rooms.items c.loop-level.level c.index_mut.result.now
-      (lt_of_lt_of_le c.loop-level-test.true i.enough) c.index_mut.ensures.value
+      ∙ read-there (λ b. vec_capacity b) 0 c.loop-level.buffers.merged.items c.loop-level.level c.index_mut-merged.result.now
+      (lt_of_lt_of_le c.loop-level-test.true i.enough) c.index_mut-merged.ensures.value
 
 pub turn-requires-clause-sorted : goal.turn-requires-clause-sorted
 turn-requires-clause-sorted g c = c.loop-level.invariant.sorted
 
 pub turn-requires-clause-few : goal.turn-requires-clause-few
 turn-requires-clause-few g c =
-    lt_of_le_of_lt (ready g (past.turn-requires-clause-few g c).After-index_mut-in-loop-level).few c.requires.few_items
+    lt_of_le_of_lt (ready g (past.turn-requires-clause-few g c).After-index_mut).few c.requires.few_items
 
 pub turn-requires-clause-space : goal.turn-requires-clause-space
 turn-requires-clause-space g c =
-    let at = (past.turn-requires-clause-space g c).After-index_mut-in-loop-level in
-    le_trans ((ready g at).own (inside g at))
-    (le_of_eq (own-there_is g at ∙ sym (ap (λ (b : Space g.row.T.Denot). b.merged_space) c.behind-room.view_is)))
-
-pub turn-requires-clause-empty : goal.turn-requires-clause-empty
-turn-requires-clause-empty g c = c.behind-room.invariant
+    let at = (past.turn-requires-clause-space g c).After-index_mut in
+    le_trans ((ready g at).own (inside g at)) (le_of_eq (own-there_is g at))
 
 pub turn-requires-clause-nothing : goal.turn-requires-clause-nothing
 turn-requires-clause-nothing g c = c.loop-level.invariant.empty
 
 pub turn-requires-clause-above : goal.turn-requires-clause-above
 turn-requires-clause-above g c =
-    let at = (past.turn-requires-clause-above g c).After-index_mut-in-loop-level in
+    let at = (past.turn-requires-clause-above g c).After-index_mut in
     let held = ready-held g.met.T.Ord.total _ _ _ _ _ _ _ _ _ _ _ _ _ (ready g at) (c.requires.fit.promoted c.loop-level.level (inside g at)) in
     λ _. le_trans held c.loop-level.invariant.above
 
@@ -99,26 +95,26 @@ swapped g c = (c.swap.ensures.x_after, c.swap.ensures.y_after)
 
 pub loop-level-preserved : goal.loop-level-preserved
 loop-level-preserved g c =
-    let at = (past.loop-level-preserved g c).After-index_mut-in-loop-level in
+    let at = (past.loop-level-preserved g c).After-index_mut in
     let legal = (own-levels g.T.Ord.cmp _ _ _ c.requires.levels.some c.requires.levels.placed).legal in
     let i = c.loop-level.invariant in
-    let buffers = c.loop-level.room.rooms.items in
+    let buffers = c.loop-level.buffers.merged.items in
     let ls : List (Level g.row.T.Denot) = c.args.levels.now.items in
-    let most = vec_capacity c.args.room.now.coming in
+    let most = vec_capacity c.args.buffers.now.coming in
     record {
       pending = items-kept (IsPending g.met.T.Ord.total g.B.RandomBits.bit g.B.RandomBits.next c.args.coins.now (k_of ls) (accuracy_of ls) ls (spaces g at) most
           (c.loop-level.level + 1) c.turn.new.coins
           (set c.loop-level.levels.items c.loop-level.level c.turn.new.self)) _ _ (swapped g c).0
           (next-pending g.met.T.Ord.total g.B.RandomBits.bit g.B.RandomBits.next c.args.coins.now (k_of ls) (accuracy_of ls) ls
           (spaces g at) c.loop-level.level most c.loop-level.coins
-          c.turn.new.coins c.loop-level.levels.items c.index_mut-in-loop-level.result.now c.turn.new.self c.loop-level.room.coming.items _ c.requires.few_items i.pending
-          (within g at) c.index_mut-in-loop-level.ensures.value
+          c.turn.new.coins c.loop-level.levels.items c.index_mut.result.now c.turn.new.self c.loop-level.buffers.coming.items _ c.requires.few_items i.pending
+          (within g at) c.index_mut.ensures.value
           c.requires.fits legal (c.requires.fit.promoted c.loop-level.level (inside g at)) (c.requires.fit.own c.loop-level.level) c.turn.ensures.turned
           c.turn.ensures.sound c.turn.ensures.coins);
       len = i.len;
       spare = i.spare;
       enough = subst (λ (n : ℕ). c.len-count.result ≤ n) (sym (length-set buffers c.loop-level.level _)) i.enough;
-      merged = λ j low. read-other (λ (b : Space g.row.T.Denot). b.merged_space) 0 buffers c.loop-level.level _ j (places-above _ j low).0
+      merged = λ j low. read-other (λ b. vec_capacity b) 0 buffers c.loop-level.level _ j (places-above _ j low).0
           ∙ i.merged j (places-above _ j low).1;
       sorted = items-kept (IsSorted g.T.Ord.cmp) _ _ (swapped g c).0 c.turn.ensures.sorted;
       empty = items-kept (λ (xs : List g.row.T.Denot). xs ≡ []) _ _ (swapped g c).1 c.turn.ensures.coming;
@@ -134,8 +130,8 @@ module _ (g : _) (c : After-parameters-k g) where
   abbrev accuracy : RankAccuracy
   accuracy = accuracy_of c.args.levels.now.items
 
-  some : 0 < length c.loop-level.room.coming.items
-  some = grind (arith, c.if-not-is_empty.true, c.is_empty.ensures, c.loop-level.room.coming.ok.0)
+  some : 0 < length c.loop-level.buffers.coming.items
+  some = grind (arith, c.if-not-is_empty.true, c.is_empty.ensures, c.loop-level.buffers.coming.ok.0)
 
   ends : c.len-count.result ≡ (c.loop-level.level - 1) + 1
   ends = le_antisymm c.loop-level-test.false c.loop-level.auto.level-end
@@ -197,9 +193,6 @@ index_mut-requires-then-not-is_empty g c =
 pub absorb-requires-clause-sorted : goal.absorb-requires-clause-sorted
 absorb-requires-clause-sorted g c = c.loop-level.invariant.sorted
 
-pub absorb-requires-clause-empty : goal.absorb-requires-clause-empty
-absorb-requires-clause-empty g c = c.loop-level.invariant.empty
-
 pub absorb-requires-clause-capacity : goal.absorb-requires-clause-capacity
 absorb-requires-clause-capacity g c =
     let none = none g (past.absorb-requires-clause-capacity g c).After-add_level _ c.index_mut-then-not-is_empty.ensures.value in
@@ -255,13 +248,10 @@ returns-else-not-is_empty g c =
     let count : c.loop-level.level ≡ length (layouts_of ls) =
     le_antisymm c.loop-level.auto.level-end c.loop-level-test.false ∙ (count_is g (past.returns-else-not-is_empty g c).After-len-count ∙ sym
     (length-layouts ls)) in
-    let none : c.loop-level.room.coming.items ≡ [] =
-    nil_from_length c.loop-level.room.coming.items (grind (arith, c.if-not-is_empty.false, c.is_empty.ensures, c.loop-level.room.coming.ok.0)) in
+    let none : c.loop-level.buffers.coming.items ≡ [] =
+    nil_from_length c.loop-level.buffers.coming.items (grind (arith, c.if-not-is_empty.false, c.is_empty.ensures, c.loop-level.buffers.coming.ok.0)) in
     record {
       acted = walked-whole g.T.Ord.cmp g.B.RandomBits.bit g.B.RandomBits.next c.args.coins.now c.loop-level.coins (k_of ls) c.loop-level.level _
           (accuracy_of ls) ls _ _ count refl
           (c.loop-level.invariant.pending.none none);
     }
-
-pub invariant_of-behind-room : goal.invariant_of-behind-room
-invariant_of-behind-room g c = grind arith

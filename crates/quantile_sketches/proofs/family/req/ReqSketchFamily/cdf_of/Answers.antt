@@ -1,6 +1,0 @@
-use Rattle.quantile_sketches.proofs.family.req.ReqSketchFamily.cdf_of.Goals as goal
-
-pub returns : goal.returns
-returns g c =
-    let is = c.cdf.ensures in
-    (is.refused.0, is.refused.1, is.there, is.found)

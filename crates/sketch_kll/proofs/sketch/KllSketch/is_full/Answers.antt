@@ -1,5 +1,0 @@
-use Rattle.std.proofs.Common.{rules}
-use Rattle.sketch_kll.proofs.sketch.KllSketch.is_full.Goals as goal
-
-pub returns : goal.returns
-returns g c = search rules

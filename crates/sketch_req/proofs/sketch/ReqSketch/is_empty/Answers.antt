@@ -1,5 +1,0 @@
-use Rattle.std.proofs.lemmas.Bool.{eqb-true, eq-eqb}
-use Rattle.sketch_req.proofs.sketch.ReqSketch.is_empty.Goals as goal
-
-pub returns : goal.returns
-returns g c = record { value = rw (← c.self.view_is) (eqb-true _ _, eq-eqb _ _) }

@@ -1,4 +1,0 @@
-use Rattle.sketch_req.proofs.sketch.ReqSketch.min_item.Goals as goal
-
-pub returns-clause-value : goal.returns-clause-value
-returns-clause-value g c = rw (← c.self.view_is) c.as_ref.ensures.value
