@@ -3,10 +3,9 @@ use Rattle.std.proofs.Common.{◌≡◌, ℕ, ◌*◌, ◌≤◌, Bool, true, fa
 use Rattle.std.specs.Option.{option_and_then}
 use Rattle.std.proofs.lemmas.Bool.{eq-eqb, false≢true}
 use Rattle.sketch_base.specs.Shares.{spread, takes_once}
-use Rattle.sketch_base.specs.Trace.{Action, Event, Work, World, changed, events_at}
+use Rattle.sketch_base.specs.Trace.{Action, Event, Work, changed, events_at}
 use Rattle.sketch_base.proofs.Changes.{changed-there}
 use Rattle.sketch_base.proofs.Coins.{AreAsMany, once-elsewhere}
-use Rattle.sketch_kll.specs.Merge.{merge_actions}
 use Rattle.sketch_kll.specs.Schedule.{update_actions}
 use Rattle.sketch_kll.specs.Weighted.{weighted_actions}
 use Rattle.sketch_kll.proofs.RolledCoins.{update-once, merge-once}

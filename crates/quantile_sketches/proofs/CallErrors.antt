@@ -1,7 +1,6 @@
 -- Which errors a call may return, by the reasons for which it is refused.
-use Rattle.std.proofs.Common.{◌≡◌, ◌⊎◌, ℕ, ◌<◌, ◌≤◌, ◌==◌, nat_lt, Bool, true, false, Result, Ok, Err, IfOk, IfErr, OnOk, IsErrAnd, is_ok, if◌then◌else◌, refl, inl, inr, arith, eqb-true}
-use Rattle.std.proofs.lemmas.Bool.{cases_Bool, eqb-false, ltb-true, ltb-false}
-use Rattle.std.specs.Prelude.{IsErrOf, MatchResult, ◌↔◌}
+use Rattle.std.proofs.Common.{◌≡◌, ◌⊎◌, Bool, true, false, Result, Ok, Err, IfOk, IfErr, OnOk, IsErrAnd, is_ok, if◌then◌else◌, refl, inl, inr}
+use Rattle.std.specs.Prelude.{IsErrOf, MatchResult}
 use Rattle.sketch_base.specs.declared.error.ErrorKind.{ErrorKind}
 use Rattle.sketch_base.specs.declared.error.ErrorKind.TheVariants.{InvalidArgument, InvalidData, OutOfMemory}
 use Rattle.quantile_sketches.specs.Rules.{none_if}

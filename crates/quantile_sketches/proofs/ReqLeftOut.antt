@@ -1,18 +1,16 @@
 -- The accepted commands of a REQ run give the same tail numbers as all its commands, and the same trace except for some
 -- round trips.
-use Rattle.std.proofs.Common.{◌≡◌, ℕ, ◌-◌, ◌^◌, ◌<◌, ◌≤◌, Bool, true, false, if◌then◌else◌, List, [], ◌∷◌, ◌++◌, length, Option, refl, sym, ap, ◌∙◌, subst, append-nil, Ordering}
+use Rattle.std.proofs.Common.{◌≡◌, ℕ, Bool, true, false, if◌then◌else◌, List, [], ◌∷◌, ◌++◌, length, Option, refl, sym, ap, ◌∙◌, subst, append-nil, Ordering}
 use Rattle.std.specs.Prelude.{Contains}
 use Rattle.std.specs.Cmp.{IsTotalOrder}
-use Rattle.sketch_base.specs.Trace.{Event, coins}
-use Rattle.sketch_req.specs.Sketch.{Req}
+use Rattle.sketch_base.specs.Trace.{Event}
 use Rattle.sketch_base.proofs.Picks.{Sheds, none, shed, sheds-none, sheds-append}
 use Rattle.quantile_sketches.specs.declared.commands.Command.TheVariants.{RoundTrip}
 use Rattle.quantile_sketches.specs.Plan.{Plan, start_plan, is_refused, accepted_events, events_of, plan_of, trace_of}
-use Rattle.quantile_sketches.specs.Refused.{accepted_of, LeadTo, IsRefusedExactly, AreRefused}
+use Rattle.quantile_sketches.specs.Refused.{accepted_of, IsRefusedExactly, AreRefused}
 use Rattle.quantile_sketches.specs.ReqKind.{req_kind}
 use Rattle.quantile_sketches.specs.ReqPlan.{ReqCommand, accepted_tails, tails_of, no_tails}
 use Rattle.quantile_sketches.specs.ReqRules.{ReqShape, req_rules}
-use Rattle.quantile_sketches.specs.RunSteps.{Sketches}
 use Rattle.quantile_sketches.proofs.LeftOut.{IsLeftOut, state-more, state-left, left-more, left-refused, left-by}
 use Rattle.quantile_sketches.proofs.LegalPlans.{after-append, trace-more}
 use Rattle.quantile_sketches.proofs.ReqKind.{req_kind_lawful}

@@ -1,16 +1,15 @@
 -- What a run on REQ sketches gives, derived from what every run gives.
-use Rattle.std.proofs.Common.{◌≡◌, ℕ, suc, ◌-◌, ◌*◌, ◌^◌, ◌<◌, ◌≤◌, Bool, true, IsTrue, List, [], ◌∷◌, ◌++◌, length, count_by, Option, Some, sym, ap, ◌∙◌, subst, arith, append-nil, Ordering, ap₂, ◌+◌, refl}
+use Rattle.std.proofs.Common.{◌≡◌, ℕ, suc, ◌*◌, ◌^◌, ◌<◌, ◌≤◌, Bool, true, IsTrue, List, [], ◌∷◌, ◌++◌, length, count_by, Option, Some, sym, ap, ◌∙◌, subst, arith, append-nil, Ordering, ap₂, ◌+◌, refl}
 use Rattle.std.specs.Prelude.{IsSorted}
 use Rattle.std.specs.Cmp.{IsTotalOrder}
 use Rattle.std.specs.List.{AllByRecursion}
 use Rattle.std.specs.Option.{option_map}
-use Rattle.sketch_base.specs.Bag.{AlikeReq, repeated, sort, weighted_rank, load, weight, weigh}
+use Rattle.sketch_base.specs.Bag.{AlikeReq, weighted_rank, load, weight, weigh}
 use Rattle.sketch_base.specs.Lengths.{IsLegalReq, start_lengths}
-use Rattle.sketch_base.specs.declared.common.SearchCriteria.{SearchCriteria}
-use Rattle.sketch_base.specs.Query.{counted, true_rank}
+use Rattle.sketch_base.specs.Query.{counted}
 use Rattle.sketch_base.specs.Spelling.{SpellingsTie}
 use Rattle.sketch_base.specs.Trace.{Event, play, start, coins}
-use Rattle.sketch_base.specs.Words.{sum_over_words, distance, square}
+use Rattle.sketch_base.specs.Words.{distance}
 use Rattle.sketch_base.proofs.Alikes.{rank-alike}
 use Rattle.sketch_base.proofs.LoadBound.{req_within_load}
 use Rattle.sketch_base.proofs.Picks.{Sheds}
@@ -30,30 +29,23 @@ use Rattle.sketch_req.proofs.WalkCapacities.{upper_weighs}
 use Rattle.sketch_req.proofs.Layouts.{length-layouts}
 use Rattle.sketch_req.proofs.OneText.{one_sketch}
 use Rattle.sketch_req.proofs.Rank.{retained_is}
-use Rattle.sketch_req.proofs.Relatives.{updates_relative, updates_relative_to_counts}
 use Rattle.sketch_req.proofs.WrittenSketches.{written_lem}
-use Rattle.quantile_sketches.specs.Outcome.{SlotMap, sketch_at, ArePlanned, ArePlayed, AreSound}
-use Rattle.quantile_sketches.specs.Plan.{Plan, start_plan, plan_of, trace_of}
+use Rattle.quantile_sketches.specs.Outcome.{SlotMap, sketch_at, ArePlanned, AreSound}
+use Rattle.quantile_sketches.specs.Plan.{start_plan, plan_of, trace_of}
 use Rattle.quantile_sketches.specs.Refused.{accepted_of, AreRefused}
 use Rattle.quantile_sketches.specs.ReqKind.{req_look, FitsReq, req_kind, req_shape}
-use Rattle.quantile_sketches.specs.ReqOutcome.{AreSortedInOrder, HaveFewLevels, AreBelowNominal, TailsAreK, IsExact, TailsAreExact, ReqImagesReadBack}
+use Rattle.quantile_sketches.specs.ReqOutcome.{AreSortedInOrder, HaveFewLevels, AreBelowNominal, TailsAreK, IsExact, ReqImagesReadBack}
 use Rattle.quantile_sketches.specs.ReqPlan.{ReqCommand, shape_in, tails_of}
 use Rattle.quantile_sketches.specs.ReqRules.{ReqShape, req_rules}
-use Rattle.sketch_req.specs.Relative.{off_protected_end, IsRelative, Reaches}
-use Rattle.quantile_sketches.specs.ReqFair.{is_fair_slot}
-use Rattle.quantile_sketches.specs.ReqReady.{stays_fair}
-use Rattle.quantile_sketches.specs.ReqUpdated.{was_only_updated, compacted_in}
+use Rattle.sketch_req.specs.Relative.{off_protected_end}
+use Rattle.quantile_sketches.specs.ReqUpdated.{was_only_updated}
 use Rattle.quantile_sketches.specs.Run.{stream_of, AreUnbiasedWhere, WithEnoughBits, RunIsWithinLoad}
-use Rattle.quantile_sketches.specs.Scatter.{squared_errors}
-use Rattle.quantile_sketches.proofs.LeftOut.{IsLeftOut, left-out}
+use Rattle.quantile_sketches.proofs.LeftOut.{left-out}
 use Rattle.quantile_sketches.proofs.LegalPlans.{run-legal, steady-start, steady-from, along-even}
 use Rattle.quantile_sketches.proofs.ReqAlone.{run-below, run-own}
-use Rattle.quantile_sketches.proofs.ReqFair.{run-unbiased_where_fair, fair-shed}
 use Rattle.quantile_sketches.proofs.ReqKind.{req_kind_lawful}
-use Rattle.quantile_sketches.proofs.ReqReady.{run-stays_fair, run-unbiased_where_redrawn}
 use Rattle.quantile_sketches.proofs.ReqRuleLaws.{req_lawful}
-use Rattle.quantile_sketches.proofs.ReqLeftOut.{req-left-out}
-use Rattle.quantile_sketches.proofs.ReqUpdated.{bag-shed, run-unbiased, run-relative, run-relative_to_counts}
+use Rattle.quantile_sketches.proofs.ReqUpdated.{bag-shed, run-unbiased}
 use Rattle.quantile_sketches.proofs.ReqTails.{run-exact}
 use Rattle.quantile_sketches.proofs.Streams.{run-ranks, all-counted}
 

@@ -9,7 +9,7 @@ use Rattle.std.proofs.lemmas.Bool.{eqb-false, false≢true}
 use Rattle.std.proofs.lemmas.Cmp.{int_cmp_total}
 use Rattle.std.proofs.lemmas.Grind.{get_or-set_at}
 use Rattle.std.proofs.lemmas.List.{get_or-set_other}
-use Rattle.std.proofs.lemmas.Option.{get_or_from_slice_get, slice_get_within}
+use Rattle.std.proofs.lemmas.Option.{slice_get_within}
 use Rattle.hex.proofs.HexLemmas.{decode_of-encode_lower}
 use Rattle.sketch_base.specs.Random.{bits_from, next_state}
 use Rattle.sketch_base.specs.Spelling.{i64_spelling}

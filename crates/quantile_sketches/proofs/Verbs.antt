@@ -1,13 +1,9 @@
 -- A line's command is what its verb and its slot ask for.
-use Rattle.std.proofs.Common.{◌≡◌, ℕ, ℤ, List, [], ◌∷◌, Some, None, Option, drop, refl, ap, ◌∙◌, slice_get}
-use Rattle.std.specs.Prelude.{codes}
+use Rattle.std.proofs.Common.{◌≡◌, ℕ, List, [], ◌∷◌, Some, None, Option, drop, ap, ◌∙◌, slice_get}
 use Rattle.std.specs.Option.{option_and_then}
 use Rattle.quantile_sketches.specs.Reader.{Grammar, parse_slot}
 use Rattle.quantile_sketches.specs.Command.{parse_asked, request_of}
-use Rattle.quantile_sketches.specs.LineWords.{unsigned_of, item_of}
-use Rattle.quantile_sketches.specs.declared.commands.Command.TheVariants.{Update}
 use Rattle.quantile_sketches.specs.declared.command.Request.{Request}
-use Rattle.quantile_sketches.specs.declared.command.Request.TheVariants.{Run}
 use Rattle.quantile_sketches.proofs.ReadWords.{then-none, then-read}
 
 -- a verb and a slot are read one after the other

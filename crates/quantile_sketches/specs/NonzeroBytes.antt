@@ -1,7 +1,7 @@
 -- The codec of the tests: a byte is its own spelling, and 0 has none.
 use Rattle.std.proofs.Common.{◌≡◌, ℕ, ◌≤◌, ◌==◌, not, if◌then◌else◌, List, [], ◌∷◌, length, Option, Some, None, unwrap_or, arith}
 use Rattle.std.specs.Prelude.{IsSome}
-use Rattle.sketch_base.specs.SizedSpellings.{HasSize, sized_prefix_free, if_length}
+use Rattle.sketch_base.specs.SizedSpellings.{sized_prefix_free, if_length}
 use Rattle.sketch_base.specs.Spelling.{Begins}
 
 abbrev pub spelling_of : ℕ → Option (List ℕ)

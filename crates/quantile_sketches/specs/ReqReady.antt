@@ -3,7 +3,7 @@ use Rattle.std.specs.Prelude.{ℕ, ◌==◌, ◌&&◌, not, Bool, true, false, I
 use Rattle.sketch_base.specs.Trace.{changed}
 use Rattle.sketch_req.specs.Schedule.{joined_layouts, are_full}
 use Rattle.quantile_sketches.specs.declared.commands.Command.TheVariants.{New, Update, UpdateWeighted, Merge, Reset, RoundTrip, Redraw, MergeRedrawn}
-use Rattle.quantile_sketches.specs.Plan.{Plan, start_plan, after_commands}
+use Rattle.quantile_sketches.specs.Plan.{start_plan, after_commands}
 use Rattle.quantile_sketches.specs.ReqFair.{is_fair_slot}
 use Rattle.quantile_sketches.specs.ReqPlan.{ReqCommand, shape_in}
 use Rattle.quantile_sketches.specs.ReqRules.{ReqShape, req_rules}

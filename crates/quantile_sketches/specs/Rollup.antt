@@ -8,7 +8,7 @@ use Rattle.quantile_sketches.specs.declared.commands.Command.{Command}
 use Rattle.quantile_sketches.specs.declared.commands.Command.TheVariants.{New, Update, UpdateWeighted, Merge, Reset, RoundTrip, Redraw, MergeRedrawn}
 use Rattle.quantile_sketches.specs.KllRules.{KllShape, kll_rules}
 use Rattle.quantile_sketches.specs.Outcome.{SlotMap, EachSketch}
-use Rattle.quantile_sketches.specs.Plan.{Plan, start_plan, count_of, after_commands, plan_of, trace_of}
+use Rattle.quantile_sketches.specs.Plan.{start_plan, count_of, after_commands, plan_of, trace_of}
 use Rattle.quantile_sketches.specs.Rules.{Rules}
 
 -- each sketch that took each coin in once has a small spread for its least k and its count, whatever merges made it

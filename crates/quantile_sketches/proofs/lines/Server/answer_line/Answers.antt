@@ -1,4 +1,4 @@
-use Rattle.std.proofs.Common.{◌≡◌, ℕ, List, Option, ap, arith, subst₂}
+use Rattle.std.proofs.Common.{◌≡◌, ap, arith, subst₂}
 use Rattle.std.proofs.lemmas.Grind.{common_steps}
 use Rattle.std.specs.Io.BufRead.{strip_last}
 use Rattle.std.specs.Io.Buffered.{reader_remaining}
