@@ -1,5 +1,5 @@
-//! The library examples of README.md, which `examples/check` compares with it, and tests that call
-//! them.
+//! The library examples of README.md and docs/FROM_DATASKETCHES.md, which `examples/check` compares
+//! with it, and tests that call them.
 
 // --- README.md
 use sketch_base::common::random::SplitMix64;
@@ -31,7 +31,14 @@ fn slowest(alloc: Global, first: &[u8], second: &[u8]) -> Result<Option<i64>, Er
     };
     both.quantile(percentile, SearchCriteria::Inclusive)
 }
-// --- more
+
+fn slowest_of_two(alloc: Global) -> Result<Option<i64>, Error> {
+    let first = image_of(alloc, 1, &[12, 15, 11, 90])?;
+    let second = image_of(alloc, 2, &[14, 13])?;
+    slowest(alloc, first.as_slice(), second.as_slice())
+}
+
+// --- docs/FROM_DATASKETCHES.md
 use sketch_kll::sketch::KllSketch;
 use std::cmp::OrderedFloat;
 
@@ -49,12 +56,6 @@ fn within(alloc: Global, latencies: &[f64], limit: f64) -> Result<Option<Rank>, 
     Ok(sketch.rank(&Millis(OrderedFloat(limit)), SearchCriteria::Inclusive))
 }
 // --- end
-
-fn slowest_of_two(alloc: Global) -> Result<Option<i64>, Error> {
-    let first = image_of(alloc, 1, &[12, 15, 11, 90])?;
-    let second = image_of(alloc, 2, &[14, 13])?;
-    slowest(alloc, first.as_slice(), second.as_slice())
-}
 
 #[test]
 fn slowest_of_two_hosts(rt: HostRuntime) {
