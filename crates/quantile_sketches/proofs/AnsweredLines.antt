@@ -1,7 +1,10 @@
 -- A line is answered: the run goes on by it, or ends where its answer can't be written.
-use Rattle.std.proofs.Common.{◌≡◌, ◌∙◌, ℕ, ℤ, ◌+◌, ◌<◌, List, [], ◌∷◌, ◌++◌, length, ap, subst, arith, Option, Some, IfSome, Result, Ok, IsOk, IsErr}
+use Rattle.std.proofs.Common.{◌≡◌, ◌∙◌, ℕ, ℤ, ◌+◌, ◌<◌, ◌==◌, List, [], ◌∷◌, ◌++◌, length, take, ap, subst, arith, Option, Some, IfSome, Result, Ok, IsOk, IsErr}
 use Rattle.std.proofs.lemmas.Option.{MatchOption-at_some}
-use Rattle.std.specs.Io.BufRead.{DropsThrough, strip_last, take_through}
+use Rattle.std.specs.Io.BufRead.{DropsConsumable, DropsThrough, strip_last, take_through}
+use Rattle.std.specs.Io.Buffered.{reader_buffer, reader_remaining}
+use Rattle.std.specs.List.{position_or_len}
+use Rattle.std.specs.declared.io.buffered.BufReader.{BufReader}
 use Rattle.quantile_sketches.specs.Answer.{answer_text}
 use Rattle.quantile_sketches.specs.Behaviour.{Behaviour}
 use Rattle.quantile_sketches.specs.Command.{request_of}
@@ -10,7 +13,7 @@ use Rattle.quantile_sketches.specs.LineWords.{words}
 use Rattle.quantile_sketches.specs.Lines.{Ends, TakesLine}
 use Rattle.quantile_sketches.specs.Output.{Writes}
 use Rattle.quantile_sketches.specs.Reader.{Grammar}
-use Rattle.quantile_sketches.proofs.FirstLine.{takes_read}
+use Rattle.quantile_sketches.proofs.FirstLine.{takes_buffered, takes_read}
 use Rattle.quantile_sketches.proofs.LineRuns.{Running, ends-broken, running-line}
 use Rattle.quantile_sketches.proofs.Outputs.{writes-as}
 
@@ -31,6 +34,15 @@ module _ {S C : Type 0} (grammar : Grammar C) (behaviour : Behaviour S ℤ C) wh
   pub line-found : (left left' : Option (List ℕ)) (slots slots' : List (Option S)) (coins coins' : ℕ) (found : Option Reply) (a : Reply) → found ≡ Some a →
       IfSome found (AnswersLine left left' slots coins slots' coins') → AnswersLine left left' slots coins slots' coins' a
   line-found left left' slots slots' coins coins' found a is answered = MatchOption-at_some _ _ a is answered
+
+  -- a line that lies whole in the buffer
+  pub buffered-answered : {T A : Type 0} (remaining : T → Option (List ℕ)) (input : BufReader T A) (left : Option (List ℕ)) (n : ℕ) {b : List ℕ}
+      {slots slots' : List (Option S)} {coins coins' : ℕ} {a : Reply} → n ≡ position_or_len (λ c. c == 10) b → n < length b → b ≡ reader_buffer input →
+      DropsConsumable (reader_remaining remaining input) left (Some (length (reader_buffer input))) (n + 1) →
+      Answers behaviour (request_of grammar (words (take n b))) slots coins a slots' coins' →
+      AnswersLine (reader_remaining remaining input) left slots coins slots' coins' a
+  buffered-answered remaining input left n {b} place within same dropped answered =
+      (take n (reader_buffer input), takes_buffered remaining input left n (rw same at place) (rw same at within) dropped, rw same at answered)
 
   -- a line that is read behind nothing, with its line feed
   pub read-answered : (left left' : Option (List ℕ)) {line before cut : List ℕ} {m k n : ℕ} (bare : List ℕ) {slots slots' : List (Option S)} {coins coins' : ℕ}

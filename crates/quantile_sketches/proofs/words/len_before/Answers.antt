@@ -1,6 +1,6 @@
 use Rattle.std.proofs.Common.{arith}
 use Rattle.std.proofs.lemmas.Grind.{common_steps}
-use Rattle.quantile_sketches.proofs.words.word_len.Goals as goal
+use Rattle.quantile_sketches.proofs.words.len_before.Goals as goal
 
 pub loop-i-preserved : goal.loop-i-preserved
 loop-i-preserved c = grind (arith, common_steps)
@@ -8,5 +8,5 @@ loop-i-preserved c = grind (arith, common_steps)
 pub returns-clause-value : goal.returns-clause-value
 returns-clause-value c = grind (arith, common_steps)
 
-pub returns-then-text-i-eq32-clause-value : goal.returns-then-text-i-eq32-clause-value
-returns-then-text-i-eq32-clause-value c = grind (arith, common_steps)
+pub returns-then-text-i-clause-value : goal.returns-then-text-i-clause-value
+returns-then-text-i-clause-value c = grind (arith, common_steps)
