@@ -1,18 +1,17 @@
 -- A KLL slot that took neither another sketch nor an item with a weight took each coin in once, and its least k is its own.
+use Rattle.std.proofs.Common.{arith}
+use Rattle.std.proofs.lemmas.Grind.{common_steps}
 use Rattle.std.proofs.Common.{◌≡◌, ℕ, ◌*◌, ◌≤◌, Bool, true, false, ◌==◌, if◌then◌else◌, List, Option, Some, refl, sym, ap, ◌∙◌, subst, []}
-use Rattle.std.specs.Option.{option_and_then}
 use Rattle.std.proofs.lemmas.Bool.{eq-eqb, false≢true}
 use Rattle.sketch_base.specs.Shares.{spread, takes_once}
-use Rattle.sketch_base.specs.Trace.{Action, Event, Work, changed, events_at}
+use Rattle.sketch_base.specs.Trace.{Event, Work, changed}
 use Rattle.sketch_base.proofs.Changes.{changed-there}
 use Rattle.sketch_base.proofs.Coins.{AreAsMany, once-elsewhere}
-use Rattle.sketch_kll.specs.Schedule.{update_actions}
-use Rattle.sketch_kll.specs.Weighted.{weighted_actions}
 use Rattle.sketch_kll.proofs.RolledCoins.{update-once, merge-once}
 use Rattle.quantile_sketches.specs.declared.commands.Command.{Command}
 use Rattle.quantile_sketches.specs.declared.commands.Command.TheVariants.{New, Update, UpdateWeighted, Merge, Reset, RoundTrip, Redraw, MergeRedrawn}
 use Rattle.quantile_sketches.specs.KllRules.{KllShape, kll_rules, merged_shape}
-use Rattle.quantile_sketches.specs.Plan.{Plan, start_plan, actions_on, shape_after, accepted_events, plan_of, trace_of}
+use Rattle.quantile_sketches.specs.Plan.{Plan, start_plan, shape_after, accepted_events, plan_of, trace_of}
 use Rattle.quantile_sketches.specs.Rollup.{accepted_alone, took_alone}
 use Rattle.quantile_sketches.proofs.PlanSteps.{accepted_shapes}
 use Rattle.quantile_sketches.proofs.KllRuleLaws.{kll_lawful, unless-there}
@@ -34,10 +33,7 @@ AreAlone shapes alone once = (j : ℕ) → IsAlone (alone j) (once j) (shapes j)
 alone-changed : (shapes : ℕ → Option KllShape) (alone alone' once once' : ℕ → Bool) (slot : ℕ) (o : Option KllShape) (t : KllShape) → AreAlone shapes alone once → o ≡ Some t →
     (alone' slot ≡ true → (once' slot ≡ true) × HasOwn t) → ((j : ℕ) → (j == slot) ≡ false → alone' j ≡ alone j) → ((j : ℕ) → (j == slot) ≡ false → once' j ≡ once j) →
     AreAlone (changed shapes slot o) alone' once'
-alone-changed shapes alone alone' once once' slot o t all e here others onces =
-    at_slot slot (λ j. IsAlone (alone' j) (once' j) (changed shapes slot o j))
-    (λ a. let (taken, own) = here a in (taken, λ s f. subst HasOwn (some-one t s (sym e ∙ (sym (changed-there shapes slot o) ∙ f))) own))
-    (λ j n a. let (taken, own) = all j (sym (others j n) ∙ a) in (onces j n ∙ taken, λ s f. own s (sym (changed-away shapes slot o j n) ∙ f)))
+alone-changed shapes alone alone' once once' slot o t all e here others onces = grind (arith, common_steps, at_slot, some-one, changed-there, changed-away)
 
 -- a slot that isn't alone
 not-alone : {B : Type 0} (alone : ℕ → Bool) (slot : ℕ) → changed alone slot false slot ≡ true → B
@@ -48,27 +44,12 @@ module _ {A : Type 0} where
   accepted-alone : (plan : Plan KllShape) → IsSteady (kll_lawful {A = A}) plan → (alone once : ℕ → Bool) (shares : ℕ → List ℕ) → AreAsMany shares → AreAlone plan.shapes alone once →
       (command : Command A ℕ) (t : KllShape) → shape_after kll_rules plan.shapes command ≡ Some t →
       AreAlone (accepted_shapes kll_rules plan.shapes command) (accepted_alone plan.shapes alone command) (takes_once (accepted_events kll_rules plan command) shares once)
-  accepted-alone plan st alone once shares many all (New slot k) t e =
-      alone-changed plan.shapes alone (changed alone slot true) once (changed once slot true) slot _ t all e
-      (λ a. (changed-there once slot true, subst HasOwn (unless-there _ _ t e).1 refl)) (changed-away alone slot true) (changed-away once slot true)
-  accepted-alone plan st alone once shares many all (Reset slot) t e =
-      let (s, held, u) = map-there (kll_rules {A = A}).emptied (plan.shapes slot) t e in
-      alone-changed plan.shapes alone (changed alone slot true) once (changed once slot true) slot _ t all e
-      (λ a. (changed-there once slot true, subst HasOwn u refl)) (changed-away alone slot true) (changed-away once slot true)
+  accepted-alone plan st alone once shares many all (New slot k) t e = grind (arith, common_steps, alone-changed, changed-there, unless-there, changed-away)
+  accepted-alone plan st alone once shares many all (Reset slot) t e = grind (arith, common_steps, map-there, alone-changed, changed-there, changed-away)
   accepted-alone plan st alone once shares many all (RoundTrip slot) t e =
       alone-changed plan.shapes alone alone once once slot _ t all e (λ a. let (taken, own) = all slot a in (taken, own t e)) (λ j n. refl) (λ j n. refl)
-  accepted-alone plan st alone once shares many all (Update slot x) t e =
-      let ns = plan.lengths.slots slot in
-      let (s, held, u) = then-there (kll_rules {A = A}).updated (plan.shapes slot) t e in
-      let same = update-once slot s.k ns x shares once (st.fits slot s held).0 in
-      subst (λ (o : Option KllShape). AreAlone (accepted_shapes (kll_rules {A = A}) plan.shapes (Update slot x)) alone
-      (takes_once (events_at slot (actions_on o (λ shape. update_actions {A = A} shape.k ns x))) shares once)) (sym held)
-      (alone-changed plan.shapes alone alone once _ slot _ t all e
-      (λ a. let (taken, own) = all slot a in (same slot ∙ taken, subst HasOwn (unless-there _ _ t u).1 (own s held))) (λ j n. refl) (λ j n. same j))
-  accepted-alone plan st alone once shares many all (UpdateWeighted slot x weight) t e =
-      let actions : List (Action A) = actions_on (plan.shapes slot) (λ shape. weighted_actions shape.k (plan.lengths.slots slot) x weight) in
-      alone-changed plan.shapes alone (changed alone slot false) once _ slot _ t all e (not-alone alone slot) (changed-away alone slot false)
-      (λ j n. once-elsewhere slot j n actions shares once)
+  accepted-alone plan st alone once shares many all (Update slot x) t e = grind (arith, common_steps, then-there, update-once, accepted_shapes, alone-changed, unless-there)
+  accepted-alone plan st alone once shares many all (UpdateWeighted slot x weight) t e = grind (arith, common_steps, alone-changed, not-alone, changed-away, once-elsewhere)
   accepted-alone plan st alone once shares many all (Merge into source) t e =
       let shapes' = accepted_shapes (kll_rules {A = A}) plan.shapes (Merge into source) in
       merge-either kll_rules false plan into source t e
@@ -82,10 +63,7 @@ module _ {A : Type 0} where
       (λ j n. ap (λ (f : ℕ → Bool). f j) (merge-once A source into s.k work shares once (st.fits into s held).0) ∙ changed-away once into _ j n))
   accepted-alone plan st alone once shares many all (Redraw slot) t e =
       let (s, held, none) = then-there (kll_rules {A = A}).redrawn (plan.shapes slot) t e in absurd (not-none t none)
-  accepted-alone plan st alone once shares many all (MergeRedrawn into source) t e =
-      let (s, held, u) = then-there (λ shape. option_and_then ((kll_rules {A = A}).merged true shape) (plan.shapes source)) (plan.shapes into) t e in
-      let (other, held_other, none) = then-there ((kll_rules {A = A}).merged true s) (plan.shapes source) t u in
-      absurd (not-none t none)
+  accepted-alone plan st alone once shares many all (MergeRedrawn into source) t e = grind (arith, common_steps, then-there, not-none)
 
   -- so their spread is small for their own k
   pub run-alone : (commands : List (Command A ℕ)) (slot : ℕ) (shape : KllShape) → (plan_of kll_rules commands).shapes slot ≡ Some shape → took_alone commands slot ≡ true →

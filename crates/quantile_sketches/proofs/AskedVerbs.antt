@@ -1,4 +1,6 @@
 -- Which command a verb asks for, by tests of one verb after the other.
+use Rattle.std.proofs.Common.{arith}
+use Rattle.std.proofs.lemmas.Grind.{common_steps}
 use Rattle.std.proofs.Common.{◌≡◌, ◌⊎◌, ℕ, Bool, true, false, cond, List, Option, None, bytes_eq, refl, sym, ap, inl, inr, ◌∙◌}
 use Rattle.std.proofs.lemmas.Bool.{cond-false, false≢true}
 use Rattle.std.proofs.lemmas.Slice.Eq.{bytes_eq-Decides}
@@ -53,9 +55,7 @@ module _ {C : Type 0} (grammar : Grammar C) (verb : List ℕ) (slot : ℕ) (ws :
   -- this verb, of which the family knows nothing
   unknown : (name : List ℕ) → bytes_eq verb name ≡ true → parse_question {C = C} name slot ws ≡ parse_asked grammar name slot ws →
       r ≡ parse_question verb slot ws → r ≡ parse_asked grammar verb slot ws
-  unknown name is same e =
-      let this : verb ≡ name = (bytes_eq-Decides verb name).0 is in
-      e ∙ (ap (λ v. parse_question v slot ws) this ∙ (same ∙ ap (λ v. parse_asked grammar v slot ws) (sym this)))
+  unknown name is same e = grind (arith, common_steps, bytes_eq-Decides)
 
   questioned : bytes_eq verb (codes "update") ≡ false → bytes_eq verb (codes "new") ≡ false → bytes_eq verb (codes "merge") ≡ false →
       bytes_eq verb (codes "reset") ≡ false → bytes_eq verb (codes "roundtrip") ≡ false →

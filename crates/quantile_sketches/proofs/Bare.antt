@@ -1,5 +1,8 @@
 -- What commands do to level lengths, coins and shapes depends on no item.
-use Rattle.std.proofs.Common.{◌≡◌, ℕ, zero, suc, Bool, true, false, cond, not, if◌then◌else◌, List, [], ◌∷◌, ◌++◌, map, Option, None, Some, is_some, refl, ap, ◌∙◌}
+use Rattle.std.proofs.Common.{arith}
+use Rattle.std.proofs.Common.{rules}
+use Rattle.std.proofs.lemmas.Grind.{common_steps}
+use Rattle.std.proofs.Common.{◌≡◌, ℕ, zero, suc, Bool, true, false, not, if◌then◌else◌, List, [], ◌∷◌, ◌++◌, map, Option, None, Some, is_some, refl, ap, ◌∙◌}
 use Rattle.std.proofs.lemmas.List.{map-append}
 use Rattle.std.proofs.lemmas.List.Sums.{sum_by-cons}
 use Rattle.sketch_base.specs.Lengths.{acts_on_lengths}
@@ -63,9 +66,7 @@ module _ {A : Type 0} where
 
   coins-bare : (trace : List (Event A)) → coins (map bare_event trace) ≡ coins trace
   coins-bare [] = refl
-  coins-bare (e ∷ rest) =
-      let mine = sum_by-cons (λ (e : Event A). cond (event_draws e) 1 0) e rest in
-      cc (mine, sum_by-cons (λ (e : Event Unit). cond (event_draws e) 1 0) (bare_event e) (map bare_event rest), draws-bare e, coins-bare rest)
+  coins-bare (e ∷ rest) = grind (arith, common_steps, sum_by-cons, draws-bare, coins-bare rest)
 
   events-at : (slot : ℕ) (actions : List (Action A)) → map bare_event (events_at slot actions) ≡ events_at slot (map bare_action actions)
   events-at slot [] = refl
@@ -147,9 +148,7 @@ module _ {A C Shape : Type 0} {rules : Rules A C Shape} {bare_rules : Rules Unit
 
   trace-bare : (plan : Plan Shape) (commands : List (Command A C)) → map bare_event (trace_from rules plan commands) ≡ trace_from bare_rules plan (map bare commands)
   trace-bare plan [] = refl
-  trace-bare plan (c ∷ rest) =
-      let behind = trace_from rules (plan_after rules plan c) rest in
-      cc (map-append bare_event (events_of rules plan c) behind, events-bare plan c, trace-bare (plan_after rules plan c) rest, plan-bare plan c)
+  trace-bare plan (c ∷ rest) = grind (arith, common_steps, map-append, events-bare, plan-bare, trace-bare (plan_after rules plan c) rest)
 
   -- two lists of commands that differ only in their items have the same plan
   pub same-plan : (commands commands' : List (Command A C)) → map bare commands ≡ map bare commands' → plan_of rules commands ≡ plan_of rules commands'

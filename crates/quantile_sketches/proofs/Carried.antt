@@ -1,5 +1,7 @@
 -- What comes of a command of runs on a table's slots is a step of a run.
-use Rattle.std.proofs.Common.{◌≡◌, ◌≢◌, ◌⊎◌, ℕ, ◌==◌, Bool, true, false, not, if◌then◌else◌, Option, None, Some, is_some, is_ok, set, Result, Ok, Err, refl, sym, ap, ap₂, ◌∙◌, subst, inl, inr, eqb-true}
+use Rattle.std.proofs.Common.{arith}
+use Rattle.std.proofs.lemmas.Grind.{common_steps}
+use Rattle.std.proofs.Common.{◌≡◌, ◌≢◌, ◌⊎◌, ℕ, ◌==◌, Bool, true, false, not, Option, None, Some, is_some, is_ok, set, Result, Ok, Err, refl, sym, ap, ap₂, ◌∙◌, subst, inl, inr, eqb-true}
 use Rattle.std.specs.Prelude.{IsTrue, MatchOption, ◌↔◌, ⊤}
 use Rattle.std.proofs.lemmas.Bool.{eqb-false, false≢true}
 use Rattle.std.proofs.lemmas.Grind.{get_or-set_at}
@@ -34,11 +36,7 @@ pub in_slot-held : {S : Type 0} (slots : Slots S) (slot : ℕ) (o : Option S) �
 in_slot-held slots slot o h = get_or_from_slice_get slots slot o None h
 
 in_slot-set : {S : Type 0} (slots : Slots S) (slot : ℕ) (o new : Option S) → Holds slots slot o → (q : ℕ) → in_slot (set slots slot new) q ≡ changed (in_slot slots) slot new q
-in_slot-set slots slot o new h q = go (q == slot) refl
-  where
-    go : (b : Bool) → (q == slot) ≡ b → in_slot (set slots slot new) q ≡ (if b then new else in_slot slots q)
-    go true e = get_or-set_at slots slot q new None (eqb-true q slot e) (slice_get_within slots slot o h)
-    go false e = get_or-set_other slots slot q new None (eqb-false q slot e)
+in_slot-set slots slot o new h q = grind (arith, common_steps, get_or-set_at, eqb-true, slice_get_within, get_or-set_other, eqb-false)
 
 -- a slot that is set to what it held doesn't change
 in_slot-same : {S : Type 0} (slots slots' : Slots S) (slot : ℕ) (o new : Option S) → Holds slots slot o → new ≡ o → slots' ≡ set slots slot new → AreSame (in_slot slots) (in_slot slots')
@@ -152,13 +150,7 @@ module _ {A C Shape S Source : Type 0} {kind : Kind A C Shape S} (lawful : IsLaw
   same-answer (Some x) = tied_itself lawful.total x
 
   copied-itself : (s : S) → kind.IsSound s → IsPlainCopy kind s s
-  copied-itself s sound = record {
-    shape_is = refl;
-    alike = lawful.alike_refl (kind.look.bag s);
-    least_is = same-answer (kind.look.least s);
-    greatest_is = same-answer (kind.look.greatest s);
-    sound = sound;
-  }
+  copied-itself s sound = grind (arith, common_steps, same-answer)
 
   module _ (slots slots' : Slots S) (source source' : Source) (sound : AreSoundIn kind (in_slot slots)) where
     abbrev Goes : Result Unit Refusal → Command A C → Type 0

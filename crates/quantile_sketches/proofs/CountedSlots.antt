@@ -1,5 +1,6 @@
 -- The counts of the slots when a command is counted: one slot's count is set, or all stay.
-use Rattle.std.proofs.Common.{◌≡◌, ℕ, ◌+◌, ◌<◌, ◌≤◌, ◌^◌, Bool, List, length, count_by, refl, set, get_or, ◌⊎◌, inl, inr, sym, ap, ap₂, ◌∙◌, subst, arith, Fits, w64}
+use Rattle.std.proofs.lemmas.Grind.{common_steps}
+use Rattle.std.proofs.Common.{◌≡◌, ℕ, ◌+◌, ◌<◌, ◌≤◌, ◌^◌, Bool, List, length, count_by, set, get_or, ◌⊎◌, inl, inr, sym, ap, ap₂, ◌∙◌, subst, arith, Fits, w64}
 use Rattle.std.specs.Prelude.{⊤, slice_index}
 use Rattle.std.proofs.lemmas.Bool.{cases_eq, cases_lt}
 use Rattle.std.proofs.lemmas.List.{get_or_past, get_or-set_same, get_or-set_other}
@@ -15,13 +16,7 @@ use Rattle.quantile_sketches.proofs.Streams.{NamesSlots, tallied-after, names-an
 
 set-changes : (counts : List ℕ) (slot value : ℕ) → slot < length counts → (q : ℕ) →
     slice_index (set counts slot value) q ≡ changed (slice_index counts) slot value q
-set-changes counts slot value inside q =
-    elim (cases_eq q slot) [
-      | inl e ↦
-          ap (λ (k : ℕ). slice_index (set counts slot value) k) e
-          ∙ (get_or-set_same counts slot value 0 inside ∙ sym (ap (changed (slice_index counts) slot value) e ∙ changed-there (slice_index counts) slot value))
-      | inr ne ↦ get_or-set_other counts slot q value 0 ne ∙ sym (changed-other (slice_index counts) slot value q ne)
-    ]
+set-changes counts slot value inside q = grind (arith, common_steps, cases_eq, get_or-set_same, changed-there, get_or-set_other, changed-other)
 
 -- these slots are below 256
 abbrev pub HasFewSlots : {A C : Type 0} → Command A C → Type 0
@@ -47,9 +42,7 @@ module _ {A C : Type 0} (test : A → Bool) (command : Command A C) (counts : Li
   -- counts as `counts_after` says are those of the streams after the command
   pub counts-follow : (counts' : List ℕ) → HasFewSlots command → ((q : ℕ) → q < 256 → slice_index counts' q ≡ counts_after test command (slice_index counts) q) →
       (streams : ℕ → List A) → CountStreams test counts streams → CountStreams test counts' (accepted_streams streams command)
-  counts-follow counts' few goes streams h q inside =
-      goes q inside
-      ∙ tallied-after test (λ i. i < 256) (λ n m. n ≡ m) (λ n. refl) (λ a b c d e f. omega (arith, e, f)) (slice_index counts) streams h command few q inside
+  counts-follow counts' few goes streams h q inside = grind (arith, common_steps, tallied-after)
 
 -- ---- the counts after a command
 
@@ -62,9 +55,7 @@ module _ {A C : Type 0} (test : A → Bool) (command : Command A C) (counts : Li
   }
 
   pub set-counted : length counts ≡ 256 → slot < 256 → (q : ℕ) → q < 256 → slice_index (set counts at new) q ≡ counts_after test command (slice_index counts) q
-  set-counted long few q inside =
-      ap₂ (λ (k n : ℕ). slice_index (set counts k n) q) here is
-      ∙ (set-changes counts slot value (omega (arith, long, few)) q ∙ sym (ap (λ (f : ℕ → ℕ). f q) sets))
+  set-counted long few q inside = grind (arith, common_steps, set-changes)
 
 -- what an item adds to its slot
 pub added : (counts : List ℕ) (slot more : ℕ) {at weight : ℕ} → at ≡ slot → weight ≡ more → get_or counts at 0 + weight ≡ slice_index counts slot + more

@@ -1,5 +1,6 @@
 -- Digits that are put in place from the last one to the first.
-use Rattle.std.proofs.Common.{◌≡◌, ℕ, ℤ, pos, zero, suc, negsuc, ◌+◌, ◌-◌, ◌*◌, ◌<◌, ◌≤◌, ◌^◌, ◌/◌, ◌%◌, true, false, List, [], ◌∷◌, ◌++◌, length, take, drop, set, sym, ap, ap₂, ◌∙◌, arith, take_all, length-drop, length-set}
+use Rattle.std.proofs.lemmas.Grind.{common_steps}
+use Rattle.std.proofs.Common.{◌≡◌, ℕ, ℤ, pos, zero, suc, negsuc, ◌+◌, ◌-◌, ◌<◌, ◌≤◌, ◌^◌, ◌/◌, ◌%◌, true, false, List, [], ◌∷◌, ◌++◌, length, take, drop, set, sym, ap, arith, take_all, length-drop, length-set}
 use Rattle.std.proofs.Math.IntN.{nat_abs}
 use Rattle.std.proofs.lemmas.Fmt.{decimal_digit, decimal_step}
 use Rattle.std.proofs.lemmas.Int.{ints}
@@ -31,12 +32,7 @@ natural (negsuc k) n l e = absurd (grind (arith, ints))
 -- a tenth of a number of at least two digits has one digit fewer
 pub tenth : (n k : ℕ) → 10 ≤ n → n < 10 ^ (k + 1) → (k - 1 + 1 ≡ k) × (n / 10 < 10 ^ (k - 1 + 1))
 tenth n zero h l = absurd (omega (arith, h, l))
-tenth n (suc k) h l =
-    let more : suc k + 1 ≡ (suc k - 1 + 1) + 1 = omega arith in (
-      omega arith,
-      div_below n 10 (10 ^ (suc k - 1 + 1)) (omega arith)
-          (let e : 10 ^ (suc k + 1) ≡ 10 ^ (suc k - 1 + 1) * 10 = ap (λ (m : ℕ). 10 ^ m) more ∙ pow-add 10 (suc k - 1 + 1) 1 in omega (arith, l, e)),
-    )
+tenth n (suc k) h l = grind (arith, common_steps, div_below, pow-add)
 
 -- the bytes from a place on
 behind-place : (size start : ℕ) (room : List ℕ) → length room ≡ size → take (size - start) (drop start room) ≡ drop start room
@@ -52,12 +48,7 @@ module _ (z z' : ℤ) {n start' size : ℕ} {room' : List ℕ} (start : ℕ) (ro
     (long : length room ≡ size) where
   pub with_minus : lt_z z' (pos 0) ≡ true → 0 < start → start < size → room' ≡ set room (start - 1) 45 → start' ≡ start - 1 →
       take (size - start') (drop start' room') ≡ signed_decimal z ++ rest
-  with_minus below some inside put moved =
-      ap₂ (λ (s : ℕ) (xs : List ℕ). take (size - s) (drop s xs)) moved put ∙ (behind-place size (start - 1) _ (length-set room (start - 1) 45 ∙ long)
-      ∙ (drop-set room (start - 1) 45 (omega (arith, inside, long)) ∙ (ap (λ (s : ℕ). 45 ∷ drop s room) (before start some)
-      ∙ (ap (λ (xs : List ℕ). 45 ∷ xs) digits ∙ ap (λ (xs : List ℕ). xs ++ rest) (sym (negative z' n below abs) ∙ ap signed_decimal same)))))
+  with_minus below some inside put moved = grind (arith, common_steps, behind-place, length-set, drop-set, before, negative)
 
   pub without_minus : lt_z z' (pos 0) ≡ false → room' ≡ room → start' ≡ start → take (size - start') (drop start' room') ≡ signed_decimal z ++ rest
-  without_minus above kept there =
-      ap₂ (λ (s : ℕ) (xs : List ℕ). take (size - s) (drop s xs)) there kept ∙ (behind-place size start room long
-      ∙ (digits ∙ ap (λ (xs : List ℕ). xs ++ rest) (sym (natural z' n above abs) ∙ ap signed_decimal same)))
+  without_minus above kept there = grind (arith, common_steps, behind-place, natural)

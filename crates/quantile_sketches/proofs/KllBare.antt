@@ -1,9 +1,11 @@
 -- KLL's actions depend on items only in their Puts, so its level lengths depend on none.
-use Rattle.std.proofs.Common.{◌≡◌, ℕ, zero, suc, ◌-◌, ◌/◌, ◌%◌, ◌==◌, Bool, true, false, nat_lt, if◌then◌else◌, List, [], ◌∷◌, length, map, slice_index, refl, ap, ◌∙◌}
+use Rattle.std.proofs.Common.{arith}
+use Rattle.std.proofs.lemmas.Grind.{common_steps}
+use Rattle.std.proofs.Common.{◌≡◌, ℕ, zero, suc, ◌-◌, ◌/◌, Bool, if◌then◌else◌, List, [], ◌∷◌, length, map, slice_index, refl, ap, ◌∙◌}
 use Rattle.sketch_base.specs.Lengths.{acts_on_lengths}
 use Rattle.sketch_base.specs.Trace.{Action, Put, Work}
 use Rattle.sketch_kll.specs.Merge.{pull_actions, pulls_actions, taking_actions, merge_actions}
-use Rattle.sketch_kll.specs.Schedule.{are_full, actions_if_full, update_actions, updated_lengths, updates_actions, passes_at, step_actions, walk_actions, compress_actions}
+use Rattle.sketch_kll.specs.Schedule.{are_full, actions_if_full, update_actions, updated_lengths, passes_at, step_actions, walk_actions, compress_actions}
 use Rattle.sketch_kll.specs.Weighted.{at_digit, puts_actions, entering_actions, weighted_actions, weighted_lengths}
 use Rattle.quantile_sketches.specs.KllRules.{kll_rules}
 use Rattle.quantile_sketches.proofs.Bare.{bare_action, bare-append, bare-if, acts-bare, AreBare, bare-joins}
@@ -26,11 +28,7 @@ module _ (A : Type 0) where
   -- an update with a weight
   bare-digit : (f : List A → List (Action A)) (g : List Unit → List (Action Unit)) (weight : ℕ) (x : A) → map bare_action (f (x ∷ [])) ≡ g (tt ∷ []) → map bare_action (f []) ≡ g [] →
       map bare_action (f (at_digit weight x)) ≡ g (at_digit weight tt)
-  bare-digit f g weight x one none =
-      elim (weight % 2 == 1) as (λ b. map bare_action (f (if b then x ∷ [] else [])) ≡ g (if b then tt ∷ [] else [])) [
-        | true ↦ one
-        | false ↦ none
-      ]
+  bare-digit f g weight x one none = grind (arith, common_steps, bare_action)
 
   bare-puts : (more level weight : ℕ) (x : A) → map bare_action (puts_actions more level weight x) ≡ puts_actions {A = Unit} more level weight tt
   unfolding puts_actions
@@ -39,9 +37,7 @@ module _ (A : Type 0) where
       bare-append (map (λ y. Put level y) (at_digit weight x)) _ (bare-digit (map (λ y. Put level y)) (map (λ y. Put level y)) weight x refl refl) (bare-puts more (suc level) (weight / 2) x)
 
   bare-entering : (k : ℕ) (lengths : List ℕ) (x : A) (weight : ℕ) → map bare_action (entering_actions k lengths x weight) ≡ entering_actions {A = Unit} k lengths tt weight
-  bare-entering k lengths x weight =
-      let one = bare-append (update_actions k lengths x) [] (bare-update k lengths x) refl in
-      bare-append (updates_actions k lengths (at_digit weight x)) _ (bare-digit (updates_actions k lengths) (updates_actions k lengths) weight x one refl) (bare-puts 60 1 (weight / 2) x)
+  bare-entering k lengths x weight = grind (arith, common_steps, bare-append, bare-update, bare-digit, bare-puts)
 
   bare-step : (k level : ℕ) (lengths : List ℕ) → map bare_action (step_actions {A = A} k level lengths) ≡ step_actions k level lengths
   bare-step k level lengths = bare-if (passes_at k lengths level) _ _ refl refl
@@ -59,10 +55,7 @@ module _ (A : Type 0) where
   bare-compress b k {lengths} e = bare-if b _ _ (bare-walk k 61 0 lengths ∙ ap (compress_actions {A = Unit} k) e) refl
 
   bare-weighted : (k : ℕ) (lengths : List ℕ) (x : A) (weight : ℕ) → map bare_action (weighted_actions k lengths x weight) ≡ weighted_actions {A = Unit} k lengths tt weight
-  bare-weighted k lengths x weight =
-      let entering = entering_actions k lengths x weight in
-      let enters = bare-entering k lengths x weight in
-      bare-append entering _ enters (bare-compress (nat_lt 1 weight) k (bag-by entering _ enters))
+  bare-weighted k lengths x weight = grind (arith, common_steps, bare-entering, bare-append, bare-compress, bag-by)
 
   -- a merge
   bare-pull : (k : ℕ) (lengths : List ℕ) → map bare_action (pull_actions {A = A} k lengths) ≡ pull_actions k lengths
@@ -78,9 +71,7 @@ module _ (A : Type 0) where
   bare-taking k work = bare-append (pulls_actions k (slice_index work.scratch 0) work) _ (bare-pulls k (slice_index work.scratch 0) work) (bare-joins A (length work.scratch - 1) 1)
 
   bare-merge : (k : ℕ) (work : Work (List ℕ)) → map bare_action (merge_actions {A = A} k work) ≡ merge_actions k work
-  bare-merge k work =
-      let taking = taking_actions {A = A} k work in
-      bare-append taking _ (bare-taking k work) (bare-compress (nat_lt 1 (length work.scratch)) k (bag-by taking work (bare-taking k work)))
+  bare-merge k work = grind (arith, common_steps, bare-append, bare-taking, bare-compress, bag-by)
 
   -- so the level lengths after an update don't depend on the item
   pub update-lengths : (k : ℕ) (lengths : List ℕ) (x : A) → updated_lengths k lengths x ≡ updated_lengths {A = Unit} k lengths tt
@@ -96,11 +87,4 @@ module _ (A : Type 0) where
 
   -- KLL's rules depend on no item
   pub kll-bare : AreBare {A = A} kll_rules kll_rules
-  kll-bare = record {
-    decide = refl;
-    update = λ s. bare-update s.k;
-    weighted = λ s. bare-weighted s.k;
-    redraw = λ s. refl;
-    merge = λ redraws s other. bare-merge s.k;
-    read_back = refl;
-  }
+  kll-bare = grind (arith, common_steps, bare-update, bare-weighted, bare-merge)

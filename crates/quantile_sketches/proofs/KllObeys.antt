@@ -1,4 +1,5 @@
 -- KLL sketches do what the rules of their kind say.
+use Rattle.std.proofs.lemmas.Grind.{common_steps}
 use Rattle.std.proofs.Common.{◌≡◌, ◌≢◌, ◌⊎◌, ℕ, ◌+◌, ◌-◌, ◌^◌, ◌==◌, nat_lt, if◌then◌else◌, Bool, true, false, List, Option, None, Some, Result, Ok, Err, refl, sym, ap, ap₂, ◌∙◌, ◌<◌, length, min, inl, inr, arith, eqb-true, Ordering}
 use Rattle.std.specs.Prelude.{◌↔◌, IsTrue, IsErrOf, IfOk, IfErr, OnOk}
 use Rattle.std.proofs.lemmas.Result.{IfOk-weaker}
@@ -55,13 +56,7 @@ never Shape does s coins (Err e) t coins' h = (tt, inl (err-of {T = Unit {0}} e 
 module _ {A : Type 0} {cmp : A → A → Ordering} (o : IsTotalOrder cmp) (spelling : A → Option (List ℕ)) where
   fresh-of : (k : ℕ) (shape : Option KllShape) (s : Kll A) → (s.k ≡ k) × (s.n ≡ 0) × (bag_of s ≡ empty_bag) × (s.least ≡ None) × (s.greatest ≡ None) × IsSound cmp s →
       shape ≡ Some (empty_shape k) → IsFresh (kll_kind cmp spelling) shape s
-  fresh-of k shape s is e = record {
-    shape_is = e ∙ ap Some (shape-same (empty_shape k) (kll_shape s) (sym is.0) (sym (is.5.min_k_at_first (omega (arith, is.1)) ∙ is.0)) (sym is.1) (sym (ap (λ (b : Bag A). bag_lengths b) is.2)));
-    bag_is = is.2;
-    least_is = is.3;
-    greatest_is = is.4;
-    sound = is.5;
-  }
+  fresh-of k shape s is e = grind (arith, common_steps, shape-same)
 
   made : (k : ℕ) (r : Result (Kll A) ErrorKind) → IsMade cmp spelling k r → IfOk r (IsFresh (kll_kind cmp spelling) ((kll_rules {A = A}).made k)) × IfErr r (Refuses ((kll_rules {A = A}).made k))
   made k (Ok s) h = (fresh-of k _ s h.2 (ap (λ (b : Bool). none_if b (empty_shape k)) (false_from_ne_true _ (λ t. no-err s InvalidArgument (h.0.1 (ltb-true k 8 t))))), tt)

@@ -1,10 +1,10 @@
 -- The accepted commands of a run give the same plan, streams and coins as all its commands.
-use Rattle.std.proofs.Common.{◌≡◌, ℕ, Bool, true, false, ◌==◌, if◌then◌else◌, List, [], ◌∷◌, ◌++◌, length, fold, Option, refl, sym, ap, ap₂, ◌∙◌, subst, arith, append_assoc, append-nil, zero-add, eqb-true}
+use Rattle.std.proofs.lemmas.Grind.{common_steps}
+use Rattle.std.proofs.Common.{◌≡◌, ℕ, Bool, true, false, ◌==◌, if◌then◌else◌, List, [], ◌∷◌, ◌++◌, length, fold, refl, sym, ap, ap₂, ◌∙◌, subst, arith, append_assoc, append-nil, zero-add, eqb-true}
 use Rattle.std.specs.Prelude.{Contains, ◌↔◌}
 use Rattle.std.proofs.lemmas.Map.Views.{Contains-from_any}
-use mathlib.Core.Path.{fun_ext}
 use Rattle.sketch_base.specs.Lengths.{lengths_after}
-use Rattle.sketch_base.specs.Trace.{Event, World, coins, events_at}
+use Rattle.sketch_base.specs.Trace.{Event, coins}
 use Rattle.sketch_base.proofs.CallsInTurn.{coins-at}
 use Rattle.sketch_base.proofs.Changes.{changed-own}
 use Rattle.quantile_sketches.specs.declared.commands.Command.{Command}
@@ -41,19 +41,13 @@ module _ {A C Shape : Type 0} (rules : Rules A C Shape) where
     trace_is : rules.read_back_actions ≡ [] → events_of rules plan command ≡ []
 
   leaves-refused : (plan : Plan Shape) (command : Command A C) → is_refused rules plan.shapes command ≡ true → Leaves plan command
-  leaves-refused plan command e = record {
-    plan_is = ap (plan_by plan command) e;
-    drawn_are = ap (λ (b : Bool). coins (if b then [] else accepted_events rules plan command)) e;
-    trace_is = λ z. ap (λ (b : Bool). if b then [] else accepted_events rules plan command) e;
-  }
+  leaves-refused plan command e = grind (arith, common_steps, plan)
 
   -- one more command
   pub state-more : {T : Type 0} (accepted : Plan Shape → T → Command A C → T) (start : T) (done fewer : List (Command A C)) (c : Command A C) → plan_of rules done ≡ plan_of rules fewer →
       after_commands rules accepted start_plan start done ≡ after_commands rules accepted start_plan start fewer →
       after_commands rules accepted start_plan start (done ++ c ∷ []) ≡ after_commands rules accepted start_plan start (fewer ++ c ∷ [])
-  state-more {T} accepted start done fewer c plan state =
-      after-append rules accepted start_plan start done c
-      ∙ (ap₂ (λ (p : Plan Shape) (s : T). after_command rules accepted p s c) plan state ∙ sym (after-append rules accepted start_plan start fewer c))
+  state-more {T} accepted start done fewer c plan state = grind (arith, common_steps, after-append, after_command, plan)
 
   -- what may be left out may still be left out after one more command
   pub left-more : (done fewer : List (Command A C)) (c : Command A C) → IsLeftOut rules done fewer → IsLeftOut rules (done ++ c ∷ []) (fewer ++ c ∷ [])
@@ -115,21 +109,7 @@ module _ {A C Shape S : Type 0} (kind : Kind A C Shape S) (word : List Bool) (co
 module _ {A C Shape S : Type 0} {kind : Kind A C Shape S} (lawful : IsLawful kind) where
   -- a round trip changes nothing that is planned
   leaves-trip : (plan : Plan Shape) (slot : ℕ) → Leaves kind.look.rules plan (RoundTrip slot)
-  leaves-trip plan slot = go (is_refused kind.look.rules plan.shapes (RoundTrip slot)) refl
-    where
-      trip : Command A C
-      trip = RoundTrip slot
-
-      go : (b : Bool) → is_refused kind.look.rules plan.shapes trip ≡ b → Leaves kind.look.rules plan trip
-      go true e = leaves-refused kind.look.rules plan trip e
-      go false e = record {
-        plan_is =
-            ap (plan_by kind.look.rules plan trip) e
-            ∙ ap₂ (λ (shapes : ℕ → Option Shape) (lengths : World (List ℕ)). let p : Plan Shape = record { shapes = shapes; lengths = lengths } in p)
-            (fun_ext (changed-own plan.shapes slot)) (lawful.rules.read_lengths slot plan.lengths);
-        drawn_are = ap (λ (b : Bool). coins (if b then [] else accepted_events kind.look.rules plan trip)) e ∙ (coins-at slot kind.look.rules.read_back_actions ∙ lawful.rules.read_draws);
-        trace_is = λ z. ap (λ (b : Bool). if b then [] else accepted_events kind.look.rules plan trip) e ∙ ap (events_at slot) z;
-      }
+  leaves-trip plan slot = grind (arith, common_steps, plan, leaves-refused, changed-own, coins-at)
 
   -- nor does a refused command
   leaves : (word : List Bool) (refused : List ℕ) (before : List (Command A C)) (command : Command A C) (P : Type 0) → IsRefusedExactly kind word refused before command P → P →

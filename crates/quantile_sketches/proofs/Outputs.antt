@@ -1,4 +1,5 @@
 -- Writes one after another: what is out, what waits and what is left of what was owed.
+use Rattle.std.proofs.lemmas.Grind.{common_steps}
 use Rattle.std.proofs.Common.{◌≡◌, ℕ, ◌+◌, ◌-◌, ◌≤◌, List, [], ◌++◌, length, take, drop, refl, sym, ap, ◌∙◌, arith, Option, Some, None, Result, Ok, Err, IsOk, IsErr, OnOk, subst}
 use Rattle.std.proofs.Math.Seq.{take-add}
 use Rattle.std.specs.Io.KnownBytes.{Appends, Keeps, WriteAppends}
@@ -37,10 +38,7 @@ ok-so (Err fault) p = tt
 pub writes-some : (c c' c'' : Option (List ℕ)) (bytes : List ℕ) (written count : ℕ) → written ≤ length bytes → Appends c c' (take written bytes) →
     count ≤ length (take (length bytes - written) (drop written bytes)) → Appends c' c'' (take count (take (length bytes - written) (drop written bytes))) →
     (written + count ≤ length bytes) × Appends c c'' (take (written + count) bytes)
-writes-some c c' c'' bytes written count h a k b =
-    let rest = take_rest bytes written in
-    let few : count ≤ length (drop written bytes) = rw rest at k in
-    (omega (arith, h, few, length-drop written bytes), rw (take-add written count bytes) (appends_on c c' c'' (take written bytes) (take count (drop written bytes)) a (rw rest at b)))
+writes-some c c' c'' bytes written count h a k b = grind (arith, common_steps, take_rest, length-drop, take-add, appends_on)
 
 -- if a write fails, some first bytes are out
 pub writes-stop : {T E : Type 0} (c c' c'' : Option (List ℕ)) (waiting : List ℕ) (r : Result T E) (written : ℕ) (bytes : List ℕ) →
@@ -60,24 +58,12 @@ writes-none c r owed waiting e = record { sent = []; left = owed; parts = refl; 
 -- all that was owed is out, and then a flush succeeds or fails
 pub writes-flushed : {T E T' E' : Type 0} {done : T} {c c' : Option (List ℕ)} {owed : List ℕ} (c'' : Option (List ℕ)) (text : List ℕ) (r' : Result T' E') →
     text ≡ owed → Writes {T = T} {E = E} (Ok done) c c' owed [] → Keeps c' c'' → Writes r' c c'' text []
-writes-flushed {c = c} {c' = c'} c'' text r' e h k = record {
-  sent = h.sent;
-  left = h.left;
-  parts = e ∙ h.parts;
-  out = appends_kept c c' c'' h.sent h.out k;
-  waits = ok-so r' h.waits;
-}
+writes-flushed {c = c} {c' = c'} c'' text r' e h k = grind (arith, common_steps, appends_kept, ok-so)
 
 -- another call fails, with more owed after the rest
 pub writes-early : {T E T' E' : Type 0} {r : Result T E} {c c' : Option (List ℕ)} {owed waiting : List ℕ} (text more waiting' : List ℕ) (r' : Result T' E') →
     text ≡ owed ++ more → IsErr r' → Writes r c c' owed waiting → Writes r' c c' text waiting'
-writes-early text more waiting' r' e fails h = record {
-  sent = h.sent;
-  left = h.left ++ more;
-  parts = cc (append_assoc h.sent h.left more);
-  out = h.out;
-  waits = IfOk-from_err r' _ fails;
-}
+writes-early text more waiting' r' e fails h = grind (arith, common_steps, append_assoc)
 
 -- what holds if a call succeeds holds of one that did
 pub held-ok : {T E : Type 0} {P : Type 0} (r : Result T E) → IsOk r → OnOk r P → P
@@ -87,14 +73,7 @@ held-ok (Err x) ok p = absurd (cc)
 -- what waits goes out, with more after it
 pub writes-on : {T E T' E' : Type 0} {r : Result T E} {r' : Result T' E'} {c c' c'' : Option (List ℕ)} {owed waiting owed' waiting' : List ℕ} (text more : List ℕ) →
     text ≡ owed ++ more → Writes r c c' owed waiting → IsOk r → owed' ≡ waiting ++ more → Writes r' c' c'' owed' waiting' → Writes r' c c'' text waiting'
-writes-on {r = r} {c = c} {c' = c'} {c'' = c''} {waiting = waiting} text more e h ok f k =
-    let held : h.left ≡ waiting = held-ok r ok h.waits in record {
-      sent = h.sent ++ k.sent;
-      left = k.left;
-      parts = cc (append_assoc h.sent h.left more, append_assoc h.sent k.sent k.left);
-      out = appends_on c c' c'' h.sent k.sent h.out k.out;
-      waits = k.waits;
-    }
+writes-on {r = r} {c = c} {c' = c'} {c'' = c''} {waiting = waiting} text more e h ok f k = grind (arith, common_steps, held-ok, append_assoc, appends_on)
 
 -- a first part of a text is written, and then the rest
 pub writes-then : {T E T' E' : Type 0} {r : Result T E} {r' : Result T' E'} {c c' c'' : Option (List ℕ)} {waiting waiting' : List ℕ} (w first rest text : List ℕ) →

@@ -1,4 +1,5 @@
 -- Items that are read from words one after another.
+use Rattle.std.proofs.lemmas.Grind.{common_steps}
 use Rattle.std.proofs.Common.{Ordering, ◌≡◌, ℤ, ℕ, ◌<◌, ◌&&◌, Bool, true, false, List, [], ◌∷◌, ◌++◌, drop, length, Option, None, Some, Result, IfErr, slice_get, option_and_then, refl, sym, ap, ◌∙◌, inr, arith}
 use Rattle.std.specs.Int.{w64}
 use Rattle.std.specs.Ordering.{int_cmp, is_lt}
@@ -16,32 +17,18 @@ use mir.Val.{to_z, of_z}
 -- the first word is an item
 module _ (ws ws' : List (List ℕ)) (x : ℤ) (is : Some x ≡ option_and_then item_of (slice_get ws 0)) (rest : ws' ≡ drop 1 ws) where
   read-first : items_in_line ws ≡ x ∷ items_in_line ws'
-  read-first = go ws is rest
-    where
-      go : (ws : List (List ℕ)) → Some x ≡ option_and_then item_of (slice_get ws 0) → ws' ≡ drop 1 ws → items_in_line ws ≡ x ∷ items_in_line ws'
-      go [] is rest = absurd cc
-      go (w ∷ ws) is rest = ap (λ (o : Option ℤ). onto_items o (items_in_line ws)) (sym is) ∙ ap (λ (vs : List (List ℕ)). x ∷ items_in_line vs) (sym rest)
+  read-first = grind (arith, common_steps)
 
   pub read-shorter : length ws' < length ws
-  read-shorter = go ws is rest
-    where
-      go : (ws : List (List ℕ)) → Some x ≡ option_and_then item_of (slice_get ws 0) → ws' ≡ drop 1 ws → length ws' < length ws
-      go [] is rest = absurd cc
-      go (w ∷ ws) is rest = let long : length ws' ≡ length ws = ap (λ (vs : List (List ℕ)). length vs) rest in omega (arith, long)
+  read-shorter = grind (arith, common_steps)
 
   -- a signed word holds it
   pub read-back : to_z w64 (of_z w64 x) ≡ x
-  read-back = go ws is
-    where
-      go : (ws : List (List ℕ)) → Some x ≡ option_and_then item_of (slice_get ws 0) → to_z w64 (of_z w64 x) ≡ x
-      go [] is = absurd cc
-      go (w ∷ ws) is = to_z-of_z w64 x (item_fits w x (sym is))
+  read-back = grind (arith, common_steps, to_z-of_z, item_fits)
 
   -- it is put behind those read before
   pub read-onto : (all start items : List ℤ) → all ≡ start ++ items_in_line ws → items ≡ start ++ to_z w64 (of_z w64 x) ∷ [] → all ≡ items ++ items_in_line ws'
-  read-onto all start items held put =
-      held ∙ (ap (λ (xs : List ℤ). start ++ xs) read-first
-      ∙ sym (ap (λ (xs : List ℤ). xs ++ items_in_line ws') (put ∙ ap (λ (z : ℤ). start ++ z ∷ []) read-back) ∙ append_assoc start (x ∷ []) (items_in_line ws')))
+  read-onto all start items held put = grind (arith, common_steps, read-first, read-back, append_assoc)
 
   -- whether items rise, after the first one was read
   pub rise-first : (given : List (List ℕ)) → ws ≡ given → rise (items_in_line given) ≡ rise_from (to_z w64 (of_z w64 x)) (items_in_line ws')

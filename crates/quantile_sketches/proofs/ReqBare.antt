@@ -1,7 +1,9 @@
 -- REQ's actions depend on items only in their Puts.
-use Rattle.std.proofs.Common.{◌≡◌, ℕ, zero, suc, Bool, if◌then◌else◌, List, [], ◌∷◌, length, map, refl, ap}
-use Rattle.sketch_base.specs.Trace.{Action, Put, Redraw, joins_actions}
-use Rattle.sketch_req.specs.Schedule.{Layout, is_full, are_full, layout_at, put_layouts, joined_layouts, step_actions, steps_actions, actions_if_full, redraws_from, redraw_actions, merge_actions_by}
+use Rattle.std.proofs.Common.{arith}
+use Rattle.std.proofs.lemmas.Grind.{common_steps}
+use Rattle.std.proofs.Common.{◌≡◌, ℕ, zero, suc, Bool, if◌then◌else◌, List, [], ◌∷◌, length, map, refl}
+use Rattle.sketch_base.specs.Trace.{Redraw}
+use Rattle.sketch_req.specs.Schedule.{Layout, is_full, are_full, layout_at, step_actions, steps_actions, actions_if_full, redraws_from, merge_actions_by}
 use Rattle.sketch_req.specs.Level.{turns_coin}
 use Rattle.sketch_req.specs.declared.RankAccuracy.{RankAccuracy}
 use Rattle.quantile_sketches.specs.ReqRules.{req_rules}
@@ -25,20 +27,8 @@ module _ (A : Type 0) where
   -- the actions of either merge
   bare-merge : (redraws : Bool) (k : ℕ) (accuracy : RankAccuracy) (layouts others : List Layout) →
       map bare_action (merge_actions_by {A = A} redraws k accuracy layouts others) ≡ merge_actions_by redraws k accuracy layouts others
-  bare-merge redraws k accuracy layouts others =
-      let joined = joined_layouts k layouts others in
-      let joins = bare-joins A (length others) 0 in
-      let room = bare-room k accuracy joined in
-      bare-if redraws _ _ (bare-append (joins_actions (length others) 0) _ joins (bare-append (redraw_actions joined) _ (bare-redraws 0 joined) room))
-      (bare-append (joins_actions (length others) 0) _ joins room)
+  bare-merge redraws k accuracy layouts others = grind (arith, common_steps, bare-joins, bare-room, bare-if, bare-append, bare-redraws)
 
   -- REQ's rules depend on no item
   pub req-bare : AreBare {A = A} req_rules req_rules
-  req-bare = record {
-    decide = refl;
-    update = λ s lengths x. ap (λ (l : List (Action Unit)). Put 0 tt ∷ l) (bare-room s.k s.accuracy (put_layouts s.layouts));
-    weighted = λ s lengths x weight. refl;
-    redraw = λ s. bare-redraws 0 s.layouts;
-    merge = λ redraws s other work. bare-merge redraws s.k s.accuracy s.layouts other.layouts;
-    read_back = refl;
-  }
+  req-bare = grind (arith, common_steps, bare-room, bare-redraws, bare-merge)

@@ -1,9 +1,10 @@
 -- Copies of a REQ sketch, and what is read from its image, are as a run requires.
-use Rattle.std.proofs.Common.{◌≡◌, ℕ, zero, suc, false, List, [], ◌∷◌, length, map, Option, refl, sym, ap, ap₂, ◌∙◌, subst, Ordering}
+use Rattle.std.proofs.Common.{arith}
+use Rattle.std.proofs.lemmas.Grind.{common_steps}
+use Rattle.std.proofs.Common.{◌≡◌, ℕ, zero, suc, false, List, [], ◌∷◌, map, Option, refl, sym, ap, ◌∙◌, subst, Ordering}
 use mathlib.Core.Path.{fun_ext}
 use Rattle.std.specs.Cmp.{IsTotalOrder}
 use Rattle.std.specs.List.{AllZip}
-use Rattle.std.specs.declared.cmp.Ordering.TheVariants.{Equal}
 use Rattle.std.proofs.lemmas.List.Elements.{length_all_zip}
 use Rattle.sketch_base.specs.Bag.{Bag, AlikeReq, SameItems, sort}
 use Rattle.sketch_base.proofs.Counts.{sorted_items, SameCounts-from_items}
@@ -12,7 +13,7 @@ use Rattle.sketch_req.specs.Imaged.{IsSameLevel, IsSameSketch}
 use Rattle.sketch_req.specs.ImageLaws.{without_coins}
 use Rattle.sketch_req.specs.Level.{Level}
 use Rattle.sketch_req.specs.LevelImage.{forgotten}
-use Rattle.sketch_req.specs.Schedule.{Layout, layout_of, layouts_of}
+use Rattle.sketch_req.specs.Schedule.{Layout, layouts_of}
 use Rattle.sketch_req.specs.Sketch.{Req, IsSound}
 use Rattle.sketch_req.specs.declared.RankAccuracy.{RankAccuracy}
 use Rattle.sketch_req.proofs.WrittenSketches.{layouts_forgotten}
@@ -35,10 +36,7 @@ module _ {A : Type 0} {cmp : A → A → Ordering} (o : IsTotalOrder cmp) where
 
   same-layouts : (xs ys : List (Level A)) → AreSame xs ys → layouts_of ys ≡ layouts_of xs
   same-layouts [] [] c = refl
-  same-layouts (x ∷ xs) (y ∷ ys) c =
-      let n : length y.items ≡ length x.items = sym (length_all_zip (λ x y. cmp x y ≡ Equal) x.items y.items c.0.items) in
-      let one : layout_of y ≡ layout_of x = ap layout_of c.0.rest ∙ ap (λ (m : ℕ). let l : Layout = record (layout_of x) { count = m } in l) n in
-      ap₂ (λ (l : Layout) (ls : List Layout). l ∷ ls) one (same-layouts xs ys c.1)
+  same-layouts (x ∷ xs) (y ∷ ys) c = grind (arith, common_steps, length_all_zip, same-layouts xs ys c.1)
   same-layouts xs ys c = absurd c
 
   same-levels : (xs ys : List (Level A)) → AreSame xs ys → AllZip (λ xs ys. SameItems cmp (sort cmp xs) (sort cmp ys)) (map (λ level. level.items) xs) (map (λ level. level.items) ys)

@@ -1,12 +1,14 @@
 -- The accepted commands of a REQ run give the same tail numbers as all its commands, and the same trace except for some
 -- round trips.
-use Rattle.std.proofs.Common.{◌≡◌, ℕ, Bool, true, false, if◌then◌else◌, List, [], ◌∷◌, ◌++◌, length, Option, refl, sym, ap, ◌∙◌, subst, append-nil, Ordering}
+use Rattle.std.proofs.Common.{arith}
+use Rattle.std.proofs.lemmas.Grind.{common_steps}
+use Rattle.std.proofs.Common.{◌≡◌, ℕ, Bool, if◌then◌else◌, List, [], ◌∷◌, ◌++◌, length, Option, refl, sym, ap, ◌∙◌, subst, append-nil, Ordering}
 use Rattle.std.specs.Prelude.{Contains}
 use Rattle.std.specs.Cmp.{IsTotalOrder}
 use Rattle.sketch_base.specs.Trace.{Event}
 use Rattle.sketch_base.proofs.Picks.{Sheds, none, shed, sheds-none, sheds-append}
 use Rattle.quantile_sketches.specs.declared.commands.Command.TheVariants.{RoundTrip}
-use Rattle.quantile_sketches.specs.Plan.{Plan, start_plan, is_refused, accepted_events, events_of, plan_of, trace_of}
+use Rattle.quantile_sketches.specs.Plan.{Plan, start_plan, accepted_events, events_of, plan_of, trace_of}
 use Rattle.quantile_sketches.specs.Refused.{accepted_of, IsRefusedExactly, AreRefused}
 use Rattle.quantile_sketches.specs.ReqKind.{req_kind}
 use Rattle.quantile_sketches.specs.ReqPlan.{ReqCommand, accepted_tails, tails_of, no_tails}
@@ -24,20 +26,12 @@ module _ {A : Type 0} {cmp : A → A → Ordering} (o : IsTotalOrder cmp) (spell
   -- a refused command gives no event, except a round trip's Forget
   sheds-left : (before : List (ReqCommand A)) (c : ReqCommand A) (P : Type 0) → IsRefusedExactly (req_kind cmp spelling) word refused before c P → P →
       Sheds (events_of req_rules (plan_of req_rules before) c) []
-  sheds-left before (RoundTrip slot) P h p =
-      let plan = plan_of req_rules before in
-      elim (is_refused {A = A} req_rules plan.shapes (RoundTrip slot)) as (λ b. Sheds (if b then [] else accepted_events {A = A} req_rules plan (RoundTrip slot)) []) [
-        | true ↦ none
-        | false ↦ shed slot [] [] none
-      ]
+  sheds-left before (RoundTrip slot) P h p = grind (arith, common_steps, none, shed)
   sheds-left before c P h p = subst (λ (b : Bool). Sheds (if b then [] else accepted_events req_rules (plan_of req_rules before) c) []) (sym (h.0 p)) none
 
   sheds-more : (done fewer : List (ReqCommand A)) (c : ReqCommand A) (events trace : List (Event A)) → trace_of req_rules fewer ++ events ≡ trace → IsLeftOutReq done fewer →
       Sheds (events_of req_rules (plan_of req_rules done) c) events → Sheds (trace_of req_rules (done ++ c ∷ [])) trace
-  sheds-more done fewer c events trace e h sheds =
-      subst (λ (t : List (Event A)). Sheds t trace) (sym (trace-more req_rules done c))
-      (subst (Sheds (trace_of req_rules done ++ events_of req_rules (plan_of req_rules done) c)) e
-      (sheds-append (trace_of req_rules done) (trace_of req_rules fewer) (events_of req_rules (plan_of req_rules done) c) events h.trace sheds))
+  sheds-more done fewer c events trace e h sheds = grind (arith, common_steps, trace, trace-more, sheds-append)
 
   -- all refused commands may be left out, and all that is known of REQ slots stays the same
   pub req-left-out : (commands : List (ReqCommand A)) → AreRefused (req_kind cmp spelling) word commands refused → IsLeftOutReq commands (accepted_of refused commands)

@@ -1,8 +1,9 @@
 -- REQ's merges, with coins redrawn or not, don't change true ranks, nor do redraws, which lead to the same layouts.
-use Rattle.std.proofs.Common.{◌≡◌, ℕ, suc, zero, Bool, true, false, if◌then◌else◌, List, [], ◌∷◌, ◌++◌, length, append-nil, refl, ◌∙◌}
+use Rattle.std.proofs.Common.{arith}
+use Rattle.std.proofs.lemmas.Grind.{common_steps}
+use Rattle.std.proofs.Common.{◌≡◌, ℕ, suc, zero, Bool, true, false, List, [], ◌∷◌, ◌++◌, length, append-nil, refl, ◌∙◌}
 use Rattle.sketch_base.specs.Ranks.{true_ranks}
-use Rattle.sketch_base.specs.Trace.{Action, Redraw, joins_actions, events_at}
-use Rattle.sketch_req.specs.Level.{turns_coin}
+use Rattle.sketch_base.specs.Trace.{Action, joins_actions, events_at}
 use Rattle.sketch_req.specs.Schedule.{Layout, joined_layouts, redraws_from, redraw_actions, actions_if_full, merge_actions_by}
 use Rattle.sketch_req.specs.ScheduleLaws.{AreLayouts}
 use Rattle.sketch_req.specs.declared.RankAccuracy.{RankAccuracy}
@@ -21,22 +22,14 @@ module _ {A : Type 0} (test : A → Bool) (s : ℕ) where
   ranks-redraws : (h : ℕ) (drawn : List Layout) (actions : List (Action A)) (ranks : ℕ → ℕ) →
       true_ranks test (events_at s (redraws_from h drawn ++ actions)) ranks ≡ true_ranks test (events_at s actions) ranks
   ranks-redraws h [] actions ranks = refl
-  ranks-redraws h (layout ∷ above) actions ranks =
-      let more = ranks-redraws (suc h) above actions ranks in
-      elim (turns_coin layout.state) as (λ b. true_ranks test (events_at s (((if b then Redraw h ∷ [] else []) ++ redraws_from (suc h) above) ++ actions)) ranks
-      ≡ true_ranks test (events_at s actions) ranks) [
-        | true ↦ more
-        | false ↦ more
-      ]
+  ranks-redraws h (layout ∷ above) actions ranks = grind (arith, common_steps, ranks-redraws (suc h) above actions ranks)
 
   pub ranks-redraw : (ls : List Layout) (ranks : ℕ → ℕ) → true_ranks test (events_at s (redraw_actions ls)) ranks ≡ ranks
   ranks-redraw ls ranks = rw append-nil at (ranks-redraws 0 ls [] ranks)
 
   pub ranks-merge : (redraws : Bool) (k : ℕ) (accuracy : RankAccuracy) (ls others : List Layout) (ranks : ℕ → ℕ) →
       true_ranks test (events_at s (merge_actions_by redraws k accuracy ls others)) ranks ≡ ranks
-  ranks-merge true k accuracy ls others ranks =
-      let joined = joined_layouts k ls others in
-      ranks-joins (length others) 0 _ ranks ∙ (ranks-redraws 0 joined (actions_if_full k accuracy joined) ranks ∙ ranks-room k accuracy joined ranks)
+  ranks-merge true k accuracy ls others ranks = grind (arith, common_steps, ranks-joins, ranks-redraws, ranks-room)
   ranks-merge false k accuracy ls others ranks = ranks-joins (length others) 0 _ ranks ∙ ranks-room k accuracy (joined_layouts k ls others) ranks
 
 -- Redraws lead to the same layouts

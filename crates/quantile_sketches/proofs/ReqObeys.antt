@@ -1,5 +1,6 @@
 -- REQ sketches do what the rules of their kind say.
-use Rattle.std.proofs.Common.{◌≡◌, ◌≢◌, ◌⊎◌, ◌++◌, ℕ, zero, suc, ◌+◌, ◌-◌, ◌%◌, ◌^◌, ◌<◌, ◌≤◌, ◌==◌, ◌&&◌, not, if◌then◌else◌, Bool, true, false, List, [], ◌∷◌, Option, None, Some, Result, Ok, Err, refl, sym, ap, ap₂, ◌∙◌, inl, inr, arith, eqb-true, le-leb, eq-eqb, Ordering}
+use Rattle.std.proofs.lemmas.Grind.{common_steps}
+use Rattle.std.proofs.Common.{◌≡◌, ◌≢◌, ◌⊎◌, ◌++◌, ℕ, zero, suc, ◌+◌, ◌-◌, ◌%◌, ◌^◌, ◌<◌, ◌≤◌, ◌==◌, ◌&&◌, if◌then◌else◌, Bool, true, false, List, [], ◌∷◌, Option, None, Some, Result, Ok, Err, refl, sym, ap, ap₂, ◌∙◌, inl, inr, arith, eqb-true, le-leb, eq-eqb, Ordering}
 use Rattle.std.specs.Prelude.{◌↔◌, IsTrue, IfOk, IfErr}
 use Rattle.std.proofs.lemmas.Result.{IfOk-weaker}
 use Rattle.std.proofs.lemmas.Bool.Decides.{nat_tests}
@@ -56,10 +57,7 @@ both-retained s p = ap₂ (λ (n m : ℕ). n + m) (retained_is s.levels) (retain
 -- a merge that the rules refuse
 unfit : {A : Type 0} (s p : Req A) → no_merge (req_shape s) (req_shape p) ≡ true →
     (s.accuracy ≢ p.accuracy) ⊎ ((2 ^ 64 ≤ s.n + p.n) ⊎ (2 ^ 32 ≤ retained (bag_of s.levels) + retained (bag_of p.levels)))
-unfit s p is =
-    let both = both-retained s p in
-    let same : s.accuracy ≡ p.accuracy → is_same s.accuracy p.accuracy ≡ true = λ e. ap (is_same s.accuracy) (sym e) ∙ same-itself s.accuracy in
-    grind (arith, nat_tests)
+unfit s p is = grind (arith, common_steps, both-retained, same-itself, nat_tests)
 
 module _ {A : Type 0} {cmp : A → A → Ordering} (o : IsTotalOrder cmp) (spelling : A → Option (List ℕ)) where
   -- an item is the extreme of itself alone
@@ -80,26 +78,12 @@ module _ {A : Type 0} {cmp : A → A → Ordering} (o : IsTotalOrder cmp) (spell
 
   empty-of : (k : ℕ) (accuracy : RankAccuracy) (shape : Option ReqShape) (s : Req A) → IsEmptyOf cmp spelling k accuracy s → shape ≡ Some (new_shape k accuracy) →
       IsFresh (req_kind cmp spelling) shape s
-  empty-of k accuracy shape s is e = record {
-    shape_is = e ∙ ap Some (same-shape _ _ _ _ _ _ _ _ (sym is.0) (sym is.1) (sym is.2) (sym (ap layouts_of is.3)));
-    bag_is = ap bag_of is.3 ∙ empty-levels k accuracy;
-    least_is = is.4;
-    greatest_is = is.5;
-    sound = is.6;
-  }
+  empty-of k accuracy shape s is e = grind (arith, common_steps, same-shape, empty-levels)
 
   made : (config : ℕ × RankAccuracy) (r : Result (Req A) ErrorKind) → IsMade cmp spelling config r →
       IfOk r (IsFresh (req_kind cmp spelling) ((req_rules {A = A}).made config)) × IfErr r (Refuses ((req_rules {A = A}).made config))
-  made config (Ok s) h = (empty-of config.0 config.1 _ s h.2 (ap (λ (b : Bool). none_if (not b) (new_shape config.0 config.1)) legal), tt)
-    where
-      legal : may_be_k config.0 ≡ true
-      legal = true_from_ne_false _ (λ f. no-err s InvalidArgument (h.0.1 (λ l. both_ways _ f (may-be config.0 l))))
-  made config (Err e) h = (
-    tt,
-    refuses-by (not (may_be_k config.0)) (new_shape config.0 config.1) e
-        (λ t. err-of {T = Req A} e (h.0.1 (λ l. both_ways _ (not-true _ t) (may-be config.0 l))))
-        (λ f. h.1 (legal_k config.0 (not-false (may_be_k config.0) f))),
-  )
+  made config (Ok s) h = grind (arith, common_steps, empty-of, may_be_k, true_from_ne_false, no-err, both_ways, may-be)
+  made config (Err e) h = grind (arith, common_steps, refuses-by, may_be_k, err-of, both_ways, not-true, may-be, legal_k, not-false)
 
   read-back : IsPrefixFree spelling → SpellingsTie cmp spelling → (s : Req A) (bytes : Vec ℕ Global) (r : Result (Req A) ErrorKind) → IsImaged cmp spelling s (Ok bytes) →
       IsLoaded cmp spelling bytes.items r →
@@ -111,11 +95,7 @@ module _ {A : Type 0} {cmp : A → A → Ordering} (o : IsTotalOrder cmp) (spell
   -- two sketches whose merge the rules accept fit
   fits : (s p : Req A) → IsSound cmp s → IsSound cmp p → no_merge (req_shape s) (req_shape p) ≡ false →
       (s.accuracy ≡ p.accuracy) × (s.n + p.n < 2 ^ 64) × (retained (bag_of s.levels) + retained (bag_of p.levels) < 2 ^ 32)
-  fits s p sound other is =
-      let same = same_accuracy s.accuracy p.accuracy (not-false _ (or_parts (not (is_same s.accuracy p.accuracy)) _ is).0) in
-      let both = both-retained s p in
-      let empty : p.n ≡ 0 → retained_of (layouts_of p.levels) ≡ 0 = λ none. ap (λ (q : Req A). retained_of (layouts_of q.levels)) (other.empty_at_first none) in
-      (same, grind (arith, nat_tests), grind (arith, nat_tests))
+  fits s p sound other is = grind (arith, common_steps, same_accuracy, not-false, or_parts, both-retained, nat_tests)
 
   -- sound sketches whose merge the rules accept aren't unfit
   unfit-not : (s p : Req A) → IsSound cmp s → IsSound cmp p → IsUnfit cmp spelling s p → no_merge (req_shape s) (req_shape p) ≡ false → ⊥
@@ -125,9 +105,7 @@ module _ {A : Type 0} {cmp : A → A → Ordering} (o : IsTotalOrder cmp) (spell
 
   refuses : (redraws : Bool) (s p : Req A) (answer : Bool) → IsSound cmp s → IsSound cmp p → IsTrue answer ↔ IsUnfit cmp spelling s p →
       IsTrue answer ↔ ((req_rules {A = A}).merged redraws (req_shape s) (req_shape p) ≡ None)
-  refuses redraws s p answer sound other h =
-      let none = unless-none (no_merge (req_shape s) (req_shape p)) _ in
-      (λ t. none.0 (true_from_ne_false _ (unfit-not s p sound other (h.0 t))), λ absent. h.1 (unfit s p (none.1 absent)))
+  refuses redraws s p answer sound other h = grind (arith, common_steps, unless-none, no_merge, true_from_ne_false, unfit-not, unfit)
 
   module _ {Source : Type 0} (bit : Source → Bool) (next : Source → Source) where
     -- an update that the rules refuse

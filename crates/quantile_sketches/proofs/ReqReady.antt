@@ -1,4 +1,6 @@
 -- A slot of a REQ run that stays fair by its commands is fair, and so unbiased.
+use Rattle.std.proofs.Common.{arith}
+use Rattle.std.proofs.lemmas.Grind.{common_steps}
 use Rattle.std.proofs.Common.{◌≡◌, ℕ, Bool, true, false, ◌==◌, if◌then◌else◌, List, [], ◌∷◌, ◌++◌, Option, Some, refl, ◌∙◌, Ordering}
 use Rattle.sketch_base.specs.Fair.{none_drawn}
 use Rattle.sketch_base.specs.Trace.{Event, changed}
@@ -11,7 +13,7 @@ use Rattle.quantile_sketches.specs.Plan.{Plan, start_plan, events_of, plan_after
 use Rattle.quantile_sketches.specs.ReqFair.{is_fair_slot}
 use Rattle.quantile_sketches.specs.ReqPlan.{ReqCommand, shape_in}
 use Rattle.quantile_sketches.specs.ReqReady.{Fairness, new_fairness, updated_fairness, with_ready, merged_fairness, fairness_in, accepted_fairness, stays_fair}
-use Rattle.quantile_sketches.specs.ReqRules.{ReqShape, new_shape, req_rules}
+use Rattle.quantile_sketches.specs.ReqRules.{ReqShape, req_rules}
 use Rattle.quantile_sketches.specs.Run.{AreUnbiasedWhere, WithEnoughBits}
 use Rattle.quantile_sketches.proofs.PlanSteps.{after_command}
 use Rattle.quantile_sketches.proofs.ReqFair.{run-unbiased_where_fair}
@@ -34,20 +36,13 @@ module _ {A : Type 0} (slot : ℕ) where
   at-one : (shapes : ℕ → Option ReqShape) (fairs : ℕ → Fairness) (s : ℕ) (shape : ReqShape) (f : Fairness) (rest : List (Event A)) →
       Stand (changed shapes s (Some shape)) (changed fairs s f) rest →
       Stands slot (changed (layouts_in shapes) s shape.layouts) (changed (λ j. (fairs j).is_ready) s f.is_ready) (changed (λ j. (fairs j).is_fair) s f.is_fair) rest
-  at-one shapes fairs s shape f rest n =
-      stands-same slot _ _ _ _ _ _ rest
-      (changed-through shapes (λ (o : Option ReqShape). (shape_in o).layouts) s (Some shape))
-      (changed-through fairs (λ (g : Fairness). g.is_ready) s f)
-      (changed-through fairs (λ (g : Fairness). g.is_fair) s f) n
+  at-one shapes fairs s shape f rest n = grind (arith, common_steps, stands-same, changed-through)
 
   -- if one slot becomes ready, or not ready
   ready-one : (shapes : ℕ → Option ReqShape) (fairs : ℕ → Fairness) (s : ℕ) (b : Bool) (rest : List (Event A)) →
       Stand shapes (changed fairs s (with_ready (fairs s) b)) rest →
       Stands slot (layouts_in shapes) (changed (λ j. (fairs j).is_ready) s b) (λ j. (fairs j).is_fair) rest
-  ready-one shapes fairs s b rest n =
-      stands-same slot _ _ _ _ _ _ rest (λ j. refl)
-      (changed-through fairs (λ (g : Fairness). g.is_ready) s (with_ready (fairs s) b))
-      (λ j. changed-through fairs (λ (g : Fairness). g.is_fair) s (with_ready (fairs s) b) j ∙ changed-own (λ i. (fairs i).is_fair) s j) n
+  ready-one shapes fairs s b rest n = grind (arith, common_steps, stands-same, changed-through, changed-own)
 
   -- a merge, with coins redrawn or not
   merge-stands : (redraws : Bool) (shapes : ℕ → Option ReqShape) (fairs : ℕ → Fairness) (into source : ℕ) (rest : List (Event A)) →
@@ -81,9 +76,7 @@ module _ {A : Type 0} (slot : ℕ) where
 
   accepted-stands : (shapes : ℕ → Option ReqShape) (fairs : ℕ → Fairness) (command : ReqCommand A) (rest : List (Event A)) →
       Stand (accepted_req_shapes shapes command) (accepted_fairness shapes fairs command) rest → Stand shapes fairs (accepted_req_events shapes command ++ rest)
-  accepted-stands shapes fairs (New s config) rest n =
-      stands-clear slot s (layouts_in shapes) (λ j. (fairs j).is_ready) (λ j. (fairs j).is_fair) rest
-      (at-one shapes fairs s (new_shape config.0 config.1) new_fairness rest n)
+  accepted-stands shapes fairs (New s config) rest n = grind (arith, common_steps, stands-clear, at-one)
   accepted-stands shapes fairs (Update s x) rest n =
       let shape = shape_in (shapes s) in
       let f = updated_fairness (fairs s) in
@@ -92,10 +85,7 @@ module _ {A : Type 0} (slot : ℕ) where
       (at-one shapes fairs s (updated_shape shape) f rest n))
   accepted-stands shapes fairs (UpdateWeighted s x weight) rest n = n
   accepted-stands shapes fairs (Merge into source) rest n = merge-stands false shapes fairs into source rest n
-  accepted-stands shapes fairs (Reset s) rest n =
-      let shape = shape_in (shapes s) in
-      stands-clear slot s (layouts_in shapes) (λ j. (fairs j).is_ready) (λ j. (fairs j).is_fair) rest
-      (at-one shapes fairs s (new_shape shape.k shape.accuracy) new_fairness rest n)
+  accepted-stands shapes fairs (Reset s) rest n = grind (arith, common_steps, stands-clear, at-one)
   accepted-stands shapes fairs (RoundTrip s) rest n =
       stands-forget slot s (layouts_in shapes) (λ j. (fairs j).is_ready) (λ j. (fairs j).is_fair) rest (ready-one shapes fairs s false rest n)
   accepted-stands shapes fairs (Redraw s) rest n =

@@ -1,4 +1,5 @@
 -- REQ's rules are lawful.
+use Rattle.std.proofs.lemmas.Grind.{common_steps}
 use Rattle.std.proofs.Common.{◌%◌, ◌≡◌, ℕ, ◌+◌, ◌^◌, ◌<◌, ◌≤◌, Bool, true, false, ◌||◌, ◌&&◌, ◌==◌, not, if◌then◌else◌, List, [], ◌∷◌, append-nil, sum, Some, refl, sym, ap, ◌∙◌, subst, arith, nat_le}
 use Rattle.std.proofs.lemmas.Bool.Decides.{nat_tests}
 use Rattle.std.proofs.lemmas.Bool.{false≢true, ne_eqb, or_parts}
@@ -178,20 +179,10 @@ module _ (A : Type 0) where
       })
 
   merge-none : (redraws : Bool) (s other t : ReqShape) → (req_rules {A = A}).merged redraws s other ≡ Some t → other.n ≡ 0 → (lengths : List ℕ) → FitsReq s lengths → FitsReq t lengths
-  merge-none redraws s other t e z lengths h =
-      let u = unless-there _ _ t e in
-      let n : s.n ≡ s.n + other.n = omega arith in
-      let same : s ≡ merged_as s other s.layouts = λ i. let shape : ReqShape = record s { n = n i } in shape in
-      let is : merged_as s other s.layouts ≡ t = ap (λ (n : ℕ). merged_as s other (if n == 0 then s.layouts else merge_layouts s.k s.layouts other.layouts)) (sym z) ∙ u.1 in
-      subst (λ (shape : ReqShape). FitsReq shape lengths) (same ∙ is) h
+  merge-none redraws s other t e z lengths h = grind (arith, common_steps, unless-there)
 
   merge-counts : (redraws : Bool) (s other t : ReqShape) → (req_rules {A = A}).merged redraws s other ≡ Some t → (t.n ≡ s.n + other.n) × (s.n < 2 ^ 64 → t.n < 2 ^ 64)
-  merge-counts redraws s other t e =
-      let u = unless-there (no_merge s other) (merged_as s other (if other.n == 0 then s.layouts else merge_layouts s.k s.layouts other.layouts)) t e in
-      let n : t.n ≡ s.n + other.n = ap (λ (shape : ReqShape). shape.n) (sym u.1) in (
-        n,
-        λ few. grind (arith, nat_tests),
-      )
+  merge-counts redraws s other t e = grind (arith, common_steps, unless-there, nat_tests)
 
 module _ {A : Type 0} where
   -- REQ's rules are lawful

@@ -1,7 +1,8 @@
 -- A slot that was only updated is like a fresh sketch that took its stream, so it is unbiased and its errors are relative.
+use Rattle.std.proofs.lemmas.Grind.{common_steps}
 use Rattle.sketch_req.proofs.Relatives.{updates_relative, updates_relative_to_counts}
 use Rattle.std.specs.Cmp.{IsTotalOrder}
-use Rattle.std.proofs.Common.{◌≡◌, ℕ, suc, ◌+◌, ◌-◌, ◌*◌, ◌^◌, ◌<◌, ◌≤◌, Bool, true, false, ◌&&◌, ◌==◌, if◌then◌else◌, List, [], ◌∷◌, ◌++◌, length, replicate, count_by, Option, None, Some, IsTrue, refl, sym, ap, ap₂, ◌∙◌, subst, arith, eqb-true, append_assoc, append-nil, Ordering}
+use Rattle.std.proofs.Common.{◌≡◌, ℕ, suc, ◌+◌, ◌-◌, ◌*◌, ◌^◌, ◌<◌, ◌≤◌, Bool, true, false, ◌&&◌, ◌==◌, if◌then◌else◌, List, [], ◌∷◌, ◌++◌, length, count_by, Option, None, Some, IsTrue, refl, sym, ap, ap₂, ◌∙◌, subst, arith, eqb-true, append_assoc, append-nil, Ordering}
 use Rattle.std.proofs.Math.Nat.{mul-le-mul_left}
 use Rattle.std.proofs.lemmas.Bool.{false≢true}
 use Rattle.std.proofs.lemmas.Nat.{pow-add}
@@ -47,9 +48,7 @@ module _ {A : Type 0} where
   updates_more : (k : ℕ) (accuracy : RankAccuracy) (ls : List Layout) (xs : List A) (x : A) →
       updates_actions k accuracy ls (xs ++ x ∷ []) ≡ updates_actions k accuracy ls xs ++ update_actions k accuracy (updates_layouts k ls xs) x
   updates_more k accuracy ls [] x = append-nil (update_actions k accuracy ls x)
-  updates_more k accuracy ls (y ∷ ys) x =
-      ap (λ actions. update_actions k accuracy ls y ++ actions) (updates_more k accuracy (update_layouts k ls) ys x)
-      ∙ sym (append_assoc (update_actions k accuracy ls y) (updates_actions k accuracy (update_layouts k ls) ys) (update_actions k accuracy (updates_layouts k (update_layouts k ls) ys) x))
+  updates_more k accuracy ls (y ∷ ys) x = grind (arith, common_steps, append_assoc, updates_more k accuracy (update_layouts k ls) ys x)
 
   layouts_more : (k : ℕ) (ls : List Layout) (xs : List A) (x : A) → updates_layouts k ls (xs ++ x ∷ []) ≡ update_layouts k (updates_layouts k ls xs)
   layouts_more k ls [] x = refl
@@ -87,10 +86,7 @@ module _ {A : Type 0} where
   own-changed : (shapes : ℕ → Option ReqShape) (only : ℕ → Bool) (trace : List (Event A)) (streams : ℕ → List A) → AreOwn shapes only trace streams →
       (s : ℕ) (events : List (Event A)) (shape : Option ReqShape) (b : Bool) (stream : List A) → ((j : ℕ) → (j == s) ≡ false → picked j (trace ++ events) ≡ picked j trace) →
       IsOwn shape b (picked s (trace ++ events)) stream → AreOwn (changed shapes s shape) (changed only s b) (trace ++ events) (changed streams s stream)
-  own-changed shapes only trace streams h s events shape b stream away here =
-      at_slot s (λ j. IsOwn (changed shapes s shape j) (changed only s b j) (picked j (trace ++ events)) (changed streams s stream j))
-      (rw (changed-there shapes s shape, changed-there only s b, changed-there streams s stream) here)
-      (λ j e. rw (changed-away shapes s shape j e, changed-away only s b j e, changed-away streams s stream j e, away j e) (h j))
+  own-changed shapes only trace streams h s events shape b stream away here = grind (arith, common_steps, at_slot, picked, changed-there, changed-away)
 
   fresh-cleared : (slot k : ℕ) (accuracy : RankAccuracy) (trace : List (Event A)) → IsFresh (new_shape k accuracy) (picked slot (trace ++ events_at slot (Clear ∷ []))) []
   fresh-cleared slot k accuracy trace = record { actions_are = picked-cleared slot trace; layouts_are = refl }
@@ -140,9 +136,7 @@ module _ {A : Type 0} where
   -- a slot that is no longer only updated, after actions that leave its stream unchanged
   ended-own : (shapes : ℕ → Option ReqShape) (only : ℕ → Bool) (trace : List (Event A)) (streams : ℕ → List A) → AreOwn shapes only trace streams → (slot : ℕ) (actions : List (Action A)) →
       AreOwn shapes (changed only slot false) (trace ++ events_at slot actions) streams
-  ended-own shapes only trace streams h slot actions j =
-      rw (changed-own shapes slot j, changed-own streams slot j) at
-      (own-changed shapes only trace streams h slot (events_at slot actions) (shapes slot) false (streams slot) (λ i e. picked-away i slot trace actions e) (λ t. absurd (false≢true t)) j)
+  ended-own shapes only trace streams h slot actions j = grind (arith, common_steps, changed-own, own-changed, picked-away, false≢true)
 
   accepted-own : (shapes : ℕ → Option ReqShape) (only : ℕ → Bool) (trace : List (Event A)) (streams : ℕ → List A) → AreOwn shapes only trace streams →
       ((j : ℕ) → count_of (req_rules {A = A}) (shapes j) ≡ length (streams j)) → (command : ReqCommand A) →
@@ -156,9 +150,7 @@ module _ {A : Type 0} where
       rw (changed-own only slot j) at
       (own-changed shapes only trace streams h slot (events_at slot actions) (Some (updated_shape s)) (only slot) (streams slot ++ x ∷ []) (λ i e. picked-away i slot trace actions e)
       (λ t. fresh-updated slot s trace (streams slot) x (h slot t)) j)
-  accepted-own shapes only trace streams h counts (UpdateWeighted slot x weight) = λ j.
-      rw (changed-own shapes slot j) at
-      (own-changed shapes only trace streams h slot [] (shapes slot) false (streams slot ++ replicate weight x) (λ i e. ap (picked i) (append-nil trace)) (λ t. absurd (false≢true t)) j)
+  accepted-own shapes only trace streams h counts (UpdateWeighted slot x weight) = grind (arith, common_steps, changed-own, own-changed, picked, append-nil, false≢true)
   accepted-own shapes only trace streams h counts (Merge into source) = merge-own false shapes only trace streams h counts into source
   accepted-own shapes only trace streams h counts (Reset slot) =
       let s = shape_in (shapes slot) in

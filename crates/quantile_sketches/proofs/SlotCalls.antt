@@ -1,4 +1,6 @@
 -- What comes of a call on a slot, by what the slot holds and what the call returns, and the replies of split points and images.
+use Rattle.std.proofs.Common.{arith}
+use Rattle.std.proofs.lemmas.Grind.{common_steps}
 use Rattle.std.proofs.Common.{◌≡◌, Bool, true, ℤ, List, Option, Some, None, Result, Ok, Err, IsErrAnd, refl, sym, ap, subst, inl, inr, ◌∙◌}
 use Rattle.std.specs.Prelude.{MatchResult}
 use Rattle.sketch_base.specs.declared.error.ErrorKind.{ErrorKind}
@@ -55,9 +57,7 @@ pub copy_refused : {S A C Source : Type 0} (behaviour : Behaviour S A C) (bit : 
     (slot : Option S) (s : S)
     (coins : Source) → slot ≡ Some s → behaviour.refuses redraws s s refused → refused ≡ true →
     Turns (JoinsCopy behaviour bit next redraws) slot coins (Err (Sketch InvalidArgument)) (Some s) coins
-copy_refused behaviour bit next redraws refused slot s coins is told full =
-    turns-refused (JoinsCopy behaviour bit next redraws) slot s s coins coins InvalidArgument (Err (Sketch InvalidArgument)) is refl
-    (inl (subst (behaviour.refuses redraws s s) full told, refl, refl, refl))
+copy_refused behaviour bit next redraws refused slot s coins is told full = grind (arith, common_steps, turns-refused)
 
 -- what comes of split points
 module _ {S C : Type 0} (behaviour : Behaviour S ℤ C) (points : List ℤ) where

@@ -1,4 +1,5 @@
 -- The sketches behind the answers to lines summarize what is told of them, also after images were loaded.
+use Rattle.std.proofs.lemmas.Grind.{common_steps}
 use Rattle.std.proofs.Common.{◌≡◌, ◌≢◌, ℕ, ℤ, ◌==◌, Bool, true, false, if◌then◌else◌, List, [], ◌∷◌, replicate, set, Option, None, Some, Ok, Err, is_ok, is_some, refl, sym, ap, ◌∙◌, subst, inl, inr, eqb-true, arith, Ordering, Result}
 use Rattle.std.specs.Cmp.{IsTotalOrder}
 use Rattle.std.specs.Option.{option_and_then, option_map}
@@ -18,10 +19,9 @@ use Rattle.sketch_base.specs.declared.error.ErrorKind.{ErrorKind}
 use Rattle.sketch_base.specs.declared.error.ErrorKind.TheVariants.{InvalidArgument}
 use Rattle.sketch_req.specs.Image.{BeginsImage}
 use Rattle.sketch_req.specs.ImageLaws.{OneSketch, without_coins}
-use Rattle.sketch_req.specs.Level.{fresh}
 use Rattle.sketch_req.specs.Merged.{coins_of_merge_by}
 use Rattle.sketch_req.specs.Redrawn.{coins_of_redraw}
-use Rattle.sketch_req.specs.Sketch.{Req, IsSound, coins_of_update, sketch_of}
+use Rattle.sketch_req.specs.Sketch.{Req, IsSound, coins_of_update}
 use Rattle.sketch_req.specs.declared.RankAccuracy.{RankAccuracy}
 use Rattle.sketch_req.specs.declared.RankAccuracy.TheVariants.{HighRank, LowRank}
 use Rattle.quantile_sketches.specs.declared.answer.Refusal.{Refusal}
@@ -78,15 +78,7 @@ module _ {A Source : Type 0} {cmp : A → A → Ordering} (order : IsTotalOrder 
   -- ---- calls
 
   is-empty : (k : ℕ) (accuracy : RankAccuracy) (s : Req A) → IsEmptyOf cmp spelling k accuracy s → Summarizes cmp s [] k
-  is-empty k accuracy s is =
-      let a = is.0 in
-      let b = is.1 in
-      let c = is.2 in
-      let d = is.3 in
-      let e = is.4 in
-      let f = is.5 in
-      let whole : sketch_of s.k s.accuracy s.n s.levels s.least s.greatest ≡ sketch_of k accuracy 0 (fresh [] true 0 k accuracy ∷ []) None None = cc in
-      subst (λ (x : Req A). Summarizes cmp x [] k) (sym whole) (empty-summarizes order k k accuracy (omega arith))
+  is-empty k accuracy s is = grind (arith, common_steps, empty-summarizes)
 
   taken : (told : Option (Told A)) (x : A) (s t : Req A) (coins coins' : Source) → IsGood told s → TakesIn cmp spelling bit next s x coins (Ok tt) t coins' → IsGood (option_map (told_more x) told) t
   taken told x s t coins coins' good h =

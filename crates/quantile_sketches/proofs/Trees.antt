@@ -1,6 +1,7 @@
 -- A slot that took only updates and free slots took each coin in once, and no two free slots have a coin in common.
+use Rattle.std.proofs.Common.{arith}
+use Rattle.std.proofs.lemmas.Grind.{common_steps}
 use Rattle.std.proofs.Common.{◌≡◌, ℕ, Bool, true, false, ◌&&◌, ◌==◌, if◌then◌else◌, List, [], ◌∷◌, Option, Some, refl, sym, ap, ◌∙◌, subst, inl, inr, eqb-true}
-use Rattle.std.specs.Option.{option_and_then}
 use Rattle.std.proofs.lemmas.Bool.{cases_Bool, and_from, eq-eqb, ne_eqb, false≢true}
 use Rattle.sketch_base.specs.Shares.{shares_after, all_shares, share_no_coin, takes_once}
 use Rattle.sketch_base.specs.Trace.{Action, Clear, Event, Snap, At, Work, changed, events_at}
@@ -205,10 +206,7 @@ module _ {A : Type 0} where
       trees-merge A stands once shares many i into source (merge_actions s.k work) (merge-once A source into s.k work shares once (st.fits into s held).0))
   accepted-trees plan st stands once shares many i (Redraw slot) t e =
       let (s, held, none) = then-there (kll_rules {A = A}).redrawn (plan.shapes slot) t e in absurd (not-none t none)
-  accepted-trees plan st stands once shares many i (MergeRedrawn into source) t e =
-      let (s, held, u) = then-there (λ shape. option_and_then ((kll_rules {A = A}).merged true shape) (plan.shapes source)) (plan.shapes into) t e in
-      let (other, held_other, none) = then-there ((kll_rules {A = A}).merged true s) (plan.shapes source) t u in
-      absurd (not-none t none)
+  accepted-trees plan st stands once shares many i (MergeRedrawn into source) t e = grind (arith, common_steps, then-there, not-none)
 
   -- so trees of merges take each coin in once
   pub trees-take_once : TreesTakeOnce A

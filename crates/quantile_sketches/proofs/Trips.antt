@@ -1,4 +1,5 @@
 -- A slot to which a REQ trace is fair holds the same items whatever round trips of the trace are left out.
+use Rattle.std.proofs.lemmas.Grind.{common_steps}
 use Rattle.std.proofs.Common.{◌≡◌, ℕ, Bool, true, false, not, ◌&&◌, ◌||◌, ◌==◌, if◌then◌else◌, List, [], ◌∷◌, ◌++◌, length, map, sum, take, drop, refl, sym, ap, ap₂, ◌∙◌, subst, arith, eqb-true, ⊎_elim, Ordering}
 use Rattle.std.proofs.lemmas.Bool.{and_parts, or_cases, or_left, or_right, false≢true, eq-eqb}
 use Rattle.std.proofs.lemmas.List.Sums.{sum_by-cons}
@@ -22,10 +23,7 @@ module _ {A : Type 0} where
   one-same : (drawn : ℕ → ℕ → Bool) (slots slots' : ℕ → Bag A) (reach reach' : ℕ → Bool) → ((i : ℕ) → reach i ≡ true → AreSame (drawn i) (slots i) (slots' i)) →
       (s : ℕ) (row : ℕ → Bool) (bag bag' : Bag A) → ((i : ℕ) → (i == s) ≡ false → reach' i ≡ true → reach i ≡ true) → (reach' s ≡ true → AreSame row bag bag') →
       (i : ℕ) → reach' i ≡ true → AreSame (changed drawn s row i) (changed slots s bag i) (changed slots' s bag' i)
-  one-same drawn slots slots' reach reach' all s row bag bag' back here =
-      at_slot s (λ i. reach' i ≡ true → AreSame (changed drawn s row i) (changed slots s bag i) (changed slots' s bag' i))
-      (rw (changed-there drawn s row, changed-there slots s bag, changed-there slots' s bag') here)
-      (λ i e reached. rw (changed-away drawn s row i e, changed-away slots s bag i e, changed-away slots' s bag' i e) (all i (back i e reached)))
+  one-same drawn slots slots' reach reach' all s row bag bag' back here = grind (arith, common_steps, at_slot, changed-there, changed-away)
 
   -- levels without items are the same if there are equally many of them
   no-items : (levels levels' : List (List A)) → map length levels ≡ map length levels' → sum (map length levels) ≡ 0 → levels ≡ levels'
@@ -46,10 +44,7 @@ module _ {A : Type 0} where
 -- one kept bit changes in both bags
 kept-changed : (row bits bits' : ℕ → Bool) (h : ℕ) (bit bit' : Bool) → bit ≡ bit' → ((j : ℕ) → (j == h) ≡ false → row j ≡ true → bits j ≡ bits' j) →
     (j : ℕ) → row j ≡ true → changed bits h bit j ≡ changed bits' h bit' j
-kept-changed row bits bits' h bit bit' same others =
-    at_slot h (λ j. row j ≡ true → changed bits h bit j ≡ changed bits' h bit' j)
-    (λ drawn. rw (changed-there bits h bit, changed-there bits' h bit') same)
-    (λ j e drawn. rw (changed-away bits h bit j e, changed-away bits' h bit' j e) (others j e drawn))
+kept-changed row bits bits' h bit bit' same others = grind (arith, common_steps, at_slot, changed-there, changed-away)
 
 -- marking one level as drawn doesn't mark others
 drawn-others : (drawn : ℕ → Bool) (h j : ℕ) → (j == h) ≡ false → changed drawn h true j ≡ true → drawn j ≡ true

@@ -1,4 +1,6 @@
 -- A line's command is what its verb and its slot ask for.
+use Rattle.std.proofs.Common.{arith}
+use Rattle.std.proofs.lemmas.Grind.{common_steps}
 use Rattle.std.proofs.Common.{◌≡◌, ℕ, List, [], ◌∷◌, Some, None, Option, drop, ap, ◌∙◌, slice_get}
 use Rattle.std.specs.Option.{option_and_then}
 use Rattle.quantile_sketches.specs.Reader.{Grammar, parse_slot}
@@ -12,9 +14,7 @@ pub asked-by : {C : Type 0} (grammar : Grammar C) (ws ws' : List (List ℕ)) {ws
     ws'' ≡ drop 1 ws' →
     r ≡ request_of grammar ws
 asked-by grammar [] ws' verb asks first rest second last = absurd cc
-asked-by grammar (w ∷ ws) ws' {ws''} verb {slot} asks first rest second last =
-    then-read parse_slot (parse_asked grammar w) ws _ slot (second ∙ ap (λ (vs : List (List ℕ)). option_and_then parse_slot (slice_get vs 0)) rest)
-    (last ∙ ap (drop 1) rest) (asks ∙ ap (λ (v : List ℕ). parse_asked grammar v slot ws'') (let same : verb ≡ w = cc in same))
+asked-by grammar (w ∷ ws) ws' {ws''} verb {slot} asks first rest second last = grind (arith, common_steps, then-read)
 
 -- no slot is read after the verb
 pub asked-no-slot : {C : Type 0} (grammar : Grammar C) (ws ws' : List (List ℕ)) {r : Option (Request C)} → r ≡ None → ws' ≡ drop 1 ws →
