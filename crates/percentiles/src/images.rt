@@ -1,0 +1,197 @@
+//! How lines of images are merged by their keys, and written.
+use crate::failure::Failure;
+use crate::lines::{MARK, MOST_AHEAD, TakeFile};
+use crate::options::{Making, Options, Task};
+use crate::reports::{Place, push_cut};
+use crate::table::Surety;
+use crate::text::push_printable;
+use log_groups::fault::Fault;
+use log_groups::groups::{Groups, Joined};
+use log_groups::images::{Merging, Outcome, Refusal, parts_of, push_line};
+use log_groups::lines::{TakeLine, len_before, take_lines};
+use md5::{Digest, Md5};
+use std::alloc::{AllocError, Global};
+use std::collections::BTreeSet;
+use std::io::{BufReader, Read, Write};
+
+/// Takes lines 'KEY<tab>IMAGE<tab>DECIMALS<tab>CHECKSUM', and merges their images by key.
+#[derive(Drop)]
+pub struct Images {
+    name: &'static str,
+    merging: Merging,
+    /// The same line may come again.
+    again: bool,
+    place: Place,
+    pub groups: Groups,
+    /// The digests of the lines so far.
+    seen: BTreeSet<[u8; 16]>,
+    /// How many lines of this file are left out.
+    refused: u64,
+    /// No line was left out, of any file.
+    pub is_whole: bool,
+    /// How many lines are of another accuracy than those before of their key.
+    unlike: u64,
+    /// What is to be told.
+    pub told: Vec<u8>,
+}
+
+/// The most lines of a file that are told of.
+const MOST_TOLD: u64 = 10;
+
+impl TakeLine for Images {
+    ghost takes = { λ s l t. Unit };
+
+    ghost leaves = { λ s t. Unit };
+
+    fn take_line(&mut self, alloc: Global, line: &[u8]) -> Result<(), Fault> {
+        self.place.line = self.place.line.saturating_add(1);
+        let line = match line.strip_prefix(MARK) {
+            Some(behind) if self.place.line == 1 => behind,
+            _ => line,
+        };
+        let line = line.strip_suffix(b"\r").unwrap_or(line);
+        let is_image = parts_of(alloc, line)?.is_ok();
+        if is_image && !self.again && !self.seen.insert(Md5::digest(line))? {
+            return Ok(self.refuse(line, "came before (--again takes such lines, too)")?);
+        }
+        match self.groups.join_line(alloc, line, self.merging)? {
+            Outcome::Taken => {}
+            Outcome::OtherAccuracy => self.unlike = self.unlike.saturating_add(1),
+            Outcome::Refused(why) => self.refuse(line, told_of(why))?,
+        }
+        Ok(())
+    }
+}
+
+/// Returns what is told of a line that is left out.
+fn told_of(why: Refusal) -> &'static str {
+    match why {
+        Refusal::NoImage => "is no image",
+        Refusal::Changed => "has another checksum than it says",
+        Refusal::NoDecimals => "doesn't say its decimals: give them with -d",
+        Refusal::Misfit(Joined::OtherKind) => "is of another kind of sketch than those before",
+        Refusal::Misfit(Joined::OtherDecimals) => "has other decimals than those before",
+        Refusal::Misfit(_) => "would take its key's weight over 2^64",
+    }
+}
+
+impl TakeFile for Images {
+    /// Takes the lines of a file.
+    fn take_file<R: Read + Drop>(
+        &mut self,
+        alloc: Global,
+        name: &str,
+        input: R,
+    ) -> Result<(), Failure> {
+        self.place.begin(name)?;
+        let mut input = BufReader::with_capacity(alloc, MOST_AHEAD, input)?;
+        take_lines(alloc, &mut input, self)?;
+        if self.place.line == 0 && name != "-" {
+            self.is_whole = false;
+            self.tell(" is empty: check whether the summarize that wrote it failed\n")?;
+        }
+        let text = match self.refused.saturating_sub(MOST_TOLD) {
+            0 => String::new(alloc),
+            1 => String::from_str(alloc, ": 1 more line is left out\n")?,
+            more => format!(in alloc; ": {more} more lines are left out\n")?,
+        };
+        self.refused = 0;
+        if !text.is_empty() {
+            self.tell(text.as_str())?;
+        }
+        Ok(())
+    }
+}
+
+impl Images {
+    /// Creates what takes lines.
+    pub fn new(alloc: Global, options: &Options<'_>, seed: u64) -> Self {
+        let Making { most_groups, .. } = options.making;
+        Images {
+            name: options.task.name(),
+            merging: Merging {
+                decimals: options.taking.decimals,
+                for_table: options.task == Task::Percentiles,
+            },
+            again: options.taking.again,
+            place: Place::new(alloc),
+            groups: Groups::new(alloc, seed, most_groups),
+            seen: BTreeSet::new(alloc),
+            refused: 0,
+            is_whole: true,
+            unlike: 0,
+            told: Vec::new(alloc),
+        }
+    }
+
+    /// Returns what is known of the sketches.
+    pub fn surety(&self) -> Surety {
+        if self.unlike > 0 {
+            Surety::UnlikeMerges
+        } else {
+            Surety::Merges
+        }
+    }
+
+    /// Tells how many lines were of another accuracy.
+    pub fn tell_unlike<E: Write>(&self, errors: &mut E) -> Result<(), Failure> {
+        let (name, count) = (self.name, self.unlike);
+        if count > 0 {
+            write!(
+                errors,
+                "{name}: lines of another K than those before of their key: {count}; the result is as accurate as the least K\n"
+            )?;
+        }
+        Ok(())
+    }
+
+    /// Tells something of a file.
+    fn tell(&mut self, what: &str) -> Result<(), AllocError> {
+        self.push_name()?;
+        self.told.extend_from_slice(what.as_bytes())
+    }
+
+    /// Adds the names of the command and the file.
+    fn push_name(&mut self) -> Result<(), AllocError> {
+        self.told.extend_from_slice(self.name.as_bytes())?;
+        self.told.extend_from_slice(b": ")?;
+        push_printable(&mut self.told, self.place.file.as_bytes())
+    }
+
+    /// Reports a line that is left out.
+    #[inline(never)]
+    fn refuse(&mut self, line: &[u8], why: &str) -> Result<(), AllocError> {
+        self.refused = self.refused.saturating_add(1);
+        self.is_whole = false;
+        if self.refused > MOST_TOLD {
+            return Ok(());
+        }
+        self.push_name()?;
+        let number = self.place.line;
+        let text = format!(in *self.told.allocator(); ", line {number}, key '")?;
+        self.told.extend_from_slice(text.as_bytes())?;
+        let len = len_before(line, b'\t');
+        if len < line.len() {
+            push_cut(&mut self.told, &line[..len])?;
+        }
+        self.told.extend_from_slice(b"': ")?;
+        self.told.extend_from_slice(why.as_bytes())?;
+        self.told.extend_from_slice(b"; it is left out\n")
+    }
+}
+
+/// Writes a line 'KEY<tab>IMAGE<tab>DECIMALS<tab>CHECKSUM' for each group.
+pub fn write_images<W: Write>(
+    alloc: Global,
+    out: &mut W,
+    groups: &Groups,
+    escapes: bool,
+) -> Result<(), Failure> {
+    let mut line = Vec::new(alloc);
+    for (key, group) in groups.by_key().iter() {
+        line.clear();
+        push_line(alloc, &mut line, key, group, escapes)?;
+        out.write_all(line.as_slice())?;
+    }
+    Ok(())
+}

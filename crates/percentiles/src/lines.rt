@@ -1,0 +1,187 @@
+//! How the lines of files go into the sketches of their groups, and tables are written meanwhile.
+use crate::failure::Failure;
+use crate::images::write_images;
+use crate::options::{Making, Reading, Showing};
+use crate::reader::Reader;
+use crate::reports::Reason;
+use crate::table::{Surety, Table};
+use log_groups::fault::Fault;
+use log_groups::groups::Groups;
+use log_groups::lines::{TakeLine, next_line, take_lines};
+use log_groups::summary::{Form, ReadLine, Summary};
+use std::alloc::Global;
+use std::io::{BufReader, Read, Write};
+
+/// Takes lines, and writes a table after so many of them each.
+#[derive(Drop)]
+pub struct Lines<'o, W: Write + Drop> {
+    pub summary: Summary<Reader<'o>>,
+    showing: &'o Showing<'o>,
+    /// There is a column for the group.
+    has_keys: bool,
+    has_weights: bool,
+    /// How many lines were taken since the last table.
+    taken: u64,
+    /// The key of a line with a weight.
+    key: Vec<u8>,
+    pub output: W,
+}
+
+impl<W: Write + Drop> TakeLine for Lines<'_, W> {
+    ghost takes = { λ s l t. Unit };
+
+    ghost leaves = { λ s t. Unit };
+
+    #[inline(always)]
+    fn take_line(&mut self, alloc: Global, line: &[u8]) -> Result<(), Fault> {
+        if self.has_weights || self.showing.every.is_some() {
+            return self.take_slowly(alloc, line);
+        }
+        match self.summary.take_line(alloc, line) {
+            Err(Fault::TooManyGroups) => self.leave_out(line),
+            taken => taken,
+        }
+    }
+}
+
+/// What reads files.
+pub trait TakeFile {
+    /// Takes the lines of a file of this name.
+    fn take_file<R: Read + Drop>(
+        &mut self,
+        alloc: Global,
+        name: &str,
+        input: R,
+    ) -> Result<(), Failure>;
+}
+
+impl<W: Write + Drop> TakeFile for Lines<'_, W> {
+    /// Takes the lines of a file: the first one may begin with a byte order mark, and may be a
+    /// header.
+    fn take_file<R: Read + Drop>(
+        &mut self,
+        alloc: Global,
+        name: &str,
+        input: R,
+    ) -> Result<(), Failure> {
+        self.summary.reader.place.begin(name)?;
+        let mut input = BufReader::with_capacity(alloc, MOST_AHEAD, input)?;
+        let mut line = Vec::new(alloc);
+        if !next_line(&mut input, &mut line).map_err(Failure::Input)? {
+            return Ok(());
+        }
+        let first = line.strip_prefix(MARK).unwrap_or(line.as_slice());
+        if self.summary.reader.wants_header() {
+            self.summary.reader.read_header(alloc, first)?;
+        } else {
+            self.take_line(alloc, first)?;
+        }
+        take_lines(alloc, &mut input, self)?;
+        Ok(())
+    }
+}
+
+impl<'o, W: Write + Drop> Lines<'o, W> {
+    /// Creates what takes lines.
+    pub fn new(
+        alloc: Global,
+        (reading, making, showing): (&'o Reading<'o>, Making, &'o Showing<'o>),
+        seed: u64,
+        output: W,
+    ) -> Result<Self, Failure> {
+        let form = Form {
+            kind: making.kind,
+            decimals: reading.decimals,
+        };
+        let groups = Groups::new(alloc, seed, making.most_groups);
+        Ok(Lines {
+            summary: Summary::new(alloc, Reader::new(alloc, reading)?, groups, form),
+            showing,
+            has_keys: reading.by_file || !reading.groups.is_empty(),
+            has_weights: reading.weight.is_some(),
+            taken: 0,
+            key: Vec::new(alloc),
+            output,
+        })
+    }
+
+    /// Takes a line that may have a weight, or be followed by a table.
+    #[inline(never)]
+    fn take_slowly(&mut self, alloc: Global, line: &[u8]) -> Result<(), Fault> {
+        let taken = if self.has_weights {
+            self.take_weighted(alloc, line)
+        } else {
+            self.summary.take_line(alloc, line)
+        };
+        match taken {
+            Err(Fault::TooManyGroups) => self.leave_out(line)?,
+            Err(fault) => return Err(fault),
+            Ok(()) => {}
+        }
+        self.taken = self.taken.saturating_add(1);
+        if Some(self.taken) == self.showing.every {
+            self.taken = 0;
+            self.write_between(alloc)?;
+        }
+        Ok(())
+    }
+
+    /// Takes a line that has a weight.
+    fn take_weighted(&mut self, alloc: Global, line: &[u8]) -> Result<(), Fault> {
+        let Some(item) = self.summary.reader.read(line, &mut self.key)? else {
+            return Ok(());
+        };
+        let Some(weight) = self.summary.reader.weight_of(alloc, line)? else {
+            return Ok(());
+        };
+        let form = self.summary.form;
+        let groups = &mut self.summary.groups;
+        groups.add_weighted(alloc, &self.key, item, weight, form)
+    }
+
+    /// Reports a line whose group is one too many.
+    #[inline(never)]
+    fn leave_out(&mut self, line: &[u8]) -> Result<(), Fault> {
+        self.summary.reader.report(Reason::FurtherGroup, line)?;
+        Ok(())
+    }
+
+    /// Writes a table of what was taken so far, with an empty line behind it.
+    fn write_between(&mut self, alloc: Global) -> Result<(), Fault> {
+        match self.write_table(alloc) {
+            Ok(_) => {}
+            Err(Failure::Output(error)) => return Err(Fault::Output(error)),
+            Err(Failure::Sketch(error)) => return Err(Fault::Sketch(error)),
+            Err(_) => return Ok(()),
+        }
+        let written = self.output.write_all(b"\n");
+        written.map_err(Fault::Output)?;
+        self.output.flush().map_err(Fault::Output)
+    }
+
+    /// Writes an image of each group, and returns how many keys had bytes replaced: none.
+    pub fn write_images(&mut self, alloc: Global) -> Result<u64, Failure> {
+        let groups = &self.summary.groups;
+        write_images(alloc, &mut self.output, groups, true)?;
+        Ok(0)
+    }
+
+    /// Writes a table of what was taken so far, and returns how many keys had bytes replaced.
+    pub fn write_table(&mut self, alloc: Global) -> Result<u64, Failure> {
+        self.summary.groups.sort()?;
+        let surety = if self.has_weights {
+            Surety::Weights
+        } else {
+            Surety::Updates
+        };
+        let groups = &self.summary.groups;
+        let table = Table::new(alloc, groups, self.showing, self.has_keys, surety)?;
+        table.write(&mut self.output)
+    }
+}
+
+/// The most bytes that are read ahead.
+pub const MOST_AHEAD: usize = 65_536;
+
+/// The byte order mark that a file may begin with.
+pub const MARK: &[u8] = b"\xEF\xBB\xBF";
