@@ -1,4 +1,5 @@
 //! Fields that may stand in quotes, as in CSV.
+use crate::fields::Place;
 use crate::lines::len_before;
 use std::alloc::{AllocError, Global};
 
@@ -24,14 +25,20 @@ impl Cells {
         self.ends.len()
     }
 
-    /// Returns the field of this number, counted from 1, or an empty one.
-    pub fn get(&self, number: usize) -> &[u8] {
-        if number == 0 || number > self.ends.len() {
+    /// Returns the field at a place, or an empty one.
+    pub fn at(&self, place: Place) -> &[u8] {
+        let behind = match place {
+            Place::Front(number) => number,
+            Place::Back(number) => (self.ends.len() + 1).saturating_sub(number),
+        };
+        let Some(i) = behind.checked_sub(1) else {
             return &[];
-        }
-        let start = if number > 1 { self.ends[number - 2] } else { 0 };
-        let end = self.ends[number - 1];
-        self.text.get(start..end).unwrap_or(&[])
+        };
+        let start = i.checked_sub(1).and_then(|before| self.ends.get(before));
+        let end = self.ends.get(i).copied().unwrap_or(0);
+        self.text
+            .get(start.copied().unwrap_or(0)..end)
+            .unwrap_or(&[])
     }
 
     /// Splits a line, and returns whether its quotes are closed. Blanks before a field's first quote

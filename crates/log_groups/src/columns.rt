@@ -3,6 +3,7 @@ use crate::cells::Cells;
 use crate::fields::{Place, Separator, count_fields, field};
 use crate::lines::len_before;
 use crate::number::{Reading, read_number};
+use crate::text::push_in_quotes;
 use std::alloc::{AllocError, Global};
 
 /// Which fields of a line are its key and its number.
@@ -11,129 +12,96 @@ pub struct Columns {
     pub separator: Separator,
     pub groups: Vec<Place>,
     pub value: Place,
+    /// The field that holds the number's weight.
+    pub weight: Option<Place>,
     /// How many decimals of the number are kept.
     pub decimals: u8,
+    /// What the last line says as its weight.
+    pub weighs: Reading,
     /// The fields of a line that has quotes.
     cells: Cells,
 }
 
-/// What a line's field says.
-#[derive(Clone, Copy, PartialEq, Eq)]
-pub enum Found {
-    /// The number, as it is or rounded, or that there is none.
-    Number(Reading),
-    /// The line has a quote that isn't closed.
-    OpenQuote,
-}
-
 impl Columns {
-    /// Creates columns that make a key of no field.
+    /// Creates columns that make a key of no field, without a weight.
     pub fn new(alloc: Global, separator: Separator, value: Place, decimals: u8) -> Self {
         Columns {
             separator,
             groups: Vec::new(alloc),
             value,
+            weight: None,
             decimals,
+            weighs: Reading::NoNumber,
             cells: Cells::new(alloc),
         }
     }
 
-    /// Reads the number of a line, and puts its key into `key`: the field, or several with the
-    /// separator between them, or a space if it is blanks. One of several that holds the separator
-    /// or a quote stands in quotes.
+    /// Reads the number of a line, and adds its key to `key`: the field, or several with the
+    /// separator between them, or a space if it is blanks. Returns None if a quote isn't closed.
     #[inline(always)]
-    pub fn read(&mut self, line: &[u8], key: &mut Vec<u8>) -> Result<Found, AllocError> {
-        let line = line.strip_suffix(b"\r").unwrap_or(line);
-        if self.has_quotes(line) {
-            return self.read_quoted(line, key);
+    pub fn read(&mut self, line: &[u8], key: &mut Vec<u8>) -> Result<Option<Reading>, AllocError> {
+        let Some(is_quoted) = self.split(line)? else {
+            return Ok(None);
+        };
+        if let Some(weight) = self.weight {
+            self.weighs = read_number(self.part(line, is_quoted, weight), 0);
         }
-        let number = read_number(field(line, self.separator, self.value), self.decimals);
-        key.clear();
         if let [only] = self.groups.as_slice() {
-            key.extend_from_slice(field(line, self.separator, *only))?;
+            key.extend_from_slice(self.part(line, is_quoted, *only))?;
         } else {
-            self.push_key(line, key)?;
+            self.push_key(line, is_quoted, key)?;
         }
-        Ok(Found::Number(number))
+        let number = self.part(line, is_quoted, self.value);
+        Ok(Some(read_number(number, self.decimals)))
     }
 
-    /// Returns whether a line has quotes that mean something.
+    /// Returns whether a line has quotes that mean something, and splits it if so. Returns None if
+    /// a quote isn't closed.
     #[inline(always)]
-    pub fn has_quotes(&self, line: &[u8]) -> bool {
-        matches!(self.separator, Separator::Byte(b',' | b';'))
-            && len_before(line, b'"') < line.len()
+    fn split(&mut self, line: &[u8]) -> Result<Option<bool>, AllocError> {
+        let may_quote = matches!(self.separator, Separator::Byte(b',' | b';'));
+        if !may_quote || len_before(line, b'"') == line.len() {
+            return Ok(Some(false));
+        }
+        let joint = self.joint();
+        let is_closed = self.cells.split(line, joint)?;
+        Ok(is_closed.then_some(true))
     }
 
-    /// Puts the fields of a key together.
-    fn push_key(&self, line: &[u8], key: &mut Vec<u8>) -> Result<(), AllocError> {
+    /// Returns a field of a line, which was split if it is quoted.
+    #[inline(always)]
+    fn part<'s>(&'s self, line: &'s [u8], is_quoted: bool, place: Place) -> &'s [u8] {
+        if is_quoted {
+            self.cells.at(place)
+        } else {
+            field(line, self.separator, place)
+        }
+    }
+
+    /// Adds the fields of a key. In a quoted line one that holds the separator or a quote stands in
+    /// quotes.
+    fn push_key(&self, line: &[u8], is_quoted: bool, key: &mut Vec<u8>) -> Result<(), AllocError> {
         let joint = self.joint();
         for (i, place) in self.groups.iter().enumerate() {
             if i > 0 {
                 key.push(joint)?;
             }
-            key.extend_from_slice(field(line, self.separator, *place))?;
+            let part = self.part(line, is_quoted, *place);
+            if is_quoted {
+                push_part(key, part, joint)?;
+            } else {
+                key.extend_from_slice(part)?;
+            }
         }
         Ok(())
     }
 
-    /// Does what `read` does with a line that has quotes.
-    #[inline(never)]
-    fn read_quoted(&mut self, line: &[u8], key: &mut Vec<u8>) -> Result<Found, AllocError> {
-        let joint = self.joint();
-        if !self.cells.split(line, joint)? {
-            return Ok(Found::OpenQuote);
-        }
-        let number = read_number(self.cell(self.value), self.decimals);
-        key.clear();
-        let is_only = self.groups.len() == 1;
-        for (i, place) in self.groups.iter().enumerate() {
-            if i > 0 {
-                key.push(joint)?;
-            }
-            let part = self.cell(*place);
-            if is_only {
-                key.extend_from_slice(part)?;
-            } else {
-                push_part(key, part, joint)?;
-            }
-        }
-        Ok(Found::Number(number))
-    }
-
-    /// Returns a field of the line that was split last.
-    fn cell(&self, place: Place) -> &[u8] {
-        match place {
-            Place::Front(number) => self.cells.get(number),
-            Place::Back(number) => match self.cells.len().checked_sub(number) {
-                Some(before) => self.cells.get(before.saturating_add(1)),
-                None => &[],
-            },
-        }
-    }
-
     /// Returns what joins the fields of a key.
-    fn joint(&self) -> u8 {
+    pub fn joint(&self) -> u8 {
         match self.separator {
             Separator::Blanks => b' ',
             Separator::Byte(byte) => byte,
         }
-    }
-
-    /// Returns a field of any line, as by `read`; None if a quote isn't closed.
-    pub fn field_of<'s>(
-        &'s mut self,
-        line: &'s [u8],
-        place: Place,
-    ) -> Result<Option<&'s [u8]>, AllocError> {
-        let line = line.strip_suffix(b"\r").unwrap_or(line);
-        if !self.has_quotes(line) {
-            return Ok(Some(field(line, self.separator, place)));
-        }
-        let joint = self.joint();
-        if !self.cells.split(line, joint)? {
-            return Ok(None);
-        }
-        Ok(Some(self.cell(place)))
     }
 
     /// Returns the fields of a line, as of a header; None if a quote isn't closed.
@@ -142,23 +110,17 @@ impl Columns {
         alloc: Global,
         line: &[u8],
     ) -> Result<Option<Vec<Vec<u8>>>, AllocError> {
-        let line = line.strip_suffix(b"\r").unwrap_or(line);
-        let mut names = Vec::new(alloc);
-        let (is_quoted, joint) = (self.has_quotes(line), self.joint());
-        if is_quoted && !self.cells.split(line, joint)? {
+        let Some(is_quoted) = self.split(line)? else {
             return Ok(None);
-        }
+        };
         let count = if is_quoted {
             self.cells.len()
         } else {
             count_fields(line, self.separator)
         };
-        for number in 1..count.saturating_add(1) {
-            let name = if is_quoted {
-                self.cells.get(number)
-            } else {
-                field(line, self.separator, Place::Front(number))
-            };
+        let mut names = Vec::new(alloc);
+        for i in 0..count {
+            let name = self.part(line, is_quoted, Place::Front(i.saturating_add(1)));
             names.push(Vec::from_slice(alloc, name)?)?;
         }
         Ok(Some(names))
@@ -166,16 +128,9 @@ impl Columns {
 }
 
 /// Adds one of several fields to a key: in quotes if it holds the separator or a quote.
-fn push_part(key: &mut Vec<u8>, part: &[u8], joint: u8) -> Result<(), AllocError> {
+pub fn push_part(key: &mut Vec<u8>, part: &[u8], joint: u8) -> Result<(), AllocError> {
     if len_before(part, joint) == part.len() && len_before(part, b'"') == part.len() {
         return key.extend_from_slice(part);
     }
-    key.push(b'"')?;
-    for byte in part {
-        if *byte == b'"' {
-            key.push(b'"')?;
-        }
-        key.push(*byte)?;
-    }
-    Ok(key.push(b'"')?)
+    push_in_quotes(key, part)
 }

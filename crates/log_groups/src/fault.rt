@@ -1,35 +1,23 @@
 //! What ends a run before its input does.
-use sketch_base::error::{Error, ErrorKind};
-use std::alloc::{AllocError, AllocFailed};
+use sketch_base::error::Error;
+use std::alloc::AllocError;
 use std::io;
 
 /// What ends a run before its input does.
-#[derive(Drop)]
+#[derive(Debug, Drop, thiserror::Error)]
 pub enum Fault {
     /// The input gave no line.
+    #[error("{0}")]
     Input(io::Error),
     /// The output took no line.
-    Output(io::Error),
-    /// A sketch took no more, or memory ran out.
-    Sketch(Error),
+    #[error("standard output can't be written: {0}")]
+    Output(#[from] io::Error),
+    /// A sketch took no more.
+    #[error("{0}")]
+    Sketch(#[from] Error),
+    #[error("out of memory")]
+    Memory(#[from(alloc)] AllocError),
     /// One more group would be more than are allowed.
+    #[error("there are more groups than -n allows")]
     TooManyGroups,
-}
-
-impl From<Error> for Fault {
-    fn from(error: Error) -> Fault {
-        Fault::Sketch(error)
-    }
-}
-
-impl From<AllocError> for Fault {
-    fn from(_refused: AllocError) -> Fault {
-        Fault::Sketch(Error::new(ErrorKind::OutOfMemory))
-    }
-}
-
-impl<T: Drop> From<AllocFailed<T>> for Fault {
-    fn from(refused: AllocFailed<T>) -> Fault {
-        Fault::from(AllocError::from(refused))
-    }
 }

@@ -23,6 +23,17 @@ pub enum Place {
     Back(usize),
 }
 
+impl Place {
+    /// Returns the place that a text names: 1 is the first field of a line, and -1 the last one.
+    pub fn parse(text: &str) -> Option<Self> {
+        match text.parse::<i32>() {
+            Ok(number) if number > 0 => Some(Place::Front(number.unsigned_abs() as usize)),
+            Ok(number) if number < 0 => Some(Place::Back(number.unsigned_abs() as usize)),
+            _ => None,
+        }
+    }
+}
+
 /// Returns a field of a line. A field that the line lacks is empty.
 #[inline(always)]
 pub fn field(line: &[u8], separator: Separator, place: Place) -> &[u8]

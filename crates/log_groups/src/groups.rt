@@ -30,10 +30,10 @@ pub struct Groups {
     most: usize,
 }
 
-/// What becomes of an image that is to be merged into the group of its key.
+/// What becomes of the line of an image.
 #[derive(Clone, Copy, PartialEq, Eq)]
 pub enum Joined {
-    /// It is merged, or begins a group.
+    /// It is merged into the group of its key, or begins one.
     Taken,
     /// It is merged into a sketch of another accuracy.
     OtherAccuracy,
@@ -43,6 +43,12 @@ pub enum Joined {
     OtherDecimals,
     /// The weight would be over 2^64. The group stays.
     TooHeavy,
+    /// It isn't of the form of such a line, or its image is of no sketch.
+    NoImage,
+    /// Its checksum is that of another line.
+    Changed,
+    /// It doesn't say its decimals, which are wanted.
+    NoDecimals,
 }
 
 impl Groups {

@@ -3,6 +3,7 @@ use crate::fault::Fault;
 use crate::groups::{Group, Groups, Joined};
 use crate::lines::len_before;
 use crate::sketch::Sketch;
+use crate::text::{push_escaped, push_unescaped};
 use md5::{Digest, Md5};
 use sketch_base::error::Error;
 use std::alloc::{AllocError, Global};
@@ -15,28 +16,6 @@ pub struct Parts<'l> {
     /// The image, in hex digits.
     pub image: &'l [u8],
     pub decimals: Option<u8>,
-}
-
-/// Why a line is left out.
-#[derive(Clone, Copy, PartialEq, Eq)]
-pub enum Refusal {
-    /// It isn't of this form, or its image is of no sketch.
-    NoImage,
-    /// Its checksum is that of another line.
-    Changed,
-    /// It doesn't say its decimals, which are wanted.
-    NoDecimals,
-    /// It doesn't fit the lines of its key before it.
-    Misfit(Joined),
-}
-
-/// What becomes of a line.
-#[derive(Clone, Copy, PartialEq, Eq)]
-pub enum Outcome {
-    Taken,
-    /// It is merged into a sketch of another accuracy.
-    OtherAccuracy,
-    Refused(Refusal),
 }
 
 /// The number of hex digits of a checksum.
@@ -79,31 +58,28 @@ pub fn push_line(
 }
 
 /// Splits a line, without its line feed, and tests its checksum if it has one.
-pub fn parts_of(alloc: Global, line: &[u8]) -> Result<Result<Parts<'_>, Refusal>, AllocError> {
+pub fn parts_of(alloc: Global, line: &[u8]) -> Result<Result<Parts<'_>, Joined>, AllocError> {
     let (key, Some(rest)) = split_tab(line) else {
-        return Ok(Err(Refusal::NoImage));
+        return Ok(Err(Joined::NoImage));
     };
     let (image, rest) = split_tab(rest);
-    let (decimals, check) = split_tab(rest.unwrap_or(&[]));
+    let (digit, check) = split_tab(rest.unwrap_or(&[]));
     if let Some(check) = check {
         let checked = &line[..line.len().saturating_sub(check.len() + 1)];
         if checksum(alloc, checked)?.as_bytes() != check {
-            return Ok(Err(Refusal::Changed));
+            return Ok(Err(Joined::Changed));
         }
     }
-    Ok(match decimals {
-        [] if rest.is_none() || check.is_some() => Ok(Parts {
-            key,
-            image,
-            decimals: None,
-        }),
-        [digit @ b'0'..=b'9'] => Ok(Parts {
-            key,
-            image,
-            decimals: Some(*digit - b'0'),
-        }),
-        _ => Err(Refusal::NoImage),
-    })
+    let decimals = match digit {
+        [] if rest.is_none() || check.is_some() => None,
+        [digit @ b'0'..=b'9'] => Some(*digit - b'0'),
+        _ => return Ok(Err(Joined::NoImage)),
+    };
+    Ok(Ok(Parts {
+        key,
+        image,
+        decimals,
+    }))
 }
 
 /// Splits at the first tab, if there is one.
@@ -127,21 +103,16 @@ pub struct Merging {
 impl Groups {
     /// Merges the image of a line into the group of its key, or begins a group with it, and says
     /// what became of the line.
-    pub fn join_line(
-        &mut self,
-        alloc: Global,
-        line: &[u8],
-        how: Merging,
-    ) -> Result<Outcome, Fault> {
+    pub fn join_line(&mut self, alloc: Global, line: &[u8], how: Merging) -> Result<Joined, Fault> {
         let parts = match parts_of(alloc, line)? {
             Ok(parts) => parts,
-            Err(refusal) => return Ok(Outcome::Refused(refusal)),
+            Err(why) => return Ok(why),
         };
         let Some(coming) = group_of(alloc, parts, how)? else {
-            return Ok(Outcome::Refused(Refusal::NoImage));
+            return Ok(Joined::NoImage);
         };
         if coming.decimals.is_none() && how.for_table {
-            return Ok(Outcome::Refused(Refusal::NoDecimals));
+            return Ok(Joined::NoDecimals);
         }
         let mut key = Vec::new(alloc);
         if how.for_table {
@@ -149,11 +120,7 @@ impl Groups {
         } else {
             key.extend_from_slice(parts.key)?;
         }
-        Ok(match self.join(alloc, &key, coming)? {
-            Joined::Taken => Outcome::Taken,
-            Joined::OtherAccuracy => Outcome::OtherAccuracy,
-            other => Outcome::Refused(Refusal::Misfit(other)),
-        })
+        self.join(alloc, &key, coming)
     }
 }
 
@@ -170,38 +137,4 @@ fn group_of(alloc: Global, parts: Parts<'_>, how: Merging) -> Result<Option<Grou
         decimals: parts.decimals.or(how.decimals),
         sum: None,
     }))
-}
-
-/// Adds a key with \t for a tab, and \\ for a backslash.
-pub fn push_escaped(out: &mut Vec<u8>, key: &[u8]) -> Result<(), AllocError> {
-    for byte in key {
-        match *byte {
-            b'\t' => out.extend_from_slice(b"\\t")?,
-            b'\\' => out.extend_from_slice(b"\\\\")?,
-            other => out.push(other)?,
-        }
-    }
-    Ok(())
-}
-
-/// Adds a key with a tab for \t, and a backslash for \\.
-pub fn push_unescaped(out: &mut Vec<u8>, key: &[u8]) -> Result<(), AllocError> {
-    let mut rest = key;
-    while let [byte, behind @ ..] = rest {
-        match behind {
-            [b't', after @ ..] if *byte == b'\\' => {
-                rest = after;
-                out.push(b'\t')?;
-            }
-            [next, after @ ..] if *byte == b'\\' => {
-                rest = after;
-                out.push(*next)?;
-            }
-            _ => {
-                rest = behind;
-                out.push(*byte)?;
-            }
-        }
-    }
-    Ok(())
 }

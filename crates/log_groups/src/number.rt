@@ -1,8 +1,7 @@
 //! Numbers in text. A number is kept as an integer: the number times ten to the power `decimals`.
 ghost use Rattle.std.specs.Prelude.{◌<◌, ◌≤◌, length};
 
-use itoa::Buffer;
-use std::alloc::AllocError;
+use sketch_base::common::Rank;
 
 /// The most decimals that are kept.
 pub const MOST_DECIMALS: u8 = 9;
@@ -174,7 +173,7 @@ fn without_sign(text: &[u8]) -> (bool, &[u8]) {
 }
 
 /// Splits the digits off that a text begins with.
-pub fn split_digits(text: &[u8]) -> (&[u8], &[u8]) {
+fn split_digits(text: &[u8]) -> (&[u8], &[u8]) {
     let mut len = 0;
     while len < text.len() && text[len].is_ascii_digit() {
         len += 1;
@@ -287,41 +286,27 @@ fn signed(size: Option<u64>, negative: bool, rest: Rest) -> Reading {
     }
 }
 
-/// Adds a number that has `decimals` digits behind its point, with `shown` of them: zeros are added
-/// behind them, or digits are left out.
-pub fn push_number(
-    out: &mut Vec<u8>,
-    item: i64,
-    decimals: u8,
-    shown: u8,
-) -> Result<(), AllocError> {
-    let power = power_of_ten(decimals);
-    let size = item.unsigned_abs();
-    if item < 0 {
-        out.push(b'-')?;
-    }
-    out.extend_from_slice(Buffer::new().format(size / power).as_bytes())?;
-    if shown > 0 {
-        out.push(b'.')?;
-    }
-    let mut rest = size % power;
-    let mut unit = power;
-    for _ in 0..shown {
-        unit = (unit / 10).max(1);
-        out.push(b'0' + (rest / unit).min(9) as u8)?;
-        rest %= unit;
-    }
-    Ok(())
-}
+/// The most decimals of a percentile.
+const POINT_DECIMALS: usize = 12;
 
-/// Returns how many decimals a number needs.
-pub fn needed_decimals(item: i64, decimals: u8) -> u8 {
-    let mut size = item.unsigned_abs();
-    for needed in 0..decimals {
-        if size % 10 != 0 {
-            return decimals - needed;
-        }
-        size /= 10;
+/// Returns the fraction that a percentile is, as 999 of 1000 for 99.9.
+pub fn fraction_of(text: &str) -> Option<Rank> {
+    let (whole, places) = text.split_once('.').unwrap_or((text, "0"));
+    if whole.len() > 3 || places.len() > POINT_DECIMALS || whole.starts_with('+') {
+        return None;
     }
-    0
+    let mut weight = whole.parse::<u64>().ok()?;
+    let mut total = 100u64;
+    if places.is_empty() {
+        return None;
+    }
+    for digit in places.as_bytes() {
+        if !digit.is_ascii_digit() {
+            return None;
+        }
+        weight = weight.checked_mul(10)?.checked_add((*digit - b'0') as u64)?;
+        total = total.checked_mul(10)?;
+    }
+    let is_percentile = weight <= total && (whole.len() < 3 || whole == "100");
+    is_percentile.then_some(Rank { weight, total })
 }

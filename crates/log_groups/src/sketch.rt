@@ -133,8 +133,20 @@ impl Sketch {
         ensures near { IsTrue result → IsNearTopOf self.now fraction }
     {
         match self {
-            Sketch::Req(sketch) => is_near_top(sketch.k(), sketch.n(), fraction),
-            Sketch::Kll(_) => false,
+            Sketch::Req(sketch) if sketch.rank_accuracy() == RankAccuracy::HighRank => is_near_top(
+                sketch.k(),
+                sketch.n(),
+                fraction,
+            ),
+            _ => false,
+        }
+    }
+
+    /// Returns whether the sketch keeps each number that it took, so that all its answers are exact.
+    pub fn is_whole(&self) -> bool {
+        match self {
+            Sketch::Req(sketch) => !sketch.is_estimation_mode(),
+            Sketch::Kll(sketch) => !sketch.is_estimation_mode(),
         }
     }
 

@@ -1,8 +1,8 @@
 //! Bars of text, on a scale that all groups share.
-use crate::answers::{Answer, Cell};
 use crate::table::Row;
-use crate::text::push_spaces;
+use log_groups::answers::{Answer, Column};
 use log_groups::number::MOST_DECIMALS;
+use log_groups::text::push_spaces;
 use std::alloc::AllocError;
 
 /// The width of the bars.
@@ -22,62 +22,58 @@ pub struct Scale {
 }
 
 /// Returns the place of a number on an endless scale. All numbers below 1 are at its left end.
-fn place_of(cell: &Cell, decimals: u8) -> Option<u32> {
-    let Answer::Number(number) = cell.answer else {
-        return None;
-    };
+fn place_of(number: i128, decimals: u8) -> u32 {
     let size = u64::try_from(number).unwrap_or(0).max(1);
     let doublings = size.ilog2();
     let within = (size as u128 * STEPS as u128 >> doublings).saturating_sub(STEPS as u128);
     let shift = DECIMAL * (MOST_DECIMALS - decimals.min(MOST_DECIMALS)) as u32;
-    Some(doublings * STEPS + shift + within.min(STEPS as u128) as u32)
+    doublings * STEPS + shift + within.min(STEPS as u128) as u32
 }
 
 /// Returns the places of a row's least and greatest percentile.
-fn ends_of(row: &Row<'_>) -> Option<(u32, u32)> {
+fn ends_of(row: &Row<'_>, columns: &[Column<'_>]) -> Option<(u32, u32)> {
     let mut ends = None;
-    for cell in row.cells.iter().filter(|cell| cell.is_point) {
-        let Some(place) = place_of(cell, row.decimals) else {
-            continue;
-        };
-        ends = match ends {
-            None => Some((place, place)),
-            Some((least, most)) => Some((place.min(least), place.max(most))),
-        };
+    for (cell, column) in row.cells.iter().zip(columns) {
+        if let (Answer::Number(number), Column::Point(..)) = (cell.answer, column) {
+            let place = place_of(number, row.decimals);
+            let (least, most) = ends.unwrap_or((place, place));
+            ends = Some((place.min(least), place.max(most)));
+        }
     }
     ends
 }
 
 impl Scale {
     /// Returns the scale of rows.
-    pub fn of(rows: &[Row<'_>]) -> Self {
-        let mut scale = Scale {
-            least: u32::MAX,
-            most: 0,
-        };
+    pub fn of(rows: &[Row<'_>], columns: &[Column<'_>]) -> Self {
+        let (mut least, mut most) = (u32::MAX, 0);
         for row in rows {
-            if let Some((least, most)) = ends_of(row) {
-                scale.least = scale.least.min(least);
-                scale.most = scale.most.max(most);
-            }
+            let (start, end) = ends_of(row, columns).unwrap_or((least, most));
+            least = least.min(start);
+            most = most.max(end);
         }
-        scale
+        Scale { least, most }
     }
 
     /// Returns how many characters are before this place.
-    fn column_of(self, place: u32) -> u32 {
+    fn column_of(self, place: u32) -> usize {
         let length = self.most.saturating_sub(self.least).max(1) as u64;
         let part = place.saturating_sub(self.least) as u64 * (WIDTH - 1) as u64;
-        (part / length).min((WIDTH - 1) as u64) as u32
+        (part / length).min((WIDTH - 1) as u64) as usize
     }
 
     /// Adds a row's bar.
-    pub fn push_bar(self, line: &mut Vec<u8>, row: &Row<'_>) -> Result<(), AllocError> {
-        let Some((least, most)) = ends_of(row) else {
+    pub fn push_bar(
+        self,
+        line: &mut Vec<u8>,
+        row: &Row<'_>,
+        columns: &[Column<'_>],
+    ) -> Result<(), AllocError> {
+        let Some((least, most)) = ends_of(row, columns) else {
             return Ok(());
         };
         let (start, end) = (self.column_of(least), self.column_of(most));
-        push_spaces(line, start as usize + 2)?;
+        push_spaces(line, start.saturating_add(2))?;
         for _ in start..end.saturating_add(1) {
             line.push(b'#')?;
         }

@@ -1,89 +1,58 @@
 //! Why nothing can be printed.
 use log_groups::fault::Fault;
-use sketch_base::error::{Error, ErrorKind as Kind};
-use std::alloc::{AllocError, AllocFailed};
-use std::fmt;
-use std::io::{self, ErrorKind};
+use std::alloc::AllocError;
+use thiserror::Error;
 
 /// Why nothing can be printed.
-#[derive(Drop)]
+#[derive(Debug, Drop, Error)]
 pub enum Failure {
-    /// A file can't be opened or read.
-    Input(io::Error),
-    /// The output can't be written.
-    Output(io::Error),
-    /// A sketch refused a call, or memory ran out.
-    Sketch(Error),
-    /// A file's header is not as it should be.
-    Header(HeaderFault),
-    /// What was told already.
+    /// What standard error says already.
+    #[error("it is told")]
     Told,
-}
-
-/// What is wrong with a header.
-#[derive(Clone, Copy, PartialEq, Eq)]
-pub enum HeaderFault {
+    #[error("{0}")]
+    Fault(#[from] Fault),
+    #[error("out of memory")]
+    Memory(#[from(alloc)] AllocError),
+    /// What clap says of the words.
+    #[error("{0}")]
+    Words(clap::Error),
+    #[error("an argument isn't UTF-8")]
+    NoText,
+    #[error("-g takes numbers of fields, and names with -H or -j; FILE stands first")]
+    Groups,
+    #[error("-v and -w take the number of a field, and a name with -H or -j")]
+    Value,
+    #[error("-w needs -f kll: a REQ sketch takes no weights")]
+    Weight,
+    #[error("-t takes one character, or \\t for a tab")]
+    Separator,
+    #[error("-k of kll is from 8 to 65535")]
+    KllSize,
+    #[error("-k of req is even, from 4 to 1024")]
+    ReqSize,
+    #[error("-p takes percentiles from 0 to 100, with at most 12 decimals, min and sum")]
+    Percentile,
+    #[error("-p takes a percentile once")]
+    Twice,
+    #[error("-l takes numbers with at most 9 decimals")]
+    Limit,
+    #[error("summaries don't hold the sum of their numbers")]
+    Sum,
+    #[error("the header has a quote that isn't closed")]
     OpenQuote,
+    #[error("the header has a field twice that is asked for")]
     TwoFields,
+    #[error("the header lacks a field that is asked for")]
     NoField,
 }
 
-impl fmt::Display for Failure {
-    fn fmt<W: fmt::Write>(&self, f: &mut fmt::Formatter<W>) -> fmt::Result {
+impl Failure {
+    /// Returns whether the words are wrong.
+    pub fn is_misuse(&self) -> bool {
         match self {
-            Failure::Told => Ok(()),
-            Failure::Input(error) => match error.kind() {
-                ErrorKind::NotFound => f.write_str("there is no such file"),
-                ErrorKind::PermissionDenied => f.write_str("it can't be read"),
-                ErrorKind::IsADirectory => f.write_str("it is a folder"),
-                _ => write!(f, "{error}"),
-            },
-            Failure::Output(error) => write!(f, "standard output can't be written: {error}"),
-            Failure::Sketch(error) => write!(f, "{error}"),
-            Failure::Header(HeaderFault::OpenQuote) => {
-                f.write_str("the header has a quote that isn't closed")
-            }
-            Failure::Header(HeaderFault::TwoFields) => {
-                f.write_str("the header has a field twice that is asked for")
-            }
-            Failure::Header(HeaderFault::NoField) => {
-                f.write_str("the header lacks a field that is asked for")
-            }
+            Failure::Fault(_) | Failure::Memory(_) => false,
+            Failure::OpenQuote | Failure::TwoFields | Failure::NoField => false,
+            _ => true,
         }
-    }
-}
-
-impl From<Fault> for Failure {
-    fn from(fault: Fault) -> Failure {
-        match fault {
-            Fault::Input(error) => Failure::Input(error),
-            Fault::Output(error) => Failure::Output(error),
-            Fault::Sketch(error) => Failure::Sketch(error),
-            Fault::TooManyGroups => Failure::Sketch(Error::new(Kind::InvalidArgument)),
-        }
-    }
-}
-
-impl From<io::Error> for Failure {
-    fn from(error: io::Error) -> Failure {
-        Failure::Output(error)
-    }
-}
-
-impl From<Error> for Failure {
-    fn from(error: Error) -> Failure {
-        Failure::Sketch(error)
-    }
-}
-
-impl From<AllocError> for Failure {
-    fn from(refused: AllocError) -> Failure {
-        Failure::Sketch(Error::from(refused))
-    }
-}
-
-impl<T: Drop> From<AllocFailed<T>> for Failure {
-    fn from(refused: AllocFailed<T>) -> Failure {
-        Failure::Sketch(Error::from(refused))
     }
 }

@@ -1,14 +1,14 @@
 //! How lines of images are merged by their keys, and written.
 use crate::failure::Failure;
 use crate::lines::{MARK, MOST_AHEAD, TakeFile};
-use crate::options::{Making, Options, Task};
-use crate::reports::{Place, push_cut};
-use crate::table::Surety;
-use crate::text::push_printable;
+use crate::options::{Options, Task};
+use crate::reports::{Position, push_cut};
+use log_groups::answers::Surety;
 use log_groups::fault::Fault;
 use log_groups::groups::{Groups, Joined};
-use log_groups::images::{Merging, Outcome, Refusal, parts_of, push_line};
+use log_groups::images::{Merging, parts_of, push_line};
 use log_groups::lines::{TakeLine, len_before, take_lines};
+use log_groups::text::push_printable;
 use md5::{Digest, Md5};
 use std::alloc::{AllocError, Global};
 use std::collections::BTreeSet;
@@ -21,7 +21,7 @@ pub struct Images {
     merging: Merging,
     /// The same line may come again.
     again: bool,
-    place: Place,
+    position: Position,
     pub groups: Groups,
     /// The digests of the lines so far.
     seen: BTreeSet<[u8; 16]>,
@@ -44,9 +44,9 @@ impl TakeLine for Images {
     ghost leaves = { λ s t. Unit };
 
     fn take_line(&mut self, alloc: Global, line: &[u8]) -> Result<(), Fault> {
-        self.place.line = self.place.line.saturating_add(1);
+        self.position.line = self.position.line.saturating_add(1);
         let line = match line.strip_prefix(MARK) {
-            Some(behind) if self.place.line == 1 => behind,
+            Some(behind) if self.position.line == 1 => behind,
             _ => line,
         };
         let line = line.strip_suffix(b"\r").unwrap_or(line);
@@ -55,49 +55,48 @@ impl TakeLine for Images {
             return Ok(self.refuse(line, "came before (--again takes such lines, too)")?);
         }
         match self.groups.join_line(alloc, line, self.merging)? {
-            Outcome::Taken => {}
-            Outcome::OtherAccuracy => self.unlike = self.unlike.saturating_add(1),
-            Outcome::Refused(why) => self.refuse(line, told_of(why))?,
+            Joined::Taken => {}
+            Joined::OtherAccuracy => self.unlike = self.unlike.saturating_add(1),
+            why => self.refuse(line, told_of(why))?,
         }
         Ok(())
     }
 }
 
 /// Returns what is told of a line that is left out.
-fn told_of(why: Refusal) -> &'static str {
+fn told_of(why: Joined) -> &'static str {
     match why {
-        Refusal::NoImage => "is no image",
-        Refusal::Changed => "has another checksum than it says",
-        Refusal::NoDecimals => "doesn't say its decimals: give them with -d",
-        Refusal::Misfit(Joined::OtherKind) => "is of another kind of sketch than those before",
-        Refusal::Misfit(Joined::OtherDecimals) => "has other decimals than those before",
-        Refusal::Misfit(_) => "would take its key's weight over 2^64",
+        Joined::Changed => "has another checksum than it says",
+        Joined::NoDecimals => "doesn't say its decimals: give them with -d",
+        Joined::OtherKind => "is of another kind of sketch than those before",
+        Joined::OtherDecimals => "has other decimals than those before",
+        Joined::TooHeavy => "would take its key's weight over 2^64",
+        _ => "is no image",
     }
 }
 
 impl TakeFile for Images {
-    /// Takes the lines of a file.
     fn take_file<R: Read + Drop>(
         &mut self,
         alloc: Global,
         name: &str,
         input: R,
     ) -> Result<(), Failure> {
-        self.place.begin(name)?;
-        let mut input = BufReader::with_capacity(alloc, MOST_AHEAD, input)?;
+        self.position.begin(name)?;
+        self.refused = 0;
+        let mut input = BufReader::with_capacity(alloc, MOST_AHEAD, input).map_err(Fault::Input)?;
         take_lines(alloc, &mut input, self)?;
-        if self.place.line == 0 && name != "-" {
+        if self.position.line == 0 && name != "-" {
             self.is_whole = false;
             self.tell(" is empty: check whether the summarize that wrote it failed\n")?;
         }
-        let text = match self.refused.saturating_sub(MOST_TOLD) {
-            0 => String::new(alloc),
-            1 => String::from_str(alloc, ": 1 more line is left out\n")?,
-            more => format!(in alloc; ": {more} more lines are left out\n")?,
-        };
-        self.refused = 0;
-        if !text.is_empty() {
-            self.tell(text.as_str())?;
+        match self.refused.saturating_sub(MOST_TOLD) {
+            0 => {}
+            1 => self.tell(": 1 more line is left out\n")?,
+            more => {
+                let text = format!(in alloc; ": {more} more lines are left out\n")?;
+                self.tell(text.as_str())?;
+            }
         }
         Ok(())
     }
@@ -106,7 +105,6 @@ impl TakeFile for Images {
 impl Images {
     /// Creates what takes lines.
     pub fn new(alloc: Global, options: &Options<'_>, seed: u64) -> Self {
-        let Making { most_groups, .. } = options.making;
         Images {
             name: options.task.name(),
             merging: Merging {
@@ -114,8 +112,8 @@ impl Images {
                 for_table: options.task == Task::Percentiles,
             },
             again: options.taking.again,
-            place: Place::new(alloc),
-            groups: Groups::new(alloc, seed, most_groups),
+            position: Position::new(alloc),
+            groups: Groups::new(alloc, seed, options.making.most_groups),
             seen: BTreeSet::new(alloc),
             refused: 0,
             is_whole: true,
@@ -133,29 +131,24 @@ impl Images {
         }
     }
 
-    /// Tells how many lines were of another accuracy.
-    pub fn tell_unlike<E: Write>(&self, errors: &mut E) -> Result<(), Failure> {
+    /// Tells what is to be told.
+    pub fn tell_all<E: Write>(&self, errors: &mut E) {
         let (name, count) = (self.name, self.unlike);
+        let _told = errors.write_all(self.told.as_slice());
         if count > 0 {
-            write!(
+            let _told = write!(
                 errors,
                 "{name}: lines of another K than those before of their key: {count}; the result is as accurate as the least K\n"
-            )?;
+            );
         }
-        Ok(())
     }
 
     /// Tells something of a file.
     fn tell(&mut self, what: &str) -> Result<(), AllocError> {
-        self.push_name()?;
-        self.told.extend_from_slice(what.as_bytes())
-    }
-
-    /// Adds the names of the command and the file.
-    fn push_name(&mut self) -> Result<(), AllocError> {
         self.told.extend_from_slice(self.name.as_bytes())?;
         self.told.extend_from_slice(b": ")?;
-        push_printable(&mut self.told, self.place.file.as_bytes())
+        push_printable(&mut self.told, self.position.file.as_bytes())?;
+        self.told.extend_from_slice(what.as_bytes())
     }
 
     /// Reports a line that is left out.
@@ -166,10 +159,8 @@ impl Images {
         if self.refused > MOST_TOLD {
             return Ok(());
         }
-        self.push_name()?;
-        let number = self.place.line;
-        let text = format!(in *self.told.allocator(); ", line {number}, key '")?;
-        self.told.extend_from_slice(text.as_bytes())?;
+        let text = format!(in *self.told.allocator(); ", line {}, key '", self.position.line)?;
+        self.tell(text.as_str())?;
         let len = len_before(line, b'\t');
         if len < line.len() {
             push_cut(&mut self.told, &line[..len])?;
@@ -186,7 +177,7 @@ pub fn write_images<W: Write>(
     out: &mut W,
     groups: &Groups,
     escapes: bool,
-) -> Result<(), Failure> {
+) -> Result<(), Fault> {
     let mut line = Vec::new(alloc);
     for (key, group) in groups.by_key().iter() {
         line.clear();

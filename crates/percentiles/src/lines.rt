@@ -4,7 +4,8 @@ use crate::images::write_images;
 use crate::options::{Making, Reading, Showing};
 use crate::reader::Reader;
 use crate::reports::Reason;
-use crate::table::{Surety, Table};
+use crate::table::Table;
+use log_groups::answers::Surety;
 use log_groups::fault::Fault;
 use log_groups::groups::Groups;
 use log_groups::lines::{TakeLine, next_line, take_lines};
@@ -64,10 +65,10 @@ impl<W: Write + Drop> TakeFile for Lines<'_, W> {
         name: &str,
         input: R,
     ) -> Result<(), Failure> {
-        self.summary.reader.place.begin(name)?;
-        let mut input = BufReader::with_capacity(alloc, MOST_AHEAD, input)?;
+        self.summary.reader.position.begin(name)?;
+        let mut input = BufReader::with_capacity(alloc, MOST_AHEAD, input).map_err(Fault::Input)?;
         let mut line = Vec::new(alloc);
-        if !next_line(&mut input, &mut line).map_err(Failure::Input)? {
+        if !next_line(&mut input, &mut line).map_err(Fault::Input)? {
             return Ok(());
         }
         let first = line.strip_prefix(MARK).unwrap_or(line.as_slice());
@@ -88,7 +89,7 @@ impl<'o, W: Write + Drop> Lines<'o, W> {
         (reading, making, showing): (&'o Reading<'o>, Making, &'o Showing<'o>),
         seed: u64,
         output: W,
-    ) -> Result<Self, Failure> {
+    ) -> Result<Self, Fault> {
         let form = Form {
             kind: making.kind,
             decimals: reading.decimals,
@@ -115,13 +116,14 @@ impl<'o, W: Write + Drop> Lines<'o, W> {
         };
         match taken {
             Err(Fault::TooManyGroups) => self.leave_out(line)?,
-            Err(fault) => return Err(fault),
-            Ok(()) => {}
+            taken => taken?,
         }
         self.taken = self.taken.saturating_add(1);
         if Some(self.taken) == self.showing.every {
             self.taken = 0;
-            self.write_between(alloc)?;
+            self.write_table(alloc)?;
+            self.output.write_all(b"\n")?;
+            self.output.flush()?;
         }
         Ok(())
     }
@@ -131,7 +133,7 @@ impl<'o, W: Write + Drop> Lines<'o, W> {
         let Some(item) = self.summary.reader.read(line, &mut self.key)? else {
             return Ok(());
         };
-        let Some(weight) = self.summary.reader.weight_of(alloc, line)? else {
+        let Some(weight) = self.summary.reader.weight_of(line)? else {
             return Ok(());
         };
         let form = self.summary.form;
@@ -142,35 +144,19 @@ impl<'o, W: Write + Drop> Lines<'o, W> {
     /// Reports a line whose group is one too many.
     #[inline(never)]
     fn leave_out(&mut self, line: &[u8]) -> Result<(), Fault> {
-        self.summary.reader.report(Reason::FurtherGroup, line)?;
-        Ok(())
+        Ok(self.summary.reader.report(Reason::FurtherGroup, line)?)
     }
 
-    /// Writes a table of what was taken so far, with an empty line behind it.
-    fn write_between(&mut self, alloc: Global) -> Result<(), Fault> {
-        match self.write_table(alloc) {
-            Ok(_) => {}
-            Err(Failure::Output(error)) => return Err(Fault::Output(error)),
-            Err(Failure::Sketch(error)) => return Err(Fault::Sketch(error)),
-            Err(_) => return Ok(()),
-        }
-        let written = self.output.write_all(b"\n");
-        written.map_err(Fault::Output)?;
-        self.output.flush().map_err(Fault::Output)
-    }
-
-    /// Writes an image of each group, and returns how many keys had bytes replaced: none.
-    pub fn write_images(&mut self, alloc: Global) -> Result<u64, Failure> {
-        let groups = &self.summary.groups;
-        write_images(alloc, &mut self.output, groups, true)?;
-        Ok(0)
+    /// Writes an image of each group.
+    pub fn write_images(&mut self, alloc: Global) -> Result<(), Fault> {
+        write_images(alloc, &mut self.output, &self.summary.groups, true)
     }
 
     /// Writes a table of what was taken so far, and returns how many keys had bytes replaced.
-    pub fn write_table(&mut self, alloc: Global) -> Result<u64, Failure> {
+    pub fn write_table(&mut self, alloc: Global) -> Result<u64, Fault> {
         self.summary.groups.sort()?;
         let surety = if self.has_weights {
-            Surety::Weights
+            Surety::Merges
         } else {
             Surety::Updates
         };

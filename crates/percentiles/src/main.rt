@@ -6,7 +6,8 @@
 use failure::Failure;
 use images::{Images, write_images};
 use lines::{Lines, TakeFile};
-use options::{Options, Stop, Task, options_of};
+use log_groups::fault::Fault;
+use options::{Options, Task, options_of};
 use std::alloc::Global;
 use std::env::{self, Env};
 use std::fs;
@@ -15,7 +16,6 @@ use std::process::ExitCode;
 use std::rt::Files;
 use table::Table;
 
-mod answers;
 mod chart;
 mod commands;
 mod failure;
@@ -25,27 +25,21 @@ mod options;
 mod reader;
 mod reports;
 mod table;
-mod text;
 
-/// How a run ends, unless it fails.
-#[derive(Clone, Copy, PartialEq, Eq)]
-enum Ending {
-    /// All lines were taken.
-    Whole,
-    /// Lines were left out, or bytes replaced.
-    LeftOut,
-    /// The words are wrong.
-    Misused,
-}
+/// The status of a run that took all lines.
+const WHOLE: u8 = 0;
 
-/// Returns the ending of a run that took all lines or not.
-fn ending_of(is_whole: bool) -> Ending {
-    if is_whole {
-        Ending::Whole
-    } else {
-        Ending::LeftOut
-    }
-}
+/// The status of a run that left lines out, or replaced bytes.
+const LEFT_OUT: u8 = 1;
+
+/// The status of a program whose words are wrong.
+const MISUSED: u8 = 2;
+
+/// The status of a program that failed.
+const FAILED: u8 = 3;
+
+/// The status of a program whose reader went away.
+const OF_SIGPIPE: u8 = 141;
 
 /// The seed of a table's coins if none is given.
 const USUAL_SEED: u64 = 1;
@@ -53,56 +47,45 @@ const USUAL_SEED: u64 = 1;
 /// What a given seed is multiplied by.
 const SEED_STEP: u64 = 10_000;
 
-/// The status of a program whose reader went away.
-const OF_SIGPIPE: u8 = 141;
-
 /// The most bytes of the output that wait.
 const MOST_WAITING: usize = 65_536;
 
 /// Returns what the program is asked to do, by its name or its first word, and the words behind.
 fn task_of(words: &[String]) -> (Task, &[String]) {
-    let Some((name, rest)) = words.split_first() else {
-        return (Task::Percentiles, words);
+    let (name, rest) = match words {
+        [name, rest @ ..] => (name.as_str(), rest),
+        [] => ("", words),
     };
-    if let Some(task) = named_task(base_name(name.as_bytes())) {
-        return (task, rest);
+    match (named_task(name.rsplit('/').next().unwrap_or(name)), rest) {
+        (Some(task), _) => (task, rest),
+        (None, [first, behind @ ..]) => match named_task(first.as_str()) {
+            Some(task) => (task, behind),
+            None => (Task::Percentiles, rest),
+        },
+        (None, []) => (Task::Percentiles, rest),
     }
-    if let Some((first, behind)) = rest.split_first()
-        && let Some(task) = named_task(first.as_bytes())
-    {
-        return (task, behind);
-    }
-    (Task::Percentiles, rest)
 }
 
 /// Returns the task of this name.
-fn named_task(name: &[u8]) -> Option<Task> {
+fn named_task(name: &str) -> Option<Task> {
     match name {
-        b"summarize" => Some(Task::Summarize),
-        b"combine" => Some(Task::Combine),
+        "summarize" => Some(Task::Summarize),
+        "combine" => Some(Task::Combine),
         _ => None,
     }
 }
 
-/// Returns what follows the last slash.
-fn base_name(path: &[u8]) -> &[u8] {
-    path.rsplit(|byte| *byte == b'/').next().unwrap_or(path)
-}
-
-/// Returns a seed from the system.
-fn drawn_seed<R: Files>(rt: &R) -> io::Result<u64> {
-    let mut file = fs::open(rt, "/dev/urandom")?;
-    let mut bytes = [0; 8];
-    file.read_exact(&mut bytes)?;
-    Ok(u64::from_le_bytes(bytes))
-}
-
-/// Returns the seed of the coins.
+/// Returns the seed of the coins: that of a table is the same each time, that of an image drawn from
+/// the system.
 fn seed_of<R: Files>(rt: &R, options: &Options<'_>) -> io::Result<u64> {
     match options.making.seed {
         Some(seed) => Ok(seed.wrapping_mul(SEED_STEP)),
         None if options.task == Task::Percentiles => Ok(USUAL_SEED * SEED_STEP),
-        None => drawn_seed(rt),
+        None => {
+            let mut bytes = [0; 8];
+            fs::open(rt, "/dev/urandom")?.read_exact(&mut bytes)?;
+            Ok(u64::from_le_bytes(bytes))
+        }
     }
 }
 
@@ -114,73 +97,65 @@ fn take_files<R: Files + Input, T: TakeFile, E: Write>(
     taker: &mut T,
     errors: &mut E,
 ) -> Result<(), Failure> {
-    let name = options.task.name();
     for file in &options.files {
         let taken = if *file == "-" {
             taker.take_file(alloc, file, rt.reader())
         } else {
             match fs::open(rt, *file) {
                 Ok(input) => taker.take_file(alloc, file, input),
-                Err(error) => Err(Failure::Input(error)),
+                Err(error) => Err(Failure::from(Fault::Input(error))),
             }
         };
-        match taken {
-            Ok(()) => {}
-            Err(failure) => {
-                let file = if *file == "-" {
-                    "standard input"
-                } else {
-                    *file
-                };
-                write!(errors, "{name}: {file}: {failure}\n")?;
-                return Err(Failure::Told);
-            }
+        if let Err(failure) = taken {
+            let name = options.task.name();
+            let _told = write!(errors, "{name}: {file}: {failure}\n");
+            return Err(Failure::Told);
         }
     }
     Ok(())
 }
 
-/// Reads lines of numbers, and prints a table or images.
+/// Reads lines of numbers, and prints a table or images. Returns the status.
 fn summarize<R: Files + Input, W: Write + Drop, E: Write>(
     rt: &R,
     alloc: Global,
     options: &Options<'_>,
     output: W,
     errors: &mut E,
-) -> Result<Ending, Failure> {
-    let seed = seed_of(rt, options)?;
-    let name = options.task.name();
+) -> Result<u8, Failure> {
+    let seed = seed_of(rt, options).map_err(Fault::Input)?;
     let how = (&options.reading, options.making, &options.showing);
     let mut lines = Lines::new(alloc, how, seed, output)?;
     take_files(rt, alloc, options, &mut lines, errors)?;
     let reports = &lines.summary.reader.reports;
-    reports.tell(name, errors)?;
-    let is_whole = reports.are_none(options.reading.ignores);
-    let spoilt = if options.task == Task::Summarize {
-        lines.write_images(alloc)?
+    reports.tell(options.task.name(), errors);
+    let has_groups = !lines.summary.groups.by_key().is_empty();
+    let is_whole = reports.are_none(options.reading.ignores && has_groups);
+    let mut spoilt = 0;
+    if options.task == Task::Summarize {
+        lines.write_images(alloc)?;
     } else {
-        lines.write_table(alloc)?
-    };
-    lines.output.flush()?;
-    tell_spoilt(spoilt, errors)?;
-    Ok(ending_of(is_whole && spoilt == 0))
+        spoilt = lines.write_table(alloc)?;
+    }
+    lines.output.flush().map_err(Fault::Output)?;
+    Ok(status_of(is_whole, spoilt, errors))
 }
 
-/// Reads images, and prints a table or images.
+/// Reads images, and prints a table or images. Returns the status.
 fn merge<R: Files + Input, W: Write, E: Write>(
     rt: &R,
     alloc: Global,
     options: &Options<'_>,
     output: &mut W,
     errors: &mut E,
-) -> Result<Ending, Failure> {
-    let mut images = Images::new(alloc, options, seed_of(rt, options)?);
+) -> Result<u8, Failure> {
+    let seed = seed_of(rt, options).map_err(Fault::Input)?;
+    let mut images = Images::new(alloc, options, seed);
     take_files(rt, alloc, options, &mut images, errors)?;
-    errors.write_all(images.told.as_slice())?;
-    images.tell_unlike(errors)?;
+    images.tell_all(errors);
     let mut spoilt = 0;
     if options.task == Task::Percentiles {
-        images.groups.sort()?;
+        images.groups.sort().map_err(Fault::from)?;
         let has_keys = images.groups.by_key().keys().any(|key| !key.is_empty());
         let surety = images.surety();
         let table = Table::new(alloc, &images.groups, &options.showing, has_keys, surety)?;
@@ -188,74 +163,90 @@ fn merge<R: Files + Input, W: Write, E: Write>(
     } else {
         write_images(alloc, output, &images.groups, false)?;
     }
-    output.flush()?;
-    tell_spoilt(spoilt, errors)?;
-    Ok(ending_of(images.is_whole && spoilt == 0))
+    output.flush().map_err(Fault::Output)?;
+    Ok(status_of(images.is_whole, spoilt, errors))
 }
 
-/// Tells how many groups had bytes replaced.
-fn tell_spoilt<E: Write>(spoilt: u64, errors: &mut E) -> Result<(), Failure> {
-    match spoilt {
-        0 => return Ok(()),
-        1 => write!(errors, "percentiles: 1 group isn't UTF-8")?,
-        _ => write!(errors, "percentiles: {spoilt} groups aren't UTF-8")?,
+/// Tells how many groups had bytes replaced, and returns the status.
+fn status_of<E: Write>(is_whole: bool, spoilt: u64, errors: &mut E) -> u8 {
+    if spoilt > 0 {
+        let (s, is) = if spoilt == 1 {
+            ("", "is")
+        } else {
+            ("s", "are")
+        };
+        let _told = write!(
+            errors,
+            "percentiles: {spoilt} group{s} {is}n't UTF-8: in json, U+FFFD stands for each byte that isn't\n"
+        );
     }
-    errors.write_all(b": in json, U+FFFD stands for each byte that isn't\n")?;
-    Ok(())
+    if is_whole && spoilt == 0 {
+        WHOLE
+    } else {
+        LEFT_OUT
+    }
 }
 
-/// Does what the words ask for.
-fn run<R: Files + Input + Env + AllocGlobal + Print + Eprint, W: Write + Drop, E: Write>(
+/// Does what the words ask for, and returns the status.
+fn run<R: Files + Input, W: Write + Drop, E: Write>(
     rt: &R,
+    alloc: Global,
+    (task, words): (Task, &[String]),
     output: W,
     errors: &mut E,
-) -> Result<Ending, Failure> {
-    let alloc = rt.alloc();
-    let Ok(words) = env::args(rt) else {
-        errors.write_all(b"percentiles: an argument isn't UTF-8\n")?;
-        return Ok(Ending::Misused);
-    };
-    let words: Vec<String> = words.collect(alloc)?;
-    let (task, words) = task_of(&words);
-    let options = match options_of(alloc, task, words) {
-        Ok(options) => options,
-        Err(Stop::Told(error)) => {
-            error.print(rt)?;
-            return Ok(if error.use_stderr() {
-                Ending::Misused
-            } else {
-                Ending::Whole
-            });
-        }
-        Err(Stop::Wrong(why)) => {
-            let name = task.name();
-            write!(errors, "{name}: {why}; see {name} -h\n")?;
-            return Ok(Ending::Misused);
-        }
-        Err(Stop::Failed(failure)) => return Err(failure),
-    };
-    let mut output = BufWriter::with_capacity(alloc, MOST_WAITING, output)?;
+) -> Result<u8, Failure> {
+    let options = options_of(alloc, task, words)?;
+    let mut output = BufWriter::with_capacity(alloc, MOST_WAITING, output).map_err(Fault::Output)?;
     if options.taking.reads_images {
         return merge(rt, alloc, &options, &mut output, errors);
     }
     summarize(rt, alloc, &options, output, errors)
 }
 
-fn main(rt: HostRuntime) -> ExitCode {
-    match run(&rt, io::writer(&rt), &mut rt.stderr()) {
-        Ok(Ending::Whole) => ExitCode::SUCCESS,
-        Ok(Ending::LeftOut) => ExitCode::from(1),
-        Ok(Ending::Misused) => ExitCode::from(2),
-        Err(Failure::Output(error)) if error.kind() == ErrorKind::BrokenPipe => {
-            ExitCode::from(OF_SIGPIPE)
+/// Tells why nothing is printed, and returns the status.
+fn status_of_failure<R: Print + Eprint + AllocGlobal>(rt: &R, name: &str, failure: Failure) -> u8 {
+    match failure {
+        Failure::Told => FAILED,
+        Failure::Fault(Fault::Output(error)) if error.kind() == ErrorKind::BrokenPipe => OF_SIGPIPE,
+        Failure::Words(error) => match error.print(rt) {
+            Err(_) => FAILED,
+            Ok(()) if error.use_stderr() => MISUSED,
+            Ok(()) => WHOLE,
+        },
+        failure if failure.is_misuse() => {
+            let _told = eprintln!(rt; "{name}: {failure}; see {name} -h");
+            MISUSED
         }
-        Err(Failure::Told) => {
-            let _told = eprintln!(rt; "percentiles: nothing is printed");
-            ExitCode::from(3)
-        }
-        Err(failure) => {
-            let _told = eprintln!(rt; "percentiles: nothing is printed: {failure}");
-            ExitCode::from(3)
+        failure => {
+            let _told = eprintln!(rt; "{name}: {failure}");
+            FAILED
         }
     }
+}
+
+/// Returns the words that the program was called with.
+fn words_of<R: Env + AllocGlobal>(rt: &R) -> Result<Vec<String>, Failure> {
+    match env::args(rt) {
+        Ok(words) => Ok(words.collect(rt.alloc())?),
+        Err(_) => Err(Failure::NoText),
+    }
+}
+
+fn main(rt: HostRuntime) -> ExitCode {
+    let words = match words_of(&rt) {
+        Ok(words) => words,
+        Err(failure) => return ExitCode::from(status_of_failure(&rt, "percentiles", failure)),
+    };
+    let (task, rest) = task_of(&words);
+    let ended = run(
+        &rt,
+        rt.alloc(),
+        (task, rest),
+        io::writer(&rt),
+        &mut rt.stderr(),
+    );
+    ExitCode::from(match ended {
+        Ok(status) => status,
+        Err(failure) => status_of_failure(&rt, task.name(), failure),
+    })
 }

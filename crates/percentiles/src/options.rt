@@ -2,12 +2,11 @@
 use crate::commands::command_of;
 use crate::failure::Failure;
 use clap::ArgMatches;
-use log_groups::fields::Separator;
-use log_groups::number::{MOST_DECIMALS, Reading as Number, read_number};
+use log_groups::answers::Column;
+use log_groups::fields::{Place, Separator};
+use log_groups::number::{MOST_DECIMALS, Reading as Number, fraction_of, read_number};
 use log_groups::sketch::Kind;
-use sketch_base::common::Rank;
-use std::alloc::{AllocError, AllocFailed, Global};
-use std::fmt;
+use std::alloc::{AllocError, Global};
 
 /// What the program is asked to do.
 #[derive(Clone, Copy, PartialEq, Eq)]
@@ -56,25 +55,6 @@ pub enum Format {
     Csv,
     /// As a list of objects.
     Json,
-}
-
-/// A column of a table.
-#[derive(Clone, Copy, PartialEq, Eq)]
-pub enum Column<'a> {
-    /// How many numbers there are.
-    Count,
-    /// A percentile: its name, and the fraction that it is.
-    Point(&'a str, Rank),
-    /// The least number.
-    Min,
-    /// The greatest number.
-    Max,
-    /// The sum of the numbers.
-    Sum,
-    /// How many numbers are at most a limit.
-    AtMost(&'a str),
-    /// How many of 100 numbers are at most a limit.
-    Share(&'a str),
 }
 
 /// How the fields of a line are found.
@@ -145,69 +125,16 @@ pub struct Options<'a> {
     pub files: Vec<&'a str>,
 }
 
-/// Why words are no options.
-#[derive(Drop)]
-pub enum Stop {
-    /// They ask for the usage or the version, or aren't known.
-    Told(clap::Error),
-    /// They are wrong, and this says why.
-    Wrong(Wrong),
-    /// Memory ran out.
-    Failed(Failure),
-}
-
-impl From<AllocError> for Stop {
-    fn from(refused: AllocError) -> Stop {
-        Stop::Failed(Failure::from(refused))
-    }
-}
-
-impl<T: Drop> From<AllocFailed<T>> for Stop {
-    fn from(refused: AllocFailed<T>) -> Stop {
-        Stop::Failed(Failure::from(refused))
-    }
-}
-
-/// What is wrong with words.
-#[derive(Clone, Copy, PartialEq, Eq)]
-pub enum Wrong {
-    Groups,
-    Value,
-    Weight,
-    Separator,
-    KllSize,
-    ReqSize,
-    Percentile,
-    Twice,
-    Limit,
-    Sum,
-}
-
-impl fmt::Display for Wrong {
-    fn fmt<W: fmt::Write>(&self, f: &mut fmt::Formatter<W>) -> fmt::Result {
-        f.write_str(match self {
-            Wrong::Groups =>
-                "-g takes numbers of fields, and names with -H or -j; FILE stands first",
-            Wrong::Value => "-v and -w take the number of a field, and a name with -H or -j",
-            Wrong::Weight => "-w needs -f kll: a REQ sketch takes no weights",
-            Wrong::Separator => "-t takes one character, or \\t for a tab",
-            Wrong::KllSize => "-k of kll is from 8 to 65535",
-            Wrong::ReqSize => "-k of req is even, from 4 to 1024",
-            Wrong::Percentile =>
-                "-p takes percentiles from 0 to 100, with at most 12 decimals, min and sum",
-            Wrong::Twice => "-p takes a percentile once",
-            Wrong::Limit => "-l takes numbers with at most 9 decimals",
-            Wrong::Sum => "summaries don't hold the sum of their numbers",
-        })
-    }
-}
-
 /// Returns the options that words spell.
-pub fn options_of<'a>(alloc: Global, task: Task, words: &'a [String]) -> Result<Options<'a>, Stop> {
+pub fn options_of<'a>(
+    alloc: Global,
+    task: Task,
+    words: &'a [String],
+) -> Result<Options<'a>, Failure> {
     let command = command_of(alloc, task)?;
     let matches = match command.try_get_matches_from(words) {
         Ok(matches) => matches,
-        Err(error) => return Err(Stop::Told(error)),
+        Err(error) => return Err(Failure::Words(error)),
     };
     let taking = Taking {
         reads_images: task == Task::Combine || matches.get_flag("images"),
@@ -239,7 +166,7 @@ fn files_of<'a>(alloc: Global, matches: &ArgMatches<'a>) -> Result<Vec<&'a str>,
 }
 
 /// Returns how sketches are made.
-fn making_of(matches: &ArgMatches<'_>) -> Result<Making, Stop> {
+fn making_of(matches: &ArgMatches<'_>) -> Result<Making, Failure> {
     let is_kll = matches.get_str("family") == Some("kll");
     let size = matches
         .get_one::<u16>("accuracy")
@@ -247,8 +174,8 @@ fn making_of(matches: &ArgMatches<'_>) -> Result<Making, Stop> {
     let kind = match size {
         8.. if is_kll => Kind::Kll(size),
         4..=1024 if !is_kll && size % 2 == 0 => Kind::Req(size),
-        _ if is_kll => return Err(Stop::Wrong(Wrong::KllSize)),
-        _ => return Err(Stop::Wrong(Wrong::ReqSize)),
+        _ if is_kll => return Err(Failure::KllSize),
+        _ => return Err(Failure::ReqSize),
     };
     Ok(Making {
         kind,
@@ -265,7 +192,7 @@ fn reading_of<'a>(
     alloc: Global,
     matches: &ArgMatches<'a>,
     kind: Kind,
-) -> Result<Reading<'a>, Stop> {
+) -> Result<Reading<'a>, Failure> {
     let has_header = matches.get_flag("header");
     let form = match matches.get_str("separator") {
         _ if matches.get_flag("json") => Form::Json,
@@ -299,40 +226,31 @@ fn reading_of<'a>(
 
 impl Reading<'_> {
     /// Checks that fields are numbers, unless they have names, and that weights can be taken.
-    fn check(&self, kind: Kind) -> Result<(), Stop> {
+    fn check(&self, kind: Kind) -> Result<(), Failure> {
         if self.weight.is_some() && matches!(kind, Kind::Req(_)) {
-            return Err(Stop::Wrong(Wrong::Weight));
+            return Err(Failure::Weight);
         }
         if self.has_header || self.form == Form::Json {
             return Ok(());
         }
-        if !self.groups.iter().all(|name| place_of(name).is_some()) {
-            return Err(Stop::Wrong(Wrong::Groups));
+        if !self.groups.iter().all(|name| Place::parse(name).is_some()) {
+            return Err(Failure::Groups);
         }
-        if place_of(self.value).is_none()
-            || self.weight.is_some_and(|name| place_of(name).is_none())
+        if Place::parse(self.value).is_none()
+            || self.weight.is_some_and(|name| Place::parse(name).is_none())
         {
-            return Err(Stop::Wrong(Wrong::Value));
+            return Err(Failure::Value);
         }
         Ok(())
     }
 }
 
 /// Returns the separator that a word names.
-fn separator_of(word: &str) -> Result<Separator, Stop> {
+fn separator_of(word: &str) -> Result<Separator, Failure> {
     match word.as_bytes() {
         b"\\t" => Ok(Separator::Byte(b'\t')),
         [byte] => Ok(Separator::Byte(*byte)),
-        _ => Err(Stop::Wrong(Wrong::Separator)),
-    }
-}
-
-/// The place of a field: the first one of a line is 1, and the last one -1.
-pub fn place_of(text: &str) -> Option<i32> {
-    match text.parse::<i32>() {
-        Ok(place) if place != 0 && place >= -99_999 && place <= 99_999 && !text.starts_with('+') =>
-            Some(place),
-        _ => None,
+        _ => Err(Failure::Separator),
     }
 }
 
@@ -341,14 +259,14 @@ fn showing_of<'a>(
     alloc: Global,
     matches: &ArgMatches<'a>,
     taking: Taking,
-) -> Result<Showing<'a>, Stop> {
+) -> Result<Showing<'a>, Failure> {
     let mut columns = Vec::new(alloc);
     columns.push(Column::Count)?;
     if let Some(list) = matches.get_str("percentiles") {
         for name in list.split(',') {
             let column = column_of(name, taking)?;
             if columns.contains(&column) {
-                return Err(Stop::Wrong(Wrong::Twice));
+                return Err(Failure::Twice);
             }
             columns.push(column)?;
         }
@@ -357,7 +275,7 @@ fn showing_of<'a>(
     if let Some(list) = matches.get_str("limits") {
         for limit in list.split(',') {
             if !is_limit(limit) {
-                return Err(Stop::Wrong(Wrong::Limit));
+                return Err(Failure::Limit);
             }
             columns.push(Column::AtMost(limit))?;
             columns.push(Column::Share(limit))?;
@@ -382,14 +300,14 @@ fn format_of(word: &str) -> Format {
 }
 
 /// Returns the column that a word of -p asks for.
-fn column_of(name: &str, taking: Taking) -> Result<Column<'_>, Stop> {
+fn column_of(name: &str, taking: Taking) -> Result<Column<'_>, Failure> {
     match name {
         "min" => Ok(Column::Min),
-        "sum" if taking.reads_images => Err(Stop::Wrong(Wrong::Sum)),
+        "sum" if taking.reads_images => Err(Failure::Sum),
         "sum" => Ok(Column::Sum),
         _ => match fraction_of(name) {
             Some(fraction) => Ok(Column::Point(name, fraction)),
-            None => Err(Stop::Wrong(Wrong::Percentile)),
+            None => Err(Failure::Percentile),
         },
     }
 }
@@ -400,29 +318,4 @@ fn is_limit(text: &str) -> bool {
         read_number(text.as_bytes(), MOST_DECIMALS),
         Number::Exact(_)
     )
-}
-
-/// The most decimals of a percentile.
-const POINT_DECIMALS: usize = 12;
-
-/// Returns the fraction that a percentile is, as 999 of 1000 for 99.9.
-fn fraction_of(text: &str) -> Option<Rank> {
-    let (whole, places) = text.split_once('.').unwrap_or((text, "0"));
-    if whole.len() > 3 || places.len() > POINT_DECIMALS || whole.starts_with('+') {
-        return None;
-    }
-    let mut weight = whole.parse::<u64>().ok()?;
-    let mut total = 100u64;
-    if places.is_empty() {
-        return None;
-    }
-    for digit in places.as_bytes() {
-        if !digit.is_ascii_digit() {
-            return None;
-        }
-        weight = weight.checked_mul(10)?.checked_add((*digit - b'0') as u64)?;
-        total = total.checked_mul(10)?;
-    }
-    let is_percentile = weight <= total && (whole.len() < 3 || whole == "100");
-    is_percentile.then_some(Rank { weight, total })
 }

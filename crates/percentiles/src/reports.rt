@@ -1,24 +1,24 @@
 //! What is told of lines that are left out or rounded.
-use crate::text::push_printable;
+use log_groups::text::push_printable;
 use std::alloc::{AllocError, Global};
-use std::io::{self, Write};
+use std::io::Write;
 
 /// The most bytes of a line that a message shows.
 const MOST_SHOWN: usize = 200;
 
 /// Where a line is.
 #[derive(Drop)]
-pub struct Place {
+pub struct Position {
     /// The file's name, or 'standard input'.
     pub file: String,
     /// The line's number, counted from 1.
     pub line: u64,
 }
 
-impl Place {
-    /// Creates the place before any file.
+impl Position {
+    /// Creates the position before any file.
     pub fn new(alloc: Global) -> Self {
-        Place {
+        Position {
             file: String::new(alloc),
             line: 0,
         }
@@ -44,17 +44,6 @@ pub enum Reason {
     NoWeight,
     FurtherGroup,
 }
-
-/// All reasons, in the order in which they are told.
-const REASONS: [Reason; 7] = [
-    Reason::NoNumber,
-    Reason::OpenQuote,
-    Reason::OutOfRange,
-    Reason::Rounded,
-    Reason::NoObject,
-    Reason::NoWeight,
-    Reason::FurtherGroup,
-];
 
 impl Reason {
     /// Returns what lines of this reason have, and what is done with them.
@@ -87,72 +76,64 @@ pub struct Reports {
 
 impl Reports {
     /// Creates reports of no lines.
-    pub fn new(alloc: Global) -> Result<Self, AllocError> {
-        let mut tallies = Vec::new(alloc);
-        for reason in REASONS {
-            tallies.push(Tally {
-                reason,
-                count: 0,
-                first: Vec::new(alloc),
-            })?;
+    pub fn new(alloc: Global) -> Self {
+        Reports {
+            tallies: Vec::new(alloc),
         }
-        Ok(Reports { tallies })
     }
 
     /// Counts a line.
-    #[inline(never)]
-    pub fn add(&mut self, reason: Reason, place: &Place, line: &[u8]) -> Result<(), AllocError> {
-        if let Some(tally) = self.tallies.get_mut(reason as usize) {
-            if tally.count == 0 {
-                push_line(&mut tally.first, place, line)?;
+    pub fn add(&mut self, reason: Reason, at: &Position, line: &[u8]) -> Result<(), AllocError> {
+        for tally in self.tallies.iter_mut() {
+            if tally.reason == reason {
+                tally.count = tally.count.saturating_add(1);
+                return Ok(());
             }
-            tally.count = tally.count.saturating_add(1);
         }
-        Ok(())
+        let mut first = Vec::new(*self.tallies.allocator());
+        push_line(&mut first, at, line)?;
+        Ok(
+            self.tallies.push(Tally {
+                reason,
+                count: 1,
+                first,
+            })?,
+        )
     }
 
     /// Tells of all lines.
-    pub fn tell<E: Write>(&self, name: &str, errors: &mut E) -> io::Result<()> {
+    pub fn tell<E: Write>(&self, name: &str, errors: &mut E) {
         for tally in &self.tallies {
-            if tally.count > 0 {
-                tally.tell(name, errors)?;
-            }
+            let (what, done) = tally.reason.told();
+            let (s, is) = if tally.count == 1 {
+                ("", "is")
+            } else {
+                ("s", "are")
+            };
+            let _told = write!(
+                errors,
+                "{name}: {} line{s} {what} {is} {done}; the first: ",
+                tally.count
+            );
+            let _told = errors.write_all(tally.first.as_slice());
+            let _told = errors.write_all(b"\n");
         }
-        Ok(())
     }
 
     /// Returns whether no line was left out. Those without a number don't count if they may be.
     pub fn are_none(&self, ignores: bool) -> bool {
         self.tallies.iter().all(|tally| match tally.reason {
-            Reason::NoNumber => ignores || tally.count == 0,
+            Reason::NoNumber => ignores,
             Reason::Rounded => true,
-            _ => tally.count == 0,
+            _ => false,
         })
     }
 }
 
-impl Tally {
-    /// Tells how many lines there are, and the first of them.
-    fn tell<E: Write>(&self, name: &str, errors: &mut E) -> io::Result<()> {
-        let (what, done) = self.reason.told();
-        match self.count {
-            1 => write!(errors, "{name}: 1 line {what} is {done}; the first: ")?,
-            count => write!(
-                errors,
-                "{name}: {count} lines {what} are {done}; the first: "
-            )?,
-        }
-        errors.write_all(self.first.as_slice())?;
-        errors.write_all(b"\n")
-    }
-}
-
 /// Adds a line's file, number and text.
-fn push_line(out: &mut Vec<u8>, place: &Place, line: &[u8]) -> Result<(), AllocError> {
-    let alloc = *out.allocator();
-    let Place { file, line: number } = place;
-    push_printable(out, file.as_bytes())?;
-    let told = format!(in alloc; ", line {number}: ")?;
+fn push_line(out: &mut Vec<u8>, at: &Position, line: &[u8]) -> Result<(), AllocError> {
+    let told = format!(in *out.allocator(); ", line {}: ", at.line)?;
+    push_printable(out, at.file.as_bytes())?;
     out.extend_from_slice(told.as_bytes())?;
     push_cut(out, line)
 }

@@ -86,3 +86,37 @@ pub fn push_json(out: &mut Vec<u8>, text: &[u8]) -> Result<(), AllocError> {
     }
     Ok(())
 }
+
+/// Adds a key with \t for a tab, and \\ for a backslash.
+pub fn push_escaped(out: &mut Vec<u8>, key: &[u8]) -> Result<(), AllocError> {
+    for byte in key {
+        match *byte {
+            b'\t' => out.extend_from_slice(b"\\t")?,
+            b'\\' => out.extend_from_slice(b"\\\\")?,
+            other => out.push(other)?,
+        }
+    }
+    Ok(())
+}
+
+/// Adds a key with a tab for \t, and a backslash for \\.
+pub fn push_unescaped(out: &mut Vec<u8>, key: &[u8]) -> Result<(), AllocError> {
+    let mut rest = key;
+    while let [byte, behind @ ..] = rest {
+        match behind {
+            [b't', after @ ..] if *byte == b'\\' => {
+                rest = after;
+                out.push(b'\t')?;
+            }
+            [next, after @ ..] if *byte == b'\\' => {
+                rest = after;
+                out.push(*next)?;
+            }
+            _ => {
+                rest = behind;
+                out.push(*byte)?;
+            }
+        }
+    }
+    Ok(())
+}
