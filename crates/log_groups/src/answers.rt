@@ -83,12 +83,13 @@ impl Answer {
         let Answer::Number(mut rest) = self else {
             return 0;
         };
-        let mut needed = decimals;
-        while needed > 0 && rest % 10 == 0 {
+        for needless in 0..decimals {
+            if rest % 10 != 0 {
+                return decimals - needless;
+            }
             rest /= 10;
-            needed -= 1;
         }
-        needed
+        0
     }
 
     /// Adds the answer, whose number has these decimals and is shown with so many.

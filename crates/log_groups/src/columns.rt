@@ -1,4 +1,7 @@
 //! The fields of a line that make its key and its number.
+ghost use Rattle.std.specs.Prelude.{◌≡◌, ◌++◌, false, OnOk};
+ghost use Rattle.log_groups.specs.Fields.{IsPlain, joined, key_of};
+
 use crate::cells::Cells;
 use crate::fields::{Place, Separator, count_fields, field};
 use crate::lines::len_before;
@@ -39,69 +42,64 @@ impl Columns {
     /// Reads the number of a line, and adds its key to `key`: the field, or several with the
     /// separator between them, or a space if it is blanks. Returns None if a quote isn't closed.
     #[inline(always)]
-    pub fn read(&mut self, line: &[u8], key: &mut Vec<u8>) -> Result<Option<Reading>, AllocError> {
-        let Some(is_quoted) = self.split(line)? else {
-            return Ok(None);
-        };
+    pub fn read(&mut self, line: &[u8], key: &mut Vec<u8>) -> Result<Option<Reading>, AllocError>
+        ensures key { IsPlain self.old.separator line.now → OnOk result (key.new.items
+            ≡ key.old.items ++ key_of self.old.separator self.old.groups.items line.now) }
+        ensures separator { self.new.separator ≡ self.old.separator }
+        ensures groups { self.new.groups ≡ self.old.groups }
+    {
+        if self.has_quotes(line) {
+            return self.read_quoted(line, key);
+        }
         if let Some(weight) = self.weight {
-            self.weighs = read_number(self.part(line, is_quoted, weight), 0);
+            self.weighs = read_number(field(line, self.separator, weight), 0);
         }
-        if let [only] = self.groups.as_slice() {
-            key.extend_from_slice(self.part(line, is_quoted, *only))?;
-        } else {
-            self.push_key(line, is_quoted, key)?;
-        }
-        let number = self.part(line, is_quoted, self.value);
+        push_key(line, self.separator, &self.groups, key)?;
+        let number = field(line, self.separator, self.value);
         Ok(Some(read_number(number, self.decimals)))
     }
 
-    /// Returns whether a line has quotes that mean something, and splits it if so. Returns None if
-    /// a quote isn't closed.
+    /// Returns whether a line has quotes that mean something.
     #[inline(always)]
-    fn split(&mut self, line: &[u8]) -> Result<Option<bool>, AllocError> {
-        let may_quote = matches!(self.separator, Separator::Byte(b',' | b';'));
-        if !may_quote || len_before(line, b'"') == line.len() {
-            return Ok(Some(false));
+    fn has_quotes(&self, line: &[u8]) -> bool
+        ensures plain { IsPlain self.now.separator line.now → result ≡ false }
+    {
+        match self.separator {
+            Separator::Byte(b',' | b';') => len_before(line, b'"') < line.len(),
+            _ => false,
         }
-        let joint = self.joint();
-        let is_closed = self.cells.split(line, joint)?;
-        Ok(is_closed.then_some(true))
     }
 
-    /// Returns a field of a line, which was split if it is quoted.
-    #[inline(always)]
-    fn part<'s>(&'s self, line: &'s [u8], is_quoted: bool, place: Place) -> &'s [u8] {
-        if is_quoted {
-            self.cells.at(place)
+    /// Does what `read` does with a line that has quotes: one of several fields of a key that holds
+    /// the separator or a quote stands in quotes.
+    #[inline(never)]
+    fn read_quoted(&mut self, line: &[u8], key: &mut Vec<u8>) -> Result<Option<Reading>, AllocError>
+        ensures separator { self.new.separator ≡ self.old.separator }
+        ensures groups { self.new.groups ≡ self.old.groups }
+    {
+        let joint = self.joint();
+        if !self.cells.split(line, joint)? {
+            return Ok(None);
+        }
+        if let Some(weight) = self.weight {
+            self.weighs = read_number(self.cells.at(weight), 0);
+        }
+        if let [only] = self.groups.as_slice() {
+            key.extend_from_slice(self.cells.at(*only))?;
         } else {
-            field(line, self.separator, place)
-        }
-    }
-
-    /// Adds the fields of a key. In a quoted line one that holds the separator or a quote stands in
-    /// quotes.
-    fn push_key(&self, line: &[u8], is_quoted: bool, key: &mut Vec<u8>) -> Result<(), AllocError> {
-        let joint = self.joint();
-        for (i, place) in self.groups.iter().enumerate() {
-            if i > 0 {
-                key.push(joint)?;
-            }
-            let part = self.part(line, is_quoted, *place);
-            if is_quoted {
-                push_part(key, part, joint)?;
-            } else {
-                key.extend_from_slice(part)?;
+            for (i, place) in self.groups.iter().enumerate() {
+                if i > 0 {
+                    key.push(joint)?;
+                }
+                push_part(key, self.cells.at(*place), joint)?;
             }
         }
-        Ok(())
+        Ok(Some(read_number(self.cells.at(self.value), self.decimals)))
     }
 
     /// Returns what joins the fields of a key.
     pub fn joint(&self) -> u8 {
-        match self.separator {
-            Separator::Blanks => b' ',
-            Separator::Byte(byte) => byte,
-        }
+        self.separator.joint()
     }
 
     /// Returns the fields of a line, as of a header; None if a quote isn't closed.
@@ -110,9 +108,10 @@ impl Columns {
         alloc: Global,
         line: &[u8],
     ) -> Result<Option<Vec<Vec<u8>>>, AllocError> {
-        let Some(is_quoted) = self.split(line)? else {
+        let (is_quoted, joint) = (self.has_quotes(line), self.joint());
+        if is_quoted && !self.cells.split(line, joint)? {
             return Ok(None);
-        };
+        }
         let count = if is_quoted {
             self.cells.len()
         } else {
@@ -120,11 +119,52 @@ impl Columns {
         };
         let mut names = Vec::new(alloc);
         for i in 0..count {
-            let name = self.part(line, is_quoted, Place::Front(i.saturating_add(1)));
+            let place = Place::Front(i.saturating_add(1));
+            let name = if is_quoted {
+                self.cells.at(place)
+            } else {
+                field(line, self.separator, place)
+            };
             names.push(Vec::from_slice(alloc, name)?)?;
         }
         Ok(Some(names))
     }
+}
+
+/// Adds the fields of a line at these places to a key, with what joins them between them.
+#[inline(always)]
+fn push_key(
+    line: &[u8],
+    separator: Separator,
+    places: &[Place],
+    key: &mut Vec<u8>,
+) -> Result<(), AllocError>
+    ensures key { OnOk result (key.new.items
+        ≡ key.old.items ++ key_of separator places.now line.now) }
+{
+    let [first, rest @ ..] = places else {
+        return Ok(());
+    };
+    key.extend_from_slice(field(line, separator, *first))?;
+    push_joined(line, separator, rest, key)
+}
+
+/// Adds the fields of a line at these places to a key, with what joins them in front of each.
+#[inline(always)]
+fn push_joined(
+    line: &[u8],
+    separator: Separator,
+    places: &[Place],
+    key: &mut Vec<u8>,
+) -> Result<(), AllocError>
+    ensures key { OnOk result (key.new.items
+        ≡ key.old.items ++ joined separator places.now line.now) }
+{
+    for place in places {
+        key.push(separator.joint())?;
+        key.extend_from_slice(field(line, separator, *place))?;
+    }
+    Ok(())
 }
 
 /// Adds one of several fields to a key: in quotes if it holds the separator or a quote.

@@ -1,7 +1,7 @@
 //! Fields of a line.
 ghost use Rattle.std.specs.Prelude.{◌≡◌, ◌+◌, ◌≤◌, ◌==◌, drop, length, reverse};
 ghost use Rattle.std.specs.List.{position_or_len, slice_split};
-ghost use Rattle.log_groups.specs.Fields.{field_at, fields_of, nth_field, words_of, is_blank, is_no_blank};
+ghost use Rattle.log_groups.specs.Fields.{joint_of, field_at, fields_of, nth_field, words_of, is_blank, is_no_blank};
 
 use crate::lines::len_before;
 
@@ -12,6 +12,19 @@ pub enum Separator {
     Blanks,
     /// Each byte of this value, so that fields may be empty.
     Byte(u8),
+}
+
+impl Separator {
+    /// Returns what joins the fields of a key: the separator, or a space.
+    #[inline(always)]
+    pub fn joint(self) -> u8
+        ensures value { result ≡ joint_of self }
+    {
+        match self {
+            Separator::Blanks => b' ',
+            Separator::Byte(byte) => byte,
+        }
+    }
 }
 
 /// Which of its fields is asked of a line.
@@ -27,7 +40,9 @@ impl Place {
     /// Returns the place that a text names: 1 is the first field of a line, and -1 the last one.
     pub fn parse(text: &str) -> Option<Self> {
         match text.parse::<i32>() {
-            Ok(number) if number > 0 => Some(Place::Front(number.unsigned_abs() as usize)),
+            Ok(number) if number > 0 && !text.starts_with('+') => Some(Place::Front(
+                number.unsigned_abs() as usize,
+            )),
             Ok(number) if number < 0 => Some(Place::Back(number.unsigned_abs() as usize)),
             _ => None,
         }

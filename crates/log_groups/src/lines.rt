@@ -61,6 +61,19 @@ fn strip_feed(line: &mut Vec<u8>)
     }
 }
 
+/// Returns a line without the carriage return that it ends with, if it does.
+#[inline(always)]
+pub fn without_return(line: &[u8]) -> &[u8]
+    ensures { result.now ≡ strip_last 13 line.now }
+{
+    let len = line.len();
+    if len > 0 && line[len - 1] == b'\r' {
+        &line[..len - 1]
+    } else {
+        line
+    }
+}
+
 /// Takes each line that is left of an input, and returns how many there were.
 pub fn take_lines<R: Read, T: TakeLine>(
     alloc: Global,

@@ -1,4 +1,6 @@
 //! How lines of images are merged by their keys, and written.
+ghost use Rattle.std.specs.Prelude.{⊤};
+
 use crate::failure::Failure;
 use crate::lines::{MARK, MOST_AHEAD, TakeFile};
 use crate::options::{Options, Task};
@@ -7,7 +9,7 @@ use log_groups::answers::Surety;
 use log_groups::fault::Fault;
 use log_groups::groups::{Groups, Joined};
 use log_groups::images::{Merging, parts_of, push_line};
-use log_groups::lines::{TakeLine, len_before, take_lines};
+use log_groups::lines::{TakeLine, len_before, take_lines, without_return};
 use log_groups::text::push_printable;
 use md5::{Digest, Md5};
 use std::alloc::{AllocError, Global};
@@ -39,9 +41,9 @@ pub struct Images {
 const MOST_TOLD: u64 = 10;
 
 impl TakeLine for Images {
-    ghost takes = { λ s l t. Unit };
+    ghost takes = { λ s l t. ⊤ };
 
-    ghost leaves = { λ s t. Unit };
+    ghost leaves = { λ s t. ⊤ };
 
     fn take_line(&mut self, alloc: Global, line: &[u8]) -> Result<(), Fault> {
         self.position.line = self.position.line.saturating_add(1);
@@ -49,7 +51,7 @@ impl TakeLine for Images {
             Some(behind) if self.position.line == 1 => behind,
             _ => line,
         };
-        let line = line.strip_suffix(b"\r").unwrap_or(line);
+        let line = without_return(line);
         let is_image = parts_of(alloc, line)?.is_ok();
         if is_image && !self.again && !self.seen.insert(Md5::digest(line))? {
             return Ok(self.refuse(line, "came before (--again takes such lines, too)")?);

@@ -1,15 +1,16 @@
 //! How the lines of files go into the sketches of their groups, and tables are written meanwhile.
+ghost use Rattle.std.specs.Prelude.{⊤};
+
 use crate::failure::Failure;
 use crate::images::write_images;
 use crate::options::{Making, Reading, Showing};
 use crate::reader::Reader;
-use crate::reports::Reason;
 use crate::table::Table;
 use log_groups::answers::Surety;
 use log_groups::fault::Fault;
 use log_groups::groups::Groups;
 use log_groups::lines::{TakeLine, next_line, take_lines};
-use log_groups::summary::{Form, ReadLine, Summary};
+use log_groups::summary::{Form, ReadLine, Summary, sum_up};
 use std::alloc::Global;
 use std::io::{BufReader, Read, Write};
 
@@ -29,19 +30,24 @@ pub struct Lines<'o, W: Write + Drop> {
 }
 
 impl<W: Write + Drop> TakeLine for Lines<'_, W> {
-    ghost takes = { λ s l t. Unit };
+    ghost takes = { λ s l t. ⊤ };
 
-    ghost leaves = { λ s t. Unit };
+    ghost leaves = { λ s t. ⊤ };
 
-    #[inline(always)]
     fn take_line(&mut self, alloc: Global, line: &[u8]) -> Result<(), Fault> {
-        if self.has_weights || self.showing.every.is_some() {
-            return self.take_slowly(alloc, line);
+        if self.has_weights {
+            self.take_weighted(alloc, line)?;
+        } else {
+            self.summary.take_line(alloc, line)?;
         }
-        match self.summary.take_line(alloc, line) {
-            Err(Fault::TooManyGroups) => self.leave_out(line),
-            taken => taken,
+        self.taken = self.taken.saturating_add(1);
+        if Some(self.taken) == self.showing.every {
+            self.taken = 0;
+            self.write_table(alloc)?;
+            self.output.write_all(b"\n")?;
+            self.output.flush()?;
         }
+        Ok(())
     }
 }
 
@@ -77,7 +83,11 @@ impl<W: Write + Drop> TakeFile for Lines<'_, W> {
         } else {
             self.take_line(alloc, first)?;
         }
-        take_lines(alloc, &mut input, self)?;
+        if self.has_weights || self.showing.every.is_some() {
+            take_lines(alloc, &mut input, self)?;
+        } else {
+            sum_up(alloc, &mut input, &mut self.summary)?;
+        }
         Ok(())
     }
 }
@@ -106,28 +116,6 @@ impl<'o, W: Write + Drop> Lines<'o, W> {
         })
     }
 
-    /// Takes a line that may have a weight, or be followed by a table.
-    #[inline(never)]
-    fn take_slowly(&mut self, alloc: Global, line: &[u8]) -> Result<(), Fault> {
-        let taken = if self.has_weights {
-            self.take_weighted(alloc, line)
-        } else {
-            self.summary.take_line(alloc, line)
-        };
-        match taken {
-            Err(Fault::TooManyGroups) => self.leave_out(line)?,
-            taken => taken?,
-        }
-        self.taken = self.taken.saturating_add(1);
-        if Some(self.taken) == self.showing.every {
-            self.taken = 0;
-            self.write_table(alloc)?;
-            self.output.write_all(b"\n")?;
-            self.output.flush()?;
-        }
-        Ok(())
-    }
-
     /// Takes a line that has a weight.
     fn take_weighted(&mut self, alloc: Global, line: &[u8]) -> Result<(), Fault> {
         let Some(item) = self.summary.reader.read(line, &mut self.key)? else {
@@ -139,12 +127,6 @@ impl<'o, W: Write + Drop> Lines<'o, W> {
         let form = self.summary.form;
         let groups = &mut self.summary.groups;
         groups.add_weighted(alloc, &self.key, item, weight, form)
-    }
-
-    /// Reports a line whose group is one too many.
-    #[inline(never)]
-    fn leave_out(&mut self, line: &[u8]) -> Result<(), Fault> {
-        Ok(self.summary.reader.report(Reason::FurtherGroup, line)?)
     }
 
     /// Writes an image of each group.

@@ -8,6 +8,7 @@ use images::{Images, write_images};
 use lines::{Lines, TakeFile};
 use log_groups::fault::Fault;
 use options::{Options, Task, options_of};
+use reports::shown_name;
 use std::alloc::Global;
 use std::env::{self, Env};
 use std::fs;
@@ -108,6 +109,7 @@ fn take_files<R: Files + Input, T: TakeFile, E: Write>(
         };
         if let Err(failure) = taken {
             let name = options.task.name();
+            let file = shown_name(file);
             let _told = write!(errors, "{name}: {file}: {failure}\n");
             return Err(Failure::Told);
         }

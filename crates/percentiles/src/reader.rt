@@ -1,4 +1,8 @@
 //! How a line is read: its key and its number, by fields or as an object of JSON.
+ghost use Rattle.std.specs.Prelude.{◌≡◌, ◌++◌, OnOk};
+ghost use Rattle.log_groups.specs.Fields.{IsPlain, key_of};
+ghost use Rattle.percentiles.specs.Reads.{reads};
+
 use crate::failure::Failure;
 use crate::options::{Form, Reading};
 use crate::reports::{Position, Reason, Reports};
@@ -6,6 +10,7 @@ use json::{Scratch, Value};
 use log_groups::columns::{Columns, push_part};
 use log_groups::fault::Fault;
 use log_groups::fields::{Place, Separator};
+use log_groups::lines::without_return;
 use log_groups::number::{Reading as Number, read_number};
 use log_groups::summary::ReadLine;
 use std::alloc::{AllocError, Global};
@@ -21,27 +26,21 @@ pub struct Reader<'o> {
 }
 
 impl ReadLine for Reader<'_> {
-    ghost reads = { λ s l o. Unit };
+    ghost reads = { λ reader line found. reads reader line found };
 
     #[inline(always)]
     fn read(&mut self, line: &[u8], key: &mut Vec<u8>) -> Result<Option<i64>, Fault> {
         self.position.line = self.position.line.saturating_add(1);
-        let line = line.strip_suffix(b"\r").unwrap_or(line);
+        let line = without_return(line);
         key.clear();
         if self.reading.by_file {
             self.begin_key(key)?;
         }
-        if self.reading.form == Form::Json {
-            return Ok(self.read_object(line, key)?);
-        }
-        match self.columns.read(line, key)? {
-            Some(Number::Exact(number)) => Ok(Some(number)),
-            Some(other) => Ok(self.told(other, line)?),
-            None => {
-                self.report(Reason::OpenQuote, line)?;
-                Ok(None)
-            }
-        }
+        let number = match self.reading.form {
+            Form::Separated(_) => self.read_fields(line, key)?,
+            Form::Json => self.read_object(line, key)?,
+        };
+        Ok(number)
     }
 }
 
@@ -85,7 +84,7 @@ impl<'o> Reader<'o> {
     /// Finds the fields by the names of a header.
     pub fn read_header(&mut self, alloc: Global, line: &[u8]) -> Result<(), Failure> {
         self.position.line = self.position.line.saturating_add(1);
-        let line = line.strip_suffix(b"\r").unwrap_or(line);
+        let line = without_return(line);
         let Some(names) = self.columns.names(alloc, line)? else {
             return Err(Failure::OpenQuote);
         };
@@ -102,12 +101,37 @@ impl<'o> Reader<'o> {
 
     /// Counts a line for this reason.
     #[inline(never)]
-    pub fn report(&mut self, reason: Reason, line: &[u8]) -> Result<(), AllocError> {
+    pub fn report(&mut self, reason: Reason, line: &[u8]) -> Result<(), AllocError>
+        ensures columns { self.new.columns ≡ self.old.columns }
+        ensures reading { self.new.reading ≡ self.old.reading }
+    {
         self.reports.add(reason, &self.position, line)
     }
 
+    /// Reads a line whose fields are separated, and adds its key.
+    #[inline(always)]
+    fn read_fields(&mut self, line: &[u8], key: &mut Vec<u8>) -> Result<Option<i64>, AllocError>
+        ensures key { IsPlain self.old.columns.separator line.now → OnOk result (key.new.items
+            ≡ key.old.items ++ key_of self.old.columns.separator self.old.columns.groups.items line.now) }
+        ensures separator { self.new.columns.separator ≡ self.old.columns.separator }
+        ensures groups { self.new.columns.groups ≡ self.old.columns.groups }
+        ensures reading { self.new.reading ≡ self.old.reading }
+    {
+        match self.columns.read(line, key)? {
+            Some(Number::Exact(number)) => Ok(Some(number)),
+            Some(other) => self.told(other, line),
+            None => {
+                self.report(Reason::OpenQuote, line)?;
+                Ok(None)
+            }
+        }
+    }
+
     /// Reports a line that has no number, or one that isn't kept exactly. Returns what is kept.
-    fn told(&mut self, number: Number, line: &[u8]) -> Result<Option<i64>, AllocError> {
+    fn told(&mut self, number: Number, line: &[u8]) -> Result<Option<i64>, AllocError>
+        ensures columns { self.new.columns ≡ self.old.columns }
+        ensures reading { self.new.reading ≡ self.old.reading }
+    {
         let reason = match number {
             Number::Exact(_) => return Ok(number.number()),
             Number::Rounded(_) => Reason::Rounded,
@@ -129,7 +153,11 @@ impl<'o> Reader<'o> {
 
     /// Reads a line that is an object of JSON, and adds its key.
     #[inline(never)]
-    fn read_object(&mut self, line: &[u8], key: &mut Vec<u8>) -> Result<Option<i64>, AllocError> {
+    fn read_object(&mut self, line: &[u8], key: &mut Vec<u8>) -> Result<Option<i64>, AllocError>
+        ensures separator { self.new.columns.separator ≡ self.old.columns.separator }
+        ensures groups { self.new.columns.groups ≡ self.old.columns.groups }
+        ensures reading { self.new.reading ≡ self.old.reading }
+    {
         let number = match Value::from_slice(*key.allocator(), line, &mut self.scratch) {
             Ok(object) if matches!(object, Value::Object(_)) => {
                 push_members(key, &object, &self.reading.groups)?;
@@ -150,11 +178,7 @@ impl<'o> Reader<'o> {
 
 /// Adds the members of an object that make its key. Of several one that holds a comma or a quote
 /// stands in quotes.
-fn push_members(
-    key: &mut Vec<u8>,
-    object: &Value<'_>,
-    names: &[&str],
-) -> Result<(), AllocError> {
+fn push_members(key: &mut Vec<u8>, object: &Value<'_>, names: &[&str]) -> Result<(), AllocError> {
     for (i, name) in names.iter().enumerate() {
         if i > 0 {
             key.push(b',')?;

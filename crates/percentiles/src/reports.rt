@@ -28,9 +28,13 @@ impl Position {
     pub fn begin(&mut self, name: &str) -> Result<(), AllocError> {
         self.line = 0;
         self.file.clear();
-        self.file
-            .push_str(if name == "-" { "standard input" } else { name })
+        self.file.push_str(shown_name(name))
     }
+}
+
+/// Returns how messages name a file.
+pub fn shown_name(file: &str) -> &str {
+    if file == "-" { "standard input" } else { file }
 }
 
 /// Why a line is told of.
@@ -42,7 +46,6 @@ pub enum Reason {
     Rounded,
     NoObject,
     NoWeight,
-    FurtherGroup,
 }
 
 impl Reason {
@@ -55,7 +58,6 @@ impl Reason {
             Reason::Rounded => ("with more decimals than are kept", "rounded"),
             Reason::NoObject => ("without an object of JSON", "left out"),
             Reason::NoWeight => ("without a weight that can be taken", "left out"),
-            Reason::FurtherGroup => ("of further groups than -n allows", "left out"),
         }
     }
 }
