@@ -60,7 +60,7 @@ fn with_sketches<'a>(alloc: Global, command: Command<'a>) -> Result<Command<'a>,
         arg!(in alloc; -f --family <FAMILY> "the sketch: REQ is exact for the 3K greatest numbers, KLL serves all alike");
     let accuracy =
         arg!(in alloc; -k --accuracy <K> "its accuracy: req even, 4 to 1024 (50), kll 8 to 65535 (200)");
-    let most = arg!(in alloc; -n --most <COUNT> "lines of more groups than these are left out");
+    let most = arg!(in alloc; -n --most <COUNT> "more groups than these end the run");
     command
         .arg(
             family
