@@ -2,14 +2,14 @@
 ghost use Rattle.std.specs.Prelude.{⊤};
 
 use crate::failure::Failure;
-use crate::lines::{MARK, MOST_AHEAD, TakeFile};
+use crate::lines::{MOST_AHEAD, TakeFile};
 use crate::options::{Options, Task};
 use crate::reports::{Position, push_cut};
 use log_groups::answers::Surety;
 use log_groups::fault::Fault;
 use log_groups::groups::{Groups, Joined};
 use log_groups::images::{Merging, parts_of, push_line};
-use log_groups::lines::{TakeLine, len_before, take_lines, without_return};
+use log_groups::lines::{TakeLine, len_before, take_lines};
 use log_groups::text::push_printable;
 use md5::{Digest, Md5};
 use std::alloc::{AllocError, Global};
@@ -46,12 +46,7 @@ impl TakeLine for Images {
     ghost leaves = { λ s t. ⊤ };
 
     fn take_line(&mut self, alloc: Global, line: &[u8]) -> Result<(), Fault> {
-        self.position.line = self.position.line.saturating_add(1);
-        let line = match line.strip_prefix(MARK) {
-            Some(behind) if self.position.line == 1 => behind,
-            _ => line,
-        };
-        let line = without_return(line);
+        let line = self.position.next(line);
         let is_image = parts_of(alloc, line)?.is_ok();
         if is_image && !self.again && !self.seen.insert(Md5::digest(line))? {
             return Ok(self.refuse(line, "came before (--again takes such lines, too)")?);

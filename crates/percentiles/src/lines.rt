@@ -2,7 +2,6 @@
 ghost use Rattle.std.specs.Prelude.{⊤};
 
 use crate::failure::Failure;
-use crate::images::write_images;
 use crate::options::{Making, Reading, Showing};
 use crate::reader::Reader;
 use crate::table::Table;
@@ -63,8 +62,7 @@ pub trait TakeFile {
 }
 
 impl<W: Write + Drop> TakeFile for Lines<'_, W> {
-    /// Takes the lines of a file: the first one may begin with a byte order mark, and may be a
-    /// header.
+    /// Takes the lines of a file, of which the first one may be a header.
     fn take_file<R: Read + Drop>(
         &mut self,
         alloc: Global,
@@ -73,15 +71,11 @@ impl<W: Write + Drop> TakeFile for Lines<'_, W> {
     ) -> Result<(), Failure> {
         self.summary.reader.position.begin(name)?;
         let mut input = BufReader::with_capacity(alloc, MOST_AHEAD, input).map_err(Fault::Input)?;
-        let mut line = Vec::new(alloc);
-        if !next_line(&mut input, &mut line).map_err(Fault::Input)? {
-            return Ok(());
-        }
-        let first = line.strip_prefix(MARK).unwrap_or(line.as_slice());
         if self.summary.reader.wants_header() {
-            self.summary.reader.read_header(alloc, first)?;
-        } else {
-            self.take_line(alloc, first)?;
+            let mut line = Vec::new(alloc);
+            if next_line(&mut input, &mut line).map_err(Fault::Input)? {
+                self.summary.reader.read_header(alloc, &line)?;
+            }
         }
         if self.has_weights || self.showing.every.is_some() {
             take_lines(alloc, &mut input, self)?;
@@ -129,11 +123,6 @@ impl<'o, W: Write + Drop> Lines<'o, W> {
         groups.add_weighted(alloc, &self.key, item, weight, form)
     }
 
-    /// Writes an image of each group.
-    pub fn write_images(&mut self, alloc: Global) -> Result<(), Fault> {
-        write_images(alloc, &mut self.output, &self.summary.groups, true)
-    }
-
     /// Writes a table of what was taken so far, and returns how many keys had bytes replaced.
     pub fn write_table(&mut self, alloc: Global) -> Result<u64, Fault> {
         self.summary.groups.sort()?;
@@ -150,6 +139,3 @@ impl<'o, W: Write + Drop> Lines<'o, W> {
 
 /// The most bytes that are read ahead.
 pub const MOST_AHEAD: usize = 65_536;
-
-/// The byte order mark that a file may begin with.
-pub const MARK: &[u8] = b"\xEF\xBB\xBF";

@@ -42,10 +42,7 @@ const FAILED: u8 = 3;
 /// The status of a program whose reader went away.
 const OF_SIGPIPE: u8 = 141;
 
-/// The seed of a table's coins if none is given.
-const USUAL_SEED: u64 = 1;
-
-/// What a given seed is multiplied by.
+/// What a given seed is multiplied by; that of a table is 1 if none is given.
 const SEED_STEP: u64 = 10_000;
 
 /// The most bytes of the output that wait.
@@ -81,7 +78,7 @@ fn named_task(name: &str) -> Option<Task> {
 fn seed_of<R: Files>(rt: &R, options: &Options<'_>) -> io::Result<u64> {
     match options.making.seed {
         Some(seed) => Ok(seed.wrapping_mul(SEED_STEP)),
-        None if options.task == Task::Percentiles => Ok(USUAL_SEED * SEED_STEP),
+        None if options.task == Task::Percentiles => Ok(SEED_STEP),
         None => {
             let mut bytes = [0; 8];
             fs::open(rt, "/dev/urandom")?.read_exact(&mut bytes)?;
@@ -135,7 +132,7 @@ fn summarize<R: Files + Input, W: Write + Drop, E: Write>(
     let is_whole = reports.are_none(options.reading.ignores && has_groups);
     let mut spoilt = 0;
     if options.task == Task::Summarize {
-        lines.write_images(alloc)?;
+        write_images(alloc, &mut lines.output, &lines.summary.groups, true)?;
     } else {
         spoilt = lines.write_table(alloc)?;
     }

@@ -10,7 +10,6 @@ use json::{Scratch, Value};
 use log_groups::columns::{Columns, push_part};
 use log_groups::fault::Fault;
 use log_groups::fields::{Place, Separator};
-use log_groups::lines::without_return;
 use log_groups::number::{Reading as Number, read_number};
 use log_groups::summary::ReadLine;
 use std::alloc::{AllocError, Global};
@@ -30,8 +29,7 @@ impl ReadLine for Reader<'_> {
 
     #[inline(always)]
     fn read(&mut self, line: &[u8], key: &mut Vec<u8>) -> Result<Option<i64>, Fault> {
-        self.position.line = self.position.line.saturating_add(1);
-        let line = without_return(line);
+        let line = self.position.next(line);
         key.clear();
         if self.reading.by_file {
             self.begin_key(key)?;
@@ -83,8 +81,7 @@ impl<'o> Reader<'o> {
 
     /// Finds the fields by the names of a header.
     pub fn read_header(&mut self, alloc: Global, line: &[u8]) -> Result<(), Failure> {
-        self.position.line = self.position.line.saturating_add(1);
-        let line = without_return(line);
+        let line = self.position.next(line);
         let Some(names) = self.columns.names(alloc, line)? else {
             return Err(Failure::OpenQuote);
         };

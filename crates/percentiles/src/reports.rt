@@ -1,4 +1,9 @@
 //! What is told of lines that are left out or rounded.
+ghost use Rattle.std.specs.Prelude.{◌≡◌};
+ghost use Rattle.std.specs.Io.BufRead.{strip_last};
+ghost use Rattle.percentiles.specs.Reads.{IsUnmarked};
+
+use log_groups::lines::without_return;
 use log_groups::text::push_printable;
 use std::alloc::{AllocError, Global};
 use std::io::Write;
@@ -24,11 +29,36 @@ impl Position {
         }
     }
 
+    /// Returns the next line of the file without what isn't part of its fields: a byte order mark in
+    /// front of the first line, and a carriage return at the end.
+    #[inline(always)]
+    pub fn next<'l>(&mut self, line: &'l [u8]) -> &'l [u8]
+        ensures line { IsUnmarked line.now → result.now ≡ strip_last 13 line.now }
+        ensures file { self.new.file ≡ self.old.file }
+    {
+        self.line = self.line.saturating_add(1);
+        without_return(if self.line == 1 {
+            without_mark(line)
+        } else {
+            line
+        })
+    }
+
     /// Begins a file of this name.
     pub fn begin(&mut self, name: &str) -> Result<(), AllocError> {
         self.line = 0;
         self.file.clear();
         self.file.push_str(shown_name(name))
+    }
+}
+
+/// Returns a line without the byte order mark that it may begin with.
+fn without_mark(line: &[u8]) -> &[u8]
+    ensures { IsUnmarked line.now → result.now ≡ line.now }
+{
+    match line {
+        [0xEF, 0xBB, 0xBF, behind @ ..] => behind,
+        _ => line,
     }
 }
 
