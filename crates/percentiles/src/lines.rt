@@ -2,6 +2,7 @@
 ghost use Rattle.std.specs.Prelude.{⊤};
 
 use crate::failure::Failure;
+use crate::images::write_images;
 use crate::options::{Making, Reading, Showing};
 use crate::reader::Reader;
 use crate::table::Table;
@@ -77,12 +78,7 @@ impl<W: Write + Drop> TakeFile for Lines<'_, W> {
                 self.summary.reader.read_header(alloc, &line)?;
             }
         }
-        if self.has_weights || self.showing.every.is_some() {
-            take_lines(alloc, &mut input, self)?;
-        } else {
-            sum_up(alloc, &mut input, &mut self.summary)?;
-        }
-        Ok(())
+        Ok(self.take_rest(alloc, &mut input)?)
     }
 }
 
@@ -110,6 +106,16 @@ impl<'o, W: Write + Drop> Lines<'o, W> {
         })
     }
 
+    /// Takes the lines that are left of an input.
+    fn take_rest<R: Read>(&mut self, alloc: Global, input: &mut BufReader<R>) -> Result<(), Fault> {
+        if self.has_weights || self.showing.every.is_some() {
+            take_lines(alloc, input, self)?;
+        } else {
+            sum_up(alloc, input, &mut self.summary)?;
+        }
+        Ok(())
+    }
+
     /// Takes a line that has a weight.
     fn take_weighted(&mut self, alloc: Global, line: &[u8]) -> Result<(), Fault> {
         let Some(item) = self.summary.reader.read(line, &mut self.key)? else {
@@ -121,6 +127,11 @@ impl<'o, W: Write + Drop> Lines<'o, W> {
         let form = self.summary.form;
         let groups = &mut self.summary.groups;
         groups.add_weighted(alloc, &self.key, item, weight, form)
+    }
+
+    /// Writes an image of each group.
+    pub fn write_images(&mut self, alloc: Global) -> Result<(), Fault> {
+        write_images(alloc, &mut self.output, &self.summary.groups, true)
     }
 
     /// Writes a table of what was taken so far, and returns how many keys had bytes replaced.

@@ -132,7 +132,7 @@ fn summarize<R: Files + Input, W: Write + Drop, E: Write>(
     let is_whole = reports.are_none(options.reading.ignores && has_groups);
     let mut spoilt = 0;
     if options.task == Task::Summarize {
-        write_images(alloc, &mut lines.output, &lines.summary.groups, true)?;
+        lines.write_images(alloc)?;
     } else {
         spoilt = lines.write_table(alloc)?;
     }

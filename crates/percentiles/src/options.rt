@@ -274,9 +274,9 @@ fn showing_of<'a>(
     columns.push(Column::Max)?;
     if let Some(list) = matches.get_str("limits") {
         for limit in list.split(',') {
-            if !is_limit(limit) {
+            let Number::Exact(_) = read_number(limit.as_bytes(), MOST_DECIMALS) else {
                 return Err(Failure::Limit);
-            }
+            };
             columns.push(Column::AtMost(limit))?;
             columns.push(Column::Share(limit))?;
         }
@@ -310,12 +310,4 @@ fn column_of(name: &str, taking: Taking) -> Result<Column<'_>, Failure> {
             None => Err(Failure::Percentile),
         },
     }
-}
-
-/// Returns whether a limit is a number that the most decimals keep exactly.
-fn is_limit(text: &str) -> bool {
-    matches!(
-        read_number(text.as_bytes(), MOST_DECIMALS),
-        Number::Exact(_)
-    )
 }
