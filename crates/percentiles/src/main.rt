@@ -3,6 +3,7 @@
 //! Arguments, files, streams and the exit status are here.
 #![tactic(auto)]
 
+use clap::error::ErrorKind as Kind;
 use failure::Failure;
 use images::{Images, write_images};
 use lines::{Lines, TakeFile};
@@ -208,9 +209,10 @@ fn status_of_failure<R: Print + Eprint + AllocGlobal>(rt: &R, name: &str, failur
         Failure::Told => FAILED,
         Failure::Fault(Fault::Output(error)) if error.kind() == ErrorKind::BrokenPipe => OF_SIGPIPE,
         Failure::Words(error) => match error.print(rt) {
-            Err(_) => FAILED,
+            Ok(()) if error.kind() == Kind::OutOfMemory => FAILED,
             Ok(()) if error.use_stderr() => MISUSED,
             Ok(()) => WHOLE,
+            Err(_) => FAILED,
         },
         failure if failure.is_misuse() => {
             let _told = eprintln!(rt; "{name}: {failure}; see {name} -h");
@@ -227,7 +229,8 @@ fn status_of_failure<R: Print + Eprint + AllocGlobal>(rt: &R, name: &str, failur
 fn words_of<R: Env + AllocGlobal>(rt: &R) -> Result<Vec<String>, Failure> {
     match env::args(rt) {
         Ok(words) => Ok(words.collect(rt.alloc())?),
-        Err(_) => Err(Failure::NoText),
+        Err(error) if error.kind() == ErrorKind::InvalidData => Err(Failure::NoText),
+        Err(error) => Err(Failure::from(Fault::Input(error))),
     }
 }
 
