@@ -1,0 +1,7 @@
+pub mod Calls
+pub mod Codes
+pub mod Floats
+pub mod Frames
+pub mod Held
+pub mod KllCalls
+pub mod ReqCalls
