@@ -1,22 +1,40 @@
--- Floats by their bits: a sign and a magnitude, which is in the order of the absolute values. NaNs have the greatest magnitudes.
-use Rattle.std.specs.Prelude.{◌≡◌, ◌⊎◌, ◌<◌, ◌/◌, ◌%◌, ℕ, ℤ, pos, negsuc, Bool, false, List, [], ◌∷◌, ◌||◌, ◌^◌, ◌-◌, ◌==◌, nat_lt, if◌then◌else◌}
+-- Floats by their bits, read as a signed number: its sign is the float's, and the other bits are a magnitude, in the order of the
+-- absolute values. NaNs have the greatest magnitudes.
+use Rattle.std.specs.Prelude.{◌≡◌, ◌⊎◌, ◌<◌, ◌-◌, ◌^◌, ◌==◌, ◌/◌, ◌%◌, ℕ, ℤ, pos, negsuc, Bool, true, false, List, [], ◌∷◌, ◌||◌, ◌&&◌, nat_lt, if◌then◌else◌, map}
+
+-- the bits without the sign
+abbrev pub magnitude : ℤ → ℕ
+magnitude (pos bits) = bits
+magnitude (negsuc rest) = 2 ^ 63 - 1 - rest
 
 -- the number that stands for a float; each number stands for one
-abbrev pub key : ℕ → ℤ
-key bits = if nat_lt bits (2 ^ 63) then pos bits else negsuc (bits - 2 ^ 63)
+abbrev pub number : ℤ → ℤ
+number (pos bits) = pos bits
+number (negsuc rest) = negsuc (2 ^ 63 - 1 - rest)
 
 -- the number that stands for a float that is taken in: -0.0 counts as 0.0
-abbrev pub key_in : ℕ → ℤ
-key_in bits = if bits == 2 ^ 63 then pos 0 else key bits
+unfoldable pub number_in : ℤ → ℤ
+number_in (pos bits) = pos bits
+number_in (negsuc rest) = if rest == 2 ^ 63 - 1 then pos 0 else negsuc (2 ^ 63 - 1 - rest)
 
--- whether the bits without the sign are above those of infinity
-abbrev pub is_nan_bits : ℕ → Bool
-is_nan_bits bits = nat_lt 0x7FF0000000000000 (if nat_lt bits (2 ^ 63) then bits else bits - 2 ^ 63)
+-- whether the magnitude is above infinity's
+abbrev pub is_nan : ℤ → Bool
+is_nan bits = nat_lt 0x7FF0000000000000 (magnitude bits)
 
-abbrev pub any_nan_in : List ℕ → Bool
-any_nan_in [] = false
-any_nan_in (bits ∷ more) = is_nan_bits bits || any_nan_in more
+abbrev pub any_nan : List ℤ → Bool
+any_nan [] = false
+any_nan (bits ∷ more) = is_nan bits || any_nan more
 
--- of two floats without a sign, the one with the lesser exponent is below the other, or with the lesser fraction where the exponents are equal
-abbrev pub IsNearer : ℕ → ℕ → Type 0
-IsNearer a b = (a / 2 ^ 52 < b / 2 ^ 52) ⊎ ((a / 2 ^ 52 ≡ b / 2 ^ 52) × (a % 2 ^ 52 < b % 2 ^ 52))
+-- an item as it is taken in, by its kind: itself, or the number that stands for the float
+abbrev pub key : Bool → ℤ → ℤ
+key false item = item
+key true bits = number_in bits
+
+abbrev pub keys : Bool → List ℤ → List ℤ
+keys false items = items
+keys true floats = map number_in floats
+
+-- the item that is answered for a number, by its kind
+abbrev pub shown : Bool → ℤ → ℤ
+shown false item = item
+shown true bits = number bits

@@ -3,5 +3,4 @@ pub mod Codes
 pub mod Floats
 pub mod Frames
 pub mod Held
-pub mod KllCalls
-pub mod ReqCalls
+pub mod Sketches

@@ -1,8 +1,9 @@
 //! What calls answer, and how they hand over what they found.
-ghost use Rattle.std.specs.Prelude.{◌≡◌, ◌↔◌, IsOk, IfErr, IfSome, IfNone, map, length};
-ghost use Rattle.sketches_c.specs.Codes.{ok, empty, code_of};
-ghost use Rattle.sketches_c.specs.Calls.{criteria_of};
+ghost use Rattle.std.specs.Prelude.{◌≡◌, ◌↔◌, IsOk, IfErr, map, length};
+ghost use Rattle.sketches_c.specs.Calls.{criteria_of, refusal};
+ghost use Rattle.sketches_c.specs.Codes.{ok, code_of};
 
+use crate::floats::any_nan;
 use sketch_base::common::{Rank, SearchCriteria};
 use sketch_base::error::{Error, ErrorKind};
 
@@ -20,7 +21,7 @@ pub(crate) const OUT_OF_MEMORY: i32 = -3;
 /// The handle holds no sketch.
 pub(crate) const NO_SKETCH: i32 = -4;
 
-/// The sketch holds items of the other kind.
+/// The sketch holds items of the other kind, or is of the other family.
 pub(crate) const OTHER_KIND: i32 = -5;
 
 /// A buffer has a wrong size.
@@ -49,6 +50,20 @@ pub(crate) fn code_of(error: Error) -> i32
     }
 }
 
+/// Returns what a sketch answers before it is asked about items: OK if it may be.
+#[tactic(auto, unfolding(crate::specs::Calls::refusal))]
+pub(crate) fn refusal(own: bool, floats: bool, items: &[i64]) -> i32
+    ensures { result ≡ refusal own floats items.now }
+{
+    if own != floats {
+        return OTHER_KIND;
+    }
+    if floats && any_nan(items) {
+        return NOT_A_NUMBER;
+    }
+    OK
+}
+
 pub(crate) fn criteria(inclusive: bool) -> SearchCriteria
     ensures { result ≡ criteria_of inclusive }
 {
@@ -56,41 +71,6 @@ pub(crate) fn criteria(inclusive: bool) -> SearchCriteria
         SearchCriteria::Inclusive
     } else {
         SearchCriteria::Exclusive
-    }
-}
-
-/// Hands over a rank.
-pub(crate) fn hand_rank(rank: Option<Rank>, weight: &mut u64, total: &mut u64) -> i32
-    ensures some { IfSome rank (λ r.
-        (result ≡ ok) × (weight.new ≡ r.weight) × (total.new ≡ r.total)) }
-    ensures none { IfNone rank
-        ((result ≡ empty) × (weight.new ≡ weight.old) × (total.new ≡ total.old)) }
-{
-    let Some(rank) = rank else { return EMPTY };
-    *weight = rank.weight;
-    *total = rank.total;
-    OK
-}
-
-/// Hands over the extremes of a sketch.
-pub(crate) fn hand_ends(
-    low: Option<i64>,
-    high: Option<i64>,
-    least: &mut i64,
-    greatest: &mut i64,
-) -> i32
-    ensures some { IfSome low (λ l. IfSome high (λ h.
-        (result ≡ ok) × ((least.new ≡ l) × (greatest.new ≡ h)))) }
-    ensures none { IfNone low
-        ((result ≡ empty) × ((least.new ≡ least.old) × (greatest.new ≡ greatest.old))) }
-{
-    match (low, high) {
-        (Some(low), Some(high)) => {
-            *least = low;
-            *greatest = high;
-            OK
-        }
-        _ => EMPTY,
     }
 }
 

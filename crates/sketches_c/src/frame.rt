@@ -9,13 +9,8 @@ use sketch_base::error::{Error, ErrorKind};
 use std::alloc::Global;
 
 /// Returns the image in its frame.
-pub(crate) fn framed(
-    alloc: Global,
-    family: u8,
-    floats: bool,
-    image: &[u8],
-) -> Result<Vec<u8>, Error>
-    ensures { IfOk result (λ v. v.items ≡ frame family floats ++ image.now) }
+pub(crate) fn framed(alloc: Global, req: bool, floats: bool, image: &[u8]) -> Result<Vec<u8>, Error>
+    ensures { IfOk result (λ v. v.items ≡ frame req floats ++ image.now) }
 {
     let head = [
         b'M',
@@ -23,7 +18,7 @@ pub(crate) fn framed(
         b'Q',
         b'S',
         1,
-        family,
+        if req { 2 } else { 1 },
         if floats { 1 } else { 0 },
         0,
     ];
@@ -34,12 +29,12 @@ pub(crate) fn framed(
 }
 
 /// Returns the image that bytes hold, in its frame or plain, and whether its items are floats.
-pub(crate) fn unframed(bytes: &[u8], family: u8) -> Result<(&[u8], bool), Error>
-    ensures { IfOk result (λ found. Holds family bytes.now found.0.now found.1) }
+pub(crate) fn unframed(bytes: &[u8], req: bool) -> Result<(&[u8], bool), Error>
+    ensures { IfOk result (λ found. Holds req bytes.now found.0.now found.1) }
 {
     match bytes {
         [b'M', b'Z', b'Q', b'S', version, id, kind, last, image @ ..] => {
-            if *version == 1 && *id == family && *kind <= 1 && *last == 0 {
+            if *version == 1 && *id == if req { 2 } else { 1 } && *kind <= 1 && *last == 0 {
                 return Ok((image, *kind == 1));
             }
             Err(Error::new(ErrorKind::InvalidData))

@@ -1,9 +1,11 @@
-//! The sketches for C: a handle for each family, and the calls.
+//! The sketches for C: a handle, and the calls.
 #![tactic(auto)]
 
 mod answers;
+mod calls;
 mod floats;
 mod frame;
-mod kll;
+mod handle;
 mod loose;
-mod req;
+mod sketch;
+mod state;
