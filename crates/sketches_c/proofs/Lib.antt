@@ -1,2 +1,4 @@
+pub mod Codes
 pub mod Handles
+pub mod Masses
 pub mod Pointers

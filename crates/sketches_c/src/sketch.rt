@@ -221,6 +221,7 @@ impl Sketch {
         }
     }
 
+    #[tactic(auto, using(crate::proofs::Codes::refused, crate::proofs::Codes::told_apart, crate::proofs::Masses::masses_count))]
     /// Hands over the weights, if there is room for exactly one for each point and one more.
     pub fn hand_masses(
         &self,
