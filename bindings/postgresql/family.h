@@ -1,7 +1,6 @@
 /*
  * The functions of one family. mezgoular.c includes this file for KLL and for REQ, with FN(name) for kll_name or
- * req_name, MZ(name) for the library's mz_kll_name or mz_req_name, HANDLE and SHAPE for its types, NEW, DEFAULT_K and
- * BAD_K.
+ * req_name, IS_REQ, NEW, DEFAULT_K and BAD_K.
  *
  * The state of an aggregate is a handle in the aggregate's memory context, without a sketch until the first item. What
  * the library allocates comes from the current context (see rattle_alloc), so each call that makes a sketch grow is
@@ -9,35 +8,35 @@
  */
 
 /* The first argument, or a new state. */
-static HANDLE *
+static mz_sketch *
 FN(state) (FunctionCallInfo fcinfo)
 {
 	MemoryContext context;
 
 	if (!PG_ARGISNULL(0))
-		return (HANDLE *) PG_GETARG_POINTER(0);
+		return (mz_sketch *) PG_GETARG_POINTER(0);
 	if (!AggCheckCallContext(fcinfo, &context))
 		elog(ERROR, "a function of an aggregate is called outside of it");
-	return MemoryContextAllocZero(context, sizeof(HANDLE));
+	return MemoryContextAllocZero(context, sizeof(mz_sketch));
 }
 
 /* The image of the sketch, or null if there is none. */
 static Datum
-FN(image) (FunctionCallInfo fcinfo, HANDLE * sketch)
+FN(image) (FunctionCallInfo fcinfo, mz_sketch * sketch)
 {
-	SHAPE		info;
+	mz_info_t	info;
 	uint64		size;
 	size_t		room;
 	bytea	   *image;
 	int32		answer;
 
-	if (MZ(info) (sketch, &info) == MZ_NO_SKETCH)
+	if (mz_info(sketch, &info) == MZ_NO_SKETCH)
 		PG_RETURN_NULL();
 	room = sizeof(int64) * info.retained + 4096;
 	for (;;)
 	{
 		image = palloc(VARHDRSZ + room);
-		answer = MZ(serialize) (sketch, false, (uint8 *) VARDATA(image), room, &size);
+		answer = mz_serialize(sketch, false, (uint8 *) VARDATA(image), room, &size);
 		if (answer != MZ_BUFFER)
 			break;
 		pfree(image);
@@ -49,12 +48,12 @@ FN(image) (FunctionCallInfo fcinfo, HANDLE * sketch)
 }
 
 /* The sketch of an image, in the current context. */
-static HANDLE
+static mz_sketch
 FN(read) (bytea *image, uint64 seed)
 {
-	HANDLE		sketch = {0};
+	mz_sketch	sketch = {0};
 
-	check(MZ(deserialize) (&sketch, (uint8 *) VARDATA_ANY(image), VARSIZE_ANY_EXHDR(image), seed), "");
+	check(mz_deserialize(&sketch, IS_REQ, (uint8 *) VARDATA_ANY(image), VARSIZE_ANY_EXHDR(image), seed), "");
 	return sketch;
 }
 
@@ -63,9 +62,9 @@ static Datum
 FN(validated) (Datum image)
 {
 	bytea	   *bytes = DatumGetByteaPP(image);
-	HANDLE		sketch = FN(read) (bytes, 0);
+	mz_sketch	sketch = FN(read) (bytes, 0);
 
-	MZ(free) (&sketch);
+	mz_free(&sketch);
 	PG_RETURN_BYTEA_P(bytes);
 }
 
@@ -88,7 +87,7 @@ FUNCTION(FN(sketch_from_bytea))
 
 /* Gives a state its sketch at the first item. The arguments from `first` on are k and, for REQ, high. */
 static void
-FN(begin) (FunctionCallInfo fcinfo, HANDLE * state, int first, bool floats)
+FN(begin) (FunctionCallInfo fcinfo, mz_sketch * state, int first, bool floats)
 {
 	int32		k = PG_NARGS() > first && !PG_ARGISNULL(first) ? PG_GETARG_INT32(first) : DEFAULT_K;
 	bool		high = PG_NARGS() <= first + 1 || PG_ARGISNULL(first + 1) || PG_GETARG_BOOL(first + 1);
@@ -98,17 +97,17 @@ FN(begin) (FunctionCallInfo fcinfo, HANDLE * state, int first, bool floats)
 	check(NEW(state, k, high, floats, new_seed()), BAD_K);
 }
 
-ADD(float8, true, update_f64, PG_GETARG_FLOAT8(1))
-ADD(int8, false, update_i64, PG_GETARG_INT64(1))
-ADD(int4, false, update_i64, PG_GETARG_INT32(1))
-ADD(int2, false, update_i64, PG_GETARG_INT16(1))
+ADD(float8, true, mz_update_f64, PG_GETARG_FLOAT8(1))
+ADD(int8, false, mz_update_i64, PG_GETARG_INT64(1))
+ADD(int4, false, mz_update_i64, PG_GETARG_INT32(1))
+ADD(int2, false, mz_update_i64, PG_GETARG_INT16(1))
 
 /* Takes what another sketch holds into the state. */
 static Datum
-FN(take) (HANDLE * state, HANDLE * other)
+FN(take) (mz_sketch * state, mz_sketch * other)
 {
 	MemoryContext outer = MemoryContextSwitchTo(GetMemoryChunkContext(state));
-	int32		answer = state->at ? MZ(merge) (state, other) : MZ(clone) (state, other, new_seed());
+	int32		answer = state->at ? mz_merge(state, other) : mz_clone(state, other, new_seed());
 
 	MemoryContextSwitchTo(outer);
 	check(answer, CANNOT_MERGE);
@@ -117,21 +116,21 @@ FN(take) (HANDLE * state, HANDLE * other)
 
 FUNCTION(FN(sketch_add_image))
 {
-	HANDLE	   *state = FN(state) (fcinfo);
-	HANDLE		other;
+	mz_sketch	   *state = FN(state) (fcinfo);
+	mz_sketch	other;
 
 	if (PG_ARGISNULL(1))
 		PG_RETURN_POINTER(state);
 	other = FN(read) (PG_GETARG_BYTEA_PP(1), new_seed());
 	FN(take) (state, &other);
-	MZ(free) (&other);
+	mz_free(&other);
 	PG_RETURN_POINTER(state);
 }
 
 FUNCTION(FN(sketch_combine))
 {
-	HANDLE	   *state = FN(state) (fcinfo);
-	HANDLE	   *other = PG_ARGISNULL(1) ? NULL : (HANDLE *) PG_GETARG_POINTER(1);
+	mz_sketch	   *state = FN(state) (fcinfo);
+	mz_sketch	   *other = PG_ARGISNULL(1) ? NULL : (mz_sketch *) PG_GETARG_POINTER(1);
 
 	if (other && other->at)
 		FN(take) (state, other);
@@ -140,13 +139,13 @@ FUNCTION(FN(sketch_combine))
 
 FUNCTION(FN(sketch_serial))
 {
-	return FN(image) (fcinfo, (HANDLE *) PG_GETARG_POINTER(0));
+	return FN(image) (fcinfo, (mz_sketch *) PG_GETARG_POINTER(0));
 }
 
 /* What comes out of this function is only read, so the current context will do. */
 FUNCTION(FN(sketch_deserial))
 {
-	HANDLE	   *state = palloc(sizeof(HANDLE));
+	mz_sketch	   *state = palloc(sizeof(mz_sketch));
 
 	*state = FN(read) (PG_GETARG_BYTEA_PP(0), new_seed());
 	PG_RETURN_POINTER(state);
@@ -156,33 +155,33 @@ FUNCTION(FN(sketch_final))
 {
 	if (PG_ARGISNULL(0))
 		PG_RETURN_NULL();
-	return FN(image) (fcinfo, (HANDLE *) PG_GETARG_POINTER(0));
+	return FN(image) (fcinfo, (mz_sketch *) PG_GETARG_POINTER(0));
 }
 
 /* ---- questions ---- */
 
 FUNCTION(FN(sketch_merge))
 {
-	HANDLE		sketch = FN(read) (PG_GETARG_BYTEA_PP(0), new_seed());
-	HANDLE		other = FN(read) (PG_GETARG_BYTEA_PP(1), new_seed());
+	mz_sketch	sketch = FN(read) (PG_GETARG_BYTEA_PP(0), new_seed());
+	mz_sketch	other = FN(read) (PG_GETARG_BYTEA_PP(1), new_seed());
 
-	check(MZ(merge) (&sketch, &other), CANNOT_MERGE);
+	check(mz_merge(&sketch, &other), CANNOT_MERGE);
 	return FN(image) (fcinfo, &sketch);
 }
 
 /* The sketch of the first argument and what it is. */
-static HANDLE
-FN(asked) (FunctionCallInfo fcinfo, SHAPE * info)
+static mz_sketch
+FN(asked) (FunctionCallInfo fcinfo, mz_info_t * info)
 {
-	HANDLE		sketch = FN(read) (PG_GETARG_BYTEA_PP(0), 0);
+	mz_sketch	sketch = FN(read) (PG_GETARG_BYTEA_PP(0), 0);
 
-	check(MZ(info) (&sketch, info), "");
+	check(mz_info(&sketch, info), "");
 	return sketch;
 }
 
 /* The item at a fraction. False if the sketch is empty. */
 static bool
-FN(item_at) (HANDLE * sketch, bool floats, float8 fraction, bool inclusive, float8 *item)
+FN(item_at) (mz_sketch * sketch, bool floats, float8 fraction, bool inclusive, float8 *item)
 {
 	uint64		weight,
 				total;
@@ -191,20 +190,20 @@ FN(item_at) (HANDLE * sketch, bool floats, float8 fraction, bool inclusive, floa
 
 	weigh(fraction, &weight, &total);
 	if (floats)
-		return check(MZ(quantile_f64) (sketch, weight, total, inclusive, item), BAD_FRACTION);
-	answer = MZ(quantile_i64) (sketch, weight, total, inclusive, &whole);
+		return check(mz_quantile_f64(sketch, weight, total, inclusive, item), BAD_FRACTION);
+	answer = mz_quantile_i64(sketch, weight, total, inclusive, &whole);
 	*item = (float8) whole;
 	return check(answer, BAD_FRACTION);
 }
 
 FUNCTION(FN(sketch_get_quantile))
 {
-	SHAPE		info;
-	HANDLE		sketch = FN(asked) (fcinfo, &info);
+	mz_info_t	info;
+	mz_sketch	sketch = FN(asked) (fcinfo, &info);
 	float8		item;
 	bool		is_there = FN(item_at) (&sketch, info.floats, PG_GETARG_FLOAT8(1), PG_GETARG_BOOL(2), &item);
 
-	MZ(free) (&sketch);
+	mz_free(&sketch);
 	if (!is_there)
 		PG_RETURN_NULL();
 	PG_RETURN_FLOAT8(item);
@@ -212,16 +211,16 @@ FUNCTION(FN(sketch_get_quantile))
 
 FUNCTION(FN(sketch_get_quantile_bigint))
 {
-	SHAPE		info;
-	HANDLE		sketch = FN(asked) (fcinfo, &info);
+	mz_info_t	info;
+	mz_sketch	sketch = FN(asked) (fcinfo, &info);
 	uint64		weight,
 				total;
 	int64		item;
 	bool		is_there;
 
 	weigh(PG_GETARG_FLOAT8(1), &weight, &total);
-	is_there = check(MZ(quantile_i64) (&sketch, weight, total, PG_GETARG_BOOL(2), &item), BAD_FRACTION);
-	MZ(free) (&sketch);
+	is_there = check(mz_quantile_i64(&sketch, weight, total, PG_GETARG_BOOL(2), &item), BAD_FRACTION);
+	mz_free(&sketch);
 	if (!is_there)
 		PG_RETURN_NULL();
 	PG_RETURN_INT64(item);
@@ -231,8 +230,8 @@ FUNCTION(FN(sketch_get_quantiles))
 {
 	int			count;
 	float8	   *numbers = numbers_of(PG_GETARG_ARRAYTYPE_P(1), &count);
-	SHAPE		info;
-	HANDLE		sketch = FN(asked) (fcinfo, &info);
+	mz_info_t	info;
+	mz_sketch	sketch = FN(asked) (fcinfo, &info);
 	Datum	   *items = palloc(sizeof(Datum) * (count + 1));
 
 	if (info.n == 0)
@@ -244,20 +243,20 @@ FUNCTION(FN(sketch_get_quantiles))
 		FN(item_at) (&sketch, info.floats, numbers[i], PG_GETARG_BOOL(2), &item);
 		items[i] = Float8GetDatum(item);
 	}
-	MZ(free) (&sketch);
+	mz_free(&sketch);
 	return float8_array(items, count);
 }
 
 /* The weight of the items at most a point, or below it. The sketch isn't empty. */
 static uint64
-FN(weight_at) (HANDLE * sketch, SHAPE * info, float8 point, bool inclusive)
+FN(weight_at) (mz_sketch * sketch, mz_info_t * info, float8 point, bool inclusive)
 {
 	uint64		weight,
 				total;
 	float8		whole = inclusive ? floor(point) : ceil(point);
 
 	if (info->floats)
-		check(MZ(rank_f64) (sketch, point, inclusive, &weight, &total), "");
+		check(mz_rank_f64(sketch, point, inclusive, &weight, &total), "");
 	else if (isnan(point))
 		check(MZ_NAN, "");
 	else if (whole < -TWO_TO_63)
@@ -265,27 +264,27 @@ FN(weight_at) (HANDLE * sketch, SHAPE * info, float8 point, bool inclusive)
 	else if (whole >= TWO_TO_63)
 		weight = info->n;
 	else
-		check(MZ(rank_i64) (sketch, (int64) whole, inclusive, &weight, &total), "");
+		check(mz_rank_i64(sketch, (int64) whole, inclusive, &weight, &total), "");
 	return weight;
 }
 
 FUNCTION(FN(sketch_get_rank))
 {
-	SHAPE		info;
-	HANDLE		sketch = FN(asked) (fcinfo, &info);
+	mz_info_t	info;
+	mz_sketch	sketch = FN(asked) (fcinfo, &info);
 	uint64		weight;
 
 	if (info.n == 0)
 		PG_RETURN_NULL();
 	weight = FN(weight_at) (&sketch, &info, PG_GETARG_FLOAT8(1), PG_GETARG_BOOL(2));
-	MZ(free) (&sketch);
+	mz_free(&sketch);
 	PG_RETURN_FLOAT8((float8) weight / (float8) info.n);
 }
 
 FUNCTION(FN(sketch_get_rank_bigint))
 {
-	SHAPE		info;
-	HANDLE		sketch = FN(asked) (fcinfo, &info);
+	mz_info_t	info;
+	mz_sketch	sketch = FN(asked) (fcinfo, &info);
 	uint64		weight,
 				total;
 
@@ -294,8 +293,8 @@ FUNCTION(FN(sketch_get_rank_bigint))
 	if (info.floats)
 		weight = FN(weight_at) (&sketch, &info, (float8) PG_GETARG_INT64(1), PG_GETARG_BOOL(2));
 	else
-		check(MZ(rank_i64) (&sketch, PG_GETARG_INT64(1), PG_GETARG_BOOL(2), &weight, &total), "");
-	MZ(free) (&sketch);
+		check(mz_rank_i64(&sketch, PG_GETARG_INT64(1), PG_GETARG_BOOL(2), &weight, &total), "");
+	mz_free(&sketch);
 	PG_RETURN_FLOAT8((float8) weight / (float8) info.n);
 }
 
@@ -305,8 +304,8 @@ FN(masses) (FunctionCallInfo fcinfo, bool steps)
 {
 	int			count;
 	float8	   *points = numbers_of(PG_GETARG_ARRAYTYPE_P(1), &count);
-	SHAPE		info;
-	HANDLE		sketch = FN(asked) (fcinfo, &info);
+	mz_info_t	info;
+	mz_sketch	sketch = FN(asked) (fcinfo, &info);
 	Datum	   *ranks = palloc(sizeof(Datum) * (count + 1));
 	uint64		below = 0;
 
@@ -323,7 +322,7 @@ FN(masses) (FunctionCallInfo fcinfo, bool steps)
 		if (steps)
 			below = weight;
 	}
-	MZ(free) (&sketch);
+	mz_free(&sketch);
 	return float8_array(ranks, count + 1);
 }
 
@@ -340,12 +339,12 @@ FUNCTION(FN(sketch_get_pmf))
 static Datum
 FN(end) (FunctionCallInfo fcinfo, float8 fraction)
 {
-	SHAPE		info;
-	HANDLE		sketch = FN(asked) (fcinfo, &info);
+	mz_info_t	info;
+	mz_sketch	sketch = FN(asked) (fcinfo, &info);
 	float8		item;
 	bool		is_there = FN(item_at) (&sketch, info.floats, fraction, true, &item);
 
-	MZ(free) (&sketch);
+	mz_free(&sketch);
 	if (!is_there)
 		PG_RETURN_NULL();
 	PG_RETURN_FLOAT8(item);
@@ -363,23 +362,23 @@ FUNCTION(FN(sketch_get_max_item))
 
 FUNCTION(FN(sketch_get_n))
 {
-	SHAPE		info;
-	HANDLE		sketch = FN(asked) (fcinfo, &info);
+	mz_info_t	info;
+	mz_sketch	sketch = FN(asked) (fcinfo, &info);
 
-	MZ(free) (&sketch);
+	mz_free(&sketch);
 	PG_RETURN_INT64(bigint_of(info.n));
 }
 
 /* A row (n, k, retained, items, high). */
 FUNCTION(FN(sketch_info))
 {
-	SHAPE		info;
-	HANDLE		sketch = FN(asked) (fcinfo, &info);
+	mz_info_t	info;
+	mz_sketch	sketch = FN(asked) (fcinfo, &info);
 	TupleDesc	shape;
 	Datum		values[5];
 	bool		nulls[5] = {0};
 
-	MZ(free) (&sketch);
+	mz_free(&sketch);
 	if (get_call_result_type(fcinfo, NULL, &shape) != TYPEFUNC_COMPOSITE)
 		elog(ERROR, "return type must be a row type");
 	values[0] = Int64GetDatum(bigint_of(info.n));

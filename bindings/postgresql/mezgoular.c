@@ -216,7 +216,7 @@ weight_of(int64 weight)
 #define STEP(name, floats, first, is_null, update) \
 FUNCTION(FN(name)) \
 { \
-	HANDLE	   *state = FN(state) (fcinfo); \
+	mz_sketch	   *state = FN(state) (fcinfo); \
 	MemoryContext outer; \
 	int32		answer; \
 \
@@ -231,12 +231,10 @@ FUNCTION(FN(name)) \
 	PG_RETURN_POINTER(state); \
 }
 
-#define ADD(type, floats, call, item) STEP(add_##type, floats, 2, PG_ARGISNULL(1), MZ(call) (state, item))
+#define ADD(type, floats, call, item) STEP(add_##type, floats, 2, PG_ARGISNULL(1), call(state, item))
 
 #define FN(name) kll_##name
-#define MZ(name) mz_kll_##name
-#define HANDLE mz_kll
-#define SHAPE mz_kll_info_t
+#define IS_REQ false
 #define NEW(state, k, high, floats, seed) ((void) (high), mz_kll_new(state, k, floats, seed))
 #define DEFAULT_K 200
 #define BAD_K "k of a KLL sketch is from 8 to 65535"
@@ -244,23 +242,19 @@ FUNCTION(FN(name)) \
 
 /* Only KLL takes weights. */
 #define ADD_WEIGHTED(type, floats, call, item) \
-STEP(add_weighted_##type, floats, 3, PG_ARGISNULL(1) || PG_ARGISNULL(2), MZ(call) (state, item, weight_of(PG_GETARG_INT64(2))))
+STEP(add_weighted_##type, floats, 3, PG_ARGISNULL(1) || PG_ARGISNULL(2), call(state, item, weight_of(PG_GETARG_INT64(2))))
 
-ADD_WEIGHTED(float8, true, update_weighted_f64, PG_GETARG_FLOAT8(1))
-ADD_WEIGHTED(int8, false, update_weighted_i64, PG_GETARG_INT64(1))
+ADD_WEIGHTED(float8, true, mz_update_weighted_f64, PG_GETARG_FLOAT8(1))
+ADD_WEIGHTED(int8, false, mz_update_weighted_i64, PG_GETARG_INT64(1))
 
 #undef FN
-#undef MZ
-#undef HANDLE
-#undef SHAPE
+#undef IS_REQ
 #undef NEW
 #undef DEFAULT_K
 #undef BAD_K
 
 #define FN(name) req_##name
-#define MZ(name) mz_req_##name
-#define HANDLE mz_req
-#define SHAPE mz_req_info_t
+#define IS_REQ true
 #define NEW(state, k, high, floats, seed) mz_req_new(state, k, high, floats, seed)
 #define DEFAULT_K 50
 #define BAD_K "k of a REQ sketch is even, from 4 to 1024"

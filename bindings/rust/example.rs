@@ -12,13 +12,13 @@ struct Handle {
 
 unsafe extern "C" {
     fn mz_req_new(s: *mut Handle, k: u16, high: bool, floats: bool, seed: u64) -> i32;
-    fn mz_req_free(s: *mut Handle);
-    fn mz_req_update_all_i64(s: *mut Handle, items: *const i64, count: usize) -> i32;
-    fn mz_req_merge(s: *mut Handle, from: *mut Handle) -> i32;
-    fn mz_req_quantile_i64(s: *mut Handle, weight: u64, total: u64, inclusive: bool, item: *mut i64) -> i32;
-    fn mz_req_rank_i64(s: *mut Handle, item: i64, inclusive: bool, weight: *mut u64, total: *mut u64) -> i32;
-    fn mz_req_serialize(s: *mut Handle, plain: bool, buffer: *mut u8, capacity: usize, size: *mut u64) -> i32;
-    fn mz_req_deserialize(s: *mut Handle, bytes: *const u8, count: usize, seed: u64) -> i32;
+    fn mz_free(s: *mut Handle);
+    fn mz_update_all(s: *mut Handle, floats: bool, items: *const i64, count: usize) -> i32;
+    fn mz_merge(s: *mut Handle, from: *mut Handle) -> i32;
+    fn mz_quantile(s: *mut Handle, floats: bool, weight: u64, total: u64, inclusive: bool, item: *mut i64) -> i32;
+    fn mz_rank(s: *mut Handle, floats: bool, item: i64, inclusive: bool, weight: *mut u64, total: *mut u64) -> i32;
+    fn mz_serialize(s: *mut Handle, plain: bool, buffer: *mut u8, capacity: usize, size: *mut u64) -> i32;
+    fn mz_deserialize(s: *mut Handle, req: bool, bytes: *const u8, count: usize, seed: u64) -> i32;
 }
 
 /// Why a call failed; the sketch is as before.
@@ -74,25 +74,25 @@ impl Req {
 
     /// Takes in all items, or none if it fails.
     pub fn update_all(&mut self, items: &[i64]) -> Result<(), Error> {
-        check(unsafe { mz_req_update_all_i64(&mut self.0, items.as_ptr(), items.len()) }).map(|_| ())
+        check(unsafe { mz_update_all(&mut self.0, false, items.as_ptr(), items.len()) }).map(|_| ())
     }
 
     /// Takes in what another sketch holds.
     pub fn merge(&mut self, other: &mut Req) -> Result<(), Error> {
-        check(unsafe { mz_req_merge(&mut self.0, &mut other.0) }).map(|_| ())
+        check(unsafe { mz_merge(&mut self.0, &mut other.0) }).map(|_| ())
     }
 
     /// The item at the fraction weight / total, or `None` for an empty sketch.
     pub fn quantile(&mut self, weight: u64, total: u64) -> Result<Option<i64>, Error> {
         let mut item = 0;
-        let is_there = check(unsafe { mz_req_quantile_i64(&mut self.0, weight, total, true, &mut item) })?;
+        let is_there = check(unsafe { mz_quantile(&mut self.0, false, weight, total, true, &mut item) })?;
         Ok(is_there.then_some(item))
     }
 
     /// The weight of the items at most `item`, and the total.
     pub fn rank(&mut self, item: i64) -> Result<Option<(u64, u64)>, Error> {
         let (mut weight, mut total) = (0, 0);
-        let is_there = check(unsafe { mz_req_rank_i64(&mut self.0, item, true, &mut weight, &mut total) })?;
+        let is_there = check(unsafe { mz_rank(&mut self.0, false, item, true, &mut weight, &mut total) })?;
         Ok(is_there.then_some((weight, total)))
     }
 
@@ -100,7 +100,7 @@ impl Req {
         let mut bytes = vec![0; 1 << 16];
         loop {
             let mut size = 0;
-            let answer = unsafe { mz_req_serialize(&mut self.0, false, bytes.as_mut_ptr(), bytes.len(), &mut size) };
+            let answer = unsafe { mz_serialize(&mut self.0, false, bytes.as_mut_ptr(), bytes.len(), &mut size) };
             bytes.resize(size as usize, 0);
             if answer != BUFFER_TOO_SMALL {
                 check(answer)?;
@@ -111,14 +111,14 @@ impl Req {
 
     pub fn from_bytes(bytes: &[u8], seed: u64) -> Result<Self, Error> {
         let mut made = Req(Handle { at: std::ptr::null_mut() });
-        check(unsafe { mz_req_deserialize(&mut made.0, bytes.as_ptr(), bytes.len(), seed) })?;
+        check(unsafe { mz_deserialize(&mut made.0, true, bytes.as_ptr(), bytes.len(), seed) })?;
         Ok(made)
     }
 }
 
 impl Drop for Req {
     fn drop(&mut self) {
-        unsafe { mz_req_free(&mut self.0) }
+        unsafe { mz_free(&mut self.0) }
     }
 }
 

@@ -41,24 +41,24 @@ static int64_t items[3000], got, ends[2], points[100];
 static double floats[100];
 static uint64_t weights[101];
 
-#define TRY(F, NEW, call) \
+#define TRY(NEW, call) \
     for (long n = 0;; n++) { \
-        mz_##F s = {0}, t = {0}, f = {0}; \
+        mz_sketch s = {0}, t = {0}, f = {0}; \
         long base = live; \
-        CHECK(NEW(s, false) == MZ_OK && NEW(t, false) == MZ_OK && NEW(f, true) == MZ_OK && mz_##F##_update_f64(&f, 0.5) == MZ_OK); \
-        CHECK(mz_##F##_update_all_i64(&s, items, 2503) == MZ_OK && mz_##F##_update_all_i64(&t, items, 3000) == MZ_OK); \
-        CHECK(mz_##F##_serialize(&s, false, before, sizeof before, &size_before) == MZ_OK); \
+        CHECK(NEW(s, false) == MZ_OK && NEW(t, false) == MZ_OK && NEW(f, true) == MZ_OK && mz_update_f64(&f, 0.5) == MZ_OK); \
+        CHECK(mz_update_all_i64(&s, items, 2503) == MZ_OK && mz_update_all_i64(&t, items, 3000) == MZ_OK); \
+        CHECK(mz_serialize(&s, false, before, sizeof before, &size_before) == MZ_OK); \
         left = n; \
         int32_t answer = call; \
         left = -1; \
         if (answer != MZ_OK) { \
             CHECK(answer == MZ_OUT_OF_MEMORY); \
-            CHECK(mz_##F##_serialize(&s, false, after, sizeof after, &size_after) == MZ_OK); \
+            CHECK(mz_serialize(&s, false, after, sizeof after, &size_after) == MZ_OK); \
             CHECK(size_after == size_before && !memcmp(before, after, size_after)); \
         } \
-        mz_##F##_free(&s); \
-        mz_##F##_free(&t); \
-        mz_##F##_free(&f); \
+        mz_free(&s); \
+        mz_free(&t); \
+        mz_free(&f); \
         CHECK(live == base); \
         if (answer == MZ_OK || failed) { \
             printf("%s: %ld allocations refused in turn\n", #call, n); \
@@ -67,33 +67,33 @@ static uint64_t weights[101];
     }
 #define NEW_KLL(s, floats) mz_kll_new(&s, 200, floats, 1)
 #define NEW_REQ(s, floats) mz_req_new(&s, 12, true, floats, 1)
-#define FAMILY(F, NEW) \
-    TRY(F, NEW, NEW(s, false)) \
-    TRY(F, NEW, mz_##F##_clone(&s, &t, 1)) \
-    TRY(F, NEW, mz_##F##_update_i64(&s, 7)) \
-    TRY(F, NEW, mz_##F##_update_all_i64(&s, items, 3000)) \
-    TRY(F, NEW, mz_##F##_update_all_f64(&f, floats, 100)) \
-    TRY(F, NEW, mz_##F##_merge(&s, &t)) \
-    TRY(F, NEW, mz_##F##_quantile_i64(&s, 1, 2, true, &got)) \
-    TRY(F, NEW, mz_##F##_masses_i64(&s, points, 100, true, true, weights, 101)) \
-    TRY(F, NEW, mz_##F##_masses_f64(&f, floats, 100, true, false, weights, 101)) \
-    TRY(F, NEW, mz_##F##_serialize(&s, false, after, sizeof after, &size_after)) \
-    TRY(F, NEW, mz_##F##_deserialize(&s, before, size_before, 1))
+#define FAMILY(REQ, NEW) \
+    TRY(NEW, NEW(s, false)) \
+    TRY(NEW, mz_clone(&s, &t, 1)) \
+    TRY(NEW, mz_update_i64(&s, 7)) \
+    TRY(NEW, mz_update_all_i64(&s, items, 3000)) \
+    TRY(NEW, mz_update_all_f64(&f, floats, 100)) \
+    TRY(NEW, mz_merge(&s, &t)) \
+    TRY(NEW, mz_quantile_i64(&s, 1, 2, true, &got)) \
+    TRY(NEW, mz_masses_i64(&s, points, 100, true, true, weights, 101)) \
+    TRY(NEW, mz_masses_f64(&f, floats, 100, true, false, weights, 101)) \
+    TRY(NEW, mz_serialize(&s, false, after, sizeof after, &size_after)) \
+    TRY(NEW, mz_deserialize(&s, REQ, before, size_before, 1))
 
 int main(void) {
     for (int i = 0; i < 3000; i++) items[i] = i * 7919 % 3001;
     for (int i = 0; i < 100; i++) points[i] = i * 20, floats[i] = i / 8.0;
-    FAMILY(kll, NEW_KLL)
-    FAMILY(req, NEW_REQ)
-    TRY(kll, NEW_KLL, mz_kll_update_weighted_i64(&s, 7, 1000))
+    FAMILY(false, NEW_KLL)
+    FAMILY(true, NEW_REQ)
+    TRY(NEW_KLL, mz_update_weighted_i64(&s, 7, 1000))
     /* these need no memory */
-    mz_kll k = MZ_KLL_EMPTY;
-    mz_kll_info_t info;
-    CHECK(NEW_KLL(k, false) == MZ_OK && mz_kll_update_all_i64(&k, items, 3000) == MZ_OK);
+    mz_sketch k = {0};
+    mz_info_t info;
+    CHECK(NEW_KLL(k, false) == MZ_OK && mz_update_all_i64(&k, items, 3000) == MZ_OK);
     left = 0;
-    CHECK(mz_kll_rank_i64(&k, 7, true, weights, weights + 1) == MZ_OK && mz_kll_ends_i64(&k, ends, ends + 1) == MZ_OK);
-    CHECK(mz_kll_info(&k, &info) == MZ_OK && mz_kll_reset(&k) == MZ_OK);
-    mz_kll_free(&k);
+    CHECK(mz_rank_i64(&k, 7, true, weights, weights + 1) == MZ_OK && mz_ends_i64(&k, ends, ends + 1) == MZ_OK);
+    CHECK(mz_info(&k, &info) == MZ_OK && mz_reset(&k) == MZ_OK);
+    mz_free(&k);
     CHECK(left == 0 && live == 0);
     left = -1;
     puts(failed ? "refusals: FAILED" : "refusals: as they should be");

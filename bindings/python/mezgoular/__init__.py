@@ -50,7 +50,7 @@ class _Handle(ctypes.Structure):
 
 
 class _Info(ctypes.Structure):
-    _fields_ = [("n", _u64), ("retained", _u64), ("k", ctypes.c_uint32), ("floats", ctypes.c_bool), ("high", ctypes.c_bool)]
+    _fields_ = [("n", _u64), ("retained", _u64), ("k", ctypes.c_uint32), ("floats", ctypes.c_bool), ("req", ctypes.c_bool), ("high", ctypes.c_bool)]
 
 
 class _Buffer(ctypes.Structure):
@@ -87,35 +87,37 @@ _release_buffer.argtypes = [ctypes.POINTER(_Buffer)]
 _release_buffer.restype = None
 
 
-def _calls(family: str) -> Dict[str, Any]:
-    """The library's functions of a family by their names without the beginning mz_family_."""
-    handle, flag, count = ctypes.POINTER(_Handle), ctypes.c_bool, ctypes.POINTER(_u64)
+def _calls() -> Dict[str, Any]:
+    """The library's functions by their names without the beginning mz_."""
+    handle, flag, count, item = ctypes.POINTER(_Handle), ctypes.c_bool, ctypes.POINTER(_u64), ctypes.POINTER(_i64)
     shapes: Dict[str, List[Any]] = {
-        "new": [ctypes.c_uint16, flag, flag, _u64] if family == "req" else [ctypes.c_uint16, flag, _u64],
+        "kll_new": [ctypes.c_uint16, flag, _u64],
+        "req_new": [ctypes.c_uint16, flag, flag, _u64],
         "free": [],
         "reset": [],
         "clone": [handle, _u64],
         "merge": [handle],
         "info": [ctypes.POINTER(_Info)],
         "serialize": [flag, _Pointer, _size, count],
-        "deserialize": [_Pointer, _size, _u64],
+        "deserialize": [flag, _Pointer, _size, _u64],
+        "update": [flag, _i64],
+        "update_all": [flag, _Pointer, _size],
+        "update_weighted": [flag, _i64, _u64],
+        "rank": [flag, _i64, flag, count, count],
+        "quantile": [flag, _u64, _u64, flag, item],
+        "masses": [flag, _Pointer, _size, flag, flag, _Pointer, _size],
+        "ends": [flag, item, item],
     }
-    for kind, item in (("_i64", _i64), ("_bits", _u64)):
-        shapes["update" + kind] = [item]
-        shapes["update_all" + kind] = [_Pointer, _size]
-        if family == "kll":
-            shapes["update_weighted" + kind] = [item, _u64]
-        shapes["rank" + kind] = [item, flag, count, count]
-        shapes["quantile" + kind] = [_u64, _u64, flag, ctypes.POINTER(item)]
-        shapes["masses" + kind] = [_Pointer, _size, flag, flag, _Pointer, _size]
-        shapes["ends" + kind] = [ctypes.POINTER(item), ctypes.POINTER(item)]
     found = {}
     for name, shape in shapes.items():
-        call = _library[f"mz_{family}_{name}"]
+        call = _library["mz_" + name]
         call.argtypes = [handle, *shape]
         call.restype = None if name == "free" else _i32
         found[name] = call
     return found
+
+
+_c = _calls()
 
 
 def _check(answer: int, invalid: str = "") -> bool:
@@ -184,7 +186,7 @@ class _Sketch:
     """What both families share."""
 
     __slots__ = ("_handle", "_floats", "__weakref__")
-    _c: ClassVar[Dict[str, Any]]
+    _is_req: ClassVar[bool]
     _handle: _Handle
     _floats: bool
 
@@ -195,7 +197,7 @@ class _Sketch:
         return self
 
     def __del__(self) -> None:
-        self._c["free"](self._handle)
+        _c["free"](self._handle)
 
     @staticmethod
     def _seed(seed: Optional[int]) -> int:
@@ -211,16 +213,16 @@ class _Sketch:
         return k if 0 < k < 1 << 16 else 0
 
     def _call(self, name: str, *more: Any, invalid: str = "") -> bool:
-        return _check(self._c[name](self._handle, *more), invalid)
+        return _check(_c[name](self._handle, *more), invalid)
 
     def _ask(self, name: str, *more: Any, invalid: str = "") -> bool:
-        """A call for the kind of the sketch's items."""
-        return self._call(name + ("_bits" if self._floats else "_i64"), *more, invalid=invalid)
+        """A call about items of the sketch's kind."""
+        return self._call(name, self._floats, *more, invalid=invalid)
 
     def _item(self, item: float) -> int:
         if self._floats:
             try:
-                return _u64.from_buffer(ctypes.c_double(item)).value
+                return _i64.from_buffer(ctypes.c_double(item)).value
             except OverflowError:
                 raise ValueError("an item doesn't fit 64 bits") from None
         whole = operator.index(item)  # type: ignore[arg-type]
@@ -228,16 +230,13 @@ class _Sketch:
             raise ValueError("an item doesn't fit 64 bits")
         return whole
 
-    def _box(self) -> Any:
-        return _u64() if self._floats else _i64()
-
     def _back(self, box: Any) -> float:
         found: float = ctypes.c_double.from_buffer(box).value if self._floats else box.value
         return found
 
     def update(self, item: float) -> None:
         """Takes in one item."""
-        answer = self._c["update_bits" if self._floats else "update_i64"](self._handle, self._item(item))
+        answer = _c["update"](self._handle, self._floats, self._item(item))
         if answer != _OK:
             _check(answer, "the sketch is full")
 
@@ -249,7 +248,7 @@ class _Sketch:
 
     def merge(self: _SELF, other: _SELF) -> None:
         """Takes in what another sketch of this family and kind of items holds."""
-        if not isinstance(other, _Sketch) or other._c is not self._c:
+        if not isinstance(other, _Sketch) or other._is_req is not self._is_req:
             raise TypeError("only a sketch of the same family can be merged")
         source = self.copy() if other is self else other
         self._call("merge", source._handle, invalid="one sketch is of high ranks and one of low ranks, or together they are full")
@@ -263,7 +262,7 @@ class _Sketch:
     def quantile(self, fraction: _Fraction, inclusive: bool = True) -> Optional[float]:
         """The item at a fraction: 0.5 is the median, 0 the least item, 1 the greatest; None for an empty sketch.
         A float counts as the decimal number that it prints as; a Fraction or a Decimal is exact."""
-        box = self._box()
+        box = _i64()
         return self._back(box) if self._ask("quantile", *_ratio(fraction), inclusive, box) else None
 
     def quantiles(self, fractions: Iterable[_Fraction], inclusive: bool = True) -> List[Optional[float]]:
@@ -285,7 +284,7 @@ class _Sketch:
         return self._masses(points, inclusive, True)
 
     def _ends(self) -> Tuple[Optional[float], Optional[float]]:
-        least, greatest = self._box(), self._box()
+        least, greatest = _i64(), _i64()
         return (self._back(least), self._back(greatest)) if self._ask("ends", least, greatest) else (None, None)
 
     @property
@@ -328,7 +327,7 @@ class _Sketch:
         size, room = _u64(), 8 * self._info().retained + 4096
         while True:
             buffer = ctypes.create_string_buffer(room)
-            answer = self._c["serialize"](self._handle, plain, buffer, room, size)
+            answer = _c["serialize"](self._handle, plain, buffer, room, size)
             if answer != _BUFFER:
                 _check(answer)
                 return buffer.raw[: size.value]
@@ -339,7 +338,7 @@ class _Sketch:
         """The sketch of an image. An image without a frame is one of whole numbers. The seed gives its further coins."""
         self = cls.__new__(cls)
         image = bytes(image)
-        self._call("deserialize", image or b"\0", len(image), self._seed(seed))
+        self._call("deserialize", self._is_req, image or b"\0", len(image), self._seed(seed))
         self._floats = self._info().floats
         return self
 
@@ -378,10 +377,10 @@ class Kll(_Sketch):
     k is from 8 to 65535. The seed gives the coins; without one they are random."""
 
     __slots__ = ()
-    _c = _calls("kll")
+    _is_req = False
 
     def __init__(self, k: int = 200, *, floats: bool = False, seed: Optional[int] = None) -> None:
-        self._call("new", self._accuracy(k), floats, self._seed(seed), invalid="k of a KLL sketch is from 8 to 65535")
+        self._call("kll_new", self._accuracy(k), floats, self._seed(seed), invalid="k of a KLL sketch is from 8 to 65535")
         self._floats = bool(floats)
 
     def update_weighted(self, item: float, weight: int) -> None:
@@ -398,10 +397,10 @@ class Req(_Sketch):
     k is even, from 4 to 1024. The seed gives the coins; without one they are random."""
 
     __slots__ = ()
-    _c = _calls("req")
+    _is_req = True
 
     def __init__(self, k: int = 50, *, high: bool = True, floats: bool = False, seed: Optional[int] = None) -> None:
-        self._call("new", self._accuracy(k), high, floats, self._seed(seed), invalid="k of a REQ sketch is even, from 4 to 1024")
+        self._call("req_new", self._accuracy(k), high, floats, self._seed(seed), invalid="k of a REQ sketch is even, from 4 to 1024")
         self._floats = bool(floats)
 
     @property
