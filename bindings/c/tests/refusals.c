@@ -1,4 +1,5 @@
-/* Each allocation of each call refused in turn: the answer is MZ_OUT_OF_MEMORY, sketches are as before, nothing is lost.
+/* Each allocation of each call refused in turn: the call does without, or the answer is MZ_OUT_OF_MEMORY and sketches are as
+ * before; nothing is lost.
  * Linked with -Wl,--wrap=malloc,--wrap=realloc,--wrap=free. */
 #include "mezgoular.h"
 #include <stdio.h>
@@ -50,6 +51,7 @@ static uint64_t weights[101];
         CHECK(mz_serialize(&s, false, before, sizeof before, &size_before) == MZ_OK); \
         left = n; \
         int32_t answer = call; \
+        bool none_refused = left >= 0; \
         left = -1; \
         if (answer != MZ_OK) { \
             CHECK(answer == MZ_OUT_OF_MEMORY); \
@@ -60,7 +62,8 @@ static uint64_t weights[101];
         mz_free(&t); \
         mz_free(&f); \
         CHECK(live == base); \
-        if (answer == MZ_OK || failed) { \
+        CHECK(answer == MZ_OK || !none_refused); \
+        if (none_refused || failed) { \
             printf("%s: %ld allocations refused in turn\n", #call, n); \
             break; \
         } \
