@@ -17,14 +17,14 @@ impl<T, A: Allocator> Model for Loose<T, A> {
 }
 
 impl<T: Drop, A: Allocator> Loose<T, A> {
-    pub fn of(boxed: Box<T, A>) -> Self
+    pub(crate) fn of(boxed: Box<T, A>) -> Self
         ensures { result.value ≡ boxed.value }
     {
         let (at, alloc) = Box::into_raw_with_allocator(boxed);
         Loose { at, alloc }
     }
 
-    pub fn into_box(self) -> Box<T, A>
+    pub(crate) fn into_box(self) -> Box<T, A>
         ensures { result.value ≡ self.value }
     {
         let Loose { at, alloc } = self;

@@ -32,7 +32,7 @@ pub enum Sketch {
 }
 
 impl Sketch {
-    pub fn is_req(&self) -> bool
+    pub(crate) fn is_req(&self) -> bool
         ensures { result ≡ is_req self.now }
     {
         match self {
@@ -42,7 +42,7 @@ impl Sketch {
     }
 
     /// Returns whether high ranks are exact.
-    pub fn is_high(&self) -> bool
+    pub(crate) fn is_high(&self) -> bool
         ensures { result ≡ is_high self.now }
     {
         match self {
@@ -54,7 +54,7 @@ impl Sketch {
         }
     }
 
-    pub fn k(&self) -> u16
+    pub(crate) fn k(&self) -> u16
         ensures { result ≡ k_of self.now }
     {
         match self {
@@ -63,7 +63,7 @@ impl Sketch {
         }
     }
 
-    pub fn n(&self) -> u64
+    pub(crate) fn n(&self) -> u64
         ensures { result ≡ n_of self.now }
     {
         match self {
@@ -72,7 +72,7 @@ impl Sketch {
         }
     }
 
-    pub fn num_retained(&self) -> u64
+    pub(crate) fn num_retained(&self) -> u64
         ensures { result ≡ retained (bag_of self.now) }
     {
         match self {
@@ -82,7 +82,7 @@ impl Sketch {
     }
 
     /// Returns the extremes of the stream.
-    pub fn ends(&self) -> Option<(i64, i64)>
+    pub(crate) fn ends(&self) -> Option<(i64, i64)>
         ensures there { IsSome result ↔ (n_of self.now ≢ 0) }
         ensures least { IfSome result (λ ends. least_of self.now ≡ Some ends.0) }
         ensures greatest { IfSome result (λ ends. greatest_of self.now ≡ Some ends.1) }
@@ -94,7 +94,7 @@ impl Sketch {
         Some((*least?, *greatest?))
     }
 
-    pub fn reset(&mut self)
+    pub(crate) fn reset(&mut self)
         ensures { self.new ≡ emptied self.old }
     {
         match self {
@@ -103,7 +103,7 @@ impl Sketch {
         }
     }
 
-    pub fn clone(&self) -> Result<Sketch, AllocError>
+    pub(crate) fn clone(&self) -> Result<Sketch, AllocError>
         ensures { IfOk result (IsCopy self.now) }
     {
         match self {
@@ -112,7 +112,7 @@ impl Sketch {
         }
     }
 
-    pub fn update(&mut self, item: i64, coins: &mut SplitMix64) -> i32
+    pub(crate) fn update(&mut self, item: i64, coins: &mut SplitMix64) -> i32
         ensures { IsUpdate item result self.old coins.old self.new coins.new }
     {
         match self {
@@ -121,7 +121,7 @@ impl Sketch {
         }
     }
 
-    pub fn update_all(&mut self, items: &[i64], coins: &mut SplitMix64) -> i32
+    pub(crate) fn update_all(&mut self, items: &[i64], coins: &mut SplitMix64) -> i32
         ensures { AreUpdates items.now result self.old coins.old self.new coins.new }
     {
         match self {
@@ -131,7 +131,7 @@ impl Sketch {
     }
 
     /// Returns whether `update_all` refuses so many items.
-    pub fn is_full_for(&self, count: u64) -> bool
+    pub(crate) fn is_full_for(&self, count: u64) -> bool
         ensures { IsTrue result ↔ IsFullFor count self.now }
     {
         match self {
@@ -143,7 +143,12 @@ impl Sketch {
     }
 
     /// Takes in all floats, or none.
-    pub fn update_floats(&mut self, alloc: Global, floats: &[i64], coins: &mut SplitMix64) -> i32
+    pub(crate) fn update_floats(
+        &mut self,
+        alloc: Global,
+        floats: &[i64],
+        coins: &mut SplitMix64,
+    ) -> i32
         ensures { AreUpdates (map number_in floats.now) result
             self.old coins.old self.new coins.new }
     {
@@ -156,7 +161,7 @@ impl Sketch {
         }
     }
 
-    pub fn update_weighted(&mut self, item: i64, weight: u64, coins: &mut SplitMix64) -> i32
+    pub(crate) fn update_weighted(&mut self, item: i64, weight: u64, coins: &mut SplitMix64) -> i32
         ensures { IsWeightedUpdate item weight result self.old coins.old self.new coins.new }
     {
         match self {
@@ -165,7 +170,7 @@ impl Sketch {
         }
     }
 
-    pub fn merge(&mut self, other: &Sketch, coins: &mut SplitMix64) -> i32
+    pub(crate) fn merge(&mut self, other: &Sketch, coins: &mut SplitMix64) -> i32
         ensures { IsMerge other.now result self.old coins.old self.new coins.new }
     {
         match (self, other) {
@@ -175,7 +180,7 @@ impl Sketch {
         }
     }
 
-    pub fn rank(&self, item: &i64, criteria: SearchCriteria) -> Option<Rank>
+    pub(crate) fn rank(&self, item: &i64, criteria: SearchCriteria) -> Option<Rank>
         ensures there { IsSome result ↔ (n_of self.now ≢ 0) }
         ensures weight { IfSome result (λ r.
             r.weight ≡ weighted_rank int_cmp (counted int_cmp item.now criteria) (bag_of self.now)) }
@@ -187,7 +192,11 @@ impl Sketch {
         }
     }
 
-    pub fn quantile(&self, fraction: Rank, criteria: SearchCriteria) -> Result<Option<i64>, Error>
+    pub(crate) fn quantile(
+        &self,
+        fraction: Rank,
+        criteria: SearchCriteria,
+    ) -> Result<Option<i64>, Error>
         ensures found { IfOk result
             (SameAnswer int_cmp (quantile_of (view_of self.now) fraction criteria)) }
         ensures there { IfOk result (IsFoundAmong (n_of self.now)) }
@@ -200,7 +209,7 @@ impl Sketch {
     }
 
     /// Returns the weights of a pmf, if it goes by `steps`, or of a cdf.
-    pub fn masses(
+    pub(crate) fn masses(
         &self,
         points: &[i64],
         criteria: SearchCriteria,
@@ -223,7 +232,7 @@ impl Sketch {
 
     #[tactic(auto, using(crate::proofs::Codes::refused, crate::proofs::Codes::told_apart, crate::proofs::Masses::masses_count))]
     /// Hands over the weights, if there is room for exactly one for each point and one more.
-    pub fn hand_masses(
+    pub(crate) fn hand_masses(
         &self,
         points: &[i64],
         inclusive: bool,
@@ -246,7 +255,7 @@ impl Sketch {
         }
     }
 
-    pub fn serialize(&self) -> Result<Vec<u8>, Error>
+    pub(crate) fn serialize(&self) -> Result<Vec<u8>, Error>
         ensures { IfOk result (λ v. v.items ≡ image_of self.now) }
     {
         match self {
@@ -257,7 +266,7 @@ impl Sketch {
 
     /// Returns the sketch whose image the bytes are, as a whole. The coins that an image of REQ
     /// doesn't hold are drawn anew.
-    pub fn deserialize(
+    pub(crate) fn deserialize(
         alloc: Global,
         req: bool,
         image: &[u8],

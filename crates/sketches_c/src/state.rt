@@ -21,7 +21,7 @@ pub struct State {
 
 impl State {
     /// Returns the bytes of the image, in its frame unless it is to be plain.
-    pub fn text(&self, alloc: Global, plain: bool) -> Result<Vec<u8>, Error>
+    pub(crate) fn text(&self, alloc: Global, plain: bool) -> Result<Vec<u8>, Error>
         ensures { IfOk result (λ v. v.items
             ≡ text_of plain (is_req self.now.sketch) self.now.floats (image_of self.now.sketch)) }
     {
@@ -33,7 +33,7 @@ impl State {
     }
 
     /// Returns what the bytes hold an image of, with coins from the seed.
-    pub fn read(alloc: Global, req: bool, bytes: &[u8], seed: u64) -> Result<State, Error>
+    pub(crate) fn read(alloc: Global, req: bool, bytes: &[u8], seed: u64) -> Result<State, Error>
         ensures { IfOk result (IsRead req bytes.now seed) }
     {
         let (image, floats) = unframed(bytes, req)?;
