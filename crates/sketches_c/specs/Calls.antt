@@ -3,7 +3,7 @@ use Rattle.std.specs.Prelude.{◌≡◌, ◌≢◌, ◌↔◌, ◌⊎◌, ◌<�
 use mathlib.Core.Bool.{beq}
 use Rattle.std.specs.Ordering.{int_cmp}
 use Rattle.sketch_base.specs.declared.error.ErrorKind.TheVariants.{InvalidArgument, OutOfMemory}
-use Rattle.sketch_base.specs.Bag.{Bag, expanded, weighted_rank}
+use Rattle.sketch_base.specs.Bag.{expanded, weighted_rank}
 use Rattle.sketch_base.specs.Query.{counted}
 use Rattle.sketch_base.specs.Queries.{IsFraction, IsIncreasing, SameAnswer, cdf_of, pmf_of, ranks_of}
 use Rattle.sketch_base.specs.Views.{quantile_of}

@@ -1,6 +1,6 @@
 -- Floats by their bits, read as a signed number: its sign is the float's, and the other bits are a magnitude, in the order of the
 -- absolute values. NaNs have the greatest magnitudes.
-use Rattle.std.specs.Prelude.{◌≡◌, ◌⊎◌, ◌<◌, ◌-◌, ◌^◌, ◌==◌, ◌/◌, ◌%◌, ℕ, ℤ, pos, negsuc, Bool, true, false, List, [], ◌∷◌, ◌||◌, ◌&&◌, nat_lt, if◌then◌else◌, map}
+use Rattle.std.specs.Prelude.{◌-◌, ◌^◌, ◌==◌, ℕ, ℤ, pos, negsuc, Bool, true, false, List, [], ◌∷◌, ◌||◌, nat_lt, if◌then◌else◌, map}
 
 -- the bits without the sign
 abbrev pub magnitude : ℤ → ℕ

@@ -1,5 +1,5 @@
 -- The eight bytes before an image, which say what it is of.
-use Rattle.std.specs.Prelude.{◌≡◌, ℕ, Bool, true, false, if◌then◌else◌, List, [], ◌∷◌, ◌++◌, ◌⊎◌}
+use Rattle.std.specs.Prelude.{◌≡◌, ℕ, Bool, false, if◌then◌else◌, List, [], ◌∷◌, ◌++◌, ◌⊎◌}
 
 -- 'MZQS', the version 1, the family (1 for KLL, 2 for REQ), the kind of the items (1 for floats), 0
 abbrev pub frame : Bool → Bool → List ℕ

@@ -35,14 +35,14 @@ pub extern "C" fn mz_kll_new(
     floats: bool,
     seed: u64,
 ) -> i32
+    ensures refused { result ≢ ok → handle.new.value ≡ handle.old.value }
+    ensures unfit { result ≡ code_of InvalidArgument ↔ (k < 8) }
+    ensures memory { result ≢ ok → 8 ≤ k → result ≡ code_of OutOfMemory }
     ensures made { result ≡ ok → handle.new.value ≡ Some (record {
       sketch = Kll (empty_kll k false);
       coins = seed;
       floats = floats;
     }) }
-    ensures refused { result ≢ ok → handle.new.value ≡ handle.old.value }
-    ensures unfit { result ≡ code_of InvalidArgument ↔ (k < 8) }
-    ensures memory { result ≢ ok → 8 ≤ k → result ≡ code_of OutOfMemory }
 {
     match KllSketch::new(alloc, k) {
         Ok(sketch) => handle.hold(
@@ -67,14 +67,14 @@ pub extern "C" fn mz_req_new(
     floats: bool,
     seed: u64,
 ) -> i32
+    ensures refused { result ≢ ok → handle.new.value ≡ handle.old.value }
+    ensures unfit { result ≡ code_of InvalidArgument ↔ ¬ (IsLegalK k) }
+    ensures memory { result ≢ ok → IsLegalK k → result ≡ code_of OutOfMemory }
     ensures made { result ≡ ok → handle.new.value ≡ Some (record {
       sketch = Req (empty_req k (accuracy_of high));
       coins = seed;
       floats = floats;
     }) }
-    ensures refused { result ≢ ok → handle.new.value ≡ handle.old.value }
-    ensures unfit { result ≡ code_of InvalidArgument ↔ ¬ (IsLegalK k) }
-    ensures memory { result ≢ ok → IsLegalK k → result ≡ code_of OutOfMemory }
 {
     let accuracy = if high {
         RankAccuracy::HighRank

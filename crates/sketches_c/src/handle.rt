@@ -101,7 +101,8 @@ impl Handle {
     /// Takes a state in a box of its own. What the handle held is freed.
     pub(crate) fn hold(&mut self, alloc: Global, state: State) -> i32
         ensures held { result ≡ ok → self.new.value ≡ Some state }
-        ensures refused { result ≢ ok → (result ≡ code_of OutOfMemory) × (self.new.value ≡ self.old.value) }
+        ensures refused { result ≢ ok → self.new.value ≡ self.old.value }
+        ensures memory { result ≢ ok → result ≡ code_of OutOfMemory }
     {
         match Box::new(alloc, state) {
             Ok(state) => {
