@@ -1,4 +1,5 @@
 pub mod Codes
+pub mod FloatOrder
 pub mod Handles
 pub mod Masses
 pub mod Pointers

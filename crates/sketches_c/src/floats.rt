@@ -1,5 +1,6 @@
 //! Floats by their bits, as whole numbers in the same order.
 ghost use Rattle.std.specs.Prelude.{◌≡◌, pos, IfOk, map};
+ghost use Rattle.sketches_c.specs.FloatLaws.{NumbersAreInOrder};
 ghost use Rattle.sketches_c.specs.Floats.{any_nan, is_nan, key, keys, magnitude, number, number_in, shown};
 
 use std::alloc::{AllocError, Global};
@@ -44,6 +45,12 @@ fn float_of(value: i64) -> i64
         -1 - magnitude(value)
     }
 }
+
+/// The numbers that stand for floats are in the order of the floats, as IEEE 754 has it.
+#[tactic(auto, using(crate::proofs::FloatOrder::in_order))]
+pub fn numbers_are_in_order()
+    ensures order { NumbersAreInOrder }
+{}
 
 /// Returns an item as it is taken in: itself, or the number that stands for the float.
 pub(crate) fn key(floats: bool, item: i64) -> i64
