@@ -93,7 +93,3 @@ no_found P e = rw e tt
 
 pub with_error : {T E : Type 0} {r : Result T E} {x : E} (P : E → Type 0) → r ≡ Err x → P x → IfErr r P
 with_error P e p = rw e p
-
--- the kinds of errors differ
-pub argument_not_data : InvalidArgument ≡ InvalidData → ⊥
-argument_not_data is = cc

@@ -1,5 +1,5 @@
 -- Calls that are refused or aren't: what their clauses say, and the numbers that decide it.
-use Rattle.std.proofs.Common.{◌≡◌, ◌+◌, ◌-◌, ◌<◌, ◌≤◌, ◌^◌, ℕ, Result, Ok, Err, arith}
+use Rattle.std.proofs.Common.{◌≡◌, ◌<◌, ◌≤◌, ◌^◌, ℕ, Result, Ok, Err, arith}
 use Rattle.sketch_base.specs.declared.error.ErrorKind.{ErrorKind}
 use Rattle.sketch_base.specs.declared.error.ErrorKind.TheVariants.{InvalidArgument, OutOfMemory}
 use Rattle.sketch_base.proofs.Exits.{no_error, other_kind}
@@ -30,13 +30,6 @@ none_or_some none some = omega (arith, none, some)
 
 pub none_not : {n m : ℕ} → n ≡ m → n ≡ 0 → 0 < m → ⊥
 none_not e none some = omega (arith, e, none, some)
-
--- another fits where the weight isn't the greatest one
-pub one_fits : {n : ℕ} → n < 2 ^ 64 → (n ≡ 2 ^ 64 - 1 → ⊥) → n + 1 < 2 ^ 64
-one_fits fits not_greatest = omega (arith, fits, not_greatest)
-
-pub below_greatest : {n : ℕ} → n < 2 ^ 64 → (n ≡ 2 ^ 64 - 1 → ⊥) → n < 2 ^ 64 - 1
-below_greatest fits not_greatest = omega (arith, fits, not_greatest)
 
 pub not_between : {n m : ℕ} → n < m → m ≤ n → ⊥
 not_between low high = omega (arith, low, high)

@@ -1,7 +1,6 @@
 -- Calls of a sketch that return an error or a value: what their clauses say, and the numbers that decide it.
-use Rattle.std.proofs.Common.{◌≡◌, ◌-◌, ◌<◌, ◌^◌, ◌∙◌, ℕ, Bool, true, false, eqb, List, [], ◌++◌, Option, Ordering, Result, Err, length, subst, sym, ap, arith}
-use Rattle.std.proofs.lemmas.Bool.{eqb-true, true≢false}
-use Rattle.std.proofs.lemmas.List.{nil_from_length}
+use Rattle.std.proofs.Common.{◌≡◌, ◌-◌, ◌<◌, ◌^◌, ◌∙◌, ℕ, Bool, false, eqb, List, [], ◌++◌, Option, Ordering, Result, Err, length, subst, sym, ap, arith}
+use Rattle.std.proofs.lemmas.Bool.{true≢false}
 use Rattle.sketch_base.specs.Heads.{header_text}
 use Rattle.sketch_base.specs.declared.codec.Header.{Header}
 use Rattle.sketch_base.proofs.Exits.{error_is}
@@ -44,10 +43,6 @@ not_all all light = omega (arith, all, light)
 -- a text of fewer than 8 bytes begins with no header
 pub no_header : {text rest : List ℕ} {len : ℕ} (h : Header) → len ≡ length text → len < 8 → text ≡ header_text h ++ rest → ⊥
 no_header h same short parts = omega (arith, same, short, ap length parts)
-
--- a text that is left, or isn't
-pub all_read : {text left : List ℕ} {is_none : Bool} → left ≡ text → is_none ≡ eqb (length left) 0 → is_none ≡ true → text ≡ []
-all_read {left = left} same is on = sym same ∙ nil_from_length left (eqb-true (length left) 0 (sym is ∙ on))
 
 pub some_left : {text left : List ℕ} {is_none : Bool} → left ≡ text → is_none ≡ eqb (length left) 0 → is_none ≡ false → text ≡ [] → ⊥
 some_left same is off none = true≢false (sym (ap (λ (xs : List ℕ). eqb (length xs) 0) (same ∙ none)) ∙ (sym is ∙ off))

@@ -1,12 +1,9 @@
 -- What a call says that returns what a write of an item's spelling or a read of one returns.
-use Rattle.std.proofs.Common.{arith}
-use Rattle.std.proofs.lemmas.Grind.{common_steps}
 use Rattle.std.proofs.Common.{◌≡◌, ◌≢◌, ◌∙◌, ◌<◌, ◌^◌, ℕ, ℤ, List, [], ◌++◌, length, Option, Some, None, Result, Ok, Err, ap, refl, sym, append-nil, append_assoc, unwrap_or}
 use Rattle.std.specs.Int.{cast_unsigned, to_le_bytes, w32, w64}
 use Rattle.std.specs.Prelude.{◌↔◌, FitsSigned, IfErr, IfOk, IsErrOf, IsSome, OnErr, OnOk, is_some}
-use Rattle.std.specs.Option.{option_to_list}
 use Rattle.std.proofs.lemmas.Result.{on_err_weaker, on_ok_weaker}
-use Rattle.sketch_base.specs.Spelling.{AllSpelled, Begins, bytes_of, i64_spelling, items_text, text_spelling}
+use Rattle.sketch_base.specs.Spelling.{Begins, bytes_of, i64_spelling, text_spelling}
 use Rattle.sketch_base.specs.SpellingLaws.{begins_by, i64_short, i64_spelled, no_memory, ok_spelled, text_spelled}
 use Rattle.sketch_base.specs.declared.error.ErrorKind.{ErrorKind}
 use Rattle.sketch_base.specs.declared.error.ErrorKind.TheVariants.{InvalidArgument, InvalidData, OutOfMemory}
@@ -83,20 +80,3 @@ i64_read (Err e) text rest fits ok short kind = record {
   refused = λ _. i64_short text short;
   kind = λ argument. data_not_argument (sym kind ∙ argument);
 }
-
--- no item is written
-pub none_written : {A : Type 0} (spelling : A → Option (List ℕ)) (found : Option A) (before : List ℕ) → found ≡ None →
-    (before ≡ before ++ items_text spelling (option_to_list found)) × AllSpelled spelling (option_to_list found)
-none_written spelling found before is = rw is (sym (append-nil before), tt)
-
--- one item is written
-pub item_written : {A : Type 0} (spelling : A → Option (List ℕ)) (x : A) (found : Option A) (r : Result Unit ErrorKind) (before after : List ℕ) → found ≡ Some x →
-    OnOk r (IsSome (spelling x)) → OnOk r (after ≡ before ++ bytes_of spelling x) → (IsErrOf r InvalidArgument ↔ (spelling x ≡ None)) →
-    IfErr r (λ e. e ≢ InvalidData) → record {
-      ok : OnOk r (after ≡ before ++ items_text spelling (option_to_list found));
-      spelled : OnOk r (AllSpelled spelling (option_to_list found));
-      refused : IfErr r (λ e. e ≡ InvalidArgument → ¬ AllSpelled spelling (option_to_list found));
-      kind : IfErr r (λ e. e ≢ InvalidData);
-    }
-item_written spelling x found (Ok y) before after is spelled appended refused kind = grind (arith, common_steps, append-nil)
-item_written spelling x found (Err e) before after is spelled appended refused kind = grind (arith, common_steps)

@@ -1,12 +1,12 @@
 -- Levels of one sketch: their k and their accuracy are those of level 0.
-use Rattle.std.proofs.Common.{◌≡◌, ℕ, ◌<◌, ◌≤◌, ap, ◌∙◌, Bool, true, List, [], ◌∷◌, length, refl, sym, subst, arith, Ordering}
+use Rattle.std.proofs.Common.{◌≡◌, ℕ, ◌<◌, ◌≤◌, ap, ◌∙◌, Bool, true, List, [], ◌∷◌, length, sym, subst, arith, Ordering}
 use Rattle.sketch_req.specs.Held.{Held, IsHeld, held_of}
 use Rattle.sketch_req.specs.Level.{Level, fresh}
 use Rattle.sketch_req.specs.Merged.{AreTakenIn}
 use Rattle.sketch_req.specs.Redrawn.{redrawn}
 use Rattle.sketch_req.specs.Schedule.{layouts_of, nominal_sum, retained_of}
 use Rattle.sketch_req.specs.Sections.{IsLegalK}
-use Rattle.sketch_req.specs.Walk.{AreHeld, AreLevels, accuracy_of, appended_first, k_of}
+use Rattle.sketch_req.specs.Walk.{AreHeld, AreLevels, accuracy_of, k_of}
 use Rattle.sketch_req.specs.declared.RankAccuracy.{RankAccuracy}
 use Rattle.sketch_req.proofs.HeldExtremes.{longer-room}
 use Rattle.sketch_req.proofs.Layouts.{length-layouts}
@@ -34,11 +34,6 @@ own-levels cmp k accuracy (l ∷ ls) some a = record {
         (subst (λ (b : RankAccuracy). AreLevels cmp k b 0 (l ∷ ls)) (sym a.0.accuracy_is) a);
   };
 }
-
--- an item that comes in leaves both as they are
-pub own-appended : {A : Type 0} (ls : List (Level A)) (x : A) → (k_of (appended_first ls x) ≡ k_of ls) × (accuracy_of (appended_first ls x) ≡ accuracy_of ls)
-own-appended [] x = (refl, refl)
-own-appended (l ∷ ls) x = (refl, refl)
 
 -- the same after coins were redrawn
 pub held-redrawn : {A : Type 0} (cmp : A → A → Ordering) (k n capacity : ℕ) (accuracy : RankAccuracy) (word : List Bool) (ls : List (Level A)) → IsHeld cmp n capacity (held_of k accuracy ls) →

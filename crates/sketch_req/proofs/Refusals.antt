@@ -54,9 +54,6 @@ no_refusal_of P r memory = IfErr-weaker r (λ e. e ≡ OutOfMemory) (λ e. e ≡
 pub memory_alone : {T : Type 0} (r : Result T ErrorKind) → IfErr r (λ e. e ≡ OutOfMemory) → IfErr r (λ e. e ≡ InvalidArgument → ⊥)
 memory_alone r memory = IfErr-weaker r (λ e. e ≡ OutOfMemory) (λ e. e ≡ InvalidArgument → ⊥) (λ e is k. memory_not_argument (sym is ∙ k)) memory
 
-pub two_some : {n m : ℕ} → n ≡ m → 2 ≤ m → 0 < n
-two_some e some = omega (arith, e, some)
-
 -- an item alone in a list
 pub pushed_alone : {A : Type 0} {xs ys : List A} {x : A} → ys ≡ xs ++ x ∷ [] → xs ≡ [] → ys ≡ x ∷ []
 pushed_alone {A} {x = x} e none = e ∙ ap (λ (zs : List A). zs ++ x ∷ []) none
@@ -66,10 +63,6 @@ from_zero few = omega (arith, few)
 
 pub none_below : {n : ℕ} → n < n → ⊥
 none_below below = omega (arith, below)
-
--- levels weigh what their sketches took
-pub both_fit : {w v n m : ℕ} → w ≡ n → v ≡ m → n + m < 2 ^ 64 → w + v < 2 ^ 64
-both_fit e f fits = omega (arith, e, f, fits)
 
 -- ---- images
 
