@@ -92,7 +92,7 @@ impl<T: Clone + Ord> SortedView<T> {
         if count == 0 {
             return Ok(SortedView::from_cumulated(items, cumulated, None, None));
         }
-        weighted.sort_by(|a, b| a.0.cmp(&b.0))?;
+        weighted.sort_unstable_by(|a, b| a.0.cmp(&b.0));
         // The greatest comes first, and the least is taken off first.
         weighted.reverse();
         cumulate(&mut weighted, joins, &mut items, &mut cumulated);

@@ -13,16 +13,16 @@ use Rattle.sketch_base.proofs.sorted_view.SortedView.build.Goals.at as past
 
 -- the weighted items as they are joined, from the last to the first
 module _ (g : Over) (c : After-reverse g) where
-  turned : reverse c.reverse.new.self.items ≡ c.sort_by.new.self.items
-  turned = ap reverse c.reverse.ensures.items ∙ reverse-reverse c.sort_by.new.self.items
+  turned : reverse c.reverse.new.self.items ≡ c.sort_unstable_by.new.self.items
+  turned = ap reverse c.reverse.ensures.items ∙ reverse-reverse c.sort_unstable_by.new.self.items
 
   moved : IsPermutation c.args.weighted.items (reverse c.reverse.new.self.items)
-  moved = subst (λ (pairs : List (g.row.T.Denot × ℕ)). IsPermutation c.args.weighted.items pairs) (sym turned) c.in_ok-sort_by.ensures.permutation
+  moved = subst (λ (pairs : List (g.row.T.Denot × ℕ)). IsPermutation c.args.weighted.items pairs) (sym turned) c.sort_unstable_by.ensures.permutation
 
   sorted : IsSorted g.T.Ord.cmp (map (λ (pair : g.row.T.Denot × ℕ). pair.0) (reverse c.reverse.new.self.items))
   sorted =
-      subst (λ (pairs : List (g.row.T.Denot × ℕ)). IsSorted g.T.Ord.cmp (map (λ (pair : g.row.T.Denot × ℕ). pair.0) pairs)) (sym turned) (sorted-items g.T.Ord.cmp c.sort_by.new.self.items
-      (c.in_ok-sort_by.ensures.sorted (λ (a b : g.row.T.Denot × ℕ). is_lt (g.T.Ord.cmp a.0 b.0)) (ranks_by g.met.T.Ord.total (λ (p : g.row.T.Denot × ℕ). p.0))
+      subst (λ (pairs : List (g.row.T.Denot × ℕ)). IsSorted g.T.Ord.cmp (map (λ (pair : g.row.T.Denot × ℕ). pair.0) pairs)) (sym turned) (sorted-items g.T.Ord.cmp c.sort_unstable_by.new.self.items
+      (c.sort_unstable_by.ensures.sorted (λ (a b : g.row.T.Denot × ℕ). is_lt (g.T.Ord.cmp a.0 b.0)) (ranks_by g.met.T.Ord.total (λ (p : g.row.T.Denot × ℕ). p.0))
       (always_returns_same _ _ _ (λ a r f k. search (rules, of_calls)))))
 
 pub cumulate-requires-clause-fits : goal.cumulate-requires-clause-fits
