@@ -62,12 +62,6 @@ module _ {T E : Type 0} where
   pub accepted : {P : Type 0} {x : T} {e : E} → (P → ⊥) → (Ok x ≡ Err e → P) × (P → Ok x ≡ Err e)
   accepted never = (λ is. absurd (no_error is), λ p. absurd (never p))
 
--- a call is refused if and only if one that it calls is
-pub passed_refusal : {S T E P : Type 0} {x y : E} (r : Result T E) (s : Result S E) → IsErrAnd r (λ e. e ≡ x) → s ≡ Err x → (s ≡ Err y → P) × (P → s ≡ Err y) →
-    (r ≡ Err y → P) × (P → r ≡ Err y)
-passed_refusal r s h same told =
-    (λ is. told.0 (same ∙ ap Err (error_is (returned r _ h) is)), λ p. returned r _ h ∙ ap Err (error_is same (told.1 p)))
-
 -- a call that ran out of memory returns that and no other error
 pub other_kind : {T : Type 0} {r : Result T ErrorKind} → r ≡ Err OutOfMemory → r ≡ Err InvalidArgument → ⊥
 other_kind e is = let both : Err OutOfMemory ≡ Err InvalidArgument = sym e ∙ is in cc

@@ -49,8 +49,3 @@ not_gt_lt o _ e h = ap is_lt e
 pub gt_not_gt : (o p : Ordering) → o ≡ ordering_reverse p → is_gt o ≡ true → is_gt p ≡ false
 gt_not_gt o Greater e h = absurd (false≢true (sym (ap is_gt e) ∙ h))
 gt_not_gt o _ e h = refl
-
--- if an item is found to be at most another, the two are sorted
-pub found-in_order : {A : Type 0} {cmp : A → A → Ordering} → IsTotalOrder cmp → (found : A → A → Option Ordering) → ((x y : A) → found x y ≡ Some (cmp x y)) → (x y : A) →
-    partial_le found x y ≡ true → is_lt (cmp y x) ≡ false
-found-in_order {A} {cmp} o found same x y e = grind (arith, common_steps, not_gt_lt, le_not_gt)

@@ -21,10 +21,6 @@ below-most c k a b x y z m e f g h = omega arith
 pub quarter-some : (n : ℕ) → 0 < n / 4 + 4
 quarter-some n = omega arith
 
--- the part of a list that isn't sorted yet fits into one empty vector, and the whole into another
-pub part-room : (v a n b cap k : ℕ) → v ≡ 0 → a - k ≤ b → a ≡ n → b ≡ cap → v + (n - k) ≤ cap
-part-room v a n b cap k none h e f = omega arith
-
 -- at most as many items as a list has that others were put behind
 -- items that move one by one to another vector
 pub moved-first : (m r k c a b d : ℕ) → m ≡ a → r ≡ b → c ≡ d → a + (b - k) ≤ d → m + (r - k) ≤ c
@@ -39,6 +35,3 @@ spare-first n l k m c d e f g h = omega arith
 
 pub spare-after : (r s t k m n c d : ℕ) → t + 1 ≡ s → s + 1 ≡ r → n ≡ m + 1 → d ≡ c → r - k ≤ 2 * (c - m) → t - k ≤ 2 * (d - n)
 spare-after r s t k m n c d e f g h l = omega arith
-
-pub within-read : (k n v l : ℕ) → n ≡ v → v ≡ l → k ≤ l → k ≤ n
-within-read k n v l e f h = omega arith

@@ -1,30 +1,27 @@
--- Vectors that levels are moved through, one for each level, as they are made and as one is set.
-use Rattle.std.proofs.Common.{◌≢◌, ◌≡◌, ℕ, ◌+◌, ◌<◌, ◌≤◌, List, [], ◌∷◌, ◌++◌, length, map, get_or, set, sym, ap, ap₂, ◌∙◌, arith}
+-- Lists with a place for each level, as they are made and as one place is set.
+use Rattle.std.proofs.Common.{◌≡◌, ℕ, ◌+◌, ◌<◌, ◌≤◌, List, [], ◌∷◌, ◌++◌, length, get_or, set, inl, inr, ap, ap₂, ◌∙◌, sym, subst, arith}
 use Rattle.std.proofs.Math.Seq.{get_or-append_seam}
-use Rattle.std.proofs.lemmas.List.{length-map, map-append, map-set, get_or-map, get_or-set_other, get_or_append_left}
+use Rattle.std.proofs.lemmas.Bool.{cases_lt}
+use Rattle.std.proofs.lemmas.List.{get_or_append_left, get_or-set_other}
 
--- what is read from the vector of each level
-module _ {R B : Type 0} (read : R → B) (d : B) (rooms : List R) (h : ℕ) (room : R) where
-  -- at a place it is read from the vector of that place
-  pub read-there : h < length rooms → room ≡ get_or rooms h room → get_or (map read rooms) h d ≡ read room
-  read-there within e = get_or-map read rooms h room d within ∙ ap read (sym e)
+module _ {X : Type 0} where
+  -- one more place
+  pub places-more : (P : ℕ → X → Type 0) (xs all : List X) (x : X) (n : ℕ) → length xs ≡ n → all ≡ xs ++ x ∷ [] →
+      ((h : ℕ) (none : X) → h < n → P h (get_or xs h none)) → P n x → (h : ℕ) (none : X) → h < n + 1 → P h (get_or all h none)
+  places-more P xs all x n long is below here h none within =
+      elim (cases_lt h n) [
+        | inl low ↦
+            subst (P h) (sym (ap (λ (ys : List X). get_or ys h none) is ∙ get_or_append_left xs (x ∷ []) none h (omega (arith, low, long)))) (below h none low)
+        | inr high ↦
+            let place : n ≡ h = omega (arith, within, high) in
+            let last : get_or all h none ≡ x = ap₂ (λ (ys : List X) (i : ℕ). get_or ys i none) is (sym (long ∙ place)) ∙ get_or-append_seam xs x [] none in
+            subst (P h) (sym last) (subst (λ (i : ℕ). P i x) place here)
+      ]
 
-  -- at other places it stays when the vector of one place is set
-  pub read-other : (j : ℕ) → j ≢ h → get_or (map read (set rooms h room)) j d ≡ get_or (map read rooms) j d
-  read-other j other = ap (λ (xs : List B). get_or xs j d) (map-set read rooms h room) ∙ get_or-set_other (map read rooms) h j (read room) d other
+  -- the places above one that is set stay as they are
+  pub places-above : (xs : List X) (h : ℕ) (x : X) (j : ℕ) (none : X) → h + 1 ≤ j → get_or (set xs h x) j none ≡ get_or xs j none
+  places-above xs h x j none low = get_or-set_other xs h j x none (λ e. absurd (omega (arith, e, low)))
 
--- what is read once there is one more
-module _ {R B : Type 0} (read : R → B) (d : B) (rooms all : List R) (room : R) (e : all ≡ rooms ++ room ∷ []) where
-  more : map read all ≡ map read rooms ++ read room ∷ []
-  more = ap (map read) e ∙ map-append read rooms (room ∷ [])
-
-  pub read-before : (j : ℕ) → j < length rooms → get_or (map read all) j d ≡ get_or (map read rooms) j d
-  read-before j low = ap (λ (xs : List B). get_or xs j d) more ∙ get_or_append_left (map read rooms) (read room ∷ []) d j (omega (arith, low, length-map rooms read))
-
-  pub read-last : (j : ℕ) → length rooms ≡ j → get_or (map read all) j d ≡ read room
-  read-last j place =
-      ap₂ (λ (xs : List B) (n : ℕ). get_or xs n d) more (sym (length-map rooms read ∙ place)) ∙ get_or-append_seam (map read rooms) (read room) [] d
-
--- the places above one
-pub places-above : (h j : ℕ) → h + 1 ≤ j → (j ≢ h) × (h ≤ j)
-places-above h j low = (λ e. absurd (omega (arith, e, low)), omega arith)
+  -- what was taken from a place that was not set yet
+  pub taken-there : (xs all : List X) (h : ℕ) (m a : X) → a ≡ m → m ≡ get_or xs h m → ((none : X) → get_or xs h none ≡ get_or all h none) → a ≡ get_or all h a
+  taken-there xs all h m a e f same = subst (λ x. x ≡ get_or all h x) (sym e) (f ∙ same m)

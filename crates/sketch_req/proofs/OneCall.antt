@@ -39,7 +39,7 @@ use Rattle.sketch_req.specs.Level.{appended, turns_coin}
 use Rattle.sketch_req.specs.LevelImage.{front_of, front_text, levels_text}
 use Rattle.sketch_req.specs.Redrawn.{redrawn}
 use Rattle.sketch_req.specs.Written.{form_of, is_first_sorted, header_by, ends_of, body_by, image_text}
-use Rattle.sketch_req.proofs.Copies.{layouts-copied}
+use Rattle.sketch_req.proofs.Copies.{items-copied, layouts-copied}
 
 -- what holds of two lists of items pair by pair holds at each place
 zip-at : {A : Type 0} (R : List A → List A → Type 0) (xs ys : List (List A)) (h : ℕ) → h < length xs → AllZip R xs ys → R (level_at xs h) (level_at ys h)
@@ -246,11 +246,6 @@ module _ {A : Type 0} {cmp : A → A → Ordering} (order : IsTotalOrder cmp) wh
   -- ---- images
 
   module _ {spelling : A → Option (List ℕ)} (tied : TiesSpellOne cmp spelling) where
-    same-items_in : (ls ms : List (Level A)) → AllZip (IsSameLevel cmp) ls ms → SameItems cmp (items_in ls) (items_in ms)
-    same-items_in [] [] c = tt
-    same-items_in (l ∷ ls) (m ∷ ms) c = SameItems-append cmp l.items m.items _ _ c.0.items (same-items_in ls ms c.1)
-    same-items_in _ _ c = absurd c
-
     same-levels_text : (ls ms : List (Level A)) → AllZip (IsSameLevel cmp) ls ms → levels_text spelling ls ≡ levels_text spelling ms
     same-levels_text [] [] c = refl
     same-levels_text (l ∷ ls) (m ∷ ms) c =
@@ -281,6 +276,6 @@ module _ {A : Type 0} {cmp : A → A → Ordering} (order : IsTotalOrder cmp) wh
 
         body : (f : Form) → body_by spelling f s ≡ body_by spelling f t
         body Empty = refl
-        body Raw = same-text tied (items_in s.levels) (items_in t.levels) (same-items_in s.levels t.levels c.levels)
+        body Raw = same-text tied (items_in s.levels) (items_in t.levels) (items-copied order s.levels t.levels c.levels)
         body One = same-levels_text s.levels t.levels c.levels
         body Several = rw (c.n, same-text tied (ends_of s) (ends_of t) ends, same-levels_text s.levels t.levels c.levels) refl

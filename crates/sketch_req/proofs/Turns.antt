@@ -1,16 +1,16 @@
 -- The turns of a walk: what a level gives up is pending until the turn of the level above.
-use Rattle.std.proofs.lemmas.Grind.{common_steps}
-use Rattle.std.proofs.Common.{◌≡◌, ℕ, zero, suc, ◌+◌, ◌-◌, ◌/◌, ◌<◌, ◌≤◌, ◌&&◌, ◌^◌, Bool, true, false, if◌then◌else◌, List, [], ◌∷◌, ◌++◌, length, get_or, set, length-set, refl, sym, ap, ap₂, ◌∙◌, subst, arith, Ordering, le-leb, leb-true, leb-false}
+use Rattle.std.proofs.Common.{◌≡◌, ℕ, zero, suc, ◌+◌, ◌-◌, ◌/◌, ◌<◌, ◌≤◌, ◌&&◌, ◌^◌, Bool, true, false, if◌then◌else◌, List, [], ◌∷◌, ◌++◌, length, get_or, set, length-set, refl, sym, ap, ap₂, ◌∙◌, subst, arith, Ordering, le-leb, leb-true, leb-false, Vec, Global, ◌*◌}
 use Rattle.std.specs.Cmp.{IsTotalOrder}
 use Rattle.std.proofs.lemmas.Bool.{lt-leb, ne_eqb}
 use Rattle.std.proofs.lemmas.List.{get_or-set_same}
-use Rattle.sketch_req.specs.Level.{Level, IsLevel, IsCompacted, IsTakenIn, IsTurned, coin_of, draws_coin, is_full_with, nominal_of, with_coming, fresh}
+use Rattle.sketch_req.specs.Arriving.{HasRoom}
+use Rattle.sketch_req.specs.Level.{Level, IsLevel, IsCompacted, IsTakenIn, IsTurned, coin_of, draws_coin, is_full_with, nominal_of, taken_count, with_coming, fresh}
 use Rattle.sketch_req.specs.Schedule.{Layout, layout_of, layouts_of, layout_at, is_full, taken, retained_of, steps_actions, steps_layouts, weight_of}
 use Rattle.sketch_req.specs.Sections.{IsLegalK}
-use Rattle.sketch_req.specs.Walk.{AreLevels, AreWalked, IsPlaced, own_space, taken_if_full}
+use Rattle.sketch_req.specs.Walk.{AreLevels, AreWalked, IsPlaced, taken_if_full}
 use Rattle.sketch_req.specs.declared.RankAccuracy.{RankAccuracy}
 use Rattle.sketch_req.proofs.Comings.{coin-coming, coming-sound, coming-taken, length-coming, nominal-coming}
-use Rattle.sketch_req.proofs.ReservedWalks.{count-within, own-nothing}
+use Rattle.sketch_req.proofs.ReservedWalks.{count-within}
 use Rattle.sketch_req.proofs.WalkSteps.{comes-up, coins-there, gives_up-there, length-taken_in, length-up, opened, placed-new, raised, stepped}
 use Rattle.sketch_req.proofs.Walks.{acted-full, acted-none, acted-start, is-full-there, step-low, walked-more}
 
@@ -37,39 +37,40 @@ module _ {A S : Type 0} {cmp : A → A → Ordering} (order : IsTotalOrder cmp) 
   abbrev pub IsWalked : ℕ → S → List (Level A) → Type 0
   IsWalked n now ls = AreWalked cmp bit next source now k accuracy (steps_actions k accuracy n 0 (layouts_of start)) (steps_layouts k n 0 (layouts_of start)) start ls
 
-  -- items that come up to the next level, if there are any;
-  -- `spaces` are those of the levels' buffers, and `most` is how many items a vector has space for
-  pub record IsPending (spaces : List ℕ) (most n : ℕ) (now : S) (ls : List (Level A)) (coming : List A) : Type 0 where
+  -- room for what a walk takes from level n, in the level above
+  abbrev HasRise : ℕ → Vec A Global → Type 0
+  HasRise n room = let now = steps_layouts k n 0 (layouts_of start) in let up = taken_if_full k (layout_at now n) / 2 in 0 < up → HasRoom (layout_at now (suc n)).count up room
+
+  -- items that come up to the next level, if there are any, and the room for them there
+  pub record IsPending (n : ℕ) (now : S) (ls : List (Level A)) (coming : List A) (room : Vec A Global) : Type 0 where
     pub none : coming ≡ [] → IsWalked n now ls
     pub some : 0 < length coming → (h : ℕ) → n ≡ h + 1 → (upper u : Level A) → upper ≡ get_or (raised k accuracy h ls) (h + 1) upper → IsTakenIn cmp upper coming u → IsLevel cmp u →
         IsWalked n now (set (raised k accuracy h ls) (h + 1) u)
     pub few : 0 < length coming → (h : ℕ) → n ≡ h + 1 → (upper : Level A) → upper ≡ get_or (raised k accuracy h ls) (h + 1) upper →
         length upper.items + length coming ≤ retained_of (layouts_of start)
-    pub own : 0 < length coming → (h : ℕ) → n ≡ h + 1 → h + 1 < length (layouts_of start) → (upper : Level A) → upper ≡ get_or (raised k accuracy h ls) (h + 1) upper →
-        own_space (length coming) (layout_of upper) ≤ get_or spaces (h + 1) 0
-    pub short : length coming ≤ most
+    pub own : 0 < length coming → (h : ℕ) → n ≡ h + 1 → (upper : Level A) → upper ≡ get_or (raised k accuracy h ls) (h + 1) upper →
+        HasRoom (length upper.items) (length coming) room
     pub low : 0 < length coming → n ≤ 60
     pub first : n ≡ 0 → coming ≡ []
     pub placed : AreLevels cmp k accuracy 0 ls
 
   -- the level whose turn it is, with what comes up, among the others
-  pub record IsReady (spaces : List ℕ) (n : ℕ) (now : S) (ls : List (Level A)) (old : Level A) (coming : List A) : Type 0 where
+  pub record IsReady (n : ℕ) (now : S) (ls : List (Level A)) (old : Level A) (coming : List A) (room : Vec A Global) : Type 0 where
     pub all : List (Level A)
     pub walked : IsWalked n now all
     pub within : n < length all
     pub there : with_coming cmp old coming ≡ get_or all n (with_coming cmp old coming)
     pub after : (new : Level A) → set all n new ≡ set ls n new
     pub few : length old.items + length coming ≤ retained_of (layouts_of start)
-    pub own : n < length (layouts_of start) → own_space (length coming) (layout_of old) ≤ get_or spaces n 0
+    pub own : 0 < length coming → HasRoom (length old.items) (length coming) room
 
   -- at the start
-  pub pending-start : (spaces : List ℕ) (most : ℕ) (coming : List A) → coming ≡ [] → AreLevels cmp k accuracy 0 start → IsPending spaces most 0 source start coming
-  pending-start spaces most coming none placed = record {
+  pub pending-start : (coming : List A) (room : Vec A Global) → coming ≡ [] → AreLevels cmp k accuracy 0 start → IsPending 0 source start coming room
+  pending-start coming room none placed = record {
     none = λ e. acted-start order bit next source k accuracy start placed;
     some = λ s. absurd (omega (arith, s, ap length none));
     few = λ s. absurd (omega (arith, s, ap length none));
     own = λ s. absurd (omega (arith, s, ap length none));
-    short = omega (arith, ap length none);
     low = λ s. absurd (omega (arith, s, ap length none));
     first = λ e. none;
     placed = placed;
@@ -78,9 +79,9 @@ module _ {A S : Type 0} {cmp : A → A → Ordering} (order : IsTotalOrder cmp) 
   raised-below : (h : ℕ) (ls : List (Level A)) → h + 1 < length ls → raised k accuracy h ls ≡ ls
   raised-below h ls l = ap (λ (b : Bool). if b then ls ++ fresh [] true (h + 1) k accuracy ∷ [] else ls) (ne_eqb (h + 1) (length ls) (λ e. absurd (omega (arith, e, l))))
 
-  pub is-ready : (spaces : List ℕ) (most n : ℕ) (now : S) (ls : List (Level A)) (old : Level A) (coming : List A) → retained_of (layouts_of start) < 2 ^ 32 → IsPending spaces most n now ls coming → n < length ls →
-      old ≡ get_or ls n old → IsReady spaces n now ls old coming
-  is-ready spaces most n now ls old [] small p within e =
+  pub is-ready : (n : ℕ) (now : S) (ls : List (Level A)) (old : Level A) (coming : List A) (room : Vec A Global) → retained_of (layouts_of start) < 2 ^ 32 → IsPending n now ls coming room →
+      n < length ls → old ≡ get_or ls n old → IsReady n now ls old coming room
+  is-ready n now ls old [] room small p within e =
       let w = p.none refl in
       let o = opened k accuracy n ls old p.placed within e in
       record {
@@ -90,10 +91,10 @@ module _ {A S : Type 0} {cmp : A → A → Ordering} (order : IsTotalOrder cmp) 
         there = e;
         after = λ new. refl;
         few = omega (arith, w.acted.fewer, count-within n (layouts_of ls), ap (λ (l : Layout). l.count) o.layout);
-        own = λ s. omega (arith, own-nothing (layout_of old));
+        own = λ s. absurd (omega (arith, s));
       }
-  is-ready spaces most zero now ls old (x ∷ more) small p within e = absurd (omega (arith, ap length (p.first refl)))
-  is-ready spaces most (suc h) now ls old (x ∷ more) small p within e =
+  is-ready zero now ls old (x ∷ more) room small p within e = absurd (omega (arith, ap length (p.first refl)))
+  is-ready (suc h) now ls old (x ∷ more) room small p within e =
       let coming : List A = x ∷ more in
       let some : 0 < length coming = omega arith in
       let one : suc h ≡ h + 1 = omega arith in
@@ -112,31 +113,43 @@ module _ {A S : Type 0} {cmp : A → A → Ordering} (order : IsTotalOrder cmp) 
         there = sym (get_or-set_same ls (suc h) mid mid within);
         after = λ new. set-twice ls (suc h) mid new;
         few = few;
-        own = λ low. rw one (p.own some h one (omega (arith, low)) old upper);
+        own = λ s. p.own some h one old upper;
       }
 
   -- items come up only above level 0
-  pub pending-above : (spaces : List ℕ) (most n : ℕ) (now : S) (ls : List (Level A)) (coming : List A) → IsPending spaces most n now ls coming → 0 < length coming → n ≡ (n - 1) + 1
-  pending-above spaces most zero now ls coming p some = absurd (omega (arith, some, ap length (p.first refl)))
-  pending-above spaces most (suc n) now ls coming p some = omega arith
+  pub pending-above : (n : ℕ) (now : S) (ls : List (Level A)) (coming : List A) (room : Vec A Global) → IsPending n now ls coming room → 0 < length coming → n ≡ (n - 1) + 1
+  pending-above zero now ls coming room p some = absurd (omega (arith, some, ap length (p.first refl)))
+  pending-above (suc n) now ls coming room p some = omega arith
 
   -- a level that is full with what comes up is full among the others
-  ready-full : (spaces : List ℕ) (n : ℕ) (now : S) (ls : List (Level A)) (old : Level A) (coming : List A) (r : IsReady spaces n now ls old coming) → nominal_of old ≤ length old.items + length coming →
-      is_full k (layout_at (layouts_of r.all) n) ≡ true
-  ready-full spaces n now ls old coming r full =
+  ready-full : (n : ℕ) (now : S) (ls : List (Level A)) (old : Level A) (coming : List A) (room : Vec A Global) (r : IsReady n now ls old coming room) →
+      nominal_of old ≤ length old.items + length coming → is_full k (layout_at (layouts_of r.all) n) ≡ true
+  ready-full n now ls old coming room r full =
       let mid : Level A = with_coming cmp old coming in
       is-full-there cmp k accuracy n r.all mid (length mid.items) (nominal_of mid) r.walked.acted.placed r.within r.there refl refl
       ∙ le-leb (nominal_of mid) (length mid.items) (omega (arith, full, length-coming order old coming, nominal-coming order old coming))
 
-  -- there is room for all that it then holds
-  pub ready-held : (spaces : List ℕ) (n most : ℕ) (now : S) (ls : List (Level A)) (old : Level A) (coming : List A) → IsReady spaces n now ls old coming →
-      (layout_at (steps_layouts k n 0 (layouts_of start)) n).count ≤ most → length old.items + length coming ≤ most
-  ready-held spaces n most now ls old coming r fit = grind (arith, common_steps, opened, length-coming)
+  -- how many items a walk takes from the level among the others
+  taken-there : (n : ℕ) (now : S) (ls : List (Level A)) (old : Level A) (coming : List A) (room : Vec A Global) → IsReady n now ls old coming room → nominal_of old ≤ length old.items + length coming →
+      taken_if_full k (layout_at (steps_layouts k n 0 (layouts_of start)) n) ≡ taken k (layout_of (with_coming cmp old coming))
+  taken-there n now ls old coming room r full =
+      let o = opened k accuracy n r.all (with_coming cmp old coming) r.walked.acted.placed r.within r.there in
+      ap (λ (l : List Layout). taken_if_full k (layout_at l n)) (sym r.walked.acted.layouts_are)
+      ∙ (ap (λ (b : Bool). if b then taken k (layout_at (layouts_of r.all) n) else 0) (ready-full n now ls old coming room r full) ∙ ap (taken k) o.layout)
+
+  -- there is room for what it then gives up
+  pub ready-up : (n space : ℕ) (now : S) (ls : List (Level A)) (old : Level A) (coming : List A) (room : Vec A Global) → IsReady n now ls old coming room →
+      taken_if_full k (layout_at (steps_layouts k n 0 (layouts_of start)) n) / 2 ≤ space → is_full_with old coming ≡ true → taken_count (with_coming cmp old coming) ≤ 2 * space
+  ready-up n space now ls old coming room r fits full =
+      let more = leb-true _ _ full in
+      let o = opened k accuracy n r.all (with_coming cmp old coming) r.walked.acted.placed r.within r.there in
+      let g = gives_up-there order k accuracy n r.all (with_coming cmp old coming) o (ready-full n now ls old coming room r more) in
+      omega (arith, g.count, g.even, fits, taken-there n now ls old coming room r more)
 
   -- a level that isn't full at its turn
-  settled : (spaces : List ℕ) (most n : ℕ) (now : S) (ls : List (Level A)) (new : Level A) → IsWalked n now (set ls n new) → n < length ls → length new.items < nominal_of new →
-      IsPending spaces most (n + 1) now (set ls n new) []
-  settled spaces most n now ls new w l less =
+  settled : (n : ℕ) (now : S) (ls : List (Level A)) (new : Level A) (room : Vec A Global) → IsWalked n now (set ls n new) → n < length ls → length new.items < nominal_of new →
+      IsPending (n + 1) now (set ls n new) [] room
+  settled n now ls new room w l less =
       let within : n < length (set ls n new) = rw (length-set ls n new) l in
       let there : new ≡ get_or (set ls n new) n new = sym (get_or-set_same ls n new new l) in
       let full = is-full-there cmp k accuracy n (set ls n new) new (length new.items) (nominal_of new) w.acted.placed within there refl refl ∙ lt-leb (nominal_of new) (length new.items) less in
@@ -145,65 +158,61 @@ module _ {A S : Type 0} {cmp : A → A → Ordering} (order : IsTotalOrder cmp) 
         some = λ s. absurd (omega (arith, s));
         few = λ s. absurd (omega (arith, s));
         own = λ s. absurd (omega (arith, s));
-        short = omega arith;
         low = λ s. absurd (omega (arith, s));
         first = λ e. refl;
         placed = w.acted.placed;
       }
 
-  settled-turn : (spaces : List ℕ) (most n : ℕ) (now : S) (ls : List (Level A)) (old new : Level A) (coming : List A) → IsPending spaces most n now ls coming → n < length ls → old ≡ get_or ls n old →
-      length old.items + length coming < nominal_of old → (coming ≡ [] → new ≡ old) → (0 < length coming → IsTakenIn cmp old coming new) → IsLevel cmp new → IsPending spaces most (n + 1) now (set ls n new) []
-  settled-turn spaces most n now ls old new [] p within there less kept taken sound =
+  settled-turn : (n : ℕ) (now : S) (ls : List (Level A)) (old new : Level A) (coming : List A) (room above : Vec A Global) → IsPending n now ls coming room → n < length ls → old ≡ get_or ls n old →
+      length old.items + length coming < nominal_of old → (coming ≡ [] → new ≡ old) → (0 < length coming → IsTakenIn cmp old coming new) → IsLevel cmp new →
+      IsPending (n + 1) now (set ls n new) [] above
+  settled-turn n now ls old new [] room above p within there less kept taken sound =
       let same : new ≡ old = kept refl in
       let all : ls ≡ set ls n new = sym (ap (set ls n) same ∙ set-there ls n old within there) in
-      settled spaces most n now ls new (subst (λ (l : List (Level A)). IsWalked n now l) all (p.none refl)) within (rw same (omega (arith, less)))
-  settled-turn spaces most zero now ls old new (x ∷ more) p within there less kept taken sound = absurd (omega (arith, ap length (p.first refl)))
-  settled-turn spaces most (suc h) now ls old new (x ∷ more) p within there less kept taken sound =
+      settled n now ls new above (subst (λ (l : List (Level A)). IsWalked n now l) all (p.none refl)) within (rw same (omega (arith, less)))
+  settled-turn zero now ls old new (x ∷ more) room above p within there less kept taken sound = absurd (omega (arith, ap length (p.first refl)))
+  settled-turn (suc h) now ls old new (x ∷ more) room above p within there less kept taken sound =
       let some : 0 < length (x ∷ more) = omega arith in
       let one : suc h ≡ h + 1 = omega arith in
       let same : raised k accuracy h ls ≡ ls = raised-below h ls (omega (arith, within)) in
       let upper : old ≡ get_or (raised k accuracy h ls) (h + 1) old = there ∙ ap₂ (λ (l : List (Level A)) (i : ℕ). get_or l i old) (sym same) one in
       let t = taken some in
       let place : set (raised k accuracy h ls) (h + 1) new ≡ set ls (suc h) new = ap₂ (λ (l : List (Level A)) (i : ℕ). set l i new) same (sym one) in
-      settled spaces most (suc h) now ls new (subst (λ (l : List (Level A)). IsWalked (suc h) now l) place (p.some some h one old new upper t sound)) within
+      settled (suc h) now ls new above (subst (λ (l : List (Level A)). IsWalked (suc h) now l) place (p.some some h one old new upper t sound)) within
       (omega (arith, less, length-taken_in old new (x ∷ more) t, ap (λ (l : Level A). nominal_of l) t.rest_is))
 
   -- a level that is full at its turn
-  compacted-turn : (spaces : List ℕ) (n most : ℕ) (now after : S) (ls : List (Level A)) (old new : Level A) (coming up : List A) → IsReady spaces n now ls old coming → AreLevels cmp k accuracy 0 ls →
-      weight_of (layouts_of start) < 2 ^ 64 → IsLegalK k → (layout_at (steps_layouts k n 0 (layouts_of start)) n).count ≤ most →
-      (suc n < length (layouts_of start) → let now = steps_layouts k n 0 (layouts_of start) in own_space (taken_if_full k (layout_at now n) / 2) (layout_at now (suc n)) ≤ get_or spaces (suc n) 0) →
+  compacted-turn : (n : ℕ) (now after : S) (ls : List (Level A)) (old new : Level A) (coming up : List A) (room above : Vec A Global) → IsReady n now ls old coming room → AreLevels cmp k accuracy 0 ls →
+      weight_of (layouts_of start) < 2 ^ 64 → IsLegalK k → HasRise n above →
       nominal_of old ≤ length old.items + length coming → IsCompacted cmp (with_coming cmp old coming) (coin_of old (bit now)) up new → IsLevel cmp new →
-      after ≡ (if draws_coin (with_coming cmp old coming) then next now else now) → IsPending spaces most (n + 1) after (set ls n new) up
-  compacted-turn spaces n most now after ls old new coming up r placed fits legal held space full c sound coins =
+      after ≡ (if draws_coin (with_coming cmp old coming) then next now else now) → IsPending (n + 1) after (set ls n new) up above
+  compacted-turn n now after ls old new coming up room above r placed fits legal space full c sound coins =
       let mid : Level A = with_coming cmp old coming in
       let levels = r.walked.acted.placed in
-      let is = ready-full spaces n now ls old coming r full in
+      let is = ready-full n now ls old coming room r full in
       let o = opened k accuracy n r.all mid levels r.within r.there in
       let g = gives_up-there order k accuracy n r.all mid o is in
       let c' : IsCompacted cmp mid (coin_of mid (bit now)) up new = subst (λ (b : Bool). IsCompacted cmp mid b up new) (sym (coin-coming order old coming (bit now))) c in
       let counts = length-up k mid new (coin_of mid (bit now)) up g c' in
       let some : 2 ≤ length up = omega (arith, counts.1, g.some) in
       let low = step-low order k accuracy n r.all mid legal levels r.within r.there is (omega (arith, r.walked.acted.weigh, fits)) in
-      let above : List (Level A) = raised k accuracy n (set ls n new) in
-      let is-above : above ≡ raised k accuracy n (set r.all n new) = ap (raised k accuracy n) (sym (r.after new)) in
-      let rise : (upper u : Level A) → upper ≡ get_or above (n + 1) upper → IsTakenIn cmp upper up u → IsLevel cmp u → IsWalked (n + 1) after (set above (n + 1) u) = λ upper u e t s.
-      let step = stepped order k accuracy n (bit now) r.all above mid new upper u up levels r.within is r.there is-above e c' t sound s in
+      let higher : List (Level A) = raised k accuracy n (set ls n new) in
+      let is-above : higher ≡ raised k accuracy n (set r.all n new) = ap (raised k accuracy n) (sym (r.after new)) in
+      let rise : (upper u : Level A) → upper ≡ get_or higher (n + 1) upper → IsTakenIn cmp upper up u → IsLevel cmp u → IsWalked (n + 1) after (set higher (n + 1) u) = λ upper u e t s.
+      let step = stepped order k accuracy n (bit now) r.all higher mid new upper u up levels r.within is r.there is-above e c' t sound s in
       let drawn = coins-there order k accuracy n r.all mid now (next now) after levels r.within is r.there coins in
-      walked-more order bit next source now after k accuracy n start r.all (set above (n + 1) u) r.walked
-      (acted-full order bit next now after k accuracy n r.all (set above (n + 1) u) mid levels r.within r.there is step drawn) in
-      let comes = λ (upper : Level A) (e : upper ≡ get_or above (n + 1) upper). comes-up order k accuracy n r.all above mid new upper (coin_of mid (bit now)) up levels r.within is r.there is-above e c' in
-      let few : (upper : Level A) → upper ≡ get_or above (n + 1) upper → length upper.items + length up ≤ retained_of (layouts_of start) = λ upper e.
+      walked-more order bit next source now after k accuracy n start r.all (set higher (n + 1) u) r.walked
+      (acted-full order bit next now after k accuracy n r.all (set higher (n + 1) u) mid levels r.within r.there is step drawn) in
+      let comes = λ (upper : Level A) (e : upper ≡ get_or higher (n + 1) upper). comes-up order k accuracy n r.all higher mid new upper (coin_of mid (bit now)) up levels r.within is r.there is-above e c' in
+      let few : (upper : Level A) → upper ≡ get_or higher (n + 1) upper → length upper.items + length up ≤ retained_of (layouts_of start) = λ upper e.
       omega (arith, (comes upper e).2, r.walked.acted.fewer) in
-      let taken_is : length up ≡ taken_if_full k (layout_at (layouts_of r.all) n) / 2 = counts.1
-      ∙ ap (λ (m : ℕ). m / 2) (sym (ap (λ (b : Bool). if b then taken k (layout_at (layouts_of r.all) n) else 0) is ∙ ap (taken k) o.layout)) in
-      let own : suc n < length (layouts_of start) → (upper : Level A) → upper ≡ get_or above (n + 1) upper → own_space (length up) (layout_of upper) ≤ get_or spaces (n + 1) 0 = λ more upper e.
+      let came : length up ≡ taken_if_full k (layout_at (steps_layouts k n 0 (layouts_of start)) n) / 2 = counts.1
+      ∙ ap (λ (m : ℕ). m / 2) (sym (taken-there n now ls old coming room r full)) in
+      let own : (upper : Level A) → upper ≡ get_or higher (n + 1) upper → HasRoom (length upper.items) (length up) above = λ upper e.
       let one : suc n ≡ n + 1 = omega arith in
-      let same = r.walked.acted.layouts_are in
-      let needs : own_space (length up) (layout_of upper)
-      ≡ own_space (taken_if_full k (layout_at (steps_layouts k n 0 (layouts_of start)) n) / 2) (layout_at (steps_layouts k n 0 (layouts_of start)) (suc n)) =
-      ap₂ (λ (m : ℕ) (l : Layout). own_space m l) (taken_is ∙ ap (λ (ls : List Layout). taken_if_full k (layout_at ls n) / 2) same)
-      ((comes upper e).0 ∙ ap₂ (λ (ls : List Layout) (i : ℕ). layout_at ls i) same (sym one)) in
-      omega (arith, needs, space more, ap (λ (i : ℕ). get_or spaces i 0) one) in
+      let count : length upper.items ≡ (layout_at (steps_layouts k n 0 (layouts_of start)) (suc n)).count =
+      ap (λ (l : Layout). l.count) ((comes upper e).0 ∙ ap₂ (λ (ls : List Layout) (i : ℕ). layout_at ls i) r.walked.acted.layouts_are (sym one)) in
+      rw (count, came) (space (omega (arith, came, some))) in
       let zero_n : 0 + n ≡ n = omega arith in
       record {
         none = λ e. absurd (omega (arith, some, ap length e));
@@ -211,9 +220,7 @@ module _ {A S : Type 0} {cmp : A → A → Ordering} (order : IsTotalOrder cmp) 
             IsWalked (n + 1) after (set (raised k accuracy m (set ls n new)) (m + 1) u)) (same-place h q) rise;
         few = λ s h q. subst (λ (m : ℕ). (upper : Level A) → upper ≡ get_or (raised k accuracy m (set ls n new)) (m + 1) upper → length upper.items + length up ≤ retained_of (layouts_of start))
             (same-place h q) few;
-        own = λ s h q more. subst (λ (m : ℕ). (upper : Level A) → upper ≡ get_or (raised k accuracy m (set ls n new)) (m + 1) upper →
-            own_space (length up) (layout_of upper) ≤ get_or spaces (m + 1) 0) (same-place h q) (own (omega (arith, q, more)));
-        short = omega (arith, counts.1, g.within, ready-held spaces n most now ls old coming r held, length-coming order old coming);
+        own = λ s h q. subst (λ (m : ℕ). (upper : Level A) → upper ≡ get_or (raised k accuracy m (set ls n new)) (m + 1) upper → HasRoom (length upper.items) (length up) above) (same-place h q) own;
         low = λ s. omega (arith, low);
         first = λ e. absurd (omega (arith, e));
         placed = placed-set cmp k accuracy 0 n ls new placed
@@ -224,19 +231,17 @@ module _ {A S : Type 0} {cmp : A → A → Ordering} (order : IsTotalOrder cmp) 
       same-place h q = omega (arith, q)
 
   -- the next turn
-  pub next-pending : (spaces : List ℕ) (n most : ℕ) (now after : S) (ls : List (Level A)) (old new : Level A) (coming up : List A) → retained_of (layouts_of start) < 2 ^ 32 →
-      IsPending spaces most n now ls coming → n < length ls → old ≡ get_or ls n old → weight_of (layouts_of start) < 2 ^ 64 → IsLegalK k →
-      (layout_at (steps_layouts k n 0 (layouts_of start)) n).count ≤ most →
-      (suc n < length (layouts_of start) → let now = steps_layouts k n 0 (layouts_of start) in own_space (taken_if_full k (layout_at now n) / 2) (layout_at now (suc n)) ≤ get_or spaces (suc n) 0) →
+  pub next-pending : (n : ℕ) (now after : S) (ls : List (Level A)) (old new : Level A) (coming up : List A) (room above : Vec A Global) → retained_of (layouts_of start) < 2 ^ 32 →
+      IsPending n now ls coming room → n < length ls → old ≡ get_or ls n old → weight_of (layouts_of start) < 2 ^ 64 → IsLegalK k → HasRise n above →
       IsTurned cmp old coming (bit now) up new → IsLevel cmp new →
-      after ≡ (if is_full_with old coming && draws_coin (with_coming cmp old coming) then next now else now) → IsPending spaces most (n + 1) after (set ls n new) up
-  next-pending spaces n most now after ls old new coming up small p within there fits legal held space t sound coins = go (is_full_with old coming) refl
+      after ≡ (if is_full_with old coming && draws_coin (with_coming cmp old coming) then next now else now) → IsPending (n + 1) after (set ls n new) up above
+  next-pending n now after ls old new coming up room above small p within there fits legal space t sound coins = go (is_full_with old coming) refl
     where
-      go : (b : Bool) → is_full_with old coming ≡ b → IsPending spaces most (n + 1) after (set ls n new) up
+      go : (b : Bool) → is_full_with old coming ≡ b → IsPending (n + 1) after (set ls n new) up above
       go true e =
-          compacted-turn spaces n most now after ls old new coming up (is-ready spaces most n now ls old coming small p within there) p.placed fits legal held space
+          compacted-turn n now after ls old new coming up room above (is-ready n now ls old coming room small p within there) p.placed fits legal space
           (leb-true _ _ e) (t.full e) sound (rw e at coins)
       go false e =
-          let rest = settled-turn spaces most n now ls old new coming p within there (leb-false _ _ e) (t.kept e) (t.taken_in e) sound in
+          let rest = settled-turn n now ls old new coming room above p within there (leb-false _ _ e) (t.kept e) (t.taken_in e) sound in
           let still : now ≡ after = sym (rw e at coins) in
-          subst (λ (s : S). IsPending spaces most (n + 1) s (set ls n new) up) still (subst (λ (xs : List A). IsPending spaces most (n + 1) now (set ls n new) xs) (sym (t.nothing_up e)) rest)
+          subst (λ (s : S). IsPending (n + 1) s (set ls n new) up above) still (subst (λ (xs : List A). IsPending (n + 1) now (set ls n new) xs above) (sym (t.nothing_up e)) rest)

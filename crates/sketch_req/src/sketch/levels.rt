@@ -173,18 +173,15 @@ impl<T: Clone + Ord> Levels<T> {
         ensures err { OnErr result ((self.new ≡ self.old) × (coins.new ≡ coins.old)) }
     {
         let (alloc, more) = (*self.compactors.allocator(), others.compactors.as_slice());
-        let mut clones = clone_items(alloc, self.compactors.as_slice(), more)?;
-        let mut buffers = reserve(alloc, self.compactors.as_slice(), more, 0)?;
+        let lists = clone_items(alloc, self.compactors.as_slice(), more)?;
+        let ups = reserve(alloc, self.compactors.as_slice(), more, 0)?;
         let new = more.len().saturating_sub(self.compactors.len());
         self.compactors.reserve_exact(new + 1)?;
-        let (room, spare) = (&mut buffers.up, &mut buffers.coming);
-        join_levels(&mut self.compactors, more, &mut clones, room, spare);
-        buffers.coming.clear();
-        buffers.up.clear();
+        join_levels(&mut self.compactors, more, lists);
         redraw_if(redraws, &mut self.compactors, coins);
         let (num_retained, capacity) = sums(self.compactors.as_slice());
         if num_retained >= capacity {
-            walk(&mut self.compactors, &mut buffers, coins);
+            walk(&mut self.compactors, ups, coins);
         }
         give_back(&mut self.compactors, 0);
         (self.num_retained, self.capacity) = sums(self.compactors.as_slice());

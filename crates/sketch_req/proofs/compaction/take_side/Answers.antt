@@ -20,5 +20,4 @@ returns-in-HighRank g c =
           (same_items c.reverse-in-HighRank.ensures.items (same_items (ap reverse c.move_half.ensures.kept) parts.0));
       moved = subst (λ (a : RankAccuracy). c.move_half.new.out.items ≡ half c.args.odd (side_taken a c.args.count xs)) (sym c.in-HighRank.is)
           (sym (same_items (half_reverse c.args.odd (take c.args.count xs) even) out));
-      capacity = c.move_half.ensures.capacity;
     }

@@ -4,12 +4,12 @@ ghost use Rattle.std.specs.Prelude.{◌≡◌, ℕ, ◌+◌, ◌*◌, ◌-◌, �
 ghost use Rattle.std.specs.declared.cmp.Ordering.TheVariants.{Equal};
 ghost use Rattle.sketch_base.specs.declared.error.ErrorKind.TheVariants.{OutOfMemory};
 ghost use Rattle.sketch_req.specs.Level.{fresh};
-ghost use Rattle.sketch_req.specs.Schedule.{layouts_of, layout_at, filled, joined_layouts, retained_of, weight_of};
+ghost use Rattle.sketch_req.specs.Schedule.{layouts_of, layout_at, joined_layouts, retained_of, weight_of};
 ghost use Rattle.sketch_req.specs.Sections.{IsLegalK};
-ghost use Rattle.sketch_req.specs.Walk.{AreHeld, HaveSpace, AreWalkedOver, accuracy_of, appended_first, k_of, spaces_of, taken_if_full, with_more};
+ghost use Rattle.sketch_req.specs.Walk.{AreHeld, HaveSpace, AreWalkedOver, accuracy_of, appended_first, holding, k_of, taken_if_full, with_more};
 
 use crate::RankAccuracy;
-use crate::compactor::Compactor;
+use crate::compactor::{Arrivals, Compactor};
 use sketch_base::common::random::RandomBits;
 use sketch_base::error::Error;
 use std::alloc::{AllocError, Global};
@@ -24,75 +24,54 @@ pub(super) fn count_at<T: Clone + Ord>(levels: &[Compactor<T>], level: usize) ->
     }
 }
 
-/// Returns the number of items that a walk takes from a level, after any other level at the same
-/// place is joined in and `coming` items come up. If the sketch lacks the level, `blank` takes its
-/// place.
+/// Returns the number of items that a walk takes from a level if it then holds `len`, after any other
+/// level at the same place was joined in. If the sketch lacks the level, `blank` takes its place.
 fn count_to_take_at<T: Clone + Ord>(
     levels: &[Compactor<T>],
     others: &[Compactor<T>],
     level: usize,
-    coming: usize,
+    len: usize,
     blank: &Compactor<T>,
 ) -> usize
     requires levels { AreHeld T.cmp levels.now }
-    requires few { (layout_at (layouts_of levels.now) level).count
-        + (layout_at (layouts_of others.now) level).count + coming < 2 ^ 32 }
     requires blank { blank.now ≡ fresh [] true 0 (k_of levels.now) (accuracy_of levels.now) }
-    ensures { result ≡ taken_if_full (k_of levels.now) (filled coming (layout_at (joined_layouts
+    ensures { result ≡ taken_if_full (k_of levels.now) (holding len (layout_at (joined_layouts
         (k_of levels.now) (layouts_of levels.now) (layouts_of others.now)) level)) }
 {
     let own = levels.get(level).unwrap_or(blank);
     match others.get(level) {
-        Some(other) => own.count_to_take_joined(other, coming),
-        None => own.count_to_take_with(coming),
+        Some(other) => own.count_if_joined(other, len),
+        None => own.count_if_full(len),
     }
 }
 
-/// The vectors that a walk moves items through: what comes up to a level, what goes up from it, and
-/// for each level one that takes its items with those that come up.
-#[derive(Debug, Drop)]
-pub(super) struct WalkBuffers<T> {
-    pub(super) coming: Vec<T>,
-    pub(super) up: Vec<T>,
-    pub(super) merged: Vec<Vec<T>>,
-}
-
-/// Makes the buffers for a walk, if other levels are joined in first or `more` items come into
-/// level 0. What goes up has space for all that a level holds.
+/// Makes room for a walk, if other levels are joined in first or `more` items come into level 0: for
+/// each level, what goes up from it as it arrives in the level above.
 pub(super) fn reserve<T: Clone + Ord>(
     alloc: Global,
     levels: &[Compactor<T>],
     others: &[Compactor<T>],
     more: usize,
-) -> Result<WalkBuffers<T>, AllocError>
+) -> Result<Vec<Arrivals<T>>, AllocError>
     requires levels { AreHeld T.cmp levels.now }
     requires few { retained_of (layouts_of levels.now) + retained_of (layouts_of others.now) + more
         < 2 ^ 32 }
-    ensures empty { IfOk result (λ b. b.coming.items ≡ []) }
-    ensures nothing { IfOk result (λ b. b.up.items ≡ []) }
-    ensures above { IfOk result (λ b. vec_capacity b.coming ≤ vec_capacity b.up) }
-    ensures joined { IfOk result (λ b. (h : ℕ) → (layout_at (joined_layouts (k_of levels.now)
-        (layouts_of levels.now) (layouts_of others.now)) h).count ≤ vec_capacity b.coming) }
-    ensures fit { IfOk result (λ b. HaveSpace (k_of levels.now) (with_more more (joined_layouts
-        (k_of levels.now) (layouts_of levels.now) (layouts_of others.now)))
-        (spaces_of b.merged.items) (vec_capacity b.coming)) }
+    ensures { IfOk result (λ ups. HaveSpace (k_of levels.now) (with_more more (joined_layouts
+        (k_of levels.now) (layouts_of levels.now) (layouts_of others.now))) ups.items) }
 {
     let count = levels.len().max(others.len());
     let (k, rank_accuracy) = levels[0].parameters();
     let blank = Compactor::new(alloc, 0, k, rank_accuracy);
-    let mut merged = Vec::with_capacity(alloc, count)?;
-    let (mut came, mut most) = (more, 0);
+    let mut ups = Vec::with_capacity(alloc, count)?;
+    let mut here = count_at(levels, 0) + count_at(others, 0) + more;
     for level in 0..count {
-        let here = count_at(levels, level) + count_at(others, level) + came;
-        let risen = came.min(level);
-        let space = if risen > 0 { here } else { 0 };
-        merged.push_reserved(Vec::with_capacity(alloc, space)?);
-        most = most.max(here);
-        came = count_to_take_at(levels, others, level, came, &blank) / 2;
+        let up = count_to_take_at(levels, others, level, here, &blank) / 2;
+        let above = count_at(levels, level + 1) + count_at(others, level + 1);
+        let own = if up > 0 { above } else { 0 };
+        ups.push_reserved(Arrivals::with_capacity(alloc, up, own)?);
+        here = above + up;
     }
-    let coming = Vec::with_capacity(alloc, most)?;
-    let up = Vec::with_capacity(alloc, coming.capacity())?;
-    Ok(WalkBuffers { coming, up, merged })
+    Ok(ups)
 }
 
 /// Adds an empty level at the top if `level` is the number of levels.
@@ -121,31 +100,30 @@ pub(super) fn add_level<T: Clone + Ord>(
 /// counting what comes up from the level below. A level that is added isn't compacted.
 pub(super) fn walk<T: Clone + Ord, B: RandomBits>(
     levels: &mut Vec<Compactor<T>>,
-    buffers: &mut WalkBuffers<T>,
+    ups: Vec<Arrivals<T>>,
     coins: &mut B,
 )
     requires levels { AreHeld T.cmp levels.old.items }
     requires fits { weight_of (layouts_of levels.old.items) < 2 ^ 64 }
     requires few_items { retained_of (layouts_of levels.old.items) < 2 ^ 32 }
     requires spare { vec_len levels.old < vec_capacity levels.old }
-    requires empty { buffers.old.coming.items ≡ [] }
-    requires nothing { buffers.old.up.items ≡ [] }
-    requires fit { HaveSpace (k_of levels.old.items) (layouts_of levels.old.items)
-        (spaces_of buffers.old.merged.items) (vec_capacity buffers.old.coming) }
-    requires above { vec_capacity buffers.old.coming ≤ vec_capacity buffers.old.up }
+    requires fit { HaveSpace (k_of levels.old.items) (layouts_of levels.old.items) ups.items }
     ensures acted { AreWalkedOver T.cmp B.bit B.next coins.old coins.new (k_of levels.old.items)
         (accuracy_of levels.old.items) levels.old.items levels.new.items }
 {
+    let mut ups = ups;
     let count = levels.len();
+    let alloc = *levels.allocator();
+    let (items, room) = (Vec::new(alloc), Vec::new(alloc));
+    let mut coming = Arrivals { items, room };
     for level in 0..count {
-        let merged = &mut buffers.merged[level];
-        levels[level].turn(&mut buffers.coming, &mut buffers.up, merged, coins);
-        std::mem::swap(&mut buffers.coming, &mut buffers.up);
+        let up = ups[level].take();
+        coming = levels[level].step(coming, up, coins);
     }
-    if !buffers.coming.is_empty() {
+    if !coming.items.is_empty() {
         let (k, rank_accuracy) = levels[0].parameters();
         add_level(levels, count, k, rank_accuracy);
-        levels[count].absorb(&mut buffers.coming, &mut buffers.up);
+        levels[count].absorb(coming);
     }
 }
 
@@ -179,8 +157,8 @@ pub(super) fn append_and_walk<T: Clone + Ord, B: RandomBits>(
 {
     levels.reserve_exact(1)?;
     let own = levels.as_slice();
-    let mut buffers = reserve(*levels.allocator(), own, &own[..0], 1)?;
+    let ups = reserve(*levels.allocator(), own, &own[..0], 1)?;
     levels[0].append(item)?;
-    walk(levels, &mut buffers, coins);
+    walk(levels, ups, coins);
     Ok(())
 }

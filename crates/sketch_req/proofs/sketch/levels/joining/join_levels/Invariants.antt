@@ -1,6 +1,6 @@
-use Rattle.std.proofs.Common.{◌≡◌, ℕ, ◌<◌, ◌≤◌, length, max, vec_capacity}
+use Rattle.std.proofs.Common.{◌≡◌, ℕ, ◌<◌, ◌≤◌, length, get_or, max, vec_capacity}
 use Rattle.sketch_req.specs.Walk.{accuracy_of, k_of}
-use Rattle.sketch_req.proofs.ClonedBuffers.{HasClones}
+use Rattle.sketch_req.specs.declared.compactor.Arrivals.{Arrivals}
 use Rattle.sketch_req.proofs.MergedLevels.{AreJoinedTo}
 use Rattle.sketch_req.proofs.sketch.levels.joining.join_levels.Given as goal
 
@@ -10,8 +10,6 @@ invariant-loop-level g l =
     record {
       joined : AreJoinedTo g.T.Ord.cmp (k_of ls) (accuracy_of ls) l.level ls l.others l.levels.items;
       spare : max (length ls) (length l.others) < vec_capacity l.levels;
-      enough : length l.others ≤ length l.clones.items;
-      cloned : (h : ℕ) → l.level ≤ h → h < length l.others → HasClones g.T.Ord.cmp ls l.others l.clones.items h;
-      room : vec_capacity l.room ≡ vec_capacity l.initial.room;
-      spare_room : vec_capacity l.spare ≡ vec_capacity l.initial.spare;
+      enough : length l.others ≤ length l.lists.items;
+      lists : (j : ℕ) (none : Arrivals g.row.T.Denot) → l.level ≤ j → get_or l.lists.items j none ≡ get_or l.initial.lists.items j none;
     }

@@ -1,8 +1,8 @@
 use Rattle.std.proofs.Common.{arith, rules, ◌≡◌, ℕ, List, get_or, Option, unwrap_or, sym, ap, ap₂, ◌∙◌}
 use Rattle.std.specs.Option.{option_map}
 use Rattle.sketch_req.specs.Level.{Level}
-use Rattle.sketch_req.specs.Schedule.{Layout, layout_of, layouts_of, layout_at, joined_layout, filled}
-use Rattle.sketch_req.specs.Walk.{k_of, accuracy_of, taken_if_full}
+use Rattle.sketch_req.specs.Schedule.{Layout, layout_of, layouts_of, layout_at, joined_layout}
+use Rattle.sketch_req.specs.Walk.{k_of, accuracy_of, holding, taken_if_full}
 use Rattle.sketch_req.proofs.Layouts.{length-layouts}
 use Rattle.sketch_req.proofs.MergedLevels.{joined-at, joined-past, k-at, layout-there, reads}
 use Rattle.sketch_req.proofs.sketch.levels.walk.count_to_take_at.Given.{Over}
@@ -41,9 +41,9 @@ returns-in-Some g c =
     let k = k_of c.args.levels.now in
     let within = c.in-Some.ensures.lookup.3.0 in
     let other = layout-there c.args.others.now c.args.level c.in-Some.other.now within c.in-Some.ensures.lookup.1 in
-    c.count_to_take_joined.ensures
-    ∙ (ap₂ (λ (k : ℕ) (l : Layout). taken_if_full k (filled c.args.coming (joined_layout k l (layout_of c.in-Some.other.now)))) (k_is g at) (layout_is g at)
-    ∙ ap (λ (l : Layout). taken_if_full k (filled c.args.coming l))
+    c.count_if_joined.ensures
+    ∙ (ap₂ (λ (k : ℕ) (l : Layout). taken_if_full k (holding c.args.len (joined_layout k l (layout_of c.in-Some.other.now)))) (k_is g at) (layout_is g at)
+    ∙ ap (λ (l : Layout). taken_if_full k (holding c.args.len l))
     (ap (joined_layout k (layout_at ls c.args.level)) (sym other) ∙ sym (joined-at k ls os c.args.level (omega (arith, within, length-layouts c.args.others.now)))))
 
 pub returns-in-None : goal.returns-in-None
@@ -52,6 +52,6 @@ returns-in-None g c =
     let ls : List Layout = layouts_of c.args.levels.now in
     let os : List Layout = layouts_of c.args.others.now in
     let k = k_of c.args.levels.now in
-    c.count_to_take_with.ensures
-    ∙ ap₂ (λ (k : ℕ) (l : Layout). taken_if_full k (filled c.args.coming l)) (k_is g at)
+    c.count_if_full.ensures
+    ∙ ap₂ (λ (k : ℕ) (l : Layout). taken_if_full k (holding c.args.len l)) (k_is g at)
     (layout_is g at ∙ sym (joined-past k ls os c.args.level (omega (arith, c.in-None.ensures.lookup.3, length-layouts c.args.others.now))))

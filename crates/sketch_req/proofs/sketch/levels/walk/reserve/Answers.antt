@@ -1,151 +1,105 @@
-use Rattle.std.proofs.Common.{arith, nat_cmp, zero, [], ◌∷◌, ◌≡◌, ℕ, suc, ◌+◌, ◌<◌, ◌≤◌, List, Vec, length, refl, sym, ap, ap₂, ◌∙◌, subst, le_trans, lt_of_lt_of_le, max, inl, inr, vec_capacity}
-use Rattle.std.proofs.lemmas.Grind.{common_steps}
-use Rattle.std.specs.Ordering.{ord_max}
-use Rattle.std.proofs.lemmas.Bool.{cases_lt}
-use Rattle.std.proofs.lemmas.List.{length-map}
+use Rattle.std.proofs.Common.{arith, ◌≡◌, ℕ, suc, ◌+◌, ◌/◌, ◌<◌, ◌≤◌, List, length, refl, subst, max}
+use Rattle.sketch_req.specs.Arriving.{CanArrive, HasRoom}
 use Rattle.sketch_req.specs.Level.{Level}
 use Rattle.sketch_req.specs.Schedule.{Layout, layouts_of, layout_at, joined_layouts, filled, steps_layouts}
-use Rattle.sketch_req.specs.Walk.{accuracy_of, k_of, with_more}
-use Rattle.sketch_req.proofs.Buffers.{read-before, read-last}
-use Rattle.sketch_req.proofs.Layouts.{empty-layout, length-layouts, retained-with}
+use Rattle.sketch_req.specs.Walk.{k_of, taken_if_full, with_more}
+use Rattle.sketch_req.proofs.Buffers.{places-more}
+use Rattle.sketch_req.proofs.Layouts.{length-layouts, retained-with}
 use Rattle.sketch_req.proofs.MergedLevels.{joined-count}
-use Rattle.sketch_req.proofs.ReservedWalks.{own-reserved, planned-more, planned-carried, planned-own, length-more}
+use Rattle.sketch_req.proofs.ReservedWalks.{IsPlanned, planned-few, planned-more, planned-rise, length-more}
 use Rattle.sketch_req.proofs.WalkCapacities.{length-joined, retained-joined}
-use Rattle.sketch_req.proofs.WalkSteps.{own-there}
 use Rattle.sketch_req.proofs.sketch.levels.walk.reserve.Given.{Over}
-use Rattle.sketch_req.proofs.sketch.levels.walk.reserve.Goals.{After-count_at-in-loop-level, After-max-most, After-parameters-k, Joined-risen-gt0, then-risen-gt0, else-risen-gt0}
+use Rattle.sketch_req.proofs.sketch.levels.walk.reserve.Goals.{Joined-up-gt0, then-up-gt0, else-up-gt0}
 use Rattle.sketch_req.proofs.sketch.levels.walk.reserve.Goals as goal
 use Rattle.sketch_req.proofs.sketch.levels.walk.reserve.Goals.at as past
 
--- a level holds few items after some came
-few-come : (a b here came start first both n m more bound : ℕ) → a + b ≡ here → here + came ≤ start → start + first ≡ both + (first + more) → both ≡ n + m →
-    n + m + more < bound → a + b + came < bound
-few-come a b here came start first both n m more bound e l s j f = omega (arith, e, l, s, j, f)
+-- what a level gives up, and what the level above then holds
+module _ (g : Over) (c : Joined-up-gt0 g) where
+  abbrev k : ℕ
+  k = k_of c.args.levels.now
 
--- how many items the level then holds
-module _ (g : Over) (c : After-count_at-in-loop-level g) where
   abbrev both : List Layout
-  both = joined_layouts (k_of c.args.levels.now) (layouts_of c.args.levels.now) (layouts_of c.args.others.now)
+  both = joined_layouts k (layouts_of c.args.levels.now) (layouts_of c.args.others.now)
 
-  here : c.count_at.result + c.count_at-in-loop-level.result ≡ (layout_at both c.loop-level.level).count
-  here =
+  abbrev above : ℕ
+  above = c.count_at-in-loop-level.result + c.count_at-in-loop-level-2.result
+
+  above_is : above ≡ (layout_at both (c.loop-level.level + 1)).count
+  above_is =
       omega (
         arith,
-        joined-count (k_of c.args.levels.now) (layouts_of c.args.levels.now) (layouts_of c.args.others.now) c.loop-level.level,
-        c.count_at.ensures,
+        joined-count k (layouts_of c.args.levels.now) (layouts_of c.args.others.now) (c.loop-level.level + 1),
         c.count_at-in-loop-level.ensures,
+        c.count_at-in-loop-level-2.ensures,
       )
 
-  few : c.count_at.result + c.count_at-in-loop-level.result + c.loop-level.came < 4294967296
+  planned : IsPlanned k (c.loop-level.level + 1) (above + c.count_to_take_at-up.result / 2) (with_more c.args.more both) both
+  planned = planned-more k c.loop-level.level c.loop-level.here c.count_to_take_at-up.result above _ _ both c.count_to_take_at-up.ensures above_is refl c.loop-level.invariant.planned
+
+  few : above + c.count_to_take_at-up.result / 2 < 4294967296
   few =
-      few-come _ _ _ _ _ _ _ _ _ _ _ here (planned-carried _ _ _ _ _ c.loop-level.invariant.planned) (retained-with 0 (filled c.args.more) both)
-      (retained-joined (k_of c.args.levels.now) (layouts_of c.args.levels.now) (layouts_of c.args.others.now)) c.requires.few
+      omega (
+        arith,
+        planned-few _ _ _ _ _ planned,
+        retained-with 0 (filled c.args.more) both,
+        retained-joined k (layouts_of c.args.levels.now) (layouts_of c.args.others.now),
+        c.requires.few,
+      )
 
-pub overflow_add-here-in-loop-level : goal.overflow_add-here-in-loop-level
-overflow_add-here-in-loop-level g c = let f = few g (past.overflow_add-here-in-loop-level g c).After-count_at-in-loop-level in grind (arith, common_steps)
+  own-few : c.if-up-gt0.own ≤ above
+  own-few = elim c.if-up-gt0.branch [
+    | then-up-gt0 w ↦ omega (arith, w.own-is)
+    | else-up-gt0 w ↦ omega (arith, w.own-is)
+  ]
 
-pub count_to_take_at-came-requires-clause-few : goal.count_to_take_at-came-requires-clause-few
-count_to_take_at-came-requires-clause-few g c =
-    subst (λ (n : ℕ). n + c.loop-level.came < 4294967296) (ap₂ (λ (n m : ℕ). n + m) c.count_at.ensures c.count_at-in-loop-level.ensures)
-    (few g (past.count_to_take_at-came-requires-clause-few g c).After-count_at-in-loop-level)
+  own-all : 0 < c.count_to_take_at-up.result / 2 → c.if-up-gt0.own ≡ above
+  own-all some = elim c.if-up-gt0.branch [
+    | then-up-gt0 w ↦ w.own-is
+    | else-up-gt0 w ↦ absurd (omega (arith, some, w.if-up-gt0.false))
+  ]
 
--- The loop keeps what is known of the next level's turn, and that there is room for the turns so far.
--- the greater of two numbers
-at-most-greater : (greater m n : ℕ) → greater ≡ ord_max nat_cmp m n → (m ≤ greater) × (n ≤ greater)
-at-most-greater greater m n e = (grind (arith, common_steps), grind (arith, common_steps))
-
--- the k and accuracy of the sketch
-own : (g : Over) (c : After-parameters-k g) → c.parameters-k.result ≡ (k_of c.args.levels.now, accuracy_of c.args.levels.now)
-own g c = own-there g.T.Ord.cmp _ _ 0 _ _ _ c.requires.levels.placed c.requires.levels.some c.index-levels-0.is c.parameters-k.ensures
-
--- no level up to this one holds more
-none-holds-more : (counts : ℕ → ℕ) (at most more : ℕ) → most ≤ more → counts at ≤ more → ((h : ℕ) → h < at → counts h ≤ most) → (h : ℕ) → h < at + 1 →
-    counts h ≤ more
-none-holds-more counts at most more grows last before h l =
-    elim (cases_lt h at) [
-      | inl low ↦ le_trans (before h low) grows
-      | inr high ↦ let place : at ≡ h = omega (arith, l, high) in subst (λ (n : ℕ). counts n ≤ more) place last
-    ]
-
--- the most that a level holds
-most_is : (g : Over) (c : After-max-most g) →
-    (c.loop-level.most ≤ c.max-most.result) × (c.count_at.result + c.count_at-in-loop-level.result + c.loop-level.came ≤ c.max-most.result)
-most_is g c = at-most-greater _ _ _ c.max-most.ensures
-
--- if any items come up, there is space for all
-spaced : (g : Over) (c : Joined-risen-gt0 g) → 0 < c.loop-level.level → 0 < c.loop-level.came →
-    c.count_at.result + c.count_at-in-loop-level.result + c.loop-level.came ≤ c.if-risen-gt0.space
-spaced g c up some = elim c.if-risen-gt0.branch [
-  | then-risen-gt0 w ↦ omega (arith, w.space-is)
-  | else-risen-gt0 w ↦ absurd (omega (arith, some, up, w.if-risen-gt0.false, c.min-risen.ensures))
-]
+pub with_capacity-requires-in-loop-level : goal.with_capacity-requires-in-loop-level
+with_capacity-requires-in-loop-level g c =
+    let at = (past.with_capacity-requires-in-loop-level g c).Joined-up-gt0 in
+    omega (arith, own-few g at, few g at)
 
 pub loop-level-preserved : goal.loop-level-preserved
 loop-level-preserved g c =
+    let at = (past.loop-level-preserved g c).Joined-up-gt0 in
     let i = c.loop-level.invariant in
-    let at = c.loop-level.level in
-    let k = k_of c.args.levels.now in
-    let both : List Layout = joined_layouts k (layouts_of c.args.levels.now) (layouts_of c.args.others.now) in
-    let start : List Layout = with_more c.args.more both in
-    let held = here g (past.loop-level-preserved g c).After-count_at-in-loop-level in
-    let count = c.count_at.result + c.count_at-in-loop-level.result + c.loop-level.came in
-    let most = most_is g (past.loop-level-preserved g c).After-max-most in
-    let new = c.in_ok-with_capacity.field-0 in
-    let long : length c.loop-level.merged.items ≡ at = omega (arith, c.loop-level.merged.ok, i.len) in
-    let space = λ (v : Vec _ _). vec_capacity v in
+    let h = c.loop-level.level in
+    let start : List Layout = with_more c.args.more (both g at) in
+    let rise = planned-rise (k g at) h c.loop-level.here c.count_to_take_at-up.result (above g at) start (both g at) c.count_to_take_at-up.ensures (above_is g at) i.planned in
+    let a = c.in_ok-with_capacity.field-0 in
     record {
       len = omega (arith, c.push_reserved.ensures.len, i.len);
       spare = omega (arith, c.push_reserved.ensures.capacity, i.spare);
-      planned = planned-more k at c.loop-level.came c.count_to_take_at-came.result start both c.count_to_take_at-came.ensures i.planned;
-      promoted = none-holds-more (λ (h : ℕ). (layout_at (steps_layouts k h 0 start) h).count) at _ _ most.0
-          (subst (λ (l : Layout). l.count ≤ c.max-most.result) (sym i.planned.next) (subst (λ (n : ℕ). n + c.loop-level.came ≤ c.max-most.result) held most.1))
-          i.promoted;
-      joined = none-holds-more (λ (h : ℕ). (layout_at both h).count) at _ _ most.0 (omega (arith, held, most.1)) i.joined;
-      own = λ h l j q. elim (cases_lt h at) [
-        | inl low ↦ rw (read-before space 0 _ _ new c.push_reserved.ensures.items h (omega (arith, low, long))) (i.own h low j q)
-        | inr high ↦
-            let place : at ≡ h = omega (arith, l, high) in
-            let came = own-reserved c.loop-level.came count (vec_capacity new) (layout_at both at) (ap (λ (n : ℕ). n + c.loop-level.came) held)
-            (λ some. omega (arith, spaced g (past.loop-level-preserved g c).Joined-risen-gt0 (omega (arith, place, q)) some, c.in_ok-with_capacity.ensures.capacity)) in
-            rw (read-last space 0 _ _ new c.push_reserved.ensures.items h (long ∙ place), sym place) (planned-own k at c.loop-level.came (vec_capacity new) start both i.planned came j (place ∙ q))
-      ];
+      planned = planned g at;
+      ups = places-more
+          (λ j up. let now = steps_layouts (k g at) j 0 start in CanArrive (layout_at now (suc j)).count (taken_if_full (k g at) (layout_at now j) / 2) up)
+          c.loop-level.ups.items _ a h (omega (arith, c.loop-level.ups.ok, i.len)) c.push_reserved.ensures.items i.ups
+          (rw (rise.0, rise.1) (record {
+            empty = c.in_ok-with_capacity.ensures.items;
+            space = c.in_ok-with_capacity.ensures.capacity;
+            room = λ some. subst (λ (n : ℕ). HasRoom n (c.count_to_take_at-up.result / 2) a.room) (own-all g at some) c.in_ok-with_capacity.ensures.room;
+          }));
     }
 
 -- the greater of two lengths
 all-places : {A : Type 0} (k more greater : ℕ) (ls os : List (Level A)) → 0 < length ls → greater ≡ max (length ls) (length os) →
-    let both = joined_layouts k (layouts_of ls) (layouts_of os) in (length (with_more more both) ≤ greater) × (length both ≤ greater)
+    length (with_more more (joined_layouts k (layouts_of ls) (layouts_of os))) ≤ greater
 all-places k more greater ls os some e =
     let n = length-layouts ls in
     let b = length-joined k (layouts_of ls) (layouts_of os) in
     let all = length-more more (joined_layouts k (layouts_of ls) (layouts_of os)) (omega (arith, b, n, some)) in
-    (omega (arith, all, b, n, length-layouts os, e), omega (arith, b, n, length-layouts os, e))
+    omega (arith, all, b, n, length-layouts os, e)
 
--- past the last level nothing is held
-past-all : (ls : List Layout) (h : ℕ) → length ls ≤ h → (layout_at ls h).count ≡ 0
-past-all [] h l = ap (λ (m : Layout). m.count) (empty-layout h)
-past-all (m ∷ ls) zero l = absurd (omega (arith, l))
-past-all (m ∷ ls) (suc h) l = past-all ls h (omega (arith, l))
-
--- all is reserved
 pub returns : goal.returns
 returns g c =
     let i = c.loop-level.invariant in
-    let k = k_of c.args.levels.now in
-    let both : List Layout = joined_layouts k (layouts_of c.args.levels.now) (layouts_of c.args.others.now) in
-    let lengths = all-places k c.args.more _ c.args.levels.now c.args.others.now c.requires.levels.some c.max-count.ensures in
+    let most = all-places (k_of c.args.levels.now) c.args.more _ c.args.levels.now c.args.others.now c.requires.levels.some c.max-count.ensures in
     let done = c.loop-level-test.false in
-    let most : c.loop-level.most ≤ vec_capacity c.in_ok-coming.coming = omega (arith, c.in_ok-coming.ensures.capacity) in
     record {
-      empty = c.in_ok-coming.ensures.items;
-      nothing = c.in_ok-up.ensures.items;
-      above = omega (arith, c.in_ok-up.ensures.capacity, c.capacity.ensures);
-      joined = λ h. elim (cases_lt h c.loop-level.level) [
-        | inl low ↦ le_trans (i.joined h low) most
-        | inr high ↦ omega (arith, past-all both h (omega (arith, lengths.1, done, high)))
-      ];
-      fit = record {
-        enough = le_trans lengths.0 (omega (arith, done, i.len, c.loop-level.merged.ok, length-map c.loop-level.merged.items (λ v. vec_capacity v)));
-        promoted = λ h l. le_trans (i.promoted h (lt_of_lt_of_le l (le_trans lengths.0 done))) most;
-        own = λ h l. i.own (suc h) (lt_of_lt_of_le l (le_trans lengths.0 done)) h refl;
-      };
+      enough = omega (arith, most, done, i.len, c.loop-level.ups.ok);
+      each = λ h none l. i.ups h none (omega (arith, l, most, done));
     }

@@ -1,73 +1,85 @@
-use Rattle.std.proofs.Common.{arith, Vec, le_antisymm, le_of_eq, le_refl, le_trans, lt_of_lt_of_le, Ordering, ◌≡◌, ℕ, ◌+◌, ◌-◌, ◌<◌, ◌≤◌, ◌==◌, Bool, true, if◌then◌else◌, eq-eqb, length-append, List, [], ◌∷◌, ◌++◌, get_or, length, length-set, set, refl, sym, ap, ap₂, ◌∙◌, subst, lt_of_le_of_lt, vec_capacity, IsSorted}
-use Rattle.std.proofs.lemmas.List.{length-map, nil_from_length}
-use Rattle.sketch_base.proofs.Sorting.{short_sorted}
+use Rattle.std.proofs.Common.{arith, suc, le_antisymm, le_of_eq, le_refl, Ordering, ◌≡◌, ℕ, ◌+◌, ◌-◌, ◌/◌, ◌<◌, ◌==◌, Bool, true, if◌then◌else◌, eq-eqb, length-append, List, [], ◌∷◌, ◌++◌, get_or, length, length-set, set, refl, sym, ap, ap₂, ◌∙◌, subst, lt_of_le_of_lt, vec_capacity}
+use Rattle.std.proofs.lemmas.List.{nil_from_length}
+use Rattle.sketch_req.specs.Arriving.{CanArrive, HasRoom}
 use Rattle.sketch_req.specs.Level.{Level, fresh}
-use Rattle.sketch_req.specs.Schedule.{layouts_of, steps_actions, steps_layouts}
-use Rattle.sketch_req.specs.Walk.{AreWalked, accuracy_of, k_of, spaces_of}
+use Rattle.sketch_req.specs.Schedule.{layouts_of, layout_at, steps_actions, steps_layouts}
+use Rattle.sketch_req.specs.Walk.{AreWalked, accuracy_of, k_of, taken_if_full}
 use Rattle.sketch_req.specs.declared.RankAccuracy.{RankAccuracy}
-use Rattle.sketch_req.proofs.Buffers.{places-above, read-other, read-there}
+use Rattle.sketch_req.proofs.Buffers.{places-above, taken-there}
 use Rattle.sketch_req.proofs.Held.{own-levels}
 use Rattle.sketch_req.proofs.Layouts.{length-layouts}
 use Rattle.sketch_req.proofs.MergedLevels.{is-added}
 use Rattle.sketch_req.proofs.WalkSteps.{own-there, raised}
-use Rattle.sketch_req.proofs.Turns.{IsPending, IsReady, is-ready, next-pending, pending-above, pending-start, ready-held}
-use Rattle.sketch_req.proofs.sketch.levels.walk.walk.Goals.{After-index_mut, After-len-count, After-swap, After-parameters-k, After-add_level}
+use Rattle.sketch_req.proofs.Turns.{IsReady, is-ready, next-pending, pending-above, pending-start, ready-up}
+use Rattle.sketch_req.proofs.sketch.levels.walk.walk.Goals.{After-index_mut-in-loop-level, After-len-count, After-parameters-k, After-add_level}
 use Rattle.sketch_req.proofs.sketch.levels.walk.walk.Goals as goal
 use Rattle.sketch_req.proofs.sketch.levels.walk.walk.Goals.at as past
 
--- The loop keeps what is pending after the turns so far.
+-- The loop keeps what is pending after the steps so far.
 -- how many levels there are
 count_is : (g : _) (c : After-len-count g) → c.len-count.result ≡ length c.args.levels.now.items
 count_is g c = c.len-count.ensures ∙ c.args.levels.now.ok.0
 
 pub loop-level-init : goal.loop-level-init
 loop-level-init g c = record {
-  pending = pending-start g.met.T.Ord.total _ _ _ _ _ _ _ _ _ c.requires.empty c.requires.levels.placed;
+  pending = pending-start g.met.T.Ord.total _ _ _ _ _ _ _ _ c.new-items.ensures.items c.requires.levels.placed;
   len = sym c.len-count.ensures;
   spare = subst (λ (n : ℕ). n < vec_capacity c.args.levels.now) (sym c.len-count.ensures) c.requires.spare;
-  enough = subst (λ (n : ℕ). n ≤ length c.args.buffers.now.merged.items)
-      (length-layouts c.args.levels.now.items ∙ sym (count_is g (past.loop-level-init g c).After-len-count))
-      (subst (λ (n : ℕ). length (layouts_of c.args.levels.now.items) ≤ n) (length-map c.args.buffers.now.merged.items (λ v. vec_capacity v)) c.requires.fit.enough);
-  merged = λ j _. refl;
-  sorted = subst (IsSorted g.T.Ord.cmp) (sym c.requires.empty) (short_sorted g.T.Ord.cmp [] (omega arith));
-  empty = c.requires.nothing;
-  room = le_refl _;
-  above = c.requires.above;
+  enough = omega (arith, c.requires.fit.enough, length-layouts c.args.levels.now.items, count_is g (past.loop-level-init g c).After-len-count);
+  ups = λ j none _. refl;
 }
 
--- a turn
-module _ (g : _) (c : After-index_mut g) where
+-- a step
+module _ (g : _) (c : After-index_mut-in-loop-level g) where
   within : c.loop-level.level < length c.loop-level.levels.items
   within = subst (λ (n : ℕ). c.loop-level.level < n) (sym c.loop-level.invariant.len ∙ c.loop-level.levels.ok.0) c.loop-level-test.true
 
-  abbrev spaces : List ℕ
-  spaces = spaces_of c.args.buffers.now.merged.items
-
   ready : IsReady g.met.T.Ord.total g.B.RandomBits.bit g.B.RandomBits.next c.args.coins.now (k_of c.args.levels.now.items) (accuracy_of c.args.levels.now.items) c.args.levels.now.items
-      spaces c.loop-level.level c.loop-level.coins c.loop-level.levels.items c.index_mut.result.now c.loop-level.buffers.coming.items
-  ready = is-ready g.met.T.Ord.total _ _ _ _ _ _ _ _ _ _ _ _ _ c.requires.few_items c.loop-level.invariant.pending within c.index_mut.ensures.value
+      c.loop-level.level c.loop-level.coins c.loop-level.levels.items c.index_mut-in-loop-level.result.now c.loop-level.coming.items.items c.loop-level.coming.room
+  ready = is-ready g.met.T.Ord.total _ _ _ _ _ _ _ _ _ _ _ _ c.requires.few_items c.loop-level.invariant.pending within c.index_mut-in-loop-level.ensures.value
 
   inside : c.loop-level.level < length (layouts_of c.args.levels.now.items)
   inside =
       let levels = c.args.levels.now in
       subst (λ (n : ℕ). c.loop-level.level < n) (c.len-count.ensures ∙ (levels.ok.0 ∙ sym (length-layouts levels.items))) c.loop-level-test.true
 
-  -- the space of the level's buffers
-  own-there_is : get_or spaces c.loop-level.level 0 ≡ vec_capacity c.index_mut-merged.result.now
-  own-there_is =
-      let i = c.loop-level.invariant in
-      sym (i.merged c.loop-level.level (le_refl _))
-      ∙ read-there (λ b. vec_capacity b) 0 c.loop-level.buffers.merged.items c.loop-level.level c.index_mut-merged.result.now
-      (lt_of_lt_of_le c.loop-level-test.true i.enough) c.index_mut-merged.ensures.value
+  -- the room for what the level gives up
+  fits : let now = steps_layouts (k_of c.args.levels.now.items) c.loop-level.level 0 (layouts_of c.args.levels.now.items) in
+      CanArrive (layout_at now (suc c.loop-level.level)).count (taken_if_full (k_of c.args.levels.now.items) (layout_at now c.loop-level.level) / 2) c.take-up.result
+  fits =
+      let h = c.loop-level.level in
+      let there = taken-there c.loop-level.ups.items c.args.ups.items h _ c.take-up.result c.take-up.ensures c.index_mut.ensures.value
+      (λ none. c.loop-level.invariant.ups h none (le_refl h)) in
+      rw there (c.requires.fit.each h c.take-up.result inside)
 
-pub turn-requires-clause-few : goal.turn-requires-clause-few
-turn-requires-clause-few g c =
-    lt_of_le_of_lt (ready g (past.turn-requires-clause-few g c).After-index_mut).few c.requires.few_items
+pub step-coming-requires-clause-few : goal.step-coming-requires-clause-few
+step-coming-requires-clause-few g c =
+    lt_of_le_of_lt (ready g (past.step-coming-requires-clause-few g c).After-index_mut-in-loop-level).few c.requires.few_items
 
-pub turn-requires-clause-space : goal.turn-requires-clause-space
-turn-requires-clause-space g c =
-    let at = (past.turn-requires-clause-space g c).After-index_mut in
-    le_trans ((ready g at).own (inside g at)) (le_of_eq (own-there_is g at))
+pub step-coming-requires-clause-room : goal.step-coming-requires-clause-room
+step-coming-requires-clause-room g c = (ready g (past.step-coming-requires-clause-room g c).After-index_mut-in-loop-level).own
+
+pub step-coming-requires-clause-space : goal.step-coming-requires-clause-space
+step-coming-requires-clause-space g c =
+    let at = (past.step-coming-requires-clause-space g c).After-index_mut-in-loop-level in
+    ready-up g.met.T.Ord.total _ _ _ _ _ _ _ _ _ _ _ _ _ (ready g at) (fits g at).space
+
+pub loop-level-preserved : goal.loop-level-preserved
+loop-level-preserved g c =
+    let at = (past.loop-level-preserved g c).After-index_mut-in-loop-level in
+    let legal = (own-levels g.T.Ord.cmp _ _ _ c.requires.levels.some c.requires.levels.placed).legal in
+    let i = c.loop-level.invariant in
+    let e = c.step-coming.ensures in
+    record {
+      pending = next-pending g.met.T.Ord.total g.B.RandomBits.bit g.B.RandomBits.next c.args.coins.now _ _ _ c.loop-level.level c.loop-level.coins
+          c.step-coming.new.coins c.loop-level.levels.items c.index_mut-in-loop-level.result.now c.step-coming.new.self c.loop-level.coming.items.items _
+          c.loop-level.coming.room c.step-coming.result.room c.requires.few_items i.pending (within g at) c.index_mut-in-loop-level.ensures.value c.requires.fits legal
+          (λ some. subst (HasRoom _ _) (sym e.room) ((fits g at).room some)) e.stepped e.sound e.coins;
+      len = i.len;
+      spare = i.spare;
+      enough = omega (arith, i.enough, length-set c.loop-level.ups.items c.loop-level.level c.take-up.new.self);
+      ups = λ j none low. places-above _ c.loop-level.level _ j none low ∙ i.ups j none (omega (arith, low));
+    }
 
 -- the highest level gave up items
 module _ (g : _) (c : After-parameters-k g) where
@@ -77,12 +89,12 @@ module _ (g : _) (c : After-parameters-k g) where
   abbrev accuracy : RankAccuracy
   accuracy = accuracy_of c.args.levels.now.items
 
-  some : 0 < length c.loop-level.buffers.coming.items
-  some = grind (arith, c.if-not-is_empty.true, c.is_empty.ensures, c.loop-level.buffers.coming.ok.0)
+  some : 0 < length c.loop-level.coming.items.items
+  some = grind (arith, c.if-not-is_empty.true, c.is_empty.ensures, c.loop-level.coming.items.ok.0)
 
   ends : c.len-count.result ≡ (c.loop-level.level - 1) + 1
   ends = le_antisymm c.loop-level-test.false c.loop-level.auto.level-end
-      ∙ pending-above g.met.T.Ord.total _ _ _ _ _ _ _ _ _ _ _ _ c.loop-level.invariant.pending some
+      ∙ pending-above g.met.T.Ord.total _ _ _ _ _ _ _ _ _ _ _ c.loop-level.invariant.pending some
 
   own : c.parameters-k.result ≡ (k, accuracy)
   own =
@@ -90,52 +102,6 @@ module _ (g : _) (c : After-parameters-k g) where
       (subst (λ (n : ℕ). 0 < n) (sym c.args.levels.now.ok.0 ∙ (sym c.len-count.ensures ∙ (sym c.loop-level.invariant.len ∙ c.loop-level.levels.ok.0)))
       c.requires.levels.some) c.index.ensures
       c.parameters-k.ensures
-
-pub turn-requires-clause-above : goal.turn-requires-clause-above
-turn-requires-clause-above g c =
-    let at = (past.turn-requires-clause-above g c).After-index_mut in
-    let held = ready-held g.met.T.Ord.total _ _ _ _ _ _ _ _ _ _ _ _ _ (ready g at) (c.requires.fit.promoted c.loop-level.level (inside g at)) in
-    λ _. le_trans held c.loop-level.invariant.above
-
--- what holds of a vector's items, and of its capacity, holds of an equal vector
-items-kept : {X Z : Type 0} (P : List X → Type 0) (v w : Vec X Z) → v ≡ w → P w.items → P v.items
-items-kept {X} {Z} P v w e p = subst P (sym (ap (λ (u : Vec X Z). u.items) e)) p
-
-capacity-kept : {X Z : Type 0} (v w : Vec X Z) (n m : ℕ) → v ≡ w → vec_capacity w ≡ m → n ≤ m → n ≤ vec_capacity v
-capacity-kept {X} {Z} v w n m e f l = subst (λ (i : ℕ). n ≤ i) (sym (ap (λ (u : Vec X Z). vec_capacity u) e ∙ f)) l
-
--- the two vectors are exchanged
-swapped : (g : _) (c : After-swap g) → (c.swap.new.x ≡ c.turn.new.up) × (c.swap.new.y ≡ c.turn.new.coming)
-swapped g c = (c.swap.ensures.x_after, c.swap.ensures.y_after)
-
-pub loop-level-preserved : goal.loop-level-preserved
-loop-level-preserved g c =
-    let at = (past.loop-level-preserved g c).After-index_mut in
-    let legal = (own-levels g.T.Ord.cmp _ _ _ c.requires.levels.some c.requires.levels.placed).legal in
-    let i = c.loop-level.invariant in
-    let buffers = c.loop-level.buffers.merged.items in
-    let ls : List (Level g.row.T.Denot) = c.args.levels.now.items in
-    let most = vec_capacity c.args.buffers.now.coming in
-    record {
-      pending = items-kept (IsPending g.met.T.Ord.total g.B.RandomBits.bit g.B.RandomBits.next c.args.coins.now (k_of ls) (accuracy_of ls) ls (spaces g at) most
-          (c.loop-level.level + 1) c.turn.new.coins
-          (set c.loop-level.levels.items c.loop-level.level c.turn.new.self)) _ _ (swapped g c).0
-          (next-pending g.met.T.Ord.total g.B.RandomBits.bit g.B.RandomBits.next c.args.coins.now (k_of ls) (accuracy_of ls) ls
-          (spaces g at) c.loop-level.level most c.loop-level.coins
-          c.turn.new.coins c.loop-level.levels.items c.index_mut.result.now c.turn.new.self c.loop-level.buffers.coming.items _ c.requires.few_items i.pending
-          (within g at) c.index_mut.ensures.value
-          c.requires.fits legal (c.requires.fit.promoted c.loop-level.level (inside g at)) (c.requires.fit.own c.loop-level.level) c.turn.ensures.turned
-          c.turn.ensures.sound c.turn.ensures.coins);
-      len = i.len;
-      spare = i.spare;
-      enough = subst (λ (n : ℕ). c.len-count.result ≤ n) (sym (length-set buffers c.loop-level.level _)) i.enough;
-      merged = λ j low. read-other (λ b. vec_capacity b) 0 buffers c.loop-level.level _ j (places-above _ j low).0
-          ∙ i.merged j (places-above _ j low).1;
-      sorted = items-kept (IsSorted g.T.Ord.cmp) _ _ (swapped g c).0 c.turn.ensures.sorted;
-      empty = items-kept (λ (xs : List g.row.T.Denot). xs ≡ []) _ _ (swapped g c).1 c.turn.ensures.coming;
-      room = capacity-kept _ _ _ _ (swapped g c).0 c.turn.ensures.up_capacity i.above;
-      above = capacity-kept _ _ _ _ (swapped g c).1 c.turn.ensures.coming_capacity i.room;
-    }
 
 -- a list that an item was appended to
 longer-by-one : {A : Type 0} (n : ℕ) (ls ns : List A) (last : A) → n ≡ length ls → ns ≡ (if n == length ls then ls ++ last ∷ [] else ls) → length ns ≡ n + 1
@@ -162,10 +128,21 @@ absorb-requires-clause-few g c =
     let ends = ends g before in
     let all = added g at.After-add_level (own g before) ends in
     let upper = c.index_mut-then-not-is_empty.result.now in
-    let above = pending-above g.met.T.Ord.total _ _ _ _ _ _ _ _ _ _ _ _ c.loop-level.invariant.pending (some g before) in
+    let above = pending-above g.met.T.Ord.total _ _ _ _ _ _ _ _ _ _ _ c.loop-level.invariant.pending (some g before) in
     let few = c.loop-level.invariant.pending.few (some g before) (c.loop-level.level - 1) above upper
     (c.index_mut-then-not-is_empty.ensures.value ∙ ap₂ (λ (ls : List (Level g.row.T.Denot)) (n : ℕ). get_or ls n upper) all ends) in
     lt_of_le_of_lt few c.requires.few_items
+
+pub absorb-requires-clause-room : goal.absorb-requires-clause-room
+absorb-requires-clause-room g c =
+    let at = past.absorb-requires-clause-room g c in
+    let before = at.After-parameters-k in
+    let ends = ends g before in
+    let all = added g at.After-add_level (own g before) ends in
+    let upper = c.index_mut-then-not-is_empty.result.now in
+    let above = pending-above g.met.T.Ord.total _ _ _ _ _ _ _ _ _ _ _ c.loop-level.invariant.pending (some g before) in
+    c.loop-level.invariant.pending.own (some g before) (c.loop-level.level - 1) above upper
+    (c.index_mut-then-not-is_empty.ensures.value ∙ ap₂ (λ (ls : List (Level g.row.T.Denot)) (n : ℕ). get_or ls n upper) all ends)
 
 -- a walk over all levels
 walked-whole : {A S : Type 0} (cmp : A → A → Ordering) (bit : S → Bool) (next : S → S) (source after : S) (k n m : ℕ) (accuracy : RankAccuracy)
@@ -187,7 +164,7 @@ returns-then-not-is_empty g c =
     let upper = c.index_mut-then-not-is_empty.result.now in
     let new = c.absorb.new.self in
     let ls : List (Level g.row.T.Denot) = c.args.levels.now.items in
-    let above = pending-above g.met.T.Ord.total _ _ _ _ _ _ _ _ _ _ _ _ i.pending (some g before) in
+    let above = pending-above g.met.T.Ord.total _ _ _ _ _ _ _ _ _ _ _ i.pending (some g before) in
     let walked = i.pending.some (some g before) (c.loop-level.level - 1) above upper new
     (c.index_mut-then-not-is_empty.ensures.value ∙ ap₂ (λ (l : List (Level g.row.T.Denot)) (n : ℕ). get_or l n upper) all ends) c.absorb.ensures.taken_in c.absorb.ensures.sound in
     let count : c.loop-level.level ≡ length (layouts_of ls) =
@@ -207,14 +184,14 @@ none g c upper e =
     let added = is-added _ _ _ _ (le_of_eq same) c.add_level.ensures.items in
     ap (λ (l : Level g.row.T.Denot). length l.items) (e ∙ added.new upper (sym same))
 
-pub returns-else-not-is_empty : goal.returns-else-not-is_empty
-returns-else-not-is_empty g c =
+pub returns : goal.returns
+returns g c =
     let ls : List (Level g.row.T.Denot) = c.args.levels.now.items in
     let count : c.loop-level.level ≡ length (layouts_of ls) =
-    le_antisymm c.loop-level.auto.level-end c.loop-level-test.false ∙ (count_is g (past.returns-else-not-is_empty g c).After-len-count ∙ sym
+    le_antisymm c.loop-level.auto.level-end c.loop-level-test.false ∙ (count_is g (past.returns g c).After-len-count ∙ sym
     (length-layouts ls)) in
-    let none : c.loop-level.buffers.coming.items ≡ [] =
-    nil_from_length c.loop-level.buffers.coming.items (grind (arith, c.if-not-is_empty.false, c.is_empty.ensures, c.loop-level.buffers.coming.ok.0)) in
+    let none : c.loop-level.coming.items.items ≡ [] =
+    nil_from_length c.loop-level.coming.items.items (grind (arith, c.if-not-is_empty.false, c.is_empty.ensures, c.loop-level.coming.items.ok.0)) in
     record {
       acted = walked-whole g.T.Ord.cmp g.B.RandomBits.bit g.B.RandomBits.next c.args.coins.now c.loop-level.coins (k_of ls) c.loop-level.level _
           (accuracy_of ls) ls _ _ count refl
