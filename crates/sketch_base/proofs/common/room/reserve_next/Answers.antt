@@ -1,5 +1,5 @@
+use Rattle.std.proofs.Common.{arith}
 use Rattle.std.proofs.Common.{◌<◌, refl, subst₂, le_refl}
-use Rattle.sketch_base.proofs.RoomCounts.{under-max}
 use Rattle.sketch_base.proofs.common.room.reserve_next.Goals as goal
 
 pub returns : goal.returns
@@ -11,6 +11,6 @@ returns-then-len-capacity g c = record {
   len = refl;
   ok = subst₂ (λ m n. m < n) c.len.ensures c.capacity.ensures c.if-len-capacity.true;
   capacity = le_refl _;
-  lean = under-max _ _;
-  most = under-max _ _;
+  lean = omega arith;
+  most = omega arith;
 }
