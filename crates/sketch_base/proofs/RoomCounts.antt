@@ -1,10 +1,6 @@
 -- The room that a vector has, lacks or gets, in numbers.
 use Rattle.std.proofs.Common.{◌≡◌, ℕ, ◌+◌, ◌-◌, ◌*◌, ◌/◌, ◌<◌, ◌≤◌, arith}
 
--- a, the capacity, minus b, the length, against the number m of further items
-pub has-room : (a b m k l : ℕ) → m ≤ a - b → a ≡ k → b ≡ l → l ≤ k → l + m ≤ k
-has-room a b m k l h e f le = omega arith
-
 pub quarter-some : (n : ℕ) → 0 < n / 4 + 4
 quarter-some n = omega arith
 
