@@ -46,11 +46,10 @@ module _ {A : Type 0} (P : A → Type 0) where
 
     all-inserted : (x : A) (xs : List A) → AllByRecursion P (insert_in_order cmp x xs) → P x × AllByRecursion P xs
     all-inserted x [] h = (h.0, tt)
-    all-inserted x (y ∷ ys) h =
-        (elim (is_gt (cmp x y)) as (λ (b : Bool). AllByRecursion P (if b then y ∷ insert_in_order cmp x ys else x ∷ y ∷ ys) → P x × AllByRecursion P (y ∷ ys)) [
-          | true ↦ λ h. let r = all-inserted x ys h.1 in (r.0, (h.0, r.1))
-          | false ↦ λ h. (h.0, h.1)
-        ]) h
+    all-inserted x (y ∷ ys) h = (elim (is_gt (cmp x y)) as (λ (b : Bool). AllByRecursion P (if b then y ∷ insert_in_order cmp x ys else x ∷ y ∷ ys) → P x × AllByRecursion P (y ∷ ys)) [
+      | true ↦ λ h. let r = all-inserted x ys h.1 in (r.0, (h.0, r.1))
+      | false ↦ λ h. (h.0, h.1)
+    ]) h
 
     all-sorted : (xs : List A) → AllByRecursion P (sort cmp xs) → AllByRecursion P xs
     all-sorted [] h = tt

@@ -15,8 +15,7 @@ module _ {V IsFit : Type 0} {IsWanted : Option V → Type 0} {n : ℕ} where
   -- for others memory may be refused
   pub short : {e : ErrorKind} (r : Result (Option V) ErrorKind) → IsErrAnd r (λ x. x ≡ e) → e ≡ OutOfMemory → IsFit → 0 < n → IsAnswered n IsFit IsWanted r
   short (Ok x) h is fit some = absurd h
-  short (Err x) h is fit some =
-      record { found = tt; there = tt; refused = no_memory (Err x) h is (λ bad. bad fit); memory = λ fit. (h ∙ is, some) }
+  short (Err x) h is fit some = record { found = tt; there = tt; refused = no_memory (Err x) h is (λ bad. bad fit); memory = λ fit. (h ∙ is, some) }
 
   pub answer : (x : Option V) → IsFit → IsSome x ↔ (0 < n) → IsWanted x → IsAnswered n IsFit IsWanted (Ok x)
   answer x fit there found = record { found = found; there = there; refused = accepted (λ bad. bad fit); memory = tt }
@@ -38,8 +37,7 @@ module _ {V IsFit : Type 0} {IsWanted : Option V → Type 0} {n : ℕ} where
 -- what is wanted of one may be what is wanted of another
 pub wanted-too : {V IsFit : Type 0} {Wanted Others : Option V → Type 0} {n m : ℕ} (r : Result (Option V) ErrorKind) → n ≡ m →
     ((x : Option V) → Wanted x → Others x) → IsAnswered n IsFit Wanted r → IsAnswered m IsFit Others r
-wanted-too {IsFit = IsFit} {Others = Others} (Ok x) same others told =
-    subst (λ (k : ℕ). IsAnswered k IsFit Others (Ok x)) same
+wanted-too {IsFit = IsFit} {Others = Others} (Ok x) same others told = subst (λ (k : ℕ). IsAnswered k IsFit Others (Ok x)) same
     (record { found = others x told.found; there = told.there; refused = told.refused; memory = told.memory })
 wanted-too {IsFit = IsFit} {Others = Others} (Err e) same others told =
     subst (λ (k : ℕ). IsAnswered k IsFit Others (Err e)) same (record { found = tt; there = tt; refused = told.refused; memory = told.memory })

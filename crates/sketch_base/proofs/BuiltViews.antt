@@ -24,13 +24,12 @@ pub built-joined : {A : Type 0} {cmp : A → A → Ordering} → IsTotalOrder cm
     IsSorted cmp (map (λ (pair : A × ℕ). pair.0) pairs) → All (λ (pair : A × ℕ). 0 < pair.1) weighted →
     (least greatest : Option A) (v : View A) (xs : List A) (cumulated : List ℕ) → v ≡ view_of xs cumulated least greatest →
     xs ≡ joined cmp joins pairs → cumulated ≡ joined_weights cmp joins 0 pairs → 0 < length weighted → IsBuilt cmp joins weighted least greatest v
-built-joined order joins weighted pairs same sorted weights least greatest v xs cumulated is is_joined is_weights some =
-    rw (is, is_joined, is_weights) (record {
-      entries = joined-entries order joins weighted pairs same sorted weights;
-      held_is = held-joined order joins weighted pairs same sorted weights;
-      least_is = extreme-there weighted least some;
-      greatest_is = extreme-there weighted greatest some;
-    })
+built-joined order joins weighted pairs same sorted weights least greatest v xs cumulated is is_joined is_weights some = rw (is, is_joined, is_weights) (record {
+  entries = joined-entries order joins weighted pairs same sorted weights;
+  held_is = held-joined order joins weighted pairs same sorted weights;
+  least_is = extreme-there weighted least some;
+  greatest_is = extreme-there weighted greatest some;
+})
 
 -- the same items as none are none
 pub no-items : {A : Type 0} (cmp : A → A → Ordering) (xs : List A) → SameItems cmp [] xs → xs ≡ []

@@ -43,13 +43,9 @@ module _ {A : Type 0} (cmp : A → A → Ordering) (f : A → ℕ) where
   -- a compaction lowers the sum of a bag by what it takes, and raises it by what goes up
   pub compacted-moves : (h : ℕ) (taken : Taken) (bit : Bool) (bag : Bag A) → rank f (compacted h taken bit bag) + down h taken bag ≡ rank f bag + up h taken bit bag
   compacted-moves h taken bit bag =
-      let in_list_order = h == 0 && not bag.is_sorted in
-      let parts = cut cmp taken in_list_order (level_at bag.levels h) in
-      let rest = with_level [] h (λ level. parts.0) bag.levels in
-      moves (2 ^ h) _ _ _ _ _ _ _
-      (weigh-added f (suc h) (half (parity_up taken bit (level_at bag.levels (suc h))) parts.1) rest)
-      (weigh-replaced f h parts.0 bag.levels)
-      (sum_by-cut f cmp taken in_list_order (level_at bag.levels h))
+      let parts = cut cmp taken (h == 0 && not bag.is_sorted) (level_at bag.levels h) in
+      moves (2 ^ h) _ _ _ _ _ _ _ (weigh-added f (suc h) (half (parity_up taken bit (level_at bag.levels (suc h))) parts.1) (with_level [] h (λ level. parts.0) bag.levels))
+      (weigh-replaced f h parts.0 bag.levels) (sum_by-cut f cmp taken (h == 0 && not bag.is_sorted) (level_at bag.levels h))
     where
       moves : (w new rest old up left level taken : ℕ) → new ≡ rest + up → rest + w * level ≡ old + w * left → left + taken ≡ level → new + w * taken ≡ old + up
       moves w new rest old up left level taken a b c = omega (arith, a, b, ap (λ n. w * n) c)

@@ -1,5 +1,6 @@
 -- Over all words one level's compactions gain what they lose, if the turned coins of a trace are fair.
-use Rattle.std.proofs.Common.{◌≡◌, ◌≢◌, ℕ, zero, suc, ◌+◌, ◌*◌, ◌≤◌, ◌<◌, Bool, true, false, cond, not, ◌||◌, ◌==◌, ◌⊎◌, inl, inr, List, [], ◌∷◌, refl, sym, ap, ◌∙◌, arith, if◌then◌else◌, ⊎_elim, subst, eqb-true, Ordering}
+use Rattle.std.proofs.lemmas.Grind.{common_steps}
+use Rattle.std.proofs.Common.{◌≡◌, ◌≢◌, ℕ, zero, suc, ◌+◌, ◌*◌, ◌≤◌, ◌<◌, Bool, true, false, cond, not, ◌||◌, ◌==◌, ◌⊎◌, List, [], ◌∷◌, refl, sym, ap, arith, if◌then◌else◌, ⊎_elim, subst, eqb-true, Ordering}
 use Rattle.std.proofs.lemmas.List.Sums.{sum_by-cons}
 use Rattle.std.proofs.lemmas.Bool.{and_parts, cases_eq, not-true, or_cases}
 use Rattle.sketch_base.specs.Bag.{Bag, Taken}
@@ -36,8 +37,7 @@ module _ {A : Type 0} (cmp : A → A → Ordering) (f : A → ℕ) where
 
   -- from two worlds together the gains equal the losses
   abbrev pub IsEven : ℕ → List (Event A) → ℕ → ℕ → World (Bag A) → World (Bag A) → Type 0
-  IsEven g es n slot world world' =
-      gained_over g es n slot world + gained_over g es n slot world' ≡ lost_over g es n slot world + lost_over g es n slot world'
+  IsEven g es n slot world world' = gained_over g es n slot world + gained_over g es n slot world' ≡ lost_over g es n slot world + lost_over g es n slot world'
 
   -- so it is from any two mirrored worlds
   abbrev GoesOn : ℕ → List (Event A) → ℕ → ℕ → (ℕ → ℕ → Bool) → Type 0
@@ -45,19 +45,16 @@ module _ {A : Type 0} (cmp : A → A → Ordering) (f : A → ℕ) where
 
   -- the same from four worlds together: from each of two, after either bit
   abbrev AreEven : ℕ → List (Event A) → ℕ → ℕ → (a b c d : World (Bag A)) → Type 0
-  AreEven g es n slot a b c d =
-      gained_over g es n slot a + gained_over g es n slot b + (gained_over g es n slot c + gained_over g es n slot d) ≡
+  AreEven g es n slot a b c d = gained_over g es n slot a + gained_over g es n slot b + (gained_over g es n slot c + gained_over g es n slot d) ≡
       lost_over g es n slot a + lost_over g es n slot b + (lost_over g es n slot c + lost_over g es n slot d)
 
   -- so it is if the four are mirrored in pairs: after unlike bits if level g draws, else after the same bit
   even-bits : (g h : ℕ) (es : List (Event A)) (n slot : ℕ) (drawn : ℕ → ℕ → Bool) (next next' : Bool → World (Bag A)) →
       ((bit bit' : Bool) → (h < g → bit ≡ bit') → (h ≡ g → bit' ≡ not bit) → MirroredWorlds cmp f g drawn (next bit) (next' bit')) →
       GoesOn g es n slot drawn → AreEven g es n slot (next false) (next true) (next' false) (next' true)
-  even-bits g h es n slot drawn next next' mirrored rest =
-      ⊎_elim
+  even-bits g h es n slot drawn next next' mirrored rest = ⊎_elim
       (λ (e : h ≡ g). let pair = λ (bit : Bool). rest (next bit) (next' (not bit)) (mirrored bit (not bit) (λ lt. absurd (omega (arith, e, lt))) (λ _. refl)) in omega (arith, pair false, pair true))
-      (λ (ne : h ≢ g). let pair = λ (bit : Bool). rest (next bit) (next' bit) (mirrored bit bit (λ lt. refl) (λ e. absurd (ne e))) in omega (arith, pair false, pair true))
-      (cases_eq h g)
+      (λ (ne : h ≢ g). let pair = λ (bit : Bool). rest (next bit) (next' bit) (mirrored bit bit (λ lt. refl) (λ e. absurd (ne e))) in omega (arith, pair false, pair true)) (cases_eq h g)
 
   -- a Redraw is even if the rest is even from all worlds that are mirrored after it
   even-redraw : (g h s : ℕ) (es : List (Event A)) (n slot : ℕ) (drawn : ℕ → ℕ → Bool) (world world' : World (Bag A)) →
@@ -84,12 +81,11 @@ module _ {A : Type 0} (cmp : A → A → Ordering) (f : A → ℕ) where
   even-draw g h s taken es n slot drawn world world' req m rest =
       let bag = world.slots s in
       let bag' = world'.slots s in
-      let row = changed (drawn s) h true in
       draw_pairs cmp f n _ _ _ _ _ _ _ _ _ _ _ _ _ _
       (draw_counts es slot s (h == g) (up cmp f h taken false bag) (up cmp f h taken true bag) (down cmp f h taken bag) (both_up cmp f h taken bag))
       (draw_counts es slot s (h == g) (up cmp f h taken false bag') (up cmp f h taken true bag') (down cmp f h taken bag') (both_up cmp f h taken bag'))
-      (even-bits g h es n slot (changed drawn s row) (λ bit. compacted_at cmp f s h taken bit world) (λ bit. compacted_at cmp f s h taken bit world')
-      (λ bit bit' low here. mirrored-draw cmp f g drawn world world' m s h taken row bit bit' req low (λ e d. here e) (still_drawn (drawn s) g h)) rest)
+      (even-bits g h es n slot (changed drawn s (changed (drawn s) h true)) (λ bit. compacted_at cmp f s h taken bit world) (λ bit. compacted_at cmp f s h taken bit world')
+      (λ bit bit' low here. mirrored-draw cmp f g drawn world world' m s h taken (changed (drawn s) h true) bit bit' req low (λ e d. here e) (still_drawn (drawn s) g h)) rest)
 
   -- so is one by a turned coin that is fair, or whose slot doesn't get into the slot asked for
   even-turn : (g h s : ℕ) (taken : Taken) (es : List (Event A)) (n slot : ℕ) (drawn : ℕ → ℕ → Bool) (world world' : World (Bag A)) →
@@ -101,13 +97,8 @@ module _ {A : Type 0} (cmp : A → A → Ordering) (f : A → ℕ) where
       let bit = not (bag.kept h) in
       let bit' = not (bag'.kept h) in
       let other : h ≡ g → drawn s g ≡ true → bag'.kept h ≡ not (bag.kept h) = λ e d. subst (λ j. bag'.kept j ≡ not (bag.kept j)) (sym e) ((m.slots s).turned d) in
-      let by_rule : h ≡ g → (up cmp f h taken bit bag + up cmp f h taken bit' bag' ≡ down cmp f h taken bag + down cmp f h taken bag') ⊎ (reaches es slot s ≡ false) = λ e.
-      ⊎_elim
-      (λ d. inl (turned_up cmp f h taken bit bit' bag bag' req (ap not (other e (ap (drawn s) (sym e) ∙ d))) ((m.slots s).levels h (omega (arith, e)))))
-      (λ misses. inr (not-true (reaches es slot s) misses))
-      (or_cases (drawn s h) (not (reaches es slot s)) fair) in
-      turn_pairs cmp f n _ _ _ _ _ _ _ _
-      (turn_counts es slot s (h == g) _ _ _ _ (λ here. by_rule (eqb-true h g here)))
+      let by_rule : h ≡ g → (up cmp f h taken bit bag + up cmp f h taken bit' bag' ≡ down cmp f h taken bag + down cmp f h taken bag') ⊎ (reaches es slot s ≡ false) = λ e. grind (arith, common_steps, turned_up, not-true, or_cases) in
+      turn_pairs cmp f n _ _ _ _ _ _ _ _ (turn_counts es slot s (h == g) _ _ _ _ (λ here. by_rule (eqb-true h g here)))
       (rest (compacted_at cmp f s h taken bit world) (compacted_at cmp f s h taken bit' world')
       (mirrored-turn cmp f g drawn world world' m s h taken bit bit' req (λ lt. ap not ((m.slots s).below h lt)) (λ e d. ap not (other e d))))
 
@@ -120,8 +111,7 @@ module _ {A : Type 0} (cmp : A → A → Ordering) (f : A → ℕ) where
   evens g (At s Pull ∷ es) n slot drawn world world' enough fair m = evens g es n slot drawn _ _ enough fair (mirrored-pull cmp f g drawn world world' m s)
   evens g (At s (Join h) ∷ es) n slot drawn world world' enough fair m = evens g es n slot drawn _ _ enough fair (mirrored-join cmp f g drawn world world' m s h)
   evens g (At s Forget ∷ es) n slot drawn world world' enough fair m = evens g es n slot _ _ _ enough fair (mirrored-forget cmp f g drawn world world' m s)
-  evens g (At s (Redraw h) ∷ es) zero slot drawn world world' enough fair m =
-      absurd (omega (arith, sum_by-cons (λ (e : Event A). cond (event_draws e) 1 0) (At s (Redraw h)) es, enough))
+  evens g (At s (Redraw h) ∷ es) zero slot drawn world world' enough fair m = absurd (omega (arith, sum_by-cons (λ (e : Event A). cond (event_draws e) 1 0) (At s (Redraw h)) es, enough))
   evens g (At s (Redraw h) ∷ es) (suc n) slot drawn world world' enough fair m =
       let less : coins es ≤ n = omega (arith, sum_by-cons (λ (e : Event A). cond (event_draws e) 1 0) (At s (Redraw h)) es, enough) in
       even-redraw g h s es n slot drawn world world' m (λ next next' m'. evens g es n slot _ next next' less fair m')

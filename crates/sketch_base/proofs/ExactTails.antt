@@ -1,4 +1,5 @@
 -- Counts of what compactions spare: along a trace whose compactions leave at least m items of their levels, they are exact up to m.
+use Rattle.std.proofs.lemmas.Grind.{common_steps}
 use Rattle.std.proofs.Common.{◌≡◌, ◌≢◌, ℕ, zero, suc, ◌+◌, ◌-◌, ◌*◌, ◌^◌, ◌≤◌, Bool, true, false, not, ◌&&◌, ◌||◌, ◌==◌, nat_le, ◌⊎◌, inl, inr, ⊎_elim, IsTrue, if◌then◌else◌, List, [], ◌∷◌, length, take, drop, sum, sum_by, count_by, slice_index, refl, sym, ap, ◌∙◌, subst, arith, eqb-true, leb-true, length-take, mul-le-mul_right, pow_pos, Ordering}
 use Rattle.std.proofs.lemmas.Bool.{and_parts, eqb-false}
 use Rattle.std.proofs.lemmas.List.Sums.{sum_by-cons, sum_by-take-drop, count_by-le-length}
@@ -20,8 +21,7 @@ module _ {A : Type 0} (test : A → Bool) where
   -- the count of what passes and the count of what doesn't add up to the length
   pub both_counts : (xs : List A) → count_by test xs + count_by (λ x. not (test x)) xs ≡ length xs
   both_counts [] = omega arith
-  both_counts (x ∷ xs) =
-      grind (arith, both_counts xs, sum_by-cons (one test) x xs, sum_by-cons (one (λ x. not (test x))) x xs)
+  both_counts (x ∷ xs) = grind (arith, both_counts xs, sum_by-cons (one test) x xs, sum_by-cons (one (λ x. not (test x))) x xs)
 
   -- if the test is falling on a list, either no item after the first n passes or n items before them do
   pub end_or_front : (n : ℕ) (xs : List A) → Falling test xs → (count_by test (drop n xs) ≡ 0) ⊎ (n ≤ count_by test (take n xs))
@@ -62,22 +62,15 @@ module _ {A : Type 0} (cmp : A → A → Ordering) where
   -- a cut of the lowest items, if what fails passes a falling test
   pub spares-lowest : (test : A → Bool) → ((xs : List A) → Falling test (sort cmp xs)) → (n : ℕ) → SparesOrFills (λ x. not (test x)) (Lowest n)
   spares-lowest test falls n flag level =
-      let s = sort cmp level in
-      ⊎_elim (λ none. inl none) (λ none. inr (omega (arith, none, both_counts test (drop n s)))) (front_or_end test n s (falls level))
+      ⊎_elim (λ none. inl none) (λ none. inr (omega (arith, none, both_counts test (drop n (sort cmp level))))) (front_or_end test n (sort cmp level) (falls level))
 
   -- a cut of the greatest items, if a falling test passes
   pub spares-greatest : (test : A → Bool) → ((xs : List A) → Falling test (sort cmp xs)) → (n : ℕ) → SparesOrFills test (Greatest n)
-  spares-greatest test falls n flag level =
-      let s = sort cmp level in
-      let rest = length level - n in
-      ⊎_elim (λ none. inl none)
-      (λ all. inr (omega (arith, all, count_by-le-length test (take rest s), length-take rest s, length-sort cmp level)))
-      (end_or_front test rest s (falls level))
+  spares-greatest test falls n flag level = ⊎_elim (λ none. inl none)
+      (λ all. inr (omega (arith, all, count_by-le-length test (take (length level - n) (sort cmp level)), length-take (length level - n) (sort cmp level), length-sort cmp level)))
+      (end_or_front test (length level - n) (sort cmp level) (falls level))
 
 module _ {A : Type 0} (cmp : A → A → Ordering) (test : A → Bool) where
-  pub spared_sums : (w w2 new old down up : ℕ) → new + w * down ≡ old + w2 * up → down ≡ 0 → up ≡ 0 → new ≡ old
-  spared_sums w w2 new old down up e d u = omega (arith, e, ap (λ n. w * n) d, ap (λ n. w2 * n) u)
-
   pub half_none : (parity : Bool) (xs : List A) → count_by test xs ≡ 0 → count_by test (half parity xs) ≡ 0
   half_none parity xs e = grind (arith, sum_by-halves (one test) xs)
 
@@ -95,15 +88,13 @@ module _ {A : Type 0} (cmp : A → A → Ordering) (test : A → Bool) where
       most + takes taken (length (level_at bag.levels h)) ≤ length (level_at bag.levels h) →
       IsExactUpTo most count (rank (one test) bag + extra) → IsExactUpTo most count (rank (one test) (compacted cmp (one test) h taken bit bag) + extra)
   exact-beside most count extra h taken bit bag spares room exact =
-      let flag = h == 0 && not bag.is_sorted in
-      let level = level_at bag.levels h in
-      let parts = cut cmp taken flag level in
+      let parts = cut cmp taken (h == 0 && not bag.is_sorted) (level_at bag.levels h) in
       let parity = parity_up taken bit (level_at bag.levels (suc h)) in
       let new = rank (one test) (compacted cmp (one test) h taken bit bag) in
       let none : count_by test parts.1 ≡ 0 → IsExactUpTo most count (new + extra) = λ none.
       same-exact most count (new + extra) (rank (one test) bag + extra)
-      (ap (λ n. n + extra) (spared_sums (2 ^ h) (2 ^ suc h) _ _ _ _ (compacted-moves cmp (one test) h taken bit bag) none (half_none parity parts.1 none))) exact in
-      ⊎_elim none (λ all. go (count_by test parts.1) refl all none) (spares flag level)
+      (ap (λ n. n + extra) (omega (arith, (compacted-moves cmp (one test) h taken bit bag), ap (λ n. (2 ^ h) * n) none, ap (λ n. (2 ^ suc h) * n) (half_none parity parts.1 none)))) exact in
+      ⊎_elim none (λ all. go (count_by test parts.1) refl all none) (spares (h == 0 && not bag.is_sorted) (level_at bag.levels h))
     where
       go : (n : ℕ) → count_by test (cut cmp taken (h == 0 && not bag.is_sorted) (level_at bag.levels h)).1 ≡ n →
           count_by test (cut cmp taken (h == 0 && not bag.is_sorted) (level_at bag.levels h)).0 ≡ length (cut cmp taken (h == 0 && not bag.is_sorted) (level_at bag.levels h)).0 →
@@ -111,12 +102,10 @@ module _ {A : Type 0} (cmp : A → A → Ordering) (test : A → Bool) where
           IsExactUpTo most count (rank (one test) (compacted cmp (one test) h taken bit bag) + extra)
       go zero e all none = none e
       go (suc n) e all none =
-          let flag = h == 0 && not bag.is_sorted in
-          let level = level_at bag.levels h in
-          let parts = cut cmp taken flag level in
+          let parts = cut cmp taken (h == 0 && not bag.is_sorted) (level_at bag.levels h) in
           let left : List (List A) = with_level [] h (λ l. parts.0) bag.levels in
-          let stay : most ≤ count_by test parts.0 = omega (arith, all, length-left cmp taken flag level, room) in
-          let many : suc most ≤ rank (one test) bag = omega (arith, stay, e, sum_by-cut (one test) cmp taken flag level, level-le-rank h 0 bag.levels) in
+          let stay : most ≤ count_by test parts.0 = omega (arith, all, length-left cmp taken (h == 0 && not bag.is_sorted) (level_at bag.levels h), room) in
+          let many : suc most ≤ rank (one test) bag = omega (arith, stay, e, sum_by-cut (one test) cmp taken (h == 0 && not bag.is_sorted) (level_at bag.levels h), level-le-rank h 0 bag.levels) in
           let here : count_by test parts.0 ≤ weigh (sum_by (one test)) 0 left =
           subst (λ (l : List A). count_by test l ≤ weigh (sum_by (one test)) 0 left) (level_at-same h (λ m. parts.0) bag.levels) (level-le-rank h 0 left) in
           let more : most ≤ rank (one test) (compacted cmp (one test) h taken bit bag) =
@@ -157,19 +146,12 @@ module _ {A : Type 0} (cmp : A → A → Ordering) (test : A → Bool) (m : ℕ)
   exact-event : (e : Event A) (next : Bool) (world : World (Bag A)) (ranks : ℕ → ℕ) (leaves : ℕ → Bool) →
       IsTrue (sum (bag_lengths world.scratch) == 0 || goes_on e world.target) → AreExact world ranks leaves →
       AreExact (happens (act cmp) e next world) (ranks_after test e ranks) (leaves_after side m e (world_lengths world) leaves)
-  exact-event (Snap s t) next world ranks leaves rule inv i left =
-      exact-as m _ _ _ _ refl (sym (held-event test cmp (Snap s t) next world refl rule i))
-      (exact-changed (held test world) ranks leaves (changed leaves t (leaves t && leaves s)) t _ _ inv
-      (λ j ne l. sym (changed-other leaves t (leaves t && leaves s) j ne) ∙ l)
-      (λ l. let both = and_parts (leaves t) (leaves s) (sym (changed-there leaves t (leaves t && leaves s)) ∙ l) in
-      exact-both m _ _ _ _ (inv t both.0) (inv s both.1)) i left)
-  exact-event (At s (Put h x)) next world ranks leaves rule inv i left =
-      exact-as m _ _ _ _ refl (sym (held-event test cmp (At s (Put h x)) next world refl rule i))
+  exact-event (Snap s t) next world ranks leaves rule inv i left = exact-as m _ _ _ _ refl (sym (held-event test cmp (Snap s t) next world refl rule i))
+      (grind (arith, common_steps, exact-changed, held, changed-other, and_parts, changed-there, exact-both))
+  exact-event (At s (Put h x)) next world ranks leaves rule inv i left = exact-as m _ _ _ _ refl (sym (held-event test cmp (At s (Put h x)) next world refl rule i))
       (exact-changed (held test world) ranks leaves leaves s _ _ inv (λ j ne l. l) (λ l. exact-more m _ _ _ (inv s l)) i left)
-  exact-event (At s Clear) next world ranks leaves rule inv i left =
-      exact-as m _ _ _ _ refl (sym (held-event test cmp (At s Clear) next world refl rule i))
-      (exact-changed (held test world) ranks leaves (changed leaves s true) s 0 0 inv (λ j ne l. sym (changed-other leaves s true j ne) ∙ l)
-      (λ l. record { same = λ le. refl; enough = omega arith }) i left)
+  exact-event (At s Clear) next world ranks leaves rule inv i left = exact-as m _ _ _ _ refl (sym (held-event test cmp (At s Clear) next world refl rule i))
+      (grind (arith, common_steps, exact-changed, held, changed-other))
   exact-event (At s (Compact h coin taken)) next world ranks leaves rule inv i left = go (i == s) refl
     where
       n : ℕ
@@ -180,16 +162,13 @@ module _ {A : Type 0} (cmp : A → A → Ordering) (test : A → Bool) (m : ℕ)
 
       go : (b : Bool) → (i == s) ≡ b → IsExactUpTo m (ranks i) (held test (happens (act cmp) (At s (Compact h coin taken)) next world) i)
       go true e =
-          let p = eqb-true i s e in
           let own = and_parts (leaves s) (side taken && nat_le (m + takes taken (slice_index (bag_lengths (world.slots s)) h)) (slice_index (bag_lengths (world.slots s)) h))
-          (sym (changed-there leaves s _) ∙ subst (λ j. leaves_after {A = A} side m (At s (Compact h coin taken)) (world_lengths world) leaves j ≡ true) p left) in
+          (sym (changed-there leaves s _) ∙ subst (λ j. leaves_after {A = A} side m (At s (Compact h coin taken)) (world_lengths world) leaves j ≡ true) (eqb-true i s e) left) in
           let room = and_parts (side taken) (nat_le (m + takes taken (slice_index (bag_lengths (world.slots s)) h)) (slice_index (bag_lengths (world.slots s)) h)) own.1 in
-          subst (λ j. IsExactUpTo m (ranks j) (held test (happens (act cmp) (At s (Compact h coin taken)) next world) j)) (sym p)
+          subst (λ j. IsExactUpTo m (ranks j) (held test (happens (act cmp) (At s (Compact h coin taken)) next world) j)) (sym (eqb-true i s e))
           (exact-here s h coin taken next world (ranks s) room.0 (leb-true _ _ room.1) (inv s own.0))
-      go false e =
-          let away = eqb-false i s e in
-          exact-as m _ _ _ _ refl (sym (held-unchanged test cmp s h coin taken next world i (λ p. absurd (away p))))
-          (inv i (sym (changed-other leaves s _ i away) ∙ left))
+      go false e = exact-as m _ _ _ _ refl (sym (held-unchanged test cmp s h coin taken next world i (λ p. absurd ((eqb-false i s e) p))))
+          (inv i (sym (changed-other leaves s _ i (eqb-false i s e)) ∙ left))
   exact-event e next world ranks leaves rule inv i left = exact-as m _ _ _ _ refl (sym (held-event test cmp e next world refl rule i)) (inv i left)
 
   exact-along : (trace : List (Event A)) (word : List Bool) (world : World (Bag A)) (ranks : ℕ → ℕ) (leaves : ℕ → Bool) → ObeysScratch trace (world_lengths world) →
@@ -197,17 +176,13 @@ module _ {A : Type 0} (cmp : A → A → Ordering) (test : A → Bool) (m : ℕ)
       IsExactUpTo m (true_ranks test trace ranks i) (rank (one test) ((play cmp trace word world).slots i))
   exact-along [] word world ranks leaves obeys evens inv i left = exact-as m _ _ _ _ refl (held-ended test world obeys i) (inv i left)
   exact-along (e ∷ es) word world ranks leaves obeys evens inv i left =
-      let next = next_bit word in
-      let same = lengths-happens cmp e next world evens.0 in
-      exact-along es (if event_draws e then drop 1 word else word) (happens (act cmp) e next world) (ranks_after test e ranks) (leaves_after side m e (world_lengths world) leaves)
-      (subst (λ w. ObeysScratch es w) (sym same) obeys.1)
-      (subst (λ w. Along TakesEven es w) (sym same) evens.1)
-      (exact-event e next world ranks leaves obeys.0 inv)
+      let same = lengths-happens cmp e (next_bit word) world evens.0 in
+      exact-along es (if event_draws e then drop 1 word else word) (happens (act cmp) e (next_bit word) world) (ranks_after test e ranks) (leaves_after side m e (world_lengths world) leaves)
+      (subst (λ w. ObeysScratch es w) (sym same) obeys.1) (subst (λ w. Along TakesEven es w) (sym same) evens.1) (exact-event e (next_bit word) world ranks leaves obeys.0 inv)
       i (subst (λ w. leaves_at_least side m es w (leaves_after side m e (world_lengths world) leaves) i ≡ true) (sym same) left)
 
   -- from a run's start
   pub exact-trace : (trace : List (Event A)) (word : List Bool) (slot : ℕ) → ObeysScratch trace start_lengths → Along TakesEven trace start_lengths →
       leaves_at_least side m trace start_lengths (λ s. true) slot ≡ true → IsExactUpTo m (rank_of_trace test trace slot) (rank (one test) ((play cmp trace word start).slots slot))
-  exact-trace trace word slot obeys evens leaves =
-      exact-along trace word start (λ s. 0) (λ s. true) obeys evens
+  exact-trace trace word slot obeys evens leaves = exact-along trace word start (λ s. 0) (λ s. true) obeys evens
       (λ i l. exact-as m _ _ _ _ refl (sym (held-settled test start refl i)) (record { same = λ le. refl; enough = omega arith })) slot leaves

@@ -1,4 +1,6 @@
 -- What holds where a call returns that has failed, or that hasn't.
+use Rattle.std.proofs.Common.{arith}
+use Rattle.std.proofs.lemmas.Grind.{common_steps}
 use Rattle.std.proofs.Common.{OnOk, OnErr, IfOk, ◌≡◌, ◌∙◌, false, Result, Ok, Err, IfErr, IsErr, IsErrAnd, is_ok, refl, sym, ap}
 use Rattle.sketch_base.specs.declared.error.ErrorKind.{ErrorKind}
 use Rattle.sketch_base.specs.declared.error.ErrorKind.TheVariants.{InvalidArgument, InvalidData, OutOfMemory}
@@ -62,13 +64,8 @@ module _ {T E : Type 0} where
   pub accepted : {P : Type 0} {x : T} {e : E} → (P → ⊥) → (Ok x ≡ Err e → P) × (P → Ok x ≡ Err e)
   accepted never = (λ is. absurd (no_error is), λ p. absurd (never p))
 
--- a call that ran out of memory returns that and no other error
-pub other_kind : {T : Type 0} {r : Result T ErrorKind} → r ≡ Err OutOfMemory → r ≡ Err InvalidArgument → ⊥
-other_kind e is = let both : Err OutOfMemory ≡ Err InvalidArgument = sym e ∙ is in cc
-
-pub no_memory : {T P : Type 0} {x : ErrorKind} (r : Result T ErrorKind) → IsErrAnd r (λ e. e ≡ x) → x ≡ OutOfMemory → (P → ⊥) →
-    (r ≡ Err InvalidArgument → P) × (P → r ≡ Err InvalidArgument)
-no_memory r h e never = (λ is. absurd (other_kind (returned r _ h ∙ ap Err e) is), λ p. absurd (never p))
+pub no_memory : {T P : Type 0} {x : ErrorKind} (r : Result T ErrorKind) → IsErrAnd r (λ e. e ≡ x) → x ≡ OutOfMemory → (P → ⊥) → (r ≡ Err InvalidArgument → P) × (P → r ≡ Err InvalidArgument)
+no_memory r h e never = (λ is. absurd (grind (arith, common_steps, returned r _ h ∙ ap Err e)), λ p. absurd (never p))
 
 pub memory_not_argument : OutOfMemory ≡ InvalidArgument → ⊥
 memory_not_argument is = cc

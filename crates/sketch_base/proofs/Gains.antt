@@ -1,5 +1,6 @@
 -- What the compactions of a trace gain and lose, level by level, as far as it counts in a slot in the end.
 -- A slot's rank differs from its true rank by these gains and losses.
+use Rattle.std.proofs.Common.{rules}
 use Rattle.std.proofs.Common.{◌≡◌, ℕ, drop, suc, ◌+◌, ◌≤◌, ◌<◌, Bool, ◌==◌, ◌||◌, IsTrue, sum, List, [], ◌∷◌, refl, sym, ap, ◌∙◌, arith, if◌then◌else◌, subst, eqb-true, Ordering}
 use Rattle.std.specs.Prelude.{⊤}
 use Rattle.sketch_base.specs.Bag.{Bag, Taken}
@@ -97,10 +98,6 @@ module _ {A : Type 0} (cmp : A → A → Ordering) (test : A → Bool) where
       held test (happens (act cmp) (At s (Compact h coin taken)) next world) i + only s (taken_down s h taken world) i ≡ held test world i + only s (gone_up s h coin taken next world) i
   held-moves s h coin taken next world i = grind (arith, eqb-true, compacted-moves cmp (one test) h taken (bit_of coin h next (world.slots s)) (world.slots s))
 
-  -- a number added at one level is added to the sum over the levels
-  with_picked : (top h c : ℕ) (rest : ℕ → ℕ) → h < top → sum_below top (λ g. (if h == g then c else 0) + rest g) ≡ c + sum_below top rest
-  with_picked top h c rest lt = sum_below-add top (λ g. if h == g then c else 0) rest ∙ ap (λ n. n + sum_below top rest) (sum_below-pick top h c lt)
-
   -- the rank in the end plus all losses is the true rank plus all gains
   pub accounted : (top : ℕ) (es : List (Event A)) (slot : ℕ) (word : List Bool) (world : World (Bag A)) →
       ScratchGoesOn es word world → IsBelow top es → IsAccounted top es slot word world (held test world)
@@ -110,11 +107,10 @@ module _ {A : Type 0} (cmp : A → A → Ordering) (test : A → Bool) where
       let bit = next_bit word in
       let later = if event_draws e then drop 1 word else word in
       let next = happens (act cmp) e bit world in
-      one_more _ _ _ _ _ _ _ _ _
-      (accounted top es slot later next rules.1 below.1)
+      one_more _ _ _ _ _ _ _ _ _ (accounted top es slot later next rules.1 below.1)
       (counts-moved test es (held test next) (held test world) slot s (taken_down s h taken world) (gone_up s h coin taken bit world) (held-moves s h coin taken bit world))
-      (with_picked top h (counts_in es slot s (taken_down s h taken world)) (λ g. lost cmp (one test) g es slot later next) below.0)
-      (with_picked top h (counts_in es slot s (gone_up s h coin taken bit world)) (λ g. gained cmp (one test) g es slot later next) below.0)
+      (sum_below-add top (λ g. if h == g then (counts_in es slot s (taken_down s h taken world)) else 0) (λ g. lost cmp (one test) g es slot later next) ∙ ap (λ n. n + sum_below top (λ g. lost cmp (one test) g es slot later next)) (sum_below-pick top h (counts_in es slot s (taken_down s h taken world)) below.0))
+      (sum_below-add top (λ g. if h == g then (counts_in es slot s (gone_up s h coin taken bit world)) else 0) (λ g. gained cmp (one test) g es slot later next) ∙ ap (λ n. n + sum_below top (λ g. gained cmp (one test) g es slot later next)) (sum_below-pick top h (counts_in es slot s (gone_up s h coin taken bit world)) below.0))
     where
       one_more : (t t' l g u d losses gains final : ℕ) → final + losses ≡ t' + gains → t' + d ≡ t + u → l ≡ d + losses → g ≡ u + gains → final + l ≡ t + g
       one_more t t' l g u d losses gains final e h p q = omega (arith, e, h, p, q)

@@ -1,4 +1,5 @@
 -- Sorted weighted items of which equal ones are joined: the view that they make.
+use Rattle.std.proofs.lemmas.Grind.{common_steps}
 use Rattle.std.proofs.Common.{◌≡◌, ℕ, zero, suc, ◌+◌, ◌-◌, ◌*◌, ◌<◌, ◌≤◌, Bool, true, false, cond, List, [], ◌∷◌, ◌++◌, length, map, replicate, sum_by, refl, sym, ap, ap₂, ◌∙◌, arith, if◌then◌else◌, IsSorted, IsPermutation, Ordering, Less, Equal, is_gt, is_lt}
 use Rattle.std.specs.Prelude.{⊤, Option, None, Some, IsSome}
 use Rattle.std.specs.Cmp.{IsTotalOrder}
@@ -35,11 +36,8 @@ all-by_recursion P (x ∷ xs) h = (h 0 x (omega arith), all-by_recursion P xs (�
 pub sorted-items : {A : Type 0} (cmp : A → A → Ordering) (pairs : List (A × ℕ)) → IsSortedBy (λ (a b : A × ℕ). is_lt (cmp a.0 b.0)) pairs → IsSorted cmp (map (λ (pair : A × ℕ). pair.0) pairs)
 sorted-items cmp [] up k d l u = absurd (omega arith)
 sorted-items {A} cmp (p ∷ ps) up k d l u =
-    let item : A × ℕ → A = λ pair. pair.0 in
-    let n = length-map (p ∷ ps) item in
-    let one = get_or-map item (p ∷ ps) k p d (omega (arith, u, n)) in
-    let two = get_or-map item (p ∷ ps) (k + 1) p d (omega (arith, u, n)) in
-    ap₂ (λ x y. is_lt (cmp x y)) two one ∙ up k p l (omega (arith, u, n))
+    let n = length-map (p ∷ ps) (λ pair. pair.0) in
+    ap₂ (λ x y. is_lt (cmp x y)) (get_or-map (λ pair. pair.0) (p ∷ ps) (k + 1) p d (omega (arith, u, n))) (get_or-map (λ pair. pair.0) (p ∷ ps) k p d (omega (arith, u, n))) ∙ up k p l (omega (arith, u, n))
 
 -- numbers that climb from a start: each is above the one before it
 abbrev Climbs : ℕ → List ℕ → Type 0
@@ -65,9 +63,7 @@ module _ {A : Type 0} where
 
   sum-copies : (f : A → ℕ) (pairs : List (A × ℕ)) → sum_by f (copies pairs) ≡ weigh_pairs f pairs
   sum-copies f [] = refl
-  sum-copies f (p ∷ ps) =
-      sum_by-append f (replicate p.1 p.0) (copies ps) ∙
-      omega (arith, sum_by-replicate f p.1 p.0, sum-copies f ps, sum_by-cons (λ (pair : A × ℕ). pair.1 * f pair.0) p ps)
+  sum-copies f (p ∷ ps) = sum_by-append f (replicate p.1 p.0) (copies ps) ∙ omega (arith, sum_by-replicate f p.1 p.0, sum-copies f ps, sum_by-cons (λ (pair : A × ℕ). pair.1 * f pair.0) p ps)
 
   long-enough : (pairs : List (A × ℕ)) → HaveWeight pairs → length pairs ≤ weigh_pairs (λ x. 1) pairs
   long-enough [] h = omega arith
@@ -96,9 +92,8 @@ module _ {A : Type 0} (cmp : A → A → Ordering) (joins : Bool) where
   climbs-joined : (low before : ℕ) (pairs : List (A × ℕ)) → low ≤ before → HaveWeight pairs → Climbs low (joined_weights cmp joins before pairs)
   climbs-joined low before [] le h = tt
   climbs-joined low before (p ∷ ps) le h =
-      let some = h.0 in
       elim (is_kept cmp joins p.0 ps) as (λ (b : Bool). Climbs low (if b then (before + p.1) ∷ joined_weights cmp joins (before + p.1) ps else joined_weights cmp joins (before + p.1) ps)) [
-        | true ↦ (omega (arith, le, some), climbs-joined (before + p.1) (before + p.1) ps (omega arith) h.1)
+        | true ↦ (omega (arith, le), climbs-joined (before + p.1) (before + p.1) ps (omega arith) h.1)
         | false ↦ climbs-joined low (before + p.1) ps (omega (arith, le)) h.1
       ]
 
@@ -124,11 +119,10 @@ module _ {A : Type 0} (cmp : A → A → Ordering) where
 module _ {A : Type 0} {cmp : A → A → Ordering} (order : IsTotalOrder cmp) where
   ordered-joined : (joins : Bool) (pairs : List (A × ℕ)) → Ordered order (items_in pairs) → Ordered order (joined cmp joins pairs)
   ordered-joined joins [] up = tt
-  ordered-joined joins (p ∷ ps) up =
-      elim (is_kept cmp joins p.0 ps) as (λ (b : Bool). Ordered order (if b then p.0 ∷ joined cmp joins ps else joined cmp joins ps)) [
-        | true ↦ (all-joined cmp joins (λ y. is_gt (cmp p.0 y) ≡ false) ps up.0, ordered-joined joins ps up.1)
-        | false ↦ ordered-joined joins ps up.1
-      ]
+  ordered-joined joins (p ∷ ps) up = elim (is_kept cmp joins p.0 ps) as (λ (b : Bool). Ordered order (if b then p.0 ∷ joined cmp joins ps else joined cmp joins ps)) [
+    | true ↦ (all-joined cmp joins (λ y. is_gt (cmp p.0 y) ≡ false) ps up.0, ordered-joined joins ps up.1)
+    | false ↦ ordered-joined joins ps up.1
+  ]
 
   -- a weight that is carried on counts the same, since the next item compares equal
   carried-on : (f : A → ℕ) → ((x y : A) → cmp x y ≡ Equal → f x ≡ f y) → (joins : Bool) (n : ℕ) (x : A) (pairs : List (A × ℕ)) → is_kept cmp joins x pairs ≡ false →
@@ -141,18 +135,17 @@ module _ {A : Type 0} {cmp : A → A → Ordering} (order : IsTotalOrder cmp) wh
   sum-joined : (f : A → ℕ) → ((x y : A) → cmp x y ≡ Equal → f x ≡ f y) → (joins : Bool) (low before : ℕ) (pairs : List (A × ℕ)) → low ≤ before → Ordered order (items_in pairs) →
       sum_by f (spread_over low (joined cmp joins pairs) (joined_weights cmp joins before pairs)) ≡ carried (before - low) f pairs + weigh_pairs f pairs
   sum-joined f respects joins low before [] le up = refl
-  sum-joined f respects joins low before (p ∷ ps) le up =
-      grind (
-        arith,
-        times,
-        carry,
-        sum-joined f respects joins (before + p.1) (before + p.1) ps (omega arith) up.1,
-        sum-joined f respects joins low (before + p.1) ps (omega (arith, le)) up.1,
-        sum_by-append f (replicate (before + p.1 - low) p.0) (spread_over (before + p.1) (joined cmp joins ps) (joined_weights cmp joins (before + p.1) ps)),
-        sum_by-replicate f (before + p.1 - low) p.0,
-        carried-none (before + p.1 - (before + p.1)) f ps (omega arith),
-        sum_by-cons (λ (pair : A × ℕ). pair.1 * f pair.0) p ps,
-      )
+  sum-joined f respects joins low before (p ∷ ps) le up = grind (
+    arith,
+    times,
+    carry,
+    sum-joined f respects joins (before + p.1) (before + p.1) ps (omega arith) up.1,
+    sum-joined f respects joins low (before + p.1) ps (omega (arith, le)) up.1,
+    sum_by-append f (replicate (before + p.1 - low) p.0) (spread_over (before + p.1) (joined cmp joins ps) (joined_weights cmp joins (before + p.1) ps)),
+    sum_by-replicate f (before + p.1 - low) p.0,
+    carried-none (before + p.1 - (before + p.1)) f ps (omega arith),
+    sum_by-cons (λ (pair : A × ℕ). pair.1 * f pair.0) p ps,
+  )
     where
       times : (before + p.1 - low) * f p.0 ≡ (before - low) * f p.0 + p.1 * f p.0
       times = let more : before + p.1 - low ≡ (before - low) + p.1 = omega (arith, le) in ap (λ n. n * f p.0) more ∙ omega arith
@@ -168,11 +161,10 @@ module _ {A : Type 0} {cmp : A → A → Ordering} (order : IsTotalOrder cmp) wh
 
   below-joined : (pairs : List (A × ℕ)) → Ordered order (items_in pairs) → AllBelow cmp (joined cmp true pairs)
   below-joined [] up = tt
-  below-joined (p ∷ ps) up =
-      (elim (is_kept cmp true p.0 ps) as (λ (b : Bool). is_kept cmp true p.0 ps ≡ b → AllBelow cmp (if b then p.0 ∷ joined cmp true ps else joined cmp true ps)) [
-        | true ↦ λ e. (all-joined cmp true (λ y. cmp p.0 y ≡ Less) ps (below-all p.0 ps e up.1), below-joined ps up.1)
-        | false ↦ λ e. below-joined ps up.1
-      ]) refl
+  below-joined (p ∷ ps) up = (elim (is_kept cmp true p.0 ps) as (λ (b : Bool). is_kept cmp true p.0 ps ≡ b → AllBelow cmp (if b then p.0 ∷ joined cmp true ps else joined cmp true ps)) [
+    | true ↦ λ e. (all-joined cmp true (λ y. cmp p.0 y ≡ Less) ps (below-all p.0 ps e up.1), below-joined ps up.1)
+    | false ↦ λ e. below-joined ps up.1
+  ]) refl
 
   distinct-copies : (n : ℕ) (x : A) (rest : List A) → 0 < n → begins_equal cmp x rest ≡ false → distinct cmp (replicate n x ++ rest) ≡ 1 + distinct cmp rest
   distinct-copies zero x rest l e = absurd (omega arith)
@@ -184,19 +176,14 @@ module _ {A : Type 0} {cmp : A → A → Ordering} (order : IsTotalOrder cmp) wh
   distinct-spread : (before : ℕ) (xs : List A) (cs : List ℕ) → length xs ≡ length cs → Climbs before cs → AllBelow cmp xs → distinct cmp (spread_over before xs cs) ≡ length xs
   distinct-spread before [] cs e up h = refl
   distinct-spread before (x ∷ xs) [] e up h = absurd (omega (arith, e))
-  distinct-spread before (x ∷ xs) (c ∷ cs) e up h =
-      let l = up.0 in
-      distinct-copies (c - before) x (spread_over c xs cs) (omega (arith, l)) (begins-above cmp x c xs cs h.0 up.1)
+  distinct-spread before (x ∷ xs) (c ∷ cs) e up h = distinct-copies (c - before) x (spread_over c xs cs) (omega (arith)) (begins-above cmp x c xs cs h.0 up.1)
       ∙ (ap (λ m. 1 + m) (distinct-spread c xs cs (omega (arith, e)) up.1 h.1) ∙ omega arith)
 
   -- permuted pairs stand for the same items
   pub copies-moved : (ps qs : List (A × ℕ)) → IsPermutation ps qs → SameItems cmp (sort cmp (copies ps)) (sort cmp (copies qs))
-  copies-moved ps qs same =
-      items-from_counts order (sort cmp (copies ps)) (sort cmp (copies qs)) (Ordered-sort order (copies ps)) (Ordered-sort order (copies qs))
-      (λ z c.
+  copies-moved ps qs same = items-from_counts order (sort cmp (copies ps)) (sort cmp (copies qs)) (Ordered-sort order (copies ps)) (Ordered-sort order (copies qs)) (λ z c.
       let one : A → ℕ = λ x. cond (counted cmp z c x) 1 0 in
-      sum_by-sort one cmp (copies ps) ∙ (sum-copies one ps ∙ (sym (sum_by-IsPermutation (λ (pair : A × ℕ). pair.1 * one pair.0) ps qs same) ∙
-      sym (sum_by-sort one cmp (copies qs) ∙ sum-copies one qs))))
+      sum_by-sort one cmp (copies ps) ∙ (sum-copies one ps ∙ (grind (arith, common_steps, sum_by-IsPermutation, sum_by-sort, sum-copies))))
 
   -- weighted items, and the same items sorted
   module _ (joins : Bool) (weighted pairs : List (A × ℕ)) (same : IsPermutation weighted pairs) (sorted : IsSorted cmp (items_in pairs)) (weights : All (λ (pair : A × ℕ). 0 < pair.1) weighted) where
@@ -214,13 +201,10 @@ module _ {A : Type 0} {cmp : A → A → Ordering} (order : IsTotalOrder cmp) wh
 
     -- the entries are the copies of the weighted items, sorted
     pub joined-entries : SameItems cmp (sort cmp (copies weighted)) (spread_out (joined cmp joins pairs) (joined_weights cmp joins 0 pairs))
-    joined-entries =
-        items-from_counts order (sort cmp (copies weighted)) (spread_out (joined cmp joins pairs) (joined_weights cmp joins 0 pairs)) (Ordered-sort order (copies weighted))
-        (Ordered-spread_over order 0 (joined cmp joins pairs) (joined_weights cmp joins 0 pairs) (ordered-joined joins pairs up))
-        (λ z c.
+    joined-entries = items-from_counts order (sort cmp (copies weighted)) (spread_out (joined cmp joins pairs) (joined_weights cmp joins 0 pairs)) (Ordered-sort order (copies weighted))
+        (Ordered-spread_over order 0 (joined cmp joins pairs) (joined_weights cmp joins 0 pairs) (ordered-joined joins pairs up)) (λ z c.
         let one : A → ℕ = λ x. cond (counted cmp z c x) 1 0 in
-        sum_by-sort one cmp (copies weighted) ∙ (sum-copies one weighted ∙ (sym (sum_by-IsPermutation (λ (pair : A × ℕ). pair.1 * one pair.0) weighted pairs same) ∙
-        sym (sum-spread one (λ x y e. ap (λ (b : Bool). cond b 1 0) (counted-equal order x y e z c))))))
+        sum_by-sort one cmp (copies weighted) ∙ (sum-copies one weighted ∙ (grind (arith, common_steps, sum_by-IsPermutation, sum-spread, counted-equal))))
 
     there : (extreme : Option A) → IsSome extreme → (n : ℕ) → 0 < n → IsThere extreme n
     there None h n l = absurd (false≢true h)
@@ -229,10 +213,7 @@ module _ {A : Type 0} {cmp : A → A → Ordering} (order : IsTotalOrder cmp) wh
     -- the joined items make a view
     pub joined-view : (least greatest : Option A) → 0 < length weighted → IsSome least → IsSome greatest → IsView cmp (joined cmp joins pairs) (joined_weights cmp joins 0 pairs) least greatest
     joined-view least greatest some l g =
-        let enough = long-enough pairs weigh in
-        let few = few-joined cmp joins pairs in
-        let as_long = length_permutation weighted pairs same in
-        let whole : 0 < length (spread_out (joined cmp joins pairs) (joined_weights cmp joins 0 pairs)) = omega (arith, long, enough, as_long, some) in
+        let whole : 0 < length (spread_out (joined cmp joins pairs) (joined_weights cmp joins 0 pairs)) = omega (arith, long, long-enough pairs weigh, length_permutation weighted pairs same, some) in
         record {
           cumulates = record {
             one_each = same-length cmp joins 0 pairs;
@@ -240,7 +221,7 @@ module _ {A : Type 0} {cmp : A → A → Ordering} (order : IsTotalOrder cmp) wh
                 non_decreasing_from_rises 0 (joined_weights cmp joins 0 pairs) (rises-from_climbs 0 (joined_weights cmp joins 0 pairs) (climbs-joined cmp joins 0 0 pairs (omega arith) weigh));
           };
           sorted = IsSorted-from_ordered cmp order (joined cmp joins pairs) (ordered-joined joins pairs up);
-          no_more_items = omega (arith, long, enough, few);
+          no_more_items = omega (arith, long, long-enough pairs weigh, few-joined cmp joins pairs);
           least_there = there least l (length (spread_out (joined cmp joins pairs) (joined_weights cmp joins 0 pairs))) whole;
           greatest_there = there greatest g (length (spread_out (joined cmp joins pairs) (joined_weights cmp joins 0 pairs))) whole;
         }
@@ -254,6 +235,5 @@ module _ {A : Type 0} {cmp : A → A → Ordering} (order : IsTotalOrder cmp) wh
   pub held-joined : (joins : Bool) (weighted pairs : List (A × ℕ)) → IsPermutation weighted pairs → IsSorted cmp (items_in pairs) → All (λ (pair : A × ℕ). 0 < pair.1) weighted →
       length (joined cmp joins pairs) ≡ (if joins then distinct cmp (spread_out (joined cmp joins pairs) (joined_weights cmp joins 0 pairs)) else length weighted)
   held-joined false weighted pairs same sorted weights = all-kept pairs ∙ length_permutation weighted pairs same
-  held-joined true weighted pairs same sorted weights =
-      sym (distinct-spread 0 (joined cmp true pairs) (joined_weights cmp true 0 pairs) (same-length cmp true 0 pairs)
+  held-joined true weighted pairs same sorted weights = sym (distinct-spread 0 (joined cmp true pairs) (joined_weights cmp true 0 pairs) (same-length cmp true 0 pairs)
       (climbs-joined cmp true 0 0 pairs (omega arith) (weigh true weighted pairs same sorted weights)) (below-joined pairs (up true weighted pairs same sorted weights)))

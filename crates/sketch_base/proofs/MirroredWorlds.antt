@@ -21,8 +21,7 @@ module _ {A : Type 0} (cmp : A → A → Ordering) (f : A → ℕ) where
     pub scratch : Agree g world.scratch.levels world'.scratch.levels
 
   -- both bags get the same items at the end of a level
-  mirror-appended : (g h : ℕ) (drawn flag flag' : Bool) (front front' : List A) (bag bag' : Bag A) → (h ≤ g → front ≡ front') → Mirrored cmp f g drawn bag bag' →
-      Mirrored cmp f g drawn
+  mirror-appended : (g h : ℕ) (drawn flag flag' : Bool) (front front' : List A) (bag bag' : Bag A) → (h ≤ g → front ≡ front') → Mirrored cmp f g drawn bag bag' → Mirrored cmp f g drawn
       (record { levels = with_level [] h (λ level. level ++ front) bag.levels; is_sorted = flag; kept = bag.kept })
       (record { levels = with_level [] h (λ level. level ++ front') bag'.levels; is_sorted = flag'; kept = bag'.kept })
   mirror-appended g h drawn flag flag' front front' bag bag' same m = grind (arith, common_steps, agree-changed)
@@ -63,11 +62,10 @@ module _ {A : Type 0} (cmp : A → A → Ordering) (f : A → ℕ) (g : ℕ) (dr
   mirrored-pull =
       let top = level_at world.scratch.levels 0 in
       let top' = level_at world'.scratch.levels 0 in
-      let same : top ≡ top' = m.scratch 0 (omega arith) in
       record {
         slots = one-changed cmp f g s drawn world.slots world'.slots (acted cmp f s Pull world) (acted cmp f s Pull world') m.slots
-            (mirror-appended cmp f g 0 (drawn s g) false false (take 1 top) (take 1 top') (world.slots s) (world'.slots s) (λ le. ap (λ level. take 1 level) same) (m.slots s));
-        scratch = agree-changed g 0 (λ level. drop 1 top) (λ level. drop 1 top') world.scratch.levels world'.scratch.levels m.scratch (λ le. ap (λ level. drop 1 level) same);
+            (mirror-appended cmp f g 0 (drawn s g) false false (take 1 top) (take 1 top') (world.slots s) (world'.slots s) (λ le. ap (λ level. take 1 level) (m.scratch 0 (omega arith))) (m.slots s));
+        scratch = agree-changed g 0 (λ level. drop 1 top) (λ level. drop 1 top') world.scratch.levels world'.scratch.levels m.scratch (λ le. ap (λ level. drop 1 level) (m.scratch 0 (omega arith)));
       }
 
   pub mirrored-join : (h : ℕ) → MirroredWorlds cmp f g drawn (happens (act cmp) (At s (Join h)) false world) (happens (act cmp) (At s (Join h)) false world')
@@ -86,14 +84,12 @@ module _ {A : Type 0} (cmp : A → A → Ordering) (f : A → ℕ) (g : ℕ) (dr
 
   pub mirrored-redraw : (h : ℕ) (bit bit' : Bool) → (h < g → bit ≡ bit') → (h ≡ g → bit' ≡ not bit) →
       MirroredWorlds cmp f g (changed drawn s (changed (drawn s) h true)) (happens (act cmp) (At s (Redraw h)) bit world) (happens (act cmp) (At s (Redraw h)) bit' world')
-  mirrored-redraw h bit bit' low here =
-      let row = changed (drawn s) h true in
-      record {
-        slots = one-drawn cmp f g s drawn row world.slots world'.slots (record (world.slots s) { kept = changed (world.slots s).kept h bit })
-            (record (world'.slots s) { kept = changed (world'.slots s).kept h bit' }) m.slots
-            (mirror-kept cmp f g h (drawn s g) (row g) bit bit' (world.slots s) (world'.slots s) low (λ e d. here e) (still_drawn (drawn s) g h) (m.slots s));
-        scratch = m.scratch;
-      }
+  mirrored-redraw h bit bit' low here = record {
+    slots = one-drawn cmp f g s drawn (changed (drawn s) h true) world.slots world'.slots (record (world.slots s) { kept = changed (world.slots s).kept h bit })
+        (record (world'.slots s) { kept = changed (world'.slots s).kept h bit' }) m.slots
+        (mirror-kept cmp f g h (drawn s g) ((changed (drawn s) h true) g) bit bit' (world.slots s) (world'.slots s) low (λ e d. here e) (still_drawn (drawn s) g h) (m.slots s));
+    scratch = m.scratch;
+  }
 
   pub mirrored-clear : MirroredWorlds cmp f g (changed drawn s (λ h. false)) (happens (act cmp) (At s Clear) false world) (happens (act cmp) (At s Clear) false world')
   mirrored-clear = search (rules, one-drawn, false≢true)

@@ -12,8 +12,7 @@ module _ {A : Type 0} (xs to0 : List A) where
   one-more_moved rest rest' to to' x e f h = grind (arith, common_steps, append_assoc, reverse-append)
 
   -- all items after the first k were moved
-  pub all-moved : (k n v : ℕ) (rest to from before : List A) → k ≤ length rest → n ≤ k → n ≡ v → v ≡ length rest → AreMoved xs to0 rest to →
-      xs ≡ from → to0 ≡ before →
+  pub all-moved : (k n v : ℕ) (rest to from before : List A) → k ≤ length rest → n ≤ k → n ≡ v → v ≡ length rest → AreMoved xs to0 rest to → xs ≡ from → to0 ≡ before →
       (rest ≡ take k from) × (to ≡ before ++ reverse (drop k from))
   all-moved k n v rest to from before within few e f h is was = grind (arith, common_steps)
 

@@ -1,7 +1,7 @@
 -- The moments of a number plus a normal noise, and what one more coin does to them.
 use Rattle.std.proofs.Common.{rules}
 use Rattle.std.proofs.lemmas.Grind.{common_steps}
-use Rattle.std.proofs.Common.{◌≡◌, ℕ, zero, suc, ◌+◌, ◌*◌, ◌^◌, ◌≤◌, Bool, true, false, not, refl, sym, ap, arith, if◌then◌else◌, ⊎_elim, mul-le-mul, mul-le-mul_left, pow-suc}
+use Rattle.std.proofs.Common.{◌≡◌, ℕ, zero, suc, ◌+◌, ◌*◌, ◌^◌, ◌≤◌, Bool, true, false, not, refl, sym, ap, arith, if◌then◌else◌, mul-le-mul, mul-le-mul_left, pow-suc}
 use Rattle.std.proofs.Math.Nat.{pow-zero}
 use Rattle.std.proofs.lemmas.Bool.{cases_lt}
 use Rattle.sketch_base.specs.Words.{distance}
@@ -37,14 +37,11 @@ moment-centred zero v = omega (arith, pow-zero v)
 moment-centred (suc m) v = omega (arith, next_odd (odd_product m) v (moment (double m) 0 v) m (double m) (v ^ m) (v ^ suc m) (double-is m) (moment-centred m v) (pow-suc v m))
 
 -- the arithmetic of the two steps below
-difference_step : (k x d v f0 s1 f1 s2 f2 : ℕ) → f2 ≡ x * f1 + d * s1 + k * (v * f0) → s1 ≤ k * (d * f0) → s2 ≤ suc k * (d * f1) →
-    x * s2 + d * f2 + suc k * (v * s1) ≤ suc (suc k) * (d * f2)
+difference_step : (k x d v f0 s1 f1 s2 f2 : ℕ) → f2 ≡ x * f1 + d * s1 + k * (v * f0) → s1 ≤ k * (d * f0) → s2 ≤ suc k * (d * f1) → x * s2 + d * f2 + suc k * (v * s1) ≤ suc (suc k) * (d * f2)
 difference_step k x d v f0 s1 f1 s2 f2 e p q = rw e (omega (arith, mul-le-mul_left x q, mul-le-mul_left (suc k * v) p))
 
-sum_step : (k x d c v f0 s1 f1 h0 h1 : ℕ) → d ≤ c → f0 ≤ 2 * h0 → f1 ≤ 2 * h1 → s1 ≤ k * (d * f0) →
-    x * f1 + d * s1 + k * (v * f0) ≤ 2 * (x * h1 + k * ((v + c * c) * h0))
-sum_step k x d c v f0 s1 f1 h0 h1 le p q r =
-    omega (arith, mul-le-mul_left x q, mul-le-mul_left d r, mul-le-mul_left (k * v) p, mul-le-mul_left k (mul-le-mul (mul-le-mul le le) p))
+sum_step : (k x d c v f0 s1 f1 h0 h1 : ℕ) → d ≤ c → f0 ≤ 2 * h0 → f1 ≤ 2 * h1 → s1 ≤ k * (d * f0) → x * f1 + d * s1 + k * (v * f0) ≤ 2 * (x * h1 + k * ((v + c * c) * h0))
+sum_step k x d c v f0 s1 f1 h0 h1 le p q r = omega (arith, mul-le-mul_left x q, mul-le-mul_left d r, mul-le-mul_left (k * v) p, mul-le-mul_left k (mul-le-mul (mul-le-mul le le) p))
 
 module _ (x d v : ℕ) where
   -- the sum of the moments of x + d and x - d with noise (false), and their difference (true), signs included
@@ -91,8 +88,7 @@ plain z d v (suc zero) = record { sums = omega arith; differs = omega arith }
 plain z d v (suc (suc n)) = plain_step z d (suc n) v _ _ _ _ _ _ _ _ (plain z d v n) (plain z d v (suc n))
 
 -- and, where x is below d, of d - x: an even moment and the odd one after it
-turned : (z x v m : ℕ) →
-    IsApart (both x (z + x) v false (double m)) (both x (z + x) v true (double m)) (moment (double m) (x + (z + x)) v) (moment (double m) z v)
+turned : (z x v m : ℕ) → IsApart (both x (z + x) v false (double m)) (both x (z + x) v true (double m)) (moment (double m) (x + (z + x)) v) (moment (double m) z v)
     × IsApart (both x (z + x) v true (suc (double m))) (both x (z + x) v false (suc (double m))) (moment (suc (double m)) (x + (z + x)) v) (moment (suc (double m)) z v)
 turned z x v zero = (record { sums = refl; differs = refl }, record { sums = omega arith; differs = omega arith })
 turned z x v (suc m) = search (rules, turned_step, turned z x v m)
@@ -106,6 +102,5 @@ both-turned m x d v z e = rw e (turned z x v m).0.sums
 -- a coin that moves a number by at most c adds at most c^2 to the variance: even moments on both sides of x
 pub coin-moments : (m x d c v : ℕ) → d ≤ c → moment (double m) (x + d) v + moment (double m) (distance x d) v ≤ 2 * moment (double m) x (v + c * c)
 coin-moments m x d c v le =
-    let sums : both x d v false (double m) ≡ moment (double m) (x + d) v + moment (double m) (distance x d) v =
-    ⊎_elim (λ lt. both-turned m x d v (distance x d) (omega arith)) (λ over. both-plain m x d v (distance x d) (omega arith)) (cases_lt x d) in
+    let sums : both x d v false (double m) ≡ moment (double m) (x + d) v + moment (double m) (distance x d) v = grind (arith, common_steps, both-turned, both-plain, cases_lt) in
     omega (arith, sums, sum-within x d v c le (double m))

@@ -10,12 +10,9 @@ use Rattle.sketch_base.proofs.Items.{SameItems-back}
 use Rattle.sketch_base.proofs.Orders.{equal-from_neither, not_gt_lt}
 
 module _ {A : Type 0} {cmp : A → A → Ordering} (o : IsTotalOrder cmp) where
-  cmp_same : (a b c d : A) → cmp a b ≡ Equal → cmp c d ≡ Equal → cmp a c ≡ cmp b d
-  cmp_same a b c d p q = o.congr a b c p ∙ alike_right o c d b q
-
   -- items may be replaced by items that compare equal
   pub at_most_same : (a b c d : A) → cmp a b ≡ Equal → cmp c d ≡ Equal → IsAtMost cmp a c → IsAtMost cmp b d
-  at_most_same a b c d p q h = ap is_gt (sym (cmp_same a b c d p q)) ∙ h
+  at_most_same a b c d p q h = ap is_gt (sym (o.congr a b c p ∙ alike_right o c d b q)) ∙ h
 
   ties_same : (x : A) (xs ys : List A) → SameItems cmp xs ys → TiesWithOne cmp xs x → TiesWithOne cmp ys x
   ties_same x [] [] z t = t

@@ -1,15 +1,16 @@
 -- Calls that are refused or aren't: what their clauses say, and the numbers that decide it.
+use Rattle.std.proofs.lemmas.Grind.{common_steps}
 use Rattle.std.proofs.Common.{◌≡◌, ◌<◌, ◌≤◌, ◌^◌, ℕ, Result, Ok, Err, arith}
 use Rattle.sketch_base.specs.declared.error.ErrorKind.{ErrorKind}
 use Rattle.sketch_base.specs.declared.error.ErrorKind.TheVariants.{InvalidArgument, OutOfMemory}
-use Rattle.sketch_base.proofs.Exits.{no_error, other_kind}
+use Rattle.sketch_base.proofs.Exits.{no_error}
 
 -- a call that runs out of memory returns that and no other error
 pub no_memory : {T P : Type 0} {r : Result T ErrorKind} → r ≡ Err OutOfMemory → (P → ⊥) → (r ≡ Err InvalidArgument → P) × (P → r ≡ Err InvalidArgument)
-no_memory e never = (λ is. absurd (other_kind e is), λ p. absurd (never p))
+no_memory e never = (λ is. absurd (grind (arith, common_steps)), λ p. absurd (never p))
 
 pub no_refusal : {T : Type 0} {r : Result T ErrorKind} (P : Type 0) → r ≡ Err OutOfMemory → r ≡ Err InvalidArgument → P
-no_refusal P e is = absurd (other_kind e is)
+no_refusal P e is = absurd (grind (arith, common_steps))
 
 pub refused_as : {T E P : Type 0} {r : Result T E} {x : E} → r ≡ Err x → P → (r ≡ Err x → P) × (P → r ≡ Err x)
 refused_as e p = (λ _. p, λ _. e)

@@ -42,14 +42,13 @@ pub built-view : {A E : Type 0} {cmp : A → A → Ordering} → IsTotalOrder cm
     IfOk r (λ v. SameItems cmp (expanded cmp bag) v.entries) → IfOk r (λ v. v.least ≡ least') → IfOk r (λ v. v.greatest ≡ greatest') →
     IfOk r (IsViewOf (bag_queried cmp bag n least greatest))
 built-view order bag n least least' greatest greatest' (Err e) weighs l g same le ge = tt
-built-view {cmp = cmp} order bag n least least' greatest greatest' (Ok v) weighs l g same le ge =
-    record {
-      entries = same;
-      weighs_n = sym (length_all_zip (λ x y. cmp x y ≡ Equal) (expanded cmp bag) v.entries same) ∙ (length-expanded cmp bag ∙ weighs);
-      least = subst (λ x. SameAnswer cmp least x) (sym le) l;
-      greatest = subst (λ x. SameAnswer cmp greatest x) (sym ge) g;
-      ranks = λ y criteria. sym (SameCounts-from_items order (expanded cmp bag) v.entries same y criteria);
-    }
+built-view {cmp = cmp} order bag n least least' greatest greatest' (Ok v) weighs l g same le ge = record {
+  entries = same;
+  weighs_n = sym (length_all_zip (λ x y. cmp x y ≡ Equal) (expanded cmp bag) v.entries same) ∙ (length-expanded cmp bag ∙ weighs);
+  least = subst (λ x. SameAnswer cmp least x) (sym le) l;
+  greatest = subst (λ x. SameAnswer cmp greatest x) (sym ge) g;
+  ranks = λ y criteria. sym (SameCounts-from_items order (expanded cmp bag) v.entries same y criteria);
+}
 
 -- the answers of a view of what queries see of a sketch are the sketch's
 module _ {A : Type 0} {q : Queried A} (order : IsTotalOrder q.cmp) {v : View A} (h : IsViewOf q v) (criteria : SearchCriteria) where
@@ -57,8 +56,7 @@ module _ {A : Type 0} {q : Queried A} (order : IsTotalOrder q.cmp) {v : View A} 
   theirs = queried_view q.cmp v
 
   one-quantile : (fraction : Rank) (found : Option A) → SameAnswer q.cmp (quantile_of theirs fraction criteria) found → SameAnswer q.cmp (quantile_of q fraction criteria) found
-  one-quantile fraction found k =
-      SameAnswer-trans order (quantile_of q fraction criteria) (quantile_of theirs fraction criteria) found
+  one-quantile fraction found k = SameAnswer-trans order (quantile_of q fraction criteria) (quantile_of theirs fraction criteria) found
       (quantile-same q.cmp q.entries v.entries q.least v.least q.greatest v.greatest fraction.weight fraction.total criteria h.entries h.least h.greatest) k
 
   many-quantiles : (fractions : List Rank) (found : List A) → AreAtFractions theirs criteria fractions found → AreAtFractions q criteria fractions found
@@ -69,17 +67,13 @@ module _ {A : Type 0} {q : Queried A} (order : IsTotalOrder q.cmp) {v : View A} 
   pub quantile-result : (fraction : Rank) (r : Result (Option A) ErrorKind) → IsQuantile theirs fraction criteria r → IsQuantile q fraction criteria r
   quantile-result fraction r = wanted-too r h.weighs_n (one-quantile fraction)
 
-  pub quantiles-result : (fractions : List Rank) (r : Result (Option (Vec A Global)) ErrorKind) → AreQuantiles theirs fractions criteria r →
-      AreQuantiles q fractions criteria r
-  quantiles-result fractions r =
-      wanted-too r h.weighs_n
-      (λ found. some-weaker found (λ xs. AreAtFractions theirs criteria fractions xs.items) (λ xs. AreAtFractions q criteria fractions xs.items)
-      (λ xs. many-quantiles fractions xs.items))
+  pub quantiles-result : (fractions : List Rank) (r : Result (Option (Vec A Global)) ErrorKind) → AreQuantiles theirs fractions criteria r → AreQuantiles q fractions criteria r
+  quantiles-result fractions r = wanted-too r h.weighs_n
+      (λ found. some-weaker found (λ xs. AreAtFractions theirs criteria fractions xs.items) (λ xs. AreAtFractions q criteria fractions xs.items) (λ xs. many-quantiles fractions xs.items))
 
   pub cdf-result : (points : List A) (r : Masses) → IsCdf theirs points criteria r → IsCdf q points criteria r
   cdf-result points r =
       let of_view = cdf_of q.cmp criteria v.entries points in
       let ours = cdf_of q.cmp criteria q.entries points in
       let same : ranks_of (length v.entries) of_view ≡ ranks_of q.n ours = ap₂ ranks_of h.weighs_n (sym (cdf-same order criteria q.entries v.entries points h.entries)) in
-      wanted-too r h.weighs_n
-      (λ found. some-weaker found (λ ranks. ranks.items ≡ ranks_of (length v.entries) of_view) (λ ranks. ranks.items ≡ ranks_of q.n ours) (λ ranks e. e ∙ same))
+      wanted-too r h.weighs_n (λ found. some-weaker found (λ ranks. ranks.items ≡ ranks_of (length v.entries) of_view) (λ ranks. ranks.items ≡ ranks_of q.n ours) (λ ranks e. e ∙ same))

@@ -1,4 +1,5 @@
 -- Whether the calls on a view find anything, and what they find.
+use Rattle.std.proofs.lemmas.Grind.{common_steps}
 use Rattle.std.proofs.Common.{◌≡◌, ℕ, ◌<◌, ◌≤◌, Bool, true, false, nat_eq, List, length, sym, ap, ◌∙◌, subst, arith, Bor, Ordering, Equal}
 use Rattle.std.specs.Prelude.{Option, Some, option_copied}
 use Rattle.sketch_base.specs.Queries.{SameAnswer, spread_out}
@@ -9,15 +10,11 @@ use Rattle.sketch_base.proofs.MovedCounts.{emptied, some-unless_empty}
 module _ {A : Type 0} (v : View A) (xs : List A) (cumulated : List ℕ) (least greatest : Option A) (is : v ≡ view_of xs cumulated least greatest) (b : Bool)
     (k : ℕ) (empty : b ≡ nat_eq k 0) (len : k ≡ length xs) where
   pub entries-there : b ≡ false → length xs ≤ length (spread_out xs cumulated) → 0 < length v.entries
-  entries-there e fits =
-      let some = some-unless_empty b k xs empty e len in
-      let same : length v.entries ≡ length (spread_out xs cumulated) = ap (λ (w : View A). length w.entries) is in
-      omega (arith, some, fits, same)
+  entries-there e fits = omega (arith, some-unless_empty b k xs empty e len, fits, ap (λ (w : View A). length w.entries) is)
 
   pub no-entries : b ≡ true → 0 < length v.entries → false ≡ true
   no-entries e some =
-      let none : length v.entries ≡ 0 = ap (λ (w : View A). length w.entries) is ∙ ap (λ (ys : List A). length (spread_out ys cumulated))
-      (emptied b k xs empty e len) in
+      let none : length v.entries ≡ 0 = grind (arith, common_steps, emptied) in
       absurd (omega (arith, some, none))
 
 -- what holds of the entries that a view's items stand for holds of the view's entries

@@ -1,13 +1,6 @@
-use Rattle.std.proofs.Common.{refl, ap, ◌∙◌, arith}
-use Rattle.std.proofs.lemmas.Grind.{common_steps}
+use Rattle.std.proofs.Common.{refl, ap, ◌∙◌}
 use Rattle.sketch_base.proofs.common.room.move_if_loose.Goals.{else-capacity-len-via-then-capacity-len+else-is_ok, else-capacity-len-via-else-capacity-len}
 use Rattle.sketch_base.proofs.common.room.move_if_loose.Goals as goal
-
-pub returns-then-is_ok : goal.returns-then-is_ok
-returns-then-is_ok c = grind (arith, common_steps)
-
-pub unwrap-requires : goal.unwrap-requires
-unwrap-requires c = grind arith
 
 pub returns-else-capacity-len : goal.returns-else-capacity-len
 returns-else-capacity-len g c = elim c.else-capacity-len.branch [

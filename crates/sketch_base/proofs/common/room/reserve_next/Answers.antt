@@ -1,16 +1,8 @@
-use Rattle.std.proofs.Common.{◌<◌, refl, subst₂, le_refl}
-use Rattle.sketch_base.proofs.RoomCounts.{under-max}
+use Rattle.std.proofs.Common.{◌<◌, subst₂, le_refl}
 use Rattle.sketch_base.proofs.common.room.reserve_next.Goals as goal
 
-pub returns : goal.returns
-returns g c = c.grow.ensures
+pub returns-then-len-capacity-clause-ok : goal.returns-then-len-capacity-clause-ok
+returns-then-len-capacity-clause-ok g c = subst₂ (λ m n. m < n) c.len.ensures c.capacity.ensures c.if-len-capacity.true
 
-pub returns-then-len-capacity : goal.returns-then-len-capacity
-returns-then-len-capacity g c = record {
-  items = refl;
-  len = refl;
-  ok = subst₂ (λ m n. m < n) c.len.ensures c.capacity.ensures c.if-len-capacity.true;
-  capacity = le_refl _;
-  lean = under-max _ _;
-  most = under-max _ _;
-}
+pub returns-then-len-capacity-clause-capacity : goal.returns-then-len-capacity-clause-capacity
+returns-then-len-capacity-clause-capacity g c = le_refl _

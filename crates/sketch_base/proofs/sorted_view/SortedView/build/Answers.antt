@@ -27,22 +27,19 @@ module _ (g : Over) (c : After-reverse g) where
 
 pub cumulate-requires-clause-fits : goal.cumulate-requires-clause-fits
 cumulate-requires-clause-fits g c =
-    let m = moved g (past.cumulate-requires-clause-fits g c).After-reverse in
-    omega (arith, sum_by-IsPermutation (λ (pair : g.row.T.Denot × ℕ). pair.1) c.args.weighted.items _ m, c.requires.fits)
+    omega (arith, sum_by-IsPermutation (λ (pair : g.row.T.Denot × ℕ). pair.1) c.args.weighted.items _ (moved g (past.cumulate-requires-clause-fits g c).After-reverse), c.requires.fits)
 
 pub from_cumulated-requires-2 : goal.from_cumulated-requires-2
 from_cumulated-requires-2 g c =
     let after = (past.from_cumulated-requires-2 g c).After-reverse in
     let some = some-unless_zero _ _ _ c.if-count-eq0.false c.len-count.ensures c.args.weighted.ok.0 in
-    subst₂ (λ (xs : List g.row.T.Denot) (ns : List ℕ). IsView g.T.Ord.cmp xs ns c.args.min_item c.args.max_item) (sym c.cumulate.ensures.items)
-    (sym c.cumulate.ensures.weights)
+    subst₂ (λ (xs : List g.row.T.Denot) (ns : List ℕ). IsView g.T.Ord.cmp xs ns c.args.min_item c.args.max_item) (sym c.cumulate.ensures.items) (sym c.cumulate.ensures.weights)
     (joined-view g.met.T.Ord.total c.args.joins _ _ (moved g after) (sorted g after) c.requires.weights c.args.min_item c.args.max_item some (c.requires.least some) (c.requires.greatest some))
 
 pub returns : goal.returns
 returns g c =
     let after = (past.returns g c).After-reverse in
-    let some = some-unless_zero _ _ _ c.if-count-eq0.false c.len-count.ensures c.args.weighted.ok.0 in
     let b = built-joined g.met.T.Ord.total c.args.joins _ _ (moved g after) (sorted g after) c.requires.weights c.args.min_item c.args.max_item _ _ _
     c.from_cumulated-2.ensures
-    c.cumulate.ensures.items c.cumulate.ensures.weights some in
+    c.cumulate.ensures.items c.cumulate.ensures.weights (some-unless_zero _ _ _ c.if-count-eq0.false c.len-count.ensures c.args.weighted.ok.0) in
     record { entries = b.entries; held = b.held_is; least = b.least_is; greatest = b.greatest_is; memory = tt; none = tt }

@@ -6,7 +6,6 @@ use Rattle.sketch_base.specs.Queries.{cdf_of, ranks_of, spread_out}
 use Rattle.sketch_base.proofs.Answered.{answer}
 use Rattle.sketch_base.proofs.Distributions.{ranks-end, ranks-more, ranks-last, ranks-rise}
 use Rattle.sketch_base.proofs.ViewAnswers.{at-entries, entries-there}
-use Rattle.sketch_base.proofs.WeightedItems.{room-after_next}
 use Rattle.sketch_base.proofs.sorted_view.SortedView.cdf.Given.{Over}
 use Rattle.sketch_base.proofs.sorted_view.SortedView.cdf.Goals.{After-push_reserved-2}
 use Rattle.sketch_base.proofs.sorted_view.SortedView.cdf.Goals as goal
@@ -24,7 +23,7 @@ loop-point-preserved g c =
           (c.push_reserved.ensures.items ∙ ap (λ (n : ℕ). let rank : Rank = record { weight = c.rank_among-weight.result; total = n } in c.loop-point.ranks.items ++ rank ∷ []) c.entries_of-total.ensures.value);
       cumulates = c.loop-point.invariant.cumulates;
       sorted = c.loop-point.invariant.sorted;
-      room = room-after_next _ _ _ _ _ _ (one-further _ _ c.loop-point-test.true) c.push_reserved.ensures.len c.push_reserved.ensures.capacity c.loop-point.invariant.room;
+      room = omega (arith, one-further _ _ c.loop-point-test.true, c.push_reserved.ensures.len, c.push_reserved.ensures.capacity, c.loop-point.invariant.room);
     }
 
 -- what the vector holds in the end
