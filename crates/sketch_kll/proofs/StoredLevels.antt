@@ -132,10 +132,6 @@ raised_sorted {A} {cmp} {is_sorted = is_sorted} {level = level} {items = items} 
 
 -- ---- vectors that hold what they held
 
-pub stored_still : {A : Type 0} {cmp : A → A → Ordering} {k total : ℕ} {items items' : List A} {bounds bounds' : List ℕ} →
-    AreStored cmp k items bounds total → items' ≡ items → bounds' ≡ bounds → AreStored cmp k items' bounds' total
-stored_still {A} {cmp} {k} {total} stored e f = subst₂ (λ (xs : List A) (bs : List ℕ). AreStored cmp k xs bs total) (sym e) (sym f) stored
-
 pub kept_still : {A : Type 0} {k room rooms room' rooms' : ℕ} {flag : Bool} {items items' : List A} {bounds bounds' : List ℕ}
     {seen : Stored A} → stored_of k flag items bounds room rooms ≡ seen → items' ≡ items → bounds' ≡ bounds →
     KeepsLevels seen (stored_of k flag items' bounds' room' rooms')

@@ -20,7 +20,7 @@ use Rattle.sketch_kll.specs.Updates.{AreUpdated, OneUpdates, UpdatesGoOn, coins_
 use Rattle.sketch_kll.proofs.AlikeSteps.{length-lengths}
 use Rattle.sketch_kll.proofs.ItemsBetween.{greatest_of_both, least_of_both}
 use Rattle.sketch_kll.proofs.MergedSketches.{kept_levels}
-use Rattle.sketch_kll.proofs.Schedules.{fine-kll, fine-updates, updates-append, updates_lengths, updates_lengths_are, updates_some, work_of}
+use Rattle.sketch_kll.proofs.Schedules.{fine_is, fine-updates, updates-append, updates_lengths, updates_lengths_are, updates_some, work_of}
 use Rattle.sketch_kll.proofs.Takes.{taking_more, taking_none}
 use Rattle.sketch_kll.proofs.UnbiasedUpdates.{alike-lengths, alike_on}
 use Rattle.sketch_kll.proofs.UpdatesInTurn.{updates_fields}
@@ -72,11 +72,11 @@ module _ {A : Type 0} {cmp : A → A → Ordering} (o : IsTotalOrder cmp) where
       let later : List ℕ = updates_lengths s.k lengths items in
       let rest : List Bool = drop (draws_of first) word in
       let fine = fine-updates s.k lengths items some0 in
-      let made = lengths-acts cmp first word (alone (bag_of s)) (fine-kll first (work_of lengths) fine) ∙ ap (λ (w : Work (List ℕ)). w.bag) (updates_lengths_are {A = A} s.k lengths items some0) in
+      let made = lengths-acts cmp first word (alone (bag_of s)) (fine_is first (work_of lengths) fine).kll ∙ ap (λ (w : Work (List ℕ)). w.bag) (updates_lengths_are {A = A} s.k lengths items some0) in
       let there : map length t.levels ≡ later = sym (alike-lengths o _ _ a.bag) ∙ made in
       let on : AlikeKll cmp (bag_after cmp (updates_actions s.k later more) rest (bag_of t)) (bag_of u) = rw (a.k, there) at b.bag in
       let both = alike_on o first (updates_actions s.k later more) (work_of lengths) word rest (bag_of s) (bag_of t) (bag_of u) fine
-      (fine-kll _ (work_of later) (fine-updates s.k later more (updates_some s.k lengths items some0))) a.bag on in
+      (fine_is _ (work_of later) (fine-updates s.k later more (updates_some s.k lengths items some0))).kll a.bag on in
       let n = length-append items more in
       record {
         k = b.k ∙ a.k;

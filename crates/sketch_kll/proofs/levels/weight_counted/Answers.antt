@@ -1,4 +1,5 @@
-use Rattle.std.proofs.Common.{◌≡◌, ◌≤◌, ◌+◌, ◌*◌, ◌-◌, List, [], length, drop, arith, refl}
+use Rattle.std.proofs.lemmas.Grind.{common_steps}
+use Rattle.std.proofs.Common.{◌≡◌, ◌≤◌, ◌+◌, ◌*◌, ◌-◌, List, drop, arith, refl}
 use Rattle.std.proofs.lemmas.List.{drop_all}
 use Rattle.sketch_base.specs.Query.{counted}
 use Rattle.sketch_kll.specs.Flat.{levels_in}
@@ -32,16 +33,10 @@ counted_last g c =
     c.loop-level.invariant.some (omega (arith, n, c.loop-level.invariant.within)) c.loop-level.invariant.so_far (rw zero_is c.level_slice-2.ensures) c.count_all.ensures)
 
 pub loop-level-init : goal.loop-level-init
-loop-level-init g c =
-    let n = length-bounds c.args.items.now c.args.bounds.now c.requires.flat in
-    let ls : List (List g.row.T.Denot) = levels_in c.args.items.now c.args.bounds.now in
-    let e : drop (length c.args.bounds.now - 1) ls ≡ [] = drop_all (length c.args.bounds.now - 1) ls (omega (arith, n)) in
-    record { within = omega (arith, n); some = omega (arith, c.requires.some_level); so_far = rw e refl }
+loop-level-init g c = grind (arith, common_steps, length-bounds, drop_all)
 
 pub count_in_order-counted-requires : goal.count_in_order-counted-requires
-count_in_order-counted-requires g c =
-    let n = length-bounds c.args.items.now c.args.bounds.now c.requires.flat in
-    record { sorted = rw c.level_slice.ensures (upper_at g.T.Ord.cmp (levels_in c.args.items.now c.args.bounds.now) c.requires.upper (c.loop-level.level - 1) (omega arith) (omega (arith, n, c.loop-level.invariant.within))) }
+count_in_order-counted-requires g c = grind (arith, common_steps, length-bounds, upper_at)
 
 pub overflow_mul-weight : goal.overflow_mul-weight
 overflow_mul-weight g c = omega (arith, (counted_next g c).1, c.requires.fits)

@@ -1,3 +1,4 @@
+use Rattle.std.proofs.lemmas.Grind.{common_steps}
 use Rattle.std.proofs.Common.{◌≡◌, ◌<◌, ◌-◌, length, sym, subst, true, ap, ◌∙◌, arith, nat_le, not, ap₂, get_or, ◌+◌, suc, List, ℕ, ◌≤◌}
 use Rattle.sketch_kll.specs.Capacity.{capacity_at}
 use Rattle.sketch_kll.specs.Flat.{levels_in}
@@ -23,18 +24,10 @@ below_is : (n b : ℕ) {a : ℕ} → a ≡ n + b → b ≤ a
 below_is n b a = omega (arith, a)
 
 within : (g : _) (c : After-as_slice-bounds g) → c.args.level + 1 < length c.as_slice-bounds.result.now
-within g c =
-    let n = length-bounds c.self.inside.items.items c.self.inside.bounds.items c.self.invariant.flat in
-    omega (arith, n, ap (λ (y : Stored g.row.T.Denot). length y.levels) c.self.view_is, c.requires.within, ap length c.as_slice-bounds.ensures.value)
+within g c = grind (arith, common_steps, length-bounds)
 
 pub is_at_capacity-requires : goal.is_at_capacity-requires
-is_at_capacity-requires g c =
-    let n = length-bounds c.self.inside.items.items c.self.inside.bounds.items c.self.invariant.flat in
-    record {
-      k = c.self.invariant.k_above;
-      few_levels = omega (arith, n, c.self.invariant.few, ap length c.as_slice-bounds.ensures.value);
-      within = omega (arith, within g (past.is_at_capacity-requires g c).After-as_slice-bounds);
-    }
+is_at_capacity-requires g c = grind (arith, common_steps, length-bounds, within, After-as_slice-bounds)
 
 pub returns : goal.returns
 returns g c =
