@@ -16,7 +16,7 @@ use Rattle.sketch_kll.specs.Schedule.{updates_actions}
 use Rattle.sketch_base.specs.Extremes.{Ties, greatest_with, least_with}
 use Rattle.sketch_kll.specs.Sketch.{Kll, IsSound, IsUpdated, bag_of, coins_of_update, sketch_of, update_of}
 use Rattle.sketch_kll.specs.Steps.{is_full, put, compacted_if_full}
-use Rattle.sketch_kll.specs.Updates.{AreUpdated, OneUpdates, UpdatesGoOn, coins_of_updates}
+use Rattle.sketch_kll.specs.Updates.{OneUpdates, UpdatesGoOn, coins_of_updates}
 use Rattle.sketch_kll.proofs.AlikeSteps.{length-lengths}
 use Rattle.sketch_kll.proofs.ItemsBetween.{greatest_of_both, least_of_both}
 use Rattle.sketch_kll.proofs.MergedSketches.{kept_levels}
@@ -52,11 +52,7 @@ module _ {A : Type 0} {cmp : A → A → Ordering} (o : IsTotalOrder cmp) where
       (least_of_both o x s.least least least_ties) least_is (greatest_of_both o x s.greatest greatest greatest_ties) greatest_is in
       let coins : coins_of_updates s (x ∷ []) ≡ coins_of_update s x = ap draws_of (append-nil (update_of s x)) in
       let t : Kll A = sketch_of k s.min_k (s.n + 1) false ms kept_least kept_greatest in
-      rw flag_is (record {
-        sound = made.sound;
-        updated_is = (one_updates s x (bits_from bit next source (coins_of_update s x)) t).0 (subst (λ (n : ℕ). AreUpdated cmp s (x ∷ []) (bits_from bit next source n) t) coins made.updated_are);
-        source_is = made.source_is ∙ ap (after_draws next source) coins;
-      })
+      grind (arith, common_steps, one_updates)
 
   -- the same, of the sketch as callers see it
   pub updated_seen : {S : Type 0} {bit : S → Bool} {next : S → S} {source after : S} {s s' t : Kll A} {x : A} → s ≡ s' →

@@ -1,12 +1,9 @@
-use Rattle.std.proofs.lemmas.Grind.{common_steps}
 use Rattle.std.proofs.Common.{◌≡◌, ◌≤◌, ◌+◌, ◌*◌, ◌-◌, List, drop, arith, refl}
-use Rattle.std.proofs.lemmas.List.{drop_all}
 use Rattle.sketch_base.specs.Query.{counted}
 use Rattle.sketch_kll.specs.Flat.{levels_in}
 use Rattle.sketch_kll.specs.Levels.{weight}
 use Rattle.sketch_kll.specs.Rank.{counted_weight}
 use Rattle.sketch_kll.proofs.Flats.{length-bounds}
-use Rattle.sketch_kll.proofs.Legals.{upper_at}
 use Rattle.sketch_kll.proofs.Rank.{more_weight}
 use Rattle.sketch_kll.proofs.levels.weight_counted.Goals as goal
 use Rattle.sketch_kll.proofs.levels.weight_counted.Goals.{After-count_in_order-counted, After-count_all}
@@ -31,12 +28,6 @@ counted_last g c =
     let zero_is : c.loop-level.level - 1 ≡ 0 = omega (arith, c.loop-level.invariant.some, c.loop-level-test.false) in
     rw zero_is at (more_weight _ ls c.loop-level.level c.loop-level.weight c.level_slice-2.result.now _
     c.loop-level.invariant.some (omega (arith, n, c.loop-level.invariant.within)) c.loop-level.invariant.so_far (rw zero_is c.level_slice-2.ensures) c.count_all.ensures)
-
-pub loop-level-init : goal.loop-level-init
-loop-level-init g c = grind (arith, common_steps, length-bounds, drop_all)
-
-pub count_in_order-counted-requires : goal.count_in_order-counted-requires
-count_in_order-counted-requires g c = grind (arith, common_steps, length-bounds, upper_at)
 
 pub overflow_mul-weight : goal.overflow_mul-weight
 overflow_mul-weight g c = omega (arith, (counted_next g c).1, c.requires.fits)

@@ -2,14 +2,8 @@ use Rattle.std.proofs.lemmas.Grind.{common_steps}
 use Rattle.std.proofs.Common.{arith, ◌≡◌, ◌+◌, ◌-◌, ◌≤◌, ℕ, min}
 use Rattle.std.proofs.lemmas.Result.{IfOk-weaker}
 use Rattle.sketch_base.proofs.Items.{SameItems-clones}
-use Rattle.sketch_kll.proofs.Flats.{length-bounds, length-items}
+use Rattle.sketch_kll.proofs.Flats.{length-items}
 use Rattle.sketch_kll.proofs.levels.Levels.clone_with_room.Goals as goal
-
-few_of : (n : ℕ) {own len : ℕ} → len ≡ own → own ≡ n + 1 → n ≤ 61 → len ≤ 63
-few_of n len own few = omega (arith, len, own, few)
-
-pub overflow_sub-len : goal.overflow_sub-len
-overflow_sub-len g c = grind (arith, common_steps, few_of, length-bounds)
 
 pub returns-clause-clones : goal.returns-clause-clones
 returns-clause-clones g c = grind (arith, common_steps, IfOk-weaker, SameItems-clones)

@@ -9,12 +9,6 @@ use Rattle.sketch_kll.proofs.LevelClones.{same_clones, cloned}
 use Rattle.sketch_kll.proofs.StoredLevels.{kept_still, clones_told}
 use Rattle.sketch_kll.proofs.levels.Levels.make_ready.Goals as goal
 
-some_held : {own len n : ℕ} → own ≡ len → len ≡ n + 1 → 0 < n → 1 < own
-some_held own is some = omega (arith, own, is, some)
-
-pub index-requires : goal.index-requires
-index-requires g c = grind (arith, common_steps, some_held, length-bounds)
-
 some_of : {len n : ℕ} → len ≡ n + 1 → 0 < n → 1 < len
 some_of is some = omega (arith, is, some)
 
@@ -27,12 +21,6 @@ begins_at {from} bounds is some from_is = from_is ∙ get_or_default_zero bounds
 
 pub split_off-requires : goal.split_off-requires
 split_off-requires g c = grind (arith, common_steps, begins_at, length-bounds, within_of, bound_within)
-
-few_of : {len n : ℕ} → len ≡ n + 1 → n ≤ 61 → len ≤ 62
-few_of is few = omega (arith, is, few)
-
-pub reserve_merged-requires-clause-few : goal.reserve_merged-requires-clause-few
-reserve_merged-requires-clause-few g c = few_of (length-bounds c.self.inside.items.items c.self.inside.bounds.items c.self.invariant.flat) c.self.invariant.few
 
 room_of : {items count now own low room : ℕ} → items + count ≤ room → now ≡ own → items ≡ own → count ≡ low → now + low ≤ room
 room_of room now items low = omega (arith, room, now, items, low)
