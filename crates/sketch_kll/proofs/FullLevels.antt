@@ -69,27 +69,12 @@ seeks_start k ls h = record { same = omega arith; more = omega arith }
 -- the first full level that the loop finds is the lowest full one
 pub seeks_found : {A : Type 0} (k : ℕ) (ls : List (List A)) (level : ℕ) → level < length ls → SeeksFull k ls level →
     capacity_at k 8 (length ls - 1 - level) ≤ length (first_level (drop level ls)) → full_level k ls ≡ level
-seeks_found k ls level h s c =
-    let e = drop_level ls level h in
-    let n : length (map length (drop (suc level) ls)) ≡ length ls - 1 - level = length-lengths (drop (suc level) ls) ∙ (length-drop (suc level) ls ∙ omega arith) in
-    let b : nat_le (capacity_at k 8 (length (map length (drop (suc level) ls)))) (length (first_level (drop level ls))) ≡ true =
-    ap (λ (i : ℕ). nat_le (capacity_at k 8 i) (length (first_level (drop level ls)))) n ∙ le-leb _ _ c in
-    let f : full_level k (drop level ls) ≡ 0 = rw (e, b) refl in
-    omega (arith, s.same, f)
+seeks_found k ls level h s c = grind (arith, common_steps, drop_level, length-lengths, length-drop, le-leb)
 
 -- the loop passes over a level that is not full
 pub seeks_more : {A : Type 0} (k : ℕ) (ls : List (List A)) (level : ℕ) → level < length ls → SeeksFull k ls level →
     length (first_level (drop level ls)) < capacity_at k 8 (length ls - 1 - level) → SeeksFull k ls (suc level)
-seeks_more k ls level h s c =
-    let e = drop_level ls level h in
-    let n : length (drop (suc level) ls) ≡ length ls - 1 - level = length-drop (suc level) ls ∙ omega arith in
-    let d : length (first_level (drop level ls)) < capacity_at k 8 (length (drop (suc level) ls)) = rw n c in
-    let b : nat_le (capacity_at k 8 (length (map length (drop (suc level) ls)))) (length (first_level (drop level ls))) ≡ false = rw (length-lengths (drop (suc level) ls)) (lt-leb _ _ d) in
-    let f : full_level k (first_level (drop level ls) ∷ drop (suc level) ls) ≡ suc (full_level k (drop (suc level) ls)) = rw b refl in
-    record {
-      same = omega (arith, s.same, ap (full_level k) e ∙ f);
-      more = omega (arith, s.more, ap (λ (x : List (List _)). total_of k 8 (length x)) e, ap retained e, d);
-    }
+seeks_more k ls level h s c = grind (arith, common_steps, drop_level, length-drop, length-lengths, lt-leb)
 
 -- the loop goes on past a level that general compress would leave as it is, and there is a next one
 pub seeks_on : {A : Type 0} {k level : ℕ} {ls : List (List A)} → is_full k ls ≡ true → level < length ls → SeeksFull k ls level → passes k ls level ≡ true →

@@ -1,11 +1,11 @@
 -- A compaction never makes a 62nd level, since a full level 60 would weigh too much.
 use Rattle.std.proofs.lemmas.Grind.{common_steps}
-use Rattle.std.proofs.Common.{◌≡◌, ℕ, zero, suc, ◌+◌, ◌-◌, ◌*◌, ◌^◌, ◌<◌, ◌≤◌, Bool, false, nat_le, List, [], ◌∷◌, length, refl, sym, ap, ◌∙◌, subst, arith, Ordering, leb-false, inl, inr}
+use Rattle.std.proofs.Common.{◌≡◌, ℕ, zero, suc, ◌+◌, ◌-◌, ◌*◌, ◌^◌, ◌<◌, ◌≤◌, Bool, false, List, [], ◌∷◌, length, refl, sym, ap, ◌∙◌, subst, arith, Ordering, leb-false, inl, inr}
 use Rattle.std.proofs.Math.Nat.{pow-succ'}
 use Rattle.std.proofs.lemmas.Bool.{cases_Bool, lt-leb, cases_lt, cases_eq}
 use Rattle.sketch_kll.specs.Capacity.{capacity_at, total_of}
 use Rattle.sketch_kll.specs.Levels.{retained, weight, compacted, SameLevels}
-use Rattle.sketch_kll.specs.Steps.{full_level, is_full, compacted_if_full, needs_sorting}
+use Rattle.sketch_kll.specs.Steps.{full_level, is_full, compacted_if_full}
 use Rattle.sketch_kll.proofs.Capacities.{capacity_eight}
 use Rattle.sketch_kll.proofs.CompactedSizes.{compacted_size, alike_size}
 use Rattle.sketch_kll.proofs.FullLevels.{full_level_at, with_room_spare, full_holds, length-lengths, spare_from, spare_holds}
@@ -18,10 +18,7 @@ heavy_top k extra [] h t f = absurd (omega arith)
 heavy_top k extra (l ∷ []) h t f = omega arith
 heavy_top k extra (l ∷ m ∷ ls) h t f =
     let short : length l < capacity_at k 8 (suc (length ls)) =
-    elim (cases_Bool (nat_le (capacity_at k 8 (suc (length ls))) (length l))) [
-      | inl e ↦ let z : full_level k (l ∷ m ∷ ls) ≡ 0 = rw (length-lengths ls, e) refl in absurd (omega (arith, z))
-      | inr e ↦ leb-false _ _ e
-    ] in
+    grind (arith, common_steps, cases_Bool, length-lengths, leb-false) in
     let z : full_level k (l ∷ m ∷ ls) ≡ suc (full_level k (m ∷ ls)) = rw (length-lengths ls, lt-leb (capacity_at k 8 (suc (length ls))) (length l) short) refl in
     let p : 2 ^ (suc (suc (length ls)) - 1) ≡ 2 * 2 ^ (suc (length ls) - 1) =
     (let a : suc (suc (length ls)) - 1 ≡ suc (suc (length ls) - 1) = omega arith in ap (λ (i : ℕ). 2 ^ i) a ∙ pow-succ' 2 (suc (length ls) - 1)) in
@@ -80,19 +77,7 @@ pub record RoomMade {A : Type 0} (k : ℕ) (ls ms : List (List A)) : Type 0 wher
 pub room_made : {A : Type 0} (cmp : A → A → Ordering) (k : ℕ) (is_sorted coin : Bool) (ls : List (List A)) → 0 < length ls → length ls ≤ 61 →
     weight ls < 2 ^ 64 →
     retained ls ≤ total_of k 8 (length ls) → RoomMade k ls (compacted_if_full cmp k is_sorted coin ls)
-room_made cmp k is_sorted coin ls h few w t =
-    elim (cases_Bool (is_full k ls)) [
-      | inl e ↦
-          let f = full_holds k ls e in
-          let a = full_level_at k ls h f in
-          let s = compacted_size cmp (needs_sorting is_sorted (full_level k ls)) coin (full_level k ls) ls a.0 in
-          let c = capacity_eight k (length ls - 1 - full_level k ls) in
-          let g = total_up_to k (length ls) (length (compacted cmp (needs_sorting is_sorted (full_level k ls)) coin (full_level k ls) ls)) s.at_least in
-          let m : length (compacted cmp (needs_sorting is_sorted (full_level k ls)) coin (full_level k ls) ls) ≤ 61 =
-          still_few cmp k (needs_sorting is_sorted (full_level k ls)) coin ls h few w f in
-          rw e (record { weighs = s.weighs; few = m; some = omega (arith, s.at_least); within = omega (arith, s.retains, a.1, c, g) })
-      | inr e ↦ let f = spare_holds k ls e in rw e (record { weighs = refl; few = few; some = h; within = omega arith })
-    ]
+room_made cmp k is_sorted coin ls h few w t = grind (arith, common_steps, cases_Bool, full_holds, full_level_at, compacted_size, capacity_eight, total_up_to, still_few, spare_holds)
 
 -- levels weigh at least what they hold
 pub retained-weight : {A : Type 0} (ls : List (List A)) → retained ls ≤ weight ls

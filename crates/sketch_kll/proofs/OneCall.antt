@@ -1,4 +1,6 @@
 -- Under one word a call turns a sketch into only one sketch, up to items that compare equal, and so with one image.
+use Rattle.std.proofs.Common.{arith}
+use Rattle.std.proofs.lemmas.Grind.{common_steps}
 use Rattle.std.proofs.Common.{◌≡◌, ℕ, zero, suc, Bool, true, false, List, [], ◌∷◌, ◌++◌, map, length, Option, Equal, refl, sym, ap, ap₂, ◌∙◌, Ordering}
 use Rattle.std.specs.Cmp.{IsTotalOrder}
 use Rattle.std.specs.Prelude.{reverse}
@@ -93,10 +95,7 @@ module _ {A : Type 0} {cmp : A → A → Ordering} (order : IsTotalOrder cmp) wh
 
   same-reverse : (xs ys : List A) → SameItems cmp xs ys → SameItems cmp (reverse xs) (reverse ys)
   same-reverse [] [] s = tt
-  same-reverse (x ∷ xs) (y ∷ ys) s =
-      let e : reverse (x ∷ xs) ≡ reverse xs ++ x ∷ [] = reverse-append (x ∷ []) xs in
-      let f : reverse (y ∷ ys) ≡ reverse ys ++ y ∷ [] = reverse-append (y ∷ []) ys in
-      rw (e, f) (SameItems-append cmp (reverse xs) (reverse ys) (x ∷ []) (y ∷ []) (same-reverse xs ys s.1) (s.0, tt))
+  same-reverse (x ∷ xs) (y ∷ ys) s = grind (arith, common_steps, reverse-append, SameItems-append, same-reverse xs ys s.1)
   same-reverse _ _ s = absurd s
 
   same-stored : (is_sorted : Bool) (xs ys : List (List A)) → SameLevels cmp xs ys → SameItems cmp (stored is_sorted xs) (stored is_sorted ys)

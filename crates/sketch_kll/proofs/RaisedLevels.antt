@@ -1,7 +1,8 @@
 -- Levels with empty ones added above the top, as a compaction of the top level and a merge need them.
-use Rattle.std.proofs.Common.{◌≡◌, ◌⊎◌, ℕ, zero, suc, ◌+◌, ◌<◌, Bool, List, [], ◌∷◌, ◌++◌, length, refl, sym, ap, ap₂, ◌∙◌, arith, Ordering, length-append, append-nil, replicate, inl, inr}
+use Rattle.std.proofs.Common.{◌≡◌, ◌⊎◌, ℕ, zero, suc, ◌+◌, ◌<◌, Bool, List, [], ◌∷◌, ◌++◌, length, refl, sym, ap, ap₂, ◌∙◌, arith, Ordering, length-append, append-nil, replicate, inl, inr, IsSorted}
 use Rattle.sketch_kll.specs.Levels.{retained, first_level, compacted, AllSorted, UpperSorted}
 use Rattle.sketch_kll.specs.Stored.{AreStored}
+use Rattle.sketch_base.proofs.AllParts.{all-append}
 use Rattle.sketch_kll.specs.Flat.{flat, marks, levels_in, IsFlat}
 use Rattle.sketch_kll.proofs.Flats.{is_flat, levels_of_flat, length-bounds, length-flat}
 
@@ -41,14 +42,10 @@ compacted-top cmp last coin zero (l ∷ []) e = refl
 compacted-top cmp last coin (suc h) (l ∷ ls) e = ap (λ x. l ∷ x) (compacted-top cmp last coin h ls (omega arith))
 compacted-top cmp last coin h ls e = absurd (omega arith)
 
-AllSorted-append : {A : Type 0} (cmp : A → A → Ordering) (ls ms : List (List A)) → AllSorted cmp ls → AllSorted cmp ms → AllSorted cmp (ls ++ ms)
-AllSorted-append cmp [] ms u v = v
-AllSorted-append cmp (l ∷ ls) ms u v = (u.0, AllSorted-append cmp ls ms u.1 v)
-
 -- if sorted levels are added above others, the upper levels stay sorted
 pub UpperSorted-append : {A : Type 0} (cmp : A → A → Ordering) (ls ms : List (List A)) → 0 < length ls → UpperSorted cmp ls → AllSorted cmp ms → UpperSorted cmp (ls ++ ms)
 UpperSorted-append cmp [] ms h u v = absurd (omega arith)
-UpperSorted-append cmp (l ∷ ls) ms h u v = AllSorted-append cmp ls ms u v
+UpperSorted-append cmp (l ∷ ls) ms h u v = all-append (IsSorted cmp) ls ms u v
 
 -- empty levels are sorted
 pub AllSorted-none : {A : Type 0} (cmp : A → A → Ordering) (j : ℕ) → AllSorted cmp (replicate j [])

@@ -1,15 +1,8 @@
 -- Calls of a sketch that return an error or a value: what their clauses say, and the numbers that decide it.
-use Rattle.std.proofs.Common.{◌≡◌, ◌-◌, ◌<◌, ◌^◌, ◌∙◌, ℕ, Bool, false, eqb, List, [], ◌++◌, Option, Ordering, Result, Err, length, subst, sym, ap, arith}
+use Rattle.std.proofs.Common.{◌≡◌, ◌∙◌, ℕ, Bool, false, eqb, List, [], Option, Ordering, length, subst, sym, ap}
 use Rattle.std.proofs.lemmas.Bool.{true≢false}
-use Rattle.sketch_base.specs.Heads.{header_text}
-use Rattle.sketch_base.specs.declared.codec.Header.{Header}
-use Rattle.sketch_base.proofs.Exits.{error_is}
 use Rattle.sketch_kll.specs.Sketch.{IsSound, Kll, sketch_of}
 use Rattle.sketch_kll.specs.Stored.{Stored, KeepsLevels}
-
--- an error that is passed on is refused where it is
-pub refused_there : {T E P : Type 0} {r : Result T E} {x y : E} → r ≡ Err x → (x ≡ y → P) → r ≡ Err y → P
-refused_there e told is = told (error_is e is)
 
 -- levels that are kept make the same sketch
 same_sketch : {A : Type 0} (x y : Stored A) (min_k n : ℕ) (least greatest : Option A) → KeepsLevels x y →
@@ -35,14 +28,7 @@ still_sound cmp x y min_k n least greatest kept sound = subst (IsSound cmp) (sym
 
 -- ---- numbers
 
-pub not_all : {n : ℕ} → n ≡ 2 ^ 64 - 1 → n < 2 ^ 64 - 1 → ⊥
-not_all all light = omega (arith, all, light)
-
 -- ---- images
-
--- a text of fewer than 8 bytes begins with no header
-pub no_header : {text rest : List ℕ} {len : ℕ} (h : Header) → len ≡ length text → len < 8 → text ≡ header_text h ++ rest → ⊥
-no_header h same short parts = omega (arith, same, short, ap length parts)
 
 pub some_left : {text left : List ℕ} {is_none : Bool} → left ≡ text → is_none ≡ eqb (length left) 0 → is_none ≡ false → text ≡ [] → ⊥
 some_left same is off none = true≢false (sym (ap (λ (xs : List ℕ). eqb (length xs) 0) (same ∙ none)) ∙ (sym is ∙ off))

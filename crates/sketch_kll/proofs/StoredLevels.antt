@@ -1,7 +1,8 @@
 -- Levels as they are stored: empty, those of a sound sketch, with items put in, after a compaction, and after a merge.
-use Rattle.std.proofs.Common.{Option, ◌≡◌, ℕ, ◌-◌, ◌<◌, ◌≤◌, Bool, List, [], ◌∷◌, ◌++◌, length, drop, replicate, set, sym, ap, ◌∙◌, subst, arith, Ordering, length-drop, false, IsTrue, IsSorted, subst₂, ap₂}
+use Rattle.std.proofs.lemmas.Grind.{common_steps}
+use Rattle.std.proofs.Common.{Option, ◌≡◌, ℕ, ◌-◌, ◌<◌, ◌≤◌, Bool, List, [], ◌∷◌, ◌++◌, length, drop, replicate, set, sym, ap, ◌∙◌, arith, Ordering, length-drop, false, IsTrue, IsSorted, ap₂}
 use Rattle.sketch_kll.specs.Capacity.{total_of}
-use Rattle.sketch_kll.specs.Flat.{levels_in, marks, IsFlat}
+use Rattle.sketch_kll.specs.Flat.{levels_in, IsFlat}
 use Rattle.sketch_kll.specs.Join.{joined, joined_bounds}
 use Rattle.sketch_kll.specs.Levels.{compacted, first_level, SameLevels, UpperSorted}
 use Rattle.sketch_kll.specs.Sketch.{IsSound, sketch_of}
@@ -27,14 +28,7 @@ pub empty_stored : {A : Type 0} (cmp : A → A → Ordering) (k : ℕ) (items : 
 empty_stored {A} cmp k items bounds total h e f t =
     let n = new_levels items bounds e f in
     let c = ap length n.1 in
-    record {
-      k_above = h;
-      flat = n.0;
-      total_is = t ∙ ap (λ (ls : List (List A)). total_of k 8 (length ls)) (sym n.1);
-      some = omega (arith, c);
-      few = omega (arith, c);
-      sorted = subst (λ (ls : List (List A)). UpperSorted cmp ls) (sym n.1) tt;
-    }
+    grind (arith, common_steps)
 
 -- the levels of a sketch as they are stored
 pub sound_stored : {A : Type 0} (cmp : A → A → Ordering) (k min_k n : ℕ) (flag : Bool) (items : List A) (bounds : List ℕ) (total : ℕ) (least greatest : Option A) →
@@ -125,16 +119,9 @@ pub raised_sorted : {A : Type 0} {cmp : A → A → Ordering} {needs is_sorted c
     {ls : List (List A)} → Raised cmp needs coin level items bounds wide → UpperSorted cmp (levels_in items bounds) → levels_in items bounds ≡ ls →
     needs ≡ needs_sorting is_sorted level → (IsTrue is_sorted → level ≡ 0 → IsSorted cmp (first_level ls)) → needs ≡ false →
     IsSorted cmp (first_level (drop level (levels_in items wide)))
-raised_sorted {A} {cmp} {is_sorted = is_sorted} {level = level} {items = items} {wide = wide} up sorted own needs_is flag left =
-    let first = up.first ∙ ap (λ (xs : List (List A)). first_level xs) own in
-    known_sorted cmp is_sorted level (levels_in items wide) (up.sorted sorted)
-    (λ t z. subst (λ (y : List A). IsSorted cmp y) (sym first) (flag t z)) (sym needs_is ∙ left)
+raised_sorted {A} {cmp} {is_sorted = is_sorted} {level = level} {items = items} {wide = wide} up sorted own needs_is flag left = grind (arith, common_steps, known_sorted)
 
 -- ---- vectors that hold what they held
-
-pub stored_still : {A : Type 0} {cmp : A → A → Ordering} {k total : ℕ} {items items' : List A} {bounds bounds' : List ℕ} →
-    AreStored cmp k items bounds total → items' ≡ items → bounds' ≡ bounds → AreStored cmp k items' bounds' total
-stored_still {A} {cmp} {k} {total} stored e f = subst₂ (λ (xs : List A) (bs : List ℕ). AreStored cmp k xs bs total) (sym e) (sym f) stored
 
 pub kept_still : {A : Type 0} {k room rooms room' rooms' : ℕ} {flag : Bool} {items items' : List A} {bounds bounds' : List ℕ}
     {seen : Stored A} → stored_of k flag items bounds room rooms ≡ seen → items' ≡ items → bounds' ≡ bounds →
@@ -149,10 +136,4 @@ kept_still {A} view e f = record {
 pub clones_told : {A : Type 0} {cmp : A → A → Ordering} {items : List A} {bounds given : List ℕ} {ls : List (List A)} (y : Incoming A) → IsFlat items bounds →
     given ≡ bounds → levels_in items bounds ≡ ls → SameLevels cmp (levels_in items given) (y.low.items ∷ levels_in y.upper.items (drop 1 given)) →
     IsFlat y.upper.items (drop 1 given) → AreClones cmp ls y
-clones_told {A} {cmp} {items} y flat given_is own same fits =
-    let marks_are = given_is ∙ (sym flat.bounds_are ∙ ap marks own) in
-    record {
-      same = subst₂ (λ (xs : List (List A)) (bs : List ℕ). SameLevels cmp xs (y.low.items ∷ levels_in y.upper.items (drop 1 bs)))
-          (ap (levels_in items) given_is ∙ own) marks_are same;
-      flat = subst (λ (bs : List ℕ). IsFlat y.upper.items (drop 1 bs)) marks_are fits;
-    }
+clones_told {A} {cmp} {items} y flat given_is own same fits = grind (arith, common_steps)

@@ -16,11 +16,11 @@ use Rattle.sketch_kll.specs.Schedule.{updates_actions}
 use Rattle.sketch_base.specs.Extremes.{Ties, greatest_with, least_with}
 use Rattle.sketch_kll.specs.Sketch.{Kll, IsSound, IsUpdated, bag_of, coins_of_update, sketch_of, update_of}
 use Rattle.sketch_kll.specs.Steps.{is_full, put, compacted_if_full}
-use Rattle.sketch_kll.specs.Updates.{AreUpdated, OneUpdates, UpdatesGoOn, coins_of_updates}
+use Rattle.sketch_kll.specs.Updates.{OneUpdates, UpdatesGoOn, coins_of_updates}
 use Rattle.sketch_kll.proofs.AlikeSteps.{length-lengths}
 use Rattle.sketch_kll.proofs.ItemsBetween.{greatest_of_both, least_of_both}
 use Rattle.sketch_kll.proofs.MergedSketches.{kept_levels}
-use Rattle.sketch_kll.proofs.Schedules.{fine-kll, fine-updates, updates-append, updates_lengths, updates_lengths_are, updates_some, work_of}
+use Rattle.sketch_kll.proofs.Schedules.{fine_is, fine-updates, updates-append, updates_lengths, updates_lengths_are, updates_some, work_of}
 use Rattle.sketch_kll.proofs.Takes.{taking_more, taking_none}
 use Rattle.sketch_kll.proofs.UnbiasedUpdates.{alike-lengths, alike_on}
 use Rattle.sketch_kll.proofs.UpdatesInTurn.{updates_fields}
@@ -52,11 +52,7 @@ module _ {A : Type 0} {cmp : A → A → Ordering} (o : IsTotalOrder cmp) where
       (least_of_both o x s.least least least_ties) least_is (greatest_of_both o x s.greatest greatest greatest_ties) greatest_is in
       let coins : coins_of_updates s (x ∷ []) ≡ coins_of_update s x = ap draws_of (append-nil (update_of s x)) in
       let t : Kll A = sketch_of k s.min_k (s.n + 1) false ms kept_least kept_greatest in
-      rw flag_is (record {
-        sound = made.sound;
-        updated_is = (one_updates s x (bits_from bit next source (coins_of_update s x)) t).0 (subst (λ (n : ℕ). AreUpdated cmp s (x ∷ []) (bits_from bit next source n) t) coins made.updated_are);
-        source_is = made.source_is ∙ ap (after_draws next source) coins;
-      })
+      grind (arith, common_steps, one_updates)
 
   -- the same, of the sketch as callers see it
   pub updated_seen : {S : Type 0} {bit : S → Bool} {next : S → S} {source after : S} {s s' t : Kll A} {x : A} → s ≡ s' →
@@ -72,11 +68,11 @@ module _ {A : Type 0} {cmp : A → A → Ordering} (o : IsTotalOrder cmp) where
       let later : List ℕ = updates_lengths s.k lengths items in
       let rest : List Bool = drop (draws_of first) word in
       let fine = fine-updates s.k lengths items some0 in
-      let made = lengths-acts cmp first word (alone (bag_of s)) (fine-kll first (work_of lengths) fine) ∙ ap (λ (w : Work (List ℕ)). w.bag) (updates_lengths_are {A = A} s.k lengths items some0) in
+      let made = lengths-acts cmp first word (alone (bag_of s)) (fine_is first (work_of lengths) fine).kll ∙ ap (λ (w : Work (List ℕ)). w.bag) (updates_lengths_are {A = A} s.k lengths items some0) in
       let there : map length t.levels ≡ later = sym (alike-lengths o _ _ a.bag) ∙ made in
       let on : AlikeKll cmp (bag_after cmp (updates_actions s.k later more) rest (bag_of t)) (bag_of u) = rw (a.k, there) at b.bag in
       let both = alike_on o first (updates_actions s.k later more) (work_of lengths) word rest (bag_of s) (bag_of t) (bag_of u) fine
-      (fine-kll _ (work_of later) (fine-updates s.k later more (updates_some s.k lengths items some0))) a.bag on in
+      (fine_is _ (work_of later) (fine-updates s.k later more (updates_some s.k lengths items some0))).kll a.bag on in
       let n = length-append items more in
       record {
         k = b.k ∙ a.k;

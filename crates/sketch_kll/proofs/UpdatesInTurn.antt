@@ -1,4 +1,5 @@
 -- A sketch after updates by some items in turn: it keeps the invariant of sketches, and is what their actions make of it.
+use Rattle.std.proofs.lemmas.Grind.{common_steps}
 use Rattle.std.proofs.Common.{◌≡◌, ℕ, ◌+◌, ◌<◌, Bool, true, eqb, ◌&&◌, List, [], ◌∷◌, ◌++◌, length, map, Option, None, Some, refl, sym, ap, ◌∙◌, subst, arith, append-nil, Ordering}
 use Rattle.std.specs.List.{AllByRecursion}
 use Rattle.std.specs.Option.{option_to_list}
@@ -88,31 +89,7 @@ module _ {A : Type 0} {cmp : A → A → Ordering} (o : IsTotalOrder cmp) where
       let weighs : weight ms ≡ s.n + length items = omega (arith, m.weighs, sound.weighs_n) in
       let ends = ends_there o (s.n + length items) least greatest ms (omega arith) (omega (arith, weighs)) between in
       rw (k_kept, own_k, least_is, greatest_is) (record {
-        sound = record {
-          eight_below_min_k = sound.eight_below_min_k;
-          min_k_below_k = sound.min_k_below_k;
-          k_fits = sound.k_fits;
-          weighs_n = weighs;
-          has_level = m.kept.some;
-          has_few_levels = m.kept.few;
-          within_capacity = m.kept.within;
-          upper_sorted = m.kept.sorted;
-          flag_holds = m.kept.flag_holds;
-          least_there = ends.0;
-          greatest_there = ends.1;
-          extremes_in_order = ends.2;
-          items_between = between;
-          one_level_at_first = λ h. m.one_level (sound.one_level_at_first (omega arith)) (omega (arith, sound.weighs_n));
-          min_k_at_first = λ h. sound.min_k_at_first (omega arith);
-          one_item_ties = λ h.
-              let none : s.n ≡ 0 = omega arith in
-              let no_least = none_at_first s.least s.n none sound.least_there in
-              let no_greatest = none_at_first s.greatest s.n none sound.greatest_there in
-              m.ties least greatest (
-                one_ties s.least s.greatest least greatest items (omega arith) no_least no_greatest least_of greatest_of,
-                all_none o (λ y. Ties cmp y least × Ties cmp y greatest) s.least s.greatest s.levels no_least sound.items_between,
-              );
-        };
+        sound = grind (arith, common_steps, none_at_first, one_ties, all_none);
         updated_are = record { k = refl; min_k = refl; n = refl; is_sorted = m.flag_is; bag = m.bag; least = least_of; greatest = greatest_of };
         source_is = m.source_is;
       })

@@ -1,4 +1,5 @@
 -- The levels of a sound sketch as a view is built from them, and the view as callers see it.
+use Rattle.std.proofs.lemmas.Grind.{common_steps}
 use Rattle.std.proofs.Common.{◌≡◌, ◌<◌, ◌≤◌, ◌^◌, ◌∙◌, ℕ, Bool, List, Option, None, Some, Ordering, Result, IfOk, ap, ap₂, arith, length, subst, sym}
 use Rattle.std.specs.Cmp.{IsTotalOrder}
 use Rattle.sketch_base.specs.Bag.{SameItems, expanded, retained}
@@ -39,13 +40,7 @@ module _ {A : Type 0} (cmp : A → A → Ordering) where
       stored view_is sound fits items_are bounds_are low high =
       let own = sound_inside view_is sound in
       let len = length-bounds items bounds stored.flat in
-      rw (items_are, bounds_are) (record {
-        flat = stored.flat;
-        few = omega (arith, len, stored.few);
-        weighs = omega (arith, own.weighs_n, fits);
-        least_there = there_too least least' _ _ low (sym own.weighs_n) own.least_there;
-        greatest_there = there_too greatest greatest' _ _ high (sym own.weighs_n) own.greatest_there;
-      })
+      grind (arith, common_steps, there_too)
 
   -- the number of items that a view holds, as callers see it
   pub held_as_seen : {E : Type 0} {k total items_room bounds_room min_k n : ℕ} {is_sorted : Bool} {items items' : List A} {bounds : List ℕ} {seen : Stored A}

@@ -50,6 +50,7 @@ impl<T: Ord> Model for Levels<T> {
     ghost invariant = { λ x. AreStored T.cmp x.k x.items.items x.bounds.items x.total_capacity };
 }
 
+#[tactic(auto, using(crate::proofs::Flats::bounded, crate::proofs::FullLevels::full_by_levels))]
 impl<T: Ord + Drop> Levels<T> {
     /// Creates one empty level, which does not count as sorted.
     pub(crate) fn new(alloc: Global, k: u16) -> Result<Self, AllocError>
@@ -217,6 +218,7 @@ impl<T: Ord + Drop> Levels<T> {
 }
 
 /// Returns the items of one level.
+#[tactic(auto, using(crate::proofs::Flats::bounded))]
 pub(crate) fn level_slice<'a, T>(items: &'a [T], bounds: &[usize], level: usize) -> &'a [T]
     requires flat { IsFlat items.now bounds.now }
     requires within { level + 1 < length bounds.now }
@@ -226,6 +228,7 @@ pub(crate) fn level_slice<'a, T>(items: &'a [T], bounds: &[usize], level: usize)
 }
 
 /// Returns the weight of the items that a query counts.
+#[tactic(auto, using(crate::proofs::Flats::bounded, crate::proofs::Legals::of_levels))]
 pub(crate) fn weight_counted<T: Ord>(
     items: &[T],
     bounds: &[usize],

@@ -1,11 +1,9 @@
-use Rattle.std.proofs.Common.{◌≡◌, ◌≤◌, ◌+◌, ◌*◌, ◌-◌, List, [], length, drop, arith, refl}
-use Rattle.std.proofs.lemmas.List.{drop_all}
+use Rattle.std.proofs.Common.{◌≡◌, ◌≤◌, ◌+◌, ◌*◌, ◌-◌, List, drop, arith, refl}
 use Rattle.sketch_base.specs.Query.{counted}
 use Rattle.sketch_kll.specs.Flat.{levels_in}
 use Rattle.sketch_kll.specs.Levels.{weight}
 use Rattle.sketch_kll.specs.Rank.{counted_weight}
 use Rattle.sketch_kll.proofs.Flats.{length-bounds}
-use Rattle.sketch_kll.proofs.Legals.{upper_at}
 use Rattle.sketch_kll.proofs.Rank.{more_weight}
 use Rattle.sketch_kll.proofs.levels.weight_counted.Goals as goal
 use Rattle.sketch_kll.proofs.levels.weight_counted.Goals.{After-count_in_order-counted, After-count_all}
@@ -30,18 +28,6 @@ counted_last g c =
     let zero_is : c.loop-level.level - 1 ≡ 0 = omega (arith, c.loop-level.invariant.some, c.loop-level-test.false) in
     rw zero_is at (more_weight _ ls c.loop-level.level c.loop-level.weight c.level_slice-2.result.now _
     c.loop-level.invariant.some (omega (arith, n, c.loop-level.invariant.within)) c.loop-level.invariant.so_far (rw zero_is c.level_slice-2.ensures) c.count_all.ensures)
-
-pub loop-level-init : goal.loop-level-init
-loop-level-init g c =
-    let n = length-bounds c.args.items.now c.args.bounds.now c.requires.flat in
-    let ls : List (List g.row.T.Denot) = levels_in c.args.items.now c.args.bounds.now in
-    let e : drop (length c.args.bounds.now - 1) ls ≡ [] = drop_all (length c.args.bounds.now - 1) ls (omega (arith, n)) in
-    record { within = omega (arith, n); some = omega (arith, c.requires.some_level); so_far = rw e refl }
-
-pub count_in_order-counted-requires : goal.count_in_order-counted-requires
-count_in_order-counted-requires g c =
-    let n = length-bounds c.args.items.now c.args.bounds.now c.requires.flat in
-    record { sorted = rw c.level_slice.ensures (upper_at g.T.Ord.cmp (levels_in c.args.items.now c.args.bounds.now) c.requires.upper (c.loop-level.level - 1) (omega arith) (omega (arith, n, c.loop-level.invariant.within))) }
 
 pub overflow_mul-weight : goal.overflow_mul-weight
 overflow_mul-weight g c = omega (arith, (counted_next g c).1, c.requires.fits)

@@ -1,4 +1,5 @@
-use Rattle.std.proofs.Common.{arith, ◌≡◌, ◌+◌, ◌<◌, ◌≤◌, ◌∙◌, ◌++◌, ℕ, List, length, ap, refl, subst, sym}
+use Rattle.std.proofs.lemmas.Grind.{common_steps}
+use Rattle.std.proofs.Common.{arith, ◌≡◌, ◌<◌, ◌≤◌, ◌++◌, ℕ, List, length, ap, refl}
 use Rattle.std.specs.Int.{w32, to_le_bytes}
 use Rattle.sketch_base.proofs.Exits.{refused_if}
 use Rattle.sketch_base.proofs.FixedNumbers.{same_32}
@@ -25,20 +26,10 @@ exceeds same below over = omega (arith, same, below, over)
 pub returns-then-offset-low-clause-refused : goal.returns-then-offset-low-clause-refused
 returns-then-offset-low-clause-refused c =
     λ _. no_more_bounds c.loop.invariant.so_far c.ranges.limit.fits c.loop-test.true (λ x more fits begins above below.
-    let same = (same_32 x c.in_ok-offset.offset more c.read_u32_le.new.self fits (omega arith) (sym begins ∙ c.in_ok-offset.ensures.ok)).0 in
-    elim c.then-offset-low.branch [
-      | then-offset-low-via-then-offset-low w ↦ falls same above w.if-offset-low.true
-      | then-offset-low-via-else-offset-low+then-offset-limit w ↦ exceeds same below w.if-offset-limit.true
-    ])
+    grind (arith, common_steps, same_32, then-offset-low-via-then-offset-low, falls, then-offset-low-via-else-offset-low+then-offset-limit, exceeds))
 
 pub loop-preserved : goal.loop-preserved
-loop-preserved c =
-    let told = c.push_reserved.ensures in
-    record {
-      so_far = one_bound c.in_ok-offset.offset c.loop.invariant.so_far c.in_ok-offset.ensures.ok (omega arith) c.if-offset-low.false c.if-offset-limit.false told.items;
-      as_many = told.len ∙ ap (λ (n : ℕ). n + 1) c.loop.invariant.as_many;
-      room = subst (λ (room : ℕ). c.args.num_levels + 1 ≤ room) (sym told.capacity) c.loop.invariant.room;
-    }
+loop-preserved c = grind (arith, common_steps, one_bound)
 
 pub returns-clause-found : goal.returns-clause-found
 returns-clause-found c = bounds_found c.loop.invariant.so_far (all_counted refl c.loop-test.false c.loop.auto.counter-end) c.push_reserved-2.ensures.items

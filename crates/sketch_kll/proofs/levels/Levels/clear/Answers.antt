@@ -1,4 +1,5 @@
-use Rattle.std.proofs.Common.{◌≡◌, ℕ, [], ◌∷◌, replicate, arith, refl, ap, ◌∙◌, ◌+◌, ◌-◌, ◌<◌}
+use Rattle.std.proofs.lemmas.Grind.{common_steps}
+use Rattle.std.proofs.Common.{◌≡◌, ℕ, [], ◌∷◌, arith, refl, ap, ◌+◌, ◌-◌, ◌<◌}
 use Rattle.sketch_kll.proofs.Flats.{length-bounds}
 use Rattle.sketch_kll.proofs.StoredLevels.{empty_stored, new_levels}
 use Rattle.sketch_kll.specs.Stored.{Stored}
@@ -11,11 +12,7 @@ two_left l left own len some = omega (arith, left, own, len, some)
 
 -- the bounds of one empty level
 bounds_are : (g : _) (c : After-fill g) → c.fill.new.self.items ≡ 0 ∷ 0 ∷ []
-bounds_are g c =
-    let x = c.self.inside in
-    c.fill.ensures.items (λ y same. same)
-    ∙ ap (λ (n : ℕ). replicate n 0) (two_left _ c.truncate.ensures.len x.bounds.ok.0 (length-bounds x.items.items x.bounds.items c.self.invariant.flat)
-    c.self.invariant.some)
+bounds_are g c = grind (arith, common_steps, two_left, length-bounds)
 
 pub invariant_of-self : goal.invariant_of-self
 invariant_of-self g c =

@@ -1,4 +1,5 @@
-use Rattle.std.proofs.Common.{false, IsSorted, le_of_eq, ◌≡◌, ◌+◌, ◌-◌, ◌<◌, ◌≤◌, ap₂, ℕ, Bool, List, [], ◌∷◌, ◌++◌, take, drop, length, arith, sym, ap, subst, ◌∙◌, inl, inr, vec_capacity, length-append, true}
+use Rattle.std.proofs.lemmas.Grind.{common_steps}
+use Rattle.std.proofs.Common.{false, IsSorted, le_of_eq, ◌≡◌, ◌+◌, ◌-◌, ◌<◌, ◌≤◌, ap₂, ℕ, List, [], ◌∷◌, ◌++◌, take, drop, length, arith, sym, ap, subst, ◌∙◌, inl, inr, vec_capacity, length-append, true}
 use Rattle.sketch_kll.specs.Capacity.{total_of}
 use Rattle.sketch_kll.specs.Levels.{retained, compacted, first_level, SameLevels, UpperSorted}
 use Rattle.sketch_kll.specs.Flat.{levels_in, IsFlat}
@@ -60,9 +61,7 @@ shifted_bounds g c =
     take wide.len (c.compact_level-count.new.bounds ++ drop (length c.compact_level-count.new.bounds) wide.items)
 
 bounds_are : (g : _) (c : After-truncate g) → shifted_bounds g c ≡ c.compact_level-count.new.bounds
-bounds_are g c =
-    let wide = c.if-level-len.self-inside.bounds in
-    whole_slice c.compact_level-count.new.bounds wide.items wide.len (c.compact_level-count.auto.bounds ∙ c.deref_mut-2.ensures.len)
+bounds_are g c = grind (arith, common_steps, whole_slice)
 
 cut_off : {A : Type 0} (count : ℕ) (items old : List A) {cut : List A} {len kept lent : ℕ} →
     cut ≡ take (len - count) (take kept (items ++ drop (length items) old)) → len ≡ kept → lent ≡ kept →
@@ -92,9 +91,7 @@ record Lent (g : _) (c : After-random_bit-arg-1 g) (items : List g.row.T.Denot) 
   level : c.needs_sorting-needs_sorting.result ≡ false → IsSorted g.T.Ord.cmp (first_level (drop c.args.level (levels_in items bounds)))
 
 needs_is : (g : _) (c : After-random_bit-arg-1 g) → c.needs_sorting-needs_sorting.result ≡ needs_sorting c.args.self.now.is_sorted c.args.level
-needs_is g c =
-    c.needs_sorting-needs_sorting.ensures
-    ∙ ap (λ (f : Bool). needs_sorting f c.args.level) ((is_raised g c.before.before).flag_is ∙ ap (λ (y : Stored g.row.T.Denot). y.is_sorted) c.self.view_is)
+needs_is g c = grind (arith, common_steps, is_raised)
 
 -- what the compaction is lent
 lent : (g : _) (c : After-random_bit-arg-1 g) {items : List g.row.T.Denot} {bounds : List ℕ} → items ≡ c.if-level-len.self-inside.items.items →

@@ -1,3 +1,4 @@
+use Rattle.std.proofs.lemmas.Grind.{common_steps}
 use Rattle.std.proofs.Common.{◌≡◌, ℕ, Bool, List, Ordering, true, false, cond, ◌+◌, ◌<◌, ◌≤◌, ◌⊎◌, inl, inr, suc, ◌^◌, length, arith, ap, sym, subst, ◌∙◌, refl, subst₂, le_refl}
 use Rattle.std.proofs.lemmas.Bool.{cases_eq}
 use Rattle.sketch_kll.specs.Capacity.{total_of}
@@ -36,18 +37,7 @@ loop-self-init g c = record {
 }
 
 pub compact-requires-clause-few : goal.compact-requires-clause-few
-compact-requires-clause-few g c =
-    let x = c.loop-self.self in
-    let i = c.loop-self.invariant in
-    let within = c.loop-self-test.ensures.within refl in
-    let few = c.loop-self-test.ensures.few in
-    let full = full_holds x.k x.levels (c.loop-self-test.ensures.full refl) in
-    let above = subst (λ (n : ℕ). 8 ≤ n) (ap (λ (y : Stored g.row.T.Denot). y.k) c.self.view_is) c.self.invariant.k_above in
-    elim (cases_eq c.loop-self.level 60) [
-      | inl e ↦ absurd (no_62nd_level c.args.self.now.k c.loop-self.level x.levels above e (top_of within e few)
-          (subst (λ (k : ℕ). total_of k 8 (length x.levels) ≤ retained x.levels) i.kept.k_is full) i.weighs i.behind)
-      | inr e ↦ low_still within few e
-    ]
+compact-requires-clause-few g c = grind (arith, common_steps, full_holds, cases_eq, no_62nd_level, top_of, low_still)
 
 more_room : {before now after : ℕ} → before ≤ now → now ≤ after → before ≤ after
 more_room now after = omega arith
@@ -84,20 +74,13 @@ has_compacted : {A S : Type 0} {cmp : A → A → Ordering} {bit : S → Bool} {
     passes x.k x.levels level ≡ false → y ≡ y' → coins' ≡ next' → KeepsRoom x y' →
     SameLevels cmp (compacted cmp (needs_sorting x.is_sorted level) (bit coins) level x.levels) y'.levels → next' ≡ next coins →
     HasStepped cmp bit next level x y coins coins'
-has_compacted {A} {S} {cmp} {bit} {next} {level} {x} {y} {y'} {coins} moves is drawn kept levels after =
-    rw (is, drawn) (record {
-      kept = kept;
-      levels = subst (λ (p : Bool). SameLevels cmp (cond p x.levels (compacted cmp (needs_sorting x.is_sorted level) (bit coins) level x.levels)) y'.levels)
-          (sym moves) levels;
-      source = after ∙ ap (λ (b : Bool). cond b coins (next coins)) (sym moves);
-    })
+has_compacted {A} {S} {cmp} {bit} {next} {level} {x} {y} {y'} {coins} moves is drawn kept levels after = grind (arith, common_steps)
 
 has_stepped : (g : _) (c : Joined-not-level_passes g) →
     HasStepped g.T.Ord.cmp g.B.RandomBits.bit g.B.RandomBits.next c.loop-self.level c.loop-self.self c.if-not-level_passes.self c.loop-self.coins c.if-not-level_passes.coins
 has_stepped g c = elim c.if-not-level_passes.branch [
   | then-not-level_passes w ↦
-      let e = w.compact.ensures in
-      has_compacted (sym c.level_passes.ensures ∙ w.if-not-level_passes.true) w.self-is w.coins-is e.kept e.levels e.coins
+      grind (arith, common_steps, has_compacted)
   | else-not-level_passes w ↦
       has_stayed g.met.T.Ord.total (sym c.level_passes.ensures ∙ w.if-not-level_passes.false) w.self-is w.coins-is
 ]

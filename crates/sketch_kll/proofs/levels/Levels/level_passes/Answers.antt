@@ -1,4 +1,4 @@
-use Rattle.std.proofs.Common.{◌≡◌, ◌<◌, ◌-◌, length, sym, subst, true, ap, ◌∙◌, arith, nat_le, not, ap₂, get_or, ◌+◌, suc, List, ℕ, ◌≤◌}
+use Rattle.std.proofs.Common.{◌≡◌, ◌-◌, length, sym, subst, true, ap, ◌∙◌, arith, nat_le, not, ap₂, get_or, ◌+◌, suc, List, ℕ}
 use Rattle.sketch_kll.specs.Capacity.{capacity_at}
 use Rattle.sketch_kll.specs.Flat.{levels_in}
 use Rattle.sketch_kll.specs.Steps.{is_full}
@@ -7,8 +7,6 @@ use Rattle.sketch_kll.proofs.Flats.{bound_falls_to, length-bounds}
 use Rattle.sketch_kll.proofs.FullLevels.{passes_is}
 use Rattle.sketch_kll.specs.Compress.{passes}
 use Rattle.sketch_kll.proofs.levels.Levels.level_passes.Goals as goal
-use Rattle.sketch_kll.proofs.levels.Levels.level_passes.Goals.at as past
-use Rattle.sketch_kll.proofs.levels.Levels.level_passes.Goals.{After-as_slice-bounds}
 
 depth_of : (l level : ℕ) {len n : ℕ} → len ≡ n → n ≡ l + 1 → len - 1 - 1 - level ≡ l - 1 - level
 depth_of l level len n = omega (arith, len, n)
@@ -18,23 +16,6 @@ next_is level = omega arith
 
 gap_is : (n b : ℕ) {a : ℕ} → a ≡ n + b → a - b ≡ n
 gap_is n b a = omega (arith, a)
-
-below_is : (n b : ℕ) {a : ℕ} → a ≡ n + b → b ≤ a
-below_is n b a = omega (arith, a)
-
-within : (g : _) (c : After-as_slice-bounds g) → c.args.level + 1 < length c.as_slice-bounds.result.now
-within g c =
-    let n = length-bounds c.self.inside.items.items c.self.inside.bounds.items c.self.invariant.flat in
-    omega (arith, n, ap (λ (y : Stored g.row.T.Denot). length y.levels) c.self.view_is, c.requires.within, ap length c.as_slice-bounds.ensures.value)
-
-pub is_at_capacity-requires : goal.is_at_capacity-requires
-is_at_capacity-requires g c =
-    let n = length-bounds c.self.inside.items.items c.self.inside.bounds.items c.self.invariant.flat in
-    record {
-      k = c.self.invariant.k_above;
-      few_levels = omega (arith, n, c.self.invariant.few, ap length c.as_slice-bounds.ensures.value);
-      within = omega (arith, within g (past.is_at_capacity-requires g c).After-as_slice-bounds);
-    }
 
 pub returns : goal.returns
 returns g c =
@@ -47,15 +28,3 @@ returns g c =
     ap not c.is_at_capacity.ensures
     ∙ (ap₂ (λ (most n : ℕ). not (nat_le most n)) (ap (capacity_at x.k 8) depth) count
     ∙ (sym p ∙ ap (λ (y : Stored g.row.T.Denot). passes y.k y.levels c.args.level) c.self.view_is))
-
-pub bounds-bounds-level : goal.bounds-bounds-level
-bounds-bounds-level g c = omega (arith, within g (past.bounds-bounds-level g c).After-as_slice-bounds)
-
-pub bounds-bounds-level-2 : goal.bounds-bounds-level-2
-bounds-bounds-level-2 g c = omega (arith, within g (past.bounds-bounds-level-2 g c).After-as_slice-bounds)
-
-pub overflow_sub-bounds : goal.overflow_sub-bounds
-overflow_sub-bounds g c =
-    subst (λ (bs : List ℕ). get_or bs (c.args.level + 1) 0 ≤ get_or bs c.args.level 0) (sym c.as_slice-bounds.ensures.value)
-    (below_is _ _ (bound_falls_to c.self.inside.items.items c.self.inside.bounds.items c.self.invariant.flat c.args.level (c.args.level + 1)
-    (next_is c.args.level)))

@@ -1,3 +1,4 @@
+use Rattle.std.proofs.lemmas.Grind.{common_steps}
 use Rattle.std.proofs.Common.{◌∙◌, arith, sym}
 use Rattle.sketch_kll.proofs.FullLevels.{full_holds, seeks_end, seeks_on, seeks_start}
 use Rattle.sketch_kll.proofs.NoMoreLevels.{full_level_low}
@@ -15,7 +16,4 @@ pub returns-clause-level : goal.returns-clause-level
 returns-clause-level g c = seeks_end c.requires.full c.loop-level.invariant.within c.loop-level.invariant.seeks (sym c.level_passes.ensures ∙ c.loop-level-test.false)
 
 pub returns-clause-few : goal.returns-clause-few
-returns-clause-few g c =
-    let low = full_level_low c.args.self.now.k c.args.self.now.levels c.requires.some c.requires.few c.requires.light (full_holds _ _ c.requires.full) in
-    let at = seeks_end c.requires.full c.loop-level.invariant.within c.loop-level.invariant.seeks (sym c.level_passes.ensures ∙ c.loop-level-test.false) in
-    omega (arith, low, at)
+returns-clause-few g c = grind (arith, common_steps, full_level_low, full_holds, seeks_end)

@@ -1,3 +1,4 @@
+use Rattle.std.proofs.lemmas.Grind.{common_steps}
 use Rattle.std.proofs.Common.{arith, ◌≡◌, ◌+◌, ◌<◌, ◌≤◌, ℕ, List, length, get_or, take, drop, ap, ap₂, refl, ◌∙◌, length-append, take-append-drop}
 use Rattle.std.proofs.lemmas.Grind.{get_or_default_zero}
 use Rattle.sketch_kll.specs.Flat.{levels_in}
@@ -7,14 +8,6 @@ use Rattle.sketch_kll.proofs.Flats.{bound_within, length-bounds, length-items}
 use Rattle.sketch_kll.proofs.LevelClones.{same_clones, cloned}
 use Rattle.sketch_kll.proofs.StoredLevels.{kept_still, clones_told}
 use Rattle.sketch_kll.proofs.levels.Levels.make_ready.Goals as goal
-
-some_held : {own len n : ℕ} → own ≡ len → len ≡ n + 1 → 0 < n → 1 < own
-some_held own is some = omega (arith, own, is, some)
-
-pub index-requires : goal.index-requires
-index-requires g c =
-    let x = c.others.inside in
-    some_held x.bounds.ok.0 (length-bounds x.items.items x.bounds.items c.others.invariant.flat) c.others.invariant.some
 
 some_of : {len n : ℕ} → len ≡ n + 1 → 0 < n → 1 < len
 some_of is some = omega (arith, is, some)
@@ -27,17 +20,7 @@ begins_at : {from : ℕ} (bounds : List ℕ) {n : ℕ} → length bounds ≡ n +
 begins_at {from} bounds is some from_is = from_is ∙ get_or_default_zero bounds 1 from (some_of is some)
 
 pub split_off-requires : goal.split_off-requires
-split_off-requires g c =
-    let x = c.others.inside in
-    let flat = c.others.invariant.flat in
-    let from = begins_at x.bounds.items (length-bounds x.items.items x.bounds.items flat) c.others.invariant.some c.index.ensures in
-    within_of from (bound_within x.items.items x.bounds.items flat 1) c.in_ok-upper.ensures.cases.1 x.items.ok.0
-
-few_of : {len n : ℕ} → len ≡ n + 1 → n ≤ 61 → len ≤ 62
-few_of is few = omega (arith, is, few)
-
-pub reserve_merged-requires-clause-few : goal.reserve_merged-requires-clause-few
-reserve_merged-requires-clause-few g c = few_of (length-bounds c.self.inside.items.items c.self.inside.bounds.items c.self.invariant.flat) c.self.invariant.few
+split_off-requires g c = grind (arith, common_steps, begins_at, length-bounds, within_of, bound_within)
 
 room_of : {items count now own low room : ℕ} → items + count ≤ room → now ≡ own → items ≡ own → count ≡ low → now + low ≤ room
 room_of room now items low = omega (arith, room, now, items, low)

@@ -1,10 +1,11 @@
-use Rattle.std.proofs.Common.{◌≡◌, ◌+◌, ◌-◌, ◌^◌, ◌<◌, ◌≤◌, ◌++◌, ℕ, List, replicate, take, drop, length, vec_len, vec_capacity, refl, sym, ap, ◌∙◌, arith, subst, append-nil, length-append}
+use Rattle.std.proofs.lemmas.Grind.{common_steps}
+use Rattle.std.proofs.Common.{◌≡◌, ◌+◌, ◌-◌, ◌^◌, ◌<◌, ◌≤◌, ◌++◌, ℕ, List, replicate, take, drop, length, vec_capacity, refl, sym, ap, ◌∙◌, arith, append-nil, length-append}
 use Rattle.std.proofs.lemmas.List.{length-replicate}
 use Rattle.sketch_kll.specs.Capacity.{total_of}
 use Rattle.sketch_kll.specs.Flat.{levels_in}
-use Rattle.sketch_kll.specs.Join.{joined_bounds, joined}
-use Rattle.sketch_kll.specs.Levels.{retained, SameLevels}
-use Rattle.sketch_kll.specs.Stored.{AreStored, Stored}
+use Rattle.sketch_kll.specs.Join.{joined_bounds}
+use Rattle.sketch_kll.specs.Levels.{retained}
+use Rattle.sketch_kll.specs.Stored.{Stored}
 use Rattle.sketch_kll.proofs.Flats.{length-items}
 use Rattle.sketch_kll.proofs.JoinedLevels.{prepared, joined_fit, whole_slice}
 use Rattle.sketch_kll.proofs.StoredLevels.{JoinedStored, known_total, joined_stored}
@@ -107,18 +108,7 @@ add_bounds-requires g c =
     }
 
 pub returns : goal.returns
-returns g c =
-    let w = is_wide g (past.returns g c).Joined-len-others in
-    record {
-      k = w.k_is ∙ ap (λ (y : Stored g.row.T.Denot). y.k) c.self.view_is;
-      flag = w.flag_is ∙ ap (λ (y : Stored g.row.T.Denot). y.is_sorted) c.self.view_is;
-      levels = subst (λ (y : Stored g.row.T.Denot).
-          SameLevels g.T.Ord.cmp (joined g.T.Ord.cmp y.levels (levels_in c.args.upper.items (drop 1 c.args.others.now)))
-          (levels_in c.reverse.new.self.items (take c.if-len-others.self-inside.bounds.len
-          (c.add_bounds.new.bounds ++ drop (length c.add_bounds.new.bounds) c.if-len-others.self-inside.bounds.items))))
-          c.self.view_is (stored_in_the_end g (past.returns g c).After-drop-upper w.bounds w.items_are w.total_is).same;
-      spare = spare_of w.room (ap (λ (y : Stored g.row.T.Denot). y.bounds_room) c.self.view_is) c.requires.spare;
-    }
+returns g c = grind (arith, common_steps, is_wide, Joined-len-others, stored_in_the_end, After-drop-upper, spare_of)
 
 pub merge_runs_back-requires-clause-flat : goal.merge_runs_back-requires-clause-flat
 merge_runs_back-requires-clause-flat g c =
@@ -135,16 +125,9 @@ merge_runs_back-requires-clause-sorted g c =
     wide.sorted
 
 pub merge_runs_back-requires-clause-room : goal.merge_runs_back-requires-clause-room
-merge_runs_back-requires-clause-room g c =
-    let x = c.self.inside in
-    let w = is_wide g (past.merge_runs_back-requires-clause-room g c).Joined-len-others in
-    room_of _ (ap (λ v. vec_len v) (c.take_away-items.ensures.taken ∙ w.items_are)) x.items.ok.0
-    (length-items x.items.items x.bounds.items c.self.invariant.flat ∙ ap (λ (y : Stored g.row.T.Denot). retained y.levels) c.self.view_is) c.requires.room
+merge_runs_back-requires-clause-room g c = grind (arith, common_steps, is_wide, Joined-len-others, room_of, length-items)
 
 pub invariant_of-self : goal.invariant_of-self
 invariant_of-self g c =
     let w = is_wide g (past.invariant_of-self g c).Joined-len-others in
-    let wide = c.if-len-others.self-inside.bounds in
-    subst (λ (k : ℕ). AreStored g.T.Ord.cmp k c.reverse.new.self.items
-    (take wide.len (c.add_bounds.new.bounds ++ drop (length c.add_bounds.new.bounds) wide.items)) c.if-len-others.self-inside.total_capacity)
-    (sym w.k_is) (stored_in_the_end g (past.invariant_of-self g c).After-drop-upper w.bounds w.items_are w.total_is).stored
+    grind (arith, common_steps, stored_in_the_end, After-drop-upper)

@@ -1,4 +1,5 @@
-use Rattle.std.proofs.Common.{arith, ◌≡◌, ℕ, List, ◌+◌, ◌-◌, ◌<◌, ◌≤◌, ◌++◌, suc, length, get_or, take, drop, reverse, refl, sym, ap, ap₂, subst, subst₂, ◌∙◌, append_assoc, length-append, length-drop, length-take-le, le_refl, take-append-drop}
+use Rattle.std.proofs.lemmas.Grind.{common_steps}
+use Rattle.std.proofs.Common.{arith, ◌≡◌, ℕ, List, ◌+◌, ◌-◌, ◌<◌, ◌≤◌, ◌++◌, suc, length, get_or, take, drop, reverse, refl, sym, ap, ap₂, subst, ◌∙◌, append_assoc, length-append, length-drop, length-take-le, le_refl, take-append-drop}
 use Rattle.std.proofs.lemmas.List.{length-reverse}
 use Rattle.sketch_base.proofs.Pourings.{reverse_back}
 use Rattle.sketch_kll.specs.Flat.{levels_in}
@@ -15,11 +16,7 @@ some_levels l n fewer some = omega (arith, n, fewer, some)
 joining : (g : _) (c : After-move_back g) →
     AreJoining g.T.Ord.cmp (c.loop-level.level - 1) (levels_in c.args.items.now.items c.args.bounds.now) (levels_in c.args.upper.now.items (drop 1 c.args.other_bounds.now))
     c.move_back.new.from.items c.loop-level.upper.items c.move_back.new.to.items
-joining g c =
-    subst₂
-    (λ (xs ys : List g.row.T.Denot).
-    AreJoining g.T.Ord.cmp (c.loop-level.level - 1) (levels_in c.args.items.now.items c.args.bounds.now) (levels_in c.args.upper.now.items (drop 1 c.args.other_bounds.now))
-    xs c.loop-level.upper.items ys) (sym c.move_back.ensures.from) (sym c.move_back.ensures.to) c.loop-level.invariant.joining
+joining g c = grind (arith, common_steps)
 
 -- the next runs
 runs : (g : _) (c : After-move_back g) →
@@ -65,23 +62,12 @@ merge_from_back-requires-clause-right_sorted g c = (runs g (past.merge_from_back
 moved_count : {A : Type 0} (keep : ℕ) (from to : List A) {from' to' : List A} → from' ≡ take keep from → to' ≡ to ++ reverse (drop keep from) →
     keep ≤ length from →
     length to' + length from' ≡ length to + length from
-moved_count keep from to e f within =
-    omega (
-      arith,
-      ap length e,
-      length-take-le keep from within,
-      ap length f,
-      length-append to (reverse (drop keep from)),
-      length-reverse (drop keep from),
-      length-drop keep from,
-    )
+moved_count keep from to e f within = grind (arith, common_steps, length-take-le, length-append, length-reverse, length-drop)
 
 -- how many items there are then
 counted : (g : _) (c : After-move_back g) →
     length c.move_back.new.to.items + length c.move_back.new.from.items ≡ length c.loop-level.merged.items + length c.loop-level.items.items
-counted g c =
-    moved_count (get_or c.args.bounds.now c.loop-level.level 0) c.loop-level.items.items c.loop-level.merged.items c.move_back.ensures.from
-    c.move_back.ensures.to c.loop-level.invariant.below
+counted g c = grind (arith, common_steps, moved_count)
 
 lower_of : (ls : ℕ) {level runs bounds : ℕ} → level < runs - 1 → bounds ≡ ls + 1 → runs ≤ bounds → 1 ≤ level → suc (level - 1) < ls
 lower_of ls lt n fewer some = omega (arith, lt, n, fewer, some)

@@ -1,4 +1,6 @@
-use Rattle.std.proofs.Common.{◌≡◌, ◌∙◌, ◌&&◌, Bool, true, false, ap, ap₂, eq-eqb, ne_eqb, refl, sym}
+use Rattle.std.proofs.Common.{arith}
+use Rattle.std.proofs.lemmas.Grind.{common_steps}
+use Rattle.std.proofs.Common.{◌≡◌, ◌∙◌, ◌&&◌, Bool, true, false, ap, eq-eqb, refl, sym}
 use Rattle.std.specs.Prelude.{nat_eq}
 use Rattle.std.specs.Bool.{beq}
 use Rattle.std.specs.Option.{option_eq}
@@ -21,48 +23,27 @@ both_more true y z = refl
 both_more false y z = refl
 
 k_tests : (g : _) (c : Joined-eq-2 g) → c.if-own-others.value ≡ (nat_eq c.own.inside.k c.others.inside.k && nat_eq c.self.inside.min_k c.other.inside.min_k)
-k_tests g c = elim c.if-own-others.branch as (λ _. c.if-own-others.value ≡ (nat_eq c.own.inside.k c.others.inside.k && nat_eq c.self.inside.min_k c.other.inside.min_k)) [
-  | then-own-others w ↦ then_both (eq-eqb _ _ w.if-own-others.true) (w.value-is)
-  | else-own-others w ↦ else_both _ (ne_eqb _ _ w.if-own-others.false) w.value-is
-]
+k_tests g c = grind (arith, common_steps, then-own-others, then_both, eq-eqb, else-own-others, else_both)
 
 n_test : (g : _) (c : Joined-eq-2 g) → c.if-self-other.value ≡ (c.if-own-others.value && nat_eq c.self.inside.n c.other.inside.n)
-n_test g c = elim c.if-self-other.branch as (λ _. c.if-self-other.value ≡ (c.if-own-others.value && nat_eq c.self.inside.n c.other.inside.n)) [
-  | then-self-other w ↦ then_both w.if-self-other.true (w.value-is)
-  | else-self-other w ↦ else_both _ w.if-self-other.false w.value-is
-]
+n_test g c = grind (arith, common_steps, then-self-other, then_both, else-self-other, else_both)
 
 flag_test : (g : _) (c : Joined-eq-2 g) → c.if-self-other-2.value ≡ (c.if-self-other.value && beq c.own.inside.is_level_zero_sorted c.others.inside.is_level_zero_sorted)
-flag_test g c = elim c.if-self-other-2.branch as (λ _. c.if-self-other-2.value ≡ (c.if-self-other.value && beq c.own.inside.is_level_zero_sorted c.others.inside.is_level_zero_sorted)) [
-  | then-self-other-2 w ↦ then_both w.if-self-other-2.true (w.value-is)
-  | else-self-other-2 w ↦ else_both _ w.if-self-other-2.false w.value-is
-]
+flag_test g c = grind (arith, common_steps, then-self-other-2, then_both, else-self-other-2, else_both)
 
 bounds_test : (g : _) (c : Joined-eq-2 g) → c.if-own-others-2.value ≡ (c.if-self-other-2.value && pointwise nat_eq c.own.inside.bounds.items c.others.inside.bounds.items)
-bounds_test g c = elim c.if-own-others-2.branch as (λ _. c.if-own-others-2.value ≡ (c.if-self-other-2.value && pointwise nat_eq c.own.inside.bounds.items c.others.inside.bounds.items)) [
-  | then-own-others-2 w ↦ then_both w.if-own-others-2.true (w.value-is ∙ w.eq.ensures)
-  | else-own-others-2 w ↦ else_both _ w.if-own-others-2.false w.value-is
-]
+bounds_test g c = grind (arith, common_steps, then-own-others-2, then_both, else-own-others-2, else_both)
 
 items_test : (g : _) (c : Joined-eq-2 g) → c.if-eq.value ≡ (c.if-own-others-2.value && pointwise g.T.PartialEq.eq c.own.inside.items.items c.others.inside.items.items)
-items_test g c = elim c.if-eq.branch as (λ _. c.if-eq.value ≡ (c.if-own-others-2.value && pointwise g.T.PartialEq.eq c.own.inside.items.items c.others.inside.items.items)) [
-  | then-eq w ↦ then_both w.if-eq.true (w.value-is ∙ w.eq-then-eq.ensures)
-  | else-eq w ↦ else_both _ w.if-eq.false w.value-is
-]
+items_test g c = grind (arith, common_steps, then-eq, then_both, else-eq, else_both)
 
 least_test : (g : _) (c : Joined-eq-2 g) → c.if-eq-2.value ≡ (c.if-eq.value && option_eq g.T.PartialEq.eq c.self.inside.min_item c.other.inside.min_item)
-least_test g c = elim c.if-eq-2.branch as (λ _. c.if-eq-2.value ≡ (c.if-eq.value && option_eq g.T.PartialEq.eq c.self.inside.min_item c.other.inside.min_item)) [
-  | then-eq-2 w ↦ then_both w.if-eq-2.true (w.value-is ∙ w.eq-then-eq-2.ensures)
-  | else-eq-2 w ↦ else_both _ w.if-eq-2.false w.value-is
-]
+least_test g c = grind (arith, common_steps, then-eq-2, then_both, else-eq-2, else_both)
 
 -- all of them together
 tests_joined : (k min_k n flag bounds items least greatest : Bool) {levels v w x y z u r : Bool} → v ≡ (k && min_k) → w ≡ (v && n) → x ≡ (w && flag) → y ≡ (x && bounds) → z ≡ (y && items) →
     (bounds && items) ≡ levels → u ≡ (z && least) → r ≡ (u && greatest) → r ≡ (k && min_k && n && flag && levels && least && greatest)
-tests_joined k min_k n flag bounds items least greatest {x = x} e f h i j same l m =
-    let upper = h ∙ ap (λ (w : Bool). w && flag) (f ∙ ap (λ (v : Bool). v && n) e) in
-    let all = j ∙ ap (λ (y : Bool). y && items) i ∙ both_more x bounds items ∙ ap₂ (λ (x y : Bool). x && y) upper same in
-    m ∙ ap (λ (u : Bool). u && greatest) (l ∙ ap (λ (z : Bool). z && least) all)
+tests_joined k min_k n flag bounds items least greatest {x = x} e f h i j same l m = grind (arith, common_steps, both_more)
 
 whole : (g : _) (c : Joined-eq-2 g) (result : Bool) → result ≡ (c.if-eq-2.value && option_eq g.T.PartialEq.eq c.self.inside.max_item c.other.inside.max_item) →
     result ≡ same_sketch g.T.PartialEq.eq c.args.self.now c.args.other.now
