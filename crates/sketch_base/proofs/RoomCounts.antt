@@ -28,10 +28,3 @@ moved-first m r k c a b d e f g h = omega arith
 
 pub moved-after : (m p r k c n s d : ℕ) → k < n → n ≡ r → p ≡ m + 1 → s + 1 ≡ r → d ≡ c → m + (r - k) ≤ c → p + (s - k) ≤ d
 moved-after m p r k c n s d l e is f g h = omega arith
-
--- every other one of some items moves to an empty vector
-pub spare-first : (n l k m c d : ℕ) → n ≡ l → m ≡ 0 → c ≡ d → l - k ≤ 2 * d → n - k ≤ 2 * (c - m)
-spare-first n l k m c d e f g h = omega arith
-
-pub spare-after : (r s t k m n c d : ℕ) → t + 1 ≡ s → s + 1 ≡ r → n ≡ m + 1 → d ≡ c → r - k ≤ 2 * (c - m) → t - k ≤ 2 * (d - n)
-spare-after r s t k m n c d e f g h l = omega arith
