@@ -5,9 +5,6 @@ use Rattle.sketch_req.specs.Level.{Level}
 pub same_number : {n m l : ℕ} → n ≡ m → m ≡ l → n ≡ l
 same_number e f = e ∙ f
 
-pub same_items : {A : Type 0} {xs ys zs : List A} → xs ≡ ys → ys ≡ zs → xs ≡ zs
-same_items e f = e ∙ f
-
 -- the items of a level, and how many there are
 pub own_items : {A : Type 0} {start level : Level A} {xs : List A} → start ≡ level → xs ≡ start.items → xs ≡ level.items
 own_items {A} same e = e ∙ ap (λ (l : Level A). l.items) same

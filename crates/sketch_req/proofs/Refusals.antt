@@ -1,8 +1,7 @@
 -- Calls that return an error or are not refused: what their clauses say, and the numbers that decide it.
-use Rattle.std.proofs.Common.{◌≡◌, ◌⊎◌, ◌↔◌, ◌≢◌, ◌+◌, ◌-◌, ◌<◌, ◌≤◌, ◌^◌, ◌∙◌, ℕ, Bool, false, Option, None, Some, Result, IsTrue, IfErr, inl, inr, refl, sym, ap, arith, List, [], ◌∷◌, ◌++◌}
+use Rattle.std.proofs.Common.{◌≡◌, ◌⊎◌, ◌↔◌, ◌≢◌, ◌+◌, ◌-◌, ◌<◌, ◌≤◌, ◌^◌, ◌∙◌, ℕ, Bool, false, Option, Result, IsTrue, IfErr, inl, inr, sym, ap, arith, List, [], ◌∷◌, ◌++◌}
 use Rattle.std.proofs.lemmas.Bool.{false≢true}
 use Rattle.std.proofs.lemmas.Result.{IfErr-weaker}
-use Rattle.sketch_base.specs.Views.{IsThere}
 use Rattle.sketch_base.specs.declared.error.ErrorKind.{ErrorKind}
 use Rattle.sketch_base.specs.declared.error.ErrorKind.TheVariants.{InvalidArgument, InvalidData, OutOfMemory}
 use Rattle.sketch_base.proofs.Exits.{memory_not_argument, memory_not_data}
@@ -76,8 +75,3 @@ pub many_counted : {n m l : ℕ} → l ≡ m → n ≡ m → 4 < n → 5 ≤ l
 many_counted f e many = omega (arith, e, f, many)
 
 -- ---- queries
-
--- no entries have no extremes
-pub none_there : {A : Type 0} (extreme : Option A) {n : ℕ} → IsThere extreme n → n ≡ 0 → extreme ≡ None
-none_there None there none = refl
-none_there (Some x) there none = absurd (omega (arith, there, none))

@@ -2,12 +2,11 @@
 use Rattle.std.proofs.Common.{◌≡◌, ℕ, suc, ◌<◌, ◌≤◌, Bool, List, [], ◌∷◌, ◌++◌, length, get_or, set, take, drop, refl, sym, ap, ◌∙◌, subst, arith, append-nil, append_assoc, length-append, inl, inr, Ordering, Equal}
 use Rattle.std.specs.Cmp.{IsTotalOrder}
 use Rattle.std.proofs.lemmas.List.{drop_more}
-use Rattle.std.proofs.lemmas.List.Sums.{sum_by-cons}
 use Rattle.sketch_base.specs.Random.{after_draws}
 use Rattle.sketch_base.specs.Trace.{Action, draws_of}
 use Rattle.sketch_base.proofs.CallsInTurn.{draws-append, source-composes}
 use Rattle.sketch_req.specs.Level.{Level, appended}
-use Rattle.sketch_req.specs.Schedule.{Layout, layout_of, layouts_of, nominal_sum, retained_of, update_actions, update_layouts, actions_if_full, layouts_if_full}
+use Rattle.sketch_req.specs.Schedule.{Layout, layouts_of, nominal_sum, retained_of, update_actions, update_layouts, actions_if_full, layouts_if_full}
 use Rattle.sketch_req.specs.ScheduleLaws.{AreLayouts, updates_actions, updates_layouts}
 use Rattle.sketch_req.specs.Updates.{AreLeft, AreTakenInTurn}
 use Rattle.sketch_req.specs.Walk.{AreActed, AreLevels, AreWalkedIfFull, appended_first}
@@ -138,11 +137,6 @@ module _ {A S : Type 0} {cmp : A → A → Ordering} (order : IsTotalOrder cmp) 
       record { some = rest.some; placed = rest.placed; left = left-append next source t.after after k accuracy ls t.levels ns (x ∷ []) xs one.left rest.left }
 
 -- ---- level 0
-
--- level 0 holds no more than all levels
-pub first-few : {A : Type 0} (ls : List (Level A)) (x : Level A) → 0 < length ls → x ≡ get_or ls 0 x → length x.items ≤ retained_of (layouts_of ls)
-first-few [] x some e = absurd (omega (arith, some))
-first-few {A} (l ∷ ls) x some e = let n = sum_by-cons (λ (y : Layout). y.count) (layout_of l) (layouts_of ls) in omega (arith, n, ap (λ (y : Level A). length y.items) e)
 
 -- the next of some items
 pub next-item : {A : Type 0} (xs : List A) (n : ℕ) (x : A) → n < length xs → x ≡ get_or xs n x → take 1 (drop n xs) ≡ x ∷ []

@@ -16,7 +16,7 @@ ghost use Rattle.sketch_req.specs.Redrawn.{redrawn};
 ghost use Rattle.sketch_req.specs.Schedule.{layouts_of, retained_of, weight_of, nominal_sum, turning_levels};
 ghost use Rattle.sketch_req.specs.ScheduleLaws.{updates_actions};
 ghost use Rattle.sketch_req.specs.Updates.{AreAllTaken, IsDrawnFrom};
-ghost use Rattle.sketch_req.specs.Walk.{AreLevels, AreWalkedIfFull, AreWalkedOver, appended_first};
+ghost use Rattle.sketch_req.specs.Walk.{AreLevels, AreWalkedIfFull, appended_first};
 ghost use Rattle.sketch_req.specs.declared.RankAccuracy.{RankAccuracy};
 
 mod joining;
@@ -29,7 +29,7 @@ use sketch_base::common::random::RandomBits;
 use sketch_base::error::Error;
 use std::alloc::AllocError;
 use std::marker::Model;
-use walk::{add_level, append_and_walk, give_back, reserve, walk};
+use walk::{add_level, append_and_walk, give_back, reserve, sums, walk};
 
 /// The levels of a sketch, from level 0 up, and the sums over them. A contract sees them as the
 /// record `Held` of specs/Held.
@@ -103,8 +103,8 @@ impl<T: Clone + Ord> Levels<T> {
         Ok(())
     }
 
-    /// Appends an item to level 0 and walks over the levels. An error is `OutOfMemory`, and leaves
-    /// the levels and the source of coins unchanged.
+    /// Appends an item to level 0, and walks over the levels if they are then full together. An
+    /// error is `OutOfMemory`, and leaves the levels and the source of coins unchanged.
     #[cold]
     #[inline(never)]
     fn append_and_walk<B: RandomBits>(&mut self, item: T, coins: &mut B) -> Result<(), Error>
@@ -112,7 +112,7 @@ impl<T: Clone + Ord> Levels<T> {
         requires fits { weight_of (layouts_of self.old.levels) < 2 ^ 64 - 1 }
         requires few { retained_of (layouts_of self.old.levels) < 4294967295 }
         ensures kept { self.new ≡ record self.old { levels = self.new.levels } }
-        ensures acted { OnOk result (AreWalkedOver T.cmp B.bit B.next coins.old coins.new
+        ensures acted { OnOk result (AreWalkedIfFull T.cmp B.bit B.next coins.old coins.new
             self.old.k self.old.accuracy (appended_first self.old.levels item) self.new.levels) }
         ensures err { OnErr result ((self.new ≡ self.old) × (coins.new ≡ coins.old)) }
         ensures memory { IfErr result (λ e. e ≡ OutOfMemory) }
@@ -179,10 +179,7 @@ impl<T: Clone + Ord> Levels<T> {
         self.compactors.reserve_exact(new + 1)?;
         join_levels(&mut self.compactors, more, lists);
         redraw_if(redraws, &mut self.compactors, coins);
-        let (num_retained, capacity) = sums(self.compactors.as_slice());
-        if num_retained >= capacity {
-            walk(&mut self.compactors, ups, coins);
-        }
+        walk(&mut self.compactors, ups, coins);
         give_back(&mut self.compactors, 0);
         (self.num_retained, self.capacity) = sums(self.compactors.as_slice());
         Ok(())
@@ -199,22 +196,6 @@ impl<T: Clone + Ord> Levels<T> {
     {
         redraw_if(true, &mut self.compactors, coins);
     }
-}
-
-/// Returns the number of items that the levels hold, and the sum of their nominal capacities.
-fn sums<T: Clone + Ord>(levels: &[Compactor<T>]) -> (usize, usize)
-    requires few { length levels.now ≤ 64 }
-    ensures retained { result.0 ≡ retained_of (layouts_of levels.now) }
-    ensures capacity { (k : ℕ) (accuracy : RankAccuracy) →
-        AreLevels T.cmp k accuracy 0 levels.now
-        → result.1 ≡ nominal_sum k (layouts_of levels.now) }
-{
-    let (mut count, mut sum) = (0, 0);
-    for level in levels {
-        count += level.num_items() as usize;
-        sum += level.nominal_capacity() as usize;
-    }
-    (count, sum)
 }
 
 /// If `redraws` is true, draws a coin for each level at an odd state, from level 0 up.

@@ -4,9 +4,10 @@ ghost use Rattle.std.specs.Prelude.{◌≡◌, ℕ, ◌+◌, ◌*◌, ◌-◌, �
 ghost use Rattle.std.specs.declared.cmp.Ordering.TheVariants.{Equal};
 ghost use Rattle.sketch_base.specs.declared.error.ErrorKind.TheVariants.{OutOfMemory};
 ghost use Rattle.sketch_req.specs.Level.{fresh};
-ghost use Rattle.sketch_req.specs.Schedule.{layouts_of, layout_at, joined_layouts, retained_of, weight_of};
+ghost use Rattle.sketch_req.specs.Schedule.{layouts_of, layout_at, joined_layouts, nominal_sum, retained_of, weight_of};
 ghost use Rattle.sketch_req.specs.Sections.{IsLegalK};
-ghost use Rattle.sketch_req.specs.Walk.{AreHeld, HaveSpace, AreWalkedOver, accuracy_of, appended_first, holding, k_of, taken_if_full, with_more};
+ghost use Rattle.sketch_req.specs.Walk.{AreHeld, AreLevels, HaveSpace, AreWalkedIfFull, accuracy_of, appended_first, holding, k_of, taken_if_full, with_more};
+ghost use Rattle.sketch_req.specs.declared.RankAccuracy.{RankAccuracy};
 
 use crate::RankAccuracy;
 use crate::compactor::{Arrivals, Compactor};
@@ -43,6 +44,22 @@ fn count_to_take_at<T: Clone + Ord>(
         Some(other) => own.count_if_joined(other, len),
         None => own.count_if_full(len),
     }
+}
+
+/// Returns the number of items that the levels hold, and the sum of their nominal capacities.
+pub(super) fn sums<T: Clone + Ord>(levels: &[Compactor<T>]) -> (usize, usize)
+    requires few { length levels.now ≤ 64 }
+    ensures retained { result.0 ≡ retained_of (layouts_of levels.now) }
+    ensures capacity { (k : ℕ) (accuracy : RankAccuracy) →
+        AreLevels T.cmp k accuracy 0 levels.now
+        → result.1 ≡ nominal_sum k (layouts_of levels.now) }
+{
+    let (mut count, mut sum) = (0, 0);
+    for level in levels {
+        count += level.num_items() as usize;
+        sum += level.nominal_capacity() as usize;
+    }
+    (count, sum)
 }
 
 /// Makes room for a walk, if other levels are joined in first or `more` items come into level 0: for
@@ -96,8 +113,9 @@ pub(super) fn add_level<T: Clone + Ord>(
     }
 }
 
-/// Compacts, from level 0 up, each level that is at or over its nominal capacity at its turn,
-/// counting what comes up from the level below. A level that is added isn't compacted.
+/// If the levels together are at or over their nominal capacities, compacts, from level 0 up, each
+/// level that is at or over its own at its turn, counting what comes up from the level below. A level
+/// that is added isn't compacted.
 pub(super) fn walk<T: Clone + Ord, B: RandomBits>(
     levels: &mut Vec<Compactor<T>>,
     ups: Vec<Arrivals<T>>,
@@ -108,9 +126,13 @@ pub(super) fn walk<T: Clone + Ord, B: RandomBits>(
     requires few_items { retained_of (layouts_of levels.old.items) < 2 ^ 32 }
     requires spare { vec_len levels.old < vec_capacity levels.old }
     requires fit { HaveSpace (k_of levels.old.items) (layouts_of levels.old.items) ups.items }
-    ensures acted { AreWalkedOver T.cmp B.bit B.next coins.old coins.new (k_of levels.old.items)
+    ensures acted { AreWalkedIfFull T.cmp B.bit B.next coins.old coins.new (k_of levels.old.items)
         (accuracy_of levels.old.items) levels.old.items levels.new.items }
 {
+    let (num_retained, capacity) = sums(levels.as_slice());
+    if num_retained < capacity {
+        return;
+    }
     let mut ups = ups;
     let count = levels.len();
     let alloc = *levels.allocator();
@@ -137,8 +159,8 @@ pub(super) fn give_back<T: Clone + Ord>(levels: &mut Vec<Compactor<T>>, spare: u
     }
 }
 
-/// Appends an item to level 0, and then walks over the levels. An error is `OutOfMemory`, and
-/// leaves the levels and the source of coins unchanged.
+/// Appends an item to level 0, and walks over the levels if they are then full together. An error is
+/// `OutOfMemory`, and leaves the levels and the source of coins unchanged.
 pub(super) fn append_and_walk<T: Clone + Ord, B: RandomBits>(
     levels: &mut Vec<Compactor<T>>,
     item: T,
@@ -148,7 +170,7 @@ pub(super) fn append_and_walk<T: Clone + Ord, B: RandomBits>(
     requires levels { AreHeld T.cmp levels.old.items }
     requires fits { weight_of (layouts_of levels.old.items) < 2 ^ 64 - 1 }
     requires few { retained_of (layouts_of levels.old.items) < 4294967295 }
-    ensures acted { OnOk result (AreWalkedOver T.cmp B.bit B.next coins.old coins.new
+    ensures acted { OnOk result (AreWalkedIfFull T.cmp B.bit B.next coins.old coins.new
         (k_of levels.old.items) (accuracy_of levels.old.items)
         (appended_first levels.old.items item) levels.new.items) }
     ensures err { OnErr result ((levels.new.items ≡ levels.old.items)

@@ -1,27 +1,15 @@
-use Rattle.std.proofs.Common.{set, ◌<◌, ◌≤◌, ◌+◌, subst₂, ℕ, subst, sym, ◌≡◌, ◌∙◌, true, false, ap, le-leb}
-use Rattle.std.proofs.lemmas.Result.{on_ok_weaker}
+use Rattle.std.proofs.Common.{set, ◌<◌, ◌+◌, subst₂, ℕ, subst, sym, ◌≡◌, ◌∙◌, false, ap}
 use Rattle.std.proofs.lemmas.Bool.{lt-leb}
 use Rattle.sketch_req.specs.Walk.{AreWalkedIfFull, appended_first}
 use Rattle.sketch_req.specs.Held.{IsHeld, Held}
 use Rattle.sketch_req.specs.Schedule.{layouts_of, are_full, retained_of}
 use Rattle.sketch_req.proofs.TakenInTurn.{first-appended}
-use Rattle.sketch_req.proofs.UpdatedLevels.{acted-spare, acted-walk, nominal-appended, placed-appended, retained-appended}
+use Rattle.sketch_req.proofs.UpdatedLevels.{acted-spare, nominal-appended, placed-appended, retained-appended}
 use Rattle.sketch_req.proofs.Held.{with-levels}
 use Rattle.sketch_req.proofs.sketch.levels.Levels.append.Given.{Over}
 use Rattle.sketch_req.proofs.sketch.levels.Levels.append.Goals.{In_ok-append}
 use Rattle.sketch_req.proofs.sketch.levels.Levels.append.Goals as goal
 use Rattle.sketch_req.proofs.sketch.levels.Levels.append.Goals.at as past
-
-pub returns-then-self-clause-acted : goal.returns-then-self-clause-acted
-returns-then-self-clause-acted g c =
-    let s = c.self.inside in
-    let more = retained-appended s.compactors.items c.args.item c.self.invariant.some in
-    let same = nominal-appended s.k s.compactors.items c.args.item in
-    let full : are_full s.k (layouts_of (appended_first s.compactors.items c.args.item)) ≡ true =
-    le-leb _ _ (subst₂ (λ (n m : ℕ). n ≤ m) (c.self.invariant.capacity_is ∙ sym same)
-    (ap (λ (n : ℕ). n + 1) c.self.invariant.retained_is ∙ sym more) c.if-self.true) in
-    on_ok_weaker c.append_and_walk.result (acted-walk _ _ _ _ _ _ _ _
-    (subst (λ (h : Held g.row.T.Denot). are_full h.k (layouts_of (appended_first h.levels c.args.item)) ≡ true) c.self.view_is full)) c.append_and_walk.ensures.acted
 
 -- the levels with the item, if they are not full after it
 put : (g : Over) (c : In_ok-append g) → let s = c.self.inside in set s.compactors.items 0 c.append.new.self ≡ appended_first s.compactors.items c.args.item

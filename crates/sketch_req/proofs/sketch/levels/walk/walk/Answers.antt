@@ -1,19 +1,43 @@
-use Rattle.std.proofs.Common.{arith, suc, le_antisymm, le_of_eq, le_refl, Ordering, ◌≡◌, ℕ, ◌+◌, ◌-◌, ◌/◌, ◌<◌, ◌==◌, Bool, true, if◌then◌else◌, eq-eqb, length-append, List, [], ◌∷◌, ◌++◌, get_or, length, length-set, set, refl, sym, ap, ap₂, ◌∙◌, subst, lt_of_le_of_lt, vec_capacity}
+use Rattle.std.proofs.Common.{arith, suc, le_antisymm, le-leb, subst₂, le_refl, Ordering, ◌≡◌, ℕ, ◌+◌, ◌-◌, ◌/◌, ◌<◌, ◌≤◌, ◌==◌, Bool, true, if◌then◌else◌, eq-eqb, length-append, List, [], ◌∷◌, ◌++◌, get_or, length, length-set, set, refl, sym, ap, ap₂, ◌∙◌, subst, lt_of_le_of_lt, vec_capacity}
+use Rattle.std.proofs.lemmas.Bool.{lt-leb}
 use Rattle.std.proofs.lemmas.List.{nil_from_length}
 use Rattle.sketch_req.specs.Arriving.{CanArrive, HasRoom}
 use Rattle.sketch_req.specs.Level.{Level, fresh}
-use Rattle.sketch_req.specs.Schedule.{layouts_of, layout_at, steps_actions, steps_layouts}
-use Rattle.sketch_req.specs.Walk.{AreWalked, accuracy_of, k_of, taken_if_full}
+use Rattle.sketch_req.specs.Schedule.{are_full, layouts_of, layout_at, steps_actions, steps_layouts}
+use Rattle.sketch_req.specs.Held.{IsHeld, held_of}
+use Rattle.sketch_req.specs.Walk.{AreWalked, AreWalkedIfFull, accuracy_of, k_of, taken_if_full}
 use Rattle.sketch_req.specs.declared.RankAccuracy.{RankAccuracy}
 use Rattle.sketch_req.proofs.Buffers.{places-above, taken-there}
-use Rattle.sketch_req.proofs.Held.{own-levels}
+use Rattle.sketch_req.proofs.Held.{few-levels, held-sums, own-levels}
 use Rattle.sketch_req.proofs.Layouts.{length-layouts}
-use Rattle.sketch_req.proofs.MergedLevels.{is-added}
+use Rattle.sketch_req.proofs.UpdatedLevels.{acted-spare, acted-walk}
 use Rattle.sketch_req.proofs.WalkSteps.{own-there, raised}
 use Rattle.sketch_req.proofs.Turns.{IsReady, is-ready, next-pending, pending-above, pending-start, ready-up}
-use Rattle.sketch_req.proofs.sketch.levels.walk.walk.Goals.{After-index_mut-in-loop-level, After-len-count, After-parameters-k, After-add_level}
+use Rattle.sketch_req.proofs.sketch.levels.walk.walk.Goals.{After-sums-num_retained, Else-num_retained-capacity, After-index_mut-in-loop-level, After-len-count, After-parameters-k, After-add_level}
 use Rattle.sketch_req.proofs.sketch.levels.walk.walk.Goals as goal
 use Rattle.sketch_req.proofs.sketch.levels.walk.walk.Goals.at as past
+
+-- whether the levels are full together
+summed : (g : _) (c : After-sums-num_retained g) → let ls = c.args.levels.now.items in
+    IsHeld g.T.Ord.cmp c.sums-num_retained.result.0 c.sums-num_retained.result.1 (held_of (k_of ls) (accuracy_of ls) ls)
+summed g c =
+    held-sums g.T.Ord.cmp _ _ _ _ _ _ c.requires.levels.some c.requires.levels.placed c.as_slice.ensures.value c.sums-num_retained.ensures.retained
+    c.sums-num_retained.ensures.capacity
+
+pub sums-num_retained-requires : goal.sums-num_retained-requires
+sums-num_retained-requires g c = record { few = few-levels g.T.Ord.cmp _ _ _ _ c.requires.levels.placed c.as_slice.ensures.value }
+
+pub returns-then-num_retained-capacity : goal.returns-then-num_retained-capacity
+returns-then-num_retained-capacity g c =
+    let h = summed g (past.returns-then-num_retained-capacity g c).After-sums-num_retained in
+    record {
+      acted = acted-spare g.met.T.Ord.total _ _ _ _ _ _ c.requires.levels.placed
+          (lt-leb _ _ (subst₂ (λ (n m : ℕ). n < m) h.retained_is h.capacity_is c.if-num_retained-capacity.true));
+    }
+
+full : (g : _) (c : Else-num_retained-capacity g) → let ls = c.args.levels.now.items in
+    IsHeld g.T.Ord.cmp c.sums-num_retained.result.0 c.sums-num_retained.result.1 (held_of (k_of ls) (accuracy_of ls) ls) → are_full (k_of ls) (layouts_of ls) ≡ true
+full g c h = le-leb _ _ (subst₂ (λ (n m : ℕ). n ≤ m) h.capacity_is h.retained_is c.if-num_retained-capacity.false)
 
 -- The loop keeps what is pending after the steps so far.
 -- how many levels there are
@@ -145,14 +169,15 @@ absorb-requires-clause-room g c =
     (c.index_mut-then-not-is_empty.ensures.value ∙ ap₂ (λ (ls : List (Level g.row.T.Denot)) (n : ℕ). get_or ls n upper) all ends)
 
 -- a walk over all levels
-walked-whole : {A S : Type 0} (cmp : A → A → Ordering) (bit : S → Bool) (next : S → S) (source after : S) (k n m : ℕ) (accuracy : RankAccuracy)
-    (ls xs ys : List (Level A)) → n ≡ m → xs ≡ ys →
+walked-whole : {A S : Type 0} (cmp : A → A → Ordering) (bit : S → Bool) (next : S → S) (source after : S) (k n : ℕ) (accuracy : RankAccuracy)
+    (ls xs ys : List (Level A)) → are_full k (layouts_of ls) ≡ true → n ≡ length (layouts_of ls) → xs ≡ ys →
     AreWalked cmp bit next source after k accuracy (steps_actions k accuracy n 0 (layouts_of ls)) (steps_layouts k n 0 (layouts_of ls)) ls xs →
-    AreWalked cmp bit next source after k accuracy (steps_actions k accuracy m 0 (layouts_of ls)) (steps_layouts k m 0 (layouts_of ls)) ls ys
-walked-whole cmp bit next source after k n m accuracy ls xs ys e same walked =
-    subst (λ (i : ℕ). AreWalked cmp bit next source after k accuracy (steps_actions k accuracy i 0 (layouts_of ls)) (steps_layouts k i 0 (layouts_of ls)) ls ys)
+    AreWalkedIfFull cmp bit next source after k accuracy ls ys
+walked-whole cmp bit next source after k n accuracy ls xs ys full e same walked =
+    acted-walk bit next source after k accuracy ls ys full
+    (subst (λ (i : ℕ). AreWalked cmp bit next source after k accuracy (steps_actions k accuracy i 0 (layouts_of ls)) (steps_layouts k i 0 (layouts_of ls)) ls ys)
     e
-    (subst (AreWalked cmp bit next source after k accuracy (steps_actions k accuracy n 0 (layouts_of ls)) (steps_layouts k n 0 (layouts_of ls)) ls) same walked)
+    (subst (AreWalked cmp bit next source after k accuracy (steps_actions k accuracy n 0 (layouts_of ls)) (steps_layouts k n 0 (layouts_of ls)) ls) same walked))
 
 pub returns-then-not-is_empty : goal.returns-then-not-is_empty
 returns-then-not-is_empty g c =
@@ -171,21 +196,14 @@ returns-then-not-is_empty g c =
     le_antisymm c.loop-level.auto.level-end c.loop-level-test.false ∙ (count_is g (past.returns-then-not-is_empty g c).After-len-count ∙ sym
     (length-layouts ls)) in
     record {
-      acted = walked-whole g.T.Ord.cmp g.B.RandomBits.bit g.B.RandomBits.next c.args.coins.now c.loop-level.coins (k_of ls) c.loop-level.level _
-          (accuracy_of ls) ls _ _ count
+      acted = walked-whole g.T.Ord.cmp g.B.RandomBits.bit g.B.RandomBits.next c.args.coins.now c.loop-level.coins (k_of ls) c.loop-level.level
+          (accuracy_of ls) ls _ _ (full g at.Else-num_retained-capacity (summed g at.After-sums-num_retained)) count
           (ap₂ (λ (l : List (Level g.row.T.Denot)) (n : ℕ). set l n new) (sym all) (sym ends)) walked;
     }
 
--- the level that was added is empty
-none : (g : _) (c : After-add_level g) (upper : Level g.row.T.Denot) → upper ≡ get_or c.add_level.new.levels.items c.len-count.result upper →
-    length upper.items ≡ 0
-none g c upper e =
-    let same : c.len-count.result ≡ length c.loop-level.levels.items = sym c.loop-level.invariant.len ∙ c.loop-level.levels.ok.0 in
-    let added = is-added _ _ _ _ (le_of_eq same) c.add_level.ensures.items in
-    ap (λ (l : Level g.row.T.Denot). length l.items) (e ∙ added.new upper (sym same))
-
 pub returns : goal.returns
 returns g c =
+    let at = past.returns g c in
     let ls : List (Level g.row.T.Denot) = c.args.levels.now.items in
     let count : c.loop-level.level ≡ length (layouts_of ls) =
     le_antisymm c.loop-level.auto.level-end c.loop-level-test.false ∙ (count_is g (past.returns g c).After-len-count ∙ sym
@@ -193,7 +211,7 @@ returns g c =
     let none : c.loop-level.coming.items.items ≡ [] =
     nil_from_length c.loop-level.coming.items.items (grind (arith, c.if-not-is_empty.false, c.is_empty.ensures, c.loop-level.coming.items.ok.0)) in
     record {
-      acted = walked-whole g.T.Ord.cmp g.B.RandomBits.bit g.B.RandomBits.next c.args.coins.now c.loop-level.coins (k_of ls) c.loop-level.level _
-          (accuracy_of ls) ls _ _ count refl
+      acted = walked-whole g.T.Ord.cmp g.B.RandomBits.bit g.B.RandomBits.next c.args.coins.now c.loop-level.coins (k_of ls) c.loop-level.level
+          (accuracy_of ls) ls _ _ (full g at.Else-num_retained-capacity (summed g at.After-sums-num_retained)) count refl
           (c.loop-level.invariant.pending.none none);
     }
