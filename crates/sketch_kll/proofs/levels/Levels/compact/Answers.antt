@@ -1,5 +1,5 @@
 use Rattle.std.proofs.lemmas.Grind.{common_steps}
-use Rattle.std.proofs.Common.{false, IsSorted, le_of_eq, ◌≡◌, ◌+◌, ◌-◌, ◌<◌, ◌≤◌, ap₂, ℕ, List, [], ◌∷◌, ◌++◌, take, drop, length, arith, sym, ap, subst, ◌∙◌, inl, inr, vec_capacity, length-append, true}
+use Rattle.std.proofs.Common.{false, IsSorted, le_of_eq, ◌≡◌, ◌+◌, ◌-◌, ◌<◌, ◌≤◌, ap₂, ℕ, List, [], ◌∷◌, ◌++◌, take, drop, length, arith, sym, ap, subst, ◌∙◌, vec_capacity, length-append, true}
 use Rattle.sketch_kll.specs.Capacity.{total_of}
 use Rattle.sketch_kll.specs.Levels.{retained, compacted, first_level, SameLevels, UpperSorted}
 use Rattle.sketch_kll.specs.Flat.{levels_in, IsFlat}
@@ -26,33 +26,18 @@ record IsRaised (g : _) (c : Joined-level-len g) : Type 0 where
   total_is : c.if-level-len.self-inside.total_capacity ≡ total_of c.self.inside.k 8 (length c.if-level-len.self-inside.bounds.items - 1)
 
 is_raised : (g : _) (c : Joined-level-len g) → IsRaised g c
-is_raised g c =
-    let len : c.len.result ≡ length c.self.inside.bounds.items = c.len.ensures ∙ c.self.inside.bounds.ok.0 in
-    elim c.if-level-len.branch [
-      | then-level-len w ↦
-          let top : c.args.level + 2 ≡ length c.self.inside.bounds.items = w.if-level-len.true ∙ len in
-          let more : c.if-level-len.self-inside.bounds.items ≡ c.self.inside.bounds.items ++ 0 ∷ [] =
-          ap (λ x. x.bounds.items) w.self-inside-is ∙ w.push_reserved.ensures.items in
-          record {
-            raises = inl (top, more);
-            k_is = ap (λ x. x.k) w.self-inside-is;
-            flag_is = ap (λ x. x.is_level_zero_sorted) w.self-inside-is;
-            items_are = ap (λ x. x.items) w.self-inside-is;
-            room = ap (λ x. vec_capacity x.bounds) w.self-inside-is ∙ w.push_reserved.ensures.capacity;
-            total_is = ap (λ x. x.total_capacity) w.self-inside-is ∙ (w.total_capacity-self-inside.ensures.value ∙
-                ap (total_of c.self.inside.k 8) (one_more c.args.level c.self.inside.bounds.items 0 top more));
-          }
-      | else-level-len w ↦
-          let same : c.if-level-len.self-inside.bounds.items ≡ c.self.inside.bounds.items = ap (λ x. x.bounds.items) w.self-inside-is in
-          record {
-            raises = inr ((λ e. w.if-level-len.false (e ∙ sym len)), same);
-            k_is = ap (λ x. x.k) w.self-inside-is;
-            flag_is = ap (λ x. x.is_level_zero_sorted) w.self-inside-is;
-            items_are = ap (λ x. x.items) w.self-inside-is;
-            room = ap (λ x. vec_capacity x.bounds) w.self-inside-is;
-            total_is = ap (λ x. x.total_capacity) w.self-inside-is ∙ known_total c.self.invariant _ (ap length same);
-          }
-    ]
+is_raised g c = record {
+  raises = grind (arith, common_steps);
+  k_is = grind (arith, common_steps);
+  flag_is = grind (arith, common_steps);
+  items_are = grind (arith, common_steps);
+  room = grind (arith, common_steps);
+  total_is = elim c.if-level-len.branch as (λ _. c.if-level-len.self-inside.total_capacity ≡ total_of c.self.inside.k 8 (length c.if-level-len.self-inside.bounds.items - 1)) [
+    | then-level-len w ↦ ap (λ x. x.total_capacity) w.self-inside-is ∙ (w.total_capacity-self-inside.ensures.value ∙ ap (total_of c.self.inside.k 8)
+        (one_more c.args.level c.self.inside.bounds.items 0 (w.if-level-len.true ∙ (c.len.ensures ∙ c.self.inside.bounds.ok.0)) (ap (λ x. x.bounds.items) w.self-inside-is ∙ w.push_reserved.ensures.items)))
+    | else-level-len w ↦ ap (λ x. x.total_capacity) w.self-inside-is ∙ known_total c.self.invariant _ (ap (λ x. length x.bounds.items) w.self-inside-is)
+  ];
+}
 
 -- the bounds after the compaction
 abbrev shifted_bounds : (g : _) (c : After-truncate g) → List ℕ
