@@ -1,10 +1,9 @@
 use Rattle.std.proofs.lemmas.Grind.{common_steps}
-use Rattle.std.proofs.Common.{◌≡◌, ℕ, Bool, List, Ordering, true, false, cond, ◌<◌, ◌≤◌, inl, inr, length, arith, ap, sym, subst, ◌∙◌, refl, le_refl}
+use Rattle.std.proofs.Common.{◌≡◌, ℕ, Bool, List, Ordering, true, cond, ◌≤◌, inl, inr, length, arith, ap, sym, subst, ◌∙◌, refl, le_refl}
 use Rattle.std.proofs.lemmas.Bool.{cases_eq}
 use Rattle.std.specs.Cmp.{IsTotalOrder}
-use Rattle.sketch_kll.specs.Levels.{compacted, SameLevels, UpperSorted}
+use Rattle.sketch_kll.specs.Levels.{SameLevels, UpperSorted}
 use Rattle.sketch_kll.specs.Compress.{passes, stepped, stepped_source}
-use Rattle.sketch_kll.specs.Steps.{needs_sorting}
 use Rattle.sketch_kll.specs.Stored.{KeepsRoom, Stored}
 use Rattle.sketch_kll.proofs.Flats.{SameLevels-refl}
 use Rattle.sketch_kll.proofs.CompressWalks.{behind_start, no_62nd_level, stepped_passed, walk_step, walk_more, WalkStep, Behind}
@@ -13,12 +12,6 @@ use Rattle.sketch_kll.proofs.FullLevels.{full_holds}
 use Rattle.sketch_kll.proofs.levels.Levels.compress.Goals as goal
 use Rattle.sketch_kll.proofs.levels.Levels.compress.Goals.at as past
 use Rattle.sketch_kll.proofs.levels.Levels.compress.Goals.{Joined-not-level_passes, then-not-level_passes, else-not-level_passes}
-
-low_still : {level n : ℕ} → level < n → n ≤ 61 → (level ≡ 60 → ⊥) → level < 60
-low_still within few apart = omega (arith, within, few, apart)
-
-top_of : {level n : ℕ} → level < n → level ≡ 60 → n ≤ 61 → n ≡ 61
-top_of within top few = omega (arith, within, top, few)
 
 pub loop-self-init : goal.loop-self-init
 loop-self-init g c = record {
@@ -33,7 +26,7 @@ loop-self-init g c = record {
 }
 
 pub compact-requires-clause-few : goal.compact-requires-clause-few
-compact-requires-clause-few g c = grind (arith, common_steps, full_holds, cases_eq, no_62nd_level, top_of, low_still)
+compact-requires-clause-few g c = grind (arith, common_steps, full_holds, cases_eq, no_62nd_level)
 
 -- one step of the walk: it leaves a level as it is, or compacts it
 record HasStepped {A S : Type 0} (cmp : A → A → Ordering) (bit : S → Bool) (next : S → S) (level : ℕ) (x y : Stored A) (coins coins' : S) : Type 0 where
@@ -51,19 +44,11 @@ has_stayed {A} {S} {cmp} o {bit} {next} {level} {x} {y} {coins} {coins'} stays s
       source = ap (λ (b : Bool). cond b coins (next coins)) (sym stays);
     })
 
-has_compacted : {A S : Type 0} {cmp : A → A → Ordering} {bit : S → Bool} {next : S → S} {level : ℕ} {x y y' : Stored A} {coins coins' next' : S} →
-    passes x.k x.levels level ≡ false → y ≡ y' → coins' ≡ next' → KeepsRoom x y' →
-    SameLevels cmp (compacted cmp (needs_sorting x.is_sorted level) (bit coins) level x.levels) y'.levels → next' ≡ next coins →
-    HasStepped cmp bit next level x y coins coins'
-has_compacted {A} {S} {cmp} {bit} {next} {level} {x} {y} {y'} {coins} moves is drawn kept levels after = grind (arith, common_steps)
-
 has_stepped : (g : _) (c : Joined-not-level_passes g) →
     HasStepped g.T.Ord.cmp g.B.RandomBits.bit g.B.RandomBits.next c.loop-self.level c.loop-self.self c.if-not-level_passes.self c.loop-self.coins c.if-not-level_passes.coins
 has_stepped g c = elim c.if-not-level_passes.branch [
-  | then-not-level_passes w ↦
-      grind (arith, common_steps, has_compacted)
-  | else-not-level_passes w ↦
-      has_stayed g.met.T.Ord.total (sym c.level_passes.ensures ∙ w.if-not-level_passes.false) w.self-is w.coins-is
+  | then-not-level_passes w ↦ grind (arith, common_steps)
+  | else-not-level_passes w ↦ has_stayed g.met.T.Ord.total (sym c.level_passes.ensures ∙ w.if-not-level_passes.false) w.self-is w.coins-is
 ]
 
 pub loop-self-preserved : goal.loop-self-preserved
