@@ -52,7 +52,7 @@ module _ {A : Type 0} {cmp : A → A → Ordering} (o : IsTotalOrder cmp) where
       (least_of_both o x s.least least least_ties) least_is (greatest_of_both o x s.greatest greatest greatest_ties) greatest_is in
       let coins : coins_of_updates s (x ∷ []) ≡ coins_of_update s x = ap draws_of (append-nil (update_of s x)) in
       let t : Kll A = sketch_of k s.min_k (s.n + 1) false ms kept_least kept_greatest in
-      grind (arith, common_steps, one_updates)
+      grind (arith, common_steps)
 
   -- the same, of the sketch as callers see it
   pub updated_seen : {S : Type 0} {bit : S → Bool} {next : S → S} {source after : S} {s s' t : Kll A} {x : A} → s ≡ s' →

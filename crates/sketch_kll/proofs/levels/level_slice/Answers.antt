@@ -1,12 +1,9 @@
-use Rattle.std.proofs.Common.{◌≡◌, ℕ, suc, ◌+◌, arith, ap, ◌∙◌, get_or}
+use Rattle.std.proofs.Common.{ℕ, arith, ap, ◌∙◌, get_or}
 use Rattle.std.specs.List.{between}
 use Rattle.sketch_kll.proofs.Flats.{level_between}
 use Rattle.sketch_kll.proofs.levels.level_slice.Goals as goal
 
-one_on : (level : ℕ) → level + 1 ≡ suc level
-one_on level = omega arith
-
 pub returns : goal.returns
 returns g c =
-    ap (λ (i : ℕ). between (get_or c.args.bounds.now i 0) (get_or c.args.bounds.now c.args.level 0) c.args.items.now) (one_on c.args.level)
+    ap (λ (i : ℕ). between (get_or c.args.bounds.now i 0) (get_or c.args.bounds.now c.args.level 0) c.args.items.now) (omega arith)
     ∙ level_between c.args.items.now c.args.bounds.now c.requires.flat c.args.level

@@ -1,32 +1,21 @@
 use Rattle.std.proofs.lemmas.Grind.{common_steps}
-use Rattle.std.proofs.Common.{arith, ◌≡◌, ◌<◌, ◌≤◌, ◌++◌, ℕ, List, length, ap, refl}
-use Rattle.std.specs.Int.{w32, to_le_bytes}
+use Rattle.std.proofs.Common.{arith, length, ap, refl}
 use Rattle.sketch_base.proofs.Exits.{refused_if}
 use Rattle.sketch_base.proofs.FixedNumbers.{same_32}
 use Rattle.sketch_kll.proofs.ImagePlaces.{all_counted, bounds_found, no_more_bounds, one_bound}
-use Rattle.sketch_kll.proofs.image.reading.read_bounds.Goals.{then-offset-low-via-then-offset-low, then-offset-low-via-else-offset-low+then-offset-limit}
 use Rattle.sketch_kll.proofs.image.reading.read_bounds.Goals as goal
-
-too_short : (x : ℕ) {now more : List ℕ} → now ≡ to_le_bytes w32 x ++ more → length now < 4 → ⊥
-too_short x begins short = omega (arith, ap length begins, short)
 
 pub returns-in_err-offset-clause-refused : goal.returns-in_err-offset-clause-refused
 returns-in_err-offset-clause-refused c =
     let r = c.from_residual-in_err-offset.result in
     let e = c.from_residual-in_err-offset.ensures in
     refused_if r e.1 (λ _. no_more_bounds c.loop.invariant.so_far c.ranges.limit.fits c.loop-test.true
-    (λ x _ _ begins _ _. too_short x begins c.in_err-offset.ensures.short))
-
-falls : {x y low : ℕ} → x ≡ y → low ≤ x → y < low → ⊥
-falls same above under = omega (arith, same, above, under)
-
-exceeds : {x y limit : ℕ} → x ≡ y → x ≤ limit → limit < y → ⊥
-exceeds same below over = omega (arith, same, below, over)
+    (λ x _ _ begins _ _. (omega (arith, begins, ap length begins, c.in_err-offset.ensures.short))))
 
 pub returns-then-offset-low-clause-refused : goal.returns-then-offset-low-clause-refused
 returns-then-offset-low-clause-refused c =
     λ _. no_more_bounds c.loop.invariant.so_far c.ranges.limit.fits c.loop-test.true (λ x more fits begins above below.
-    grind (arith, common_steps, same_32, then-offset-low-via-then-offset-low, falls, then-offset-low-via-else-offset-low+then-offset-limit, exceeds))
+    grind (arith, common_steps, same_32))
 
 pub loop-preserved : goal.loop-preserved
 loop-preserved c = grind (arith, common_steps, one_bound)

@@ -1,8 +1,8 @@
 use Rattle.std.proofs.lemmas.Grind.{common_steps}
-use Rattle.std.proofs.Common.{false, IsSorted, le_of_eq, ◌≡◌, ◌+◌, ◌-◌, ◌<◌, ◌≤◌, ap₂, ℕ, List, [], ◌∷◌, ◌++◌, take, drop, length, arith, sym, ap, subst, ◌∙◌, inl, inr, vec_capacity, length-append, true}
+use Rattle.std.proofs.Common.{◌≡◌, ◌-◌, ap₂, ℕ, List, [], ◌∷◌, ◌++◌, take, drop, length, arith, sym, ap, subst, ◌∙◌, vec_capacity, length-append, true}
 use Rattle.sketch_kll.specs.Capacity.{total_of}
-use Rattle.sketch_kll.specs.Levels.{retained, compacted, first_level, SameLevels, UpperSorted}
-use Rattle.sketch_kll.specs.Flat.{levels_in, IsFlat}
+use Rattle.sketch_kll.specs.Levels.{retained, compacted, SameLevels}
+use Rattle.sketch_kll.specs.Flat.{levels_in}
 use Rattle.sketch_kll.specs.Steps.{needs_sorting}
 use Rattle.sketch_kll.specs.Stored.{Stored}
 use Rattle.sketch_kll.proofs.Flats.{length-items}
@@ -12,9 +12,6 @@ use Rattle.sketch_kll.proofs.JoinedLevels.{whole_slice}
 use Rattle.sketch_kll.proofs.levels.Levels.compact.Goals as goal
 use Rattle.sketch_kll.proofs.levels.Levels.compact.Goals.at as past
 use Rattle.sketch_kll.proofs.levels.Levels.compact.Goals.{After-random_bit-arg-1, After-truncate, Joined-level-len, then-level-len, else-level-len}
-
-one_more : {A : Type 0} (level : ℕ) (xs : List A) (x : A) {ys : List A} → level + 2 ≡ length xs → ys ≡ xs ++ x ∷ [] → level + 2 ≡ length ys - 1
-one_more level xs x len more = omega (arith, len, ap length more, length-append xs (x ∷ []))
 
 -- the fields once there is a level above this one
 record IsRaised (g : _) (c : Joined-level-len g) : Type 0 where
@@ -26,33 +23,26 @@ record IsRaised (g : _) (c : Joined-level-len g) : Type 0 where
   total_is : c.if-level-len.self-inside.total_capacity ≡ total_of c.self.inside.k 8 (length c.if-level-len.self-inside.bounds.items - 1)
 
 is_raised : (g : _) (c : Joined-level-len g) → IsRaised g c
-is_raised g c =
-    let len : c.len.result ≡ length c.self.inside.bounds.items = c.len.ensures ∙ c.self.inside.bounds.ok.0 in
-    elim c.if-level-len.branch [
-      | then-level-len w ↦
-          let top : c.args.level + 2 ≡ length c.self.inside.bounds.items = w.if-level-len.true ∙ len in
-          let more : c.if-level-len.self-inside.bounds.items ≡ c.self.inside.bounds.items ++ 0 ∷ [] =
-          ap (λ x. x.bounds.items) w.self-inside-is ∙ w.push_reserved.ensures.items in
-          record {
-            raises = inl (top, more);
-            k_is = ap (λ x. x.k) w.self-inside-is;
-            flag_is = ap (λ x. x.is_level_zero_sorted) w.self-inside-is;
-            items_are = ap (λ x. x.items) w.self-inside-is;
-            room = ap (λ x. vec_capacity x.bounds) w.self-inside-is ∙ w.push_reserved.ensures.capacity;
-            total_is = ap (λ x. x.total_capacity) w.self-inside-is ∙ (w.total_capacity-self-inside.ensures.value ∙
-                ap (total_of c.self.inside.k 8) (one_more c.args.level c.self.inside.bounds.items 0 top more));
-          }
-      | else-level-len w ↦
-          let same : c.if-level-len.self-inside.bounds.items ≡ c.self.inside.bounds.items = ap (λ x. x.bounds.items) w.self-inside-is in
-          record {
-            raises = inr ((λ e. w.if-level-len.false (e ∙ sym len)), same);
-            k_is = ap (λ x. x.k) w.self-inside-is;
-            flag_is = ap (λ x. x.is_level_zero_sorted) w.self-inside-is;
-            items_are = ap (λ x. x.items) w.self-inside-is;
-            room = ap (λ x. vec_capacity x.bounds) w.self-inside-is;
-            total_is = ap (λ x. x.total_capacity) w.self-inside-is ∙ known_total c.self.invariant _ (ap length same);
-          }
-    ]
+is_raised g c = record {
+  raises = grind (arith, common_steps);
+  k_is = grind (arith, common_steps);
+  flag_is = grind (arith, common_steps);
+  items_are = grind (arith, common_steps);
+  room = grind (arith, common_steps);
+  total_is = elim c.if-level-len.branch as (λ _. c.if-level-len.self-inside.total_capacity ≡ total_of c.self.inside.k 8 (length c.if-level-len.self-inside.bounds.items - 1)) [
+    | then-level-len w ↦ ap (λ x. x.total_capacity) w.self-inside-is ∙ (w.total_capacity-self-inside.ensures.value ∙ ap (total_of c.self.inside.k 8)
+        (omega (
+          arith,
+          w.if-level-len.true,
+          c.len.ensures,
+          c.self.inside.bounds.ok.0,
+          ap (λ x. length x.bounds.items) w.self-inside-is,
+          ap length w.push_reserved.ensures.items,
+          length-append c.self.inside.bounds.items (0 ∷ []),
+        )))
+    | else-level-len w ↦ ap (λ x. x.total_capacity) w.self-inside-is ∙ known_total c.self.invariant _ (ap (λ x. length x.bounds.items) w.self-inside-is)
+  ];
+}
 
 -- the bounds after the compaction
 abbrev shifted_bounds : (g : _) (c : After-truncate g) → List ℕ
@@ -63,12 +53,6 @@ shifted_bounds g c =
 bounds_are : (g : _) (c : After-truncate g) → shifted_bounds g c ≡ c.compact_level-count.new.bounds
 bounds_are g c = grind (arith, common_steps, whole_slice)
 
-cut_off : {A : Type 0} (count : ℕ) (items old : List A) {cut : List A} {len kept lent : ℕ} →
-    cut ≡ take (len - count) (take kept (items ++ drop (length items) old)) → len ≡ kept → lent ≡ kept →
-    length items ≡ lent → cut ≡ take (lent - count) items
-cut_off count items old {kept = kept} made left lent same =
-    made ∙ ap₂ (λ n xs. take (n - count) xs) (left ∙ sym lent) (whole_slice items old kept (same ∙ lent))
-
 -- what the compaction leaves in the vectors
 left : (g : _) (c : After-truncate g) → Raises c.args.level c.self.inside.bounds.items c.if-level-len.self-inside.bounds.items →
     c.if-level-len.self-inside.items ≡ c.self.inside.items →
@@ -76,40 +60,16 @@ left : (g : _) (c : After-truncate g) → Raises c.args.level c.self.inside.boun
     c.truncate.new.self.items (shifted_bounds g c)
 left g c raises items_are =
     let made = c.compact_level-count.ensures in
-    let cut = cut_off c.compact_level-count.result c.compact_level-count.new.items c.if-level-len.self-inside.items.items
-    c.truncate.ensures.items c.len-2.ensures c.deref_mut.ensures.len c.compact_level-count.auto.items in
+    let cut : c.truncate.new.self.items ≡ take (length c.deref_mut.result.now - c.compact_level-count.result) c.compact_level-count.new.items =
+    grind (arith, common_steps, whole_slice) in
     let given = ap₂ levels_in (c.deref_mut.ensures.value ∙ ap (λ v. v.items) items_are) c.deref_mut-2.ensures.value in
     let own = ap (λ (y : Stored g.row.T.Denot). y.levels) c.self.view_is in
     rw (cut, bounds_are g c) (compacted_stored _ _ c.self.invariant own c.requires.within c.requires.few raises made.flat
     (subst (λ xs. SameLevels g.T.Ord.cmp (compacted g.T.Ord.cmp c.needs_sorting-needs_sorting.result c.random_bit-coin.result c.args.level xs)
     (levels_in (take (length c.deref_mut.result.now - c.compact_level-count.result) c.compact_level-count.new.items) c.compact_level-count.new.bounds)) given made.alike) made.sorted)
 
-record Lent (g : _) (c : After-random_bit-arg-1 g) (items : List g.row.T.Denot) (bounds : List ℕ) : Type 0 where
-  flat : IsFlat items bounds
-  within : c.args.level + 2 < length bounds
-  sorted : UpperSorted g.T.Ord.cmp (levels_in items bounds)
-  level : c.needs_sorting-needs_sorting.result ≡ false → IsSorted g.T.Ord.cmp (first_level (drop c.args.level (levels_in items bounds)))
-
 needs_is : (g : _) (c : After-random_bit-arg-1 g) → c.needs_sorting-needs_sorting.result ≡ needs_sorting c.args.self.now.is_sorted c.args.level
 needs_is g c = grind (arith, common_steps, is_raised)
-
--- what the compaction is lent
-lent : (g : _) (c : After-random_bit-arg-1 g) {items : List g.row.T.Denot} {bounds : List ℕ} → items ≡ c.if-level-len.self-inside.items.items →
-    bounds ≡ c.if-level-len.self-inside.bounds.items → Lent g c items bounds
-lent g c e f =
-    let before = c.before.before in
-    let raised = is_raised g before in
-    let own = ap (λ (y : Stored g.row.T.Denot). y.levels) c.self.view_is in
-    let up = raised_is c.needs_sorting-needs_sorting.result true c.self.invariant own c.requires.within raised.raises in
-    rw (e ∙ ap (λ v. v.items) raised.items_are, f) (record {
-      flat = up.flat;
-      within = up.within;
-      sorted = up.sorted c.self.invariant.sorted;
-      level = raised_sorted up c.self.invariant.sorted own (needs_is g c) c.requires.flag;
-    })
-
-shorter_of : (cut : ℕ) {n left len all now : ℕ} → n ≡ left → len ≡ n → len + cut ≡ all → all ≡ now → left ≤ now
-shorter_of cut p q r s = omega (arith, p, q, r, s)
 
 pub returns : goal.returns
 returns g c =
@@ -119,23 +79,36 @@ returns g c =
     let before = length-items c.self.inside.items.items c.self.inside.bounds.items c.self.invariant.flat in
     let after = length-items c.truncate.new.self.items (shifted_bounds g then.After-truncate) left.flat in
     record {
-      kept = record {
-        k_is = raised.k_is ∙ ap (λ (y : Stored g.row.T.Denot). y.k) c.self.view_is;
-        flag_is = raised.flag_is ∙ ap (λ (y : Stored g.row.T.Denot). y.is_sorted) c.self.view_is;
-        items_room = le_of_eq (sym (ap (λ (y : Stored g.row.T.Denot). y.items_room) c.self.view_is) ∙ sym (c.truncate.ensures.capacity ∙ ap (λ v. vec_capacity v) raised.items_are));
-        bounds_room = le_of_eq (sym (ap (λ (y : Stored g.row.T.Denot). y.bounds_room) c.self.view_is) ∙ sym raised.room);
-      };
+      kept = grind (arith, common_steps);
       levels = rw (← needs_is g then.After-random_bit-arg-1, ← c.random_bit-coin.ensures.value) left.same;
       sorted = left.sorted;
-      shorter = shorter_of _ after c.truncate.new.self.ok.0 c.truncate.ensures.len
-          (ap (λ v. v.len) raised.items_are ∙ (c.self.inside.items.ok.0 ∙ (before ∙ ap (λ (y : Stored g.row.T.Denot). retained y.levels) c.self.view_is)));
+      shorter = omega (
+        arith,
+        after,
+        c.truncate.new.self.ok.0,
+        c.truncate.ensures.len,
+        ap (λ v. v.len) raised.items_are,
+        c.self.inside.items.ok.0,
+        before,
+        ap (λ (y : Stored g.row.T.Denot). retained y.levels) c.self.view_is,
+      );
       coins = c.random_bit-coin.ensures.after;
     }
 
 pub compact_level-count-requires : goal.compact_level-count-requires
 compact_level-count-requires g c =
-    let l = lent g (past.compact_level-count-requires g c).After-random_bit-arg-1 c.deref_mut.ensures.value c.deref_mut-2.ensures.value in
-    record { flat = l.flat; within = l.within; sorted = l.sorted; level = l.level }
+    let at = (past.compact_level-count-requires g c).After-random_bit-arg-1 in
+    let raised = is_raised g at.before.before in
+    let own = ap (λ (y : Stored g.row.T.Denot). y.levels) c.self.view_is in
+    let up = raised_is c.needs_sorting-needs_sorting.result true c.self.invariant own c.requires.within raised.raises in
+    let e = c.deref_mut.ensures.value ∙ ap (λ v. v.items) raised.items_are in
+    let f = c.deref_mut-2.ensures.value in
+    record {
+      flat = rw (e, f) up.flat;
+      within = rw f up.within;
+      sorted = rw (e, f) (up.sorted c.self.invariant.sorted);
+      level = rw (e, f) (raised_sorted up c.self.invariant.sorted own (needs_is g at) c.requires.flag);
+    }
 
 pub invariant_of-self : goal.invariant_of-self
 invariant_of-self g c =

@@ -1,11 +1,9 @@
 use Rattle.std.proofs.lemmas.Grind.{common_steps}
-use Rattle.std.proofs.Common.{◌≡◌, ℕ, Bool, List, Ordering, true, false, cond, ◌+◌, ◌<◌, ◌≤◌, ◌⊎◌, inl, inr, suc, ◌^◌, length, arith, ap, sym, subst, ◌∙◌, refl, subst₂, le_refl}
+use Rattle.std.proofs.Common.{◌≡◌, ℕ, Bool, List, Ordering, true, cond, ◌≤◌, inl, inr, length, arith, ap, sym, subst, ◌∙◌, refl, le_refl}
 use Rattle.std.proofs.lemmas.Bool.{cases_eq}
-use Rattle.sketch_kll.specs.Capacity.{total_of}
 use Rattle.std.specs.Cmp.{IsTotalOrder}
-use Rattle.sketch_kll.specs.Levels.{retained, compacted, SameLevels, UpperSorted}
+use Rattle.sketch_kll.specs.Levels.{SameLevels, UpperSorted}
 use Rattle.sketch_kll.specs.Compress.{passes, stepped, stepped_source}
-use Rattle.sketch_kll.specs.Steps.{needs_sorting}
 use Rattle.sketch_kll.specs.Stored.{KeepsRoom, Stored}
 use Rattle.sketch_kll.proofs.Flats.{SameLevels-refl}
 use Rattle.sketch_kll.proofs.CompressWalks.{behind_start, no_62nd_level, stepped_passed, walk_step, walk_more, WalkStep, Behind}
@@ -15,15 +13,6 @@ use Rattle.sketch_kll.proofs.levels.Levels.compress.Goals as goal
 use Rattle.sketch_kll.proofs.levels.Levels.compress.Goals.at as past
 use Rattle.sketch_kll.proofs.levels.Levels.compress.Goals.{Joined-not-level_passes, then-not-level_passes, else-not-level_passes}
 
-none_yet : (l : ℕ) {n : ℕ} → n ≡ l → 0 < n → l ≤ 0 → ⊥
-none_yet l same some none = omega (arith, same, some, none)
-
-low_still : {level n : ℕ} → level < n → n ≤ 61 → (level ≡ 60 → ⊥) → level < 60
-low_still within few apart = omega (arith, within, few, apart)
-
-top_of : {level n : ℕ} → level < n → level ≡ 60 → n ≤ 61 → n ≡ 61
-top_of within top few = omega (arith, within, top, few)
-
 pub loop-self-init : goal.loop-self-init
 loop-self-init g c = record {
   kept = record { k_is = refl; flag_is = refl; items_room = le_refl _; bounds_room = le_refl _ };
@@ -31,28 +20,13 @@ loop-self-init g c = record {
   level_few = omega arith;
   weighs = c.requires.light;
   behind = behind_start c.args.self.now.k c.args.self.now.levels;
-  below = λ h. absurd (none_yet _ (ap (λ (y : Stored g.row.T.Denot). length y.levels) c.self.view_is) c.self.invariant.some h);
+  below = λ h. absurd (omega (arith, ap (λ (y : Stored g.row.T.Denot). length y.levels) c.self.view_is, c.self.invariant.some, h));
   levels = SameLevels-refl g.T.Ord.cmp g.met.T.Ord.total _;
   source = refl;
 }
 
 pub compact-requires-clause-few : goal.compact-requires-clause-few
-compact-requires-clause-few g c = grind (arith, common_steps, full_holds, cases_eq, no_62nd_level, top_of, low_still)
-
-more_room : {before now after : ℕ} → before ≤ now → now ≤ after → before ≤ after
-more_room now after = omega arith
-
-not_first : (level : ℕ) → level + 1 ≡ 0 → ⊥
-not_first level first = omega arith
-
-few_of : {level n : ℕ} → level < n → n ≤ 61 → level < 61
-few_of lt few = omega arith
-
-next_few : {level n : ℕ} → level < n → n ≤ 61 → level + 1 ≤ 61
-next_few lt few = omega arith
-
-one_on : (level : ℕ) → level + 1 ≡ suc level
-one_on level = omega arith
+compact-requires-clause-few g c = grind (arith, common_steps, full_holds, cases_eq, no_62nd_level)
 
 -- one step of the walk: it leaves a level as it is, or compacts it
 record HasStepped {A S : Type 0} (cmp : A → A → Ordering) (bit : S → Bool) (next : S → S) (level : ℕ) (x y : Stored A) (coins coins' : S) : Type 0 where
@@ -70,55 +44,36 @@ has_stayed {A} {S} {cmp} o {bit} {next} {level} {x} {y} {coins} {coins'} stays s
       source = ap (λ (b : Bool). cond b coins (next coins)) (sym stays);
     })
 
-has_compacted : {A S : Type 0} {cmp : A → A → Ordering} {bit : S → Bool} {next : S → S} {level : ℕ} {x y y' : Stored A} {coins coins' next' : S} →
-    passes x.k x.levels level ≡ false → y ≡ y' → coins' ≡ next' → KeepsRoom x y' →
-    SameLevels cmp (compacted cmp (needs_sorting x.is_sorted level) (bit coins) level x.levels) y'.levels → next' ≡ next coins →
-    HasStepped cmp bit next level x y coins coins'
-has_compacted {A} {S} {cmp} {bit} {next} {level} {x} {y} {y'} {coins} moves is drawn kept levels after = grind (arith, common_steps)
-
 has_stepped : (g : _) (c : Joined-not-level_passes g) →
     HasStepped g.T.Ord.cmp g.B.RandomBits.bit g.B.RandomBits.next c.loop-self.level c.loop-self.self c.if-not-level_passes.self c.loop-self.coins c.if-not-level_passes.coins
 has_stepped g c = elim c.if-not-level_passes.branch [
-  | then-not-level_passes w ↦
-      grind (arith, common_steps, has_compacted)
-  | else-not-level_passes w ↦
-      has_stayed g.met.T.Ord.total (sym c.level_passes.ensures ∙ w.if-not-level_passes.false) w.self-is w.coins-is
+  | then-not-level_passes w ↦ grind (arith, common_steps)
+  | else-not-level_passes w ↦ has_stayed g.met.T.Ord.total (sym c.level_passes.ensures ∙ w.if-not-level_passes.false) w.self-is w.coins-is
 ]
 
 pub loop-self-preserved : goal.loop-self-preserved
 loop-self-preserved g c =
     let x = c.loop-self.self in
     let i = c.loop-self.invariant in
-    let y = c.if-not-level_passes.self in
     let e = has_stepped g (past.loop-self-preserved g c).Joined-not-level_passes in
     let k : ℕ = c.args.self.now.k in
     let flag : Bool = c.args.self.now.is_sorted in
-    let ls : List (List g.row.T.Denot) = x.levels in
-    let ms : List (List g.row.T.Denot) = y.levels in
+    let ms : List (List g.row.T.Denot) = c.if-not-level_passes.self.levels in
     let t = c.loop-self-test.ensures.within refl in
     let few = c.loop-self-test.ensures.few in
     let above = subst (λ (n : ℕ). 8 ≤ n) (ap (λ (y : Stored g.row.T.Denot). y.k) c.self.view_is) c.self.invariant.k_above in
-    let b : Bool = g.B.RandomBits.bit c.loop-self.coins in
-    let levels : SameLevels g.T.Ord.cmp (stepped g.T.Ord.cmp k flag b c.loop-self.level ls) ms =
-    subst₂ (λ (n : ℕ) (f : Bool). SameLevels g.T.Ord.cmp (stepped g.T.Ord.cmp n f b c.loop-self.level ls) ms) i.kept.k_is i.kept.flag_is e.levels in
-    let source : c.if-not-level_passes.coins ≡ stepped_source g.B.RandomBits.next k c.loop-self.level c.loop-self.coins ls =
-    subst (λ (n : ℕ). c.if-not-level_passes.coins ≡ stepped_source g.B.RandomBits.next n c.loop-self.level c.loop-self.coins ls) i.kept.k_is e.source in
-    let s : WalkStep k c.loop-self.level ls ms = walk_step g.T.Ord.cmp k c.loop-self.level flag b ls ms above t few i.weighs i.behind levels in
-    let w = walk_more g.T.Ord.cmp g.met.T.Ord.total g.B.RandomBits.bit g.B.RandomBits.next k flag c.loop-self.level c.loop-self.coins c.if-not-level_passes.coins _ ls ms _
-    (few_of t few) source levels i.levels i.source in
-    let one = one_on c.loop-self.level in
+    let levels = rw (i.kept.k_is, i.kept.flag_is) at e.levels in
+    let source = rw i.kept.k_is at e.source in
+    let s : WalkStep k c.loop-self.level x.levels ms = walk_step g.T.Ord.cmp k c.loop-self.level flag (g.B.RandomBits.bit c.loop-self.coins) x.levels ms above t few i.weighs i.behind levels in
+    let w = walk_more g.T.Ord.cmp g.met.T.Ord.total g.B.RandomBits.bit g.B.RandomBits.next k flag c.loop-self.level c.loop-self.coins c.if-not-level_passes.coins _ x.levels ms _
+    (omega (arith, t, few)) source levels i.levels i.source in
     record {
-      kept = record {
-        k_is = e.kept.k_is ∙ i.kept.k_is;
-        flag_is = e.kept.flag_is ∙ i.kept.flag_is;
-        items_room = more_room i.kept.items_room e.kept.items_room;
-        bounds_room = more_room i.kept.bounds_room e.kept.bounds_room;
-      };
-      start = λ z. absurd (not_first c.loop-self.level z);
-      level_few = next_few t few;
-      weighs = subst (λ (n : ℕ). n < 2 ^ 64) (sym s.weighs) i.weighs;
-      behind = subst (λ (h : ℕ). Behind k h ms) (sym one) s.behind;
-      below = λ h. s.below (subst (λ (n : ℕ). length ms ≤ n) one h);
+      kept = grind (arith, common_steps);
+      start = λ z. absurd (omega (arith, z));
+      level_few = omega (arith, t, few);
+      weighs = omega (arith, s.weighs, i.weighs);
+      behind = subst (λ (h : ℕ). Behind k h ms) (omega arith) s.behind;
+      below = λ h. s.below (omega (arith, h));
       levels = w.0;
       source = w.1;
     }
@@ -127,15 +82,10 @@ pub returns : goal.returns
 returns g c =
     let x = c.loop-self.self in
     let i = c.loop-self.invariant in
-    let k : ℕ = c.args.self.now.k in
-    let flag : Bool = c.args.self.now.is_sorted in
-    let ls : List (List g.row.T.Denot) = x.levels in
-    let l0 : List (List g.row.T.Denot) = c.args.self.now.levels in
-    let sorted : UpperSorted g.T.Ord.cmp l0 = subst (λ (y : Stored g.row.T.Denot). UpperSorted g.T.Ord.cmp y.levels) c.self.view_is c.self.invariant.sorted in
-    let over : (length ls ≤ c.loop-self.level) ⊎ (retained ls < total_of k 8 (length ls)) =
-    subst (λ (n : ℕ). (length ls ≤ c.loop-self.level) ⊎ (retained ls < total_of n 8 (length ls))) i.kept.k_is (c.loop-self-test.ensures.over refl) in
-    let r = walk_ended g.T.Ord.cmp g.met.T.Ord.total g.B.RandomBits.bit g.B.RandomBits.next k flag c.loop-self.level c.args.coins.now c.loop-self.coins l0 ls sorted c.requires.flag
-    over i.levels i.source in
+    let sorted : UpperSorted g.T.Ord.cmp c.args.self.now.levels = subst (λ (y : Stored g.row.T.Denot). UpperSorted g.T.Ord.cmp y.levels) c.self.view_is c.self.invariant.sorted in
+    let over = rw i.kept.k_is at (c.loop-self-test.ensures.over refl) in
+    let r = walk_ended g.T.Ord.cmp g.met.T.Ord.total g.B.RandomBits.bit g.B.RandomBits.next c.args.self.now.k c.args.self.now.is_sorted c.loop-self.level c.args.coins.now
+    c.loop-self.coins c.args.self.now.levels x.levels sorted c.requires.flag over i.levels i.source in
     record {
       kept = i.kept;
       below = elim over [

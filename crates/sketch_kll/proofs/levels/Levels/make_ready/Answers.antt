@@ -9,18 +9,12 @@ use Rattle.sketch_kll.proofs.LevelClones.{same_clones, cloned}
 use Rattle.sketch_kll.proofs.StoredLevels.{kept_still, clones_told}
 use Rattle.sketch_kll.proofs.levels.Levels.make_ready.Goals as goal
 
-some_of : {len n : ℕ} → len ≡ n + 1 → 0 < n → 1 < len
-some_of is some = omega (arith, is, some)
-
-within_of : {at from held len own : ℕ} → at ≡ from → from ≤ held → len ≡ own → own ≡ held → at ≤ len
-within_of at within len own = omega (arith, at, within, len, own)
-
 -- where level 0 begins
 begins_at : {from : ℕ} (bounds : List ℕ) {n : ℕ} → length bounds ≡ n + 1 → 0 < n → from ≡ get_or bounds 1 from → from ≡ get_or bounds 1 0
-begins_at {from} bounds is some from_is = from_is ∙ get_or_default_zero bounds 1 from (some_of is some)
+begins_at {from} bounds is some from_is = from_is ∙ get_or_default_zero bounds 1 from (omega (arith, is, some))
 
 pub split_off-requires : goal.split_off-requires
-split_off-requires g c = grind (arith, common_steps, begins_at, length-bounds, within_of, bound_within)
+split_off-requires g c = grind (arith, common_steps, begins_at, length-bounds, bound_within)
 
 room_of : {items count now own low room : ℕ} → items + count ≤ room → now ≡ own → items ≡ own → count ≡ low → now + low ≤ room
 room_of room now items low = omega (arith, room, now, items, low)
@@ -46,7 +40,7 @@ returns g c =
     let from = begins_at x.bounds.items long c.others.invariant.some c.index.ensures in
     let copy : List g.row.T.Denot = c.in_ok-upper.upper.items in
     let alike = same_clones g.T.Ord.cmp g.T.Clone.is_clone c.requires.clones x.items.items copy c.in_ok-upper.ensures.cases.0 in
-    let split = cloned g.T.Ord.cmp x.items.items copy x.bounds.items c.in_ok-low.low.items c.split_off.new.self.items flat (some_of long c.others.invariant.some)
+    let split = cloned g.T.Ord.cmp x.items.items copy x.bounds.items c.in_ok-low.low.items c.split_off.new.self.items flat (omega (arith, long, c.others.invariant.some))
     alike (c.in_ok-low.ensures.tail ∙ ap (λ (n : ℕ). drop n copy) from) (c.in_ok-low.ensures.items ∙ ap (λ (n : ℕ). take n copy) from) in
     record {
       kept = kept_still c.self.view_is c.reserve_merged.ensures.items c.reserve_merged.ensures.bounds;

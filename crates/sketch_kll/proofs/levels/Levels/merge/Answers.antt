@@ -1,4 +1,4 @@
-use Rattle.std.proofs.Common.{◌≡◌, ◌∷◌, ◌+◌, ◌*◌, ◌^◌, ◌<◌, ◌≤◌, ℕ, List, Bool, IsTrue, drop, ap, subst, arith, ◌∙◌, subst₂, sym}
+use Rattle.std.proofs.Common.{◌∷◌, List, Bool, IsTrue, drop, ap, subst, arith, ◌∙◌}
 use Rattle.sketch_kll.specs.Flat.{levels_in}
 use Rattle.sketch_kll.specs.Join.{joined}
 use Rattle.sketch_kll.specs.Stored.{Stored}
@@ -6,7 +6,6 @@ use Rattle.sketch_kll.proofs.AlikeCompactions.{first-same}
 use Rattle.sketch_kll.proofs.LevelClones.{ClonedRuns, cloned_runs}
 use Rattle.sketch_kll.proofs.Merged.{merged_by_calls, merged_only, joined_size, joined-first}
 use Rattle.sketch_kll.proofs.MergedSketches.{merged_same}
-use Rattle.sketch_kll.specs.Merged.{HaveMerged}
 use Rattle.sketch_kll.proofs.levels.Levels.merge.Goals as goal
 use Rattle.sketch_kll.proofs.levels.Levels.merge.Goals.at as past
 use Rattle.sketch_kll.proofs.levels.Levels.merge.Goals.{After-as_slice-other_bounds}
@@ -17,28 +16,15 @@ cloned g c =
     let own = ap (λ (y : Stored g.row.T.Denot). y.levels) c.others.view_is in
     cloned_runs g.met.T.Ord.total c.others.invariant own c.as_slice-other_bounds.ensures.value c.requires.clones
 
-few_of : (levels : ℕ) {runs : ℕ} → levels + 2 ≡ runs → runs ≤ 62 → levels ≤ 60
-few_of levels are few = omega arith
-
-light_of : (low upper old : ℕ) {merged levels others : ℕ} → merged ≡ levels + 2 * upper → levels ≡ old + low → low + 2 * upper ≡ others →
-    old + others < 2 ^ 64 → merged < 2 ^ 64
-light_of low upper old p q r light = omega arith
-
 pub compress-requires-clause-light : goal.compress-requires-clause-light
 compress-requires-clause-light g c =
     let clones = cloned g (past.compress-requires-clause-light g c).After-as_slice-other_bounds in
     let taken = c.update_all.ensures.taken in
     let upper : List (List g.row.T.Denot) = levels_in c.args.parts.upper.items (drop 1 c.as_slice-other_bounds.result.now) in
     let sizes = joined_size g.T.Ord.cmp c.update_all.new.self.levels upper c.merge_higher_levels-old.new.self.levels taken.kept.some taken.kept.few
-    (few_of _ clones.upper_are clones.few)
+    (omega (arith, clones.upper_are, clones.few))
     c.merge_higher_levels-old.ensures.levels in
-    light_of _ _ _ sizes.weighs taken.weighs clones.weighs c.requires.light
-
-some_upper : {levels runs : ℕ} → levels + 2 ≡ runs → 2 < runs → 0 < levels
-some_upper are more = omega (arith, are, more)
-
-none_upper : {levels runs : ℕ} → levels + 2 ≡ runs → 2 ≤ runs → runs ≤ 2 → levels ≡ 0
-none_upper are some few = omega (arith, are, some, few)
+    omega (arith, sizes.weighs, taken.weighs, clones.weighs, c.requires.light)
 
 pub returns : goal.returns
 returns g c =
@@ -50,21 +36,14 @@ returns g c =
     ∙ ap (λ (y : Stored g.row.T.Denot). y.levels) seen in
     record {
       k = c.shrink-2.ensures.kept.k_is ∙ (ap (λ (y : Stored g.row.T.Denot). y.k) seen ∙ (made.kept.k_is ∙ (c.merge_higher_levels-old.ensures.k ∙ c.update_all.ensures.k)));
-      merged = subst₂ (λ (f : Bool) (ms : List (List g.row.T.Denot)).
-          HaveMerged g.T.Ord.cmp g.B.RandomBits.bit g.B.RandomBits.next c.args.coins.now c.compress.new.coins c.args.self.now.k c.args.self.now.is_sorted f
-          c.args.self.now.levels c.args.others.now.levels ms)
-          (sym (c.shrink-2.ensures.kept.flag_is ∙ ap (λ (y : Stored g.row.T.Denot). y.is_sorted) seen))
-          (sym (c.shrink-2.ensures.kept.levels_are ∙ levels_are))
-          (merged_same g.met.T.Ord.total g.B.RandomBits.bit g.B.RandomBits.next c.args.coins.now c.compress.new.coins c.args.self.now.k
-          c.args.self.now.is_sorted c.compress.new.self.is_sorted c.args.self.now.levels c.args.others.now.levels (c.args.parts.low.items ∷ upper)
-          c.compress.new.self.levels c.requires.kept.some clones.same
-          (merged_by_calls g.T.Ord.cmp g.met.T.Ord.total g.B.RandomBits.bit g.B.RandomBits.next c.args.coins.now c.update_all.new.coins c.compress.new.coins
-          c.args.self.now.k c.merge_higher_levels-old.new.self.k c.args.self.now.is_sorted c.update_all.new.self.is_sorted
-          c.merge_higher_levels-old.new.self.is_sorted c.compress.new.self.is_sorted c.args.self.now.levels c.args.parts.low.items upper
+      merged = rw (c.shrink-2.ensures.kept.flag_is, ap (λ (y : Stored g.row.T.Denot). y.is_sorted) seen, c.shrink-2.ensures.kept.levels_are, levels_are)
+          (merged_same g.met.T.Ord.total g.B.RandomBits.bit g.B.RandomBits.next _ _ _ _ _ _ _ (c.args.parts.low.items ∷ upper) _ c.requires.kept.some clones.same
+          (merged_by_calls g.T.Ord.cmp g.met.T.Ord.total g.B.RandomBits.bit g.B.RandomBits.next _ c.update_all.new.coins _ _ c.merge_higher_levels-old.new.self.k _
+          c.update_all.new.self.is_sorted c.merge_higher_levels-old.new.self.is_sorted _ _ c.args.parts.low.items upper
           c.update_all.new.self.levels c.merge_higher_levels-old.new.self.levels c.compress.new.self.levels
           (c.merge_higher_levels-old.ensures.k ∙ c.update_all.ensures.k) c.merge_higher_levels-old.ensures.flag made.kept.flag_is
           c.update_all.ensures.taken c.merge_higher_levels-old.ensures.levels c.requires.kept.some
-          (some_upper clones.upper_are c.if-other_bounds-le2.false)
+          (omega (arith, clones.upper_are, c.if-other_bounds-le2.false))
           made.levels made.bag made.coins made.few made.below made.sorted));
     }
 
@@ -74,16 +53,10 @@ returns-then-other_bounds-le2 g c =
     let upper : List (List g.row.T.Denot) = levels_in c.args.parts.upper.items (drop 1 c.as_slice-other_bounds.result.now) in
     record {
       k = c.shrink.ensures.kept.k_is ∙ c.update_all.ensures.k;
-      merged = subst₂ (λ (f : Bool) (ms : List (List g.row.T.Denot)).
-          HaveMerged g.T.Ord.cmp g.B.RandomBits.bit g.B.RandomBits.next c.args.coins.now c.update_all.new.coins c.args.self.now.k c.args.self.now.is_sorted f
-          c.args.self.now.levels c.args.others.now.levels ms)
-          (sym c.shrink.ensures.kept.flag_is) (sym c.shrink.ensures.kept.levels_are)
-          (merged_same g.met.T.Ord.total g.B.RandomBits.bit g.B.RandomBits.next c.args.coins.now c.update_all.new.coins c.args.self.now.k
-          c.args.self.now.is_sorted c.update_all.new.self.is_sorted c.args.self.now.levels c.args.others.now.levels (c.args.parts.low.items ∷ upper)
-          c.update_all.new.self.levels c.requires.kept.some clones.same
-          (merged_only g.T.Ord.cmp g.met.T.Ord.total g.B.RandomBits.bit g.B.RandomBits.next c.args.coins.now c.update_all.new.coins c.args.self.now.k
-          c.args.self.now.is_sorted c.update_all.new.self.is_sorted c.args.self.now.levels c.args.parts.low.items upper c.update_all.new.self.levels
-          c.update_all.ensures.taken (none_upper clones.upper_are clones.some c.if-other_bounds-le2.true)));
+      merged = rw (c.shrink.ensures.kept.flag_is, c.shrink.ensures.kept.levels_are)
+          (merged_same g.met.T.Ord.total g.B.RandomBits.bit g.B.RandomBits.next _ _ _ _ _ _ _ (c.args.parts.low.items ∷ upper) _ c.requires.kept.some clones.same
+          (merged_only g.T.Ord.cmp g.met.T.Ord.total g.B.RandomBits.bit g.B.RandomBits.next _ _ _ _ _ _ c.args.parts.low.items upper _
+          c.update_all.ensures.taken (omega (arith, clones.upper_are, clones.some, c.if-other_bounds-le2.true))));
     }
 
 pub merge_higher_levels-old-requires-clause-upper_sorted : goal.merge_higher_levels-old-requires-clause-upper_sorted

@@ -1,5 +1,5 @@
 use Rattle.std.proofs.lemmas.Grind.{common_steps}
-use Rattle.std.proofs.Common.{◌≡◌, ◌+◌, ◌-◌, ◌^◌, ◌<◌, ◌≤◌, ◌++◌, ℕ, List, replicate, take, drop, length, vec_capacity, refl, sym, ap, ◌∙◌, arith, append-nil, length-append}
+use Rattle.std.proofs.Common.{◌≡◌, ◌-◌, ◌<◌, ◌≤◌, ◌++◌, ℕ, List, replicate, take, drop, length, vec_capacity, refl, sym, ap, ◌∙◌, arith, append-nil, length-append}
 use Rattle.std.proofs.lemmas.List.{length-replicate}
 use Rattle.sketch_kll.specs.Capacity.{total_of}
 use Rattle.sketch_kll.specs.Flat.{levels_in}
@@ -13,9 +13,6 @@ use Rattle.sketch_kll.proofs.levels.Levels.merge_higher_levels.Goals as goal
 use Rattle.sketch_kll.proofs.levels.Levels.merge_higher_levels.Goals.{After-drop-upper, Joined-len-others, then-len-others, else-len-others}
 use Rattle.sketch_kll.proofs.levels.Levels.merge_higher_levels.Goals.at as past
 
-spare_of : {now own room : ℕ} → now ≡ own → own ≡ room → 63 ≤ room → 63 ≤ now
-spare_of now own room = omega (arith, now, own, room)
-
 none_more : {A : Type 0} (n : ℕ) (xs : List A) (x : A) {ys : List A} → ys ≡ xs → n ≤ length xs → ys ≡ xs ++ replicate (n - length xs) x
 none_more n xs x same enough = same ∙ (sym (append-nil xs) ∙ ap (λ (m : ℕ). xs ++ replicate m x) (sym (no_more n enough)))
   where
@@ -25,9 +22,6 @@ none_more n xs x same enough = same ∙ (sym (append-nil xs) ∙ ap (λ (m : ℕ
 len_of : (n : ℕ) {A : Type 0} (xs : List A) (x : A) {ys : List A} {own others : ℕ} → ys ≡ xs ++ replicate (n - length xs) x → own ≡ length xs → others ≡ n → own < others →
     others - 1 ≡ length ys - 1
 len_of n xs x more own others fewer = omega (arith, ap length more, length-append xs (replicate (n - length xs) x), length-replicate (n - length xs) x, own, others, fewer)
-
-enough_of : {own others len n : ℕ} → others ≤ own → own ≡ len → others ≡ n → n ≤ len
-enough_of enough own others = omega (arith, enough, own, others)
 
 -- the fields once there are enough bounds
 record IsWide (g : _) (c : Joined-len-others g) : Type 0 where
@@ -39,33 +33,18 @@ record IsWide (g : _) (c : Joined-len-others g) : Type 0 where
   total_is : c.if-len-others.self-inside.total_capacity ≡ total_of c.self.inside.k 8 (length c.if-len-others.self-inside.bounds.items - 1)
 
 is_wide : (g : _) (c : Joined-len-others g) → IsWide g c
-is_wide g c =
-    let own = c.self.inside.bounds.items in
-    let len : c.len.result ≡ length own = c.len.ensures ∙ c.self.inside.bounds.ok.0 in
-    elim c.if-len-others.branch [
-      | then-len-others w ↦
-          let more : c.if-len-others.self-inside.bounds.items ≡ own ++ replicate (length c.args.others.now - length own) 0 =
-          ap (λ x. x.bounds.items) w.self-inside-is ∙ w.add_levels.ensures.items in
-          record {
-            bounds = more;
-            room = ap (λ x. vec_capacity x.bounds) w.self-inside-is ∙ w.add_levels.ensures.capacity;
-            k_is = ap (λ x. x.k) w.self-inside-is;
-            flag_is = ap (λ x. x.is_level_zero_sorted) w.self-inside-is;
-            items_are = ap (λ x. x.items) w.self-inside-is;
-            total_is = ap (λ x. x.total_capacity) w.self-inside-is ∙ (w.total_capacity-self-inside.ensures.value ∙
-                ap (total_of c.self.inside.k 8) (len_of (length c.args.others.now) own 0 more len refl w.if-len-others.true));
-          }
-      | else-len-others w ↦
-          let same : c.if-len-others.self-inside.bounds.items ≡ own = ap (λ x. x.bounds.items) w.self-inside-is in
-          record {
-            bounds = none_more (length c.args.others.now) own 0 same (enough_of w.if-len-others.false len refl);
-            room = ap (λ x. vec_capacity x.bounds) w.self-inside-is;
-            k_is = ap (λ x. x.k) w.self-inside-is;
-            flag_is = ap (λ x. x.is_level_zero_sorted) w.self-inside-is;
-            items_are = ap (λ x. x.items) w.self-inside-is;
-            total_is = ap (λ x. x.total_capacity) w.self-inside-is ∙ known_total c.self.invariant _ (ap length same);
-          }
-    ]
+is_wide g c = record {
+  bounds = grind (arith, common_steps, none_more);
+  room = grind (arith, common_steps);
+  k_is = grind (arith, common_steps);
+  flag_is = grind (arith, common_steps);
+  items_are = grind (arith, common_steps);
+  total_is = elim c.if-len-others.branch as (λ _. c.if-len-others.self-inside.total_capacity ≡ total_of c.self.inside.k 8 (length c.if-len-others.self-inside.bounds.items - 1)) [
+    | then-len-others w ↦ ap (λ x. x.total_capacity) w.self-inside-is ∙ (w.total_capacity-self-inside.ensures.value ∙ ap (total_of c.self.inside.k 8)
+        (len_of (length c.args.others.now) c.self.inside.bounds.items 0 (ap (λ x. x.bounds.items) w.self-inside-is ∙ w.add_levels.ensures.items) (c.len.ensures ∙ c.self.inside.bounds.ok.0) refl w.if-len-others.true))
+    | else-len-others w ↦ ap (λ x. x.total_capacity) w.self-inside-is ∙ known_total c.self.invariant _ (ap (λ x. length x.bounds.items) w.self-inside-is)
+  ];
+}
 
 -- what is stored in the end
 stored_in_the_end : (g : _) (c : After-drop-upper g) →
@@ -88,12 +67,6 @@ stored_in_the_end g c more same total =
     back.flat back.levels back.sorted c.reverse.ensures.items (whole ∙ added) (length wide.items)
     (sym wide.ok.0 ∙ sym (ap length whole ∙ long)) total
 
-room_of : (u : ℕ) {v w l r room : ℕ} → v ≡ w → w ≡ l → l ≡ r → r + u ≤ room → v + u ≤ room
-room_of u p q r room = omega arith
-
-fits_of : {both items upper held len room : ℕ} → both ≤ items + upper → items ≡ held → len ≡ upper → held + len ≤ room → room < 2 ^ 63 → both < 2 ^ 64
-fits_of both held len room small = omega arith
-
 pub add_bounds-requires : goal.add_bounds-requires
 add_bounds-requires g c =
     let x = c.self.inside in
@@ -103,12 +76,12 @@ add_bounds-requires g c =
     record {
       some = c.requires.some;
       fewer = wide.fewer;
-      zero = fits_of within.0 held c.args.upper.ok.0 c.requires.room c.args.merged.small;
-      fits = λ j above. fits_of (within.1 j above) held c.args.upper.ok.0 c.requires.room c.args.merged.small;
+      zero = omega (arith, c.args.merged.small, c.requires.room, c.args.upper.ok.0, held, within.0);
+      fits = λ j above. (omega (arith, c.args.merged.small, c.requires.room, c.args.upper.ok.0, held, within.1 j above));
     }
 
 pub returns : goal.returns
-returns g c = grind (arith, common_steps, is_wide, Joined-len-others, stored_in_the_end, After-drop-upper, spare_of)
+returns g c = grind (arith, common_steps, is_wide, stored_in_the_end)
 
 pub merge_runs_back-requires-clause-flat : goal.merge_runs_back-requires-clause-flat
 merge_runs_back-requires-clause-flat g c =
@@ -125,9 +98,9 @@ merge_runs_back-requires-clause-sorted g c =
     wide.sorted
 
 pub merge_runs_back-requires-clause-room : goal.merge_runs_back-requires-clause-room
-merge_runs_back-requires-clause-room g c = grind (arith, common_steps, is_wide, Joined-len-others, room_of, length-items)
+merge_runs_back-requires-clause-room g c = grind (arith, common_steps, is_wide, length-items)
 
 pub invariant_of-self : goal.invariant_of-self
 invariant_of-self g c =
     let w = is_wide g (past.invariant_of-self g c).Joined-len-others in
-    grind (arith, common_steps, stored_in_the_end, After-drop-upper)
+    grind (arith, common_steps, stored_in_the_end)

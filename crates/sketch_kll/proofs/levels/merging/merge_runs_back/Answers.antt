@@ -1,6 +1,5 @@
 use Rattle.std.proofs.lemmas.Grind.{common_steps}
-use Rattle.std.proofs.Common.{arith, ◌≡◌, ℕ, List, ◌+◌, ◌-◌, ◌<◌, ◌≤◌, ◌++◌, suc, length, get_or, take, drop, reverse, refl, sym, ap, ap₂, subst, ◌∙◌, append_assoc, length-append, length-drop, length-take-le, le_refl, take-append-drop}
-use Rattle.std.proofs.lemmas.List.{length-reverse}
+use Rattle.std.proofs.Common.{arith, ◌≡◌, ℕ, List, ◌+◌, ◌-◌, ◌<◌, ◌≤◌, ◌++◌, length, get_or, take, drop, reverse, refl, sym, ap, ap₂, subst, ◌∙◌, append_assoc, length-drop, length-take-le, le_refl, take-append-drop}
 use Rattle.sketch_base.proofs.Pourings.{reverse_back}
 use Rattle.sketch_kll.specs.Flat.{levels_in}
 use Rattle.sketch_kll.proofs.Flats.{bound_at, bound_within, length-bounds}
@@ -27,9 +26,6 @@ runs g c =
     next_runs c.loop-level.level c.args.other_bounds.now c.requires.flat c.requires.upper c.requires.sorted c.requires.upper_sorted
     c.loop-level.invariant.within (joining g c)
 
-none_moved : (own up : ℕ) {to : ℕ} → to ≡ 0 → to + own + up ≡ own + up
-none_moved own up none = omega (arith, none)
-
 pub loop-level-init : goal.loop-level-init
 loop-level-init g c =
     let ls : List (List g.row.T.Denot) = levels_in c.args.items.now.items c.args.bounds.now in
@@ -40,7 +36,7 @@ loop-level-init g c =
     record {
       within = le_refl 1;
       below = bound_within c.args.items.now.items c.args.bounds.now c.requires.flat 1;
-      count = none_moved _ _ (ap length c.requires.empty);
+      count = omega (arith, ap length c.requires.empty);
       capacity = refl;
       joining = joining_start g.met.T.Ord.total (some_levels _ n c.requires.fewer c.requires.some) r.rest (sym c.requires.upper.items_are)
           (reverse_back c.args.merged.now.items first ∙ ap₂ (λ (x y : List g.row.T.Denot). x ++ y) r.run (ap reverse c.requires.empty));
@@ -58,33 +54,10 @@ merge_from_back-requires-clause-left_sorted g c = (runs g (past.merge_from_back-
 pub merge_from_back-requires-clause-right_sorted : goal.merge_from_back-requires-clause-right_sorted
 merge_from_back-requires-clause-right_sorted g c = (runs g (past.merge_from_back-requires-clause-right_sorted g c).After-move_back).right_sorted
 
--- what is moved back is in both no more and no less
-moved_count : {A : Type 0} (keep : ℕ) (from to : List A) {from' to' : List A} → from' ≡ take keep from → to' ≡ to ++ reverse (drop keep from) →
-    keep ≤ length from →
-    length to' + length from' ≡ length to + length from
-moved_count keep from to e f within = grind (arith, common_steps, length-take-le, length-append, length-reverse, length-drop)
-
 -- how many items there are then
 counted : (g : _) (c : After-move_back g) →
     length c.move_back.new.to.items + length c.move_back.new.from.items ≡ length c.loop-level.merged.items + length c.loop-level.items.items
-counted g c = grind (arith, common_steps, moved_count)
-
-lower_of : (ls : ℕ) {level runs bounds : ℕ} → level < runs - 1 → bounds ≡ ls + 1 → runs ≤ bounds → 1 ≤ level → suc (level - 1) < ls
-lower_of ls lt n fewer some = omega (arith, lt, n, fewer, some)
-
-upper_of : (us runs : ℕ) {level uppers : ℕ} → level < runs - 1 → uppers ≡ us + 1 → uppers ≡ runs - 1 → 1 ≤ level → level - 1 < us
-upper_of us runs lt n m some = omega (arith, lt, n, m, some)
-
-count_of : (to0 left0 to left right keep to1 left1 : ℕ) {all vto vleft vright vto1 vleft1 right1 : ℕ} → to0 + left0 + right ≡ all → to + left ≡ to0 + left0 →
-    vleft1 + vto1 ≡ vleft + vto + (vright - keep) → vleft ≡ left → vto ≡ to → vright ≡ right → vleft1 ≡ left1 → vto1 ≡ to1 → right1 ≡ keep → keep ≤ right →
-    to1 + left1 + right1 ≡ all
-count_of to0 left0 to left right keep to1 left1 count moved whole v w x y z kept within = omega (arith, count, moved, whole, v, w, x, y, z, kept, within)
-
-within_of : (level : ℕ) → 1 ≤ level + 1
-within_of level = omega arith
-
-one_of : (level : ℕ) → 1 ≤ level → suc (level - 1) ≡ level + 1 - 1
-one_of level some = omega (arith, some)
+counted g c = grind (arith, common_steps)
 
 pub loop-level-preserved : goal.loop-level-preserved
 loop-level-preserved g c =
@@ -102,15 +75,13 @@ loop-level-preserved g c =
     let to : List g.row.T.Denot = c.merge_from_back.new.to.items in
     let r = runs g at in
     record {
-      within = within_of c.loop-level.level;
+      within = omega arith;
       below = e.left_within;
-      count = count_of _ _ _ _ _ _ _ _ i.count (counted g at) e.whole c.move_back.new.from.ok.0 c.move_back.new.to.ok.0 c.loop-level.upper.ok.0
-          c.merge_from_back.new.left.ok.0 c.merge_from_back.new.to.ok.0 (ap length e.right ∙ length-take-le kr c.loop-level.upper.items r.right_at.within)
-          r.right_at.within;
+      count = omega (arith, i.count, counted g at, e.whole, c.move_back.new.from.ok.0, c.move_back.new.to.ok.0, c.loop-level.upper.ok.0, c.merge_from_back.new.left.ok.0, c.merge_from_back.new.to.ok.0, ap length e.right ∙ length-take-le kr c.loop-level.upper.items r.right_at.within, r.right_at.within);
       capacity = e.to_capacity ∙ (c.move_back.ensures.to_capacity ∙ i.capacity);
       joining = subst (λ (j : ℕ). AreJoining g.T.Ord.cmp j ls us (take kl left) c.merge_from_back.new.right.items (to ++ reverse (drop kl left)))
-          (one_of c.loop-level.level i.within)
-          (joining_more g.met.T.Ord.total (lower_of _ c.loop-level-test.true n c.requires.fewer i.within) (upper_of _ _ c.loop-level-test.true m d i.within)
+          (omega (arith, i.within))
+          (joining_more g.met.T.Ord.total (omega (arith, c.loop-level-test.true, n, c.requires.fewer, i.within)) (omega (arith, c.loop-level-test.true, m, d, i.within))
           (e.left ∙ r.left_at.rest) (e.right ∙ r.right_at.rest)
           (moved_run c.move_back.new.to.items to (to ++ reverse (drop kl left)) (drop kl left) e.to refl) r.left_at.run r.right_at.run e.moved e.sorted (joining g at));
     }

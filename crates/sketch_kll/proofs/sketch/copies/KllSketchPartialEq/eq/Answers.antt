@@ -23,22 +23,19 @@ both_more true y z = refl
 both_more false y z = refl
 
 k_tests : (g : _) (c : Joined-eq-2 g) → c.if-own-others.value ≡ (nat_eq c.own.inside.k c.others.inside.k && nat_eq c.self.inside.min_k c.other.inside.min_k)
-k_tests g c = grind (arith, common_steps, then-own-others, then_both, eq-eqb, else-own-others, else_both)
+k_tests g c = grind (arith, common_steps, then_both, eq-eqb, else_both)
 
 n_test : (g : _) (c : Joined-eq-2 g) → c.if-self-other.value ≡ (c.if-own-others.value && nat_eq c.self.inside.n c.other.inside.n)
-n_test g c = grind (arith, common_steps, then-self-other, then_both, else-self-other, else_both)
+n_test g c = grind (arith, common_steps, then_both, else_both)
 
 flag_test : (g : _) (c : Joined-eq-2 g) → c.if-self-other-2.value ≡ (c.if-self-other.value && beq c.own.inside.is_level_zero_sorted c.others.inside.is_level_zero_sorted)
-flag_test g c = grind (arith, common_steps, then-self-other-2, then_both, else-self-other-2, else_both)
+flag_test g c = grind (arith, common_steps, then_both, else_both)
 
 bounds_test : (g : _) (c : Joined-eq-2 g) → c.if-own-others-2.value ≡ (c.if-self-other-2.value && pointwise nat_eq c.own.inside.bounds.items c.others.inside.bounds.items)
-bounds_test g c = grind (arith, common_steps, then-own-others-2, then_both, else-own-others-2, else_both)
-
-items_test : (g : _) (c : Joined-eq-2 g) → c.if-eq.value ≡ (c.if-own-others-2.value && pointwise g.T.PartialEq.eq c.own.inside.items.items c.others.inside.items.items)
-items_test g c = grind (arith, common_steps, then-eq, then_both, else-eq, else_both)
+bounds_test g c = grind (arith, common_steps, then_both, else_both)
 
 least_test : (g : _) (c : Joined-eq-2 g) → c.if-eq-2.value ≡ (c.if-eq.value && option_eq g.T.PartialEq.eq c.self.inside.min_item c.other.inside.min_item)
-least_test g c = grind (arith, common_steps, then-eq-2, then_both, else-eq-2, else_both)
+least_test g c = grind (arith, common_steps, then_both, else_both)
 
 -- all of them together
 tests_joined : (k min_k n flag bounds items least greatest : Bool) {levels v w x y z u r : Bool} → v ≡ (k && min_k) → w ≡ (v && n) → x ≡ (w && flag) → y ≡ (x && bounds) → z ≡ (y && items) →
@@ -52,7 +49,7 @@ whole g c result last =
     let y = c.others.inside in
     let levels = levels-equal g.T.PartialEq.eq x.items.items y.items.items x.bounds.items y.bounds.items c.own.invariant.flat c.others.invariant.flat in
     rw (← c.self.view_is, ← c.other.view_is, ← c.own.view_is, ← c.others.view_is)
-    (tests_joined (nat_eq x.k y.k) (nat_eq c.self.inside.min_k c.other.inside.min_k) _ _ _ _ _ _ (k_tests g c) (n_test g c) (flag_test g c) (bounds_test g c) (items_test g c) levels (least_test g c) last)
+    (tests_joined (nat_eq x.k y.k) (nat_eq c.self.inside.min_k c.other.inside.min_k) _ _ _ _ _ _ (k_tests g c) (n_test g c) (flag_test g c) (bounds_test g c) (grind (arith, common_steps, then_both, else_both)) levels (least_test g c) last)
 
 pub returns-else-eq-3 : goal.returns-else-eq-3
 returns-else-eq-3 g c = whole g (past.returns-else-eq-3 g c).Joined-eq-2 _ (else_both _ c.if-eq-3.false refl)

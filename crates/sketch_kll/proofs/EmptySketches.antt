@@ -1,1 +1,0 @@
--- An empty sketch is sound.
