@@ -1,8 +1,9 @@
 -- If P holds for each item of a list, it holds for each item of its parts; the same for levels, also after a compaction.
+use Rattle.std.proofs.lemmas.Grind.{common_steps}
 use Rattle.std.proofs.Common.{rules}
-use Rattle.std.proofs.Common.{◌≡◌, ℕ, zero, suc, ◌-◌, ◌%◌, ◌<◌, Bool, true, false, if◌then◌else◌, List, [], ◌∷◌, ◌++◌, length, take, drop, map, flat_map, arith, Ordering, Equal, is_gt}
+use Rattle.std.proofs.Common.{◌≡◌, ℕ, zero, suc, ◌-◌, ◌<◌, Bool, true, false, if◌then◌else◌, List, [], ◌∷◌, ◌++◌, length, take, drop, map, flat_map, arith, Ordering, Equal, is_gt}
 use Rattle.std.specs.List.{AllByRecursion, AllZip}
-use Rattle.sketch_base.specs.Bag.{Bag, Taken, AllButLeftover, Lowest, Greatest, SameItems, half, sort, cut, insert_in_order, level_at, with_level, compaction}
+use Rattle.sketch_base.specs.Bag.{Bag, Taken, SameItems, half, sort, cut, insert_in_order, level_at, with_level, compaction}
 
 module _ {A : Type 0} (P : A → Type 0) where
   -- for each item of two lists, so for each item of one followed by the other
@@ -90,10 +91,7 @@ module _ {A : Type 0} (P : A → Type 0) where
 
   all-cut : (cmp : A → A → Ordering) (taken : Taken) (in_list_order : Bool) (l : List A) → AllByRecursion P l →
       AllByRecursion P (cut cmp taken in_list_order l).0 × AllByRecursion P (cut cmp taken in_list_order l).1
-  all-cut cmp AllButLeftover true l a = let n = length l - length l % 2 in (all-drop n l a, all-sort cmp (take n l) (all-take n l a))
-  all-cut cmp AllButLeftover false l a = let n = length l % 2 in let s = all-sort cmp l a in (all-take n (sort cmp l) s, all-drop n (sort cmp l) s)
-  all-cut cmp (Lowest n) b l a = let s = all-sort cmp l a in (all-drop n (sort cmp l) s, all-take n (sort cmp l) s)
-  all-cut cmp (Greatest n) b l a = let m = length l - n in let s = all-sort cmp l a in (all-take m (sort cmp l) s, all-drop m (sort cmp l) s)
+  all-cut cmp taken in_list_order l a = grind (arith, common_steps, all-drop, all-sort, all-take)
 
   -- P holds in the levels after a compaction if it holds in those before
   pub all-compaction : (cmp : A → A → Ordering) (h : ℕ) (taken : Taken) (bit : Bool) (bag : Bag A) → AllIn bag.levels → AllIn (compaction cmp h taken bit bag).levels

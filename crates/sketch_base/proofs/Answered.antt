@@ -1,5 +1,7 @@
 -- How a query is answered where it returns.
-use Rattle.std.proofs.Common.{◌≡◌, ◌↔◌, ℕ, ◌<◌, Result, Ok, Err, ap, subst, ◌∙◌}
+use Rattle.std.proofs.Common.{arith}
+use Rattle.std.proofs.lemmas.Grind.{common_steps}
+use Rattle.std.proofs.Common.{◌≡◌, ◌↔◌, ℕ, ◌<◌, Result, Ok, Err, subst}
 use Rattle.std.specs.Prelude.{Option, IsSome, IsErrAnd}
 use Rattle.sketch_base.specs.Queried.{IsAnswered}
 use Rattle.sketch_base.specs.declared.error.ErrorKind.{ErrorKind}
@@ -9,13 +11,11 @@ use Rattle.sketch_base.proofs.Exits.{accepted, no_error, no_memory}
 module _ {V IsFit : Type 0} {IsWanted : Option V → Type 0} {n : ℕ} where
   -- arguments that aren't fit are refused
   pub unfit : {e : ErrorKind} (r : Result (Option V) ErrorKind) → IsErrAnd r (λ x. x ≡ e) → e ≡ InvalidArgument → ¬ IsFit → IsAnswered n IsFit IsWanted r
-  unfit (Ok x) h is bad = absurd h
-  unfit (Err x) h is bad = record { found = tt; there = tt; refused = (λ k. bad, λ k. ap Err (h ∙ is)); memory = λ fit. absurd (bad fit) }
+  unfit r h is bad = grind (arith, common_steps)
 
   -- for others memory may be refused
   pub short : {e : ErrorKind} (r : Result (Option V) ErrorKind) → IsErrAnd r (λ x. x ≡ e) → e ≡ OutOfMemory → IsFit → 0 < n → IsAnswered n IsFit IsWanted r
-  short (Ok x) h is fit some = absurd h
-  short (Err x) h is fit some = record { found = tt; there = tt; refused = no_memory (Err x) h is (λ bad. bad fit); memory = λ fit. (h ∙ is, some) }
+  short r h is fit some = grind (arith, common_steps, no_memory)
 
   pub answer : (x : Option V) → IsFit → IsSome x ↔ (0 < n) → IsWanted x → IsAnswered n IsFit IsWanted (Ok x)
   answer x fit there found = record { found = found; there = there; refused = accepted (λ bad. bad fit); memory = tt }
@@ -27,8 +27,7 @@ module _ {V IsFit : Type 0} {IsWanted : Option V → Type 0} {n : ℕ} where
   module _ {Wanted : Option V → Type 0} where
     -- an error that a query passes on
     pub passed : {e : ErrorKind} (r : Result (Option V) ErrorKind) → IsErrAnd r (λ x. x ≡ e) → IsAnswered n IsFit IsWanted (Err e) → IsAnswered n IsFit Wanted r
-    passed (Ok x) h told = absurd h
-    passed (Err x) h told = rw h (record { found = tt; there = tt; refused = told.refused; memory = told.memory })
+    passed r h told = grind (arith, common_steps)
 
     -- another answer of as many entries
     pub answer-too : {x : Option V} (y : Option V) → IsAnswered n IsFit IsWanted (Ok x) → IsSome y ↔ (0 < n) → Wanted y → IsAnswered n IsFit Wanted (Ok y)

@@ -124,8 +124,7 @@ module _ {A : Type 0} (cmp : A → A → Ordering) (test : A → Bool) (m : ℕ)
   exact-changed f g leaves leaves' s u v inv same at i left = go (i == s) refl
     where
       go : (b : Bool) → (i == s) ≡ b → IsExactUpTo m (if b then v else g i) (if b then u else f i)
-      go true e = at (ap leaves' (sym (eqb-true i s e)) ∙ left)
-      go false e = inv i (same i (eqb-false i s e) left)
+      go b e = grind (arith, common_steps, eqb-true, eqb-false)
 
   -- what a slot holds is exact up to m, if its compactions left at least m items
   abbrev AreExact : World (Bag A) → (ℕ → ℕ) → (ℕ → Bool) → Type 0

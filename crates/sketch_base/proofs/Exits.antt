@@ -1,50 +1,41 @@
 -- What holds where a call returns that has failed, or that hasn't.
 use Rattle.std.proofs.Common.{arith}
 use Rattle.std.proofs.lemmas.Grind.{common_steps}
-use Rattle.std.proofs.Common.{OnOk, OnErr, IfOk, ◌≡◌, ◌∙◌, false, Result, Ok, Err, IfErr, IsErr, IsErrAnd, is_ok, refl, sym, ap}
+use Rattle.std.proofs.Common.{OnOk, OnErr, IfOk, ◌≡◌, ◌∙◌, false, Result, Ok, Err, IfErr, IsErr, IsErrAnd, is_ok, sym, ap}
 use Rattle.sketch_base.specs.declared.error.ErrorKind.{ErrorKind}
 use Rattle.sketch_base.specs.declared.error.ErrorKind.TheVariants.{InvalidArgument, InvalidData, OutOfMemory}
 
 module _ {T E : Type 0} where
   pub at_error : {Q : E → Type 0} (r : Result T E) (P : E → Type 0) → IsErrAnd r Q → ((e : E) → Q e → P e) → IfErr r P
-  at_error (Ok x) P h f = absurd h
-  at_error (Err e) P h f = f e h
+  at_error r P h f = grind (arith, common_steps)
 
   pub error_known : (r : Result T E) (P : E → Type 0) → IsErrAnd r P → IfErr r P
-  error_known (Ok x) P h = absurd h
-  error_known (Err e) P h = h
+  error_known r P h = grind (arith, common_steps)
 
   -- the error that a call passes on
   pub returned : (r : Result T E) (x : E) → IsErrAnd r (λ e. e ≡ x) → r ≡ Err x
-  returned (Ok y) x h = absurd h
-  returned (Err e) x h = ap Err h
+  returned r x h = grind (arith, common_steps)
 
   pub on_error : {P : Type 0} (r : Result T E) → P → IfErr r (λ _. P)
-  on_error (Ok x) p = tt
-  on_error (Err e) p = p
+  on_error r p = grind (arith, common_steps)
 
   pub only_error : {x y : E} (r : Result T E) → IsErrAnd r (λ e. e ≡ x) → x ≡ y → IfErr r (λ e. e ≡ y)
-  only_error (Ok x) h f = absurd h
-  only_error (Err e) h f = h ∙ f
+  only_error r h f = grind (arith, common_steps)
 
   -- the error of a call whose argument wasn't refused
   pub error_if : {x y : E} {P : Type 0} (r : Result T E) → IsErrAnd r (λ e. e ≡ x) → (P → x ≡ y) → IfErr r (λ e. P → e ≡ y)
-  error_if (Ok x) h f = absurd h
-  error_if (Err e) h f = λ p. h ∙ f p
+  error_if r h f = grind (arith, common_steps)
 
   -- an error of another kind than y, or what follows if it is y
   pub refused_if : {x y : E} {P : Type 0} (r : Result T E) → IsErrAnd r (λ e. e ≡ x) → (x ≡ y → P) → IfErr r (λ e. e ≡ y → P)
-  refused_if (Ok x) h f = absurd h
-  refused_if (Err e) h f = λ is. f (sym h ∙ is)
+  refused_if r h f = grind (arith, common_steps)
 
   -- what follows from a value that a call returned, or from its failure
   pub value_gives : {P R Q : T → Type 0} (r : Result T E) → IfOk r P → IfOk r R → ((x : T) → P x → R x → Q x) → IfOk r Q
-  value_gives (Ok x) p q f = f x p q
-  value_gives (Err e) p q f = tt
+  value_gives r p q f = grind (arith, common_steps)
 
   pub failure_gives : {P Q : Type 0} (r : Result T E) → OnErr r P → (P → Q) → OnErr r Q
-  failure_gives (Ok x) p f = tt
-  failure_gives (Err e) p f = f p
+  failure_gives r p f = grind (arith, common_steps)
 
   abbrev error_or : E → Result T E → E
   error_or x (Ok y) = x
@@ -54,8 +45,7 @@ module _ {T E : Type 0} where
   error_is {x} e f = ap (error_or x) (sym e ∙ f)
 
   pub not_ok : (r : Result T E) → IsErr r → is_ok r ≡ false
-  not_ok (Ok x) e = sym e
-  not_ok (Err x) e = refl
+  not_ok r e = grind (arith, common_steps)
 
   pub no_error : {x : T} {e : E} → Ok x ≡ Err e → ⊥
   no_error is = cc

@@ -1,7 +1,7 @@
 -- Sorted weighted items of which equal ones are joined: the view that they make.
 use Rattle.std.proofs.lemmas.Grind.{common_steps}
 use Rattle.std.proofs.Common.{◌≡◌, ℕ, zero, suc, ◌+◌, ◌-◌, ◌*◌, ◌<◌, ◌≤◌, Bool, true, false, cond, List, [], ◌∷◌, ◌++◌, length, map, replicate, sum_by, refl, sym, ap, ap₂, ◌∙◌, arith, if◌then◌else◌, IsSorted, IsPermutation, Ordering, Less, Equal, is_gt, is_lt}
-use Rattle.std.specs.Prelude.{⊤, Option, None, Some, IsSome}
+use Rattle.std.specs.Prelude.{⊤, Option, IsSome}
 use Rattle.std.specs.Cmp.{IsTotalOrder}
 use Rattle.std.specs.List.{All, AllByRecursion}
 use Rattle.std.specs.Ordering.{is_eq}
@@ -112,8 +112,7 @@ module _ {A : Type 0} (cmp : A → A → Ordering) where
   begins-above x before (y ∷ ys) (c ∷ cs) h up = go (c - before) (let l = up.0 in omega (arith, l))
     where
       go : (n : ℕ) → 0 < n → begins_equal cmp x (replicate n y ++ spread_over c ys cs) ≡ false
-      go zero l = absurd (omega arith)
-      go (suc n) l = ap is_eq h.0
+      go n l = grind (arith, common_steps)
   begins-above x before _ _ h up = refl
 
 module _ {A : Type 0} {cmp : A → A → Ordering} (order : IsTotalOrder cmp) where
@@ -207,8 +206,7 @@ module _ {A : Type 0} {cmp : A → A → Ordering} (order : IsTotalOrder cmp) wh
         sum_by-sort one cmp (copies weighted) ∙ (sum-copies one weighted ∙ (grind (arith, common_steps, sum_by-IsPermutation, sum-spread, counted-equal))))
 
     there : (extreme : Option A) → IsSome extreme → (n : ℕ) → 0 < n → IsThere extreme n
-    there None h n l = absurd (false≢true h)
-    there (Some x) h n l = l
+    there extreme h n l = grind (arith, common_steps, false≢true)
 
     -- the joined items make a view
     pub joined-view : (least greatest : Option A) → 0 < length weighted → IsSome least → IsSome greatest → IsView cmp (joined cmp joins pairs) (joined_weights cmp joins 0 pairs) least greatest

@@ -1,5 +1,6 @@
 -- A prefix of a list whose items pass a test: what one item tells of its length, and where it ends in a part of the list.
-use Rattle.std.proofs.Common.{◌≡◌, ℕ, zero, suc, ◌+◌, ◌<◌, ◌≤◌, Bool, true, false, List, [], ◌∷◌, length, get_or, count_by, refl, sym, ◌∙◌, subst, arith}
+use Rattle.std.proofs.lemmas.Grind.{common_steps}
+use Rattle.std.proofs.Common.{◌≡◌, ℕ, suc, ◌+◌, ◌<◌, ◌≤◌, Bool, true, false, List, [], ◌∷◌, length, get_or, count_by, refl, subst, arith}
 use Rattle.std.specs.List.Sorted.{IsPartitionedBy}
 use Rattle.std.proofs.lemmas.Bool.{false≢true}
 use Rattle.sketch_base.specs.Queries.{IsSplitAt}
@@ -10,8 +11,7 @@ module _ {A : Type 0} (test : A → Bool) where
   rest-parted x xs up i j d le l h = up (suc i) (suc j) d (omega arith) (omega arith) h
 
   fails-after : (xs : List A) (k : ℕ) (d : A) (b : Bool) → test (get_or xs k d) ≡ b → IsPartitionedBy test xs → k < length xs → test (get_or xs 0 d) ≡ false → test (get_or xs k d) ≡ false
-  fails-after xs k d false e up l none = e
-  fails-after xs k d true e up l none = absurd (false≢true (sym none ∙ up 0 k d (omega arith) l e))
+  fails-after xs k d b e up l none = grind (arith, common_steps, false≢true)
 
   front : (xs : List A) → IsPartitionedBy test xs → (i : ℕ) × ((i ≤ length xs) × IsSplitAt test xs i)
   front [] up = (0, (omega arith, ((λ k d l m. absurd (omega arith)), (λ k d l m. absurd (omega arith)))))
@@ -22,12 +22,10 @@ module _ {A : Type 0} (test : A → Bool) where
       go true e r = (suc r.0, (omega (arith, r.1.0), (passes, λ k d l m. fails k d l m)))
         where
           passes : (k : ℕ) (d : A) → 0 ≤ k → k < suc r.0 → test (get_or (x ∷ xs) k d) ≡ true
-          passes zero d l m = e
-          passes (suc k) d l m = r.1.1.0 k d (omega arith) (omega arith)
+          passes k d l m = grind (arith, common_steps)
 
           fails : (k : ℕ) (d : A) → suc r.0 ≤ k → k < length (x ∷ xs) → test (get_or (x ∷ xs) k d) ≡ false
-          fails zero d l m = absurd (omega arith)
-          fails (suc k) d l m = r.1.1.1 k d (omega arith) (omega arith)
+          fails k d l m = grind (arith, common_steps)
 
   -- if the items that pass come before the others, the list is split at their number
   pub parts-count : (xs : List A) → IsPartitionedBy test xs → IsSplitAt test xs (count_by test xs)

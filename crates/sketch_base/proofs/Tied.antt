@@ -1,5 +1,7 @@
 -- Lists that compare equal place by place: sorted ones of the same items, and what is spelled for them.
-use Rattle.std.proofs.Common.{◌≡◌, ℕ, List, [], ◌∷◌, ◌++◌, Option, None, Some, refl, ap, ap₂, IsSorted, Ordering}
+use Rattle.std.proofs.Common.{arith}
+use Rattle.std.proofs.lemmas.Grind.{common_steps}
+use Rattle.std.proofs.Common.{◌≡◌, ℕ, List, [], ◌∷◌, ◌++◌, Option, refl, ap, ap₂, IsSorted, Ordering}
 use Rattle.std.specs.Cmp.{IsTotalOrder}
 use Rattle.std.specs.Option.{option_to_list, unwrap_or}
 use Rattle.sketch_base.specs.Bag.{SameItems, sort}
@@ -11,9 +13,7 @@ use Rattle.sketch_base.proofs.Sorting.{Ordered-from_sorted, sort-ordered}
 
 -- the items of answers that compare equal
 pub same-ends : {A : Type 0} (cmp : A → A → Ordering) (a b : Option A) → SameAnswer cmp a b → SameItems cmp (option_to_list a) (option_to_list b)
-same-ends cmp None None s = tt
-same-ends cmp (Some x) (Some y) s = (s, tt)
-same-ends cmp _ _ s = absurd s
+same-ends cmp a b s = grind (arith, common_steps)
 
 module _ {A : Type 0} {cmp : A → A → Ordering} where
   -- sorted lists of the same items compare equal
