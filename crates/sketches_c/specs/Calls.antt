@@ -66,6 +66,7 @@ pub record AreMasses (q : Queried ℤ) (points : List ℤ) (inclusive steps : Bo
   pub unfit : answer ≡ code_of InvalidArgument → ¬ (IsIncreasing q.cmp points)
   pub fit : (answer ≡ ok) ⊎ (answer ≡ empty) ⊎ (answer ≡ wrong_size) → IsIncreasing q.cmp points
   pub room : answer ≡ wrong_size → length weights ≢ length points + 1
+  pub memory : answer ≢ ok → answer ≢ empty → answer ≢ wrong_size → IsIncreasing q.cmp points → answer ≡ code_of OutOfMemory
 
 -- the extremes of the stream
 pub record AreEnds (q : Queried ℤ) (answer least greatest : ℤ) : Type 0 where
@@ -74,12 +75,14 @@ pub record AreEnds (q : Queried ℤ) (answer least greatest : ℤ) : Type 0 wher
   pub least_is : answer ≡ ok → q.least ≡ Some least
   pub greatest_is : answer ≡ ok → q.greatest ≡ Some greatest
 
--- bytes that are written into a buffer, where there is room; what lies behind them stays
-pub record IsWritten (text buffer : List ℕ) (answer : ℤ) (after : List ℕ) (size : ℕ) : Type 0 where
+-- bytes that are written into a buffer, where there are such bytes, and room; what lies behind them stays
+pub record IsWritten (HasText : Type 0) (text buffer : List ℕ) (answer : ℤ) (after : List ℕ) (size : ℕ) : Type 0 where
   pub room : (answer ≡ ok) ⊎ (answer ≡ wrong_size) → size ≡ length text
   pub written : answer ≡ ok → after ≡ text ++ drop (length text) buffer
   pub small : answer ≡ wrong_size → length buffer < length text
   pub kept : answer ≢ ok → after ≡ buffer
+  pub unfit : answer ≡ code_of InvalidArgument → ¬ HasText
+  pub memory : answer ≢ ok → answer ≢ wrong_size → HasText → answer ≡ code_of OutOfMemory
 
 -- the bytes hold an image of the sketch, of this family
 pub record IsRead (req : Bool) (bytes : List ℕ) (seed : ℕ) (new : State) : Type 0 where
@@ -87,3 +90,7 @@ pub record IsRead (req : Bool) (bytes : List ℕ) (seed : ℕ) (new : State) : T
   pub holds : Holds req bytes image new.floats
   pub family : is_req new.sketch ≡ req
   pub sketch : IsOfImage image seed new.sketch new.coins
+
+-- the bytes hold no image of this family
+unfoldable pub ReadsNothing : Bool → List ℕ → ℕ → Type 0
+ReadsNothing req bytes seed = (s : State) → ¬ (IsRead req bytes seed s)

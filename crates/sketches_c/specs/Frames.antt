@@ -9,6 +9,10 @@ frame req floats = 77 ∷ 90 ∷ 81 ∷ 83 ∷ 1 ∷ (if req then 2 else 1) ∷ 
 abbrev pub text_of : Bool → Bool → Bool → List ℕ → List ℕ
 text_of plain req floats image = if plain then image else frame req floats ++ image
 
+-- the bytes begin as a frame does
+abbrev pub IsMarked : List ℕ → Type 0
+IsMarked text = (rest : List ℕ) × (text ≡ 77 ∷ 90 ∷ 81 ∷ 83 ∷ rest)
+
 -- the bytes hold the image, in a frame or plain; plain items are whole numbers
 abbrev pub Holds : Bool → List ℕ → List ℕ → Bool → Type 0
 Holds req text image floats = (text ≡ frame req floats ++ image) ⊎ ((text ≡ image) × (floats ≡ false))

@@ -8,6 +8,7 @@ use Rattle.sketch_base.specs.Random.{after_draws, bits_from, next_state, output_
 use Rattle.sketch_base.specs.Spelling.{i64_spelling}
 use Rattle.sketch_kll.specs.Copy as kll_copy
 use Rattle.sketch_kll.specs.Image.{IsImage}
+use Rattle.sketch_kll.specs.ImageLaws as kll_laws
 use Rattle.sketch_kll.specs.Merged as kll_merged
 use Rattle.sketch_kll.specs.Sketch as kll
 use Rattle.sketch_kll.specs.Updates as kll_updates
@@ -48,6 +49,11 @@ queried (Req s) = req_views.queried int_cmp s
 abbrev pub image_of : Sketch → List ℕ
 image_of (Kll s) = kll_written.image_text i64_spelling s
 image_of (Req s) = req_written.image_text i64_spelling s
+
+-- the image is not too long
+abbrev pub HasImage : Sketch → Type 0
+HasImage (Kll s) = kll_laws.HasImage i64_spelling s
+HasImage (Req s) = length (req_written.image_text i64_spelling s) < 2 ^ 64
 
 abbrev pub is_req : Sketch → Bool
 is_req (Kll s) = false
@@ -171,3 +177,7 @@ pub record IsRedrawnOf (image : List ℕ) (seed : ℕ) (new : req.Req ℤ) (afte
 abbrev pub IsOfImage : List ℕ → ℕ → Sketch → ℕ → Type 0
 IsOfImage image seed (Kll s) after = (IsImage int_cmp i64_spelling image s) × (after ≡ seed)
 IsOfImage image seed (Req s) after = IsRedrawnOf image seed s after
+
+-- the bytes are the image of no sketch of this family
+unfoldable pub IsOfNoImage : Bool → List ℕ → ℕ → Type 0
+IsOfNoImage req image seed = (s : Sketch) (after : ℕ) → is_req s ≡ req → ¬ (IsOfImage image seed s after)

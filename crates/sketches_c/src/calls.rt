@@ -2,15 +2,15 @@
 ghost use Rattle.std.specs.Prelude.{◌≡◌, ◌≢◌, ◌↔◌, ◌<◌, ◌≤◌, false, [], ◌∷◌, IfSome, IsSome};
 ghost use Rattle.std.specs.declared.option.Option.TheVariants.{None, Some};
 ghost use Rattle.sketch_base.specs.Bag.{retained};
-ghost use Rattle.sketch_base.specs.declared.error.ErrorKind.TheVariants.{InvalidArgument, OutOfMemory};
+ghost use Rattle.sketch_base.specs.declared.error.ErrorKind.TheVariants.{InvalidArgument, InvalidData, OutOfMemory};
 ghost use Rattle.sketch_kll.specs.Sketch.{empty_sketch as empty_kll};
 ghost use Rattle.sketch_req.specs.Sections.{IsLegalK};
 ghost use Rattle.sketch_req.specs.Sketch.{empty_sketch as empty_req};
-ghost use Rattle.sketches_c.specs.Calls.{AreEnds, AreMasses, Asks, Changes, IsQuantile, IsRank, IsRead, IsWritten};
+ghost use Rattle.sketches_c.specs.Calls.{AreEnds, AreMasses, Asks, Changes, IsQuantile, IsRank, IsRead, IsWritten, ReadsNothing};
 ghost use Rattle.sketches_c.specs.Codes.{code_of, no_sketch, ok};
 ghost use Rattle.sketches_c.specs.Floats.{key, keys, shown};
 ghost use Rattle.sketches_c.specs.Frames.{text_of};
-ghost use Rattle.sketches_c.specs.Sketches.{AreUpdates, IsCopy, IsMerge, IsUpdate, IsWeightedUpdate, accuracy_of, bag_of, emptied, image_of, is_high, is_req, k_of, n_of};
+ghost use Rattle.sketches_c.specs.Sketches.{AreUpdates, HasImage, IsCopy, IsMerge, IsUpdate, IsWeightedUpdate, accuracy_of, bag_of, emptied, image_of, is_high, is_req, k_of, n_of};
 ghost use Rattle.sketches_c.specs.declared.sketch.Sketch.TheVariants.{Kll, Req};
 
 use crate::answers::{EMPTY, NO_SKETCH, OK, OUT_OF_MEMORY, code_of, criteria};
@@ -414,7 +414,7 @@ pub extern "C" fn mz_serialize(
     ensures same { handle.new.value ≡ handle.old.value }
     ensures absent { handle.old.value ≡ None → result ≡ no_sketch }
     ensures written { IfSome handle.old.value (λ s.
-        IsWritten (text_of plain (is_req s.sketch) s.floats (image_of s.sketch))
+        IsWritten (HasImage s.sketch) (text_of plain (is_req s.sketch) s.floats (image_of s.sketch))
         buffer.old result buffer.new size.new) }
 {
     let Some(state) = handle.take(alloc) else {
@@ -440,6 +440,8 @@ pub extern "C" fn mz_deserialize(
     ensures made { result ≡ ok → IsSome handle.new.value }
     ensures read { result ≡ ok → IfSome handle.new.value (IsRead req bytes.now seed) }
     ensures refused { result ≢ ok → handle.new.value ≡ handle.old.value }
+    ensures unread { result ≡ code_of InvalidData → ReadsNothing req bytes.now seed }
+    ensures kind { result ≢ ok → result ≢ code_of InvalidData → result ≡ code_of OutOfMemory }
 {
     match State::read(alloc, req, bytes, seed) {
         Ok(state) => handle.hold(alloc, state),

@@ -1,8 +1,9 @@
 //! The eight bytes before an image, which say what it is of: "MZQS", a version, the family, the
 //! kind of the items, 0.
-ghost use Rattle.std.specs.Prelude.{◌≡◌, ◌++◌, IfOk};
+ghost use Rattle.std.specs.Prelude.{◌≡◌, ◌++◌, ◌⊎◌, ℕ, Bool, List, IfOk, IfErr};
+ghost use Rattle.sketch_base.specs.declared.error.ErrorKind.TheVariants.{InvalidData, OutOfMemory};
 ghost use Rattle.sketches_c.specs.Calls.{IsWritten};
-ghost use Rattle.sketches_c.specs.Frames.{Holds, frame};
+ghost use Rattle.sketches_c.specs.Frames.{Holds, IsMarked, frame};
 
 use crate::answers::{OK, WRONG_SIZE};
 use sketch_base::error::{Error, ErrorKind};
@@ -10,7 +11,8 @@ use std::alloc::Global;
 
 /// Returns the image in its frame.
 pub(crate) fn framed(alloc: Global, req: bool, floats: bool, image: &[u8]) -> Result<Vec<u8>, Error>
-    ensures { IfOk result (λ v. v.items ≡ frame req floats ++ image.now) }
+    ensures framed { IfOk result (λ v. v.items ≡ frame req floats ++ image.now) }
+    ensures memory { IfErr result (λ e. e ≡ OutOfMemory) }
 {
     let head = [
         b'M',
@@ -30,7 +32,12 @@ pub(crate) fn framed(alloc: Global, req: bool, floats: bool, image: &[u8]) -> Re
 
 /// Returns the image that bytes hold, in its frame or plain, and whether its items are floats.
 pub(crate) fn unframed(bytes: &[u8], req: bool) -> Result<(&[u8], bool), Error>
-    ensures { IfOk result (λ found. Holds req bytes.now found.0.now found.1) }
+    ensures held { IfOk result (λ found. Holds req bytes.now found.0.now found.1) }
+    ensures kind { IfErr result (λ e. e ≡ InvalidData) }
+    ensures alone { IfOk result (λ found. (image : List ℕ) (floats : Bool)
+        → Holds req bytes.now image floats → (image ≡ found.0.now) ⊎ IsMarked image) }
+    ensures unread { IfErr result (λ e. (image : List ℕ) (floats : Bool)
+        → Holds req bytes.now image floats → IsMarked image) }
 {
     match bytes {
         [b'M', b'Z', b'Q', b'S', version, id, kind, last, image @ ..] => {
@@ -45,7 +52,7 @@ pub(crate) fn unframed(bytes: &[u8], req: bool) -> Result<(&[u8], bool), Error>
 
 /// Writes bytes to the front of a buffer, if there is room.
 pub(crate) fn write_front(text: &[u8], buffer: &mut [u8], size: &mut u64) -> i32
-    ensures { IsWritten text.now buffer.old result buffer.new size.new }
+    ensures { IsWritten (Unit {0}) text.now buffer.old result buffer.new size.new }
 {
     *size = text.len() as u64;
     if buffer.len() < text.len() {

@@ -1,11 +1,12 @@
 //! The sketches of both families behind one type.
-ghost use Rattle.std.specs.Prelude.{◌≡◌, ◌≢◌, ◌↔◌, Some, IsSome, IsTrue, IfOk, IfSome, map};
+ghost use Rattle.std.specs.Prelude.{◌≡◌, ◌≢◌, ◌↔◌, Some, IsSome, IsTrue, IsErrOf, IfOk, IfErr, IfSome, map};
 ghost use Rattle.sketch_base.specs.Bag.{retained};
 ghost use Rattle.sketch_base.specs.Queried.{AreMasses as ArePossibleMasses, IsQuantile, IsRank};
+ghost use Rattle.sketch_base.specs.declared.error.ErrorKind.TheVariants.{InvalidArgument, InvalidData};
 ghost use Rattle.sketches_c.specs.Calls.{AreMasses, masses_of};
 ghost use Rattle.sketches_c.specs.Codes.{ok};
 ghost use Rattle.sketches_c.specs.Floats.{number_in};
-ghost use Rattle.sketches_c.specs.Sketches.{AreUpdates, IsCopy, IsFullFor, IsMerge, IsOfImage, IsUpdate, IsWeightedUpdate, bag_of, emptied, image_of, is_high, is_req, k_of, n_of, queried};
+ghost use Rattle.sketches_c.specs.Sketches.{AreUpdates, HasImage, IsCopy, IsFullFor, IsMerge, IsOfImage, IsOfNoImage, IsUpdate, IsWeightedUpdate, bag_of, emptied, image_of, is_high, is_req, k_of, n_of, queried};
 
 use crate::answers::{
     EMPTY, INVALID_ARGUMENT, OK, OTHER_KIND, OUT_OF_MEMORY, WRONG_SIZE, code, code_of,
@@ -242,7 +243,9 @@ impl Sketch {
     }
 
     pub(crate) fn serialize(&self) -> Result<Vec<u8>, Error>
-        ensures { IfOk result (λ v. v.items ≡ image_of self.now) }
+        ensures written { IfOk result (λ v. v.items ≡ image_of self.now) }
+        ensures unfit { IsErrOf result InvalidArgument → ¬ HasImage self.now }
+        ensures kind { IfErr result (λ e. e ≢ InvalidData) }
     {
         match self {
             Sketch::Kll(sketch) => sketch.serialize(),
@@ -252,6 +255,7 @@ impl Sketch {
 
     /// Returns the sketch whose image the bytes are, as a whole. The coins that an image of REQ
     /// doesn't hold are drawn anew.
+    #[tactic(auto, using(crate::proofs::OneRead::none_kll, crate::proofs::OneRead::none_req, crate::proofs::OneRead::none_whole))]
     pub(crate) fn deserialize(
         alloc: Global,
         req: bool,
@@ -260,12 +264,19 @@ impl Sketch {
     ) -> Result<Sketch, Error>
         ensures family { IfOk result (λ s. is_req s ≡ req) }
         ensures sketch { IfOk result (λ s. IsOfImage image.now coins.old s coins.new) }
+        ensures unread { IfErr result (λ e. e ≡ InvalidData
+            → IsOfNoImage req image.now coins.old) }
+        ensures kind { IfErr result (λ e. e ≢ InvalidArgument) }
     {
         if !req {
             return Ok(Sketch::Kll(KllSketch::deserialize(alloc, image)?));
         }
         let mut sketch = ReqSketch::deserialize(alloc, image)?;
-        ErrorKind::InvalidData.unless(sketch.serialized_size_bytes()? == image.len())?;
+        let whole = match sketch.serialized_size_bytes() {
+            Ok(size) => size == image.len(),
+            Err(_) => false,
+        };
+        ErrorKind::InvalidData.unless(whole)?;
         sketch.redraw_coins(coins);
         Ok(Sketch::Req(sketch))
     }

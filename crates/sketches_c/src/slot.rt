@@ -10,7 +10,7 @@ use std::alloc::Global;
 use std::marker::Model;
 
 /// The pointer of a box, or null.
-pub struct Slot<T> {
+pub(crate) struct Slot<T> {
     pub at: *mut T,
     pub alloc: Global,
     pub ghost value: { Option T } by { coded_option T.code },

@@ -1,8 +1,9 @@
 //! What a handle points to.
-ghost use Rattle.std.specs.Prelude.{◌≡◌, IfOk};
-ghost use Rattle.sketches_c.specs.Calls.{IsRead};
+ghost use Rattle.std.specs.Prelude.{◌≡◌, ◌≢◌, IsErrOf, IfOk, IfErr};
+ghost use Rattle.sketch_base.specs.declared.error.ErrorKind.TheVariants.{InvalidArgument, InvalidData};
+ghost use Rattle.sketches_c.specs.Calls.{IsRead, ReadsNothing};
 ghost use Rattle.sketches_c.specs.Frames.{text_of};
-ghost use Rattle.sketches_c.specs.Sketches.{image_of, is_req};
+ghost use Rattle.sketches_c.specs.Sketches.{HasImage, image_of, is_req};
 
 use crate::frame::{framed, unframed};
 use crate::sketch::Sketch;
@@ -22,8 +23,10 @@ pub struct State {
 impl State {
     /// Returns the bytes of the image, in its frame unless it is to be plain.
     pub(crate) fn text(&self, alloc: Global, plain: bool) -> Result<Vec<u8>, Error>
-        ensures { IfOk result (λ v. v.items
+        ensures text { IfOk result (λ v. v.items
             ≡ text_of plain (is_req self.now.sketch) self.now.floats (image_of self.now.sketch)) }
+        ensures unfit { IsErrOf result InvalidArgument → ¬ HasImage self.now.sketch }
+        ensures kind { IfErr result (λ e. e ≢ InvalidData) }
     {
         let image = self.sketch.serialize()?;
         if plain {
@@ -33,8 +36,11 @@ impl State {
     }
 
     /// Returns what the bytes hold an image of, with coins from the seed.
+    #[tactic(auto, using(crate::proofs::OneRead::none_framed, crate::proofs::OneRead::none_held))]
     pub(crate) fn read(alloc: Global, req: bool, bytes: &[u8], seed: u64) -> Result<State, Error>
-        ensures { IfOk result (IsRead req bytes.now seed) }
+        ensures read { IfOk result (IsRead req bytes.now seed) }
+        ensures unread { IfErr result (λ e. e ≡ InvalidData → ReadsNothing req bytes.now seed) }
+        ensures kind { IfErr result (λ e. e ≢ InvalidArgument) }
     {
         let (image, floats) = unframed(bytes, req)?;
         let mut coins = SplitMix64::new(seed);
