@@ -1,0 +1,6 @@
+pub mod Exact
+pub mod Fed
+pub mod Fields
+pub mod Found
+pub mod Lines
+pub mod Summary

@@ -1,0 +1,206 @@
+//! What the sketch of a group answers, and how sure that is.
+use crate::groups::Group;
+use crate::number::{Reading, read_number};
+use crate::sketch::Sketch;
+use itoa::Buffer;
+use sketch_base::common::Rank;
+use sketch_base::error::Error;
+use std::alloc::AllocError;
+
+/// What is asked of each group.
+#[derive(Clone, Copy, PartialEq, Eq)]
+pub enum Column<'a> {
+    /// How many numbers there are.
+    Count,
+    /// A percentile: its name, and the fraction that it is.
+    Point(&'a str, Rank),
+    /// The least number.
+    Min,
+    /// The greatest number.
+    Max,
+    /// The sum of the numbers.
+    Sum,
+    /// How many numbers are at most a limit.
+    AtMost(&'a str),
+    /// How many of 100 numbers are at most a limit.
+    Share(&'a str),
+}
+
+/// What is known of how sketches were made.
+#[derive(Clone, Copy, PartialEq, Eq)]
+pub enum Surety {
+    /// By updates alone.
+    Updates,
+    /// By updates with weights, or by merging images.
+    Merges,
+    /// By merging images of sketches that weren't equally accurate.
+    UnlikeMerges,
+}
+
+/// What stands in a cell of a table.
+#[derive(Clone, Copy, PartialEq, Eq)]
+pub enum Answer {
+    /// Nothing: there are no numbers, or the limit isn't kept.
+    None,
+    /// How many numbers.
+    Count(u64),
+    /// A number, or a sum of numbers.
+    Number(i128),
+    /// A share, in thousandths of a percent.
+    Share(u32),
+}
+
+/// A cell of a table.
+#[derive(Clone, Copy)]
+pub struct Cell {
+    pub answer: Answer,
+    /// The answer is the one that sorting gives.
+    pub is_exact: bool,
+}
+
+/// The decimals of a share in percent.
+const SHARE_DECIMALS: u8 = 3;
+
+/// Thousandths of a percent in the whole.
+const WHOLE: u128 = 100_000;
+
+impl Answer {
+    /// Returns the answer that a number is, if there is one.
+    fn of(number: Option<i64>) -> Self {
+        number.map_or(Answer::None, |number| Answer::Number(number as i128))
+    }
+
+    /// Returns the share that a part is, rounded down.
+    fn share(rank: Rank) -> Self {
+        match (rank.weight as u128 * WHOLE).checked_div(rank.total as u128) {
+            Some(share) => Answer::Share(u32::try_from(share).unwrap_or(u32::MAX)),
+            None => Answer::None,
+        }
+    }
+
+    /// Returns how many decimals the answer needs, of those that its number has.
+    pub fn decimals_needed(self, decimals: u8) -> u8 {
+        let Answer::Number(mut rest) = self else {
+            return 0;
+        };
+        for needless in 0..decimals {
+            if rest % 10 != 0 {
+                return decimals - needless;
+            }
+            rest /= 10;
+        }
+        0
+    }
+
+    /// Adds the answer, whose number has these decimals and is shown with so many.
+    pub fn push(self, out: &mut Vec<u8>, decimals: u8, shown: u8) -> Result<(), AllocError> {
+        match self {
+            Answer::None => Ok(()),
+            Answer::Count(count) => push_number(out, count as u128, 0, 0),
+            Answer::Share(share) => push_number(out, share as u128, SHARE_DECIMALS, SHARE_DECIMALS),
+            Answer::Number(number) => {
+                if number < 0 {
+                    out.push(b'-')?;
+                }
+                push_number(out, number.unsigned_abs(), decimals, shown)
+            }
+        }
+    }
+}
+
+/// Adds a number with `shown` of its decimals.
+pub fn push_number(
+    out: &mut Vec<u8>,
+    number: u128,
+    decimals: u8,
+    shown: u8,
+) -> Result<(), AllocError> {
+    let mut buffer = Buffer::new();
+    let digits = buffer.format(number).as_bytes();
+    let places = decimals as usize;
+    let (whole, fraction) = digits.split_at(digits.len().saturating_sub(places));
+    out.extend_from_slice(if whole.is_empty() { b"0" } else { whole })?;
+    if shown > 0 {
+        out.push(b'.')?;
+    }
+    let zeros = places.saturating_sub(fraction.len());
+    for place in 0..shown as usize {
+        let digit = place.checked_sub(zeros).and_then(|i| fraction.get(i));
+        out.push(digit.copied().unwrap_or(b'0'))?;
+    }
+    Ok(())
+}
+
+/// Returns what stands in a column for a group.
+pub fn cell_of(group: &Group, column: &Column<'_>, surety: Surety) -> Result<Cell, Error> {
+    let sketch = &group.sketch;
+    let (answer, is_exact) = match column {
+        Column::Count => (Answer::Count(sketch.n()), true),
+        Column::Min => (Answer::of(sketch.min()), true),
+        Column::Max => (Answer::of(sketch.max()), true),
+        Column::Sum => (group.sum.map_or(Answer::None, Answer::Number), true),
+        Column::Point(_, fraction) => {
+            let number = sketch.quantile(*fraction)?;
+            (Answer::of(number), is_exact(sketch, *fraction, surety))
+        }
+        Column::AtMost(limit) => match rank_of(group, limit) {
+            Some(rank) => (Answer::Count(rank.weight), is_exact(sketch, rank, surety)),
+            None => (Answer::None, true),
+        },
+        Column::Share(limit) => match rank_of(group, limit) {
+            Some(rank) => (Answer::share(rank), is_exact(sketch, rank, surety)),
+            None => (Answer::None, true),
+        },
+    };
+    Ok(Cell { answer, is_exact })
+}
+
+/// Returns how many numbers are at most a limit, if its decimals are kept and there are numbers.
+fn rank_of(group: &Group, limit: &str) -> Option<Rank> {
+    match read_number(limit.as_bytes(), group.decimals.unwrap_or(0)) {
+        Reading::Exact(limit) => group.sketch.rank(limit),
+        _ => None,
+    }
+}
+
+/// Returns whether the answer at a fraction of the numbers is the one that sorting gives.
+fn is_exact(sketch: &Sketch, fraction: Rank, surety: Surety) -> bool {
+    sketch.is_whole() || surety != Surety::UnlikeMerges && sketch.is_exact_at(fraction)
+}
+
+/// Millionths in the whole.
+const MILLION: u64 = 1_000_000;
+
+/// Returns by how much a percentile's rank may be off, in millionths of the numbers, if that is
+/// proved: for KLL the bound that all but one word of coins in 2,000 keep, for REQ the standard
+/// error.
+pub fn error_of(sketch: &Sketch, fraction: Rank, surety: Surety) -> Option<u64> {
+    match sketch {
+        _ if surety != Surety::Updates => None,
+        Sketch::Kll(sketch) => Some((9 * MILLION).div_ceil(sketch.min_k().max(8) as u64)),
+        Sketch::Req(sketch) => {
+            let top = sketch.iter().map(|pair| pair.1).max().unwrap_or(1);
+            let relative = relative_error(sketch.k(), top.max(1).ilog2())?;
+            let beyond = fraction.total.saturating_sub(fraction.weight);
+            let error = beyond as u128 * relative as u128;
+            u64::try_from(error.div_ceil(fraction.total.max(1) as u128)).ok()
+        }
+    }
+}
+
+/// Returns the relative standard error in millionths after compactions of so many levels:
+/// the root of `(1 + 1 / 3k^2)^levels - 1`, rounded up.
+fn relative_error(k: u16, levels: u32) -> Option<u64> {
+    let trillion = MILLION * MILLION;
+    let step = trillion.div_ceil((3 * k as u64).saturating_mul(k as u64).max(1));
+    let mut square = 0u64;
+    for _ in 0..levels {
+        let more = (square as u128)
+            .saturating_mul(step as u128)
+            .div_ceil(trillion as u128);
+        square = square
+            .checked_add(u64::try_from(more).ok()?)?
+            .checked_add(step)?;
+    }
+    square.isqrt().checked_add(1)
+}

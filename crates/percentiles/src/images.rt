@@ -1,0 +1,185 @@
+//! How lines of images are merged by their keys, and written.
+ghost use Rattle.std.specs.Prelude.{⊤};
+
+use crate::failure::Failure;
+use crate::lines::{MOST_AHEAD, TakeFile};
+use crate::options::{Options, Task};
+use crate::reports::{Position, push_cut};
+use log_groups::answers::Surety;
+use log_groups::fault::Fault;
+use log_groups::groups::{Groups, Joined};
+use log_groups::images::{Merging, parts_of, push_line};
+use log_groups::lines::{TakeLine, len_before, take_lines};
+use log_groups::text::push_printable;
+use md5::{Digest, Md5};
+use std::alloc::{AllocError, Global};
+use std::collections::BTreeSet;
+use std::io::{BufReader, Read, Write};
+
+/// Takes lines 'KEY<tab>IMAGE<tab>DECIMALS<tab>CHECKSUM', and merges their images by key.
+#[derive(Drop)]
+pub struct Images {
+    name: &'static str,
+    merging: Merging,
+    /// The same line may come again.
+    again: bool,
+    position: Position,
+    pub groups: Groups,
+    /// The digests of the lines so far.
+    seen: BTreeSet<[u8; 16]>,
+    /// How many lines of this file are left out.
+    refused: u64,
+    /// No line was left out, of any file.
+    pub is_whole: bool,
+    /// How many lines are of another accuracy than those before of their key.
+    unlike: u64,
+    /// What is to be told.
+    pub told: Vec<u8>,
+}
+
+/// The most lines of a file that are told of.
+const MOST_TOLD: u64 = 10;
+
+impl TakeLine for Images {
+    ghost takes = { λ s l t. ⊤ };
+
+    ghost leaves = { λ s t. ⊤ };
+
+    fn take_line(&mut self, alloc: Global, line: &[u8]) -> Result<(), Fault> {
+        let line = self.position.next(line);
+        let is_image = parts_of(alloc, line)?.is_ok();
+        if is_image && !self.again && !self.seen.insert(Md5::digest(line))? {
+            return Ok(self.refuse(line, "came before (--again takes such lines, too)")?);
+        }
+        match self.groups.join_line(alloc, line, self.merging)? {
+            Joined::Taken => {}
+            Joined::OtherAccuracy => self.unlike = self.unlike.saturating_add(1),
+            why => self.refuse(line, told_of(why))?,
+        }
+        Ok(())
+    }
+}
+
+/// Returns what is told of a line that is left out.
+fn told_of(why: Joined) -> &'static str {
+    match why {
+        Joined::Changed => "has another checksum than it says",
+        Joined::NoDecimals => "doesn't say its decimals: give them with -d",
+        Joined::OtherKind => "is of another kind of sketch than those before",
+        Joined::OtherDecimals => "has other decimals than those before",
+        Joined::TooHeavy => "would take its key's weight over 2^64",
+        _ => "is no image",
+    }
+}
+
+impl TakeFile for Images {
+    fn take_file<R: Read + Drop>(
+        &mut self,
+        alloc: Global,
+        name: &str,
+        input: R,
+    ) -> Result<(), Failure> {
+        self.position.begin(name)?;
+        self.refused = 0;
+        let mut input = BufReader::with_capacity(alloc, MOST_AHEAD, input).map_err(Fault::Input)?;
+        take_lines(alloc, &mut input, self)?;
+        if self.position.line == 0 && name != "-" {
+            self.is_whole = false;
+            self.tell(" is empty: check whether the summarize that wrote it failed\n")?;
+        }
+        match self.refused.saturating_sub(MOST_TOLD) {
+            0 => {}
+            1 => self.tell(": 1 more line is left out\n")?,
+            more => {
+                let text = format!(in alloc; ": {more} more lines are left out\n")?;
+                self.tell(text.as_str())?;
+            }
+        }
+        Ok(())
+    }
+}
+
+impl Images {
+    /// Creates what takes lines.
+    pub fn new(alloc: Global, options: &Options<'_>, seed: u64) -> Self {
+        Images {
+            name: options.task.name(),
+            merging: Merging {
+                decimals: options.taking.decimals,
+                for_table: options.task == Task::Percentiles,
+            },
+            again: options.taking.again,
+            position: Position::new(alloc),
+            groups: Groups::new(alloc, seed, options.making.most_groups),
+            seen: BTreeSet::new(alloc),
+            refused: 0,
+            is_whole: true,
+            unlike: 0,
+            told: Vec::new(alloc),
+        }
+    }
+
+    /// Returns what is known of the sketches.
+    pub fn surety(&self) -> Surety {
+        if self.unlike > 0 {
+            Surety::UnlikeMerges
+        } else {
+            Surety::Merges
+        }
+    }
+
+    /// Tells what is to be told.
+    pub fn tell_all<E: Write>(&self, errors: &mut E) {
+        let (name, count) = (self.name, self.unlike);
+        let _told = errors.write_all(self.told.as_slice());
+        if count > 0 {
+            let _told = write!(
+                errors,
+                "{name}: lines of another K than those before of their key: {count}; the result is as accurate as the least K\n"
+            );
+        }
+    }
+
+    /// Tells something of a file.
+    fn tell(&mut self, what: &str) -> Result<(), AllocError> {
+        self.told.extend_from_slice(self.name.as_bytes())?;
+        self.told.extend_from_slice(b": ")?;
+        push_printable(&mut self.told, self.position.file.as_bytes())?;
+        self.told.extend_from_slice(what.as_bytes())
+    }
+
+    /// Reports a line that is left out.
+    #[inline(never)]
+    fn refuse(&mut self, line: &[u8], why: &str) -> Result<(), AllocError> {
+        self.refused = self.refused.saturating_add(1);
+        self.is_whole = false;
+        if self.refused > MOST_TOLD {
+            return Ok(());
+        }
+        let text = format!(in *self.told.allocator(); ", line {}, key '", self.position.line)?;
+        self.tell(text.as_str())?;
+        let len = len_before(line, b'\t');
+        if len < line.len() {
+            push_cut(&mut self.told, &line[..len])?;
+        }
+        self.told.extend_from_slice(b"': ")?;
+        self.told.extend_from_slice(why.as_bytes())?;
+        self.told.extend_from_slice(b"; it is left out\n")
+    }
+}
+
+/// Writes a line 'KEY<tab>IMAGE<tab>DECIMALS<tab>CHECKSUM' for each group.
+pub fn write_images<W: Write>(
+    alloc: Global,
+    out: &mut W,
+    groups: &Groups,
+    escapes: bool,
+) -> Result<(), Fault> {
+    let mut line = Vec::new(alloc);
+    for (key, group) in groups.by_key().iter() {
+        line.clear();
+        push_line(alloc, &mut line, key, group, escapes)?;
+        out.write_all(line.as_slice())?;
+    }
+    Ok(())
+}
