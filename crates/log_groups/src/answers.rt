@@ -31,10 +31,8 @@ pub enum Column<'a> {
 pub enum Surety {
     /// By updates alone.
     Updates,
-    /// By updates with weights, or by merging images.
+    /// By updates with weights, or by merging images, which may be of unlike accuracies.
     Merges,
-    /// By merging images of sketches that weren't equally accurate.
-    UnlikeMerges,
 }
 
 /// What stands in a cell of a table.
@@ -165,7 +163,7 @@ fn rank_of(group: &Group, limit: &str) -> Option<Rank> {
 
 /// Returns whether the answer at a fraction of the numbers is the one that sorting gives.
 fn is_exact(sketch: &Sketch, fraction: Rank, surety: Surety) -> bool {
-    sketch.is_whole() || surety != Surety::UnlikeMerges && sketch.is_exact_at(fraction)
+    sketch.is_whole() || surety == Surety::Updates && sketch.is_exact_at(fraction)
 }
 
 /// Millionths in the whole.

@@ -4,8 +4,9 @@ use crate::groups::{Group, Groups, Joined};
 use crate::lines::len_before;
 use crate::sketch::Sketch;
 use crate::text::{push_escaped, push_unescaped};
+use hex::FromHexError;
 use md5::{Digest, Md5};
-use sketch_base::error::Error;
+use sketch_base::error::{Error, ErrorKind};
 use std::alloc::{AllocError, Global};
 
 /// The parts of such a line.
@@ -126,8 +127,10 @@ impl Groups {
 
 /// Returns the group of a line's image, or None if that is none.
 fn group_of(alloc: Global, parts: Parts<'_>, how: Merging) -> Result<Option<Group>, Error> {
-    let Ok(bytes) = hex::decode(alloc, parts.image) else {
-        return Ok(None);
+    let bytes = match hex::decode(alloc, parts.image) {
+        Ok(bytes) => bytes,
+        Err(FromHexError::OutOfMemory) => return Err(Error::new(ErrorKind::OutOfMemory)),
+        Err(_) => return Ok(None),
     };
     let Some(sketch) = Sketch::load(alloc, &bytes)? else {
         return Ok(None);

@@ -6,9 +6,9 @@ use thiserror::Error;
 /// Why nothing can be printed.
 #[derive(Debug, Drop, Error)]
 pub enum Failure {
-    /// What standard error says already.
+    /// What standard error says already, with the status.
     #[error("it is told")]
-    Told,
+    Told(u8),
     #[error("{0}")]
     Fault(#[from] Fault),
     #[error("out of memory")]

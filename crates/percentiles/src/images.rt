@@ -5,7 +5,6 @@ use crate::failure::Failure;
 use crate::lines::{MOST_AHEAD, TakeFile};
 use crate::options::{Options, Task};
 use crate::reports::{Position, push_cut};
-use log_groups::answers::Surety;
 use log_groups::fault::Fault;
 use log_groups::groups::{Groups, Joined};
 use log_groups::images::{Merging, parts_of, push_line};
@@ -116,15 +115,6 @@ impl Images {
             is_whole: true,
             unlike: 0,
             told: Vec::new(alloc),
-        }
-    }
-
-    /// Returns what is known of the sketches.
-    pub fn surety(&self) -> Surety {
-        if self.unlike > 0 {
-            Surety::UnlikeMerges
-        } else {
-            Surety::Merges
         }
     }
 

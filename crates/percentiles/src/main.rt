@@ -7,6 +7,7 @@ use clap::error::ErrorKind as Kind;
 use failure::Failure;
 use images::{Images, write_images};
 use lines::{Lines, TakeFile};
+use log_groups::answers::Surety;
 use log_groups::fault::Fault;
 use options::{Options, Task, options_of};
 use reports::shown_name;
@@ -31,7 +32,7 @@ mod table;
 /// The status of a run that took all lines.
 const WHOLE: u8 = 0;
 
-/// The status of a run that left lines out, or replaced bytes.
+/// The status of a run that left lines out or replaced bytes, or that has too many groups.
 const LEFT_OUT: u8 = 1;
 
 /// The status of a program whose words are wrong.
@@ -109,7 +110,10 @@ fn take_files<R: Files + Input, T: TakeFile, E: Write>(
             let name = options.task.name();
             let file = shown_name(file);
             let _told = write!(errors, "{name}: {file}: {failure}\n");
-            return Err(Failure::Told);
+            return Err(Failure::Told(match failure {
+                Failure::Fault(Fault::TooManyGroups) => LEFT_OUT,
+                _ => FAILED,
+            }));
         }
     }
     Ok(())
@@ -157,8 +161,8 @@ fn merge<R: Files + Input, W: Write, E: Write>(
     if options.task == Task::Percentiles {
         images.groups.sort().map_err(Fault::from)?;
         let has_keys = images.groups.by_key().keys().any(|key| !key.is_empty());
-        let surety = images.surety();
-        let table = Table::new(alloc, &images.groups, &options.showing, has_keys, surety)?;
+        let (groups, surety) = (&images.groups, Surety::Merges);
+        let table = Table::new(alloc, groups, &options.showing, has_keys, surety)?;
         spoilt = table.write(output)?;
     } else {
         write_images(alloc, output, &images.groups, false)?;
@@ -206,7 +210,7 @@ fn run<R: Files + Input, W: Write + Drop, E: Write>(
 /// Tells why nothing is printed, and returns the status.
 fn status_of_failure<R: Print + Eprint + AllocGlobal>(rt: &R, name: &str, failure: Failure) -> u8 {
     match failure {
-        Failure::Told => FAILED,
+        Failure::Told(status) => status,
         Failure::Fault(Fault::Output(error)) if error.kind() == ErrorKind::BrokenPipe => OF_SIGPIPE,
         Failure::Words(error) => match error.print(rt) {
             Ok(()) if error.kind() == Kind::OutOfMemory => FAILED,

@@ -6,7 +6,7 @@ ghost use Rattle.percentiles.specs.Reads.{reads};
 use crate::failure::Failure;
 use crate::options::{Form, Reading};
 use crate::reports::{Position, Reason, Reports};
-use json::{Scratch, Value};
+use json::{Error as JsonError, Scratch, Value};
 use log_groups::columns::{Columns, push_part};
 use log_groups::fault::Fault;
 use log_groups::fields::{Place, Separator};
@@ -164,6 +164,7 @@ impl<'o> Reader<'o> {
                 let text = text_of(object.get(self.reading.value));
                 read_number(text, self.reading.decimals)
             }
+            Err(JsonError::OutOfMemory) => return Err(AllocError),
             _ => {
                 self.reports.add(Reason::NoObject, &self.position, line)?;
                 return Ok(None);

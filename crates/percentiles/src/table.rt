@@ -83,13 +83,17 @@ impl<'a> Table<'a> {
         })
     }
 
-    /// Writes the table, and returns how many keys had bytes replaced.
+    /// Writes the table as a whole, and returns how many keys had bytes replaced.
     pub fn write<W: Write>(&self, out: &mut W) -> Result<u64, Fault> {
+        let mut text = Vec::new(*self.rows.allocator());
+        let mut spoilt = 0;
         if self.showing.format == Format::Json {
-            return self.write_json(out);
+            spoilt = self.push_json(&mut text)?;
+        } else {
+            self.push_lines(&mut text)?;
         }
-        self.write_lines(out)?;
-        Ok(0)
+        out.write_all(text.as_slice())?;
+        Ok(spoilt)
     }
 }
 
@@ -186,22 +190,18 @@ impl Table<'_> {
         Ok(widths)
     }
 
-    /// Writes the lines of the table.
-    fn write_lines<W: Write>(&self, out: &mut W) -> Result<(), Fault> {
+    /// Adds the lines of the table.
+    fn push_lines(&self, out: &mut Vec<u8>) -> Result<(), AllocError> {
         let widths = self.widths()?;
-        let mut line = Vec::new(*self.rows.allocator());
-        self.push_line(&mut line, None, &widths)?;
-        line.push(b'\n')?;
-        out.write_all(line.as_slice())?;
+        self.push_line(out, None, &widths)?;
+        out.push(b'\n')?;
         let scale = Scale::of(&self.rows, &self.showing.columns);
         for row in &self.rows {
-            line.clear();
-            self.push_line(&mut line, Some(row), &widths)?;
+            self.push_line(out, Some(row), &widths)?;
             if self.showing.format == Format::Chart {
-                scale.push_bar(&mut line, row, &self.showing.columns)?;
+                scale.push_bar(out, row, &self.showing.columns)?;
             }
-            line.push(b'\n')?;
-            out.write_all(line.as_slice())?;
+            out.push(b'\n')?;
         }
         Ok(())
     }
@@ -242,26 +242,22 @@ impl Table<'_> {
         }
     }
 
-    /// Writes a list of objects, and returns how many keys had bytes that aren't UTF-8.
-    fn write_json<W: Write>(&self, out: &mut W) -> Result<u64, Fault> {
-        let alloc = *self.rows.allocator();
+    /// Adds a list of objects, and returns how many keys had bytes that aren't UTF-8.
+    fn push_json(&self, out: &mut Vec<u8>) -> Result<u64, AllocError> {
         let mut spoilt = 0u64;
-        let mut line = Vec::new(alloc);
-        out.write_all(b"[")?;
+        out.push(b'[')?;
         for (i, row) in self.rows.iter().enumerate() {
-            line.clear();
-            line.extend_from_slice(if i > 0 { b",\n{" } else { b"\n{" })?;
+            out.extend_from_slice(if i > 0 { b",\n{" } else { b"\n{" })?;
             if self.has_keys {
-                let text = String::from_utf8_lossy(alloc, row.key)?;
+                let text = String::from_utf8_lossy(*out.allocator(), row.key)?;
                 spoilt = spoilt.saturating_add((text.as_bytes() != row.key) as u64);
-                line.extend_from_slice(b"\"group\":\"")?;
-                push_json(&mut line, text.as_bytes())?;
-                line.extend_from_slice(b"\",")?;
+                out.extend_from_slice(b"\"group\":\"")?;
+                push_json(out, text.as_bytes())?;
+                out.extend_from_slice(b"\",")?;
             }
-            self.push_members(&mut line, row)?;
-            out.write_all(line.as_slice())?;
+            self.push_members(out, row)?;
         }
-        out.write_all(b"\n]\n")?;
+        out.extend_from_slice(b"\n]\n")?;
         Ok(spoilt)
     }
 
