@@ -2,6 +2,7 @@
 ghost use Rattle.std.specs.Prelude.{◌≡◌, OnOk, OnErr, IfOk, None};
 ghost use Rattle.log_groups.specs.Fed.{Takes, empty_of};
 ghost use Rattle.log_groups.specs.Found.{IsAdded, IsBegun, AreKept, group_of, total_of};
+ghost use Rattle.log_groups.specs.Joined.{IfTaken, IsJoined, Merges};
 
 use crate::fault::Fault;
 use crate::sketch::{Kind, Sketch};
@@ -37,11 +38,18 @@ pub enum Joined {
     Taken,
     /// It is merged into a sketch of another accuracy.
     OtherAccuracy,
-    /// It is of another family than the group, or exact at the other end. The group stays.
+    /// It is left out, and each group stays as it was.
+    Refused(Refusal),
+}
+
+/// Why the line of an image is left out.
+#[derive(Clone, Copy, PartialEq, Eq)]
+pub enum Refusal {
+    /// It is of another family than the group, or exact at the other end.
     OtherKind,
-    /// Its numbers have other decimals than the group's. The group stays.
+    /// Its numbers have other decimals than the group's.
     OtherDecimals,
-    /// The weight would be over 2^64. The group stays.
+    /// The weight would be over 2^64.
     TooHeavy,
     /// It isn't of the form of such a line, or its image is of no sketch.
     NoImage,
@@ -137,17 +145,29 @@ impl Groups {
         }
     }
 
-    /// Merges a group into that of a key, or begins one with it, and says which, or why it can't.
-    pub fn join(&mut self, alloc: Global, key: &[u8], coming: Group) -> Result<Joined, Fault> {
+    /// Merges a group into that of a key, or begins one with it, or says why it can't.
+    pub fn join(&mut self, alloc: Global, key: &[u8], coming: Group) -> Result<Joined, Fault>
+        ensures joined { IfOk result
+            (IfTaken (IsJoined self.old key.now coming self.new) (AreKept self.old self.new)) }
+        ensures kept { OnErr result (AreKept self.old self.new) }
+    {
         match self.groups.get_mut(key) {
-            Some(group) => Ok(group.join(&coming, &mut self.coins)?),
-            None => {
-                let mut group = coming;
-                group.sketch.redraw(&mut self.coins);
-                self.insert(alloc, key, group)?;
-                Ok(Joined::Taken)
-            }
+            Some(group) => group.join(&coming, &mut self.coins),
+            None => self.begin_with(alloc, key, coming),
         }
+    }
+
+    /// Begins a group with one that is merged.
+    fn begin_with(&mut self, alloc: Global, key: &[u8], coming: Group) -> Result<Joined, Fault>
+        requires new { group_of self.old key.now ≡ None }
+        ensures joined { IfOk result
+            (IfTaken (IsJoined self.old key.now coming self.new) (AreKept self.old self.new)) }
+        ensures kept { OnErr result (AreKept self.old self.new) }
+    {
+        let mut group = coming;
+        group.sketch.redraw(&mut self.coins);
+        self.insert(alloc, key, group)?;
+        Ok(Joined::Taken)
     }
 }
 
@@ -193,15 +213,19 @@ impl Group {
     }
 
     /// Merges another group in, if it is of the same kind and has the same decimals.
-    fn join(&mut self, other: &Group, coins: &mut SplitMix64) -> Result<Joined, Error> {
+    fn join(&mut self, other: &Group, coins: &mut SplitMix64) -> Result<Joined, Fault>
+        ensures joined { IfOk result (IfTaken
+            (Merges self.old.sketch other.now.sketch self.new.sketch) (self.new ≡ self.old)) }
+        ensures kept { OnErr result (self.new ≡ self.old) }
+    {
         if !self.sketch.is_of_kind(&other.sketch) {
-            return Ok(Joined::OtherKind);
+            return Ok(Joined::Refused(Refusal::OtherKind));
         }
         if self.decimals != other.decimals {
-            return Ok(Joined::OtherDecimals);
+            return Ok(Joined::Refused(Refusal::OtherDecimals));
         }
         if self.sketch.refuses(&other.sketch) {
-            return Ok(Joined::TooHeavy);
+            return Ok(Joined::Refused(Refusal::TooHeavy));
         }
         self.sketch.merge(&other.sketch, coins)?;
         self.sum = None;

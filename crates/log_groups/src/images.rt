@@ -1,6 +1,11 @@
 //! Images of sketches as lines of text: 'KEY<tab>IMAGE<tab>DECIMALS<tab>CHECKSUM'.
+ghost use Rattle.std.specs.Prelude.{◌≡◌, ◌==◌, IfOk, OnErr, take};
+ghost use Rattle.std.specs.List.{position_or_len};
+ghost use Rattle.log_groups.specs.Found.{AreKept};
+ghost use Rattle.log_groups.specs.Joined.{IfTaken, IsLineJoined};
+
 use crate::fault::Fault;
-use crate::groups::{Group, Groups, Joined};
+use crate::groups::{Group, Groups, Joined, Refusal};
 use crate::lines::len_before;
 use crate::sketch::Sketch;
 use crate::text::{push_escaped, push_unescaped};
@@ -59,22 +64,25 @@ pub fn push_line(
 }
 
 /// Splits a line, without its line feed, and tests its checksum if it has one.
-pub fn parts_of(alloc: Global, line: &[u8]) -> Result<Result<Parts<'_>, Joined>, AllocError> {
+pub fn parts_of(alloc: Global, line: &[u8]) -> Result<Result<Parts<'_>, Refusal>, AllocError>
+    ensures key { IfOk result (λ parts. IfOk parts (λ p. p.key.now
+        ≡ take (position_or_len (λ c. c == 9) line.now) line.now)) }
+{
     let (key, Some(rest)) = split_tab(line) else {
-        return Ok(Err(Joined::NoImage));
+        return Ok(Err(Refusal::NoImage));
     };
     let (image, rest) = split_tab(rest);
     let (digit, check) = split_tab(rest.unwrap_or(&[]));
     if let Some(check) = check {
         let checked = &line[..line.len().saturating_sub(check.len() + 1)];
         if checksum(alloc, checked)?.as_bytes() != check {
-            return Ok(Err(Joined::Changed));
+            return Ok(Err(Refusal::Changed));
         }
     }
     let decimals = match digit {
         [] if rest.is_none() || check.is_some() => None,
         [digit @ b'0'..=b'9'] => Some(*digit - b'0'),
-        _ => return Ok(Err(Joined::NoImage)),
+        _ => return Ok(Err(Refusal::NoImage)),
     };
     Ok(Ok(Parts {
         key,
@@ -84,7 +92,9 @@ pub fn parts_of(alloc: Global, line: &[u8]) -> Result<Result<Parts<'_>, Joined>,
 }
 
 /// Splits at the first tab, if there is one.
-fn split_tab(text: &[u8]) -> (&[u8], Option<&[u8]>) {
+fn split_tab(text: &[u8]) -> (&[u8], Option<&[u8]>)
+    ensures front { result.0.now ≡ take (position_or_len (λ c. c == 9) text.now) text.now }
+{
     let len = len_before(text, b'\t');
     match &text[len..] {
         [_, behind @ ..] => (&text[..len], Some(behind)),
@@ -104,16 +114,20 @@ pub struct Merging {
 impl Groups {
     /// Merges the image of a line into the group of its key, or begins a group with it, and says
     /// what became of the line.
-    pub fn join_line(&mut self, alloc: Global, line: &[u8], how: Merging) -> Result<Joined, Fault> {
+    pub fn join_line(&mut self, alloc: Global, line: &[u8], how: Merging) -> Result<Joined, Fault>
+        ensures joined { IfOk result (IfTaken
+            (IsLineJoined how.for_table self.old line.now self.new) (AreKept self.old self.new)) }
+        ensures kept { OnErr result (AreKept self.old self.new) }
+    {
         let parts = match parts_of(alloc, line)? {
             Ok(parts) => parts,
-            Err(why) => return Ok(why),
+            Err(why) => return Ok(Joined::Refused(why)),
         };
         let Some(coming) = group_of(alloc, parts, how)? else {
-            return Ok(Joined::NoImage);
+            return Ok(Joined::Refused(Refusal::NoImage));
         };
         if coming.decimals.is_none() && how.for_table {
-            return Ok(Joined::NoDecimals);
+            return Ok(Joined::Refused(Refusal::NoDecimals));
         }
         let mut key = Vec::new(alloc);
         if how.for_table {

@@ -3,6 +3,7 @@ ghost use Rattle.std.specs.Prelude.{◌≡◌, ◌↔◌, IsTrue, OnOk, OnErr, I
 ghost use Rattle.sketch_base.specs.Queried.{IsQuantile, IsRank};
 ghost use Rattle.sketch_base.specs.declared.common.SearchCriteria.TheVariants.{Inclusive};
 ghost use Rattle.log_groups.specs.Exact.{IsNearTop, IsNearTopOf, TopIsExact};
+ghost use Rattle.log_groups.specs.Joined.{Merges, Redraws};
 ghost use Rattle.log_groups.specs.Fed.{Takes, empty_of, n_of, least_of, greatest_of, queried_of};
 
 use sketch_base::common::random::SplitMix64;
@@ -183,7 +184,9 @@ impl Sketch {
     }
 
     /// Draws the coins that an image doesn't hold.
-    pub fn redraw(&mut self, coins: &mut SplitMix64) {
+    pub fn redraw(&mut self, coins: &mut SplitMix64)
+        ensures { Redraws self.old self.new }
+    {
         if let Sketch::Req(sketch) = self {
             sketch.redraw_coins(coins);
         }
@@ -207,8 +210,11 @@ impl Sketch {
         }
     }
 
-    /// Merges another sketch in.
-    pub fn merge(&mut self, other: &Sketch, coins: &mut SplitMix64) -> Result<(), Error> {
+    /// Merges another sketch in. An error leaves the sketch as it was.
+    pub fn merge(&mut self, other: &Sketch, coins: &mut SplitMix64) -> Result<(), Error>
+        ensures ok { OnOk result (Merges self.old other.now self.new) }
+        ensures err { OnErr result (self.new ≡ self.old) }
+    {
         match (self, other) {
             (Sketch::Req(one), Sketch::Req(two)) => one.merge_redrawn(two, coins),
             (Sketch::Kll(one), Sketch::Kll(two)) => one.merge(two, coins),

@@ -6,7 +6,7 @@ use crate::lines::{MOST_AHEAD, TakeFile};
 use crate::options::{Options, Task};
 use crate::reports::{Position, push_cut};
 use log_groups::fault::Fault;
-use log_groups::groups::{Groups, Joined};
+use log_groups::groups::{Groups, Joined, Refusal};
 use log_groups::images::{Merging, parts_of, push_line};
 use log_groups::lines::{TakeLine, len_before, take_lines};
 use log_groups::text::push_printable;
@@ -53,21 +53,21 @@ impl TakeLine for Images {
         match self.groups.join_line(alloc, line, self.merging)? {
             Joined::Taken => {}
             Joined::OtherAccuracy => self.unlike = self.unlike.saturating_add(1),
-            why => self.refuse(line, told_of(why))?,
+            Joined::Refused(why) => self.refuse(line, told_of(why))?,
         }
         Ok(())
     }
 }
 
 /// Returns what is told of a line that is left out.
-fn told_of(why: Joined) -> &'static str {
+fn told_of(why: Refusal) -> &'static str {
     match why {
-        Joined::Changed => "has another checksum than it says",
-        Joined::NoDecimals => "doesn't say its decimals: give them with -d",
-        Joined::OtherKind => "is of another kind of sketch than those before",
-        Joined::OtherDecimals => "has other decimals than those before",
-        Joined::TooHeavy => "would take its key's weight over 2^64",
-        _ => "is no image",
+        Refusal::NoImage => "is no image",
+        Refusal::Changed => "has another checksum than it says",
+        Refusal::NoDecimals => "doesn't say its decimals: give them with -d",
+        Refusal::OtherKind => "is of another kind of sketch than those before",
+        Refusal::OtherDecimals => "has other decimals than those before",
+        Refusal::TooHeavy => "would take its key's weight over 2^64",
     }
 }
 
