@@ -4,4 +4,5 @@ pub mod Fields
 pub mod Found
 pub mod Joined
 pub mod Lines
+pub mod Shown
 pub mod Summary

@@ -1,4 +1,9 @@
 //! What the sketch of a group answers, and how sure that is.
+ghost use Rattle.std.specs.Prelude.{◌≡◌, ◌⊎◌, IfOk, IsTrue};
+ghost use Rattle.log_groups.specs.Exact.{IsNearTopOf};
+ghost use Rattle.log_groups.specs.Shown.{IsAnswer, IsSure, IsWhole, answer_of};
+ghost use Rattle.log_groups.specs.declared.answers.Surety.TheVariants.{Updates};
+
 use crate::groups::Group;
 use crate::number::{Reading, read_number};
 use crate::sketch::Sketch;
@@ -64,8 +69,23 @@ const WHOLE: u128 = 100_000;
 
 impl Answer {
     /// Returns the answer that a number is, if there is one.
-    fn of(number: Option<i64>) -> Self {
-        number.map_or(Answer::None, |number| Answer::Number(number as i128))
+    fn of(number: Option<i64>) -> Self
+        ensures { result ≡ answer_of number }
+    {
+        match number {
+            Some(number) => Answer::Number(number as i128),
+            None => Answer::None,
+        }
+    }
+
+    /// Returns the answer that a sum is, if it is known.
+    fn of_sum(sum: Option<i128>) -> Self
+        ensures { result ≡ answer_of sum }
+    {
+        match sum {
+            Some(sum) => Answer::Number(sum),
+            None => Answer::None,
+        }
     }
 
     /// Returns the share that a part is, rounded down.
@@ -106,6 +126,18 @@ impl Answer {
     }
 }
 
+impl Cell {
+    /// Returns a cell that is exact.
+    fn exact(answer: Answer) -> Self
+        ensures { result.answer ≡ answer }
+    {
+        Cell {
+            answer,
+            is_exact: true,
+        }
+    }
+}
+
 /// Adds a number with `shown` of its decimals.
 pub fn push_number(
     out: &mut Vec<u8>,
@@ -130,27 +162,41 @@ pub fn push_number(
 }
 
 /// Returns what stands in a column for a group.
-pub fn cell_of(group: &Group, column: &Column<'_>, surety: Surety) -> Result<Cell, Error> {
+pub fn cell_of(group: &Group, column: &Column<'_>, surety: Surety) -> Result<Cell, Error>
+    ensures answer { IfOk result (λ cell. IsAnswer group.now column.now cell.answer) }
+    ensures sure { IfOk result (λ cell. IsTrue cell.is_exact → IsSure group.now column.now surety) }
+{
     let sketch = &group.sketch;
-    let (answer, is_exact) = match column {
-        Column::Count => (Answer::Count(sketch.n()), true),
-        Column::Min => (Answer::of(sketch.min()), true),
-        Column::Max => (Answer::of(sketch.max()), true),
-        Column::Sum => (group.sum.map_or(Answer::None, Answer::Number), true),
+    match column {
+        Column::Count => Ok(Cell::exact(Answer::Count(sketch.n()))),
+        Column::Min => Ok(Cell::exact(Answer::of(sketch.min()))),
+        Column::Max => Ok(Cell::exact(Answer::of(sketch.max()))),
+        Column::Sum => Ok(Cell::exact(Answer::of_sum(group.sum))),
         Column::Point(_, fraction) => {
             let number = sketch.quantile(*fraction)?;
-            (Answer::of(number), is_exact(sketch, *fraction, surety))
+            Ok(Cell {
+                answer: Answer::of(number),
+                is_exact: is_exact(sketch, *fraction, surety),
+            })
         }
-        Column::AtMost(limit) => match rank_of(group, limit) {
-            Some(rank) => (Answer::Count(rank.weight), is_exact(sketch, rank, surety)),
-            None => (Answer::None, true),
-        },
-        Column::Share(limit) => match rank_of(group, limit) {
-            Some(rank) => (Answer::share(rank), is_exact(sketch, rank, surety)),
-            None => (Answer::None, true),
-        },
+        Column::AtMost(limit) => Ok(limit_cell(group, limit, surety, false)),
+        Column::Share(limit) => Ok(limit_cell(group, limit, surety, true)),
+    }
+}
+
+/// Returns how many numbers are at most a limit, or what share of them.
+fn limit_cell(group: &Group, limit: &str, surety: Surety, is_share: bool) -> Cell {
+    let Some(rank) = rank_of(group, limit) else {
+        return Cell::exact(Answer::None);
     };
-    Ok(Cell { answer, is_exact })
+    Cell {
+        answer: if is_share {
+            Answer::share(rank)
+        } else {
+            Answer::Count(rank.weight)
+        },
+        is_exact: is_exact(&group.sketch, rank, surety),
+    }
 }
 
 /// Returns how many numbers are at most a limit, if its decimals are kept and there are numbers.
@@ -162,7 +208,10 @@ fn rank_of(group: &Group, limit: &str) -> Option<Rank> {
 }
 
 /// Returns whether the answer at a fraction of the numbers is the one that sorting gives.
-fn is_exact(sketch: &Sketch, fraction: Rank, surety: Surety) -> bool {
+fn is_exact(sketch: &Sketch, fraction: Rank, surety: Surety) -> bool
+    ensures { IsTrue result → IsWhole sketch.now
+        ⊎ ((surety ≡ Updates) × IsNearTopOf sketch.now fraction) }
+{
     sketch.is_whole() || surety == Surety::Updates && sketch.is_exact_at(fraction)
 }
 

@@ -4,6 +4,7 @@ ghost use Rattle.sketch_base.specs.Queried.{IsQuantile, IsRank};
 ghost use Rattle.sketch_base.specs.declared.common.SearchCriteria.TheVariants.{Inclusive};
 ghost use Rattle.log_groups.specs.Exact.{IsNearTop, IsNearTopOf, TopIsExact};
 ghost use Rattle.log_groups.specs.Joined.{Merges, Redraws};
+ghost use Rattle.log_groups.specs.Shown.{IsWhole};
 ghost use Rattle.log_groups.specs.Fed.{Takes, empty_of, n_of, least_of, greatest_of, queried_of};
 
 use sketch_base::common::random::SplitMix64;
@@ -141,7 +142,9 @@ impl Sketch {
     }
 
     /// Returns whether the sketch keeps each number that it took, so that all its answers are exact.
-    pub fn is_whole(&self) -> bool {
+    pub fn is_whole(&self) -> bool
+        ensures { IsTrue result → IsWhole self.now }
+    {
         match self {
             Sketch::Req(sketch) => !sketch.is_estimation_mode(),
             Sketch::Kll(sketch) => !sketch.is_estimation_mode(),

@@ -1,1 +1,2 @@
+pub mod Merges
 pub mod Reads

@@ -1,5 +1,8 @@
 //! How lines of images are merged by their keys, and written.
-ghost use Rattle.std.specs.Prelude.{⊤};
+ghost use Rattle.std.specs.Prelude.{◌≡◌, IfNone, IfOk, IfSome, OnErr};
+ghost use Rattle.log_groups.specs.Found.{AreKept};
+ghost use Rattle.log_groups.specs.Joined.{IfTaken, IsLineJoined};
+ghost use Rattle.percentiles.specs.Merges.{TakesImage};
 
 use crate::failure::Failure;
 use crate::lines::{MOST_AHEAD, TakeFile};
@@ -40,22 +43,21 @@ pub struct Images {
 const MOST_TOLD: u64 = 10;
 
 impl TakeLine for Images {
-    ghost takes = { λ s l t. ⊤ };
+    ghost takes = { λ s line t. TakesImage s line t };
 
-    ghost leaves = { λ s t. ⊤ };
+    ghost leaves = { λ s t. AreKept s.groups t.groups };
 
     fn take_line(&mut self, alloc: Global, line: &[u8]) -> Result<(), Fault> {
         let line = self.position.next(line);
-        let is_image = parts_of(alloc, line)?.is_ok();
-        if is_image && !self.again && !self.seen.insert(Md5::digest(line))? {
-            return Ok(self.refuse(line, "came before (--again takes such lines, too)")?);
+        match self.join(alloc, line)? {
+            Some(Joined::Taken) => Ok(()),
+            Some(Joined::OtherAccuracy) => {
+                self.unlike = self.unlike.saturating_add(1);
+                Ok(())
+            }
+            Some(Joined::Refused(why)) => self.refuse(line, told_of(why)),
+            None => self.refuse(line, "came before (--again takes such lines, too)"),
         }
-        match self.groups.join_line(alloc, line, self.merging)? {
-            Joined::Taken => {}
-            Joined::OtherAccuracy => self.unlike = self.unlike.saturating_add(1),
-            Joined::Refused(why) => self.refuse(line, told_of(why))?,
-        }
-        Ok(())
     }
 }
 
@@ -130,8 +132,27 @@ impl Images {
         }
     }
 
+    /// Merges the image of a line, and says what came of it, or None for a line that came before.
+    fn join(&mut self, alloc: Global, line: &[u8]) -> Result<Option<Joined>, Fault>
+        ensures joined { IfOk result (λ found. IfSome found (IfTaken
+            (IsLineJoined self.old.merging.for_table self.old.groups line.now self.new.groups)
+            (AreKept self.old.groups self.new.groups))) }
+        ensures again { IfOk result (λ found. IfNone found (self.new.groups ≡ self.old.groups)) }
+        ensures kept { OnErr result (AreKept self.old.groups self.new.groups) }
+        ensures merging { self.new.merging ≡ self.old.merging }
+    {
+        let is_image = parts_of(alloc, line)?.is_ok();
+        if is_image && !self.again && !self.seen.insert(Md5::digest(line))? {
+            return Ok(None);
+        }
+        Ok(Some(self.groups.join_line(alloc, line, self.merging)?))
+    }
+
     /// Tells something of a file.
-    fn tell(&mut self, what: &str) -> Result<(), AllocError> {
+    fn tell(&mut self, what: &str) -> Result<(), AllocError>
+        ensures groups { self.new.groups ≡ self.old.groups }
+        ensures merging { self.new.merging ≡ self.old.merging }
+    {
         self.told.extend_from_slice(self.name.as_bytes())?;
         self.told.extend_from_slice(b": ")?;
         push_printable(&mut self.told, self.position.file.as_bytes())?;
@@ -140,7 +161,10 @@ impl Images {
 
     /// Reports a line that is left out.
     #[inline(never)]
-    fn refuse(&mut self, line: &[u8], why: &str) -> Result<(), AllocError> {
+    fn refuse(&mut self, line: &[u8], why: &str) -> Result<(), Fault>
+        ensures groups { self.new.groups ≡ self.old.groups }
+        ensures merging { self.new.merging ≡ self.old.merging }
+    {
         self.refused = self.refused.saturating_add(1);
         self.is_whole = false;
         if self.refused > MOST_TOLD {
@@ -154,7 +178,7 @@ impl Images {
         }
         self.told.extend_from_slice(b"': ")?;
         self.told.extend_from_slice(why.as_bytes())?;
-        self.told.extend_from_slice(b"; it is left out\n")
+        Ok(self.told.extend_from_slice(b"; it is left out\n")?)
     }
 }
 

@@ -3,7 +3,7 @@ ghost use Rattle.std.specs.Prelude.{◌≡◌, ◌++◌, OnOk};
 ghost use Rattle.log_groups.specs.Fields.{IsPlain, key_of};
 ghost use Rattle.percentiles.specs.Reads.{reads};
 
-use crate::failure::Failure;
+use crate::failure::{Failure, Header};
 use crate::options::{Form, Reading};
 use crate::reports::{Position, Reason, Reports};
 use json::{Error as JsonError, Scratch, Value};
@@ -83,7 +83,7 @@ impl<'o> Reader<'o> {
     pub fn read_header(&mut self, alloc: Global, line: &[u8]) -> Result<(), Failure> {
         let line = self.position.next(line);
         let Some(names) = self.columns.names(alloc, line)? else {
-            return Err(Failure::OpenQuote);
+            return Err(Failure::Header(Header::OpenQuote));
         };
         self.columns.value = found(self.reading.value, &names)?;
         self.columns.groups.clear();
@@ -204,14 +204,14 @@ fn found(wanted: &str, names: &[Vec<u8>]) -> Result<Place, Failure> {
     for (i, name) in names.iter().enumerate() {
         if name.as_slice() == wanted.as_bytes() {
             if place.is_some() {
-                return Err(Failure::TwoFields);
+                return Err(Failure::Header(Header::TwoFields));
             }
             place = Some(Place::Front(i.saturating_add(1)));
         }
     }
     match place.or_else(|| Place::parse(wanted)) {
         Some(place) => Ok(place),
-        None => Err(Failure::NoField),
+        None => Err(Failure::Header(Header::NoField)),
     }
 }
 
