@@ -1,5 +1,5 @@
 -- The quantiles of a group that are exact.
-use Rattle.std.proofs.Common.{◌≡◌, ℕ, ℤ, ◌*◌, List, [], ◌∷◌, length, refl, sym, subst, arith}
+use Rattle.std.proofs.Common.{◌≡◌, ℤ, ◌*◌, List, [], ◌∷◌, length, sym, subst, arith}
 use Rattle.std.specs.Cmp.{int_cmp_total}
 use Rattle.std.specs.Ordering.{int_cmp}
 use Rattle.sketch_base.specs.declared.common.SearchCriteria.TheVariants.{Inclusive}

@@ -1,5 +1,5 @@
 -- Lines that are taken from an input one after another.
-use Rattle.std.proofs.Common.{◌≡◌, ◌∙◌, ℕ, ◌+◌, ◌≤◌, ◌<◌, ◌==◌, ◌⊎◌, Bool, true, false, List, [], ◌∷◌, ◌++◌, length, take, sym, ap, subst, refl, inl, arith, Option, Some, None, IfSome, Result, Ok, Err, OnErr}
+use Rattle.std.proofs.Common.{◌≡◌, ◌∙◌, ℕ, ◌+◌, ◌≤◌, ◌<◌, ◌==◌, ◌⊎◌, Bool, true, false, List, [], ◌∷◌, ◌++◌, length, take, sym, ap, subst, refl, arith, Option, Some, None, IfSome, Result, Ok, Err, OnErr}
 use Rattle.std.proofs.lemmas.List.{append_assoc, append-nil, length-append}
 use Rattle.std.specs.Io.BufRead.{DropsConsumable, DropsThrough, strip_last, take_through, drop_through}
 use Rattle.std.specs.Io.Buffered.{reader_buffer, reader_remaining}

@@ -1,11 +1,11 @@
 -- Summaries with one more number, and their rows.
-use Rattle.std.proofs.Common.{◌≡◌, ◌≢◌, ℕ, ℤ, ◌+◌, Bool, true, false, List, [], ◌∷◌, ◌++◌, length, map, Option, Some, None, MatchOption, IfSome, Result, Ok, Err, IfOk, refl, sym, ap, subst, ◌∙◌, inl, inr, arith}
+use Rattle.std.proofs.Common.{◌≡◌, ◌≢◌, ℕ, ℤ, ◌+◌, true, false, List, [], ◌∷◌, ◌++◌, map, Option, Some, None, MatchOption, IfSome, Result, Ok, Err, IfOk, refl, sym, ap, subst, ◌∙◌, inl, inr, arith}
 use Rattle.std.proofs.lemmas.Bool.{cases_Bool, cond-true, cond-false}
 use Rattle.std.proofs.lemmas.List.{append_assoc, append-nil, map-append}
 use Rattle.std.proofs.lemmas.List.Elements.{filter-append}
 use Rattle.log_groups.specs.Fed.{IsFed, IsFedFrom, Takes, empty_of}
 use Rattle.log_groups.specs.Found.{same_key, group_of, sketch_of, total_of, IsAdded, AreKept}
-use Rattle.log_groups.specs.Lines.{lines, AllTaken}
+use Rattle.log_groups.specs.Lines.{lines}
 use Rattle.log_groups.specs.Summary.{Reads, IsAlike, AreRead, numbers_of, IsSummary, Took, taken_of, AddsUp, IsSummaryOf, IsExactRow, RowsAreExact, LinesAddUp}
 use Rattle.log_groups.specs.declared.groups.Group.{Group}
 use Rattle.log_groups.specs.declared.groups.Groups.{Groups}

@@ -1,5 +1,5 @@
 -- Which quantiles of a group are exact.
-use Rattle.std.specs.Prelude.{ℕ, ℤ, ◌-◌, ◌*◌, ◌<◌, ◌≤◌, List, [], ◌∷◌, length, Option}
+use Rattle.std.specs.Prelude.{ℕ, ℤ, ◌-◌, ◌*◌, ◌<◌, ◌≤◌, List, ◌∷◌, length, Option}
 use Rattle.std.specs.Ordering.{int_cmp}
 use Rattle.sketch_base.specs.Bag.{sort}
 use Rattle.sketch_base.specs.Queries.{SameAnswer, quantile_in}

@@ -6,7 +6,7 @@ use Rattle.sketch_kll.specs.Merged as kll_merges
 use Rattle.sketch_req.specs.Merged as req_merges
 use Rattle.sketch_req.specs.Redrawn.{redrawn_sketch}
 use Rattle.log_groups.specs.Fed.{n_of}
-use Rattle.log_groups.specs.Found.{same_key, group_of, total_of, AreKept}
+use Rattle.log_groups.specs.Found.{same_key, group_of, total_of}
 use Rattle.log_groups.specs.declared.groups.Group.{Group}
 use Rattle.log_groups.specs.declared.groups.Groups.{Groups}
 use Rattle.log_groups.specs.declared.groups.Joined.{Joined}

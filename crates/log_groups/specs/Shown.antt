@@ -1,9 +1,8 @@
 -- What a table shows of a group.
-use Rattle.std.specs.Prelude.{◌≡◌, ⊤, ℕ, ℤ, ◌≤◌, ◌⊎◌, length, Option, Some, None}
+use Rattle.std.specs.Prelude.{◌≡◌, ⊤, ℤ, ◌≤◌, ◌⊎◌, length, Option, Some, None}
 use Rattle.std.specs.Ordering.{int_cmp}
 use Rattle.sketch_base.specs.Queried.{quantile_of}
 use Rattle.sketch_base.specs.Queries.{SameAnswer}
-use Rattle.sketch_base.specs.declared.common.Rank.{Rank}
 use Rattle.sketch_base.specs.declared.common.SearchCriteria.TheVariants.{Inclusive}
 use Rattle.log_groups.specs.Exact.{IsNearTopOf}
 use Rattle.log_groups.specs.Fed.{n_of, least_of, greatest_of, queried_of}

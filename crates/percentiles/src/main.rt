@@ -234,7 +234,9 @@ fn status_of_failure<R: Print + Eprint + AllocGlobal>(rt: &R, name: &str, failur
 fn words_of<R: Env + AllocGlobal>(rt: &R) -> Result<Vec<String>, Failure> {
     match env::args(rt) {
         Ok(words) => Ok(words.collect(rt.alloc())?),
-        Err(error) if error.kind() == ErrorKind::InvalidData => Err(Failure::Misuse(Misuse::NoText)),
+        Err(error) if error.kind() == ErrorKind::InvalidData => Err(Failure::Misuse(
+            Misuse::NoText,
+        )),
         Err(error) => Err(Failure::from(Fault::Input(error))),
     }
 }

@@ -9,7 +9,7 @@ pub returns-clause-added : goal.returns-clause-added
 returns-clause-added c =
     let took : Takes (empty_of c.args.form.kind) c.args.item c.add.new.self.sketch =
     subst (λ s. Takes s c.args.item c.add.new.self.sketch) c.in_ok-group.ensures.sketch
-        (subst (λ x. Takes c.in_ok-group.group.sketch x c.add.new.self.sketch) (to_z-of_z w64 c.args.item c.ranges.item) c.in_ok-add.ensures.added) in
+    (subst (λ x. Takes c.in_ok-group.group.sketch x c.add.new.self.sketch) (to_z-of_z w64 c.args.item c.ranges.item) c.in_ok-add.ensures.added) in
     ok-map c.insert.result _ _ (λ h. added c.args.form.kind c.args.self.now _ c.args.key.now c.args.item c.add.new.self (put-new _ _ _ _ c.requires.new h)
     (subst (λ o. Takes (sketch_of c.args.form.kind o) c.args.item c.add.new.self.sketch) (sym c.requires.new) took))
     c.insert.ensures.begun

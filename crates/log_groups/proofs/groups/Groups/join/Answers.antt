@@ -1,6 +1,6 @@
-use Rattle.std.proofs.Common.{◌≡◌, Some, None, subst, ap, sym, ◌∙◌}
+use Rattle.std.proofs.Common.{◌≡◌, Some, subst, ap, sym, ◌∙◌}
 use Rattle.std.specs.Option.{option_copied_mut}
-use Rattle.log_groups.proofs.Adding.{Follows, joined, put-there, put-new, kept-there, taken-map, err-map}
+use Rattle.log_groups.proofs.Adding.{Follows, joined, put-there, kept-there, taken-map, err-map}
 use Rattle.log_groups.specs.Found.{group_of}
 use Rattle.log_groups.proofs.groups.Groups.join.Goals as goal
 
