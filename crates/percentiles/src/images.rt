@@ -1,5 +1,5 @@
 //! How lines of images are merged by their keys, and written.
-ghost use Rattle.std.specs.Prelude.{◌≡◌, IfNone, IfOk, IfSome, OnErr};
+ghost use Rattle.std.specs.Prelude.{◌≡◌, false, IfNone, IfOk, IfSome, OnErr};
 ghost use Rattle.log_groups.specs.Found.{AreKept};
 ghost use Rattle.log_groups.specs.Joined.{IfTaken, IsLineJoined};
 ghost use Rattle.percentiles.specs.Merges.{TakesImage};
@@ -150,6 +150,7 @@ impl Images {
 
     /// Tells something of a file.
     fn tell(&mut self, what: &str) -> Result<(), AllocError>
+        ensures whole { self.new.is_whole ≡ self.old.is_whole }
         ensures groups { self.new.groups ≡ self.old.groups }
         ensures merging { self.new.merging ≡ self.old.merging }
     {
@@ -162,6 +163,7 @@ impl Images {
     /// Reports a line that is left out.
     #[inline(never)]
     fn refuse(&mut self, line: &[u8], why: &str) -> Result<(), Fault>
+        ensures told { self.new.is_whole ≡ false }
         ensures groups { self.new.groups ≡ self.old.groups }
         ensures merging { self.new.merging ≡ self.old.merging }
     {
