@@ -1,5 +1,4 @@
-# What the commands of bin/ and the scripts of the repository share. Source it from sh or bash after setting 'here' to the folder
-# of this file:
+# What the scripts of the repository share. Source it from sh or bash after setting 'here' to the folder of this file:
 #   here=$(dirname "$(readlink -f "$0")")
 #   . "$here/common.sh"
 # From then on a command that fails ends the script, numbers and sort order are the same in every locale, and in bash a pipeline
@@ -35,7 +34,6 @@ usage() {
 make_work() {
     work=$(mktemp -d) || dies 3 'no temporary folder can be made: set TMPDIR to a folder that can be written'
     export work
-    child=
     trap 'rm -rf "$work"' EXIT
     trap 'interrupted 129' HUP
     trap 'interrupted 130' INT
@@ -44,21 +42,7 @@ make_work() {
 
 interrupted() {
     trap '' HUP INT TERM
-    [ -z "$child" ] || { kill "$child" && wait "$child"; } 2> /dev/null || :
     exit "$1"
-}
-
-# attended COMMAND..: runs the command with the script's standard input, so that a signal ends both at once.
-attended() {
-    (exec 4<&0) 2> /dev/null || dies 3 'standard input is closed'
-    exec 3<&0
-    "$@" <&3 3<&- &
-    child=$!
-    exec 3<&-
-    attended_status=0
-    wait "$child" || attended_status=$?
-    child=
-    return "$attended_status"
 }
 
 # Finds the program: PROGRAM if it is set, the one beside this file, the repository's own, which is built if needed, or one named

@@ -1,0 +1,10 @@
+mod Exact
+mod Feeding
+mod FirstFields
+mod OneRun
+mod Lookups
+mod Adding
+mod FirstLine
+mod Reordered
+mod Summaries
+pub mod NextLines
