@@ -1,15 +1,10 @@
 -- Items that are read from words one after another.
 use Rattle.std.proofs.lemmas.Grind.{common_steps}
-use Rattle.std.proofs.Common.{Ordering, ◌≡◌, ℤ, ℕ, ◌<◌, ◌&&◌, Bool, true, false, List, [], ◌∷◌, ◌++◌, drop, length, Option, None, Some, Result, IfErr, slice_get, option_and_then, refl, sym, ap, ◌∙◌, inr, arith}
+use Rattle.std.proofs.Common.{Ordering, ◌≡◌, ℤ, ℕ, ◌<◌, ◌&&◌, Bool, true, false, List, [], ◌∷◌, ◌++◌, drop, length, Option, None, Some, slice_get, option_and_then, refl, sym, ap, ◌∙◌, arith}
 use Rattle.std.specs.Int.{w64}
 use Rattle.std.specs.Ordering.{int_cmp, is_lt}
-use Rattle.std.specs.Result.{IsErrAnd}
 use Rattle.std.proofs.lemmas.Int.{to_z-of_z}
-use Rattle.std.proofs.lemmas.List.{append_assoc, append-nil}
-use Rattle.sketch_base.specs.declared.error.ErrorKind.{ErrorKind}
-use Rattle.sketch_base.specs.declared.error.ErrorKind.TheVariants.{OutOfMemory}
-use Rattle.sketch_base.proofs.Exits.{at_error}
-use Rattle.quantile_sketches.specs.LineSteps.{IsRefusal}
+use Rattle.std.proofs.lemmas.List.{append_assoc}
 use Rattle.quantile_sketches.specs.LineWords.{item_of, items_in_line, onto_items, rise, rise_from}
 use Rattle.quantile_sketches.proofs.DigitNumbers.{item_fits}
 use mir.Val.{to_z, of_z}
@@ -32,12 +27,10 @@ module _ (ws ws' : List (List ℕ)) (x : ℤ) (is : Some x ≡ option_and_then i
 
   -- whether items rise, after the first one was read
   pub rise-first : (given : List (List ℕ)) → ws ≡ given → rise (items_in_line given) ≡ rise_from (to_z w64 (of_z w64 x)) (items_in_line ws')
-  rise-first given same =
-      sym (ap (λ (vs : List (List ℕ)). rise (items_in_line vs)) same) ∙ (ap rise read-first ∙ ap (λ (z : ℤ). rise_from z (items_in_line ws')) (sym read-back))
+  rise-first given same = sym (ap (λ (vs : List (List ℕ)). rise (items_in_line vs)) same) ∙ (ap rise read-first ∙ ap (λ (z : ℤ). rise_from z (items_in_line ws')) (sym read-back))
 
   -- and after one more
-  module _ (z : ℤ) {all b : Bool} {o : Ordering} (held : all ≡ rise_from z (items_in_line ws)) (compared : o ≡ int_cmp z (to_z w64 (of_z w64 x)))
-      (below : b ≡ is_lt o) where
+  module _ (z : ℤ) {all b : Bool} {o : Ordering} (held : all ≡ rise_from z (items_in_line ws)) (compared : o ≡ int_cmp z (to_z w64 (of_z w64 x))) (below : b ≡ is_lt o) where
     with-next : all ≡ (is_lt (int_cmp z x) && rise_from x (items_in_line ws'))
     with-next = held ∙ ap (rise_from z) read-first
 
@@ -45,8 +38,7 @@ module _ (ws ws' : List (List ℕ)) (x : ℤ) (is : Some x ≡ option_and_then i
     lies-below = ap (λ (y : ℤ). is_lt (int_cmp z y)) (sym read-back) ∙ sym (below ∙ ap is_lt compared)
 
     pub rise-on : b ≡ true → all ≡ rise_from (to_z w64 (of_z w64 x)) (items_in_line ws')
-    rise-on is =
-        with-next ∙ (ap (λ (c : Bool). c && rise_from x (items_in_line ws')) (lies-below ∙ is) ∙ ap (λ (y : ℤ). rise_from y (items_in_line ws')) (sym read-back))
+    rise-on is = with-next ∙ (ap (λ (c : Bool). c && rise_from x (items_in_line ws')) (lies-below ∙ is) ∙ ap (λ (y : ℤ). rise_from y (items_in_line ws')) (sym read-back))
 
     pub rise-off : b ≡ false → false ≡ all
     rise-off is = sym (with-next ∙ ap (λ (c : Bool). c && rise_from x (items_in_line ws')) (lies-below ∙ is))
@@ -56,15 +48,5 @@ read-none : (ws : List (List ℕ)) → None ≡ option_and_then item_of (slice_g
 read-none [] none = refl
 read-none (w ∷ ws) none = ap (λ (o : Option ℤ). onto_items o (items_in_line ws)) (sym none)
 
-pub read-all : (all start : List ℤ) (ws : List (List ℕ)) → all ≡ start ++ items_in_line ws → None ≡ option_and_then item_of (slice_get ws 0) → start ≡ all
-read-all all start ws held none = sym (held ∙ (ap (λ (xs : List ℤ). start ++ xs) (read-none ws none) ∙ append-nil start))
-
-pub rise-none : (ws given : List (List ℕ)) → ws ≡ given → None ≡ option_and_then item_of (slice_get ws 0) → true ≡ rise (items_in_line given)
-rise-none ws given same none = sym (sym (ap (λ (vs : List (List ℕ)). rise (items_in_line vs)) same) ∙ ap rise (read-none ws none))
-
 pub rise-all : (ws : List (List ℕ)) (z : ℤ) {all : Bool} → all ≡ rise_from z (items_in_line ws) → None ≡ option_and_then item_of (slice_get ws 0) → true ≡ all
 rise-all ws z held none = sym (held ∙ ap (rise_from z) (read-none ws none))
-
--- an error for arguments that are good
-pub refuses-good : {T : Type 0} (r : Result T ErrorKind) {good : Bool} → IsErrAnd r (λ e. e ≡ OutOfMemory) → good ≡ true → IfErr r (IsRefusal good)
-refuses-good r fails good = at_error r _ fails (λ e f. inr (f, good))
