@@ -53,8 +53,7 @@ module _ {A : Type 0} where
   accepted-alone plan st alone once shares many all (Merge into source) t e =
       let shapes' = accepted_shapes (kll_rules {A = A}) plan.shapes (Merge into source) in
       merge-either kll_rules false plan into source t e
-      (λ (b : Bool) (events : List (Event A)). AreAlone shapes' (if b then alone else changed alone into false) (takes_once events shares once))
-      (λ s other held held_other m none.
+      (λ (b : Bool) (events : List (Event A)). AreAlone shapes' (if b then alone else changed alone into false) (takes_once events shares once)) (λ s other held held_other m none.
       let same : s ≡ t = ap (λ (b : Bool). if b then s else merged_shape s other) (sym (eq-eqb other.n 0 none)) ∙ (unless-there _ _ t m).1 in
       alone-changed plan.shapes alone alone once once into _ t all e (λ a. let (taken, own) = all into a in (taken, subst HasOwn same (own s held))) (λ j n. refl) (λ j n. refl))
       (λ s other held held_other m some.

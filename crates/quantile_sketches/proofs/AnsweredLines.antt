@@ -17,18 +17,13 @@ use Rattle.quantile_sketches.proofs.FirstLine.{takes_buffered, takes_read}
 use Rattle.quantile_sketches.proofs.LineRuns.{Running, ends-broken, running-line}
 use Rattle.quantile_sketches.proofs.Outputs.{writes-as}
 
--- what was read isn't empty
-some-read : {k l m n : ℕ} → m ≡ l → m ≡ k + n → k ≡ 0 → (n ≡ 0 → ⊥) → 0 < l
-some-read long more none some = omega (arith, long, more, none, some)
-
 abbrev done : Result Unit Unit
 done = Ok tt
 
 module _ {S C : Type 0} (grammar : Grammar C) (behaviour : Behaviour S ℤ C) where
   -- a line is taken from what is left, and has this answer
   abbrev pub AnswersLine : Option (List ℕ) → Option (List ℕ) → List (Option S) → ℕ → List (Option S) → ℕ → Reply → Type 0
-  AnswersLine left left' slots coins slots' coins' a =
-      (line : List ℕ) × TakesLine left line left' × Answers behaviour (request_of grammar (words line)) slots coins a slots' coins'
+  AnswersLine left left' slots coins slots' coins' a = (line : List ℕ) × TakesLine left line left' × Answers behaviour (request_of grammar (words line)) slots coins a slots' coins'
 
   -- the answer that a line was found to have
   pub line-found : (left left' : Option (List ℕ)) (slots slots' : List (Option S)) (coins coins' : ℕ) (found : Option Reply) (a : Reply) → found ≡ Some a →
@@ -45,15 +40,13 @@ module _ {S C : Type 0} (grammar : Grammar C) (behaviour : Behaviour S ℤ C) wh
       (take n (reader_buffer input), takes_buffered remaining input left n (rw same at place) (rw same at within) dropped, rw same at answered)
 
   -- a line that is read behind nothing, with its line feed
-  pub read-answered : (left left' : Option (List ℕ)) {line before cut : List ℕ} {m k n : ℕ} (bare : List ℕ) {slots slots' : List (Option S)} {coins coins' : ℕ}
-      {a : Reply} →
+  pub read-answered : (left left' : Option (List ℕ)) {line before cut : List ℕ} {m k n : ℕ} (bare : List ℕ) {slots slots' : List (Option S)} {coins coins' : ℕ} {a : Reply} →
       m ≡ length line → m ≡ k + n → k ≡ 0 → (n ≡ 0 → ⊥) → IfSome left (λ xs. line ≡ before ++ take_through 10 xs) → before ≡ [] → DropsThrough left left' 10 →
       bare ≡ strip_last 10 cut → cut ≡ line → Answers behaviour (request_of grammar (words bare)) slots coins a slots' coins' →
       AnswersLine left left' slots coins slots' coins' a
   read-answered left left' {line} bare long more none some bytes nothing rest stripped whole answered = (
     bare,
-    takes_read line bare left left' (some-read long more none some) (subst (λ (front : List ℕ). IfSome left (λ xs. line ≡ front ++ take_through 10 xs)) nothing
-        bytes) rest
+    takes_read line bare left left' (omega (arith, long, more, none, some)) (subst (λ (front : List ℕ). IfSome left (λ xs. line ≡ front ++ take_through 10 xs)) nothing bytes) rest
         (stripped ∙ ap (strip_last 10) whole),
     answered,
   )
@@ -68,5 +61,4 @@ module _ {S C : Type 0} (grammar : Grammar C) (behaviour : Behaviour S ℤ C) wh
 
     -- the output fails
     pub line-unwritten : {E'' : Type 0} (ended : Result Unit E'') → IsErr ended → IfSome t (Ends grammar behaviour slots coins ended w0 w')
-    line-unwritten ended fails =
-        ends-broken grammar behaviour (running-line grammar behaviour run answered.0 a ok answered.1 answered.2 out) ended fails
+    line-unwritten ended fails = ends-broken grammar behaviour (running-line grammar behaviour run answered.0 a ok answered.1 answered.2 out) ended fails

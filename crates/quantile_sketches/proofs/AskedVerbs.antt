@@ -1,7 +1,7 @@
 -- Which command a verb asks for, by tests of one verb after the other.
 use Rattle.std.proofs.Common.{arith}
 use Rattle.std.proofs.lemmas.Grind.{common_steps}
-use Rattle.std.proofs.Common.{◌≡◌, ◌⊎◌, ℕ, Bool, true, false, cond, List, Option, None, bytes_eq, refl, sym, ap, inl, inr, ◌∙◌}
+use Rattle.std.proofs.Common.{◌≡◌, ◌⊎◌, ℕ, Bool, true, false, cond, List, Option, None, bytes_eq, sym, ap, inl, inr, ◌∙◌}
 use Rattle.std.proofs.lemmas.Bool.{cond-false, false≢true}
 use Rattle.std.proofs.lemmas.Slice.Eq.{bytes_eq-Decides}
 use Rattle.std.specs.Prelude.{codes}
@@ -23,9 +23,7 @@ passed {y = y} {b = b} x h e = e ∙ sym (cond-false b x y h)
 
 -- a verb is another one, or it is this one, of which the family knows nothing
 other : (b known : Bool) → (b ≡ false) ⊎ (known ≡ false) → (b ≡ false) ⊎ ((b ≡ true) × (known ≡ false))
-other false known is = inl refl
-other true known (inl e) = absurd (false≢true (sym e))
-other true known (inr unsaid) = inr (refl, unsaid)
+other b known is = grind (arith, common_steps, false≢true)
 
 module _ {C : Type 0} (grammar : Grammar C) (verb : List ℕ) (slot : ℕ) (ws : List (List ℕ)) {r : Option (Request C)} where
   pub asks-update : {t : Bool} → t ≡ bytes_eq verb (codes "update") → t ≡ true → r ≡ parse_update slot ws → r ≡ parse_asked grammar verb slot ws
@@ -66,14 +64,11 @@ module _ {C : Type 0} (grammar : Grammar C) (verb : List ℕ) (slot : ℕ) (ws :
   questioned h1 h2 h3 h4 h5 (inr (is, unsaid)) k7 k8 e = unknown (codes "updatew") is (ap (λ b. parse_update_weighted b slot ws) (sym unsaid)) e
   questioned h1 h2 h3 h4 h5 (inl h6) (inr (is, unsaid)) k8 e = unknown (codes "redraw") is (ap (λ b. parse_redraw b slot ws) (sym unsaid)) e
   questioned h1 h2 h3 h4 h5 (inl h6) (inl h7) (inr (is, unsaid)) e = unknown (codes "mergeu") is (ap (λ b. parse_merge_redrawn b slot ws) (sym unsaid)) e
-  questioned h1 h2 h3 h4 h5 (inl h6) (inl h7) (inl h8) e =
-      passed _ h1 (passed _ h2 (passed _ h3 (passed _ h4 (passed _ h5 (passed _ h6 (passed _ h7 (passed _ h8 e)))))))
+  questioned h1 h2 h3 h4 h5 (inl h6) (inl h7) (inl h8) e = passed _ h1 (passed _ h2 (passed _ h3 (passed _ h4 (passed _ h5 (passed _ h6 (passed _ h7 (passed _ h8 e)))))))
 
   pub asks-question : bytes_eq verb (codes "update") ≡ false → bytes_eq verb (codes "new") ≡ false → bytes_eq verb (codes "merge") ≡ false →
-      bytes_eq verb (codes "reset") ≡ false → bytes_eq verb (codes "roundtrip") ≡ false →
-      (bytes_eq verb (codes "updatew") ≡ false) ⊎ (grammar.weighs ≡ false) →
-      (bytes_eq verb (codes "redraw") ≡ false) ⊎ (grammar.redraws ≡ false) →
-      (bytes_eq verb (codes "mergeu") ≡ false) ⊎ (grammar.redraws ≡ false) →
+      bytes_eq verb (codes "reset") ≡ false → bytes_eq verb (codes "roundtrip") ≡ false → (bytes_eq verb (codes "updatew") ≡ false) ⊎ (grammar.weighs ≡ false) →
+      (bytes_eq verb (codes "redraw") ≡ false) ⊎ (grammar.redraws ≡ false) → (bytes_eq verb (codes "mergeu") ≡ false) ⊎ (grammar.redraws ≡ false) →
       r ≡ parse_question verb slot ws → r ≡ parse_asked grammar verb slot ws
   asks-question h1 h2 h3 h4 h5 k6 k7 k8 = questioned h1 h2 h3 h4 h5 (other _ _ k6) (other _ _ k7) (other _ _ k8)
 

@@ -2,13 +2,13 @@
 use Rattle.std.proofs.Common.{arith}
 use Rattle.std.proofs.Common.{rules}
 use Rattle.std.proofs.lemmas.Grind.{common_steps}
-use Rattle.std.proofs.Common.{◌≡◌, ℕ, zero, suc, Bool, true, false, not, if◌then◌else◌, List, [], ◌∷◌, ◌++◌, map, Option, None, Some, is_some, refl, ap, ◌∙◌}
+use Rattle.std.proofs.Common.{◌≡◌, ℕ, zero, suc, Bool, not, if◌then◌else◌, List, [], ◌∷◌, ◌++◌, map, Option, is_some, refl, ap, ◌∙◌}
 use Rattle.std.proofs.lemmas.List.{map-append}
 use Rattle.std.proofs.lemmas.List.Sums.{sum_by-cons}
 use Rattle.sketch_base.specs.Lengths.{acts_on_lengths}
-use Rattle.sketch_base.specs.Trace.{Action, Put, Pull, Join, Compact, Forget, Redraw, Clear, Fresh, Event, Snap, At, Work, World, coins, event_draws, joins_actions, events_at}
+use Rattle.sketch_base.specs.Trace.{Action, Put, Pull, Join, Compact, Forget, Redraw, Clear, Event, Snap, At, Work, World, coins, event_draws, joins_actions, events_at}
 use Rattle.quantile_sketches.specs.declared.commands.Command.{Command}
-use Rattle.quantile_sketches.specs.declared.commands.Command.TheVariants.{New, Update, UpdateWeighted, Merge, RoundTrip, Redraw, MergeRedrawn}
+use Rattle.quantile_sketches.specs.declared.commands.Command.TheVariants.{Redraw}
 use Rattle.quantile_sketches.specs.RuleLaws.{lengths_by}
 use Rattle.quantile_sketches.specs.Plan.{Plan, start_plan, slot_of, actions_on, count_of, shape_after, is_refused, merge_events, accepted_events, events_of, plan_after, trace_from, plan_of, trace_of}
 use Rattle.quantile_sketches.specs.Rules.{Rules}
@@ -42,12 +42,10 @@ module _ {A : Type 0} where
   -- some actions if a test holds, and others if not
   pub bare-if : (b : Bool) (xs ys : List (Action A)) {xs' ys' : List (Action Unit)} → map bare_action xs ≡ xs' → map bare_action ys ≡ ys' →
       map bare_action (if b then xs else ys) ≡ (if b then xs' else ys')
-  bare-if true xs ys e f = e
-  bare-if false xs ys e f = f
+  bare-if b xs ys e f = grind (arith, common_steps)
 
   events-unless : (b : Bool) (es : List (Event A)) {es' : List (Event Unit)} → map bare_event es ≡ es' → map bare_event (if b then [] else es) ≡ (if b then [] else es')
-  events-unless true es e = refl
-  events-unless false es e = e
+  events-unless b es e = grind (arith, common_steps)
 
   -- actions make the same lengths without their items
   pub acts-bare : (actions : List (Action A)) (work : Work (List ℕ)) → acts_on_lengths (map bare_action actions) work ≡ acts_on_lengths actions work
@@ -61,8 +59,7 @@ module _ {A : Type 0} where
   lengths-bare (e ∷ rest) world = lengths-bare rest _
 
   draws-bare : (e : Event A) → event_draws (bare_event e) ≡ event_draws e
-  draws-bare (At s (Compact h Fresh taken)) = refl
-  draws-bare e = refl
+  draws-bare e = grind (arith, common_steps)
 
   coins-bare : (trace : List (Event A)) → coins (map bare_event trace) ≡ coins trace
   coins-bare [] = refl
@@ -98,19 +95,16 @@ module _ {A C Shape : Type 0} {rules : Rules A C Shape} {bare_rules : Rules Unit
   shape-bare shapes c = go c ∙ ap (λ (r : Rules Unit C Shape). shape_after r shapes (bare c)) are.decide
     where
       go : (c : Command A C) → shape_after rules shapes c ≡ shape_after (decided rules bare_rules) shapes (bare c)
-      go (New slot config) = refl
-      go c = refl
+      go c = grind (arith, common_steps)
 
   slot-bare : (c : Command A C) → slot_of c ≡ slot_of (bare c)
-  slot-bare (New slot config) = refl
-  slot-bare c = refl
+  slot-bare c = grind (arith, common_steps)
 
   refused-bare : (shapes : ℕ → Option Shape) (c : Command A C) → is_refused rules shapes c ≡ is_refused bare_rules shapes (bare c)
   refused-bare shapes c = ap (λ (o : Option Shape). not (is_some o)) (shape-bare shapes c)
 
   actions-on : (o : Option Shape) (f : Shape → List (Action A)) {g : Shape → List (Action Unit)} → ((s : Shape) → map bare_action (f s) ≡ g s) → map bare_action (actions_on o f) ≡ actions_on o g
-  actions-on None f h = refl
-  actions-on (Some s) f h = h s
+  actions-on o f h = grind (arith, common_steps)
 
   -- actions in a slot, if it holds a sketch
   acts-at : (slot : ℕ) (o : Option Shape) (f : Shape → List (Action A)) {g : Shape → List (Action Unit)} → ((s : Shape) → map bare_action (f s) ≡ g s) →
@@ -118,8 +112,7 @@ module _ {A C Shape : Type 0} {rules : Rules A C Shape} {bare_rules : Rules Unit
   acts-at slot o f h = events-at slot _ ∙ ap (events_at slot) (actions-on o f h)
 
   count-bare : (o : Option Shape) → count_of rules o ≡ count_of bare_rules o
-  count-bare None = refl
-  count-bare (Some s) = ap (λ (r : Rules Unit C Shape). r.count s) are.decide
+  count-bare o = grind (arith, common_steps)
 
   merge-bare : (redraws : Bool) (plan : Plan Shape) (into source : ℕ) → map bare_event (merge_events rules redraws plan into source) ≡ merge_events bare_rules redraws plan into source
   merge-bare redraws plan into source =
@@ -128,13 +121,7 @@ module _ {A C Shape : Type 0} {rules : Rules A C Shape} {bare_rules : Rules Unit
       (acts-at into (plan.shapes into) _ (λ s. actions-on (plan.shapes source) _ (λ other. are.merge redraws s other work)))))
 
   accepted-bare : (plan : Plan Shape) (c : Command A C) → map bare_event (accepted_events rules plan c) ≡ accepted_events bare_rules plan (bare c)
-  accepted-bare plan (Update slot x) = acts-at slot (plan.shapes slot) _ (λ s. are.update s (plan.lengths.slots slot) x)
-  accepted-bare plan (UpdateWeighted slot x weight) = acts-at slot (plan.shapes slot) _ (λ s. are.weighted s (plan.lengths.slots slot) x weight)
-  accepted-bare plan (Merge into source) = merge-bare false plan into source
-  accepted-bare plan (RoundTrip slot) = events-at slot rules.read_back_actions ∙ ap (events_at slot) are.read_back
-  accepted-bare plan (Redraw slot) = acts-at slot (plan.shapes slot) _ are.redraw
-  accepted-bare plan (MergeRedrawn into source) = merge-bare true plan into source
-  accepted-bare plan c = refl
+  accepted-bare plan c = grind (arith, common_steps, acts-at, merge-bare, events-at)
 
   events-bare : (plan : Plan Shape) (c : Command A C) → map bare_event (events_of rules plan c) ≡ events_of bare_rules plan (bare c)
   events-bare plan c = rw (refused-bare plan.shapes c) (events-unless (is_refused bare_rules plan.shapes (bare c)) _ (accepted-bare plan c))
@@ -156,5 +143,4 @@ module _ {A C Shape : Type 0} {rules : Rules A C Shape} {bare_rules : Rules Unit
 
   -- and they take the same number of coins
   pub same-coins : (commands commands' : List (Command A C)) → map bare commands ≡ map bare commands' → coins (trace_of rules commands) ≡ coins (trace_of rules commands')
-  same-coins commands commands' e =
-      cc (coins-bare (trace_of rules commands), coins-bare (trace_of rules commands'), trace-bare start_plan commands, trace-bare start_plan commands')
+  same-coins commands commands' e = cc (coins-bare (trace_of rules commands), coins-bare (trace_of rules commands'), trace-bare start_plan commands, trace-bare start_plan commands')

@@ -1,4 +1,5 @@
 -- What comes of a command of runs on a table's slots is a step of a run.
+use Rattle.std.proofs.Common.{rules}
 use Rattle.std.proofs.Common.{arith}
 use Rattle.std.proofs.lemmas.Grind.{common_steps}
 use Rattle.std.proofs.Common.{◌≡◌, ◌≢◌, ◌⊎◌, ℕ, ◌==◌, Bool, true, false, not, Option, None, Some, is_some, is_ok, set, Result, Ok, Err, refl, sym, ap, ap₂, ◌∙◌, subst, inl, inr, eqb-true}
@@ -40,8 +41,7 @@ in_slot-set slots slot o new h q = grind (arith, common_steps, get_or-set_at, eq
 
 -- a slot that is set to what it held doesn't change
 in_slot-same : {S : Type 0} (slots slots' : Slots S) (slot : ℕ) (o new : Option S) → Holds slots slot o → new ≡ o → slots' ≡ set slots slot new → AreSame (in_slot slots) (in_slot slots')
-in_slot-same slots slots' slot o new h same is q =
-    cc (in_slot-set slots slot o new h q, in_slot-held slots slot o h, changed-own (in_slot slots) slot q)
+in_slot-same slots slots' slot o new h same is q = cc (in_slot-set slots slot o new h q, in_slot-held slots slot o h, changed-own (in_slot slots) slot q)
 
 -- a command is accepted if the rules give a shape
 given : {X : Type 0} (o : Option X) (x : X) → o ≡ Some x → true ≡ not (not (is_some o))
@@ -57,11 +57,7 @@ Unless InvalidData P = P
 Unless OutOfMemory P = ⊤
 
 unless-refused : {Shape : Type 0} {P : Type 0} (shape : Option Shape) (e : ErrorKind) → Refuses shape e → (shape ≡ None → P) → Unless e P
-unless-refused shape e (inl r) f = rw r.0 (f r.1)
-unless-refused shape e (inr r) f = rw r.0 tt
-
-unless-memory : (P : Type 0) (e : ErrorKind) → e ≡ OutOfMemory → Unless e P
-unless-memory P e wanted = rw wanted tt
+unless-refused shape e h2 f = grind (arith, common_steps)
 
 -- each sketch in the slots keeps its invariant
 abbrev pub AreSoundIn : {A C Shape S : Type 0} → Kind A C Shape S → Sketches S → Type 0
@@ -75,8 +71,7 @@ module _ {A C Shape S Source : Type 0} (kind : Kind A C Shape S) (bit : Source �
   Comes (Ok done) command slots source slots' source' = IsExecuted kind bit next command slots source true slots' source'
   Comes (Err BadLine) command slots source slots' source' = IsExecuted kind bit next command slots source false slots' source'
   Comes (Err AbsentSlot) command slots source slots' source' = IsExecuted kind bit next command slots source false slots' source'
-  Comes (Err (Sketch e)) command slots source slots' source' =
-      Unless e (IsDecided kind command slots false) × AreSame slots slots' × (source' ≡ source)
+  Comes (Err (Sketch e)) command slots source slots' source' = Unless e (IsDecided kind command slots false) × AreSame slots slots' × (source' ≡ source)
 
   yes : (command : Command A C) (slots : Sketches S) (source : Source) (slots' : Sketches S) (source' : Source) → IsDecided kind command slots true → IsDone kind bit next command slots source slots' source' →
       IsExecuted kind bit next command slots source true slots' source'
@@ -89,15 +84,12 @@ module _ {A C Shape S Source : Type 0} (kind : Kind A C Shape S) (bit : Source �
   -- a command that doesn't run out of memory is a step
   executed : (r : Result Unit Refusal) (command : Command A C) (slots : Sketches S) (source : Source) (slots' : Sketches S) (source' : Source) → r ≢ Err (Sketch OutOfMemory) →
       Comes r command slots source slots' source' → IsExecuted kind bit next command slots source (is_ok r) slots' source'
-  executed (Err (Sketch OutOfMemory)) command slots source slots' source' n h = absurd (n refl)
-  executed (Err (Sketch e)) command slots source slots' source' n h = no command slots source slots' source' h.0 h.1 h.2
-  executed r command slots source slots' source' n h = h
+  executed r command slots source slots' source' n h = grind (arith, common_steps, no)
 
   -- a command that is not carried out changes nothing
   pub left : (e : _) (command : Command A C) (slots : Sketches S) (source : Source) (slots' : Sketches S) (source' : Source) →
       Comes (Err e) command slots source slots' source' → AreSame slots slots' × (source' ≡ source)
-  left (Sketch e) command slots source slots' source' h = (h.1, h.2)
-  left e command slots source slots' source' h = h.left refl
+  left e command slots source slots' source' h = grind (arith, common_steps)
 
   module _ (command : Command A C) (slots slots' : Slots S) (source source' : Source) where
     -- what each outcome of a call on a slot's sketch means for the command
@@ -146,8 +138,7 @@ module _ {A C Shape S Source : Type 0} {kind : Kind A C Shape S} (lawful : IsLaw
 
   -- a sketch is a copy of itself
   same-answer : (o : Option A) → SameAnswer kind.look.cmp o o
-  same-answer None = tt
-  same-answer (Some x) = tied_itself lawful.total x
+  same-answer o = grind (arith, common_steps)
 
   copied-itself : (s : S) → kind.IsSound s → IsPlainCopy kind s s
   copied-itself s sound = grind (arith, common_steps, same-answer)
@@ -162,8 +153,7 @@ module _ {A C Shape S Source : Type 0} {kind : Kind A C Shape S} (lawful : IsLaw
         let fresh = (obeys.made config (Ok s) made).0 in
         yes kind bit next (New slot config) (in_slot slots) source (in_slot slots') source' (given _ (kind.look.shape s) fresh.shape_is)
         (record { made = s; fresh = fresh; puts = λ q. ap (λ l. in_slot l q) is ∙ in_slot-set slots slot o (Some s) held q }, stays)
-    comes-new slot config (Err (Sketch e)) ((made, is), stays) =
-        (unless-refused _ e (obeys.made config (Err e) made).1 (λ none. not-given _ none), (λ q. ap (λ l. in_slot l q) is), stays)
+    comes-new slot config (Err (Sketch e)) ((made, is), stays) = (unless-refused _ e (obeys.made config (Err e) made).1 (λ none. not-given _ none), (λ q. ap (λ l. in_slot l q) is), stays)
     comes-new slot config r h = absurd h.0
 
     -- one slot turns
@@ -211,14 +201,12 @@ module _ {A C Shape S Source : Type 0} {kind : Kind A C Shape S} (lawful : IsLaw
 
         unwritten : (s : S) (e : ErrorKind) → in_slot slots slot ≡ Some s → ((e ≡ InvalidArgument) × (¬ kind.HasImage s)) ⊎ (e ≡ OutOfMemory) →
             Unless e (IsDecided kind (RoundTrip slot) (in_slot slots) false)
-        unwritten s e held (inr m) = unless-memory _ e m
-        unwritten s e held (inl n) = rw n.0 (trip-decided slot false s held (λ f. absurd (false≢true f), λ has. absurd (n.1 has)))
+        unwritten s e held h3 = grind (arith, common_steps, trip-decided, false≢true)
 
         refused : (s t : S) (e : ErrorKind) → in_slot slots slot ≡ Some s → RoundTrips behaviour s source (Err e) t source' →
             Unless e (IsDecided kind (RoundTrip slot) (in_slot slots) false) × (t ≡ s) × (source' ≡ source)
-        refused s t e held (inl (bytes, written, (read, same)), stays) = (unless-memory _ e (obeys.read_back s bytes (Err e) written read).1, same, stays)
-        refused s t e held (inr (f, written, is, same), stays) =
-            (unwritten s e held (rw (same-err e f _ refl is) (obeys.imaged s (Err f) (sound slot s held) written).1), same, stays)
+        refused s t e held (inl (bytes, written, (read, same)), stays) = ((rw (obeys.read_back s bytes (Err e) written read).1 tt), same, stays)
+        refused s t e held (inr (f, written, is, same), stays) = (unwritten s e held (rw (same-err e f _ refl is) (obeys.imaged s (Err f) (sound slot s held) written).1), same, stays)
 
     -- a merge with coins redrawn or not, for the command that asks for it
     module _ (redraws : Bool) (into from : ℕ) (command : Command A C)
@@ -232,8 +220,7 @@ module _ {A C Shape S Source : Type 0} {kind : Kind A C Shape S} (lawful : IsLaw
       merged-at s p held its = ap₂ merged-by held its
 
       merged-none : (x : Option S) → merged-by x None ≡ None
-      merged-none None = refl
-      merged-none (Some shape) = refl
+      merged-none x = grind (arith, common_steps)
 
       merge-absent : in_slot slots into ≡ None → IsDecided kind command (in_slot slots) false
       merge-absent h = decide false (not-given _ (ap (λ x. merged-by x (in_slot slots from)) h))
@@ -277,7 +264,7 @@ module _ {A C Shape S Source : Type 0} {kind : Kind A C Shape S} (lawful : IsLaw
               let copy = (obeys.copied s (Ok p) copied).0 in
               let r = obeys.joined redraws p copy.sound s source (Err e) t source' (sound into s held) joined in
               (unless-refused _ e r.1 (λ none. refuses-it s s held (also held) (ap (kind.look.rules.merged redraws (kind.look.shape s)) (sym copy.shape_is) ∙ none)), r.2.0, r.2.1)
-          refused s t e held (inr (fits, inr (f, copied, is, kept, stays))) = (unless-memory _ e (same-err e f _ refl is ∙ (obeys.copied s (Err f) copied).1), kept, stays)
+          refused s t e held (inr (fits, inr (f, copied, is, kept, stays))) = ((rw (same-err e f _ refl is ∙ (obeys.copied s (Err f) copied).1) tt), kept, stays)
 
       merge-other : (p : S) → in_slot slots from ≡ Some p → Turned kind bit next command slots slots' source source' into (behaviour.joined redraws p Source bit next)
       merge-other p its = record {
@@ -292,8 +279,7 @@ module _ {A C Shape S Source : Type 0} {kind : Kind A C Shape S} (lawful : IsLaw
 
       comes-merge : (b : Bool) → (into == from) ≡ b → (r : Result Unit Refusal) → Merges behaviour bit next redraws b into from slots source r slots' source' → Goes r command
       comes-merge true e r h = changes command into (JoinsCopy behaviour bit next redraws) (merge-copy (eqb-true into from e)) r h
-      comes-merge false e r (None, its, (o, new, held, (is, same, stays), set_is)) =
-          rw is (no kind bit next command (in_slot slots) source (in_slot slots') source'
+      comes-merge false e r (None, its, (o, new, held, (is, same, stays), set_is)) = rw is (no kind bit next command (in_slot slots) source (in_slot slots') source'
           (decide false (not-given _ (ap (λ y. merged-by (in_slot slots into) y) (in_slot-held slots from None its) ∙ merged-none _)))
           (in_slot-same slots slots' into o new held same set_is) stays)
       comes-merge false e r (Some p, its, (o, new, held, turns, set_is)) =
@@ -306,28 +292,24 @@ module _ {A C Shape S Source : Type 0} {kind : Kind A C Shape S} (lawful : IsLaw
         Obeys (kind.look.rules.updated_weighted (kind.look.shape s) weight) (TookWeighted x weight s source) s source r t source') →
         (command : Command A C) (r : Result Unit Refusal) → CarriesOut behaviour bit next taken weighted command slots source r slots' source' → Goes r command
     comes taken weighted f g (New slot config) r h = comes-new slot config r h
-    comes taken weighted f g (Update slot x) r h =
-        ruled (Update slot x) slot kind.look.rules.updated (λ accepted e. e) (taken x) (λ s t. Took x s source t source') (f x)
+    comes taken weighted f g (Update slot x) r h = ruled (Update slot x) slot kind.look.rules.updated (λ accepted e. e) (taken x) (λ s t. Took x s source t source') (f x)
         (λ s t d. d.2.0.shape_is) (λ s t held d puts. record { old = s; taken = d.0; made = t; held = held; ties = d.1; after = d.2; puts = puts }) r h
     comes taken weighted f g (UpdateWeighted slot x weight) r h =
         ruled (UpdateWeighted slot x weight) slot (λ shape. kind.look.rules.updated_weighted shape weight) (λ accepted e. e) (weighted x weight) (λ s t. TookWeighted x weight s source t source')
-        (g x weight)
-        (λ s t d. d.2.0.shape_is) (λ s t held d puts. record { old = s; taken = d.0; made = t; held = held; ties = d.1; after = d.2; puts = puts }) r h
+        (g x weight) (λ s t d. d.2.0.shape_is) (λ s t held d puts. record { old = s; taken = d.0; made = t; held = held; ties = d.1; after = d.2; puts = puts }) r h
     comes taken weighted f g (Merge into from) r h = comes-merge false into from (Merge into from) (λ accepted e. e) (λ m. m) (into == from) refl r h
-    comes taken weighted f g (Reset slot) r h =
-        changes (Reset slot) slot (Empties behaviour) (record {
-          absent = λ h. not-given _ (ap (λ o. option_map kind.look.rules.emptied (option_map kind.look.shape o)) h);
-          done = λ s t held h puts. (
-            given _ (kind.look.rules.emptied (kind.look.shape s)) (ap (λ o. option_map kind.look.rules.emptied (option_map kind.look.shape o)) held),
-            (record { old = s; held = held; made = record { made = t; fresh = obeys.emptied s t h.1; puts = puts } }, h.2),
-          );
-          refused = λ s t e held h. absurd (no-err tt e (sym h.0));
-        }) r h
+    comes taken weighted f g (Reset slot) r h = changes (Reset slot) slot (Empties behaviour) (record {
+      absent = λ h. not-given _ (ap (λ o. option_map kind.look.rules.emptied (option_map kind.look.shape o)) h);
+      done = λ s t held h puts. (
+        given _ (kind.look.rules.emptied (kind.look.shape s)) (ap (λ o. option_map kind.look.rules.emptied (option_map kind.look.shape o)) held),
+        (record { old = s; held = held; made = record { made = t; fresh = obeys.emptied s t h.1; puts = puts } }, h.2),
+      );
+      refused = λ s t e held h. absurd (no-err tt e (sym h.0));
+    }) r h
     comes taken weighted f g (RoundTrip slot) r h = comes-trip slot r h
     comes taken weighted f g (Redraw slot) r h =
         ruled (Redraw slot) slot kind.look.rules.redrawn (λ accepted e. e) (behaviour.redrawn Source bit next) (λ s t. IsRedrawn kind bit next s source t source')
-        (λ s t r was h. obeys.redrawn s source r t source' was h)
-        (λ s t d. d.0.shape_is) (λ s t held d puts. record { old = s; made = t; held = held; after = d; puts = puts }) r h
+        (λ s t r was h. obeys.redrawn s source r t source' was h) (λ s t d. d.0.shape_is) (λ s t held d puts. record { old = s; made = t; held = held; after = d; puts = puts }) r h
     comes taken weighted f g (MergeRedrawn into from) r h = comes-merge true into from (MergeRedrawn into from) (λ accepted e. e) (λ m. m) (into == from) refl r h
 
     comes-clone : (IsClone : A → A → Type 0) → ((x y : A) → IsClone x y → kind.look.cmp x y ≡ Equal) → (command : Command A C) (r : Result Unit Refusal) →
@@ -343,13 +325,11 @@ module _ {A C Shape S Source : Type 0} {kind : Kind A C Shape S} (lawful : IsLaw
     pub clone-executed : (IsClone : A → A → Type 0) → ((x y : A) → IsClone x y → kind.look.cmp x y ≡ Equal) → (command : Command A C) (r : Result Unit Refusal) →
         CarriesOutClone behaviour bit next IsClone command slots source r slots' source' → r ≢ Err (Sketch OutOfMemory) →
         IsExecuted kind bit next command (in_slot slots) source (is_ok r) (in_slot slots') source'
-    clone-executed IsClone ties command r h n =
-        executed kind bit next r command (in_slot slots) source (in_slot slots') source' n (comes-clone IsClone ties command r h)
+    clone-executed IsClone ties command r h n = executed kind bit next r command (in_slot slots) source (in_slot slots') source' n (comes-clone IsClone ties command r h)
 
     -- a command whose sketch takes the item itself is a step
     pub comes-item : (command : Command A C) (r : Result Unit Refusal) → CarriesOutItem behaviour bit next command slots source r slots' source' → Goes r command
-    comes-item =
-        comes (λ x. behaviour.taken x Source bit next) (λ x weight. behaviour.taken_weighted x weight Source bit next)
+    comes-item = comes (λ x. behaviour.taken x Source bit next) (λ x weight. behaviour.taken_weighted x weight Source bit next)
         (λ x s t r was h. item-obeys x (kind.look.rules.updated (kind.look.shape s)) (λ y. IsUpdated kind bit next s y source) s source r t source' (obeys.taken x s source r t source' was h))
         (λ x weight s t r was h. item-obeys x (kind.look.rules.updated_weighted (kind.look.shape s) weight) (λ y. IsWeighted kind bit next s y weight source) s source r t source'
         (obeys.taken_weighted x weight s source r t source' was h))

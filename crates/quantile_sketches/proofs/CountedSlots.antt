@@ -14,10 +14,6 @@ use Rattle.quantile_sketches.specs.Run.{accepted_streams}
 use Rattle.quantile_sketches.proofs.LegalPlans.{counts_after}
 use Rattle.quantile_sketches.proofs.Streams.{NamesSlots, tallied-after, names-any}
 
-set-changes : (counts : List ℕ) (slot value : ℕ) → slot < length counts → (q : ℕ) →
-    slice_index (set counts slot value) q ≡ changed (slice_index counts) slot value q
-set-changes counts slot value inside q = grind (arith, common_steps, cases_eq, get_or-set_same, changed-there, get_or-set_other, changed-other)
-
 -- these slots are below 256
 abbrev pub HasFewSlots : {A C : Type 0} → Command A C → Type 0
 HasFewSlots = NamesSlots (λ slot. slot < 256)
@@ -26,8 +22,7 @@ HasFewSlots = NamesSlots (λ slot. slot < 256)
 
 module _ {A C : Type 0} (test : A → Bool) (command : Command A C) (counts : List ℕ) where
   -- the counts fit if the streams after the command do
-  pub counts-fit : length counts ≡ 256 →
-      (streams : ℕ → List A) × CountStreams test counts streams × ((q : ℕ) → length (accepted_streams streams command q) < 2 ^ 64) →
+  counts-fit : length counts ≡ 256 → (streams : ℕ → List A) × CountStreams test counts streams × ((q : ℕ) → length (accepted_streams streams command q) < 2 ^ 64) →
       (q : ℕ) → counts_after test command (slice_index counts) q < 2 ^ 64
   counts-fit long (streams, h, fits) q =
       let below : (i : ℕ) → slice_index counts i ≤ count_by test (streams i) = λ i.
@@ -49,13 +44,14 @@ module _ {A C : Type 0} (test : A → Bool) (command : Command A C) (counts : Li
 -- the slot's count is set, at an index that is the slot
 module _ {A C : Type 0} (test : A → Bool) (command : Command A C) (counts : List ℕ) (slot value : ℕ) {at new : ℕ}
     (sets : counts_after test command (slice_index counts) ≡ changed (slice_index counts) slot value) (here : at ≡ slot) (is : new ≡ value) where
-  pub set-fits : ((q : ℕ) → counts_after test command (slice_index counts) q < 2 ^ 64) → Fits w64 new
-  set-fits fits = record {
-    fits = subst (λ (n : ℕ). n < 2 ^ 64) (ap (λ (f : ℕ → ℕ). f slot) sets ∙ (changed-there (slice_index counts) slot value ∙ sym is)) (fits slot);
+  pub set-fits : length counts ≡ 256 → (streams : ℕ → List A) × CountStreams test counts streams × ((q : ℕ) → length (accepted_streams streams command q) < 2 ^ 64) → Fits w64 new
+  set-fits long given = record {
+    fits = subst (λ (n : ℕ). n < 2 ^ 64) (ap (λ (f : ℕ → ℕ). f slot) sets ∙ (changed-there (slice_index counts) slot value ∙ sym is)) (counts-fit test command counts long given slot);
   }
 
-  pub set-counted : length counts ≡ 256 → slot < 256 → (q : ℕ) → q < 256 → slice_index (set counts at new) q ≡ counts_after test command (slice_index counts) q
-  set-counted long few q inside = grind (arith, common_steps, set-changes)
+  pub set-counted : length counts ≡ 256 → slot < 256 → HasFewSlots command → (streams : ℕ → List A) → CountStreams test counts streams →
+      CountStreams test (set counts at new) (accepted_streams streams command)
+  set-counted long few all = counts-follow test command counts (set counts at new) all (λ q inside. grind (arith, common_steps, cases_eq, get_or-set_same, changed-there, get_or-set_other, changed-other))
 
 -- what an item adds to its slot
 pub added : (counts : List ℕ) (slot more : ℕ) {at weight : ℕ} → at ≡ slot → weight ≡ more → get_or counts at 0 + weight ≡ slice_index counts slot + more
@@ -65,31 +61,20 @@ added counts slot more here is = ap₂ (λ (n m : ℕ). n + m) (ap (slice_index 
 module _ {A C : Type 0} {command : Command A C} where
   pub emptied-after : (test : A → Bool) (counts : ℕ → ℕ) {slot : ℕ} → ((config : C) × (command ≡ New slot config)) ⊎ (command ≡ Reset slot) →
       counts_after test command counts ≡ changed counts slot 0
-  emptied-after test counts (inl (config, is)) = ap (λ (one : Command A C). counts_after test one counts) is
-  emptied-after test counts (inr is) = ap (λ (one : Command A C). counts_after test one counts) is
+  emptied-after test counts h2 = grind (arith, common_steps, counts_after)
 
   pub emptied-few : {slot : ℕ} → ((config : C) × (command ≡ New slot config)) ⊎ (command ≡ Reset slot) → slot < 256 → HasFewSlots command
-  emptied-few (inl (config, is)) few = subst (λ (one : Command A C). HasFewSlots one) (sym is) few
-  emptied-few (inr is) few = subst (λ (one : Command A C). HasFewSlots one) (sym is) few
+  emptied-few h0 few = grind (arith, common_steps)
 
   pub joined-after : (test : A → Bool) (counts : ℕ → ℕ) {into source : ℕ} → (command ≡ Merge into source) ⊎ (command ≡ MergeRedrawn into source) →
       counts_after test command counts ≡ changed counts into (counts into + counts source)
-  joined-after test counts (inl is) = ap (λ (one : Command A C). counts_after test one counts) is
-  joined-after test counts (inr is) = ap (λ (one : Command A C). counts_after test one counts) is
+  joined-after test counts h2 = grind (arith, common_steps, counts_after)
 
   pub joined-few : {into source : ℕ} → (command ≡ Merge into source) ⊎ (command ≡ MergeRedrawn into source) → into < 256 → source < 256 → HasFewSlots command
-  joined-few (inl is) few all = subst (λ (one : Command A C). HasFewSlots one) (sym is) (few, all)
-  joined-few (inr is) few all = subst (λ (one : Command A C). HasFewSlots one) (sym is) (few, all)
+  joined-few h0 few all = grind (arith, common_steps)
 
-  pub kept-after : (test : A → Bool) (counts : ℕ → ℕ) → ((slot : ℕ) × (command ≡ RoundTrip slot)) ⊎ ((slot : ℕ) × (command ≡ Redraw slot)) →
-      counts_after test command counts ≡ counts
-  kept-after test counts (inl (slot, is)) = ap (λ (one : Command A C). counts_after test one counts) is
-  kept-after test counts (inr (slot, is)) = ap (λ (one : Command A C). counts_after test one counts) is
+  pub kept-after : (test : A → Bool) (counts : ℕ → ℕ) → ((slot : ℕ) × (command ≡ RoundTrip slot)) ⊎ ((slot : ℕ) × (command ≡ Redraw slot)) → counts_after test command counts ≡ counts
+  kept-after test counts h2 = grind (arith, common_steps, counts_after)
 
   pub kept-few : ((slot : ℕ) × (command ≡ RoundTrip slot)) ⊎ ((slot : ℕ) × (command ≡ Redraw slot)) → HasFewSlots command
-  kept-few (inl (slot, is)) = subst (λ (one : Command A C). HasFewSlots one) (sym is) tt
-  kept-few (inr (slot, is)) = subst (λ (one : Command A C). HasFewSlots one) (sym is) tt
-
--- an index of a slot
-pub within : (counts : List ℕ) {slot at : ℕ} → at ≡ slot → slot < 256 → length counts ≡ 256 → at < length counts
-within counts here few long = omega (arith, here, few, long)
+  kept-few h0 = grind (arith, common_steps)

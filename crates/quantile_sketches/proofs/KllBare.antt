@@ -1,12 +1,13 @@
 -- KLL's actions depend on items only in their Puts, so its level lengths depend on none.
+use Rattle.std.proofs.Common.{rules}
 use Rattle.std.proofs.Common.{arith}
 use Rattle.std.proofs.lemmas.Grind.{common_steps}
 use Rattle.std.proofs.Common.{◌≡◌, ℕ, zero, suc, ◌-◌, ◌/◌, Bool, if◌then◌else◌, List, [], ◌∷◌, length, map, slice_index, refl, ap, ◌∙◌}
 use Rattle.sketch_base.specs.Lengths.{acts_on_lengths}
 use Rattle.sketch_base.specs.Trace.{Action, Put, Work}
 use Rattle.sketch_kll.specs.Merge.{pull_actions, pulls_actions, taking_actions, merge_actions}
-use Rattle.sketch_kll.specs.Schedule.{are_full, actions_if_full, update_actions, updated_lengths, passes_at, step_actions, walk_actions, compress_actions}
-use Rattle.sketch_kll.specs.Weighted.{at_digit, puts_actions, entering_actions, weighted_actions, weighted_lengths}
+use Rattle.sketch_kll.specs.Schedule.{are_full, actions_if_full, update_actions, passes_at, step_actions, walk_actions, compress_actions}
+use Rattle.sketch_kll.specs.Weighted.{at_digit, puts_actions, weighted_actions, weighted_lengths}
 use Rattle.quantile_sketches.specs.KllRules.{kll_rules}
 use Rattle.quantile_sketches.proofs.Bare.{bare_action, bare-append, bare-if, acts-bare, AreBare, bare-joins}
 
@@ -36,9 +37,6 @@ module _ (A : Type 0) where
   bare-puts (suc more) level weight x =
       bare-append (map (λ y. Put level y) (at_digit weight x)) _ (bare-digit (map (λ y. Put level y)) (map (λ y. Put level y)) weight x refl refl) (bare-puts more (suc level) (weight / 2) x)
 
-  bare-entering : (k : ℕ) (lengths : List ℕ) (x : A) (weight : ℕ) → map bare_action (entering_actions k lengths x weight) ≡ entering_actions {A = Unit} k lengths tt weight
-  bare-entering k lengths x weight = grind (arith, common_steps, bare-append, bare-update, bare-digit, bare-puts)
-
   bare-step : (k level : ℕ) (lengths : List ℕ) → map bare_action (step_actions {A = A} k level lengths) ≡ step_actions k level lengths
   bare-step k level lengths = bare-if (passes_at k lengths level) _ _ refl refl
 
@@ -55,7 +53,7 @@ module _ (A : Type 0) where
   bare-compress b k {lengths} e = bare-if b _ _ (bare-walk k 61 0 lengths ∙ ap (compress_actions {A = Unit} k) e) refl
 
   bare-weighted : (k : ℕ) (lengths : List ℕ) (x : A) (weight : ℕ) → map bare_action (weighted_actions k lengths x weight) ≡ weighted_actions {A = Unit} k lengths tt weight
-  bare-weighted k lengths x weight = grind (arith, common_steps, bare-entering, bare-append, bare-compress, bag-by)
+  bare-weighted k lengths x weight = grind (arith, common_steps, bare-append, bare-update, bare-digit, bare-puts, bare-append, bare-compress, bag-by)
 
   -- a merge
   bare-pull : (k : ℕ) (lengths : List ℕ) → map bare_action (pull_actions {A = A} k lengths) ≡ pull_actions k lengths
@@ -72,10 +70,6 @@ module _ (A : Type 0) where
 
   bare-merge : (k : ℕ) (work : Work (List ℕ)) → map bare_action (merge_actions {A = A} k work) ≡ merge_actions k work
   bare-merge k work = grind (arith, common_steps, bare-append, bare-taking, bare-compress, bag-by)
-
-  -- so the level lengths after an update don't depend on the item
-  pub update-lengths : (k : ℕ) (lengths : List ℕ) (x : A) → updated_lengths k lengths x ≡ updated_lengths {A = Unit} k lengths tt
-  update-lengths k lengths x = bag-by (update_actions k lengths x) _ (bare-update k lengths x)
 
   -- nor do those after an update with a weight
   pub weighted-lengths : (k : ℕ) (lengths : List ℕ) (x : A) (weight : ℕ) → weighted_lengths k lengths x weight ≡ weighted_lengths {A = Unit} k lengths tt weight

@@ -1,4 +1,5 @@
 -- KLL sketches do what the rules of their kind say.
+use Rattle.std.proofs.Common.{rules}
 use Rattle.std.proofs.lemmas.Grind.{common_steps}
 use Rattle.std.proofs.Common.{◌≡◌, ◌≢◌, ◌⊎◌, ℕ, ◌+◌, ◌-◌, ◌^◌, ◌==◌, nat_lt, if◌then◌else◌, Bool, true, false, List, Option, None, Some, Result, Ok, Err, refl, sym, ap, ap₂, ◌∙◌, ◌<◌, length, min, inl, inr, arith, eqb-true, Ordering}
 use Rattle.std.specs.Prelude.{◌↔◌, IsTrue, IsErrOf, IfOk, IfErr, OnOk}
@@ -9,11 +10,10 @@ use Rattle.std.specs.Option.{option_to_list}
 use Rattle.std.specs.Ordering.{is_eq}
 use Rattle.std.specs.declared.alloc.Global.{Global}
 use Rattle.std.specs.declared.vec.Vec.{Vec}
-use Rattle.sketch_base.specs.Bag.{Bag, empty_bag}
+use Rattle.sketch_base.specs.Bag.{empty_bag}
 use Rattle.sketch_base.specs.Lengths.{bag_lengths}
 use Rattle.sketch_base.specs.Random.{bits_from}
 use Rattle.sketch_base.specs.Spelling.{SpellingsTie}
-use Rattle.sketch_base.specs.Trace.{Work}
 use Rattle.sketch_base.specs.declared.error.ErrorKind.{ErrorKind}
 use Rattle.sketch_base.specs.declared.error.ErrorKind.TheVariants.{InvalidArgument, InvalidData, OutOfMemory}
 use Rattle.sketch_base.proofs.SpelledItems.{IsPrefixFree}
@@ -31,27 +31,24 @@ use Rattle.quantile_sketches.specs.KllBehaviour.{kll, IsMade, IsImaged, IsLoaded
 use Rattle.quantile_sketches.specs.KllRules.{KllShape, empty_shape, updated_shape, weighted_shape, merged_shape, kll_shape, kll_rules, kll_kind}
 use Rattle.quantile_sketches.specs.Rules.{none_if}
 use Rattle.quantile_sketches.specs.RunSteps.{Refuses, Acts, merge_of, IsFresh, IsReadBack, IsUpdated, IsWeighted, IsRedrawn, IsMerged}
-use Rattle.quantile_sketches.proofs.KllBare.{update-lengths, weighted-lengths, merge-lengths}
+use Rattle.quantile_sketches.proofs.KllBare.{weighted-lengths, merge-lengths}
 use Rattle.quantile_sketches.proofs.KllKind.{shape-same, copy_is}
-use Rattle.quantile_sketches.proofs.KllRuleLaws.{is_bad_weight, bad-weight, taken-weight, merged-some, merged-none}
+use Rattle.quantile_sketches.proofs.KllRuleLaws.{is_bad_weight, taken-weight, merged-some, merged-none}
 use Rattle.quantile_sketches.proofs.CallErrors.{no-err, refuses-by, err-of, unwritten, unread}
 
 -- `none_if` gives nothing exactly if the test holds
 pub unless-none : {B : Type 0} (b : Bool) (made : B) → IsTrue b ↔ (none_if b made ≡ None)
-unless-none true made = (λ t. refl, λ none. refl)
-unless-none false made = (λ t. absurd (false≢true t), λ none. cc)
+unless-none b made = grind (arith, common_steps, false≢true)
 
 -- an image is given, or refused because the sketch has none, or memory runs out
 pub imaged : {H : Type 0} (r : Result (Vec ℕ Global) ErrorKind) → OnOk r H → (IsErrOf r InvalidArgument → ¬ H) → IfErr r (λ e. e ≢ InvalidData) →
     OnOk r H × IfErr r (λ e. ((e ≡ InvalidArgument) × (¬ H)) ⊎ (e ≡ OutOfMemory))
-imaged (Ok v) has denied kind = (has, tt)
-imaged {H} (Err e) has denied kind = (tt, unwritten e (¬ H) (λ is. denied (ap (λ (e : ErrorKind). let r : Result (Vec ℕ Global) ErrorKind = Err e in r) is)) kind)
+imaged r has denied kind = grind (arith, common_steps, unwritten)
 
 -- a call that is always refused
 pub never : {S Source : Type 0} (Shape : Type 0) (does : S → Source → Type 0) (s : S) (coins : Source) (r : Result (Unit {0}) ErrorKind) (t : S) (coins' : Source) →
     IsErrOf r InvalidArgument × (t ≡ s) × (coins' ≡ coins) → Obeys {Shape = Shape} None does s coins r t coins'
-never Shape does s coins (Ok u) t coins' h = absurd (no-err u InvalidArgument h.0)
-never Shape does s coins (Err e) t coins' h = (tt, inl (err-of {T = Unit {0}} e h.0, refl), (h.1, h.2))
+never Shape does s coins r t coins' h = grind (arith, common_steps, no-err, err-of)
 
 module _ {A : Type 0} {cmp : A → A → Ordering} (o : IsTotalOrder cmp) (spelling : A → Option (List ℕ)) where
   fresh-of : (k : ℕ) (shape : Option KllShape) (s : Kll A) → (s.k ≡ k) × (s.n ≡ 0) × (bag_of s ≡ empty_bag) × (s.least ≡ None) × (s.greatest ≡ None) × IsSound cmp s →
@@ -60,14 +57,12 @@ module _ {A : Type 0} {cmp : A → A → Ordering} (o : IsTotalOrder cmp) (spell
 
   made : (k : ℕ) (r : Result (Kll A) ErrorKind) → IsMade cmp spelling k r → IfOk r (IsFresh (kll_kind cmp spelling) ((kll_rules {A = A}).made k)) × IfErr r (Refuses ((kll_rules {A = A}).made k))
   made k (Ok s) h = (fresh-of k _ s h.2 (ap (λ (b : Bool). none_if b (empty_shape k)) (false_from_ne_true _ (λ t. no-err s InvalidArgument (h.0.1 (ltb-true k 8 t))))), tt)
-  made k (Err e) h =
-      (tt, refuses-by (nat_lt k 8) (empty_shape k) e (λ t. err-of {T = Kll A} e (h.0.1 (ltb-true k 8 t))) (λ f. h.1 (omega (arith, ltb-false k 8 f))))
+  made k (Err e) h = (tt, refuses-by (nat_lt k 8) (empty_shape k) e (λ t. err-of {T = Kll A} e (h.0.1 (ltb-true k 8 t))) (λ f. h.1 (omega (arith, ltb-false k 8 f))))
 
   read-back : IsPrefixFree spelling → SpellingsTie cmp spelling → (s : Kll A) (bytes : Vec ℕ Global) (r : Result (Kll A) ErrorKind) → IsImaged cmp spelling s (Ok bytes) →
       IsLoaded cmp spelling bytes.items r →
       IfOk r (IsReadBack (kll_kind cmp spelling) s) × IfErr r (λ e. e ≡ OutOfMemory)
-  read-back free ties s bytes (Ok t) w h =
-      (copy_is o spelling s t (one_sketch_lem o (λ x y. is_eq (cmp x y)) (λ x y. refl) spelling free ties bytes.items s t w.0.1 h.0.0).copied h.0.1, tt)
+  read-back free ties s bytes (Ok t) w h = (copy_is o spelling s t (one_sketch_lem o (λ x y. is_eq (cmp x y)) (λ x y. refl) spelling free ties bytes.items s t w.0.1 h.0.0).copied h.0.1, tt)
   read-back free ties s bytes (Err e) w h = (tt, unread e h.1 (λ d. h.2 d s w.0.1))
 
   some-lengths : (s : Kll A) → IsSound cmp s → 0 < length (bag_lengths (bag_of s))
@@ -78,9 +73,8 @@ module _ {A : Type 0} {cmp : A → A → Ordering} (o : IsTotalOrder cmp) (spell
         Obeys ((kll_rules {A = A}).updated (kll_shape s)) (IsUpdated (kll_kind cmp spelling) bit next s x coins) s coins r t coins'
     taken x s coins (Ok u) t coins' was h =
         let is = h.2.0 in
-        let lengths = update_lengths cmp s.k (bag_of s) x (bits_from bit next coins (coins_of_update s x)) (some-lengths s was) in
         let shape = shape-same (updated_shape (kll_shape s)) (kll_shape t) (sym is.k) (sym is.min_k) (sym is.n)
-        (sym (update-lengths A s.k (bag_lengths (bag_of s)) x) ∙ (sym lengths ∙ alike-lengths o _ (bag_of t) is.bag)) in
+        (sym (grind (arith, common_steps)) ∙ (sym (update_lengths cmp s.k (bag_of s) x (bits_from bit next coins (coins_of_update s x)) (some-lengths s was)) ∙ alike-lengths o _ (bag_of t) is.bag)) in
         let accepted = ne_eqb s.n (2 ^ 64 - 1) (λ e. no-err u InvalidArgument (h.0.1 e)) in
         ((record { shape_is = ap₂ none_if accepted shape; alike = is.bag; least_is = is.least; greatest_is = is.greatest; sound = h.3 }, h.2.1), tt, tt)
     taken x s coins (Err e) t coins' was h = (
@@ -97,10 +91,10 @@ module _ {A : Type 0} {cmp : A → A → Ordering} (o : IsTotalOrder cmp) (spell
         let lengths = weighted_lengths_are cmp o s.k weight (bag_of s) x (bits_from bit next coins (coins_of_weighted s x weight)) (some-lengths s was) in
         let shape = shape-same (weighted_shape (kll_shape s) weight) (kll_shape t) (sym is.k) (sym is.min_k) (sym is.n)
         (sym (weighted-lengths A s.k (bag_lengths (bag_of s)) x weight) ∙ (sym lengths ∙ alike-lengths o _ (bag_of t) is.bag)) in
-        let accepted = false_from_ne_true (is_bad_weight weight s.n) (λ bad. no-err u InvalidArgument (h.0.1 (bad-weight weight s.n bad))) in
+        let accepted = false_from_ne_true (is_bad_weight weight s.n) (λ bad. no-err u InvalidArgument (h.0.1 (grind (arith)))) in
         ((record { shape_is = ap₂ none_if accepted shape; alike = is.bag; least_is = is.least; greatest_is = is.greatest; sound = h.4 }, h.3), tt, tt)
     weighted x weight s coins (Err e) t coins' was h =
-        (tt, refuses-by (is_bad_weight weight s.n) (weighted_shape (kll_shape s) weight) e (λ is. err-of {T = Unit {0}} e (h.0.1 (bad-weight weight s.n is))) good, h.5)
+        (tt, refuses-by (is_bad_weight weight s.n) (weighted_shape (kll_shape s) weight) e (λ is. err-of {T = Unit {0}} e (h.0.1 (grind (arith)))) good, h.5)
       where
         good : is_bad_weight weight s.n ≡ false → e ≡ OutOfMemory
         good is = let fits = taken-weight weight s.n is in h.1 fits.0 fits.1 fits.2
@@ -119,18 +113,15 @@ module _ {A : Type 0} {cmp : A → A → Ordering} (o : IsTotalOrder cmp) (spell
         accepted = false_from_ne_true _ (λ heavy. no-err u InvalidArgument (h.0.1 (omega (arith, ltb-true (2 ^ 64 - 1) (s.n + p.n) heavy))))
 
         shape : (if p.n == 0 then kll_shape s else merged_shape (kll_shape s) (kll_shape p)) ≡ kll_shape t
-        shape =
-            elim (cases_lt 0 p.n) [
-              | inl some ↦
-                  let is = h.3 some in
-                  let work : Work (Bag A) = record { bag = bag_of s; scratch = bag_of p } in
-                  let lengths = merge_lengths cmp s.k work (bits_from bit next coins (coins_of_merge s p)) (some-lengths s was) in
-                  merged-some (kll_shape s) (kll_shape p) some
-                  ∙ shape-same (merged_shape (kll_shape s) (kll_shape p)) (kll_shape t) (sym is.k)
-                  (ap (λ (n : ℕ). if nat_lt 1 n then min s.min_k p.min_k else s.min_k) (length-lengths p.levels) ∙ sym is.min_k) (sym is.n)
-                  (sym (merge-lengths A s.k (record { bag = bag_lengths (bag_of s); scratch = bag_lengths (bag_of p) })) ∙ (sym lengths ∙ alike-lengths o _ (bag_of t) is.bag))
-              | inr none ↦ merged-none (kll_shape s) (kll_shape p) (omega arith) ∙ ap kll_shape (sym (h.2 (omega arith)).1)
-            ]
+        shape = elim (cases_lt 0 p.n) [
+          | inl some ↦
+              let is = h.3 some in
+              let lengths = merge_lengths cmp s.k (record { bag = bag_of s; scratch = bag_of p }) (bits_from bit next coins (coins_of_merge s p)) (some-lengths s was) in
+              merged-some (kll_shape s) (kll_shape p) some ∙ shape-same (merged_shape (kll_shape s) (kll_shape p)) (kll_shape t) (sym is.k)
+              (ap (λ (n : ℕ). if nat_lt 1 n then min s.min_k p.min_k else s.min_k) (length-lengths p.levels) ∙ sym is.min_k) (sym is.n)
+              (sym (merge-lengths A s.k (record { bag = bag_lengths (bag_of s); scratch = bag_lengths (bag_of p) })) ∙ (sym lengths ∙ alike-lengths o _ (bag_of t) is.bag))
+          | inr none ↦ merged-none (kll_shape s) (kll_shape p) (omega arith) ∙ ap kll_shape (sym (h.2 (omega arith)).1)
+        ]
     joined false p s coins (Err e) t coins' was h = (
       tt,
       refuses-by (nat_lt (2 ^ 64 - 1) (s.n + p.n)) _ e (λ t. err-of {T = Unit {0}} e (h.0.1 (omega (arith, ltb-true (2 ^ 64 - 1) (s.n + p.n) t))))
@@ -146,8 +137,7 @@ module _ {A : Type 0} {cmp : A → A → Ordering} (o : IsTotalOrder cmp) (spell
         (λ t. n.0 (too-much (h.0 t)), λ none. h.1 (inr (omega (arith, ltb-true (2 ^ 64 - 1) (s.n + p.n) (n.1 none)))))
       where
         too-much : IsTrue false ⊎ IsTooHeavy cmp spelling s p → nat_lt (2 ^ 64 - 1) (s.n + p.n) ≡ true
-        too-much (inl f) = absurd (false≢true f)
-        too-much (inr heavy) = lt-ltb (2 ^ 64 - 1) (s.n + p.n) (omega (arith, heavy))
+        too-much h0 = grind (arith, common_steps, false≢true, lt-ltb)
 
     -- so they obey the rules
     pub kll-obeys : IsPrefixFree spelling → SpellingsTie cmp spelling → ObeysRules (kll cmp spelling) (kll_kind cmp spelling) bit next

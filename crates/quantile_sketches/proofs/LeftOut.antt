@@ -1,4 +1,5 @@
 -- The accepted commands of a run give the same plan, streams and coins as all its commands.
+use Rattle.std.proofs.Common.{rules}
 use Rattle.std.proofs.lemmas.Grind.{common_steps}
 use Rattle.std.proofs.Common.{◌≡◌, ℕ, Bool, true, false, ◌==◌, if◌then◌else◌, List, [], ◌∷◌, ◌++◌, length, fold, refl, sym, ap, ap₂, ◌∙◌, subst, arith, append_assoc, append-nil, zero-add, eqb-true}
 use Rattle.std.specs.Prelude.{Contains, ◌↔◌}
@@ -10,7 +11,7 @@ use Rattle.sketch_base.proofs.Changes.{changed-own}
 use Rattle.quantile_sketches.specs.declared.commands.Command.{Command}
 use Rattle.quantile_sketches.specs.declared.commands.Command.TheVariants.{RoundTrip}
 use Rattle.quantile_sketches.specs.RuleLaws.{IsLawful}
-use Rattle.quantile_sketches.specs.Plan.{Plan, start_plan, is_refused, accepted_events, events_of, plan_after, after_commands, plan_of, trace_of}
+use Rattle.quantile_sketches.specs.Plan.{Plan, start_plan, accepted_events, events_of, plan_after, after_commands, plan_of, trace_of}
 use Rattle.quantile_sketches.specs.Refused.{accepted_of, IsRefusedExactly, AreRefused}
 use Rattle.quantile_sketches.specs.Rules.{Rules, Kind}
 use Rattle.quantile_sketches.specs.Run.{accepted_streams, stream_of}
@@ -40,9 +41,6 @@ module _ {A C Shape : Type 0} (rules : Rules A C Shape) where
     drawn_are : coins (events_of rules plan command) ≡ 0
     trace_is : rules.read_back_actions ≡ [] → events_of rules plan command ≡ []
 
-  leaves-refused : (plan : Plan Shape) (command : Command A C) → is_refused rules plan.shapes command ≡ true → Leaves plan command
-  leaves-refused plan command e = grind (arith, common_steps, plan)
-
   -- one more command
   pub state-more : {T : Type 0} (accepted : Plan Shape → T → Command A C → T) (start : T) (done fewer : List (Command A C)) (c : Command A C) → plan_of rules done ≡ plan_of rules fewer →
       after_commands rules accepted start_plan start done ≡ after_commands rules accepted start_plan start fewer →
@@ -69,25 +67,21 @@ module _ {A C Shape : Type 0} (rules : Rules A C Shape) where
 
 -- what a round trip leaves unchanged, it leaves unchanged whether it is refused or not
 state-trip : {T : Type 0} (b : Bool) (x y : T) → y ≡ x → ((if b then x else y) ≡ x) × ((if b then x else y) ≡ y)
-state-trip true x y e = (refl, sym e)
-state-trip false x y e = (e, refl)
+state-trip b x y e = grind (arith, common_steps)
 
 taken : (b : Bool) (P : Type 0) → P ↔ (b ≡ true) → ¬ P → b ≡ false
-taken true P h n = absurd (n (h.1 refl))
-taken false P h n = refl
+taken b P h n = grind (arith, common_steps)
 
 module _ {A C Shape S T : Type 0} (kind : Kind A C Shape S) (word : List Bool) (refused : List ℕ) (before : List (Command A C))
     (accepted : Plan Shape → T → Command A C → T) (trips : (plan : Plan Shape) (state : T) (slot : ℕ) → accepted plan state (RoundTrip slot) ≡ state) (state : T) where
   -- a refused command leaves unchanged what a round trip leaves unchanged
   pub state-left : (command : Command A C) (P : Type 0) → IsRefusedExactly kind word refused before command P → P → after_command kind.look.rules accepted (plan_of kind.look.rules before) state command ≡ state
-  state-left (RoundTrip slot) P h p = (state-trip (is_refused kind.look.rules (plan_of kind.look.rules before).shapes (RoundTrip slot)) state _ (trips (plan_of kind.look.rules before) state slot)).0
-  state-left command P h p = ap (λ (b : Bool). if b then state else accepted (plan_of kind.look.rules before) state command) (h.0 p)
+  state-left command P h p = grind (arith, common_steps, state-trip)
 
   -- and an accepted one changes it as `accepted` does
   pub state-taken : (command : Command A C) (P : Type 0) → IsRefusedExactly kind word refused before command P → ¬ P →
       after_command kind.look.rules accepted (plan_of kind.look.rules before) state command ≡ accepted (plan_of kind.look.rules before) state command
-  state-taken (RoundTrip slot) P h n = (state-trip (is_refused kind.look.rules (plan_of kind.look.rules before).shapes (RoundTrip slot)) state _ (trips (plan_of kind.look.rules before) state slot)).1
-  state-taken command P h n = ap (λ (b : Bool). if b then state else accepted (plan_of kind.look.rules before) state command) (taken _ P h n)
+  state-taken command P h n = grind (arith, common_steps, state-trip, taken)
 
 -- a relation that still holds if a refused command is left out holds between a run's commands and its accepted ones
 module _ {A C Shape S : Type 0} (kind : Kind A C Shape S) (word : List Bool) (commands : List (Command A C)) (refused : List ℕ) (are : AreRefused kind word commands refused)
@@ -96,8 +90,7 @@ module _ {A C Shape S : Type 0} (kind : Kind A C Shape S) (word : List Bool) (co
     IsRefusedExactly kind word refused done c (Contains refused (length done)) → Contains refused (length done) → R done fewer → R (done ++ c ∷ []) fewer) where
   pub left-by : (done rest : List (Command A C)) → commands ≡ done ++ rest → R done (accepted_of refused done) → R commands (accepted_of refused commands)
   left-by done [] at h = subst (λ (l : List (Command A C)). R l (accepted_of refused l)) (sym (at ∙ append-nil done)) h
-  left-by done (c ∷ rest) at h =
-      left-by (done ++ c ∷ []) rest (at ∙ sym (append_assoc done (c ∷ []) rest))
+  left-by done (c ∷ rest) at h = left-by (done ++ c ∷ []) rest (at ∙ sym (append_assoc done (c ∷ []) rest))
       (subst (R (done ++ c ∷ [])) (sym (without-more refused 0 (length done) done c (zero-add (length done)))) (add (is_among (length done) refused) refl))
     where
       add : (b : Bool) → is_among (length done) refused ≡ b → R (done ++ c ∷ []) (accepted_of refused done ++ (if b then [] else c ∷ []))
@@ -109,23 +102,20 @@ module _ {A C Shape S : Type 0} (kind : Kind A C Shape S) (word : List Bool) (co
 module _ {A C Shape S : Type 0} {kind : Kind A C Shape S} (lawful : IsLawful kind) where
   -- a round trip changes nothing that is planned
   leaves-trip : (plan : Plan Shape) (slot : ℕ) → Leaves kind.look.rules plan (RoundTrip slot)
-  leaves-trip plan slot = grind (arith, common_steps, plan, leaves-refused, changed-own, coins-at)
+  leaves-trip plan slot = grind (arith, common_steps, plan, changed-own, coins-at)
 
   -- nor does a refused command
   leaves : (word : List Bool) (refused : List ℕ) (before : List (Command A C)) (command : Command A C) (P : Type 0) → IsRefusedExactly kind word refused before command P → P →
       Leaves kind.look.rules (plan_of kind.look.rules before) command
-  leaves word refused before (RoundTrip slot) P h p = leaves-trip (plan_of kind.look.rules before) slot
-  leaves word refused before command P h p = leaves-refused kind.look.rules (plan_of kind.look.rules before) command (h.0 p)
+  leaves word refused before command P h p = grind (arith, common_steps, leaves-trip)
 
   -- a command that is refused may be left out
   pub left-refused : (word : List Bool) (refused : List ℕ) (done fewer : List (Command A C)) (command : Command A C) (P : Type 0) → IsRefusedExactly kind word refused done command P → P →
       IsLeftOut kind.look.rules done fewer → IsLeftOut kind.look.rules (done ++ command ∷ []) fewer
-  left-refused word refused done fewer command P h p l =
-      left-same kind.look.rules done fewer l command (leaves word refused done command P h p)
+  left-refused word refused done fewer command P h p l = left-same kind.look.rules done fewer l command (leaves word refused done command P h p)
       (state-left kind word refused done (λ plan. accepted_streams) (λ plan streams slot. refl) (stream_of kind.look.rules done) command P h p)
 
   -- all refused commands may be left out
   pub left-out : (word : List Bool) (commands : List (Command A C)) (refused : List ℕ) → AreRefused kind word commands refused → IsLeftOut kind.look.rules commands (accepted_of refused commands)
-  left-out word commands refused are =
-      left-by kind word commands refused are (IsLeftOut kind.look.rules) (left-more kind.look.rules)
+  left-out word commands refused are = left-by kind word commands refused are (IsLeftOut kind.look.rules) (left-more kind.look.rules)
       (λ done fewer command. left-refused word refused done fewer command (Contains refused (length done))) [] commands refl (record { plan = refl; streams = refl; drawn = refl; trace = λ z. refl })

@@ -1,4 +1,5 @@
 -- The level lengths and the coins of runs depend on no item and no bit.
+use Rattle.std.proofs.Common.{rules}
 use Rattle.std.proofs.Common.{ℕ, List, sym, ap, ◌∙◌, Ordering}
 use Rattle.sketch_base.specs.Trace.{Event, World}
 use Rattle.quantile_sketches.specs.RuleLaws.{AreLawful}
@@ -13,7 +14,6 @@ pub hangs-on-none : {A C Shape : Type 0} {rules : Rules A C Shape} {Meets : Even
     {bare_rules : Rules Unit C Shape} → AreBare rules bare_rules → (cmp : A → A → Ordering) → LengthsHangOnNoItem rules cmp
 hangs-on-none {Shape = Shape} laws are cmp commands commands' same = (
   same-coins are commands commands' same,
-  λ word word' slot.
-      ap (λ (w : World (List ℕ)). w.slots slot)
+  λ word word' slot. ap (λ (w : World (List ℕ)). w.slots slot)
       (run-lengths laws cmp commands word ∙ (ap (λ (p : Plan Shape). p.lengths) (same-plan are commands commands' same) ∙ sym (run-lengths laws cmp commands' word'))),
 )

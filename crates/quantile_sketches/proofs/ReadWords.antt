@@ -5,8 +5,7 @@ use Rattle.quantile_sketches.specs.LineWords.{then_word}
 
 module _ {A B : Type 0} (read : List ℕ → Option A) (next : A → List (List ℕ) → Option B) where
   -- the first word is read
-  pub then-read : (ws ws' : List (List ℕ)) (a : A) {r : Option B} → Some a ≡ option_and_then read (slice_get ws 0) → ws' ≡ drop 1 ws → r ≡ next a ws' →
-      r ≡ then_word read next ws
+  pub then-read : (ws ws' : List (List ℕ)) (a : A) {r : Option B} → Some a ≡ option_and_then read (slice_get ws 0) → ws' ≡ drop 1 ws → r ≡ next a ws' → r ≡ then_word read next ws
   then-read [] ws' a is rest e = absurd cc
   then-read (w ∷ ws) ws' a is rest e = e ∙ (ap (next a) rest ∙ ap (option_and_then (λ a. next a ws)) is)
 
@@ -16,13 +15,8 @@ module _ {A B : Type 0} (read : List ℕ → Option A) (next : A → List (List 
   then-none (w ∷ ws) e none = e ∙ ap (option_and_then (λ a. next a ws)) none
 
 -- a word that is read, and what it says
-pub word-read : {A : Type 0} (read : List ℕ → Option A) (ws : List (List ℕ)) {w : List ℕ} {r : Option A} → Some w ≡ slice_get ws 0 → r ≡ read w →
-    r ≡ option_and_then read (slice_get ws 0)
+pub word-read : {A : Type 0} (read : List ℕ → Option A) (ws : List (List ℕ)) {w : List ℕ} {r : Option A} → Some w ≡ slice_get ws 0 → r ≡ read w → r ≡ option_and_then read (slice_get ws 0)
 word-read read ws is e = e ∙ ap (option_and_then read) is
-
-pub no-word : {A : Type 0} (read : List ℕ → Option A) (ws : List (List ℕ)) {r : Option A} → r ≡ None → None ≡ slice_get ws 0 →
-    r ≡ option_and_then read (slice_get ws 0)
-no-word read ws e none = e ∙ ap (option_and_then read) none
 
 -- which of two names a word is
 module _ {A : Type 0} (x y : A) {a t : Bool} (b : Bool) (first : t ≡ a) where

@@ -50,10 +50,9 @@ module _ {A : Type 0} {cmp : A → A → Ordering} (o : IsTotalOrder cmp) (spell
     weights-are : AreWeights req_rules cmp y criteria commands slot weights
     weights-are number inside =
         let (weight, there, (refused, r, e)) = are number inside in
-        let word = word_of bits number in
-        let left = (req-left-out o spelling word refused commands r).trace in
+        let left = (req-left-out o spelling (word_of bits number) refused commands r).trace in
         there ∙ ap Some (e ∙ ap (λ (levels : List (List A)). count_by (counted cmp y criteria) (sort cmp (repeated 0 levels)))
-        (sym (same (trace_of req_rules (accepted_of refused commands)) left word)))
+        (sym (same (trace_of req_rules (accepted_of refused commands)) left (word_of bits number))))
 
     -- and sum to the true rank times the number of words if the slot is unbiased
     weights-sum : IsUnbiased req_rules cmp commands bits slot (counted cmp y criteria) → sum weights ≡ length weights * truth
@@ -89,12 +88,10 @@ module _ {A : Type 0} {cmp : A → A → Ordering} (o : IsTotalOrder cmp) (spell
   pub weights-exact : off_tail_at cmp y criteria commands slot ≤ 3 * tails_of commands slot → All (λ weight. weight ≡ truth) weights
   weights-exact few number d inside =
       let (weight, there, (refused, r, e)) = are number (omega (arith, inside, words)) in
-      let word = word_of bits number in
       let fewer = accepted_of refused commands in
-      let l = req-left-out o spelling word refused commands r in
-      let enough =
-      subst (λ (p : Plan ReqShape). OnTail p (stream_of req_rules fewer) (tails_of fewer)) l.left.plan
+      let l = req-left-out o spelling (word_of bits number) refused commands r in
+      let enough = subst (λ (p : Plan ReqShape). OnTail p (stream_of req_rules fewer) (tails_of fewer)) l.left.plan
       (subst (λ (f : ℕ → List A). OnTail (plan_of req_rules commands) f (tails_of fewer)) l.left.streams
       (subst (λ (t : ℕ → ℕ). OnTail (plan_of req_rules commands) (stream_of req_rules commands) t) l.tails few)) in
       get_or_from_slice_get weights number weight d there
-      ∙ (e ∙ (run-exact o y criteria fewer word slot enough ∙ ap (λ (f : ℕ → List A). true_rank cmp y criteria (f slot)) (sym l.left.streams)))
+      ∙ (e ∙ (run-exact o y criteria fewer (word_of bits number) slot enough ∙ ap (λ (f : ℕ → List A). true_rank cmp y criteria (f slot)) (sym l.left.streams)))

@@ -69,15 +69,13 @@ module _ {A : Type 0} {cmp : A → A → Ordering} (o : IsTotalOrder cmp) where
   module _ (spelling : A → Option (List ℕ)) where
     -- a copy
     pub copy_is : (s t : Req A) → IsSameSketch cmp s t → IsSound cmp t → IsPlainCopy (req_kind cmp spelling) s t
-    copy_is s t c sound =
-        let levels = c.levels in
-        record {
-          shape_is = same-shape _ _ _ _ _ _ _ _ c.k c.accuracy c.n (same-layouts s.levels t.levels levels);
-          alike = same-bag s.levels t.levels levels;
-          least_is = c.least;
-          greatest_is = c.greatest;
-          sound = sound;
-        }
+    copy_is s t c sound = record {
+      shape_is = same-shape _ _ _ _ _ _ _ _ c.k c.accuracy c.n (same-layouts s.levels t.levels c.levels);
+      alike = same-bag s.levels t.levels c.levels;
+      least_is = c.least;
+      greatest_is = c.greatest;
+      sound = sound;
+    }
 
     -- what is read back
     pub read_is : (s t : Req A) → IsSameSketch cmp (without_coins s) t → IsSound cmp t → IsReadBack (req_kind cmp spelling) s t

@@ -19,16 +19,14 @@ module _ {A : Type 0} (cmp : A → A → Ordering) where
   -- for every list of commands
   pub run-unbiased_where_fair : WithEnoughBits (req_rules {A = A}) (AreUnbiasedWhere req_rules cmp is_fair_slot)
   run-unbiased_where_fair commands length enough slot test fair =
-      let trace = trace_of req_rules commands in
       let legal = run-legal (req_lawful {A = A}) commands in
-      fair_is_unbiased cmp test trace length slot legal.scratch (along-even (req_lawful {A = A}) trace start_lengths legal.meets) fair enough
+      fair_is_unbiased cmp test (trace_of req_rules commands) length slot legal.scratch (along-even (req_lawful {A = A}) (trace_of req_rules commands) start_lengths legal.meets) fair enough
       ∙ ap (λ n. 2 ^ length * n) (run-ranks (req_lawful {A = A}) test commands slot)
 
   -- its items are the same whatever round trips are left out
   pub fair-shed : (commands : List (ReqCommand A)) (slot : ℕ) → is_fair_slot commands slot ≡ true → (fewer : List (Event A)) → Sheds (trace_of req_rules commands) fewer → (word : List Bool) →
       ((play cmp (trace_of req_rules commands) word start).slots slot).levels ≡ ((play cmp fewer word start).slots slot).levels
   fair-shed commands slot fair fewer sheds word =
-      let trace = trace_of req_rules commands in
       let legal = run-legal (req_lawful {A = A}) commands in
-      shed-same cmp slot trace fewer sheds none_drawn start_lengths fair legal.scratch (along-even (req_lawful {A = A}) trace start_lengths legal.meets) word start start
+      shed-same cmp slot (trace_of req_rules commands) fewer sheds none_drawn start_lengths fair legal.scratch (along-even (req_lawful {A = A}) (trace_of req_rules commands) start_lengths legal.meets) word start start
       (record { lengths_are = refl; lengths_are' = refl; slots = λ i reached. record { levels = refl; sorted = refl; kept = λ h drawn. refl }; scratch = λ reached. refl })

@@ -32,8 +32,7 @@ module _ {A : Type 0} {cmp : A → A → Ordering} (o : IsTotalOrder cmp) where
 
   -- actions that leave the scratch alone, whatever is in it
   alike-own : (actions : List (Action A)) (word : List Bool) (a b : Work (Bag A)) → AreOwn actions → AlikeReq cmp a.bag b.bag → AlikeReq cmp (acts cmp actions word a).bag (acts cmp actions word b).bag
-  alike-own actions word a b own was =
-      rw (own-bag cmp actions word a (alone a.bag) own refl, own-bag cmp actions word b (alone b.bag) own refl)
+  alike-own actions word a b own was = rw (own-bag cmp actions word a (alone a.bag) own refl, own-bag cmp actions word b (alone b.bag) own refl)
       (acts-req o actions word (alone a.bag) (alone b.bag) (own-req actions own) was (alike-refl o empty_bag))
 
   update-alike : (x y : A) → cmp x y ≡ Equal → (k : ℕ) (accuracy : RankAccuracy) (ls : List Layout) (word : List Bool) (a b : Work (Bag A)) → AlikeReq cmp a.bag b.bag →

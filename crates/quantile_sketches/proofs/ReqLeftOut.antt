@@ -2,13 +2,12 @@
 -- round trips.
 use Rattle.std.proofs.Common.{arith}
 use Rattle.std.proofs.lemmas.Grind.{common_steps}
-use Rattle.std.proofs.Common.{◌≡◌, ℕ, Bool, if◌then◌else◌, List, [], ◌∷◌, ◌++◌, length, Option, refl, sym, ap, ◌∙◌, subst, append-nil, Ordering}
+use Rattle.std.proofs.Common.{◌≡◌, ℕ, Bool, List, [], ◌∷◌, ◌++◌, length, Option, refl, sym, ap, ◌∙◌, subst, append-nil, Ordering}
 use Rattle.std.specs.Prelude.{Contains}
 use Rattle.std.specs.Cmp.{IsTotalOrder}
 use Rattle.sketch_base.specs.Trace.{Event}
 use Rattle.sketch_base.proofs.Picks.{Sheds, none, shed, sheds-none, sheds-append}
-use Rattle.quantile_sketches.specs.declared.commands.Command.TheVariants.{RoundTrip}
-use Rattle.quantile_sketches.specs.Plan.{Plan, start_plan, accepted_events, events_of, plan_of, trace_of}
+use Rattle.quantile_sketches.specs.Plan.{Plan, start_plan, events_of, plan_of, trace_of}
 use Rattle.quantile_sketches.specs.Refused.{accepted_of, IsRefusedExactly, AreRefused}
 use Rattle.quantile_sketches.specs.ReqKind.{req_kind}
 use Rattle.quantile_sketches.specs.ReqPlan.{ReqCommand, accepted_tails, tails_of, no_tails}
@@ -26,8 +25,7 @@ module _ {A : Type 0} {cmp : A → A → Ordering} (o : IsTotalOrder cmp) (spell
   -- a refused command gives no event, except a round trip's Forget
   sheds-left : (before : List (ReqCommand A)) (c : ReqCommand A) (P : Type 0) → IsRefusedExactly (req_kind cmp spelling) word refused before c P → P →
       Sheds (events_of req_rules (plan_of req_rules before) c) []
-  sheds-left before (RoundTrip slot) P h p = grind (arith, common_steps, none, shed)
-  sheds-left before c P h p = subst (λ (b : Bool). Sheds (if b then [] else accepted_events req_rules (plan_of req_rules before) c) []) (sym (h.0 p)) none
+  sheds-left before c P h p = grind (arith, common_steps, none, shed)
 
   sheds-more : (done fewer : List (ReqCommand A)) (c : ReqCommand A) (events trace : List (Event A)) → trace_of req_rules fewer ++ events ≡ trace → IsLeftOutReq done fewer →
       Sheds (events_of req_rules (plan_of req_rules done) c) events → Sheds (trace_of req_rules (done ++ c ∷ [])) trace
@@ -35,18 +33,16 @@ module _ {A : Type 0} {cmp : A → A → Ordering} (o : IsTotalOrder cmp) (spell
 
   -- all refused commands may be left out, and all that is known of REQ slots stays the same
   pub req-left-out : (commands : List (ReqCommand A)) → AreRefused (req_kind cmp spelling) word commands refused → IsLeftOutReq commands (accepted_of refused commands)
-  req-left-out commands are =
-      left-by (req_kind cmp spelling) word commands refused are IsLeftOutReq more same [] commands refl
+  req-left-out commands are = left-by (req_kind cmp spelling) word commands refused are IsLeftOutReq more same [] commands refl
       (record { left = record { plan = refl; streams = refl; drawn = refl; trace = λ z. refl }; tails = refl; trace = none })
     where
       more : (done fewer : List (ReqCommand A)) (c : ReqCommand A) → IsLeftOutReq done fewer → IsLeftOutReq (done ++ c ∷ []) (fewer ++ c ∷ [])
       more done fewer c h =
           let events = events_of req_rules (plan_of req_rules done) c in
-          let same : events ≡ events_of req_rules (plan_of req_rules fewer) c = ap (λ (p : Plan ReqShape). events_of req_rules p c) h.left.plan in
           record {
             left = left-more req_rules done fewer c h.left;
             tails = state-more req_rules (λ plan. accepted_tails plan.shapes) no_tails done fewer c h.left.plan h.tails;
-            trace = sheds-more done fewer c _ _ (sym (trace-more req_rules fewer c)) h (subst (Sheds events) same (sheds-none events));
+            trace = sheds-more done fewer c _ _ (sym (trace-more req_rules fewer c)) h (subst (Sheds events) (ap (λ (p : Plan ReqShape). events_of req_rules p c) h.left.plan) (sheds-none events));
           }
 
       same : (done fewer : List (ReqCommand A)) (c : ReqCommand A) → IsRefusedExactly (req_kind cmp spelling) word refused done c (Contains refused (length done)) → Contains refused (length done) →
@@ -55,8 +51,7 @@ module _ {A : Type 0} {cmp : A → A → Ordering} (o : IsTotalOrder cmp) (spell
           let P : Type 0 = Contains refused (length done) in
           record {
             left = left-refused (req_kind_lawful o spelling) word refused done fewer c P exact there h.left;
-            tails =
-                after-append req_rules (λ plan. accepted_tails plan.shapes) start_plan no_tails done c
+            tails = after-append req_rules (λ plan. accepted_tails plan.shapes) start_plan no_tails done c
                 ∙ (state-left (req_kind cmp spelling) word refused done (λ plan. accepted_tails plan.shapes) (λ plan tails slot. refl) (tails_of done) c P exact there ∙ h.tails);
             trace = sheds-more done fewer c [] _ (append-nil (trace_of req_rules fewer)) h (sheds-left done c P exact there);
           }

@@ -1,10 +1,10 @@
 -- REQ's merges, with coins redrawn or not, don't change true ranks, nor do redraws, which lead to the same layouts.
 use Rattle.std.proofs.Common.{arith}
 use Rattle.std.proofs.lemmas.Grind.{common_steps}
-use Rattle.std.proofs.Common.{◌≡◌, ℕ, suc, zero, Bool, true, false, List, [], ◌∷◌, ◌++◌, length, append-nil, refl, ◌∙◌}
+use Rattle.std.proofs.Common.{◌≡◌, ℕ, suc, zero, Bool, true, List, [], ◌∷◌, ◌++◌, append-nil, refl}
 use Rattle.sketch_base.specs.Ranks.{true_ranks}
 use Rattle.sketch_base.specs.Trace.{Action, joins_actions, events_at}
-use Rattle.sketch_req.specs.Schedule.{Layout, joined_layouts, redraws_from, redraw_actions, actions_if_full, merge_actions_by}
+use Rattle.sketch_req.specs.Schedule.{Layout, redraws_from, redraw_actions, actions_if_full, merge_actions_by}
 use Rattle.sketch_req.specs.ScheduleLaws.{AreLayouts}
 use Rattle.sketch_req.specs.declared.RankAccuracy.{RankAccuracy}
 use Rattle.sketch_req.proofs.LegalWalks.{Leads, leads-none, leads-redraws}
@@ -29,8 +29,7 @@ module _ {A : Type 0} (test : A → Bool) (s : ℕ) where
 
   pub ranks-merge : (redraws : Bool) (k : ℕ) (accuracy : RankAccuracy) (ls others : List Layout) (ranks : ℕ → ℕ) →
       true_ranks test (events_at s (merge_actions_by redraws k accuracy ls others)) ranks ≡ ranks
-  ranks-merge true k accuracy ls others ranks = grind (arith, common_steps, ranks-joins, ranks-redraws, ranks-room)
-  ranks-merge false k accuracy ls others ranks = ranks-joins (length others) 0 _ ranks ∙ ranks-room k accuracy (joined_layouts k ls others) ranks
+  ranks-merge redraws k accuracy ls others ranks = grind (arith, common_steps, ranks-joins, ranks-redraws, ranks-room)
 
 -- Redraws lead to the same layouts
 pub redraw-leads : {A : Type 0} (k : ℕ) (accuracy : RankAccuracy) (ls : List Layout) → AreLayouts k ls → Leads {A = A} k accuracy ls (redraw_actions ls) ls

@@ -1,17 +1,16 @@
 -- REQ sketches do what the rules of their kind say.
+use Rattle.std.proofs.Common.{rules}
 use Rattle.std.proofs.lemmas.Grind.{common_steps}
-use Rattle.std.proofs.Common.{◌≡◌, ◌≢◌, ◌⊎◌, ◌++◌, ℕ, zero, suc, ◌+◌, ◌-◌, ◌%◌, ◌^◌, ◌<◌, ◌≤◌, ◌==◌, ◌&&◌, if◌then◌else◌, Bool, true, false, List, [], ◌∷◌, Option, None, Some, Result, Ok, Err, refl, sym, ap, ap₂, ◌∙◌, inl, inr, arith, eqb-true, le-leb, eq-eqb, Ordering}
+use Rattle.std.proofs.Common.{◌≡◌, ◌≢◌, ◌⊎◌, ◌++◌, ℕ, ◌+◌, ◌-◌, ◌^◌, ◌<◌, ◌≤◌, ◌==◌, if◌then◌else◌, Bool, true, false, List, [], ◌∷◌, Option, None, Some, Result, Ok, Err, refl, sym, ap, ap₂, ◌∙◌, inl, inr, arith, eqb-true, Ordering}
 use Rattle.std.specs.Prelude.{◌↔◌, IsTrue, IfOk, IfErr}
 use Rattle.std.proofs.lemmas.Result.{IfOk-weaker}
 use Rattle.std.proofs.lemmas.Bool.Decides.{nat_tests}
 use Rattle.std.proofs.lemmas.Bool.{cases_Bool, both_ways, eqb-false, false_from_ne_true, false≢true, not-true, or_parts, true_from_ne_false}
-use mathlib.Core.Path.{fun_ext}
-use Rattle.std.specs.Cmp.{IsTotalOrder, tied_itself}
+use Rattle.std.specs.Cmp.{IsTotalOrder}
 use Rattle.std.specs.Option.{option_to_list}
-use Rattle.std.specs.Ordering.{is_gt}
 use Rattle.std.specs.declared.alloc.Global.{Global}
 use Rattle.std.specs.declared.vec.Vec.{Vec}
-use Rattle.sketch_base.specs.Bag.{Bag, empty_bag, retained}
+use Rattle.sketch_base.specs.Bag.{retained}
 use Rattle.sketch_base.specs.Extremes.{IsLeastOf, IsGreatestOf}
 use Rattle.sketch_base.specs.Random.{bits_from, after_draws}
 use Rattle.sketch_base.specs.Spelling.{SpellingsTie}
@@ -20,13 +19,11 @@ use Rattle.sketch_base.specs.declared.error.ErrorKind.TheVariants.{InvalidArgume
 use Rattle.sketch_base.proofs.SpelledItems.{IsPrefixFree}
 use Rattle.sketch_req.specs.Actions.{bag_of, coins_of}
 use Rattle.sketch_req.specs.ImageLaws.{without_coins}
-use Rattle.sketch_req.specs.Level.{Level, fresh}
+use Rattle.sketch_req.specs.Level.{Level}
 use Rattle.sketch_req.specs.Redrawn.{coins_of_redraw}
 use Rattle.sketch_req.specs.Schedule.{Layout, layouts_of, retained_of, merge_layouts}
-use Rattle.sketch_req.specs.Sections.{IsLegalK}
 use Rattle.sketch_req.specs.Sketch.{Req, IsSound}
 use Rattle.sketch_req.specs.declared.RankAccuracy.{RankAccuracy}
-use Rattle.sketch_req.specs.declared.RankAccuracy.TheVariants.{HighRank, LowRank}
 use Rattle.sketch_req.proofs.OneText.{one_sketch}
 use Rattle.sketch_req.proofs.Rank.{retained_is}
 use Rattle.sketch_req.proofs.Redraws.{layouts-redrawn, redraws-are, redraws-draw}
@@ -41,67 +38,49 @@ use Rattle.quantile_sketches.proofs.CallErrors.{no-err, refuses-by, err-of, unre
 use Rattle.quantile_sketches.proofs.ReqCopies.{same-shape, copy_is, read_is}
 use Rattle.quantile_sketches.proofs.ReqRuleLaws.{may_be_k, not-false, same_accuracy, legal_k, enough_room, merged_as, no_merge}
 
--- a legal k passes the test
-pub may-be : (k : ℕ) → IsLegalK k → may_be_k k ≡ true
-may-be k l = ap₂ (λ (b c : Bool). b && c) (ap₂ (λ (b c : Bool). b && c) (le-leb 4 k l.at_least) (le-leb k 1024 l.at_most)) (eq-eqb (k % 2) 0 l.even)
-
 -- an accuracy is the same as itself
 pub same-itself : (a : RankAccuracy) → is_same a a ≡ true
-same-itself HighRank = refl
-same-itself LowRank = refl
-
--- the number of items that two sketches retain together
-both-retained : {A : Type 0} (s p : Req A) → retained (bag_of s.levels) + retained (bag_of p.levels) ≡ retained_of (layouts_of s.levels) + retained_of (layouts_of p.levels)
-both-retained s p = ap₂ (λ (n m : ℕ). n + m) (retained_is s.levels) (retained_is p.levels)
+same-itself a = grind (arith, common_steps)
 
 -- a merge that the rules refuse
 unfit : {A : Type 0} (s p : Req A) → no_merge (req_shape s) (req_shape p) ≡ true →
     (s.accuracy ≢ p.accuracy) ⊎ ((2 ^ 64 ≤ s.n + p.n) ⊎ (2 ^ 32 ≤ retained (bag_of s.levels) + retained (bag_of p.levels)))
-unfit s p is = grind (arith, common_steps, both-retained, same-itself, nat_tests)
+unfit s p is = grind (arith, common_steps, same-itself, nat_tests)
 
 module _ {A : Type 0} {cmp : A → A → Ordering} (o : IsTotalOrder cmp) (spelling : A → Option (List ℕ)) where
   -- an item is the extreme of itself alone
   own-least : (x : Option A) → IsLeastOf cmp (option_to_list x ++ []) x
-  own-least None = refl
-  own-least (Some x) = record { ties = inl (tied_itself o x); bounds = (ap is_gt (tied_itself o x), tt) }
+  own-least x = grind (arith, common_steps)
 
   own-greatest : (x : Option A) → IsGreatestOf cmp (option_to_list x ++ []) x
-  own-greatest None = refl
-  own-greatest (Some x) = record { ties = inl (tied_itself o x); bounds = (ap is_gt (tied_itself o x), tt) }
+  own-greatest x = grind (arith, common_steps)
 
   no-coins : (level : Level A) → level.coin ≡ false → (h : ℕ) → coins_of (level ∷ []) h ≡ false
-  no-coins level e zero = e
-  no-coins level e (suc h) = refl
-
-  empty-levels : (k : ℕ) (accuracy : RankAccuracy) → bag_of {A = A} (fresh [] true 0 k accuracy ∷ []) ≡ empty_bag
-  empty-levels k accuracy = λ i. let b : Bag A = record { levels = [] ∷ []; is_sorted = false; kept = fun_ext (no-coins (fresh [] true 0 k accuracy) refl) i } in b
+  no-coins level e h = grind (arith, common_steps)
 
   empty-of : (k : ℕ) (accuracy : RankAccuracy) (shape : Option ReqShape) (s : Req A) → IsEmptyOf cmp spelling k accuracy s → shape ≡ Some (new_shape k accuracy) →
       IsFresh (req_kind cmp spelling) shape s
-  empty-of k accuracy shape s is e = grind (arith, common_steps, same-shape, empty-levels)
+  empty-of k accuracy shape s is e = grind (arith, common_steps, same-shape)
 
   made : (config : ℕ × RankAccuracy) (r : Result (Req A) ErrorKind) → IsMade cmp spelling config r →
       IfOk r (IsFresh (req_kind cmp spelling) ((req_rules {A = A}).made config)) × IfErr r (Refuses ((req_rules {A = A}).made config))
-  made config (Ok s) h = grind (arith, common_steps, empty-of, may_be_k, true_from_ne_false, no-err, both_ways, may-be)
-  made config (Err e) h = grind (arith, common_steps, refuses-by, may_be_k, err-of, both_ways, not-true, may-be, legal_k, not-false)
+  made config (Ok s) h = grind (arith, common_steps, empty-of, may_be_k, true_from_ne_false, no-err, both_ways)
+  made config (Err e) h = grind (arith, common_steps, refuses-by, may_be_k, err-of, both_ways, not-true, legal_k, not-false)
 
   read-back : IsPrefixFree spelling → SpellingsTie cmp spelling → (s : Req A) (bytes : Vec ℕ Global) (r : Result (Req A) ErrorKind) → IsImaged cmp spelling s (Ok bytes) →
       IsLoaded cmp spelling bytes.items r →
       IfOk r (IsReadBack (req_kind cmp spelling) s) × IfErr r (λ e. e ≡ OutOfMemory)
-  read-back free ties s bytes (Ok t) w h =
-      (read_is o spelling s t (one_sketch o spelling free ties bytes.items (without_coins s) t [] h.0.0.0 w.0.1 h.0.0.1).0 h.0.1, tt)
+  read-back free ties s bytes (Ok t) w h = (read_is o spelling s t (one_sketch o spelling free ties bytes.items (without_coins s) t [] h.0.0.0 w.0.1 h.0.0.1).0 h.0.1, tt)
   read-back free ties s bytes (Err e) w h = (tt, unread e h.1 (λ d. h.2 d (without_coins s) [] w.0.1))
 
   -- two sketches whose merge the rules accept fit
   fits : (s p : Req A) → IsSound cmp s → IsSound cmp p → no_merge (req_shape s) (req_shape p) ≡ false →
       (s.accuracy ≡ p.accuracy) × (s.n + p.n < 2 ^ 64) × (retained (bag_of s.levels) + retained (bag_of p.levels) < 2 ^ 32)
-  fits s p sound other is = grind (arith, common_steps, same_accuracy, not-false, or_parts, both-retained, nat_tests)
+  fits s p sound other is = grind (arith, common_steps, same_accuracy, not-false, or_parts, nat_tests)
 
   -- sound sketches whose merge the rules accept aren't unfit
   unfit-not : (s p : Req A) → IsSound cmp s → IsSound cmp p → IsUnfit cmp spelling s p → no_merge (req_shape s) (req_shape p) ≡ false → ⊥
-  unfit-not s p sound other (inl differ) is = differ (fits s p sound other is).0
-  unfit-not s p sound other (inr (inl heavy)) is = omega (arith, heavy, (fits s p sound other is).1)
-  unfit-not s p sound other (inr (inr many)) is = omega (arith, many, (fits s p sound other is).2)
+  unfit-not s p sound other h4 is = grind (arith, common_steps, fits)
 
   refuses : (redraws : Bool) (s p : Req A) (answer : Bool) → IsSound cmp s → IsSound cmp p → IsTrue answer ↔ IsUnfit cmp spelling s p →
       IsTrue answer ↔ ((req_rules {A = A}).merged redraws (req_shape s) (req_shape p) ≡ None)
@@ -165,17 +144,14 @@ module _ {A : Type 0} {cmp : A → A → Ordering} (o : IsTotalOrder cmp) (spell
         same = (fits s p was other accepted).0
 
         shape : merged_as (req_shape s) (req_shape p) (if p.n == 0 then layouts_of s.levels else merge_layouts s.k (layouts_of s.levels) (layouts_of p.levels)) ≡ req_shape t
-        shape =
-            elim (cases_Bool (p.n == 0)) [
-              | inl e ↦
-                  let n : s.n + p.n ≡ s.n = omega (arith, eqb-true p.n 0 e) in
-                  rw e (same-shape _ _ _ _ _ _ _ _ refl refl n refl ∙ ap req_shape (sym (h.2 same (eqb-true p.n 0 e)).1))
-              | inr e ↦
-                  let is = h.3 (omega (arith, eqb-false p.n 0 e)) in
-                  rw e (same-shape _ _ _ _ _ _ _ _ (sym is.k) (sym is.accuracy) (sym is.n) (sym is.layouts))
-            ]
-    joined redraws p s coins (Err e) t coins' other was h =
-        (tt, refuses-by (no_merge (req_shape s) (req_shape p)) _ e (λ is. err-of {T = Unit {0}} e (h.0.1 (unfit s p is))) good, h.6)
+        shape = elim (cases_Bool (p.n == 0)) [
+          | inl e ↦
+              rw e (same-shape _ _ _ _ _ _ _ _ refl refl (omega (arith, eqb-true p.n 0 e)) refl ∙ ap req_shape (sym (h.2 same (eqb-true p.n 0 e)).1))
+          | inr e ↦
+              let is = h.3 (omega (arith, eqb-false p.n 0 e)) in
+              rw e (same-shape _ _ _ _ _ _ _ _ (sym is.k) (sym is.accuracy) (sym is.n) (sym is.layouts))
+        ]
+    joined redraws p s coins (Err e) t coins' other was h = (tt, refuses-by (no_merge (req_shape s) (req_shape p)) _ e (λ is. err-of {T = Unit {0}} e (h.0.1 (unfit s p is))) good, h.6)
       where
         good : no_merge (req_shape s) (req_shape p) ≡ false → e ≡ OutOfMemory
         good is = let room = fits s p was other is in h.1 room.0 room.1 room.2

@@ -39,8 +39,7 @@ module _ {A : Type 0} (slot : ℕ) where
   at-one shapes fairs s shape f rest n = grind (arith, common_steps, stands-same, changed-through)
 
   -- if one slot becomes ready, or not ready
-  ready-one : (shapes : ℕ → Option ReqShape) (fairs : ℕ → Fairness) (s : ℕ) (b : Bool) (rest : List (Event A)) →
-      Stand shapes (changed fairs s (with_ready (fairs s) b)) rest →
+  ready-one : (shapes : ℕ → Option ReqShape) (fairs : ℕ → Fairness) (s : ℕ) (b : Bool) (rest : List (Event A)) → Stand shapes (changed fairs s (with_ready (fairs s) b)) rest →
       Stands slot (layouts_in shapes) (changed (λ j. (fairs j).is_ready) s b) (λ j. (fairs j).is_fair) rest
   ready-one shapes fairs s b rest n = grind (arith, common_steps, stands-same, changed-through, changed-own)
 
@@ -58,18 +57,15 @@ module _ {A : Type 0} (slot : ℕ) where
       taken : (redraws : Bool) → Stand (changed shapes into (Some (merged_as s other (merge_layouts s.k s.layouts other.layouts))))
           (changed fairs into (merged_fairness redraws s other (fairs into) (fairs source))) rest →
           Stand shapes fairs (events_merged redraws s other into source ++ rest)
-      taken true n =
-          stands-merge_redrawn slot s.k s.accuracy source into (layouts_in shapes) (λ j. (fairs j).is_ready) (λ j. (fairs j).is_fair) rest
+      taken true n = stands-merge_redrawn slot s.k s.accuracy source into (layouts_in shapes) (λ j. (fairs j).is_ready) (λ j. (fairs j).is_fair) rest
           (at-one shapes fairs into _ (merged_fairness true s other (fairs into) (fairs source)) rest n)
-      taken false n =
-          stands-merge slot s.k s.accuracy source into (layouts_in shapes) (λ j. (fairs j).is_ready) (λ j. (fairs j).is_fair) rest
+      taken false n = stands-merge slot s.k s.accuracy source into (layouts_in shapes) (λ j. (fairs j).is_ready) (λ j. (fairs j).is_fair) rest
           (at-one shapes fairs into _ (merged_fairness false s other (fairs into) (fairs source)) rest n)
 
       go : (b : Bool) → Stand (changed shapes into (Some (merged_as s other (if b then s.layouts else merge_layouts s.k s.layouts other.layouts))))
           (if b then fairs else changed fairs into (merged_fairness redraws s other (fairs into) (fairs source))) rest →
           Stand shapes fairs ((if b then [] else events_merged redraws s other into source) ++ rest)
-      go true n =
-          stands-same slot _ _ _ _ _ _ rest
+      go true n = stands-same slot _ _ _ _ _ _ rest
           (λ j. changed-through shapes (λ (o : Option ReqShape). (shape_in o).layouts) into (Some (merged_as s other s.layouts)) j ∙ changed-own (layouts_in shapes) into j)
           (λ j. refl) (λ j. refl) n
       go false n = taken redraws n
@@ -78,25 +74,19 @@ module _ {A : Type 0} (slot : ℕ) where
       Stand (accepted_req_shapes shapes command) (accepted_fairness shapes fairs command) rest → Stand shapes fairs (accepted_req_events shapes command ++ rest)
   accepted-stands shapes fairs (New s config) rest n = grind (arith, common_steps, stands-clear, at-one)
   accepted-stands shapes fairs (Update s x) rest n =
-      let shape = shape_in (shapes s) in
-      let f = updated_fairness (fairs s) in
-      stands-update slot shape.k shape.accuracy s x (layouts_in shapes) (λ j. (fairs j).is_ready) (λ j. (fairs j).is_fair) rest
+      stands-update slot (shape_in (shapes s)).k (shape_in (shapes s)).accuracy s x (layouts_in shapes) (λ j. (fairs j).is_ready) (λ j. (fairs j).is_fair) rest
       (stands-same slot _ _ _ _ _ _ rest (λ j. refl) (changed-own (λ i. (fairs i).is_ready) s) (λ j. refl)
-      (at-one shapes fairs s (updated_shape shape) f rest n))
+      (at-one shapes fairs s (updated_shape (shape_in (shapes s))) (updated_fairness (fairs s)) rest n))
   accepted-stands shapes fairs (UpdateWeighted s x weight) rest n = n
   accepted-stands shapes fairs (Merge into source) rest n = merge-stands false shapes fairs into source rest n
   accepted-stands shapes fairs (Reset s) rest n = grind (arith, common_steps, stands-clear, at-one)
-  accepted-stands shapes fairs (RoundTrip s) rest n =
-      stands-forget slot s (layouts_in shapes) (λ j. (fairs j).is_ready) (λ j. (fairs j).is_fair) rest (ready-one shapes fairs s false rest n)
-  accepted-stands shapes fairs (Redraw s) rest n =
-      stands-redraw slot s (layouts_in shapes) (λ j. (fairs j).is_ready) (λ j. (fairs j).is_fair) rest (ready-one shapes fairs s true rest n)
+  accepted-stands shapes fairs (RoundTrip s) rest n = stands-forget slot s (layouts_in shapes) (λ j. (fairs j).is_ready) (λ j. (fairs j).is_fair) rest (ready-one shapes fairs s false rest n)
+  accepted-stands shapes fairs (Redraw s) rest n = stands-redraw slot s (layouts_in shapes) (λ j. (fairs j).is_ready) (λ j. (fairs j).is_fair) rest (ready-one shapes fairs s true rest n)
   accepted-stands shapes fairs (MergeRedrawn into source) rest n = merge-stands true shapes fairs into source rest n
 
   stands-before : (plan : Plan ReqShape) (fairs : ℕ → Fairness) (command : ReqCommand A) (rest : List (Event A)) →
       Stand (plan_after req_rules plan command).shapes (fairness_after plan fairs command) rest → Stand plan.shapes fairs (events_of req_rules plan command ++ rest)
-  stands-before plan fairs command rest =
-      either-way plan command
-      (λ (refused : Bool) (shapes : ℕ → Option ReqShape) (events : List (Event A)).
+  stands-before plan fairs command rest = either-way plan command (λ (refused : Bool) (shapes : ℕ → Option ReqShape) (events : List (Event A)).
       Stand shapes (if refused then fairs else accepted_fairness plan.shapes fairs command) rest → Stand plan.shapes fairs (events ++ rest))
       (λ n. n) (λ e. accepted-stands plan.shapes fairs command rest)
 

@@ -1,20 +1,19 @@
 -- REQ's rules are lawful.
+use Rattle.std.proofs.Common.{rules}
 use Rattle.std.proofs.lemmas.Grind.{common_steps}
 use Rattle.std.proofs.Common.{◌%◌, ◌≡◌, ℕ, ◌+◌, ◌^◌, ◌<◌, ◌≤◌, Bool, true, false, ◌||◌, ◌&&◌, ◌==◌, not, if◌then◌else◌, List, [], ◌∷◌, append-nil, sum, Some, refl, sym, ap, ◌∙◌, subst, arith, nat_le}
 use Rattle.std.proofs.lemmas.Bool.Decides.{nat_tests}
 use Rattle.std.proofs.lemmas.Bool.{false≢true, ne_eqb, or_parts}
 pub use Rattle.std.proofs.lemmas.Bool.{not-false}
-use Rattle.sketch_base.specs.Bag.{AllButLeftover}
 use Rattle.sketch_base.specs.Lengths.{acts_on_lengths, lengths_after, Along, LeavesTail}
 use Rattle.sketch_base.specs.Ranks.{true_ranks}
-use Rattle.sketch_base.specs.Trace.{Action, Compact, Event, Snap, At, Work, World, events_at}
+use Rattle.sketch_base.specs.Trace.{Action, Event, Snap, Work, World, events_at}
 use Rattle.sketch_base.proofs.Changes.{changed-there, changed-itself}
 use Rattle.sketch_base.proofs.Lengths.{obeys}
 use Rattle.sketch_req.specs.Schedule.{Layout, counts_of, retained_of, update_actions, update_layouts, redraw_actions, merge_layouts, merge_actions_by}
 use Rattle.sketch_req.specs.ScheduleLaws.{IsLegalFrom}
 use Rattle.sketch_req.specs.Sections.{IsLegalK}
 use Rattle.sketch_req.specs.declared.RankAccuracy.{RankAccuracy}
-use Rattle.sketch_req.specs.declared.RankAccuracy.TheVariants.{HighRank, LowRank}
 use Rattle.sketch_req.proofs.WalkCapacities.{update_weighs, merge_weighs, update_two, merge_two, update_few, merge_few, update_retains, merge_retains}
 use Rattle.sketch_req.proofs.LegalLayouts.{new_is, filled_are, joined_are}
 use Rattle.sketch_req.proofs.LegalTraces.{lengths_at, along-even, fits-legal, update_legal, update_lengths, merge_legal, merge_lengths}
@@ -29,9 +28,7 @@ use Rattle.quantile_sketches.proofs.ReqMerges.{redraw-leads, ranks-redraw, ranks
 
 -- accuracies that are found to be the same are equal
 pub same_accuracy : (a b : RankAccuracy) → is_same a b ≡ true → a ≡ b
-same_accuracy HighRank HighRank e = refl
-same_accuracy LowRank LowRank e = refl
-same_accuracy a b e = absurd (false≢true e)
+same_accuracy a b e = grind (arith, common_steps, false≢true)
 
 -- the test of a k; one that passes it is legal
 abbrev pub may_be_k : ℕ → Bool
@@ -101,17 +98,12 @@ too_much s other = is_too_much (s.n + other.n) (retained_of s.layouts + retained
 abbrev pub no_merge : ReqShape → ReqShape → Bool
 no_merge s other = not (is_same s.accuracy other.accuracy) || (not (other.n == 0) && too_much s other)
 
-not-much : (s other : ReqShape) → no_merge s other ≡ false → (other.n == 0) ≡ false → too_much s other ≡ false
-not-much s other e b = ap (λ (none : Bool). not none && too_much s other) (sym b) ∙ (or_parts (not (is_same s.accuracy other.accuracy)) _ e).1
-
 -- ---- legal traces
 
 module _ {A : Type 0} where
   -- a compaction that leaves 3k items leaves at least 0
   leaves-less : (k : ℕ → ℕ) (e : Event A) (world : World (List ℕ)) → LeavesTail k e world → MeetsReq e world
-  leaves-less k (At s (Compact h coin AllButLeftover)) world f = absurd f
-  leaves-less k (At s (Compact h coin taken)) world f = (f.0, f.1, omega (arith, f.2))
-  leaves-less k e world f = tt
+  leaves-less k e world f = grind (arith, common_steps)
 
   along-less : (k : ℕ → ℕ) (trace : List (Event A)) (world : World (List ℕ)) → Along (LeavesTail k) trace world → Along MeetsReq trace world
   along-less k [] world f = tt
@@ -134,13 +126,12 @@ module _ {A : Type 0} where
   update-well : (s t : ReqShape) → (req_rules {A = A}).updated s ≡ Some t → (slot : ℕ) (x : A) (world : World (List ℕ)) → FitsReq s (world.slots slot) → sum world.scratch ≡ 0 →
       DoWell MeetsReq FitsReq slot (update_actions s.k s.accuracy s.layouts x) world t (λ test. if test x then 1 else 0)
   update-well s t e slot x world h z =
-      let u = unless-there _ _ t e in
       let actions : List (Action A) = update_actions s.k s.accuracy s.layouts x in
       let lengths : (acts_on_lengths actions (record { bag = world.slots slot; scratch = world.scratch })).bag ≡ counts_of (update_layouts s.k s.layouts) =
       rw h.lengths_are (ap (λ (w : Work (List ℕ)). w.bag) (update_lengths A s.k s.accuracy s.layouts x world.scratch h.legal h.are)) in
-      rw (← u.1) (record {
+      rw (← (unless-there _ _ t e).1) (record {
         legal = legal (λ i. s.k) (events_at slot actions) world (update_legal A (λ i. s.k) s.accuracy slot s.layouts x world h.legal h.are h.lengths_are z);
-        fits = rw (lengths-there actions world slot _ lengths) (updated_fits s (world.slots slot) h u.0);
+        fits = rw (lengths-there actions world slot _ lengths) (updated_fits s (world.slots slot) h (unless-there _ _ t e).0);
         ranks = λ test ranks. ranks-one test slot s.k s.accuracy s.layouts x ranks;
       })
 
@@ -170,11 +161,9 @@ module _ (A : Type 0) where
       (merge_legal A redraws (λ i. s.k) s.accuracy source into s.layouts other.layouts world h.legal h.are h.lengths_are o.lengths_are z) in
       let lengths : (acts_on_lengths actions (record { bag = world.slots into; scratch = world.slots source })).bag ≡ counts_of (merge_layouts s.k s.layouts other.layouts) =
       rw (h.lengths_are, o.lengths_are) (merge_lengths A redraws s.k s.accuracy s.layouts other.layouts h.legal h.are).1 in
-      let is : merged_as s other (merge_layouts s.k s.layouts other.layouts) ≡ t =
-      ap (λ (b : Bool). merged_as s other (if b then s.layouts else merge_layouts s.k s.layouts other.layouts)) (sym some_n) ∙ u.1 in
-      rw (← is) (record {
+      rw (← (ap (λ (b : Bool). merged_as s other (if b then s.layouts else merge_layouts s.k s.layouts other.layouts)) (sym some_n) ∙ u.1)) (record {
         legal = record { scratch = l.scratch.1; meets = l.meets.1 };
-        fits = rw (lengths-there actions snapped into _ lengths) (merged_fits s other (world.slots into) (world.slots source) h o (not-much s other u.0 some_n));
+        fits = rw (lengths-there actions snapped into _ lengths) (merged_fits s other (world.slots into) (world.slots source) h o (ap (λ (none : Bool). not none && too_much s other) (sym some_n) ∙ (or_parts (not (is_same s.accuracy other.accuracy)) _ u.0).1));
         ranks = λ test ranks. ap (λ (f : ℕ → ℕ). f into) (ranks-merge test into redraws s.k s.accuracy s.layouts other.layouts ranks) ∙ (let n : ranks into ≡ ranks into + 0 = omega arith in n);
       })
 
@@ -192,14 +181,12 @@ module _ {A : Type 0} where
     clears = λ slot world. tt;
     snaps = λ source into world. tt;
     made = λ config t e.
-        let u = unless-there _ _ t e in
-        (ap (λ (s : ReqShape). s.n) (sym u.1), subst (λ (s : ReqShape). FitsReq s (0 ∷ [])) u.1 (new_fits config.0 config.1 (legal_k config.0 (not-false _ u.0))));
+        (ap (λ (s : ReqShape). s.n) (sym (unless-there _ _ t e).1), subst (λ (s : ReqShape). FitsReq s (0 ∷ [])) (unless-there _ _ t e).1 (new_fits config.0 config.1 (legal_k config.0 (not-false _ (unless-there _ _ t e).0))));
     emptied = λ s. refl;
     emptied_fits = λ s lengths h. new_fits s.k s.accuracy h.legal;
     updated = λ s t e.
-        let u = unless-there _ _ t e in
-        let n : t.n ≡ s.n + 1 = ap (λ (shape : ReqShape). shape.n) (sym u.1) in
-        (n, λ few. let r : (s.n + 1 < 2 ^ 64) × (retained_of s.layouts + 1 ≤ 4294967295) = enough_room (s.n + 1) (retained_of s.layouts + 1) u.0 in omega (arith, n, r.0));
+        let n : t.n ≡ s.n + 1 = ap (λ (shape : ReqShape). shape.n) (sym (unless-there _ _ t e).1) in
+        (n, λ few. let r : (s.n + 1 < 2 ^ 64) × (retained_of s.layouts + 1 ≤ 4294967295) = enough_room (s.n + 1) (retained_of s.layouts + 1) (unless-there _ _ t e).0 in omega (arith, n, r.0));
     weighted = λ s t weight e. absurd (not-none t e);
     redrawn = λ s t e. ap (λ (shape : ReqShape). shape.n) (sym (some-one s t e));
     merged = merge-counts A;

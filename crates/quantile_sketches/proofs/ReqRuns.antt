@@ -1,5 +1,5 @@
 -- What a run on REQ sketches gives, derived from what every run gives.
-use Rattle.std.proofs.Common.{◌≡◌, ℕ, suc, ◌*◌, ◌^◌, ◌<◌, ◌≤◌, Bool, true, IsTrue, List, [], ◌∷◌, ◌++◌, length, count_by, Option, Some, sym, ap, ◌∙◌, subst, arith, append-nil, Ordering, ap₂, ◌+◌, refl}
+use Rattle.std.proofs.Common.{◌≡◌, ℕ, suc, ◌*◌, ◌^◌, ◌<◌, ◌≤◌, Bool, true, IsTrue, List, [], ◌∷◌, length, count_by, Option, Some, sym, ap, ◌∙◌, subst, arith, append-nil, Ordering, ap₂, ◌+◌, refl}
 use Rattle.std.specs.Prelude.{IsSorted}
 use Rattle.std.specs.Cmp.{IsTotalOrder}
 use Rattle.std.specs.List.{AllByRecursion}
@@ -72,18 +72,15 @@ weigh-any h (level ∷ above) = ap₂ (λ (m n : ℕ). 2 ^ h * m + n) (all-count
 pub req-weight : {A : Type 0} {cmp : A → A → Ordering} → IsTotalOrder cmp → (commands : List (ReqCommand A)) (word : List Bool) (slot : ℕ) →
     weight ((play cmp (trace_of req_rules commands) word start).slots slot) ≡ length (stream_of req_rules commands slot)
 req-weight {A} {cmp} order commands word slot =
-    let any : A → Bool = λ x. true in
     let bag = (play cmp (trace_of req_rules commands) word start).slots slot in
     let legal = run-legal (req_lawful {A = A}) commands in
-    sym (weigh-any 0 bag.levels)
-    ∙ (sym (sum_by-expanded (λ x. 1) cmp bag)
+    sym (weigh-any 0 bag.levels) ∙ (sym (sum_by-expanded (λ x. 1) cmp bag)
     ∙ (weight_is order (trace_of req_rules commands) word slot legal.scratch (along-even (req_lawful {A = A}) (trace_of req_rules commands) start_lengths legal.meets)
-    ∙ (run-ranks (req_lawful {A = A}) any commands slot ∙ all-counted (stream_of req_rules commands slot))))
+    ∙ (run-ranks (req_lawful {A = A}) (λ x. true) commands slot ∙ all-counted (stream_of req_rules commands slot))))
 
 -- the items of a slot that was only updated don't depend on round trips
 pub updated-shed : {A : Type 0} (cmp : A → A → Ordering) (own : List (ReqCommand A)) (slot : ℕ) → was_only_updated own slot ≡ true → (fewer : List (Event A)) →
-    Sheds (trace_of req_rules own) fewer → (word : List Bool) →
-    ((play cmp (trace_of req_rules own) word start).slots slot).levels ≡ ((play cmp fewer word start).slots slot).levels
+    Sheds (trace_of req_rules own) fewer → (word : List Bool) → ((play cmp (trace_of req_rules own) word start).slots slot).levels ≡ ((play cmp fewer word start).slots slot).levels
 updated-shed cmp own slot only fewer sheds word = ap (λ bag. bag.levels) (sym (bag-shed cmp own slot only fewer sheds word))
 
 -- a slot that was only updated is unbiased
@@ -121,10 +118,8 @@ module _ {A : Type 0} {cmp : A → A → Ordering} (o : IsTotalOrder cmp) (spell
   -- sketches have few levels
   pub run-levels : ArePlanned (req_look cmp) commands slots → HaveFewLevels slots
   run-levels planned slot s held many =
-      let f = fits planned slot s held in
-      let n = length-layouts s.levels in
-      let l = upper_weighs (layouts_of s.levels) f.two (omega (arith, many, n)) in
-      subst (λ (m : ℕ). 2 ^ m ≤ s.n) n (omega (arith, l, f.weighs))
+      let l = upper_weighs (layouts_of s.levels) (fits planned slot s held).two (omega (arith, many, length-layouts s.levels)) in
+      subst (λ (m : ℕ). 2 ^ m ≤ s.n) (length-layouts s.levels) (omega (arith, l, (fits planned slot s held).weighs))
 
   -- without merges of items, a sketch retains less than the sum of its nominal capacities
   pub run-small : ArePlanned (req_look cmp) commands slots → AreBelowNominal commands slots
@@ -140,12 +135,8 @@ module _ {A : Type 0} {cmp : A → A → Ordering} (o : IsTotalOrder cmp) (spell
   pub run-images : IsPrefixFree spelling → SpellingsTie cmp spelling → AreSound (req_kind cmp spelling) slots → ReqImagesReadBack cmp spelling slots
   run-images free ties sound slot s held has =
       let text : List ℕ = image_text spelling s in
-      let nil : text ++ [] ≡ text = append-nil text in
-      let written = subst (λ (t : List ℕ). BeginsImage cmp spelling t (without_coins s) []) nil (written_lem spelling s [] (sound slot s held) has.0) in
-      record {
-        written = written;
-        read = λ t rest is. let r = one_sketch o spelling free ties text (without_coins s) t [] rest written is in (r.0, sym r.1);
-      }
+      let written = subst (λ (t : List ℕ). BeginsImage cmp spelling t (without_coins s) []) (append-nil text) (written_lem spelling s [] (sound slot s held) has.0) in
+      record { written = written; read = λ t rest is. let r = one_sketch o spelling free ties text (without_coins s) t [] rest written is in (r.0, sym r.1) }
 
   module _ (word : List Bool) (refused : List ℕ) (are : AreRefused (req_kind cmp spelling) word commands refused) where
     -- what holds for every list of commands holds for the accepted ones

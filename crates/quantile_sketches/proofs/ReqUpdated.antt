@@ -64,8 +64,7 @@ module _ {A : Type 0} where
 
   plain-updates : (k : ℕ) (accuracy : RankAccuracy) (ls : List Layout) (xs : List A) → ArePlain (updates_actions k accuracy ls xs)
   plain-updates k accuracy ls [] = tt
-  plain-updates k accuracy ls (x ∷ xs) =
-      all-append (λ action. IsTrue (is_plain action)) (update_actions k accuracy ls x) (updates_actions k accuracy (update_layouts k ls) xs)
+  plain-updates k accuracy ls (x ∷ xs) = all-append (λ action. IsTrue (is_plain action)) (update_actions k accuracy ls x) (updates_actions k accuracy (update_layouts k ls) xs)
       (plain-update k accuracy ls x) (plain-updates k accuracy (update_layouts k ls) xs)
 
 -- ---- a slot that was only updated
@@ -95,8 +94,7 @@ module _ {A : Type 0} where
   fresh-updated : (slot : ℕ) (s : ReqShape) (trace : List (Event A)) (stream : List A) (x : A) → IsFresh s (picked slot trace) stream →
       IsFresh (updated_shape s) (picked slot (trace ++ events_at slot (update_actions s.k s.accuracy s.layouts x))) (stream ++ x ∷ [])
   fresh-updated slot s trace stream x f = record {
-    actions_are =
-        picked-more slot trace (update_actions s.k s.accuracy s.layouts x) (plain-update s.k s.accuracy s.layouts x)
+    actions_are = picked-more slot trace (update_actions s.k s.accuracy s.layouts x) (plain-update s.k s.accuracy s.layouts x)
         ∙ (ap₂ (λ (before : List (Action A)) (ls : List Layout). before ++ update_actions s.k s.accuracy ls x) f.actions_are f.layouts_are
         ∙ sym (updates_more s.k s.accuracy (new_layout ∷ []) stream x));
     layouts_are = ap (update_layouts s.k) f.layouts_are ∙ sym (layouts_more s.k (new_layout ∷ []) stream x);
@@ -117,21 +115,18 @@ module _ {A : Type 0} where
     where
       go : (b : Bool) → ((shape_in (shapes source)).n == 0) ≡ b →
           let s = shape_in (shapes into) in
-          let other = shape_in (shapes source) in
-          AreOwn (changed shapes into (Some (merged_as s other (if b then s.layouts else merge_layouts s.k s.layouts other.layouts)))) (changed only into (b && only into))
-          (trace ++ (if b then [] else events_merged redraws s other into source)) (changed streams into (streams into ++ streams source))
+          AreOwn (changed shapes into (Some (merged_as s (shape_in (shapes source)) (if b then s.layouts else merge_layouts s.k s.layouts (shape_in (shapes source)).layouts)))) (changed only into (b && only into))
+          (trace ++ (if b then [] else events_merged redraws s (shape_in (shapes source)) into source)) (changed streams into (streams into ++ streams source))
       go true z =
-          let s = shape_in (shapes into) in
-          let merged = merged_as s (shape_in (shapes source)) s.layouts in
+          let merged = merged_as (shape_in (shapes into)) (shape_in (shapes source)) (shape_in (shapes into)).layouts in
           let same : streams into ++ streams source ≡ streams into =
           ap (λ (l : List A). streams into ++ l) (no_stream (shapes source) (streams source) (counts source) z) ∙ append-nil (streams into) in
           own-changed shapes only trace streams h into [] (Some merged) (only into) (streams into ++ streams source) (λ j e. ap (picked j) (append-nil trace))
           (λ t. let f = h into t in rw (same, append-nil trace) (record { actions_are = f.actions_are; layouts_are = f.layouts_are }))
       go false z =
           let s = shape_in (shapes into) in
-          let other = shape_in (shapes source) in
-          own-changed shapes only trace streams h into (events_merged redraws s other into source) _ false (streams into ++ streams source)
-          (λ j e. picked-joined j source into trace (merge_actions_by redraws s.k s.accuracy s.layouts other.layouts) e) (λ t. absurd (false≢true t))
+          own-changed shapes only trace streams h into (events_merged redraws s (shape_in (shapes source)) into source) _ false (streams into ++ streams source)
+          (λ j e. picked-joined j source into trace (merge_actions_by redraws s.k s.accuracy s.layouts (shape_in (shapes source)).layouts) e) (λ t. absurd (false≢true t))
 
   -- a slot that is no longer only updated, after actions that leave its stream unchanged
   ended-own : (shapes : ℕ → Option ReqShape) (only : ℕ → Bool) (trace : List (Event A)) (streams : ℕ → List A) → AreOwn shapes only trace streams → (slot : ℕ) (actions : List (Action A)) →
@@ -165,15 +160,10 @@ module _ {A : Type 0} where
 
   own-after : (plan : Plan ReqShape) (only : ℕ → Bool) (trace : List (Event A)) (streams : ℕ → List A) → AreOwn plan.shapes only trace streams →
       ((j : ℕ) → count_of (req_rules {A = A}) (plan.shapes j) ≡ length (streams j)) → (command : ReqCommand A) →
-      AreOwn (plan_after req_rules plan command).shapes (only_updated_after plan only command)
-      (trace ++ events_of req_rules plan command) (streams_after req_rules plan streams command)
-  own-after plan only trace streams h counts command =
-      either-way plan command
-      (λ (refused : Bool) (shapes : ℕ → Option ReqShape) (events : List (Event A)).
-      AreOwn shapes (if refused then only else accepted_only_updated plan.shapes only command) (trace ++ events)
-      (if refused then streams else accepted_streams streams command))
-      (rw (append-nil trace) h)
-      (λ e. accepted-own plan.shapes only trace streams h counts command)
+      AreOwn (plan_after req_rules plan command).shapes (only_updated_after plan only command) (trace ++ events_of req_rules plan command) (streams_after req_rules plan streams command)
+  own-after plan only trace streams h counts command = either-way plan command (λ (refused : Bool) (shapes : ℕ → Option ReqShape) (events : List (Event A)).
+      AreOwn shapes (if refused then only else accepted_only_updated plan.shapes only command) (trace ++ events) (if refused then streams else accepted_streams streams command))
+      (rw (append-nil trace) h) (λ e. accepted-own plan.shapes only trace streams h counts command)
 
   own-from : (plan : Plan ReqShape) (only : ℕ → Bool) (trace : List (Event A)) (streams : ℕ → List A) → AreOwn plan.shapes only trace streams →
       AreCounted (req_lawful {A = A}) plan streams → (commands : List (ReqCommand A)) →
@@ -181,16 +171,13 @@ module _ {A : Type 0} where
   own-from plan only trace streams h counts [] = rw (append-nil trace) h
   own-from plan only trace streams h counts (command ∷ rest) =
       let next = plan_after req_rules plan command in
-      let only_next = only_updated_after plan only command in
-      let streams_next = streams_after req_rules plan streams command in
       rw (append_assoc trace (events_of req_rules plan command) (trace_from req_rules next rest)) at
-      (own-from next only_next (trace ++ events_of req_rules plan command) streams_next
+      (own-from next (only_updated_after plan only command) (trace ++ events_of req_rules plan command) (streams_after req_rules plan streams command)
       (own-after plan only trace streams h (λ j. (counts j).0) command) (counts-after (req_lawful {A = A}) plan streams counts command) rest)
 
   run-own : (commands : List (ReqCommand A)) (slot : ℕ) → was_only_updated commands slot ≡ true →
       IsFresh (shape_in ((plan_of req_rules commands).shapes slot)) (picked slot (trace_of req_rules commands)) (stream_of req_rules commands slot)
-  run-own commands slot e =
-      own-from start_plan (λ s. true) [] (λ s. []) (λ j t. record { actions_are = refl; layouts_are = refl }) (λ j. (refl, omega arith)) commands slot e
+  run-own commands slot e = own-from start_plan (λ s. true) [] (λ s. []) (λ j t. record { actions_are = refl; layouts_are = refl }) (λ j. (refl, omega arith)) commands slot e
 
 -- ---- what its own bits give
 
@@ -228,21 +215,15 @@ module _ {A : Type 0} (cmp : A → A → Ordering) (commands : List (ReqCommand 
   plain = subst ArePlain (sym fresh.actions_are) (plain-updates shape.k shape.accuracy (new_layout ∷ []) stream)
 
   fresh-is : (word : List Bool) → fresh_bag word ≡ bag_after cmp updates word empty_bag
-  fresh-is word =
-      let world : World (Bag A) = start in
-      ap (λ (w : World (Bag A)). w.slots slot) (play-at cmp updates word world slot) ∙ changed-there world.slots slot _
+  fresh-is word = ap (λ (w : World (Bag A)). w.slots slot) (play-at cmp updates word start slot) ∙ changed-there start.slots slot _
 
   -- under a word the slot holds what the fresh sketch does under the slot's own bits
   bag-is : (word : List Bool) → (play cmp trace word start).slots slot ≡ fresh_bag (pick slot trace word)
-  bag-is word =
-      play-picked cmp slot trace word start plain
-      ∙ (ap (bag_after cmp (picked slot trace) (pick slot trace word)) (empty_either (stays slot trace))
-      ∙ (ap (λ (actions : List (Action A)). bag_after cmp actions (pick slot trace word) empty_bag) fresh.actions_are
-      ∙ sym (fresh-is (pick slot trace word))))
+  bag-is word = play-picked cmp slot trace word start plain ∙ (ap (bag_after cmp (picked slot trace) (pick slot trace word)) (empty_either (stays slot trace))
+      ∙ (ap (λ (actions : List (Action A)). bag_after cmp actions (pick slot trace word) empty_bag) fresh.actions_are ∙ sym (fresh-is (pick slot trace word))))
     where
       empty_either : (b : Bool) → (if b then empty_bag else empty_bag {A = A}) ≡ empty_bag
-      empty_either true = refl
-      empty_either false = refl
+      empty_either b = grind (arith, common_steps)
 
   -- the same holds whatever round trips are left out
   pub bag-shed : (fewer : List (Event A)) → Sheds trace fewer → (word : List Bool) → (play cmp fewer word start).slots slot ≡ (play cmp trace word start).slots slot
@@ -260,8 +241,7 @@ module _ {A : Type 0} (cmp : A → A → Ordering) (commands : List (ReqCommand 
       record {
         others = own.others;
         all = own.all ∙ ap (λ (actions : List (Action A)). own.others + draws_of actions) fresh.actions_are;
-        sums =
-            sum_over_words-same bits _ (λ word. f (fresh_bag (pick slot trace word))) (λ word. ap f (bag-is word))
+        sums = sum_over_words-same bits _ (λ word. f (fresh_bag (pick slot trace word))) (λ word. ap f (bag-is word))
             ∙ (own.sums ∙ ap (λ (actions : List (Action A)). 2 ^ own.others * sum_over_words (draws_of actions) (λ word. f (fresh_bag word))) fresh.actions_are);
       }
 
@@ -297,15 +277,12 @@ module _ {A : Type 0} (cmp : A → A → Ordering) (commands : List (ReqCommand 
 
     relative-by : (levels : ℕ) → IsRelative shape.k levels (draws_of updates) (sum_over_words (draws_of updates) (λ word. error (fresh_bag word))) count →
         IsRelative shape.k levels bits (squared_errors req_rules cmp y criteria commands bits slot) count
-    relative-by levels relative =
-        let s = share bits enough error in
-        subst (λ (n : ℕ). IsRelative shape.k levels n (squared_errors req_rules cmp y criteria commands bits slot) count) (sym s.all)
-        (rw s.sums (more_words shape.k levels s.others (draws_of updates) (sum_over_words (draws_of updates) (λ word. error (fresh_bag word))) count relative))
+    relative-by levels relative = subst (λ (n : ℕ). IsRelative shape.k levels n (squared_errors req_rules cmp y criteria commands bits slot) count) (sym (share bits enough error).all)
+        (rw (share bits enough error).sums (more_words shape.k levels (share bits enough error).others (draws_of updates) (sum_over_words (draws_of updates) (λ word. error (fresh_bag word))) count relative))
 
     -- its errors are relative
     pub run-relative : UpdatesAreRelative cmp → IsRelative shape.k (compacted_in shape) bits (squared_errors req_rules cmp y criteria commands bits slot) count
-    run-relative relative =
-        subst (λ (ls : List Layout). IsRelative shape.k (length ls - 1) bits (squared_errors req_rules cmp y criteria commands bits slot) count) (sym fresh.layouts_are)
+    run-relative relative = subst (λ (ls : List Layout). IsRelative shape.k (length ls - 1) bits (squared_errors req_rules cmp y criteria commands bits slot) count) (sym fresh.layouts_are)
         (relative-by (length (updates_layouts shape.k (new_layout ∷ []) stream) - 1) (relative y criteria slot shape.k (draws_of updates) shape.accuracy stream legal short drawn))
 
     -- for a k of at least 24 they are relative to counts alone

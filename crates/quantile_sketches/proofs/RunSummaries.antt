@@ -6,7 +6,7 @@ use Rattle.sketch_base.specs.Exact.{IsExactUpTo}
 use Rattle.sketch_base.specs.declared.common.SearchCriteria.{SearchCriteria}
 use Rattle.sketch_base.specs.Bag.{Bag, AlikeReq, expanded}
 use Rattle.sketch_base.specs.Lengths.{start_lengths}
-use Rattle.sketch_base.specs.Trace.{Event, play, start}
+use Rattle.sketch_base.specs.Trace.{play, start}
 use Rattle.sketch_req.specs.Actions.{bag_of}
 use Rattle.sketch_req.specs.Relative.{off_protected_end}
 use Rattle.sketch_req.specs.ScheduleLaws.{tail_side}
@@ -37,15 +37,12 @@ module _ {A : Type 0} {cmp : A → A → Ordering} (o : IsTotalOrder cmp) where
       IsExactUpTo (3 * tails_of commands slot) (off_protected_end cmp s.accuracy y criteria (stream_of req_rules commands slot))
       (off_protected_end cmp s.accuracy y criteria (expanded cmp (bag_of s.levels)))
   alike-counts commands word slot s shape alike y criteria =
-      let side : (shape_in ((plan_of req_rules commands).shapes slot)).accuracy ≡ s.accuracy = ap (λ (p : Option ReqShape). (shape_in p).accuracy) shape in
-      let trace : List (Event A) = trace_of req_rules commands in
       let test : A → Bool = is_protected cmp s.accuracy y criteria in
-      let bag : Bag A = (play cmp trace word start).slots slot in
+      let bag : Bag A = (play cmp (trace_of req_rules commands) word start).slots slot in
       let legal = run-legal (req_lawful {A = A}) commands in
-      let exact = exact-trace cmp test (3 * tails_of commands slot) (tail_side s.accuracy) (spares-tail o s.accuracy y criteria) trace word slot legal.scratch
-      (along-even (req_lawful {A = A}) trace start_lengths legal.meets) (rw side at (run-leaves commands slot)) in
-      exact-as (3 * tails_of commands slot) _ _ _ _
-      (run-ranks (req_lawful {A = A}) test commands slot ∙ sym (off-is cmp s.accuracy y criteria (stream_of req_rules commands slot)))
+      let exact = exact-trace cmp test (3 * tails_of commands slot) (tail_side s.accuracy) (spares-tail o s.accuracy y criteria) (trace_of req_rules commands) word slot legal.scratch
+      (along-even (req_lawful {A = A}) (trace_of req_rules commands) start_lengths legal.meets) (rw (ap (λ (p : Option ReqShape). (shape_in p).accuracy) shape) at (run-leaves commands slot)) in
+      exact-as (3 * tails_of commands slot) _ _ _ _ (run-ranks (req_lawful {A = A}) test commands slot ∙ sym (off-is cmp s.accuracy y criteria (stream_of req_rules commands slot)))
       (sym (off-rank cmp s.accuracy y criteria bag) ∙ off-alike o s.accuracy y criteria bag (bag_of s.levels) alike.levels) exact
 
   module _ (spelling : A → Option (List ℕ)) (commands : List (ReqCommand A)) (slots : SlotMap (Req A)) (word : List Bool) (refused : List ℕ) where
@@ -58,13 +55,12 @@ module _ {A : Type 0} {cmp : A → A → Ordering} (o : IsTotalOrder cmp) where
         let out = req-left-out o spelling word refused commands are in
         let own : (plan_of req_rules fewer).shapes slot ≡ Some (req_shape s) = sym (ap (λ p. p.shapes slot) out.left.plan) ∙ shape in
         let streams : stream_of req_rules commands slot ≡ stream_of req_rules fewer slot = ap (λ (f : ℕ → List A). f slot) out.left.streams in
-        let tails : tails_of commands slot ≡ tails_of fewer slot = ap (λ (f : ℕ → ℕ). f slot) out.tails in
         record {
           tail_fits = subst (λ (p : Option ReqShape). tails_of commands slot ≤ (shape_in p).k) shape (run-tails commands slot);
           length_is = (weighs slot s held).0;
           least = (extremes slot s held).0;
           greatest = (extremes slot s held).1;
-          exact = λ y criteria. rw (streams, tails) (alike-counts fewer word slot s own (played slot s held) y criteria);
+          exact = λ y criteria. rw (streams, ap (λ (f : ℕ → ℕ). f slot) out.tails) (alike-counts fewer word slot s own (played slot s held) y criteria);
         }
 
   -- so each sketch is exact on its tail

@@ -1,4 +1,6 @@
 -- Each line is answered by the sketches of a run of the commands that were accepted before it.
+use Rattle.std.proofs.Common.{arith}
+use Rattle.std.proofs.lemmas.Grind.{common_steps}
 use Rattle.std.proofs.Common.{◌≡◌, ℕ, ℤ, List, [], ◌∷◌, length, Option, None, Some, Result, Ok, Err, refl, sym, subst, zero-add, replicate}
 use Rattle.std.specs.Prelude.{⊤}
 use mathlib.Core.Path.{fun_ext}
@@ -10,7 +12,6 @@ use Rattle.quantile_sketches.specs.Refused.{AreExecuted}
 use Rattle.quantile_sketches.specs.RunsBehindLines.{Known, run_after, AreOfRunKeeping, AnswersWhere}
 use Rattle.quantile_sketches.specs.Calls.{ObeysRules}
 use Rattle.quantile_sketches.specs.Command.{request_of}
-use Rattle.quantile_sketches.specs.declared.answer.Refusal.TheVariants.{Sketch}
 use Rattle.quantile_sketches.specs.declared.commands.Command.{Command}
 use Rattle.quantile_sketches.specs.declared.command.Request.{Request}
 use Rattle.quantile_sketches.specs.declared.command.Request.TheVariants.{Run, Load}
@@ -61,9 +62,7 @@ module _ {C Shape S : Type 0} (grammar : Grammar C) {kind : Kind ℤ C Shape S} 
 
   loaded : (run : Known C) (slot : ℕ) (image : List (List ℕ)) (made : Result S ErrorKind → Type 0) (slots : Slots S) (coins : ℕ) (v : Result Unit Refusal) (slots' : Slots S) (coins' : ℕ) →
       Makes made slot slots v slots' → coins' ≡ coins → OfRun run slots coins → OfRun (run_after run (Some (Load slot image)) (reply_of v)) slots' coins'
-  loaded run slot image made slots coins (Ok tt) slots' coins' h same of = tt
-  loaded run slot image made slots coins (Err (Sketch e)) slots' coins' h same of = stays run slots coins slots' coins' h.1 same of
-  loaded run slot image made slots coins v slots' coins' h same of = absurd h
+  loaded run slot image made slots coins v slots' coins' h same of = grind (arith, common_steps, stays)
 
   answered : (run : Known C) (command : Option (Request C)) (slots : Slots S) (coins : ℕ) (r : Reply) (slots' : Slots S) (coins' : ℕ) →
       Answers behaviour command slots coins r slots' coins' → OfRun run slots coins → OfRun (run_after run command r) slots' coins'
@@ -90,6 +89,5 @@ module _ {C Shape S : Type 0} (grammar : Grammar C) {kind : Kind ℤ C Shape S} 
     -- from empty slots on
     pub answers-rest : (ls : List (List ℕ)) (out : List ℕ) → Serves grammar behaviour (replicate SLOTS None) seed ls out →
         AnswersWhere grammar behaviour (AreOfRunKeeping kind promise seed) (Some []) (replicate SLOTS None) seed ls out
-    answers-rest ls out =
-        answers-where (Some []) (replicate SLOTS None) seed ls out
+    answers-rest ls out = answers-where (Some []) (replicate SLOTS None) seed ls out
         ((fun_ext (λ q. in_slot-none SLOTS q), refl), standing-none lawful coin_of_state next_state seed (in_slot (replicate SLOTS None)) (λ q. in_slot-none SLOTS q))

@@ -1,7 +1,7 @@
 -- What comes of a call on a slot, by what the slot holds and what the call returns, and the replies of split points and images.
 use Rattle.std.proofs.Common.{arith}
 use Rattle.std.proofs.lemmas.Grind.{common_steps}
-use Rattle.std.proofs.Common.{◌≡◌, Bool, true, ℤ, List, Option, Some, None, Result, Ok, Err, IsErrAnd, refl, sym, ap, subst, inl, inr, ◌∙◌}
+use Rattle.std.proofs.Common.{◌≡◌, Bool, true, ℤ, List, Option, Some, None, Result, Ok, Err, IsErrAnd, refl, sym, subst, inl, inr}
 use Rattle.std.specs.Prelude.{MatchResult}
 use Rattle.sketch_base.specs.declared.error.ErrorKind.{ErrorKind}
 use Rattle.sketch_base.specs.declared.error.ErrorKind.TheVariants.{InvalidArgument}
@@ -27,13 +27,7 @@ module _ {S Source : Type 0} (changed : Change Source S) (slot : Option S) where
   pub turns-told : (s t : S) (coins coins' : Source) (told : Result Unit ErrorKind) (r : Result Unit Refusal) → slot ≡ Some s →
       MatchResult told (λ done. r ≡ Ok done) (λ e. IsErrAnd r (λ refusal. refusal ≡ Sketch e)) → changed s coins told t coins' →
       Turns changed slot coins r (Some t) coins'
-  turns-told s t coins coins' (Ok done) r is same h = rw (same, is) (t, refl, h)
-  turns-told s t coins coins' (Err e) r is same h = rw (error_is r (Sketch e) same, is) (t, refl, h)
-
-  -- its sketch refuses
-  pub turns-refused : (s t : S) (coins coins' : Source) (e : ErrorKind) (r : Result Unit Refusal) → slot ≡ Some s → r ≡ Err (Sketch e) → changed s coins (Err e) t coins' →
-      Turns changed slot coins r (Some t) coins'
-  turns-refused s t coins coins' e r is err refused = rw (err, is) (t, refl, refused)
+  turns-told s t coins coins' told r is same h = grind (arith, common_steps, error_is)
 
 -- what another slot holds
 module _ {S Source : Type 0} (joined : S → Change Source S) (source slot : Option S) where
@@ -53,18 +47,15 @@ module _ {S : Type 0} (told : S → Reply → Type 0) (slot : Option S) where
   asks-held s r is h = subst (λ (o : Option S). Asks told o r) (sym is) h
 
 -- a merge with a copy that the sketch refuses
-pub copy_refused : {S A C Source : Type 0} (behaviour : Behaviour S A C) (bit : Source → Bool) (next : Source → Source) (redraws refused : Bool)
-    (slot : Option S) (s : S)
+pub copy_refused : {S A C Source : Type 0} (behaviour : Behaviour S A C) (bit : Source → Bool) (next : Source → Source) (redraws refused : Bool) (slot : Option S) (s : S)
     (coins : Source) → slot ≡ Some s → behaviour.refuses redraws s s refused → refused ≡ true →
     Turns (JoinsCopy behaviour bit next redraws) slot coins (Err (Sketch InvalidArgument)) (Some s) coins
-copy_refused behaviour bit next redraws refused slot s coins is told full = grind (arith, common_steps, turns-refused)
+copy_refused behaviour bit next redraws refused slot s coins is told full = grind (arith, common_steps)
 
 -- what comes of split points
 module _ {S C : Type 0} (behaviour : Behaviour S ℤ C) (points : List ℤ) where
-  pub masses-refused : (gives : Masses → Type 0) (r : Reply) (e : ErrorKind) → r ≡ Err (Sketch e) → IsRefusal (rise points) e →
-      AnswersMasses behaviour points gives r
-  masses-refused gives r e is (inl (kind, falls)) = inl (falls, is ∙ ap (λ e. Err (Sketch e)) kind)
-  masses-refused gives r e is (inr (kind, rises)) = inr (rises, inr (is ∙ ap (λ e. Err (Sketch e)) kind))
+  pub masses-refused : (gives : Masses → Type 0) (r : Reply) (e : ErrorKind) → r ≡ Err (Sketch e) → IsRefusal (rise points) e → AnswersMasses behaviour points gives r
+  masses-refused gives r e is h4 = grind (arith, common_steps)
 
   module _ (gives : List ℤ → Masses → Type 0) (given : List ℤ) (same : given ≡ points) (rises : rise points ≡ true) where
     pub masses-error : (r : Reply) (e : ErrorKind) → r ≡ Err (Sketch e) → gives given (Err e) → AnswersMasses behaviour points (gives points) r

@@ -65,20 +65,15 @@ module _ {A C Shape S Source : Type 0} {kind : Kind A C Shape S} (lawful : IsLaw
 
     step : (word : List Bool) → take k word ≡ bits_from bit next seed k →
         Steps lawful bit next (plan_of kind.look.rules commands) (stream_of kind.look.rules commands) (play kind.look.cmp (trace_of kind.look.rules commands) word start) c source slots' source'
-    step word agree =
-        steps lawful bit next (plan_of kind.look.rules commands) (steady-from lawful.rules start_plan (steady-start lawful.rules) commands) (stream_of kind.look.rules commands)
+    step word agree = steps lawful bit next (plan_of kind.look.rules commands) (steady-from lawful.rules start_plan (steady-start lawful.rules) commands) (stream_of kind.look.rules commands)
         (play kind.look.cmp (trace_of kind.look.rules commands) word start) slots (st.stand word agree) source slots' source' c x.decided (x.done refl)
 
     front : (word : List Bool) → take (k + m) word ≡ bits_from bit next seed (k + m) → take k word ≡ bits_from bit next seed k
     front word all = sym (take-front k (k + m) word (omega arith)) ∙ (ap (take k) all ∙ bits-take bit next seed k (k + m) (omega arith))
 
     back : (word : List Bool) → take (k + m) word ≡ bits_from bit next seed (k + m) → take m (drop k word) ≡ bits_from bit next source m
-    back word all =
-        let left : (k + m) - k ≡ m = omega arith in
-        sym (drop-take k m word)
-        ∙ (ap (drop k) all
-        ∙ (bits-drop bit next seed k (k + m) (omega arith)
-        ∙ (ap (bits_from bit next (after_draws next seed k)) left ∙ ap (λ (s : Source). bits_from bit next s m) (sym st.drawn))))
+    back word all = sym (drop-take k m word) ∙ (ap (drop k) all ∙ (bits-drop bit next seed k (k + m) (omega arith)
+        ∙ (ap (bits_from bit next (after_draws next seed k)) (omega arith) ∙ ap (λ (s : Source). bits_from bit next s m) (sym st.drawn))))
 
     stands-on : (word : List Bool) → take (coins (trace_of kind.look.rules (commands ++ c ∷ []))) word ≡ bits_from bit next seed (coins (trace_of kind.look.rules (commands ++ c ∷ []))) →
         Stand kind (plan_of kind.look.rules (commands ++ c ∷ [])) (stream_of kind.look.rules (commands ++ c ∷ [])) (play kind.look.cmp (trace_of kind.look.rules (commands ++ c ∷ [])) word start) slots'
@@ -89,13 +84,11 @@ module _ {A C Shape S Source : Type 0} {kind : Kind A C Shape S} (lawful : IsLaw
           after-append kind.look.rules (λ plan. accepted_streams) start_plan (λ q. []) commands c,
           trace-more kind.look.rules commands c,
           in_turn-append event_draws (happens (act kind.look.cmp)) (trace_of kind.look.rules commands) (events_of kind.look.rules (plan_of kind.look.rules commands) c) word start,
-        )
-        ((step word (front word all)).stands (drop k word) (back word all))
+        ) ((step word (front word all)).stands (drop k word) (back word all))
 
     pub standing-more : Stands (commands ++ c ∷ []) slots' source'
     standing-more = record {
-      drawn =
-          (step (bits_from bit next seed k) (bits-take bit next seed k k (omega arith))).source_goes
+      drawn = (step (bits_from bit next seed k) (bits-take bit next seed k k (omega arith))).source_goes
           ∙ (ap (λ (s : Source). after_draws next s m) st.drawn ∙ (sym (after_draws-add next seed k m) ∙ ap (after_draws next seed) (sym (coins-more kind.look.rules commands c))));
       stand = stands-on;
     }

@@ -15,6 +15,7 @@ use Rattle.hex.proofs.HexLemmas.{decode_of-encode_lower}
 use Rattle.sketch_base.specs.Random.{bits_from, next_state}
 use Rattle.sketch_base.specs.Spelling.{i64_spelling}
 use Rattle.sketch_base.specs.Trace.{changed}
+use Rattle.sketch_base.proofs.Changes.{changed-itself}
 use Rattle.sketch_base.specs.declared.error.ErrorKind.{ErrorKind}
 use Rattle.sketch_base.specs.declared.error.ErrorKind.TheVariants.{InvalidArgument}
 use Rattle.sketch_req.specs.Image.{BeginsImage}
@@ -23,7 +24,6 @@ use Rattle.sketch_req.specs.Merged.{coins_of_merge_by}
 use Rattle.sketch_req.specs.Redrawn.{coins_of_redraw}
 use Rattle.sketch_req.specs.Sketch.{Req, IsSound, coins_of_update}
 use Rattle.sketch_req.specs.declared.RankAccuracy.{RankAccuracy}
-use Rattle.sketch_req.specs.declared.RankAccuracy.TheVariants.{HighRank, LowRank}
 use Rattle.quantile_sketches.specs.declared.answer.Refusal.{Refusal}
 use Rattle.quantile_sketches.specs.Behaviour.{Change, coin_of_state}
 use Rattle.quantile_sketches.specs.Command.{request_of}
@@ -39,7 +39,6 @@ use Rattle.quantile_sketches.specs.HexText.{hex_of}
 use Rattle.quantile_sketches.specs.LineWords.{words, image_in}
 use Rattle.quantile_sketches.specs.Reader.{Grammar}
 use Rattle.quantile_sketches.specs.ReqBehaviour.{req, IsEmptyOf, IsMade, TakesIn, TakesNone, DrawsAnew, JoinsIn}
-use Rattle.quantile_sketches.specs.ReqRules.{is_same}
 use Rattle.sketch_req.specs.Summaries.{Summarizes}
 use Rattle.quantile_sketches.specs.SummariesBehindLines.{Told, IsAsTold, Origins, AreTrue, ShownAreTrue, told_more, told_joined, told_both, told_empty, told_after_command, told_after, AreAsTold, AnswersAsTold}
 use Rattle.quantile_sketches.proofs.Carried.{in_slot-held}
@@ -49,10 +48,7 @@ use Rattle.sketch_req.proofs.Summaries.{empty-summarizes, update-summarizes, mer
 
 -- accuracies that don't differ are the same
 same-side : (a b : RankAccuracy) → (a ≢ b → ⊥) → a ≡ b
-same-side HighRank HighRank h = refl
-same-side LowRank LowRank h = refl
-same-side HighRank LowRank h = absurd (h (λ e. false≢true (sym (ap (is_same HighRank) e))))
-same-side LowRank HighRank h = absurd (h (λ e. false≢true (sym (ap (is_same LowRank) e))))
+same-side a b h = grind (arith, common_steps, false≢true)
 
 module _ {A Source : Type 0} {cmp : A → A → Ordering} (order : IsTotalOrder cmp) (spelling : A → Option (List ℕ)) (one : OneSketch cmp spelling)
     (bit : Source → Bool) (next : Source → Source) where
@@ -67,8 +63,7 @@ module _ {A Source : Type 0} {cmp : A → A → Ordering} (order : IsTotalOrder 
   -- what follows of a sketch that something is told of holds of all
   good-if : (told : Option (Told A)) (f : Told A → Told A) (s t : Req A) → IsSound cmp t → IsGood told s →
       ((w : Told A) → s.k ≡ w.k → Summarizes cmp s w.stream w.tail → IsAsTold cmp (Some (f w)) t) → IsGood (option_map f told) t
-  good-if None f s t sound good by = record { sound = sound; as_told = tt }
-  good-if (Some w) f s t sound good by = record { sound = sound; as_told = by w good.as_told.0 good.as_told.1 }
+  good-if told f s t sound good by = grind (arith, common_steps)
 
   good-same : (told : Option (Told A)) (s t : Req A) → IsSound cmp t → IsGood told s → t.k ≡ s.k →
       ((stream : List A) (tail : ℕ) → Summarizes cmp s stream tail → Summarizes cmp t stream tail) → IsGood told t
@@ -82,8 +77,7 @@ module _ {A Source : Type 0} {cmp : A → A → Ordering} (order : IsTotalOrder 
 
   taken : (told : Option (Told A)) (x : A) (s t : Req A) (coins coins' : Source) → IsGood told s → TakesIn cmp spelling bit next s x coins (Ok tt) t coins' → IsGood (option_map (told_more x) told) t
   taken told x s t coins coins' good h =
-      let u = h.2 in
-      good-if told (told_more x) s t h.4 good (λ w k is. (u.k ∙ k, update-summarizes order s t x (bits_from bit next coins (coins_of_update s x)) w.stream w.tail good.sound is u))
+      good-if told (told_more x) s t h.4 good (λ w k is. (h.2.k ∙ k, update-summarizes order s t x (bits_from bit next coins (coins_of_update s x)) w.stream w.tail good.sound is h.2))
 
   read : (told : Option (Told A)) (s t : Req A) (bytes : List ℕ) (rest others : List ℕ) → IsSound cmp t → IsGood told s → BeginsImage cmp spelling bytes (without_coins s) rest →
       BeginsImage cmp spelling bytes t others → IsGood told t
@@ -95,16 +89,13 @@ module _ {A Source : Type 0} {cmp : A → A → Ordering} (order : IsTotalOrder 
       JoinsIn cmp spelling bit next redraws p s coins (Ok tt) t coins' → IsGood (told_both told other) t
   joined redraws None other p s t coins coins' good good' h = record { sound = h.5; as_told = tt }
   joined redraws (Some w) None p s t coins coins' good good' h = record { sound = h.5; as_told = tt }
-  joined redraws (Some w) (Some v) p s t coins coins' good good' h =
-      record { sound = h.5; as_told = go v.stream good'.as_told.1 }
+  joined redraws (Some w) (Some v) p s t coins coins' good good' h = record { sound = h.5; as_told = go v.stream good'.as_told.1 }
     where
       same : s.accuracy ≡ p.accuracy
       same = same-side s.accuracy p.accuracy (λ differ. no-err tt InvalidArgument (h.0.1 (inl differ)))
 
       go : (more : List A) → Summarizes cmp p more v.tail → IsAsTold cmp (Some (told_joined w more v.tail)) t
-      go [] is =
-          let kept = (h.2 same is.length_is).1 in
-          subst (λ (x : Req A). IsAsTold cmp (Some w) x) (sym kept) good.as_told
+      go [] is = subst (λ (x : Req A). IsAsTold cmp (Some w) x) (sym ((h.2 same is.length_is).1)) good.as_told
       go (x ∷ more) is =
           let m = h.3 (omega (arith, is.length_is)) in
           (m.k ∙ good.as_told.0, merge-summarizes order redraws s p t (bits_from bit next coins (coins_of_merge_by redraws s p)) w.stream (x ∷ more) w.tail v.tail good.sound same good.as_told.1 is m)
@@ -128,16 +119,8 @@ module _ {A Source : Type 0} {cmp : A → A → Ordering} (order : IsTotalOrder 
 
   -- a slot is set to what it held
   put-same : (told : ℕ → Option (Told A)) (slots slots' : Slots (Req A)) (slot : ℕ) (o new : Option (Req A)) → Holds slots slot o → slots' ≡ set slots slot new → new ≡ o → AreGood told slots → AreGood told slots'
-  put-same told slots slots' slot o new held is same good q t e = go (q == slot) refl
-    where
-      at : in_slot (set slots slot new) q ≡ Some t
-      at = subst (λ (l : Slots (Req A)). in_slot l q ≡ Some t) is e
-
-      go : (b : Bool) → (q == slot) ≡ b → IsGood (told q) t
-      go true f =
-          let there = sym (get_or-set_at slots slot q new None (eqb-true q slot f) (slice_get_within slots slot o held)) ∙ at in
-          good q t (ap (in_slot slots) (eqb-true q slot f) ∙ (in_slot-held slots slot o held ∙ (sym same ∙ there)))
-      go false f = good q t (sym (get_or-set_other slots slot q new None (eqb-false q slot f)) ∙ at)
+  put-same told slots slots' slot o new held is same good = subst (λ (f : ℕ → Option (Told A)). AreGood f slots') (changed-itself told slot)
+      (put told slots slots' slot o new (told slot) held is good (λ t e. good slot t (in_slot-held slots slot o held ∙ (sym same ∙ e))))
 
   -- what each outcome of a call on a slot's sketch means
   record IsKept (before after : Option (Told A)) (call : Change Source (Req A)) (coins coins' : Source) : Type 0 where
@@ -152,8 +135,7 @@ module _ {A Source : Type 0} {cmp : A → A → Ordering} (order : IsTotalOrder 
   turned : (told : ℕ → Option (Told A)) (slots slots' : Slots (Req A)) (slot : ℕ) (v : Option (Told A)) (call : Change Source (Req A)) (coins coins' : Source) → AreGood told slots →
       IsKept (told slot) v call coins coins' → (o new : Option (Req A)) (r : Result Unit Refusal) → Holds slots slot o → Turns call o coins r new coins' → slots' ≡ set slots slot new →
       After told (changed told slot v) r slots'
-  turned told slots slots' slot v call coins coins' good kept None new r held h is =
-      rw h.0 (put-same told slots slots' slot None new held is h.1 good)
+  turned told slots slots' slot v call coins coins' good kept None new r held h is = rw h.0 (put-same told slots slots' slot None new held is h.1 good)
   turned told slots slots' slot v call coins coins' good kept (Some s) new (Ok done) held (t, new_is, h) is =
       put told slots slots' slot (Some s) new v held is good (λ u e. subst (IsGood v) (some-same t u (sym new_is ∙ e)) (kept.done s t (good slot s (in_slot-held slots slot (Some s) held)) h))
   turned told slots slots' slot v call coins coins' good kept (Some s) new (Err (Sketch e)) held (t, new_is, h) is =
@@ -172,8 +154,7 @@ module _ {A Source : Type 0} {cmp : A → A → Ordering} (order : IsTotalOrder 
     changes slot v call kept r (o, new, held, h, is) = turned told slots slots' slot v call coins coins' good kept o new r held h is
 
     made : (slot : ℕ) (config : ℕ × RankAccuracy) (r : Result Unit Refusal) → Makes (IsMade cmp spelling config) slot slots r slots' → Comes (New slot config) r
-    made slot config (Ok done) (s, o, held, h, is) =
-        put told slots slots' slot o (Some s) (Some (record { k = config.0; stream = []; tail = config.0 })) held is good
+    made slot config (Ok done) (s, o, held, h, is) = put told slots slots' slot o (Some s) (Some (record { k = config.0; stream = []; tail = config.0 })) held is good
         (λ t e. subst (IsGood (Some (record { k = config.0; stream = []; tail = config.0 }))) (some-same s t e)
         (record { sound = h.2.6; as_told = (h.2.0, is-empty config.0 config.1 s h.2) }))
     made slot config (Err (Sketch e)) h = subst (AreGood told) (sym h.1) good
@@ -181,16 +162,10 @@ module _ {A Source : Type 0} {cmp : A → A → Ordering} (order : IsTotalOrder 
     made slot config (Err AbsentSlot) h = absurd h
 
     takes : (slot : ℕ) (x : A) → IsKept (told slot) (option_map (told_more x) (told slot)) (λ s. TakesIn cmp spelling bit next s x) coins coins'
-    takes slot x = record {
-      done = λ s t is h. taken (told slot) x s t coins coins' is h;
-      refused = λ s t e h. h.5.0;
-    }
+    takes slot x = record { done = λ s t is h. taken (told slot) x s t coins coins' is h; refused = λ s t e h. h.5.0 }
 
     takes-none : (slot : ℕ) (v : Option (Told A)) → IsKept (told slot) v (TakesNone cmp spelling bit next) coins coins'
-    takes-none slot v = record {
-      done = λ s t is h. absurd (no-err tt InvalidArgument h.0);
-      refused = λ s t e h. h.1;
-    }
+    takes-none slot v = record { done = λ s t is h. absurd (no-err tt InvalidArgument h.0); refused = λ s t e h. h.1 }
 
     empties : (slot : ℕ) → IsKept (told slot) (option_map told_empty (told slot)) (Empties (req cmp spelling)) coins coins'
     empties slot = record {
@@ -212,8 +187,7 @@ module _ {A Source : Type 0} {cmp : A → A → Ordering} (order : IsTotalOrder 
         done s t is (inr h, same) = absurd (false≢true (sym (ap is_ok h.2)))
 
         refused : (s t : Req A) (e : ErrorKind) → RoundTrips (req cmp spelling) s coins (Err e) t coins' → t ≡ s
-        refused s t e (inl (bytes, written, loaded), same) = loaded.1
-        refused s t e (inr h, same) = h.3
+        refused s t e h3 = grind (arith, common_steps)
 
     joins : (redraws : Bool) (into : ℕ) (other : Option (Told A)) (p : Req A) → IsGood other p →
         IsKept (told into) (told_both (told into) other) (JoinsIn cmp spelling bit next redraws p) coins coins'
@@ -229,22 +203,17 @@ module _ {A Source : Type 0} {cmp : A → A → Ordering} (order : IsTotalOrder 
         done s t is (inl h) = absurd (false≢true (sym (ap is_ok h.1)))
         done s t is (inr (fits, inr h)) = absurd (false≢true (sym (ap is_ok h.2)))
         done s t is (inr (fits, inl (p, copied, h))) =
-            let copy = copied.0.0 in
-            let good-copy = good-same (told into) s p copied.0.1 is copy.k (λ stream tail summary. copy-summarizes order s p stream tail copy summary) in
+            let good-copy = good-same (told into) s p copied.0.1 is copied.0.0.k (λ stream tail summary. copy-summarizes order s p stream tail copied.0.0 summary) in
             joined redraws (told into) (told into) p s t coins coins' is good-copy h
 
         refused : (s t : Req A) (e : ErrorKind) → JoinsCopy (req cmp spelling) bit next redraws s coins (Err e) t coins' → t ≡ s
-        refused s t e (inl h) = h.2
-        refused s t e (inr (fits, inr h)) = h.3
-        refused s t e (inr (fits, inl (p, copied, h))) = h.6.0
+        refused s t e h3 = grind (arith, common_steps)
 
     merges : (redraws : Bool) (into source : ℕ) (b : Bool) → (into == source) ≡ b → (r : Result Unit Refusal) →
         Merges (req cmp spelling) bit next redraws b into source slots coins r slots' coins' → After told (changed told into (told_both (told into) (told source))) r slots'
-    merges redraws into source true e r h =
-        subst (λ (q : ℕ). After told (changed told into (told_both (told into) (told q))) r slots') (eqb-true into source e)
+    merges redraws into source true e r h = subst (λ (q : ℕ). After told (changed told into (told_both (told into) (told q))) r slots') (eqb-true into source e)
         (changes into (told_both (told into) (told into)) (JoinsCopy (req cmp spelling) bit next redraws) (joins-copy redraws into) r h)
-    merges redraws into source false e r (None, held, (o, new, own, h, is)) =
-        rw h.0 (put-same told slots slots' into o new own is h.1 good)
+    merges redraws into source false e r (None, held, (o, new, own, h, is)) = rw h.0 (put-same told slots slots' into o new own is h.1 good)
     merges redraws into source false e r (Some p, held, (o, new, own, h, is)) =
         turned told slots slots' into (told_both (told into) (told source)) (JoinsIn cmp spelling bit next redraws p) coins coins' good
         (joins redraws into (told source) p (good source p (in_slot-held slots source (Some p) held))) o new r own h is
@@ -288,8 +257,7 @@ module _ {cmp : ℤ → ℤ → Ordering} (order : IsTotalOrder cmp) (spelling :
   answered told (Some (Load slot image)) slots coins r slots' coins' (v, is, h, same) good = rw is (go v h)
     where
       go : (v : Result Unit Refusal) → Makes (ReadsImage (req cmp spelling) (image_in image)) slot slots v slots' → Good (told_after origins told (Some (Load slot image)) (reply_of v)) slots'
-      go (Ok done) (s, o, held, made, set_is) =
-          put order spelling one coin_of_state next_state told slots slots' slot o (Some s) (origins (image_in image)) held set_is good
+      go (Ok done) (s, o, held, made, set_is) = put order spelling one coin_of_state next_state told slots slots' slot o (Some s) (origins (image_in image)) held set_is good
           (λ t e. subst (IsGood order spelling one coin_of_state next_state (origins (image_in image))) (some-same order spelling one coin_of_state next_state s t e) (from-origin (image_in image) s made (origins (image_in image)) refl))
       go (Err (Sketch e)) h = subst (Good told) (sym h.1) good
       go (Err BadLine) h = absurd h
@@ -333,8 +301,7 @@ third-word (verb ∷ slot ∷ ws) = refl
 -- what is answered as an image is true of it
 pub shown-true : ShownAreTrue
 shown-true s told bytes line as_told imaged fits third =
-    let read : image_in (drop 2 line) ≡ bytes.items =
-    ap (λ (o : Option (List ℕ)). unwrap_or (option_and_then hex_of o) []) (third-word line ∙ third)
+    let read : image_in (drop 2 line) ≡ bytes.items = ap (λ (o : Option (List ℕ)). unwrap_or (option_and_then hex_of o) []) (third-word line ∙ third)
     ∙ ap (λ (r : Result (List ℕ) _). unwrap_or (result_ok r) []) (decode_of-encode_lower bytes.items fits) in (
       without_coins s,
       [],

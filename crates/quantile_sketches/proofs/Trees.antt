@@ -22,25 +22,18 @@ use Rattle.quantile_sketches.proofs.LegalPlans.{changed-away, at_slot, not-none,
 
 -- ---- standings
 
-mixed-free : Mixed ≡ Free → ⊥
-mixed-free e = cc
-
 used-free : (a : Standing) → used a ≡ Free → ⊥
-used-free Free e = cc
-used-free a e = cc
+used-free a e = grind (arith, common_steps)
 
 used-tree : (a : Standing) → is_tree (used a) ≡ is_tree a
-used-tree Free = refl
-used-tree a = refl
+used-tree a = grind (arith, common_steps)
 
 joined-free : (a b : Standing) → joined_standing a b ≡ Free → (a ≡ Free) × (b ≡ Free)
-joined-free Free Free e = (refl, refl)
-joined-free a b e = cc
+joined-free a b e = grind (arith, common_steps)
 
 -- what two merged slots make is a tree only if it is free
 joined-tree : (a b : Standing) → is_tree (joined_standing a b) ≡ true → joined_standing a b ≡ Free
-joined-tree Free Free e = refl
-joined-tree a b e = absurd (false≢true e)
+joined-tree a b e = grind (arith, common_steps, false≢true)
 
 turned : (a b : ℕ) → (a == b) ≡ false → (b == a) ≡ false
 turned a b ne = ne_eqb b a (λ (same : b ≡ a). false≢true (sym ne ∙ eq-eqb a b (sym same)))
@@ -60,11 +53,9 @@ module _ (A : Type 0) (stands : ℕ → Standing) (once : ℕ → Bool) (shares 
   -- a slot that is cleared
   trees-clear : (s : ℕ) → AreTrees (changed stands s Free) (changed once s true) (shares_after {A = A} (At s Clear) shares)
   trees-clear s = record {
-    taken = at_slot s (λ j. is_tree (changed stands s Free j) ≡ true → changed once s true j ≡ true)
-        (λ t. changed-there once s true)
+    taken = at_slot s (λ j. is_tree (changed stands s Free j) ≡ true → changed once s true j ≡ true) (λ t. changed-there once s true)
         (λ j e t. changed-away once s true j e ∙ i.taken j (ap is_tree (sym (changed-away stands s Free j e)) ∙ t));
-    apart = λ a b ne f g. apart-cleared A s a b shares
-        (λ e h. i.apart a b ne (sym (changed-away stands s Free a e) ∙ f) (sym (changed-away stands s Free b h) ∙ g));
+    apart = λ a b ne f g. apart-cleared A s a b shares (λ e h. i.apart a b ne (sym (changed-away stands s Free a e) ∙ f) (sym (changed-away stands s Free b h) ∙ g));
   }
 
   -- a slot that is acted on, if no slot becomes free
@@ -77,14 +68,11 @@ module _ (A : Type 0) (stands : ℕ → Standing) (once : ℕ → Bool) (shares 
 
   -- a slot that takes an item with a weight
   trees-mixed : (s : ℕ) (actions : List (Action A)) → TreesBy (changed stands s Mixed) once shares (events_at s actions)
-  trees-mixed s actions =
-      trees-act (changed stands s Mixed) (takes_once (events_at s actions) shares once) s actions
+  trees-mixed s actions = trees-act (changed stands s Mixed) (takes_once (events_at s actions) shares once) s actions
       (at_slot s (λ j. is_tree (changed stands s Mixed j) ≡ true → takes_once (events_at s actions) shares once j ≡ true)
       (λ t. absurd (false≢true (ap is_tree (sym (changed-there stands s Mixed)) ∙ t)))
       (λ j e t. once-elsewhere s j e actions shares once ∙ i.taken j (ap is_tree (sym (changed-away stands s Mixed j e)) ∙ t)))
-      (at_slot s (λ j. changed stands s Mixed j ≡ Free → stands j ≡ Free)
-      (λ f. absurd (mixed-free (sym (changed-there stands s Mixed) ∙ f)))
-      (λ j e f. sym (changed-away stands s Mixed j e) ∙ f))
+      (at_slot s (λ j. changed stands s Mixed j ≡ Free → stands j ≡ Free) (λ f. absurd (cc (sym (changed-there stands s Mixed) ∙ f))) (λ j e f. sym (changed-away stands s Mixed j e) ∙ f))
 
   -- a slot that takes another one in
   module _ (into source : ℕ) where
@@ -105,30 +93,26 @@ module _ (A : Type 0) (stands : ℕ → Standing) (once : ℕ → Bool) (shares 
 
     -- if a merge makes a free slot, its two slots are different and were free
     were_free : comes ≡ Free → ((into == source) ≡ false) × (stands into ≡ Free) × (stands source ≡ Free)
-    were_free =
-        elim (into == source) as (λ b. (if b then Mixed else joined_standing (stands into) (stands source)) ≡ Free → (b ≡ false) × (stands into ≡ Free) × (stands source ≡ Free)) [
-          | true ↦ λ e. absurd (mixed-free e)
-          | false ↦ λ e. let both = joined-free (stands into) (stands source) e in (refl, both.0, both.1)
-        ]
+    were_free = elim (into == source) as (λ b. (if b then Mixed else joined_standing (stands into) (stands source)) ≡ Free → (b ≡ false) × (stands into ≡ Free) × (stands source ≡ Free)) [
+      | true ↦ λ e. absurd (cc)
+      | false ↦ λ e. let both = joined-free (stands into) (stands source) e in (refl, both.0, both.1)
+    ]
 
     comes-tree : is_tree comes ≡ true → comes ≡ Free
-    comes-tree =
-        elim (into == source) as (λ b. let made = if b then Mixed else joined_standing (stands into) (stands source) in is_tree made ≡ true → made ≡ Free) [
-          | true ↦ λ t. absurd (false≢true t)
-          | false ↦ joined-tree (stands into) (stands source)
-        ]
+    comes-tree = elim (into == source) as (λ b. let made = if b then Mixed else joined_standing (stands into) (stands source) in is_tree made ≡ true → made ≡ Free) [
+      | true ↦ λ t. absurd (false≢true t)
+      | false ↦ joined-tree (stands into) (stands source)
+    ]
 
     -- another slot that is free isn't the source
     free-others : (j : ℕ) → others j ≡ Free → ((j == source) ≡ false) × (stands j ≡ Free)
-    free-others j =
-        elim (j == source) as (λ b. (if b then used (stands source) else stands j) ≡ Free → (b ≡ false) × (stands j ≡ Free)) [
-          | true ↦ λ f. absurd (used-free (stands source) f)
-          | false ↦ λ f. (refl, f)
-        ]
+    free-others j = elim (j == source) as (λ b. (if b then used (stands source) else stands j) ≡ Free → (b ≡ false) × (stands j ≡ Free)) [
+      | true ↦ λ f. absurd (used-free (stands source) f)
+      | false ↦ λ f. (refl, f)
+    ]
 
     others-tree : (j : ℕ) → is_tree (others j) ≡ is_tree (stands j)
-    others-tree = at_slot source (λ j. is_tree (others j) ≡ is_tree (stands j))
-        (ap is_tree (changed-there stands source (used (stands source))) ∙ used-tree (stands source))
+    others-tree = at_slot source (λ j. is_tree (others j) ≡ is_tree (stands j)) (ap is_tree (changed-there stands source (used (stands source))) ∙ used-tree (stands source))
         (λ j e. ap is_tree (changed-away stands source (used (stands source)) j e))
 
     -- a free slot that took the other one in shares no coin with a third free one
@@ -139,27 +123,22 @@ module _ (A : Type 0) (stands : ℕ → Standing) (once : ℕ → Bool) (shares 
         apart-snapped A source into j ne shares many (i.apart into j (turned j into ne) mine free) (i.apart source j (turned j source far) its free)
 
     apart-others : (a b : ℕ) → (a == into) ≡ false → (b == into) ≡ false → (a == b) ≡ false → others a ≡ Free → others b ≡ Free → AreApart snapped a b
-    apart-others a b e f ne g h =
-        ap (λ (l : List ℕ). products l (snapped b)) (changed-away shares into _ a e)
-        ∙ (ap (λ (l : List ℕ). products (shares a) l) (changed-away shares into _ b f)
-        ∙ i.apart a b ne (free-others a g).1 (free-others b h).1)
+    apart-others a b e f ne g h = ap (λ (l : List ℕ). products l (snapped b)) (changed-away shares into _ a e)
+        ∙ (ap (λ (l : List ℕ). products (shares a) l) (changed-away shares into _ b f) ∙ i.apart a b ne (free-others a g).1 (free-others b h).1)
 
     -- no two free slots share a coin after that
     apart-after : (a b : ℕ) → (a == b) ≡ false → after a ≡ Free → after b ≡ Free → AreApart snapped a b
-    apart-after a b ne f g =
-        elim (cases_Bool (a == into)) [
-          | inl e ↦
-              let is : a ≡ into = eqb-true a into e in
-              let far : (b == into) ≡ false = ap (λ (m : ℕ). b == m) (sym is) ∙ turned a b ne in
-              subst (λ (m : ℕ). AreApart snapped m b) (sym is) (apart-into (sym (here a e) ∙ f) b far (sym (changed-away others into comes b far) ∙ g))
-          | inr e ↦
-              elim (cases_Bool (b == into)) [
-                | inl h ↦
-                    let is : b ≡ into = eqb-true b into h in
-                    apart-swapped snapped b a (subst (λ (m : ℕ). AreApart snapped m a) (sym is) (apart-into (sym (here b h) ∙ g) a e (sym (changed-away others into comes a e) ∙ f)))
-                | inr h ↦ apart-others a b e h ne (sym (changed-away others into comes a e) ∙ f) (sym (changed-away others into comes b h) ∙ g)
-              ]
-        ]
+    apart-after a b ne f g = elim (cases_Bool (a == into)) [
+      | inl e ↦
+          let far : (b == into) ≡ false = ap (λ (m : ℕ). b == m) (sym (eqb-true a into e)) ∙ turned a b ne in
+          subst (λ (m : ℕ). AreApart snapped m b) (sym (eqb-true a into e)) (apart-into (sym (here a e) ∙ f) b far (sym (changed-away others into comes b far) ∙ g))
+      | inr e ↦
+          elim (cases_Bool (b == into)) [
+            | inl h ↦
+                apart-swapped snapped b a (subst (λ (m : ℕ). AreApart snapped m a) (sym (eqb-true b into h)) (apart-into (sym (here b h) ∙ g) a e (sym (changed-away others into comes a e) ∙ f)))
+            | inr h ↦ apart-others a b e h ne (sym (changed-away others into comes a e) ∙ f) (sym (changed-away others into comes b h) ∙ g)
+          ]
+    ]
       where
         here : (j : ℕ) → (j == into) ≡ true → after j ≡ comes
         here j e = ap (λ (b : Bool). if b then comes else others j) e
@@ -168,13 +147,9 @@ module _ (A : Type 0) (stands : ℕ → Standing) (once : ℕ → Bool) (shares 
     trees-merge : (actions : List (Action A)) → takes_once (Snap source into ∷ events_at into actions) shares once ≡ changed once into kept →
         TreesBy after once shares (Snap source into ∷ events_at into actions)
     trees-merge actions taken = record {
-      taken = λ j t. ap (λ (f : ℕ → Bool). f j) taken ∙ at_slot into (λ j. is_tree (after j) ≡ true → changed once into kept j ≡ true)
-          (λ t.
+      taken = λ j t. ap (λ (f : ℕ → Bool). f j) taken ∙ at_slot into (λ j. is_tree (after j) ≡ true → changed once into kept j ≡ true) (λ t.
           let (differ, mine_free, its_free) = were_free (comes-tree (ap is_tree (sym (changed-there others into comes)) ∙ t)) in
-          let none : share_no_coin (shares into) (shares source) ≡ true = eq-eqb (products (shares into) (shares source)) 0 (i.apart into source differ mine_free its_free) in
-          let mine : once into ≡ true = i.taken into (ap is_tree mine_free) in
-          let its : once source ≡ true = i.taken source (ap is_tree its_free) in
-          changed-there once into kept ∙ and_from (once into) _ mine (and_from (once source) _ its none))
+          changed-there once into kept ∙ and_from (once into) _ (i.taken into (ap is_tree mine_free)) (and_from (once source) _ (i.taken source (ap is_tree its_free)) (eq-eqb (products (shares into) (shares source)) 0 (i.apart into source differ mine_free its_free))))
           (λ j e t. changed-away once into kept j e ∙ i.taken j (sym (others-tree j) ∙ (ap is_tree (sym (changed-away others into comes j e)) ∙ t))) j t;
       apart = λ a b ne f g. apart-acts into a b ne actions snapped (as_many-after {A = A} (Snap source into) shares many) (apart-after a b ne f g);
     }
@@ -188,19 +163,15 @@ module _ {A : Type 0} where
   accepted-trees plan st stands once shares many i (Reset slot) t e = trees-clear A stands once shares many i slot
   accepted-trees plan st stands once shares many i (RoundTrip slot) t e = i
   accepted-trees plan st stands once shares many i (Update slot x) t e =
-      let ns = plan.lengths.slots slot in
       let (s, held, u) = then-there (kll_rules {A = A}).updated (plan.shapes slot) t e in
-      let actions : List (Action A) = update_actions s.k ns x in
-      let P : List (Action A) → Type 0 = λ (actions : List (Action A)). TreesBy stands once shares (events_at slot actions) in
-      subst (λ (o : Option KllShape). P (actions_on o (λ shape. update_actions shape.k ns x))) (sym held)
+      let actions : List (Action A) = update_actions s.k (plan.lengths.slots slot) x in
+      subst (λ (o : Option KllShape). (λ (actions : List (Action A)). TreesBy stands once shares (events_at slot actions)) (actions_on o (λ shape. update_actions shape.k (plan.lengths.slots slot) x))) (sym held)
       (trees-act A stands once shares many i stands (takes_once (events_at slot actions) shares once) slot actions
-      (λ j t. update-once slot s.k ns x shares once (st.fits slot s held).0 j ∙ i.taken j t) (λ j f. f))
+      (λ j t. update-once slot s.k (plan.lengths.slots slot) x shares once (st.fits slot s held).0 j ∙ i.taken j t) (λ j f. f))
   accepted-trees plan st stands once shares many i (UpdateWeighted slot x weight) t e =
       trees-mixed A stands once shares many i slot (actions_on (plan.shapes slot) (λ shape. weighted_actions shape.k (plan.lengths.slots slot) x weight))
-  accepted-trees plan st stands once shares many i (Merge into source) t e =
-      merge-either kll_rules false plan into source t e
-      (λ (b : Bool) (events : List (Event A)). TreesBy (if b then stands else after A stands once shares many i into source) once shares events)
-      (λ s other held held_other m none. i)
+  accepted-trees plan st stands once shares many i (Merge into source) t e = merge-either kll_rules false plan into source t e
+      (λ (b : Bool) (events : List (Event A)). TreesBy (if b then stands else after A stands once shares many i into source) once shares events) (λ s other held held_other m none. i)
       (λ s other held held_other m some.
       let work : Work (List ℕ) = record { bag = plan.lengths.slots into; scratch = plan.lengths.slots source } in
       trees-merge A stands once shares many i into source (merge_actions s.k work) (merge-once A source into s.k work shares once (st.fits into s held).0))

@@ -96,8 +96,7 @@ module _ {A : Type 0} (cmp : A → A → Ordering) (slot : ℕ) where
     no-scratch : {e : Event A} → Agree (e ∷ es) drawn lengths world world' → sum lengths.scratch ≡ 0 → world.scratch.levels ≡ world'.scratch.levels
     no-scratch agree empty =
         let own = ap (λ (w : World (List ℕ)). w.scratch) agree.lengths_are in
-        let other = ap (λ (w : World (List ℕ)). w.scratch) agree.lengths_are' in
-        no-items world.scratch.levels world'.scratch.levels (own ∙ sym other) (ap (λ (l : List ℕ). sum l) own ∙ empty)
+        no-items world.scratch.levels world'.scratch.levels (own ∙ sym (ap (λ (w : World (List ℕ)). w.scratch) agree.lengths_are')) (ap (λ (l : List ℕ). sum l) own ∙ empty)
 
     -- the scratches are the same if they are empty or are for the slot that is acted on
     own-scratch : (s : ℕ) {e : Event A} → Agree (e ∷ es) drawn lengths world world' → (reaches es slot lengths.target ≡ true → reaches (e ∷ es) slot lengths.target ≡ true) →
@@ -115,31 +114,26 @@ module _ {A : Type 0} (cmp : A → A → Ordering) (slot : ℕ) where
     }
 
     agree-put : (s h : ℕ) (x : A) (bit : Bool) → Goes (At s (Put h x)) bit drawn
-    agree-put s h x bit agree = at-own s (Put h x) bit tt agree (λ i e reached. reached)
-        (λ reached. let same = agree.slots s reached in record {
-          levels = ap (with_level [] h (λ level. level ++ x ∷ [])) same.levels;
-          sorted = ap (λ (b : Bool). b && not (h == 0)) same.sorted;
-          kept = same.kept;
-        })
+    agree-put s h x bit agree = at-own s (Put h x) bit tt agree (λ i e reached. reached) (λ reached. let same = agree.slots s reached in record {
+      levels = ap (with_level [] h (λ level. level ++ x ∷ [])) same.levels;
+      sorted = ap (λ (b : Bool). b && not (h == 0)) same.sorted;
+      kept = same.kept;
+    })
         agree.scratch
 
     agree-pull : (s : ℕ) (bit : Bool) → (sum lengths.scratch == 0 || s == lengths.target) ≡ true → Goes (At s Pull) bit drawn
-    agree-pull s bit obeys agree = at-own s Pull bit tt agree (λ i e reached. reached)
-        (λ reached. let same = agree.slots s reached in record {
-          levels = ap₂ (λ (ls from : List (List A)). with_level [] 0 (λ level. level ++ take 1 (level_at from 0)) ls) same.levels (own-scratch s agree (λ r. r) obeys reached);
-          sorted = refl;
-          kept = same.kept;
-        })
-        (λ reached. ap (λ (from : List (List A)). with_level [] 0 (λ level. drop 1 (level_at from 0)) from) (agree.scratch reached))
+    agree-pull s bit obeys agree = at-own s Pull bit tt agree (λ i e reached. reached) (λ reached. let same = agree.slots s reached in record {
+      levels = ap₂ (λ (ls from : List (List A)). with_level [] 0 (λ level. level ++ take 1 (level_at from 0)) ls) same.levels (own-scratch s agree (λ r. r) obeys reached);
+      sorted = refl;
+      kept = same.kept;
+    }) (λ reached. ap (λ (from : List (List A)). with_level [] 0 (λ level. drop 1 (level_at from 0)) from) (agree.scratch reached))
 
     agree-join : (s h : ℕ) (bit : Bool) → (sum lengths.scratch == 0 || s == lengths.target) ≡ true → Goes (At s (Join h)) bit drawn
-    agree-join s h bit obeys agree = at-own s (Join h) bit tt agree (λ i e reached. reached)
-        (λ reached. let same = agree.slots s reached in record {
-          levels = ap₂ (λ (ls from : List (List A)). with_level [] h (λ level. level ++ level_at from h) ls) same.levels (own-scratch s agree (λ r. r) obeys reached);
-          sorted = same.sorted;
-          kept = same.kept;
-        })
-        (λ reached. ap (with_level [] h (λ level. [])) (agree.scratch reached))
+    agree-join s h bit obeys agree = at-own s (Join h) bit tt agree (λ i e reached. reached) (λ reached. let same = agree.slots s reached in record {
+      levels = ap₂ (λ (ls from : List (List A)). with_level [] h (λ level. level ++ level_at from h) ls) same.levels (own-scratch s agree (λ r. r) obeys reached);
+      sorted = same.sorted;
+      kept = same.kept;
+    }) (λ reached. ap (with_level [] h (λ level. [])) (agree.scratch reached))
 
     agree-forget : (s : ℕ) (bit : Bool) → Goes (At s Forget) bit (changed drawn s (λ h. false))
     agree-forget s bit agree = at-slot s Forget (λ h. false) bit tt agree (λ i e reached. reached)
@@ -147,17 +141,15 @@ module _ {A : Type 0} (cmp : A → A → Ordering) (slot : ℕ) where
         agree.scratch
 
     agree-redraw : (s h : ℕ) (bit : Bool) → Goes (At s (Redraw h)) bit (changed drawn s (changed (drawn s) h true))
-    agree-redraw s h bit agree = at-slot s (Redraw h) (changed (drawn s) h true) bit tt agree (λ i e reached. reached)
-        (λ reached. let same = agree.slots s reached in record {
-          levels = same.levels;
-          sorted = same.sorted;
-          kept = kept-changed (changed (drawn s) h true) (world.slots s).kept (world'.slots s).kept h bit bit refl (λ j e d. same.kept j (drawn-others (drawn s) h j e d));
-        })
+    agree-redraw s h bit agree = at-slot s (Redraw h) (changed (drawn s) h true) bit tt agree (λ i e reached. reached) (λ reached. let same = agree.slots s reached in record {
+      levels = same.levels;
+      sorted = same.sorted;
+      kept = kept-changed (changed (drawn s) h true) (world.slots s).kept (world'.slots s).kept h bit bit refl (λ j e d. same.kept j (drawn-others (drawn s) h j e d));
+    })
         agree.scratch
 
     agree-clear : (s : ℕ) (bit : Bool) → (sum lengths.scratch == 0 || false) ≡ true → Goes (At s Clear) bit (changed drawn s (λ h. false))
-    agree-clear s bit obeys agree = at-slot s Clear (λ h. false) bit tt agree
-        (λ i e reached. ap₂ (λ (b c : Bool). not b && c) e reached)
+    agree-clear s bit obeys agree = at-slot s Clear (λ h. false) bit tt agree (λ i e reached. ap₂ (λ (b c : Bool). not b && c) e reached)
         (λ reached. record { levels = refl; sorted = refl; kept = λ h e. absurd (false≢true e) })
         (λ reached. ⊎_elim (λ empty. no-scratch agree (eqb-true (sum lengths.scratch) 0 empty)) (λ e. absurd (false≢true e)) (or_cases (sum lengths.scratch == 0) false obeys))
 
@@ -183,36 +175,28 @@ module _ {A : Type 0} (cmp : A → A → Ordering) (slot : ℕ) where
 
     agree-turn : (s h : ℕ) (taken : Taken) (bit : Bool) → TakesEven {A = A} (At s (Compact h Turned taken)) lengths → (drawn s h || not (reaches es slot s)) ≡ true →
         Goes (At s (Compact h Turned taken)) bit drawn
-    agree-turn s h taken bit even fair agree = at-own s (Compact h Turned taken) bit even agree (λ i e reached. reached)
-        (λ reached.
-        let same = agree.slots s reached in
+    agree-turn s h taken bit even fair agree = at-own s (Compact h Turned taken) bit even agree (λ i e reached. reached) (λ reached.
         let was_drawn : drawn s h ≡ true = ⊎_elim (λ d. d) (λ misses. absurd (false≢true (sym (ap not reached) ∙ misses))) (or_cases (drawn s h) (not (reaches es slot s)) fair) in
-        same-compacted s h taken (drawn s) (not ((world.slots s).kept h)) (not ((world'.slots s).kept h)) (ap not (same.kept h was_drawn)) same (λ j e d. d))
+        same-compacted s h taken (drawn s) (not ((world.slots s).kept h)) (not ((world'.slots s).kept h)) (ap not ((agree.slots s reached).kept h was_drawn)) (agree.slots s reached) (λ j e d. d))
         agree.scratch
 
     -- a Forget in one world only
     agree-shed : (s : ℕ) (bit : Bool) → Agree (At s Forget ∷ es) drawn lengths world world' →
         Agree es (changed drawn s (λ h. false)) (lengths_after {A = A} (At s Forget) lengths) (happens (act cmp) (At s Forget) bit world) world'
-    agree-shed s bit agree =
-        let forgotten = agree-forget s bit agree in
-        record {
-          lengths_are = forgotten.lengths_are;
-          lengths_are' =
-              agree.lengths_are'
-              ∙ sym (ap (λ (f : ℕ → List ℕ). let w : World (List ℕ) = record { slots = f; scratch = lengths.scratch; target = lengths.target } in w) (changed-itself lengths.slots s));
-          slots = at_slot s (λ i. reaches es slot i ≡ true → AreSame (changed drawn s (λ h. false) i) (changed world.slots s (acted s Forget bit world).bag i) (world'.slots i))
-              (λ reached.
-              let same = agree.slots s reached in
-              rw (changed-there drawn s (λ h. false), changed-there world.slots s (acted s Forget bit world).bag)
-              (record { levels = same.levels; sorted = same.sorted; kept = λ h d. absurd (false≢true d) }))
-              (λ i e reached. rw (changed-away drawn s (λ h. false) i e, changed-away world.slots s (acted s Forget bit world).bag i e) (agree.slots i reached));
-          scratch = agree.scratch;
-        }
+    agree-shed s bit agree = record {
+      lengths_are = (agree-forget s bit agree).lengths_are;
+      lengths_are' = agree.lengths_are'
+          ∙ sym (ap (λ (f : ℕ → List ℕ). let w : World (List ℕ) = record { slots = f; scratch = lengths.scratch; target = lengths.target } in w) (changed-itself lengths.slots s));
+      slots = at_slot s (λ i. reaches es slot i ≡ true → AreSame (changed drawn s (λ h. false) i) (changed world.slots s (acted s Forget bit world).bag i) (world'.slots i)) (λ reached.
+          rw (changed-there drawn s (λ h. false), changed-there world.slots s (acted s Forget bit world).bag)
+          (record { levels = (agree.slots s reached).levels; sorted = (agree.slots s reached).sorted; kept = λ h d. absurd (false≢true d) }))
+          (λ i e reached. rw (changed-away drawn s (λ h. false) i e, changed-away world.slots s (acted s Forget bit world).bag i e) (agree.slots i reached));
+      scratch = agree.scratch;
+    }
 
   -- so the slot holds the same items in the end
   pub shed-same : (es es' : List (Event A)) → Sheds es es' → (drawn : ℕ → ℕ → Bool) (lengths : World (List ℕ)) → is_fair es slot drawn ≡ true → ObeysScratch es lengths → Along TakesEven es lengths →
-      (word : List Bool) (world world' : World (Bag A)) → Agree es drawn lengths world world' →
-      ((play cmp es word world).slots slot).levels ≡ ((play cmp es' word world').slots slot).levels
+      (word : List Bool) (world world' : World (Bag A)) → Agree es drawn lengths world world' → ((play cmp es word world).slots slot).levels ≡ ((play cmp es' word world').slots slot).levels
   shed-same _ _ none drawn lengths fair obeys even word world world' agree = (agree.slots slot (eq-eqb slot slot refl)).levels
   shed-same _ _ (shed s es es' sheds) drawn lengths fair obeys even word world world' agree =
       shed-same es es' sheds _ _ fair obeys.1 even.1 word _ world' (agree-shed es drawn lengths world world' s (next_bit word) agree)
@@ -231,9 +215,7 @@ module _ {A : Type 0} (cmp : A → A → Ordering) (slot : ℕ) where
   shed-same _ _ (kept (At s Clear) es es' sheds) drawn lengths fair obeys even word world world' agree =
       shed-same es es' sheds _ _ fair obeys.1 even.1 word _ _ (agree-clear es drawn lengths world world' s (next_bit word) obeys.0 agree)
   shed-same _ _ (kept (At s (Compact h Fresh taken)) es es' sheds) drawn lengths fair obeys even word world world' agree =
-      let parts = and_parts (is_req taken) _ fair in
-      shed-same es es' sheds _ _ parts.1 obeys.1 even.1 (drop 1 word) _ _ (agree-draw es drawn lengths world world' s h taken (next_bit word) even.0 agree)
+      shed-same es es' sheds _ _ (and_parts (is_req taken) _ fair).1 obeys.1 even.1 (drop 1 word) _ _ (agree-draw es drawn lengths world world' s h taken (next_bit word) even.0 agree)
   shed-same _ _ (kept (At s (Compact h Turned taken)) es es' sheds) drawn lengths fair obeys even word world world' agree =
-      let parts = and_parts (is_req taken) _ fair in
-      let turned = and_parts (drawn s h || not (reaches es slot s)) _ parts.1 in
+      let turned = and_parts (drawn s h || not (reaches es slot s)) _ (and_parts (is_req taken) _ fair).1 in
       shed-same es es' sheds _ _ turned.1 obeys.1 even.1 word _ _ (agree-turn es drawn lengths world world' s h taken (next_bit word) even.0 turned.0 agree)

@@ -4,30 +4,10 @@ use Rattle.quantile_sketches.specs.Answer.{answer_text}
 use Rattle.quantile_sketches.proofs.Outputs.{writes-then, writes-fail}
 use Rattle.quantile_sketches.proofs.answer.write_answer.Goals as goal
 
-pub returns-in-Ok-Ranks-Some : goal.returns-in-Ok-Ranks-Some
-returns-in-Ok-Ranks-Some g c = grind (arith, common_steps)
-
 pub returns-in_err-add-in-Ok-Image : goal.returns-in_err-add-in-Ok-Image
-returns-in_err-add-in-Ok-Image g c =
-    writes-fail c.args.waiting.now.items c.as_bytes.result.now (10 ∷ []) (answer_text c.args.said ++ (10 ∷ [])) _ c.from_residual.result
+returns-in_err-add-in-Ok-Image g c = writes-fail c.args.waiting.now.items c.as_bytes.result.now (10 ∷ []) (answer_text c.args.said ++ (10 ∷ [])) _ c.from_residual.result
     (grind (arith, common_steps)) c.from_residual.ensures.0 c.in_err-add-in-Ok-Image.ensures
 
 pub returns-in_ok-add-in-Ok-Image : goal.returns-in_ok-add-in-Ok-Image
-returns-in_ok-add-in-Ok-Image g c =
-    writes-then c.args.waiting.now.items c.as_bytes.result.now (10 ∷ []) (answer_text c.args.said ++ (10 ∷ []))
+returns-in_ok-add-in-Ok-Image g c = writes-then c.args.waiting.now.items c.as_bytes.result.now (10 ∷ []) (answer_text c.args.said ++ (10 ∷ []))
     (grind (arith, common_steps)) c.in_ok-add-in-Ok-Image.ensures refl c.add-in-Ok-Image-2.ensures
-
-pub returns-in-Err : goal.returns-in-Err
-returns-in-Err g c = grind (arith, common_steps)
-
-pub returns-in-Ok-Rank-Some : goal.returns-in-Ok-Rank-Some
-returns-in-Ok-Rank-Some g c = grind (arith, common_steps)
-
-pub returns-in-Ok-Done : goal.returns-in-Ok-Done
-returns-in-Ok-Done g c = grind (arith, common_steps)
-
-pub returns-in-Ok : goal.returns-in-Ok
-returns-in-Ok g c = grind arith
-
-pub returns-in-Ok-Item-Some : goal.returns-in-Ok-Item-Some
-returns-in-Ok-Item-Some g c = grind arith

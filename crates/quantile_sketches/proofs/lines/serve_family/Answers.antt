@@ -1,8 +1,7 @@
 use Rattle.std.proofs.Common.{None, Ok, Err, Result, OnErr, replicate}
-use Rattle.std.proofs.lemmas.Result.{IfOk-from_err}
 use Rattle.quantile_sketches.specs.declared.table.TheConstants.{SLOTS}
 use Rattle.quantile_sketches.proofs.FirstLine.{nothing_ahead}
-use Rattle.quantile_sketches.proofs.LineRuns.{begins-after, begins-unstarted, serves-after}
+use Rattle.quantile_sketches.proofs.LineRuns.{begins-after, serves-after}
 use denote.MutBor.{MutBor}
 use Rattle.quantile_sketches.proofs.lines.serve_family.Goals as goal
 
@@ -10,21 +9,13 @@ OnErr-from : {T E P : Type 0} (r : Result T E) → P → OnErr r P
 OnErr-from (Ok x) p = tt
 OnErr-from (Err e) p = p
 
-pub returns-in_err-input : goal.returns-in_err-input
-returns-in_err-input g c =
-    let begun = begins-unstarted g.S.Config.Config.grammar g.S.Family.behaviour (replicate SLOTS None) c.args.seed (g.R.Read.remaining c.args.input.now)
-    (g.W.Write.contents c.args.output.now) in
-    record { served = IfOk-from_err c.from_residual.result _ c.from_residual.ensures.0; broken_off = OnErr-from c.from_residual.result begun }
-
 pub returns : goal.returns
 returns g c =
-    let known =
-    nothing_ahead (λ (r : MutBor g.row.R.Denot). g.R.Read.remaining r.now) c.in_ok-input.input _ c.in_ok-input.ensures.inner c.in_ok-input.ensures.empty
+    let known = nothing_ahead (λ (r : MutBor g.row.R.Denot). g.R.Read.remaining r.now) c.in_ok-input.input _ c.in_ok-input.ensures.inner c.in_ok-input.ensures.empty
     c.in_ok-input.ensures.capacity in
     record {
       served = serves-after g.S.Config.Config.grammar g.S.Family.behaviour (replicate SLOTS None) c.args.seed _ _ (g.W.Write.contents c.args.output.now)
           (g.W.Write.contents c.answer_lines.new.output) c.answer_lines.result known c.answer_lines.ensures;
-      broken_off = OnErr-from c.answer_lines.result
-          (begins-after g.S.Config.Config.grammar g.S.Family.behaviour (replicate SLOTS None) c.args.seed _ _ (g.W.Write.contents c.args.output.now)
+      broken_off = OnErr-from c.answer_lines.result (begins-after g.S.Config.Config.grammar g.S.Family.behaviour (replicate SLOTS None) c.args.seed _ _ (g.W.Write.contents c.args.output.now)
           (g.W.Write.contents c.answer_lines.new.output) c.answer_lines.result known c.answer_lines.ensures);
     }

@@ -7,9 +7,8 @@ pub loop-rest-preserved : goal.loop-rest-preserved
 loop-rest-preserved c =
     let l = c.loop-rest in
     let text : List ℕ = decimal c.args.number ++ drop c.args.end c.args.room.now in
-    let k : ℕ = l.start + 20 - c.args.end in
-    let t = tenth l.rest k (omega arith) (omega (arith, l.invariant.below)) in
-    let less : k - 1 + 1 ≡ l.start - 1 + 20 - c.args.end + 1 = omega (arith, t.0, l.invariant.within, l.invariant.above, c.requires.some) in
+    let t = tenth l.rest (l.start + 20 - c.args.end) (omega arith) (omega (arith, l.invariant.below)) in
+    let less : (l.start + 20 - c.args.end) - 1 + 1 ≡ l.start - 1 + 20 - c.args.end + 1 = omega (arith, t.0, l.invariant.within, l.invariant.above, c.requires.some) in
     let before : l.start - 1 + 1 ≡ l.start = omega (arith, t.0, l.invariant.within, l.invariant.above, c.requires.some) in
     record {
       within = omega arith;

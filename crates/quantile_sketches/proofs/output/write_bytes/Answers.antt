@@ -1,5 +1,4 @@
-use Rattle.std.proofs.Common.{[], Err, refl, arith}
-use Rattle.std.proofs.lemmas.Grind.{common_steps}
+use Rattle.std.proofs.Common.{[], Err, refl}
 use Rattle.quantile_sketches.proofs.Outputs.{keeps_same, writes-some, writes-stop}
 use Rattle.quantile_sketches.proofs.output.write_bytes.Goals as goal
 
@@ -9,13 +8,7 @@ returns g c = writes-stop _ _ _ [] (Err c.from.result) c.loop.written c.args.byt
 pub loop-preserved : goal.loop-preserved
 loop-preserved g c =
     let more = writes-some _ _ _ c.args.bytes.now c.loop.written c.in_ok-written.field-0 c.loop.invariant.within c.loop.invariant.out c.in_ok-written.ensures.within
-    c.in_ok-written.ensures.out in record {
-      within = more.0;
-      out = more.1;
-    }
+    c.in_ok-written.ensures.out in record { within = more.0; out = more.1 }
 
 pub returns-in_err-written : goal.returns-in_err-written
 returns-in_err-written g c = writes-stop _ _ _ [] c.from_residual.result c.loop.written c.args.bytes.now c.from_residual.ensures.0 c.loop.invariant.out c.in_err-written.ensures.err
-
-pub returns-then-written-bytes : goal.returns-then-written-bytes
-returns-then-written-bytes g c = grind (arith, common_steps)

@@ -1,15 +1,7 @@
 use Rattle.std.proofs.Common.{ℕ, List, Ok, Err, subst}
 use Rattle.quantile_sketches.specs.declared.answer.Refusal.TheVariants.{Sketch}
-use Rattle.quantile_sketches.specs.LineSteps.{RoundTrips}
-use Rattle.quantile_sketches.proofs.SlotCalls.{turns-absent}
-use Rattle.quantile_sketches.proofs.Slots.{error_is, reads_back, stays_unread, stays_unwritten}
+use Rattle.quantile_sketches.proofs.Slots.{error_is, reads_back, stays_unread}
 use Rattle.quantile_sketches.proofs.table.reread.Goals as goal
-
-pub returns-in_err-image : goal.returns-in_err-image
-returns-in_err-image g c coins =
-    let r = c.from_residual in
-    stays_unwritten g.S.Family.behaviour c.args.slot.now c.in-Some.sketch c.in_err-image.field-0.0 r.result coins c.in-Some.is
-    c.in_err-image.ensures (error_is r.result (Sketch c.in_err-image.field-0.0) r.ensures.1)
 
 pub returns-in_err-sketch : goal.returns-in_err-sketch
 returns-in_err-sketch g c coins =
@@ -22,6 +14,3 @@ pub returns : goal.returns
 returns g c coins =
     let read = subst (λ (bytes : List ℕ). g.S.Family.behaviour.loaded bytes (Ok c.in_ok-sketch.field-0)) c.deref.ensures.value c.in_ok-sketch.ensures in
     reads_back g.S.Family.behaviour c.args.slot.now c.in-Some.sketch c.in_ok-sketch.field-0 c.in_ok-image.field-0 coins c.in-Some.is c.in_ok-image.ensures read
-
-pub returns-in_default : goal.returns-in_default
-returns-in_default g c coins = turns-absent (RoundTrips g.S.Family.behaviour) c.args.slot.now coins c.in_default.is

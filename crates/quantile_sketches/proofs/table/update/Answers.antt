@@ -2,7 +2,7 @@ use Rattle.std.proofs.Common.{if◌then◌else◌, refl, inl, ap}
 use Rattle.sketch_base.specs.declared.error.ErrorKind.TheVariants.{InvalidArgument, OutOfMemory}
 use Rattle.quantile_sketches.specs.declared.answer.Refusal.TheVariants.{Sketch}
 use Rattle.quantile_sketches.specs.LineSteps.{Cloned}
-use Rattle.quantile_sketches.proofs.SlotCalls.{turns-absent, turns-told}
+use Rattle.quantile_sketches.proofs.SlotCalls.{turns-told}
 use Rattle.quantile_sketches.proofs.Slots.{refused_early, error_is}
 use Rattle.quantile_sketches.proofs.table.update.Goals as goal
 
@@ -15,19 +15,12 @@ returns-then-is_full g c =
 
 pub returns-in_err-clone : goal.returns-in_err-clone
 returns-in_err-clone g c =
-    let r = c.from_residual in
     refused_early g.S.Family.behaviour (g.S.Item.Clone.is_clone c.args.item.now) (λ x. g.S.Family.behaviour.taken x g.row.B.Denot g.B.RandomBits.bit g.B.RandomBits.next)
-    c.args.slot.now c.in-Some.sketch c.is_full.result r.result c.args.coins.now
+    c.args.slot.now c.in-Some.sketch c.is_full.result c.from_residual.result c.args.coins.now
     c.in-Some.is
-    c.is_full.ensures OutOfMemory (ap (λ b. if b then InvalidArgument else OutOfMemory) c.if-is_full.false) (error_is r.result (Sketch OutOfMemory) r.ensures.1)
+    c.is_full.ensures OutOfMemory (ap (λ b. if b then InvalidArgument else OutOfMemory) c.if-is_full.false) (error_is c.from_residual.result (Sketch OutOfMemory) c.from_residual.ensures.1)
 
 pub returns : goal.returns
-returns g c =
-    turns-told (Cloned (g.S.Item.Clone.is_clone c.args.item.now) (λ x. g.S.Family.behaviour.taken x g.row.B.Denot g.B.RandomBits.bit g.B.RandomBits.next))
+returns g c = turns-told (Cloned (g.S.Item.Clone.is_clone c.args.item.now) (λ x. g.S.Family.behaviour.taken x g.row.B.Denot g.B.RandomBits.bit g.B.RandomBits.next))
     c.args.slot.now c.in-Some.sketch c.update.new.self c.args.coins.now c.update.new.coins c.update.result c.map_err.result
     c.in-Some.is c.map_err.ensures.cases (inl (c.in_ok-clone.field-0, c.in_ok-clone.ensures.cases, c.update.ensures))
-
-pub returns-in_default : goal.returns-in_default
-returns-in_default g c =
-    turns-absent (Cloned (g.S.Item.Clone.is_clone c.args.item.now) (λ x. g.S.Family.behaviour.taken x g.row.B.Denot g.B.RandomBits.bit g.B.RandomBits.next))
-    c.args.slot.now c.args.coins.now c.in_default.is

@@ -5,13 +5,4 @@ use Rattle.quantile_sketches.proofs.audit.laws.kll_run_rows.Goals as goal
 
 pub returns : goal.returns
 unfolding walk_actions capacity_at depth_capacity shallow_capacity
-returns c = record {
-  rows = record {
-    nine = refl;
-    twenty_seven = refl;
-    two_levels = refl;
-    one_level = refl;
-    read_back = refl;
-    emptied = refl;
-  };
-}
+returns c = search refl

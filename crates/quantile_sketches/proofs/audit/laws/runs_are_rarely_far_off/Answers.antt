@@ -1,4 +1,3 @@
-use Rattle.std.proofs.Common.{arith}
 use Rattle.quantile_sketches.proofs.KllRuns.{run-moments, run-rare}
 use Rattle.quantile_sketches.proofs.audit.laws.runs_are_rarely_far_off.Goals as goal
 
@@ -7,6 +6,3 @@ returns-clause-moments g c = run-moments g.met.T.Ord.total
 
 pub returns-clause-rare : goal.returns-clause-rare
 returns-clause-rare g c = run-rare g.met.T.Ord.total
-
-pub returns-clause-rows : goal.returns-clause-rows
-returns-clause-rows g c = record { six = omega arith; seven = omega arith; eight = omega arith; nine = omega arith; ten = omega arith; twelve = omega arith; four = omega arith }

@@ -2,8 +2,4 @@ use Rattle.quantile_sketches.proofs.ReqReady.{run-stays_fair, run-unbiased_where
 use Rattle.quantile_sketches.proofs.audit.req_laws.req_runs_stay_fair.Goals as goal
 
 pub returns : goal.returns
-returns g c =
-    record {
-      fair = run-stays_fair;
-      unbiased = run-unbiased_where_redrawn g.T.Ord.cmp;
-    }
+returns g c = record { fair = run-stays_fair; unbiased = run-unbiased_where_redrawn g.T.Ord.cmp }

@@ -1,16 +1,6 @@
-use Rattle.std.proofs.Common.{◌≡◌, ℕ, List, OnOk, if◌then◌else◌, ap, ◌∙◌, ◌++◌, ◌∷◌, [], is_ok, sym, subst, arith}
-use Rattle.sketch_base.proofs.Exits.{no_error}
+use Rattle.std.proofs.Common.{◌≡◌, ℕ, List, OnOk, if◌then◌else◌, ap, ◌++◌, ◌∷◌, [], is_ok, sym, subst, arith}
 use Rattle.quantile_sketches.proofs.CallErrors.{push_told}
 use Rattle.quantile_sketches.proofs.audit.runs.note_refused.Goals as goal
-
-pub returns-in-Ok : goal.returns-in-Ok
-returns-in-Ok c =
-    let xs = c.args.refused.now.items in
-    record {
-      numbers = ap (λ outcome. if is_ok outcome then xs else xs ++ c.args.number ∷ []) (sym c.in-Ok.is);
-      memory = λ is. no_error (sym c.in-Ok.is ∙ is);
-      err = tt;
-    }
 
 pub returns-in-Err : goal.returns-in-Err
 returns-in-Err c =
@@ -19,6 +9,3 @@ returns-in-Err c =
     let numbers = subst (λ (l : List ℕ). OnOk c.map_err.result (c.push.new.self.items ≡ l))
     (ap (λ outcome. if is_ok outcome then xs else xs ++ c.args.number ∷ []) (sym c.in-Err.is)) told.0 in
     record { numbers = numbers; memory = grind arith; err = told.1 }
-
-pub returns-in-Err-Sketch-OutOfMemory : goal.returns-in-Err-Sketch-OutOfMemory
-returns-in-Err-Sketch-OutOfMemory c = record { numbers = tt; memory = tt; err = c.new.ensures }

@@ -1,27 +1,19 @@
-use Rattle.std.proofs.Common.{arith}
-use Rattle.std.proofs.lemmas.Grind.{common_steps}
 use Rattle.quantile_sketches.specs.Reader.{parse_criteria, parse_number}
 use Rattle.quantile_sketches.proofs.ReadWords.{then-none, then-read}
 use Rattle.quantile_sketches.proofs.command.Request.parse_quantile.Goals as goal
 
 pub returns-in_err-total : goal.returns-in_err-total
-returns-in_err-total g c =
-    then-read parse_number _ c.args.words.now c.number.new.self c.in_ok-weight.weight c.in_ok-weight.ensures.value c.in_ok-weight.ensures.rest
+returns-in_err-total g c = then-read parse_number _ c.args.words.now c.number.new.self c.in_ok-weight.weight c.in_ok-weight.ensures.value c.in_ok-weight.ensures.rest
     (then-none parse_number _ c.number.new.self c.from_residual-in_err-total.ensures c.in_err-total.ensures.value)
 
 pub returns-in_err-criteria : goal.returns-in_err-criteria
-returns-in_err-criteria g c =
-    then-read parse_number _ c.args.words.now c.number.new.self c.in_ok-weight.weight c.in_ok-weight.ensures.value c.in_ok-weight.ensures.rest
+returns-in_err-criteria g c = then-read parse_number _ c.args.words.now c.number.new.self c.in_ok-weight.weight c.in_ok-weight.ensures.value c.in_ok-weight.ensures.rest
     (then-read parse_number _ c.number.new.self c.number-2.new.self c.in_ok-total.total c.in_ok-total.ensures.value c.in_ok-total.ensures.rest
     (then-none parse_criteria _ c.number-2.new.self c.from_residual-in_err-criteria.ensures c.in_err-criteria.ensures.value))
 
 pub returns : goal.returns
-returns g c =
-    then-read parse_number _ c.args.words.now c.number.new.self c.in_ok-weight.weight c.in_ok-weight.ensures.value c.in_ok-weight.ensures.rest
+returns g c = then-read parse_number _ c.args.words.now c.number.new.self c.in_ok-weight.weight c.in_ok-weight.ensures.value c.in_ok-weight.ensures.rest
     (then-read parse_number _ c.number.new.self c.number-2.new.self c.in_ok-total.total c.in_ok-total.ensures.value c.in_ok-total.ensures.rest
     (then-read parse_criteria _ c.number-2.new.self c.parse_criteria.new.words c.in_ok-criteria.criteria c.in_ok-criteria.ensures.value
     c.in_ok-criteria.ensures.rest
     c.at_end.ensures))
-
-pub returns-in_err-weight : goal.returns-in_err-weight
-returns-in_err-weight c = grind (arith, common_steps)

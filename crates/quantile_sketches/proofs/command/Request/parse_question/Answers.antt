@@ -21,8 +21,7 @@ pub returns-then-is-6 : goal.returns-then-is-6
 returns-then-is-6 g c = asks-load c.args.verb.now c.args.slot c.args.words.now c.is-6.ensures c.if-is-6.true c.parse_load.ensures
 
 pub returns-else-is-6 : goal.returns-else-is-6
-returns-else-is-6 g c =
-    asks-nothing c.args.verb.now c.args.slot c.args.words.now
+returns-else-is-6 g c = asks-nothing c.args.verb.now c.args.slot c.args.words.now
     (sym c.is.ensures ∙ c.if-is.false) (sym c.is-2.ensures ∙ c.if-is-2.false) (sym c.is-3.ensures ∙ c.if-is-3.false)
     (sym c.is-4.ensures ∙ c.if-is-4.false) (sym c.is-5.ensures ∙ c.if-is-5.false) (sym c.is-6.ensures ∙ c.if-is-6.false)
     refl

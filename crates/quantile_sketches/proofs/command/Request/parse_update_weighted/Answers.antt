@@ -1,5 +1,4 @@
-use Rattle.std.proofs.Common.{◌≡◌, ℕ, ℤ, true, List, [], ◌∷◌, drop, Option, Some, slice_get, option_and_then, refl, sym, ap, ◌∙◌, arith}
-use Rattle.std.proofs.lemmas.Grind.{common_steps}
+use Rattle.std.proofs.Common.{◌≡◌, ℕ, ℤ, true, List, [], ◌∷◌, drop, Option, Some, slice_get, option_and_then, refl, sym, ap, ◌∙◌}
 use Rattle.std.specs.Int.{w64}
 use Rattle.std.proofs.lemmas.Int.{to_z-of_z}
 use Rattle.quantile_sketches.specs.Command.{parse_update_weighted}
@@ -18,8 +17,7 @@ then-parsed : {A B : Type 0} (read : List ℕ → Option A) (next : A → List (
 then-parsed read next [] ws' a is rest = absurd cc
 then-parsed read next (w ∷ ws) ws' a is rest = rw (← is, rest) refl
 
-first-word : {A : Type 0} (read : List ℕ → Option A) (ws : List (List ℕ)) (a : A) → Some a ≡ option_and_then read (slice_get ws 0) →
-    (w : List ℕ) × (read w ≡ Some a)
+first-word : {A : Type 0} (read : List ℕ → Option A) (ws : List (List ℕ)) (a : A) → Some a ≡ option_and_then read (slice_get ws 0) → (w : List ℕ) × (read w ≡ Some a)
 first-word read [] a is = absurd cc
 first-word read (w ∷ ws) a is = (w, sym is)
 
@@ -28,20 +26,10 @@ weighs-parsed : {C : Type 0} (slot : ℕ) (ws ws' ws'' : List (List ℕ)) (item 
     at_end (Run (UpdateWeighted slot (to_z w64 (of_z w64 item)) weight)) ws'' ≡ parse_update_weighted {C = C} true slot ws
 weighs-parsed {C} slot ws ws' ws'' item weight is rest number last =
     let word = first-word item_of ws item is in
-    let back = to_z-of_z w64 item (item_fits word.0 item word.1) in
     let behind : ℤ → ℕ → List (List ℕ) → Option (Request C) = λ item weight. at_end (Run (UpdateWeighted slot item weight)) in
-    ap (λ (z : ℤ). behind z weight ws'') back
-    ∙ sym (then-parsed item_of (λ item. then_word parse_number (behind item)) ws ws' item is rest
+    ap (λ (z : ℤ). behind z weight ws'') (to_z-of_z w64 item (item_fits word.0 item word.1)) ∙ sym (then-parsed item_of (λ item. then_word parse_number (behind item)) ws ws' item is rest
     ∙ then-parsed parse_number (behind item) ws' ws'' weight number last)
 
-pub returns-in_err-item : goal.returns-in_err-item
-returns-in_err-item c = grind (arith, common_steps)
-
-pub returns-in_err-weight : goal.returns-in_err-weight
-returns-in_err-weight c = grind (arith, common_steps)
-
 pub returns : goal.returns
-returns g c =
-    let known = c.in_ok-weight.ensures in
-    c.at_end.ensures ∙ weighs-parsed c.args.slot c.args.words.now c.item.new.self c.number.new.self c.in_ok-item.item c.in_ok-weight.weight
-    c.in_ok-item.ensures.value c.in_ok-item.ensures.rest known.value known.rest
+returns g c = c.at_end.ensures ∙ weighs-parsed c.args.slot c.args.words.now c.item.new.self c.number.new.self c.in_ok-item.item c.in_ok-weight.weight
+    c.in_ok-item.ensures.value c.in_ok-item.ensures.rest c.in_ok-weight.ensures.value c.in_ok-weight.ensures.rest

@@ -1,5 +1,4 @@
 use Rattle.std.proofs.Common.{Some, None, refl, sym, le_refl, ◌∙◌}
-use Rattle.std.proofs.lemmas.Result.{IfOk-from_err}
 use Rattle.quantile_sketches.specs.Outcome.{sketch_at}
 use Rattle.quantile_sketches.proofs.Slots.{within_all, none-moved, moved-one, all-moved}
 use Rattle.quantile_sketches.proofs.table.Table.into_map.Goals.{in-Some+in_ok-insert+in-Some-1, in-Some+in_ok-insert+in-None-1, in_default}
@@ -8,22 +7,21 @@ use Rattle.quantile_sketches.proofs.table.Table.into_map.Goals as goal
 pub loop-slot-preserved : goal.loop-slot-preserved
 loop-slot-preserved g c =
     let l = c.loop-slot in
-    let was = c.index_mut.result.now in
     let inside = within_all l.self-inside.slots l.slot l.invariant.0 c.loop-slot-test.true in
     elim c.match-take.branch [
       | in-Some+in_ok-insert+in-Some-1 w ↦ (
         l.invariant.0,
-        moved-one c.args.self l.self-inside.slots.items l.slot l.map w.insert.new.self c.match-take.map was c.take.new.self (Some w.in-Some.sketch) l.invariant.1 inside
+        moved-one c.args.self l.self-inside.slots.items l.slot l.map w.insert.new.self c.match-take.map c.index_mut.result.now c.take.new.self (Some w.in-Some.sketch) l.invariant.1 inside
             c.index_mut.ensures.value w.map-is w.in_ok-insert.ensures.updates.1 (sym w.in-Some.is ∙ c.take.ensures.value) w.in_ok-insert.ensures.updates.2,
       )
       | in-Some+in_ok-insert+in-None-1 w ↦ (
         l.invariant.0,
-        moved-one c.args.self l.self-inside.slots.items l.slot l.map w.insert.new.self c.match-take.map was c.take.new.self (Some w.in-Some.sketch) l.invariant.1 inside
+        moved-one c.args.self l.self-inside.slots.items l.slot l.map w.insert.new.self c.match-take.map c.index_mut.result.now c.take.new.self (Some w.in-Some.sketch) l.invariant.1 inside
             c.index_mut.ensures.value w.map-is w.in_ok-insert.ensures.updates.1 (sym w.in-Some.is ∙ c.take.ensures.value) w.in_ok-insert.ensures.updates.2,
       )
       | in_default w ↦ (
         l.invariant.0,
-        moved-one c.args.self l.self-inside.slots.items l.slot l.map l.map c.match-take.map was c.take.new.self None l.invariant.1 inside c.index_mut.ensures.value w.map-is
+        moved-one c.args.self l.self-inside.slots.items l.slot l.map l.map c.match-take.map c.index_mut.result.now c.take.new.self None l.invariant.1 inside c.index_mut.ensures.value w.map-is
             (l.invariant.1.none l.slot (le_refl _)) (sym w.in_default.is ∙ c.take.ensures.value) (λ q ne. refl),
       )
     ]
@@ -32,11 +30,4 @@ pub loop-slot-init : goal.loop-slot-init
 loop-slot-init g c = (c.self.invariant, none-moved c.args.self c.self.inside.slots.items c.new-map.result c.new-map.ensures.empty c.self.view_is)
 
 pub returns : goal.returns
-returns g c =
-    all-moved c.args.self c.loop-slot.self-inside.slots c.loop-slot.slot (sketch_at c.loop-slot.map) c.loop-slot.invariant.0 c.loop-slot.invariant.1 c.loop-slot-test.false
-
-pub returns-in_err-insert : goal.returns-in_err-insert
-returns-in_err-insert g c = IfOk-from_err c.from_residual.result _ c.from_residual.ensures.0
-
-pub overflow_cast-slot : goal.overflow_cast-slot
-overflow_cast-slot g c = record { fits = c.loop-slot-test.true }
+returns g c = all-moved c.args.self c.loop-slot.self-inside.slots c.loop-slot.slot (sketch_at c.loop-slot.map) c.loop-slot.invariant.0 c.loop-slot.invariant.1 c.loop-slot-test.false

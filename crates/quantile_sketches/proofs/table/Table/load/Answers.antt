@@ -2,22 +2,19 @@ use Rattle.std.proofs.Common.{ℕ, List, Ok, Err, inl, inr, ap, ◌∙◌, subst
 use Rattle.quantile_sketches.specs.declared.answer.Refusal.TheVariants.{Sketch}
 use Rattle.quantile_sketches.specs.LineSteps.{ReadsImage}
 use Rattle.quantile_sketches.specs.LineWords.{image_in}
-use Rattle.quantile_sketches.proofs.Slots.{slot_made, slot_fits, error_is}
+use Rattle.quantile_sketches.proofs.Slots.{slot_made, error_is}
 use Rattle.quantile_sketches.proofs.table.Table.load.Goals as goal
 
 pub returns-in_err-decoded : goal.returns-in_err-decoded
 returns-in_err-decoded g c =
-    let r = c.from_residual in
     let e = c.in_err-decoded.field-0.0 in
-    λ coins. (Err (Sketch e), error_is r.result (Sketch e) r.ensures.1, (inr (ap (λ e. Err e) c.in_err-decoded.ensures.memory), refl), refl)
+    λ coins. (Err (Sketch e), error_is c.from_residual.result (Sketch e) c.from_residual.ensures.1, (inr (ap (λ e. Err e) c.in_err-decoded.ensures.memory), refl), refl)
 
 pub returns-in_err-load : goal.returns-in_err-load
 returns-in_err-load g c =
-    let r = c.from_residual-in_err-load in
-    let e = c.in_err-load.field-0.0 in
     let bytes = c.deref.ensures.value ∙ c.in_ok-decoded.ensures.bytes in
-    let unread = subst (λ (bytes : List ℕ). g.S.Family.behaviour.loaded bytes (Err e)) bytes c.in_err-load.ensures in
-    λ coins. (Err (Sketch e), error_is r.result (Sketch e) r.ensures.1, (inl unread, refl), refl)
+    let unread = subst (λ (bytes : List ℕ). g.S.Family.behaviour.loaded bytes (Err c.in_err-load.field-0.0)) bytes c.in_err-load.ensures in
+    λ coins. (Err (Sketch c.in_err-load.field-0.0), error_is c.from_residual-in_err-load.result (Sketch c.in_err-load.field-0.0) c.from_residual-in_err-load.ensures.1, (inl unread, refl), refl)
 
 pub returns : goal.returns
 returns g c =
@@ -26,9 +23,3 @@ returns g c =
     let made = slot_made (ReadsImage g.S.Family.behaviour (image_in c.args.image)) c.self.inside.slots c.args.self.now c.args.slot
     c.index_mut.result.now c.in_ok-load.field-0 c.self.invariant c.self.view_is c.ranges.slot.fits c.index_mut.ensures.value (inl read) in
     λ coins. (Ok tt, refl, made, refl)
-
-pub invariant_of-self : goal.invariant_of-self
-invariant_of-self g c = c.self.invariant
-
-pub overflow_cast-slot : goal.overflow_cast-slot
-overflow_cast-slot g c = slot_fits c.ranges.slot.fits

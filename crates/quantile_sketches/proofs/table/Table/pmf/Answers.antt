@@ -3,7 +3,7 @@ use Rattle.sketch_base.specs.Queried.{IsPmf}
 use Rattle.quantile_sketches.specs.declared.answer.Refusal.TheVariants.{Sketch}
 use Rattle.quantile_sketches.specs.LineSteps.{AnswersMasses}
 use Rattle.quantile_sketches.specs.LineWords.{items_in_line}
-use Rattle.quantile_sketches.proofs.SlotCalls.{asks-absent, asks-held, masses-refused, masses-error, masses-given}
+use Rattle.quantile_sketches.proofs.SlotCalls.{asks-held, masses-refused, masses-error, masses-given}
 use Rattle.quantile_sketches.proofs.Slots.{error_is}
 use Rattle.quantile_sketches.proofs.table.Table.pmf.Goals as goal
 
@@ -11,26 +11,19 @@ pub returns : goal.returns
 returns g c =
     asks-held (λ s. AnswersMasses g.S.Family.behaviour (items_in_line c.args.points) (IsPmf (g.S.Family.behaviour.queried s) (items_in_line c.args.points) c.args.criteria)) c.args.slot.now c.in-Some.sketch _ c.in-Some.is
     (masses-given g.S.Family.behaviour (items_in_line c.args.points) (λ points. IsPmf (g.S.Family.behaviour.queried c.in-Some.sketch) points c.args.criteria)
-    c.as_slice.result.now
-    (c.as_slice.ensures.value ∙ c.in_ok-points.ensures.items) c.in_ok-points.ensures.rise _ c.in_ok-pmf_of.ensures)
+    c.as_slice.result.now (c.as_slice.ensures.value ∙ c.in_ok-points.ensures.items) c.in_ok-points.ensures.rise _ c.in_ok-pmf_of.ensures)
 
 pub returns-in_err-pmf_of : goal.returns-in_err-pmf_of
 returns-in_err-pmf_of g c =
     let r = c.from_residual-in_err-pmf_of in
     asks-held (λ s. AnswersMasses g.S.Family.behaviour (items_in_line c.args.points) (IsPmf (g.S.Family.behaviour.queried s) (items_in_line c.args.points) c.args.criteria)) c.args.slot.now c.in-Some.sketch r.result c.in-Some.is
     (masses-error g.S.Family.behaviour (items_in_line c.args.points) (λ points. IsPmf (g.S.Family.behaviour.queried c.in-Some.sketch) points c.args.criteria)
-    c.as_slice.result.now
-    (c.as_slice.ensures.value ∙ c.in_ok-points.ensures.items) c.in_ok-points.ensures.rise r.result c.in_err-pmf_of.field-0.0
+    c.as_slice.result.now (c.as_slice.ensures.value ∙ c.in_ok-points.ensures.items) c.in_ok-points.ensures.rise r.result c.in_err-pmf_of.field-0.0
     (error_is r.result (Sketch c.in_err-pmf_of.field-0.0) r.ensures.1) c.in_err-pmf_of.ensures)
 
 pub returns-in_err-points : goal.returns-in_err-points
 returns-in_err-points g c =
     let r = c.from_residual in
-    let points = items_in_line c.args.points in
     asks-held (λ s. AnswersMasses g.S.Family.behaviour (items_in_line c.args.points) (IsPmf (g.S.Family.behaviour.queried s) (items_in_line c.args.points) c.args.criteria)) c.args.slot.now c.in-Some.sketch r.result c.in-Some.is
-    (masses-refused g.S.Family.behaviour points (IsPmf (g.S.Family.behaviour.queried c.in-Some.sketch) points c.args.criteria) r.result c.in_err-points.field-0.0
+    (masses-refused g.S.Family.behaviour (items_in_line c.args.points) (IsPmf (g.S.Family.behaviour.queried c.in-Some.sketch) (items_in_line c.args.points) c.args.criteria) r.result c.in_err-points.field-0.0
     (error_is r.result (Sketch c.in_err-points.field-0.0) r.ensures.1) c.in_err-points.ensures.refused)
-
-pub returns-in_default : goal.returns-in_default
-returns-in_default g c =
-    asks-absent (λ s. AnswersMasses g.S.Family.behaviour (items_in_line c.args.points) (IsPmf (g.S.Family.behaviour.queried s) (items_in_line c.args.points) c.args.criteria)) c.args.slot.now c.in_default.is

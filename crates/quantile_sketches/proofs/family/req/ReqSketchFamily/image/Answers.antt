@@ -1,5 +1,0 @@
-use Rattle.std.proofs.Common.{arith}
-use Rattle.quantile_sketches.proofs.family.req.ReqSketchFamily.image.Goals as goal
-
-pub returns : goal.returns
-returns c = grind arith

@@ -1,5 +1,0 @@
-use Rattle.std.proofs.Common.{arith}
-use Rattle.quantile_sketches.proofs.family.req.ReqSketchFamily.rank_of.Goals as goal
-
-pub returns-clause-empty : goal.returns-clause-empty
-returns-clause-empty g c = let there = c.rank.ensures.there in grind arith
