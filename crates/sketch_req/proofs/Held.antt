@@ -77,8 +77,3 @@ some-taken bit next source after k accuracy redraws ls others ns some t =
 -- the levels of a sketch replaced
 pub with-levels : {A : Type 0} (h s : Held A) (ls : List (Level A)) → h ≡ s → held_of h.k h.accuracy ls ≡ held_of s.k s.accuracy ls
 with-levels {A} h s ls e = ap (λ (x : Held A). held_of x.k x.accuracy ls) e
-
--- if the levels are as they were, so is the whole
-pub same-levels : {A : Type 0} (k : ℕ) (accuracy : RankAccuracy) (ls ms : List (Level A)) (s : Held A) → ms ≡ ls → held_of k accuracy ls ≡ s →
-    held_of k accuracy ms ≡ s
-same-levels k accuracy ls ms s same e = ap (held_of k accuracy) same ∙ e
