@@ -28,7 +28,7 @@ use Rattle.quantile_sketches.specs.Plan.{shape_merged}
 use Rattle.quantile_sketches.specs.RuleLaws.{IsLawful}
 use Rattle.quantile_sketches.specs.Rules.{Kind}
 use Rattle.quantile_sketches.specs.LineSteps.{Slots, in_slot, Holds, Turns, Changes, Cloned, Empties, RoundTrips, JoinsCopy, Merges, CarriesOut, CarriesOutItem, CarriesOutClone}
-use Rattle.quantile_sketches.specs.RunSteps.{Sketches, Puts, AreSame, Refuses, IsPlainCopy, IsUpdated, IsWeighted, IsRedrawn, IsMerged, IsMergedIn, IsDecided, IsDone, IsExecuted}
+use Rattle.quantile_sketches.specs.RunSteps.{Sketches, Puts, AreSame, Refuses, IsPlainCopy, IsUpdated, IsWeighted, IsRedrawn, IsSketchMerged, IsMergedIn, IsDecided, IsDone, IsExecuted}
 use Rattle.quantile_sketches.proofs.CallErrors.{no-err, same-err}
 
 -- ---- slots
@@ -226,7 +226,7 @@ module _ {A C Shape S Source : Type 0} {kind : Kind A C Shape S} (lawful : IsLaw
       merge-absent h = decide false (not-given _ (ap (λ x. merged-by x (in_slot slots from)) h))
 
       -- a sketch takes in another that is in a slot, or a copy of it
-      takes-in : (s p copy t : S) → in_slot slots into ≡ Some s → in_slot slots from ≡ Some p → IsPlainCopy kind p copy → IsMerged kind bit next redraws s copy source t source' →
+      takes-in : (s p copy t : S) → in_slot slots into ≡ Some s → in_slot slots from ≡ Some p → IsPlainCopy kind p copy → IsSketchMerged kind bit next redraws s copy source t source' →
           kind.IsSound t → Puts (in_slot slots) into t (in_slot slots') →
           IsDecided kind command (in_slot slots) true × IsDone kind bit next command (in_slot slots) source (in_slot slots') source'
       takes-in s p copy t held its copied merged sound puts = (

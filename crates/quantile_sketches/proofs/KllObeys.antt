@@ -30,7 +30,7 @@ use Rattle.quantile_sketches.specs.Calls.{Obeys, ObeysRules}
 use Rattle.quantile_sketches.specs.KllBehaviour.{kll, IsMade, IsImaged, IsLoaded, IsTooHeavy, TakesIn, TakesWeighted, MergesIn}
 use Rattle.quantile_sketches.specs.KllRules.{KllShape, empty_shape, updated_shape, weighted_shape, merged_shape, kll_shape, kll_rules, kll_kind}
 use Rattle.quantile_sketches.specs.Rules.{none_if}
-use Rattle.quantile_sketches.specs.RunSteps.{Refuses, Acts, merge_of, IsFresh, IsReadBack, IsUpdated, IsWeighted, IsRedrawn, IsMerged}
+use Rattle.quantile_sketches.specs.RunSteps.{Refuses, Acts, merge_of, IsFresh, IsReadBack, IsUpdated, IsWeighted, IsRedrawn, IsSketchMerged}
 use Rattle.quantile_sketches.proofs.KllBare.{weighted-lengths, merge-lengths}
 use Rattle.quantile_sketches.proofs.KllKind.{shape-same, copy_is}
 use Rattle.quantile_sketches.proofs.KllRuleLaws.{is_bad_weight, taken-weight, merged-some, merged-none}
@@ -101,8 +101,8 @@ module _ {A : Type 0} {cmp : A → A → Ordering} (o : IsTotalOrder cmp) (spell
 
     joined : (redraws : Bool) (p s : Kll A) (coins : Source) (r : Result (Unit {0}) ErrorKind) (t : Kll A) (coins' : Source) → IsSound cmp s →
         MergesIn cmp spelling bit next redraws p s coins r t coins' →
-        Obeys ((kll_rules {A = A}).merged redraws (kll_shape s) (kll_shape p)) (λ t coins'. IsMerged (kll_kind cmp spelling) bit next redraws s p coins t coins' × IsSound cmp t) s coins r t coins'
-    joined true p s coins r t coins' was h = never KllShape (λ t coins'. IsMerged (kll_kind cmp spelling) bit next true s p coins t coins' × IsSound cmp t) s coins r t coins' h
+        Obeys ((kll_rules {A = A}).merged redraws (kll_shape s) (kll_shape p)) (λ t coins'. IsSketchMerged (kll_kind cmp spelling) bit next redraws s p coins t coins' × IsSound cmp t) s coins r t coins'
+    joined true p s coins r t coins' was h = never KllShape (λ t coins'. IsSketchMerged (kll_kind cmp spelling) bit next true s p coins t coins' × IsSound cmp t) s coins r t coins' h
     joined false p s coins (Ok u) t coins' was h = ((record { shape_is = ap₂ none_if accepted shape; empty = λ none. let kept = h.2 none in (kept.1, kept.2); after = after }, h.5), tt, tt)
       where
         after : 0 < p.n → Acts (kll_kind cmp spelling) bit next (Some (kll_shape t)) s (bag_of p) (merge_of (kll_kind cmp spelling) false s p)

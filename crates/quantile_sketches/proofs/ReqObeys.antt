@@ -32,7 +32,7 @@ use Rattle.quantile_sketches.specs.Rules.{none_if}
 use Rattle.quantile_sketches.specs.ReqBehaviour.{req, IsEmptyOf, IsMade, IsImaged, IsLoaded, IsUnfit, TakesIn, DrawsAnew, JoinsIn}
 use Rattle.quantile_sketches.specs.ReqKind.{req_kind, req_shape}
 use Rattle.quantile_sketches.specs.ReqRules.{ReqShape, new_shape, is_same, is_too_much, req_rules}
-use Rattle.quantile_sketches.specs.RunSteps.{Refuses, Acts, merge_of, IsFresh, IsReadBack, IsUpdated, IsWeighted, IsRedrawn, IsMerged}
+use Rattle.quantile_sketches.specs.RunSteps.{Refuses, Acts, merge_of, IsFresh, IsReadBack, IsUpdated, IsWeighted, IsRedrawn, IsSketchMerged}
 use Rattle.quantile_sketches.proofs.KllObeys.{imaged, never, unless-none}
 use Rattle.quantile_sketches.proofs.CallErrors.{no-err, refuses-by, err-of, unread}
 use Rattle.quantile_sketches.proofs.ReqCopies.{same-shape, copy_is, read_is}
@@ -129,7 +129,7 @@ module _ {A : Type 0} {cmp : A → A → Ordering} (o : IsTotalOrder cmp) (spell
 
     joined : (redraws : Bool) (p s : Req A) (coins : Source) (r : Result (Unit {0}) ErrorKind) (t : Req A) (coins' : Source) → IsSound cmp p → IsSound cmp s →
         JoinsIn cmp spelling bit next redraws p s coins r t coins' →
-        Obeys ((req_rules {A = A}).merged redraws (req_shape s) (req_shape p)) (λ t coins'. IsMerged (req_kind cmp spelling) bit next redraws s p coins t coins' × IsSound cmp t) s coins r t coins'
+        Obeys ((req_rules {A = A}).merged redraws (req_shape s) (req_shape p)) (λ t coins'. IsSketchMerged (req_kind cmp spelling) bit next redraws s p coins t coins' × IsSound cmp t) s coins r t coins'
     joined redraws p s coins (Ok u) t coins' other was h =
         ((record { shape_is = ap₂ none_if accepted shape; empty = λ none. let kept = h.2 same none in (kept.1, kept.2); after = after }, h.5), tt, tt)
       where

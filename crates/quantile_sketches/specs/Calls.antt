@@ -6,7 +6,7 @@ use Rattle.sketch_base.specs.declared.error.ErrorKind.{ErrorKind}
 use Rattle.sketch_base.specs.declared.error.ErrorKind.TheVariants.{InvalidArgument, OutOfMemory}
 use Rattle.quantile_sketches.specs.Behaviour.{Behaviour, Change}
 use Rattle.quantile_sketches.specs.Rules.{Kind}
-use Rattle.quantile_sketches.specs.RunSteps.{Refuses, IsFresh, IsPlainCopy, IsReadBack, IsUpdated, IsWeighted, IsRedrawn, IsMerged}
+use Rattle.quantile_sketches.specs.RunSteps.{Refuses, IsFresh, IsPlainCopy, IsReadBack, IsUpdated, IsWeighted, IsRedrawn, IsSketchMerged}
 
 -- the call is refused if that is said up front, else it may run out of memory; both change nothing
 abbrev pub Foretells : {S Source : Type 0} → Change Source S → S → Bool → Type 0
@@ -33,7 +33,7 @@ module _ {A C Shape S Source : Type 0} (behaviour : Behaviour S A C) (kind : Kin
     pub redrawn : Follows (behaviour.redrawn Source bit next) kind.look.rules.redrawn (IsRedrawn kind bit next)
     pub joined : (redraws : Bool) (p : S) → kind.IsSound p →
         Follows (behaviour.joined redraws p Source bit next) (λ shape. kind.look.rules.merged redraws shape (kind.look.shape p))
-        (λ s coins t coins'. IsMerged kind bit next redraws s p coins t coins' × kind.IsSound t)
+        (λ s coins t coins'. IsSketchMerged kind bit next redraws s p coins t coins' × kind.IsSound t)
     pub refuses : (redraws : Bool) (s p : S) (answer : Bool) → kind.IsSound s → kind.IsSound p → behaviour.refuses redraws s p answer →
         (IsTrue answer ↔ (kind.look.rules.merged redraws (kind.look.shape s) (kind.look.shape p) ≡ None))
     pub imaged : (s : S) (r : Result (Vec ℕ Global) ErrorKind) → kind.IsSound s → behaviour.imaged s r →

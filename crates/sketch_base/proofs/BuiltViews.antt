@@ -4,8 +4,8 @@ use Rattle.std.specs.Prelude.{Option}
 use Rattle.std.specs.Cmp.{IsTotalOrder}
 use Rattle.std.specs.List.{All}
 use Rattle.sketch_base.specs.Bag.{SameItems, sort}
-use Rattle.sketch_base.specs.Pairs.{copies, distinct, extreme_among, joined, joined_weights}
-use Rattle.sketch_base.specs.Views.{View, view_of}
+use Rattle.sketch_base.specs.Pairs.{copies, distinct, extreme_among, kept_items, kept_weights}
+use Rattle.sketch_base.specs.Views.{View, view_from}
 use Rattle.sketch_base.proofs.JoinedViews.{held-joined, joined-entries}
 
 -- the view of weighted items, and their extremes if there are any
@@ -22,8 +22,8 @@ extreme-there (w ∷ ws) extreme h = refl
 -- the items that were kept
 pub built-joined : {A : Type 0} {cmp : A → A → Ordering} → IsTotalOrder cmp → (joins : Bool) (weighted pairs : List (A × ℕ)) → IsPermutation weighted pairs →
     IsSorted cmp (map (λ (pair : A × ℕ). pair.0) pairs) → All (λ (pair : A × ℕ). 0 < pair.1) weighted →
-    (least greatest : Option A) (v : View A) (xs : List A) (cumulated : List ℕ) → v ≡ view_of xs cumulated least greatest →
-    xs ≡ joined cmp joins pairs → cumulated ≡ joined_weights cmp joins 0 pairs → 0 < length weighted → IsBuilt cmp joins weighted least greatest v
+    (least greatest : Option A) (v : View A) (xs : List A) (cumulated : List ℕ) → v ≡ view_from xs cumulated least greatest →
+    xs ≡ kept_items cmp joins pairs → cumulated ≡ kept_weights cmp joins 0 pairs → 0 < length weighted → IsBuilt cmp joins weighted least greatest v
 built-joined order joins weighted pairs same sorted weights least greatest v xs cumulated is is_joined is_weights some = rw (is, is_joined, is_weights) (record {
   entries = joined-entries order joins weighted pairs same sorted weights;
   held_is = held-joined order joins weighted pairs same sorted weights;

@@ -13,7 +13,7 @@ use Rattle.std.proofs.lemmas.List.Sums.{sum_by-cons, sum_by-append}
 use Rattle.std.proofs.lemmas.List.Folds.{sum_by-replicate}
 use Rattle.std.proofs.lemmas.List.Sorted.{All-permutation, length_permutation, sum_by-IsPermutation}
 use Rattle.sketch_base.specs.Bag.{SameItems, sort}
-use Rattle.sketch_base.specs.Pairs.{begins_equal, copies, distinct, is_kept, joined, joined_weights}
+use Rattle.sketch_base.specs.Pairs.{begins_equal, copies, distinct, is_kept, kept_items, kept_weights}
 use Rattle.sketch_base.specs.Query.{counted}
 use Rattle.sketch_base.specs.Queries.{spread_out, spread_over}
 use Rattle.sketch_base.specs.Views.{IsThere, IsView}
@@ -81,26 +81,26 @@ module _ {A : Type 0} where
   carried-none n f (p ∷ ps) e = ap (λ m. m * f p.0) e ∙ omega arith
 
 module _ {A : Type 0} (cmp : A → A → Ordering) (joins : Bool) where
-  same-length : (before : ℕ) (pairs : List (A × ℕ)) → length (joined cmp joins pairs) ≡ length (joined_weights cmp joins before pairs)
+  same-length : (before : ℕ) (pairs : List (A × ℕ)) → length (kept_items cmp joins pairs) ≡ length (kept_weights cmp joins before pairs)
   same-length before [] = refl
   same-length before (p ∷ ps) = grind (arith, same-length (before + p.1) ps)
 
-  few-joined : (pairs : List (A × ℕ)) → length (joined cmp joins pairs) ≤ length pairs
+  few-joined : (pairs : List (A × ℕ)) → length (kept_items cmp joins pairs) ≤ length pairs
   few-joined [] = omega arith
   few-joined (p ∷ ps) = grind (arith, few-joined ps)
 
-  climbs-joined : (low before : ℕ) (pairs : List (A × ℕ)) → low ≤ before → HaveWeight pairs → Climbs low (joined_weights cmp joins before pairs)
+  climbs-joined : (low before : ℕ) (pairs : List (A × ℕ)) → low ≤ before → HaveWeight pairs → Climbs low (kept_weights cmp joins before pairs)
   climbs-joined low before [] le h = tt
   climbs-joined low before (p ∷ ps) le h =
-      elim (is_kept cmp joins p.0 ps) as (λ (b : Bool). Climbs low (if b then (before + p.1) ∷ joined_weights cmp joins (before + p.1) ps else joined_weights cmp joins (before + p.1) ps)) [
+      elim (is_kept cmp joins p.0 ps) as (λ (b : Bool). Climbs low (if b then (before + p.1) ∷ kept_weights cmp joins (before + p.1) ps else kept_weights cmp joins (before + p.1) ps)) [
         | true ↦ (omega (arith, le), climbs-joined (before + p.1) (before + p.1) ps (omega arith) h.1)
         | false ↦ climbs-joined low (before + p.1) ps (omega (arith, le)) h.1
       ]
 
-  all-joined : (P : A → Type 0) (pairs : List (A × ℕ)) → AllByRecursion P (items_in pairs) → AllByRecursion P (joined cmp joins pairs)
+  all-joined : (P : A → Type 0) (pairs : List (A × ℕ)) → AllByRecursion P (items_in pairs) → AllByRecursion P (kept_items cmp joins pairs)
   all-joined P [] h = tt
   all-joined P (p ∷ ps) h =
-      elim (is_kept cmp joins p.0 ps) as (λ (b : Bool). AllByRecursion P (if b then p.0 ∷ joined cmp joins ps else joined cmp joins ps)) [ true ↦ (h.0, all-joined P ps h.1) | false ↦ all-joined P ps h.1 ]
+      elim (is_kept cmp joins p.0 ps) as (λ (b : Bool). AllByRecursion P (if b then p.0 ∷ kept_items cmp joins ps else kept_items cmp joins ps)) [ true ↦ (h.0, all-joined P ps h.1) | false ↦ all-joined P ps h.1 ]
 
 module _ {A : Type 0} (cmp : A → A → Ordering) where
   -- each item is below all items after it
@@ -116,9 +116,9 @@ module _ {A : Type 0} (cmp : A → A → Ordering) where
   begins-above x before _ _ h up = refl
 
 module _ {A : Type 0} {cmp : A → A → Ordering} (order : IsTotalOrder cmp) where
-  ordered-joined : (joins : Bool) (pairs : List (A × ℕ)) → Ordered order (items_in pairs) → Ordered order (joined cmp joins pairs)
+  ordered-joined : (joins : Bool) (pairs : List (A × ℕ)) → Ordered order (items_in pairs) → Ordered order (kept_items cmp joins pairs)
   ordered-joined joins [] up = tt
-  ordered-joined joins (p ∷ ps) up = elim (is_kept cmp joins p.0 ps) as (λ (b : Bool). Ordered order (if b then p.0 ∷ joined cmp joins ps else joined cmp joins ps)) [
+  ordered-joined joins (p ∷ ps) up = elim (is_kept cmp joins p.0 ps) as (λ (b : Bool). Ordered order (if b then p.0 ∷ kept_items cmp joins ps else kept_items cmp joins ps)) [
     | true ↦ (all-joined cmp joins (λ y. is_gt (cmp p.0 y) ≡ false) ps up.0, ordered-joined joins ps up.1)
     | false ↦ ordered-joined joins ps up.1
   ]
@@ -132,7 +132,7 @@ module _ {A : Type 0} {cmp : A → A → Ordering} (order : IsTotalOrder cmp) wh
 
   -- the list that joined items stand for has the sum of the weighted items, and of the weight carried on to them
   sum-joined : (f : A → ℕ) → ((x y : A) → cmp x y ≡ Equal → f x ≡ f y) → (joins : Bool) (low before : ℕ) (pairs : List (A × ℕ)) → low ≤ before → Ordered order (items_in pairs) →
-      sum_by f (spread_over low (joined cmp joins pairs) (joined_weights cmp joins before pairs)) ≡ carried (before - low) f pairs + weigh_pairs f pairs
+      sum_by f (spread_over low (kept_items cmp joins pairs) (kept_weights cmp joins before pairs)) ≡ carried (before - low) f pairs + weigh_pairs f pairs
   sum-joined f respects joins low before [] le up = refl
   sum-joined f respects joins low before (p ∷ ps) le up = grind (
     arith,
@@ -140,7 +140,7 @@ module _ {A : Type 0} {cmp : A → A → Ordering} (order : IsTotalOrder cmp) wh
     carry,
     sum-joined f respects joins (before + p.1) (before + p.1) ps (omega arith) up.1,
     sum-joined f respects joins low (before + p.1) ps (omega (arith, le)) up.1,
-    sum_by-append f (replicate (before + p.1 - low) p.0) (spread_over (before + p.1) (joined cmp joins ps) (joined_weights cmp joins (before + p.1) ps)),
+    sum_by-append f (replicate (before + p.1 - low) p.0) (spread_over (before + p.1) (kept_items cmp joins ps) (kept_weights cmp joins (before + p.1) ps)),
     sum_by-replicate f (before + p.1 - low) p.0,
     carried-none (before + p.1 - (before + p.1)) f ps (omega arith),
     sum_by-cons (λ (pair : A × ℕ). pair.1 * f pair.0) p ps,
@@ -158,9 +158,9 @@ module _ {A : Type 0} {cmp : A → A → Ordering} (order : IsTotalOrder cmp) wh
   below-all x (p ∷ ps) e up =
       let first = less-from_is_lt (cmp x p.0) e in (first, all-map (λ y. is_gt (cmp p.0 y) ≡ false) (λ y. cmp x y ≡ Less) (λ y. below order x p.0 y first) (items_in ps) up.0)
 
-  below-joined : (pairs : List (A × ℕ)) → Ordered order (items_in pairs) → AllBelow cmp (joined cmp true pairs)
+  below-joined : (pairs : List (A × ℕ)) → Ordered order (items_in pairs) → AllBelow cmp (kept_items cmp true pairs)
   below-joined [] up = tt
-  below-joined (p ∷ ps) up = (elim (is_kept cmp true p.0 ps) as (λ (b : Bool). is_kept cmp true p.0 ps ≡ b → AllBelow cmp (if b then p.0 ∷ joined cmp true ps else joined cmp true ps)) [
+  below-joined (p ∷ ps) up = (elim (is_kept cmp true p.0 ps) as (λ (b : Bool). is_kept cmp true p.0 ps ≡ b → AllBelow cmp (if b then p.0 ∷ kept_items cmp true ps else kept_items cmp true ps)) [
     | true ↦ λ e. (all-joined cmp true (λ y. cmp p.0 y ≡ Less) ps (below-all p.0 ps e up.1), below-joined ps up.1)
     | false ↦ λ e. below-joined ps up.1
   ]) refl
@@ -192,16 +192,16 @@ module _ {A : Type 0} {cmp : A → A → Ordering} (order : IsTotalOrder cmp) wh
     weigh : HaveWeight pairs
     weigh = all-by_recursion (λ (pair : A × ℕ). 0 < pair.1) pairs (All-permutation (λ (pair : A × ℕ). 0 < pair.1) weighted pairs same weights)
 
-    sum-spread : (f : A → ℕ) → ((x y : A) → cmp x y ≡ Equal → f x ≡ f y) → sum_by f (spread_out (joined cmp joins pairs) (joined_weights cmp joins 0 pairs)) ≡ weigh_pairs f pairs
+    sum-spread : (f : A → ℕ) → ((x y : A) → cmp x y ≡ Equal → f x ≡ f y) → sum_by f (spread_out (kept_items cmp joins pairs) (kept_weights cmp joins 0 pairs)) ≡ weigh_pairs f pairs
     sum-spread f respects = omega (arith, sum-joined f respects joins 0 0 pairs (omega arith) up, carried-none (0 - 0) f pairs (omega arith))
 
-    long : length (spread_out (joined cmp joins pairs) (joined_weights cmp joins 0 pairs)) ≡ weigh_pairs (λ x. 1) pairs
-    long = sym (sum-ones (spread_out (joined cmp joins pairs) (joined_weights cmp joins 0 pairs))) ∙ sum-spread (λ x. 1) (λ x y e. refl)
+    long : length (spread_out (kept_items cmp joins pairs) (kept_weights cmp joins 0 pairs)) ≡ weigh_pairs (λ x. 1) pairs
+    long = sym (sum-ones (spread_out (kept_items cmp joins pairs) (kept_weights cmp joins 0 pairs))) ∙ sum-spread (λ x. 1) (λ x y e. refl)
 
     -- the entries are the copies of the weighted items, sorted
-    pub joined-entries : SameItems cmp (sort cmp (copies weighted)) (spread_out (joined cmp joins pairs) (joined_weights cmp joins 0 pairs))
-    joined-entries = items-from_counts order (sort cmp (copies weighted)) (spread_out (joined cmp joins pairs) (joined_weights cmp joins 0 pairs)) (Ordered-sort order (copies weighted))
-        (Ordered-spread_over order 0 (joined cmp joins pairs) (joined_weights cmp joins 0 pairs) (ordered-joined joins pairs up)) (λ z c.
+    pub joined-entries : SameItems cmp (sort cmp (copies weighted)) (spread_out (kept_items cmp joins pairs) (kept_weights cmp joins 0 pairs))
+    joined-entries = items-from_counts order (sort cmp (copies weighted)) (spread_out (kept_items cmp joins pairs) (kept_weights cmp joins 0 pairs)) (Ordered-sort order (copies weighted))
+        (Ordered-spread_over order 0 (kept_items cmp joins pairs) (kept_weights cmp joins 0 pairs) (ordered-joined joins pairs up)) (λ z c.
         let one : A → ℕ = λ x. cond (counted cmp z c x) 1 0 in
         sum_by-sort one cmp (copies weighted) ∙ (sum-copies one weighted ∙ (grind (arith, common_steps, sum_by-IsPermutation, sum-spread, counted-equal))))
 
@@ -209,29 +209,29 @@ module _ {A : Type 0} {cmp : A → A → Ordering} (order : IsTotalOrder cmp) wh
     there extreme h n l = grind (arith, common_steps, false≢true)
 
     -- the joined items make a view
-    pub joined-view : (least greatest : Option A) → 0 < length weighted → IsSome least → IsSome greatest → IsView cmp (joined cmp joins pairs) (joined_weights cmp joins 0 pairs) least greatest
+    pub joined-view : (least greatest : Option A) → 0 < length weighted → IsSome least → IsSome greatest → IsView cmp (kept_items cmp joins pairs) (kept_weights cmp joins 0 pairs) least greatest
     joined-view least greatest some l g =
-        let whole : 0 < length (spread_out (joined cmp joins pairs) (joined_weights cmp joins 0 pairs)) = omega (arith, long, long-enough pairs weigh, length_permutation weighted pairs same, some) in
+        let whole : 0 < length (spread_out (kept_items cmp joins pairs) (kept_weights cmp joins 0 pairs)) = omega (arith, long, long-enough pairs weigh, length_permutation weighted pairs same, some) in
         record {
           cumulates = record {
             one_each = same-length cmp joins 0 pairs;
             none_falls =
-                non_decreasing_from_rises 0 (joined_weights cmp joins 0 pairs) (rises-from_climbs 0 (joined_weights cmp joins 0 pairs) (climbs-joined cmp joins 0 0 pairs (omega arith) weigh));
+                non_decreasing_from_rises 0 (kept_weights cmp joins 0 pairs) (rises-from_climbs 0 (kept_weights cmp joins 0 pairs) (climbs-joined cmp joins 0 0 pairs (omega arith) weigh));
           };
-          sorted = IsSorted-from_ordered cmp order (joined cmp joins pairs) (ordered-joined joins pairs up);
+          sorted = IsSorted-from_ordered cmp order (kept_items cmp joins pairs) (ordered-joined joins pairs up);
           no_more_items = omega (arith, long, long-enough pairs weigh, few-joined cmp joins pairs);
-          least_there = there least l (length (spread_out (joined cmp joins pairs) (joined_weights cmp joins 0 pairs))) whole;
-          greatest_there = there greatest g (length (spread_out (joined cmp joins pairs) (joined_weights cmp joins 0 pairs))) whole;
+          least_there = there least l (length (spread_out (kept_items cmp joins pairs) (kept_weights cmp joins 0 pairs))) whole;
+          greatest_there = there greatest g (length (spread_out (kept_items cmp joins pairs) (kept_weights cmp joins 0 pairs))) whole;
         }
 
   -- all items are held, or one of each group of equal entries
-  all-kept : (pairs : List (A × ℕ)) → length (joined cmp false pairs) ≡ length pairs
+  all-kept : (pairs : List (A × ℕ)) → length (kept_items cmp false pairs) ≡ length pairs
   all-kept [] = refl
   all-kept (p ∷ []) = refl
   all-kept (p ∷ q ∷ ps) = ap suc (all-kept (q ∷ ps))
 
   pub held-joined : (joins : Bool) (weighted pairs : List (A × ℕ)) → IsPermutation weighted pairs → IsSorted cmp (items_in pairs) → All (λ (pair : A × ℕ). 0 < pair.1) weighted →
-      length (joined cmp joins pairs) ≡ (if joins then distinct cmp (spread_out (joined cmp joins pairs) (joined_weights cmp joins 0 pairs)) else length weighted)
+      length (kept_items cmp joins pairs) ≡ (if joins then distinct cmp (spread_out (kept_items cmp joins pairs) (kept_weights cmp joins 0 pairs)) else length weighted)
   held-joined false weighted pairs same sorted weights = all-kept pairs ∙ length_permutation weighted pairs same
-  held-joined true weighted pairs same sorted weights = sym (distinct-spread 0 (joined cmp true pairs) (joined_weights cmp true 0 pairs) (same-length cmp true 0 pairs)
+  held-joined true weighted pairs same sorted weights = sym (distinct-spread 0 (kept_items cmp true pairs) (kept_weights cmp true 0 pairs) (same-length cmp true 0 pairs)
       (climbs-joined cmp true 0 0 pairs (omega arith) (weigh true weighted pairs same sorted weights)) (below-joined pairs (up true weighted pairs same sorted weights)))

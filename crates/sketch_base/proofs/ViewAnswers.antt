@@ -3,11 +3,11 @@ use Rattle.std.proofs.lemmas.Grind.{common_steps}
 use Rattle.std.proofs.Common.{◌≡◌, ℕ, ◌<◌, ◌≤◌, Bool, true, false, nat_eq, List, length, sym, ap, ◌∙◌, subst, arith, Bor, Ordering, Equal}
 use Rattle.std.specs.Prelude.{Option, Some, option_copied}
 use Rattle.sketch_base.specs.Queries.{SameAnswer, spread_out}
-use Rattle.sketch_base.specs.Views.{View, view_of}
+use Rattle.sketch_base.specs.Views.{View, view_from}
 use Rattle.sketch_base.proofs.MovedCounts.{emptied, some-unless_empty}
 
 -- a view of some items has entries, and one of no items has none
-module _ {A : Type 0} (v : View A) (xs : List A) (cumulated : List ℕ) (least greatest : Option A) (is : v ≡ view_of xs cumulated least greatest) (b : Bool)
+module _ {A : Type 0} (v : View A) (xs : List A) (cumulated : List ℕ) (least greatest : Option A) (is : v ≡ view_from xs cumulated least greatest) (b : Bool)
     (k : ℕ) (empty : b ≡ nat_eq k 0) (len : k ≡ length xs) where
   pub entries-there : b ≡ false → length xs ≤ length (spread_out xs cumulated) → 0 < length v.entries
   entries-there e fits = omega (arith, some-unless_empty b k xs empty e len, fits, ap (λ (w : View A). length w.entries) is)
@@ -19,7 +19,7 @@ module _ {A : Type 0} (v : View A) (xs : List A) (cumulated : List ℕ) (least g
 
 -- what holds of the entries that a view's items stand for holds of the view's entries
 pub at-entries : {A : Type 0} (P : List A → Type 0) (v : View A) (ys xs : List A) (ns cumulated : List ℕ) (least greatest : Option A) →
-    v ≡ view_of xs cumulated least greatest → ys ≡ xs → ns ≡ cumulated →
+    v ≡ view_from xs cumulated least greatest → ys ≡ xs → ns ≡ cumulated →
     P (spread_out ys ns) → P v.entries
 at-entries {A} P v ys xs ns cumulated least greatest is e f h =
     subst (λ (w : View A). P w.entries) (sym is) (subst (λ (zs : List A). P (spread_out zs cumulated)) e (subst (λ (ms : List ℕ). P (spread_out ys ms)) f h))

@@ -30,16 +30,16 @@ is_kept cmp joins x [] = true
 is_kept cmp joins x (pair ∷ pairs) = not joins || is_lt (cmp x pair.0)
 
 -- sorted weighted items without their weights, all or the last of each group whose items compare equal
-abbrev pub joined : {A : Type 0} → (A → A → Ordering) → (joins : Bool) → List (A × ℕ) → List A
-joined cmp joins [] = []
-joined cmp joins (pair ∷ pairs) = if is_kept cmp joins pair.0 pairs then pair.0 ∷ joined cmp joins pairs else joined cmp joins pairs
+abbrev pub kept_items : {A : Type 0} → (A → A → Ordering) → (joins : Bool) → List (A × ℕ) → List A
+kept_items cmp joins [] = []
+kept_items cmp joins (pair ∷ pairs) = if is_kept cmp joins pair.0 pairs then pair.0 ∷ kept_items cmp joins pairs else kept_items cmp joins pairs
 
 -- the weight up to each of them, plus the weight before the list
-abbrev pub joined_weights : {A : Type 0} → (A → A → Ordering) → (joins : Bool) → ℕ → List (A × ℕ) → List ℕ
-joined_weights cmp joins before [] = []
-joined_weights cmp joins before (pair ∷ pairs) =
-    if is_kept cmp joins pair.0 pairs then (before + pair.1) ∷ joined_weights cmp joins (before + pair.1) pairs
-    else joined_weights cmp joins (before + pair.1) pairs
+abbrev pub kept_weights : {A : Type 0} → (A → A → Ordering) → (joins : Bool) → ℕ → List (A × ℕ) → List ℕ
+kept_weights cmp joins before [] = []
+kept_weights cmp joins before (pair ∷ pairs) =
+    if is_kept cmp joins pair.0 pairs then (before + pair.1) ∷ kept_weights cmp joins (before + pair.1) pairs
+    else kept_weights cmp joins (before + pair.1) pairs
 
 -- pairs of equal weight whose items compare equal, place by place
 abbrev pub SamePairs : {A : Type 0} → (A → A → Ordering) → List (A × ℕ) → List (A × ℕ) → Type 0

@@ -9,7 +9,7 @@ ghost use Rattle.sketch_base.specs.Bag.{SameItems, sort};
 ghost use Rattle.sketch_base.specs.Pairs.{copies, distinct, extreme_among};
 ghost use Rattle.sketch_base.specs.Queried.{AreQuantiles, EndsAt, IsCdf, IsPmf, IsQuantile, IsRank, quantile_of};
 ghost use Rattle.sketch_base.specs.Queries.{IsFraction};
-ghost use Rattle.sketch_base.specs.Views.{IsView, SameView, queried_view, view_of};
+ghost use Rattle.sketch_base.specs.Views.{IsView, SameView, queried_view, view_from};
 
 use crate::common::extremes::clone_found;
 use crate::common::{Rank, SearchCriteria, queries};
@@ -29,11 +29,11 @@ pub struct SortedView<T: Clone + Ord> {
 }
 
 impl<T: Clone + Ord> Model for SortedView<T> {
-    ghost use Rattle.sketch_base.specs.Views.{View, IsView, view_of};
+    ghost use Rattle.sketch_base.specs.Views.{View, IsView, view_from};
 
     ghost Value = { View T };
 
-    ghost view = { λ v. view_of v.items.items v.cumulated.items v.min_item v.max_item };
+    ghost view = { λ v. view_from v.items.items v.cumulated.items v.min_item v.max_item };
 
     ghost invariant = { λ v. IsView T.cmp v.items.items v.cumulated.items v.min_item v.max_item };
 }
@@ -108,7 +108,7 @@ impl<T: Clone + Ord> SortedView<T> {
         max_item: Option<T>,
     ) -> Self
         requires { IsView T.cmp items.items cumulated.items min_item max_item }
-        ensures { result ≡ view_of items.items cumulated.items min_item max_item }
+        ensures { result ≡ view_from items.items cumulated.items min_item max_item }
     {
         SortedView {
             items,

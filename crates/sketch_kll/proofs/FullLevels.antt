@@ -8,7 +8,7 @@ use Rattle.sketch_kll.specs.Schedule.{lowest_full}
 use Rattle.std.specs.Prelude.{◌||◌}
 use Rattle.sketch_kll.specs.Capacity.{capacity_at, total_of}
 use Rattle.sketch_kll.specs.Compress.{passes}
-use Rattle.sketch_kll.specs.Levels.{retained, first_level, compacted}
+use Rattle.sketch_kll.specs.Levels.{retained_in, first_level, compacted}
 use Rattle.sketch_kll.specs.Steps.{full_level, is_full, compacted_if_full, needs_sorting}
 use Rattle.sketch_kll.proofs.Flats.{drop_level}
 
@@ -18,7 +18,7 @@ length-lengths [] = refl
 length-lengths (l ∷ ls) = ap suc (length-lengths ls)
 
 -- the lengths of the levels add up to the number of retained items
-pub sum-lengths : {A : Type 0} (ls : List (List A)) → sum (map length ls) ≡ retained ls
+pub sum-lengths : {A : Type 0} (ls : List (List A)) → sum (map length ls) ≡ retained_in ls
 sum-lengths [] = refl
 sum-lengths (l ∷ ls) = sum_by-cons (λ (n : ℕ). n) (length l) (map length ls) ∙ ap (λ (n : ℕ). length l + n) (sum-lengths ls)
 
@@ -29,24 +29,24 @@ length-at [] (suc level) = refl
 length-at ls level = refl
 
 -- whether levels are full, by the levels
-pub full_by_levels : {A : Type 0} (k : ℕ) (ls : List (List A)) → is_full k ls ≡ nat_le (total_of k 8 (length ls)) (retained ls)
+pub full_by_levels : {A : Type 0} (k : ℕ) (ls : List (List A)) → is_full k ls ≡ nat_le (total_of k 8 (length ls)) (retained_in ls)
 full_by_levels k ls = ap₂ (λ (n m : ℕ). nat_le (total_of k 8 n) m) (length-lengths ls) (sum-lengths ls)
 
 -- levels below it are not
-pub spare_from : {A : Type 0} (k : ℕ) (ls : List (List A)) → retained ls < total_of k 8 (length ls) → is_full k ls ≡ false
+pub spare_from : {A : Type 0} (k : ℕ) (ls : List (List A)) → retained_in ls < total_of k 8 (length ls) → is_full k ls ≡ false
 spare_from k ls h = full_by_levels k ls ∙ lt-leb _ _ h
 
 -- full levels are at or over it
-pub full_holds : {A : Type 0} (k : ℕ) (ls : List (List A)) → is_full k ls ≡ true → total_of k 8 (length ls) ≤ retained ls
+pub full_holds : {A : Type 0} (k : ℕ) (ls : List (List A)) → is_full k ls ≡ true → total_of k 8 (length ls) ≤ retained_in ls
 full_holds k ls e = leb-true _ _ (sym (full_by_levels k ls) ∙ e)
 
 -- levels that are not full are below it
-pub spare_holds : {A : Type 0} (k : ℕ) (ls : List (List A)) → is_full k ls ≡ false → retained ls < total_of k 8 (length ls)
+pub spare_holds : {A : Type 0} (k : ℕ) (ls : List (List A)) → is_full k ls ≡ false → retained_in ls < total_of k 8 (length ls)
 spare_holds k ls e = leb-false _ _ (sym (full_by_levels k ls) ∙ e)
 
 -- whether general compress leaves a level as it is, by the levels
 pub passes_by_levels : {A : Type 0} (k : ℕ) (ls : List (List A)) (level : ℕ) →
-    passes k ls level ≡ (nat_lt (retained ls) (total_of k 8 (length ls)) || nat_lt (length (first_level (drop level ls))) (capacity_at k 8 (length ls - 1 - level)))
+    passes k ls level ≡ (nat_lt (retained_in ls) (total_of k 8 (length ls)) || nat_lt (length (first_level (drop level ls))) (capacity_at k 8 (length ls - 1 - level)))
 passes_by_levels k ls level =
     ap₂ (λ (x y : Bool). x || y)
     (ap₂ (λ (n r : ℕ). nat_lt r (total_of k 8 n)) (length-lengths ls) (sum-lengths ls))
@@ -60,10 +60,10 @@ passes_is k level ls full = grind (arith, common_steps, le-ltb, full_holds, pass
 -- the invariant of the loop that looks for a level to compact
 pub record SeeksFull {A : Type 0} (k : ℕ) (ls : List (List A)) (level : ℕ) : Type 0 where
   pub same : full_level k ls ≡ level + full_level k (drop level ls)
-  pub more : total_of k 8 (length (drop level ls)) + level ≤ retained (drop level ls)
+  pub more : total_of k 8 (length (drop level ls)) + level ≤ retained_in (drop level ls)
 
 -- the invariant holds before the first level
-pub seeks_start : {A : Type 0} (k : ℕ) (ls : List (List A)) → total_of k 8 (length ls) ≤ retained ls → SeeksFull k ls 0
+pub seeks_start : {A : Type 0} (k : ℕ) (ls : List (List A)) → total_of k 8 (length ls) ≤ retained_in ls → SeeksFull k ls 0
 seeks_start k ls h = record { same = omega arith; more = omega arith }
 
 -- the first full level that the loop finds is the lowest full one
@@ -84,7 +84,7 @@ seeks_on {A} {k} {level} {ls} full within s on =
     let one : level + 1 ≡ suc level = omega arith in (
       elim (cases_lt (level + 1) (length ls)) [
         | inl h ↦ h
-        | inr h ↦ absurd (omega (arith, next.more, ap retained (drop_all (suc level) ls (omega (arith, h)))))
+        | inr h ↦ absurd (omega (arith, next.more, ap retained_in (drop_all (suc level) ls (omega (arith, h)))))
       ],
       rw one next,
     )
@@ -121,7 +121,7 @@ lowest_full_due k (n ∷ above) h t =
     positive (m ∷ ns) h = omega arith
 
 -- if the levels together are full, one of them is
-pub full_level_at : {A : Type 0} (k : ℕ) (ls : List (List A)) → 0 < length ls → total_of k 8 (length ls) ≤ retained ls →
+pub full_level_at : {A : Type 0} (k : ℕ) (ls : List (List A)) → 0 < length ls → total_of k 8 (length ls) ≤ retained_in ls →
     (full_level k ls < length ls) × (capacity_at k 8 (length ls - 1 - full_level k ls) ≤ length (first_level (drop (full_level k ls) ls)))
 full_level_at k ls h t =
     let due = lowest_full_due k (map length ls) (omega (arith, h, length-lengths ls)) (rw (length-lengths ls, sum-lengths ls) t) in

@@ -3,7 +3,7 @@ use Rattle.std.proofs.Common.{◌≡◌, ℕ, ◌+◌, ◌<◌, List, [], ◌∷
 use Rattle.std.specs.Cmp.{IsTotalOrder}
 use Rattle.std.proofs.lemmas.Cmp.{tied_itself}
 use Rattle.sketch_base.proofs.Items.{SameItems-append}
-use Rattle.sketch_kll.specs.Levels.{retained, weight, SameLevels, UpperSorted}
+use Rattle.sketch_kll.specs.Levels.{retained_in, weight_in, SameLevels, UpperSorted}
 use Rattle.sketch_kll.specs.Flat.{flat, marks, levels_in, IsFlat}
 use Rattle.sketch_kll.specs.Steps.{put, put_all}
 use Rattle.sketch_kll.proofs.Flats.{is_flat, levels_of_flat, length-items}
@@ -12,17 +12,17 @@ flat-put : {A : Type 0} (xs : List A) (ls : List (List A)) → flat (put_all xs 
 flat-put xs [] = refl
 flat-put xs (l ∷ ls) = sym (append_assoc (flat ls) l xs)
 
-marks-put : {A : Type 0} (xs : List A) (ls : List (List A)) → 0 < length ls → marks (put_all xs ls) ≡ set (marks ls) 0 (retained ls + length xs)
+marks-put : {A : Type 0} (xs : List A) (ls : List (List A)) → 0 < length ls → marks (put_all xs ls) ≡ set (marks ls) 0 (retained_in ls + length xs)
 marks-put xs [] h = absurd (omega arith)
 marks-put xs (l ∷ ls) h = ap (λ (n : ℕ). n ∷ marks ls) (omega (arith, length-append l xs))
 
 -- the number of retained items grows by the number of new items
-pub retained-put : {A : Type 0} (xs : List A) (ls : List (List A)) → retained (put_all xs ls) ≡ retained ls + length xs
+pub retained-put : {A : Type 0} (xs : List A) (ls : List (List A)) → retained_in (put_all xs ls) ≡ retained_in ls + length xs
 retained-put xs [] = omega arith
 retained-put xs (l ∷ ls) = omega (arith, length-append l xs)
 
 -- the weight grows by the number of new items
-pub weight-put : {A : Type 0} (xs : List A) (ls : List (List A)) → weight (put_all xs ls) ≡ weight ls + length xs
+pub weight-put : {A : Type 0} (xs : List A) (ls : List (List A)) → weight_in (put_all xs ls) ≡ weight_in ls + length xs
 weight-put xs [] = omega arith
 weight-put xs (l ∷ ls) = omega (arith, length-append l xs)
 
@@ -49,7 +49,7 @@ pub put_flat : {A : Type 0} (xs items items' : List A) (bounds : List ℕ) (n : 
     IsFlat items' (set bounds 0 n) × (levels_in items' (set bounds 0 n) ≡ put_all xs (levels_in items bounds))
 put_flat {A} xs items items' bounds n f h e m =
     let ls : List (List A) = levels_in items bounds in
-    let k : n ≡ retained ls + length xs = omega (arith, m, ap length e, length-append items xs, length-items items bounds f) in
+    let k : n ≡ retained_in ls + length xs = omega (arith, m, ap length e, length-append items xs, length-items items bounds f) in
     let items_are : items' ≡ flat (put_all xs ls) = rw (flat-put xs ls, f.items_are) e in
     let bounds_are : set bounds 0 n ≡ marks (put_all xs ls) = rw (marks-put xs ls h, f.bounds_are, k) refl in
     (is_flat items' (set bounds 0 n) (put_all xs ls) items_are bounds_are, levels_of_flat items' (set bounds 0 n) (put_all xs ls) items_are bounds_are)

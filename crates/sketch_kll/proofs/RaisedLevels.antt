@@ -1,6 +1,6 @@
 -- Levels with empty ones added above the top, as a compaction of the top level and a merge need them.
 use Rattle.std.proofs.Common.{◌≡◌, ◌⊎◌, ℕ, zero, suc, ◌+◌, ◌<◌, Bool, List, [], ◌∷◌, ◌++◌, length, refl, sym, ap, ap₂, ◌∙◌, arith, Ordering, length-append, append-nil, replicate, inl, inr, IsSorted}
-use Rattle.sketch_kll.specs.Levels.{retained, first_level, compacted, AllSorted, UpperSorted}
+use Rattle.sketch_kll.specs.Levels.{retained_in, first_level, compacted, AllSorted, UpperSorted}
 use Rattle.sketch_kll.specs.Stored.{AreStored}
 use Rattle.sketch_base.proofs.AllParts.{all-append}
 use Rattle.sketch_kll.specs.Flat.{flat, marks, levels_in, IsFlat}
@@ -15,7 +15,7 @@ flat-tops {A} j [] = none j
     none zero = refl
     none (suc j) = append-nil (flat (replicate j [])) ∙ none j
 
-retained-tops : {A : Type 0} (j : ℕ) (ls : List (List A)) → retained (ls ++ replicate j []) ≡ retained ls
+retained-tops : {A : Type 0} (j : ℕ) (ls : List (List A)) → retained_in (ls ++ replicate j []) ≡ retained_in ls
 retained-tops j ls = sym (length-flat (ls ++ replicate j [])) ∙ (ap length (flat-tops j ls) ∙ length-flat ls)
 
 marks-tops : {A : Type 0} (j : ℕ) (ls : List (List A)) → marks (ls ++ replicate j []) ≡ marks ls ++ replicate j 0

@@ -11,7 +11,7 @@ use Rattle.sketch_base.proofs.Extremes.{least-on, greatest-on}
 use Rattle.sketch_base.proofs.Fixed.{lengths-acts}
 use Rattle.sketch_base.proofs.Items.{SameItems-refl}
 use Rattle.sketch_base.proofs.PlaysInParts.{in_turn-append}
-use Rattle.sketch_kll.specs.Levels.{weight, SameLevels, UpperSorted}
+use Rattle.sketch_kll.specs.Levels.{weight_in, SameLevels, UpperSorted}
 use Rattle.sketch_kll.specs.Schedule.{updates_actions}
 use Rattle.sketch_base.specs.Extremes.{Ties, greatest_with, least_with}
 use Rattle.sketch_kll.specs.Sketch.{Kll, IsSound, IsUpdated, bag_of, coins_of_update, sketch_of, update_of}
@@ -46,7 +46,7 @@ module _ {A : Type 0} {cmp : A → A → Ordering} (o : IsTotalOrder cmp) where
   updated_fields {S} bit next {source} {after} {s} x {k} {old_k} {old_flag} {flag} {rows} ls {ms} {least} {greatest} {kept_least} {kept_greatest}
       sound small own_k own_flag own_levels alike upper k_is flag_is drawn put_in least_ties least_is greatest_ties greatest_is =
       let start = taking_none cmp o bit next source old_k old_flag rows (kept_levels o sound own_k own_flag own_levels) in
-      let light : weight rows + 0 < 2 ^ 64 = omega (arith, ap weight own_levels, sound.weighs_n, small) in
+      let light : weight_in rows + 0 < 2 ^ 64 = omega (arith, ap weight_in own_levels, sound.weighs_n, small) in
       let took = taking_more cmp o bit next source source after old_k old_flag old_flag rows [] x rows ls ms start light alike upper put_in drawn in
       let made = updates_fields o bit next sound (omega arith) (SameItems-refl cmp o (x ∷ [])) own_k own_flag own_levels k_is took.taken
       (least_of_both o x s.least least least_ties) least_is (greatest_of_both o x s.greatest greatest greatest_ties) greatest_is in

@@ -12,7 +12,7 @@ use Rattle.sketch_base.specs.Random.{bits_from, after_draws}
 use Rattle.sketch_base.specs.Trace.{Action, bag_after, draws_of}
 use Rattle.sketch_base.proofs.Alikes.{acts-kll}
 use Rattle.sketch_base.proofs.AllParts.{all-parts, all-same}
-use Rattle.sketch_kll.specs.Levels.{weight}
+use Rattle.sketch_kll.specs.Levels.{weight_in}
 use Rattle.sketch_kll.specs.Merge.{pulls_actions}
 use Rattle.sketch_kll.specs.Sketch.{Kll, IsSound, sketch_of, bag_in}
 use Rattle.sketch_kll.specs.Take.{HaveTaken, updates_of}
@@ -86,7 +86,7 @@ module _ {A : Type 0} {cmp : A → A → Ordering} (o : IsTotalOrder cmp) where
       let high = all-parts (λ y. IsUpTo cmp greatest y) (option_to_list s.greatest) items (up_to_all o _ greatest greatest_of) in
       let between = m.between least greatest
       (all-both (λ y. IsFrom cmp least y) (λ y. IsUpTo cmp greatest y) items low.1 high.1, still_between o s.least s.greatest least greatest low.0 high.0 s.levels sound.items_between) in
-      let weighs : weight ms ≡ s.n + length items = omega (arith, m.weighs, sound.weighs_n) in
+      let weighs : weight_in ms ≡ s.n + length items = omega (arith, m.weighs, sound.weighs_n) in
       let ends = ends_there o (s.n + length items) least greatest ms (omega arith) (omega (arith, weighs)) between in
       rw (k_kept, own_k, least_is, greatest_is) (record {
         sound = grind (arith, common_steps, none_at_first, one_ties, all_none);

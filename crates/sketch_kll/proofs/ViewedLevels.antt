@@ -7,7 +7,7 @@ use Rattle.sketch_base.specs.Queries.{SameAnswer}
 use Rattle.sketch_base.specs.Views.{IsThere, IsViewOf, View}
 use Rattle.sketch_base.proofs.SketchViews.{built-view}
 use Rattle.sketch_kll.specs.Flat.{IsFlat, levels_in}
-use Rattle.sketch_kll.specs.Levels.{weight}
+use Rattle.sketch_kll.specs.Levels.{weight_in}
 use Rattle.sketch_kll.specs.Sketch.{IsSound, Kll, bag_in, bag_of, queried, sketch_of}
 use Rattle.sketch_kll.specs.Stored.{AreStored, Stored, stored_of}
 use Rattle.sketch_kll.proofs.Flats.{length-bounds, length-items}
@@ -26,9 +26,9 @@ module _ {A : Type 0} (cmp : A → A → Ordering) where
   pub record CanBeViewed (items : List A) (bounds : List ℕ) (least greatest : Option A) : Type 0 where
     pub flat : IsFlat items bounds
     pub few : length bounds ≤ 62
-    pub weighs : weight (levels_in items bounds) < 2 ^ 64
-    pub least_there : IsThere least (weight (levels_in items bounds))
-    pub greatest_there : IsThere greatest (weight (levels_in items bounds))
+    pub weighs : weight_in (levels_in items bounds) < 2 ^ 64
+    pub least_there : IsThere least (weight_in (levels_in items bounds))
+    pub greatest_there : IsThere greatest (weight_in (levels_in items bounds))
 
   -- a sound sketch has all of it
   pub can_be_viewed : {k total items_room bounds_room min_k n : ℕ} {is_sorted : Bool} {items items' : List A} {bounds bounds' : List ℕ} {seen : Stored A}

@@ -4,7 +4,7 @@ use Rattle.std.specs.declared.cmp.Ordering.{Ordering}
 use Rattle.sketch_kll.specs.declared.levels.merging.Incoming.{Incoming}
 use Rattle.sketch_kll.specs.Capacity.{total_of}
 use Rattle.sketch_kll.specs.Flat.{marks, levels_in, IsFlat}
-use Rattle.sketch_kll.specs.Levels.{retained, SameLevels, UpperSorted}
+use Rattle.sketch_kll.specs.Levels.{retained_in, SameLevels, UpperSorted}
 
 -- k, whether level 0 counts as sorted, the levels, and how many items and bounds there is room for
 pub record Stored (A : Type 0) : Type 0 where
@@ -43,9 +43,9 @@ pub record KeepsRoom {A : Type 0} (x y : Stored A) : Type 0 where
 
 -- there is room for all bounds and for the incoming items of level 0, and `merged` is empty with room for all items together
 pub record IsReady {A : Type 0} (x : Stored A) (y : Incoming A) : Type 0 where
-  pub items_room : retained x.levels + vec_len y.low ≤ x.items_room
+  pub items_room : retained_in x.levels + vec_len y.low ≤ x.items_room
   pub bounds_room : 63 ≤ x.bounds_room
-  pub merged_room : retained x.levels + vec_len y.low + vec_len y.upper ≤ vec_capacity y.merged
+  pub merged_room : retained_in x.levels + vec_len y.low + vec_len y.upper ≤ vec_capacity y.merged
   pub merged_empty : y.merged.items ≡ []
 
 -- clones of these levels: `low` holds those of level 0, and `upper` those of the levels above it, between the same bounds

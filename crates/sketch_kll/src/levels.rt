@@ -5,7 +5,7 @@ ghost use Rattle.std.specs.Prelude.{◌≡◌, ◌+◌, ◌-◌, ◌^◌, ◌<�
 ghost use Rattle.sketch_base.specs.Query.{counted};
 ghost use Rattle.sketch_kll.specs.Capacity.{capacity_at, total_of};
 ghost use Rattle.sketch_kll.specs.Flat.{levels_in, IsFlat};
-ghost use Rattle.sketch_kll.specs.Levels.{retained, weight as weight_in, first_level, compacted, SameLevels, UpperSorted};
+ghost use Rattle.sketch_kll.specs.Levels.{retained_in, weight_in, first_level, compacted, SameLevels, UpperSorted};
 ghost use Rattle.sketch_kll.specs.Rank.{counted_weight};
 ghost use Rattle.sketch_kll.specs.Steps.{is_full, compacted_if_full, full_level, needs_sorting, put};
 ghost use Rattle.sketch_kll.specs.Stored.{KeepsLevels, KeepsRoom};
@@ -120,7 +120,7 @@ impl<T: Ord + Drop> Levels<T> {
             self.old.levels)
             self.new.levels) }
         ensures sorted { OnOk result (UpperSorted T.cmp self.new.levels) }
-        ensures room { OnOk result (retained self.new.levels < self.new.items_room) }
+        ensures room { OnOk result (retained_in self.new.levels < self.new.items_room) }
         ensures coins { OnOk result (coins.new ≡ (if is_full self.old.k self.old.levels
             then B.next coins.old else coins.old)) }
         ensures err { OnErr result ((KeepsLevels self.old self.new) × (coins.new ≡ coins.old)) }
@@ -147,7 +147,7 @@ impl<T: Ord + Drop> Levels<T> {
             self.old.levels)
             self.new.levels }
         ensures sorted { UpperSorted T.cmp self.new.levels }
-        ensures shorter { retained self.new.levels ≤ retained self.old.levels }
+        ensures shorter { retained_in self.new.levels ≤ retained_in self.old.levels }
         ensures coins { coins.new ≡ (if is_full self.old.k self.old.levels
             then B.next coins.old else coins.old) }
     {
@@ -188,7 +188,7 @@ impl<T: Ord + Drop> Levels<T> {
             level self.old.levels)
             self.new.levels }
         ensures sorted { UpperSorted T.cmp self.new.levels }
-        ensures shorter { retained self.new.levels ≤ retained self.old.levels }
+        ensures shorter { retained_in self.new.levels ≤ retained_in self.old.levels }
         ensures coins { coins.new ≡ B.next coins.old }
     {
         if level + 2 == self.bounds.len() {
@@ -204,7 +204,7 @@ impl<T: Ord + Drop> Levels<T> {
 
     /// Appends an item to level 0.
     pub(crate) fn push(&mut self, item: T)
-        requires spare { retained self.old.levels < self.old.items_room }
+        requires spare { retained_in self.old.levels < self.old.items_room }
         ensures k { self.new.k ≡ self.old.k }
         ensures flag { self.new.is_sorted ≡ false }
         ensures levels { self.new.levels ≡ put item self.old.levels }

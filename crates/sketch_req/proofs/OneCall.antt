@@ -16,7 +16,7 @@ use Rattle.sketch_base.proofs.OneExtreme.{one_least, one_greatest}
 use Rattle.sketch_base.proofs.Tied.{same-sorted, same-ends, same-text}
 use Rattle.sketch_req.specs.Actions.{bag_of}
 use Rattle.sketch_req.specs.Imaged.{IsSameLevel, IsSameSketch}
-use Rattle.sketch_req.specs.Level.{Level, IsMerged as IsLevelMerged}
+use Rattle.sketch_req.specs.Level.{Level, IsLevelMerged}
 use Rattle.sketch_req.specs.Merged.{IsMergedBy, item_lists, merge_by, redrawn_if}
 use Rattle.sketch_req.specs.Moved.{AreMoved, AreMergedIn, is_moved, level_or_fresh}
 use Rattle.sketch_req.specs.Schedule.{Layout, layout_of, layouts_of, layout_at}

@@ -113,8 +113,8 @@ module _ {A S : Type 0} (cmp : A → A → Ordering) (bit : S → Bool) (next : 
   AreDone xs = IsSound cmp new × AreUpdated cmp s xs (bits_from bit next source (coins_of_updates s xs)) new ×
       (after ≡ after_draws next source (coins_of_updates s xs))
 
-  abbrev pub IsMerged : Bool → Req A → Type 0
-  IsMerged redraws t = IsSound cmp new × IsMergedBy cmp redraws s t (bits_from bit next source (coins_of_merge_by redraws s t)) new
+  abbrev pub IsMergeDone : Bool → Req A → Type 0
+  IsMergeDone redraws t = IsSound cmp new × IsMergedBy cmp redraws s t (bits_from bit next source (coins_of_merge_by redraws s t)) new
       × (after ≡ after_draws next source (coins_of_merge_by redraws s t))
 
 module _ {A S T : Type 0} (cmp : A → A → Ordering) (bit : S → Bool) (next : S → S) (s new : Req A) (source after : S) (v : T) where
@@ -126,7 +126,7 @@ module _ {A S T : Type 0} (cmp : A → A → Ordering) (bit : S → Bool) (next 
       (length xs ≡ 0 → ⊥) → (AreTooMany s xs → ⊥) → UpdatesEnd cmp bit next s new source after (Ok v) xs
   updates_done xs made some few = grind (arith, common_steps, accepted, accepted_alone)
 
-  pub merge_done : (redraws : Bool) (t : Req A) → IsMerged cmp bit next s new source after redraws t →
+  pub merge_done : (redraws : Bool) (t : Req A) → IsMergeDone cmp bit next s new source after redraws t →
       (t.n ≡ 0 → ⊥) → (AreApart s t → ⊥) → MergeEnds cmp bit next s new source after (Ok v) redraws t
   merge_done redraws t made some near = grind (arith, common_steps, accepted)
 

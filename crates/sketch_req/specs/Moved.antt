@@ -2,7 +2,7 @@
 use Rattle.std.specs.Prelude.{◌≡◌, ℕ, suc, ◌<◌, ◌≤◌, ◌==◌, ◌||◌, max, Bool, true, false, List, [], ◌∷◌, length, slice_index_or}
 use Rattle.std.specs.declared.cmp.Ordering.{Ordering}
 use Rattle.sketch_base.specs.Trace.{Action, Put, Pull, Join, Compact, Forget, Redraw, Clear}
-use Rattle.sketch_req.specs.Level.{Level, fresh, IsMerged}
+use Rattle.sketch_req.specs.Level.{Level, fresh, IsLevelMerged}
 use Rattle.sketch_req.specs.declared.RankAccuracy.{RankAccuracy}
 
 -- whether an action compacts level h, or the one below into it
@@ -30,7 +30,7 @@ level_or_fresh k accuracy levels h = slice_index_or levels h (fresh [] true h k 
 
 -- level h after the other sketch's level at the same place was merged in, if there is one
 pub record IsMergedIn {A : Type 0} (cmp : A → A → Ordering) (k : ℕ) (accuracy : RankAccuracy) (h : ℕ) (ls others : List (Level A)) (m : Level A) : Type 0 where
-  pub merged : (none : Level A) → h < length others → IsMerged cmp (level_or_fresh k accuracy ls h) (slice_index_or others h none) m
+  pub merged : (none : Level A) → h < length others → IsLevelMerged cmp (level_or_fresh k accuracy ls h) (slice_index_or others h none) m
   pub kept : length others ≤ h → m ≡ level_or_fresh k accuracy ls h
 
 -- each level is merged in; the number of levels is the greater of the two sketches' numbers

@@ -4,7 +4,7 @@ ghost use Rattle.sketch_base.specs.Random.{after_draws};
 ghost use Rattle.sketch_base.specs.Trace.{draws_of};
 ghost use Rattle.sketch_kll.specs.Capacity.{total_of};
 ghost use Rattle.sketch_kll.specs.Compress.{walked, passes, compress_of, IsCompressed};
-ghost use Rattle.sketch_kll.specs.Levels.{retained, weight, first_level, SameLevels, UpperSorted};
+ghost use Rattle.sketch_kll.specs.Levels.{retained_in, weight_in, first_level, SameLevels, UpperSorted};
 ghost use Rattle.sketch_kll.specs.Steps.{is_full};
 ghost use Rattle.sketch_kll.specs.Stored.{KeepsRoom};
 
@@ -20,7 +20,7 @@ impl<T: Ord + Drop> Levels<T> {
         ensures within { IsTrue result → level < length self.now.levels }
         ensures full { IsTrue result → is_full self.now.k self.now.levels ≡ true }
         ensures over { result ≡ false → (length self.now.levels ≤ level)
-            ⊎ (retained self.now.levels < total_of self.now.k 8 (length self.now.levels)) }
+            ⊎ (retained_in self.now.levels < total_of self.now.k 8 (length self.now.levels)) }
         ensures few { length self.now.levels ≤ 61 }
         ensures sorted { UpperSorted T.cmp self.now.levels }
     {
@@ -43,11 +43,11 @@ impl<T: Ord + Drop> Levels<T> {
     /// until the levels are below their total capacity. The walk continues into a level that is
     /// added.
     pub(crate) fn compress<B: RandomBits>(&mut self, coins: &mut B)
-        requires light { weight self.old.levels < 2 ^ 64 }
+        requires light { weight_in self.old.levels < 2 ^ 64 }
         requires flag { IsTrue self.old.is_sorted → IsSorted T.cmp (first_level self.old.levels) }
         requires spare { 63 ≤ self.old.bounds_room }
         ensures kept { KeepsRoom self.old self.new }
-        ensures below { retained self.new.levels < total_of self.old.k 8 (length self.new.levels) }
+        ensures below { retained_in self.new.levels < total_of self.old.k 8 (length self.new.levels) }
         ensures levels { SameLevels T.cmp
             (walked T.cmp B.bit B.next self.old.k self.old.is_sorted 61 0 coins.old
             self.old.levels)

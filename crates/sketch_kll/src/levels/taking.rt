@@ -5,7 +5,7 @@ ghost use Rattle.std.specs.Option.{option_to_list};
 ghost use Rattle.sketch_base.specs.Bag.{SameItems};
 ghost use Rattle.sketch_base.specs.Extremes.{IsGreatestOf, IsLeastOf, newer_or};
 ghost use Rattle.sketch_kll.specs.Capacity.{total_of};
-ghost use Rattle.sketch_kll.specs.Levels.{retained, weight};
+ghost use Rattle.sketch_kll.specs.Levels.{retained_in, weight_in};
 ghost use Rattle.sketch_kll.specs.Stored.{KeepsLevels};
 ghost use Rattle.sketch_kll.specs.Take.{AreKept, HaveTaken};
 
@@ -19,14 +19,14 @@ impl<T: Ord + Drop> Levels<T> {
     /// Takes items one after another, as updates do. The memory that it needs must be there already.
     pub(crate) fn update_all<B: RandomBits>(&mut self, items: Vec<T>, coins: &mut B)
         requires kept { AreKept T.cmp self.old.k self.old.is_sorted self.old.levels }
-        requires light { weight self.old.levels + length items.items < 2 ^ 64 }
-        requires room { min (retained self.old.levels + vec_len items) (total_of self.old.k 8 61)
+        requires light { weight_in self.old.levels + length items.items < 2 ^ 64 }
+        requires room { min (retained_in self.old.levels + vec_len items) (total_of self.old.k 8 61)
             ≤ self.old.items_room }
         requires spare { 63 ≤ self.old.bounds_room }
         ensures k { self.new.k ≡ self.old.k }
         ensures taken { HaveTaken T.cmp B.bit B.next coins.old coins.new self.old.k
             self.old.is_sorted self.new.is_sorted self.old.levels items.items self.new.levels }
-        ensures len { retained self.new.levels ≤ retained self.old.levels + vec_len items }
+        ensures len { retained_in self.new.levels ≤ retained_in self.old.levels + vec_len items }
         ensures spare { 63 ≤ self.new.bounds_room }
     {
         for item in items {
@@ -51,7 +51,7 @@ impl<T: Clone + Ord> Levels<T> {
         ensures kept { KeepsLevels self.old self.new }
         ensures clones { IfOk result (λ x. SameItems T.cmp items.now x.0.items) }
         ensures room { IfOk result (λ x.
-            min (retained self.new.levels + vec_len x.0) (total_of self.new.k 8 61)
+            min (retained_in self.new.levels + vec_len x.0) (total_of self.new.k 8 61)
             ≤ self.new.items_room) }
         ensures spare { OnOk result (63 ≤ self.new.bounds_room) }
         ensures least { IfOk result (λ x. IsLeastOf T.cmp (option_to_list least.now ++ items.now)
@@ -70,7 +70,7 @@ impl<T: Clone + Ord> Levels<T> {
         ensures kept { KeepsLevels self.old self.new }
         ensures clones { IfOk result (λ clones. SameItems T.cmp items.now clones.items) }
         ensures room { IfOk result (λ clones.
-            min (retained self.new.levels + vec_len clones) (total_of self.new.k 8 61)
+            min (retained_in self.new.levels + vec_len clones) (total_of self.new.k 8 61)
             ≤ self.new.items_room) }
         ensures spare { OnOk result (63 ≤ self.new.bounds_room) }
     {

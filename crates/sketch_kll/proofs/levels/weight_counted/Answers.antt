@@ -1,7 +1,7 @@
 use Rattle.std.proofs.Common.{◌≡◌, ◌≤◌, ◌+◌, ◌*◌, ◌-◌, List, drop, arith, refl}
 use Rattle.sketch_base.specs.Query.{counted}
 use Rattle.sketch_kll.specs.Flat.{levels_in}
-use Rattle.sketch_kll.specs.Levels.{weight}
+use Rattle.sketch_kll.specs.Levels.{weight_in}
 use Rattle.sketch_kll.specs.Rank.{counted_weight}
 use Rattle.sketch_kll.proofs.Flats.{length-bounds}
 use Rattle.sketch_kll.proofs.Rank.{more_weight}
@@ -12,7 +12,7 @@ use Rattle.sketch_kll.proofs.levels.weight_counted.Goals.{After-count_in_order-c
 counted_next : (g : _) (c : After-count_in_order-counted g) →
     (2 * c.loop-level.weight + c.count_in_order-counted.result
     ≡ counted_weight (counted g.T.Ord.cmp c.args.query.now c.args.criteria) (drop (c.loop-level.level - 1) (levels_in c.args.items.now c.args.bounds.now)))
-    × (2 * c.loop-level.weight + c.count_in_order-counted.result ≤ weight (levels_in c.args.items.now c.args.bounds.now))
+    × (2 * c.loop-level.weight + c.count_in_order-counted.result ≤ weight_in (levels_in c.args.items.now c.args.bounds.now))
 counted_next g c =
     let n = length-bounds c.args.items.now c.args.bounds.now c.requires.flat in
     more_weight _ (levels_in c.args.items.now c.args.bounds.now) c.loop-level.level c.loop-level.weight c.level_slice.result.now _
@@ -21,7 +21,7 @@ counted_next g c =
 -- level 0 comes last
 counted_last : (g : _) (c : After-count_all g) →
     (2 * c.loop-level.weight + c.count_all.result ≡ counted_weight (counted g.T.Ord.cmp c.args.query.now c.args.criteria) (levels_in c.args.items.now c.args.bounds.now))
-    × (2 * c.loop-level.weight + c.count_all.result ≤ weight (levels_in c.args.items.now c.args.bounds.now))
+    × (2 * c.loop-level.weight + c.count_all.result ≤ weight_in (levels_in c.args.items.now c.args.bounds.now))
 counted_last g c =
     let n = length-bounds c.args.items.now c.args.bounds.now c.requires.flat in
     let ls : List (List g.row.T.Denot) = levels_in c.args.items.now c.args.bounds.now in

@@ -1,7 +1,7 @@
 use Rattle.std.proofs.lemmas.Grind.{common_steps}
 use Rattle.std.proofs.Common.{◌≡◌, ◌-◌, ap₂, ℕ, List, [], ◌∷◌, ◌++◌, take, drop, length, arith, sym, ap, subst, ◌∙◌, vec_capacity, length-append, true}
 use Rattle.sketch_kll.specs.Capacity.{total_of}
-use Rattle.sketch_kll.specs.Levels.{retained, compacted, SameLevels}
+use Rattle.sketch_kll.specs.Levels.{retained_in, compacted, SameLevels}
 use Rattle.sketch_kll.specs.Flat.{levels_in}
 use Rattle.sketch_kll.specs.Steps.{needs_sorting}
 use Rattle.sketch_kll.specs.Stored.{Stored}
@@ -90,7 +90,7 @@ returns g c =
         ap (λ v. v.len) raised.items_are,
         c.self.inside.items.ok.0,
         before,
-        ap (λ (y : Stored g.row.T.Denot). retained y.levels) c.self.view_is,
+        ap (λ (y : Stored g.row.T.Denot). retained_in y.levels) c.self.view_is,
       );
       coins = c.random_bit-coin.ensures.after;
     }

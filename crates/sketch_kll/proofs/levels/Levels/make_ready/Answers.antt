@@ -2,7 +2,7 @@ use Rattle.std.proofs.lemmas.Grind.{common_steps}
 use Rattle.std.proofs.Common.{arith, ◌≡◌, ◌+◌, ◌<◌, ◌≤◌, ℕ, List, length, get_or, take, drop, ap, ap₂, refl, ◌∙◌, length-append, take-append-drop}
 use Rattle.std.proofs.lemmas.Grind.{get_or_default_zero}
 use Rattle.sketch_kll.specs.Flat.{levels_in}
-use Rattle.sketch_kll.specs.Levels.{retained}
+use Rattle.sketch_kll.specs.Levels.{retained_in}
 use Rattle.sketch_kll.specs.Stored.{Stored}
 use Rattle.sketch_kll.proofs.Flats.{bound_within, length-bounds, length-items}
 use Rattle.sketch_kll.proofs.LevelClones.{same_clones, cloned}
@@ -32,7 +32,7 @@ parts_of n copy low xs upper ys len all =
 pub returns : goal.returns
 returns g c =
     let made = c.in_ok-merged.ensures in
-    let same = ap retained (ap₂ levels_in c.reserve_merged.ensures.items c.reserve_merged.ensures.bounds) in
+    let same = ap retained_in (ap₂ levels_in c.reserve_merged.ensures.items c.reserve_merged.ensures.bounds) in
     let n = length-items c.self.inside.items.items c.self.inside.bounds.items c.self.invariant.flat in
     let x = c.others.inside in
     let flat = c.others.invariant.flat in

@@ -4,7 +4,7 @@ use Rattle.std.proofs.lemmas.List.{length-replicate}
 use Rattle.sketch_kll.specs.Capacity.{total_of}
 use Rattle.sketch_kll.specs.Flat.{levels_in}
 use Rattle.sketch_kll.specs.Join.{joined_bounds}
-use Rattle.sketch_kll.specs.Levels.{retained}
+use Rattle.sketch_kll.specs.Levels.{retained_in}
 use Rattle.sketch_kll.specs.Stored.{Stored}
 use Rattle.sketch_kll.proofs.Flats.{length-items}
 use Rattle.sketch_kll.proofs.JoinedLevels.{prepared, joined_fit, whole_slice}
@@ -72,7 +72,7 @@ add_bounds-requires g c =
     let x = c.self.inside in
     let wide = prepared c.args.others.now c.self.invariant c.requires.upper c.requires.some c.requires.few (c.deref_mut.ensures.value ∙ (is_wide g (past.add_bounds-requires g c).Joined-len-others).bounds) refl in
     let within = joined_fit x.items.items c.args.upper.items c.deref_mut.result.now c.args.others.now wide.fits c.requires.upper in
-    let held = length-items x.items.items x.bounds.items c.self.invariant.flat ∙ ap (λ (y : Stored g.row.T.Denot). retained y.levels) c.self.view_is in
+    let held = length-items x.items.items x.bounds.items c.self.invariant.flat ∙ ap (λ (y : Stored g.row.T.Denot). retained_in y.levels) c.self.view_is in
     record {
       some = c.requires.some;
       fewer = wide.fewer;

@@ -1,6 +1,6 @@
 use Rattle.std.proofs.Common.{◌≡◌, ◌∷◌, [], ◌∙◌, ◌<◌, ◌^◌, ◌+◌, ap, append_assoc, arith, length, length-append, refl, sym}
 use Rattle.std.specs.Vec.Iter.{into_iter_items}
-use Rattle.sketch_kll.specs.Levels.{SameLevels, retained, weight}
+use Rattle.sketch_kll.specs.Levels.{SameLevels, retained_in, weight_in}
 use Rattle.sketch_kll.specs.Steps.{compacted_if_full}
 use Rattle.sketch_kll.proofs.Takes.{room_below, taking_more, taking_none}
 use Rattle.sketch_kll.proofs.PutItems.{retained-put}
@@ -44,7 +44,7 @@ loop-item-preserved g c =
     let i = c.loop-item.invariant in
     let room = c.compact_if_full.ensures in
     let put = c.push.ensures in
-    let light : weight c.args.self.now.levels + length c.loop-item.yielded < 2 ^ 64 = omega (arith, c.requires.light, whole g at) in
+    let light : weight_in c.args.self.now.levels + length c.loop-item.yielded < 2 ^ 64 = omega (arith, c.requires.light, whole g at) in
     record {
       k = put.k ∙ (room.kept.k_is ∙ i.k);
       split = append_assoc c.loop-item.yielded (c.in-Some.item ∷ []) _ ∙ rw (← c.in-Some.ensures.steps.0) i.split;
@@ -52,7 +52,7 @@ loop-item-preserved g c =
       taking = rw put.flag (taking_more g.T.Ord.cmp g.met.T.Ord.total g.B.RandomBits.bit g.B.RandomBits.next c.args.coins.now c.loop-item.coins _ c.args.self.now.k c.args.self.now.is_sorted
           c.loop-item.self.is_sorted c.args.self.now.levels c.loop-item.yielded c.in-Some.item c.loop-item.self.levels c.compact_if_full.new.self.levels _ i.taking light (made g at)
           room.sorted put.levels (rw (← i.k) room.coins));
-      len = omega (arith, i.len, room.shorter, ap retained put.levels, retained-put (c.in-Some.item ∷ []) c.compact_if_full.new.self.levels, length-append c.loop-item.yielded (c.in-Some.item ∷ []));
+      len = omega (arith, i.len, room.shorter, ap retained_in put.levels, retained-put (c.in-Some.item ∷ []) c.compact_if_full.new.self.levels, length-append c.loop-item.yielded (c.in-Some.item ∷ []));
       room = omega (arith, i.room, room.kept.items_room, put.room);
       spare = omega (arith, i.spare, room.kept.bounds_room, put.bounds_room);
     }

@@ -3,7 +3,7 @@ use Rattle.std.proofs.Common.{◌≡◌, ◌<◌, ◌≤◌, ◌^◌, ◌+◌, �
 use Rattle.sketch_base.specs.declared.error.ErrorKind.TheVariants.{OutOfMemory}
 use Rattle.sketch_base.proofs.Exits.{returned, with_error}
 use Rattle.sketch_base.specs.Random.{after_draws}
-use Rattle.sketch_kll.specs.Levels.{weight}
+use Rattle.sketch_kll.specs.Levels.{weight_in}
 use Rattle.sketch_base.specs.Extremes.{newer_or}
 use Rattle.sketch_kll.specs.Sketch.{Kll, sketch_of}
 use Rattle.sketch_kll.specs.Updates.{coins_of_updates}
@@ -22,8 +22,8 @@ some_of n some = omega arith
 sum_of : (x : ℕ) {n : ℕ} → n ≤ 2 ^ 64 - 1 - x → 0 < n → x + n < 2 ^ 64
 sum_of x h some = omega arith
 
-levels_light : {A : Type 0} (ls kept : List (List A)) (x n l : ℕ) → kept ≡ ls → weight ls ≡ x → n ≡ l → x + n < 2 ^ 64 → weight kept + l < 2 ^ 64
-levels_light ls kept x n l same weighs is light = omega (arith, ap weight same, weighs, is, light)
+levels_light : {A : Type 0} (ls kept : List (List A)) (x n l : ℕ) → kept ≡ ls → weight_in ls ≡ x → n ≡ l → x + n < 2 ^ 64 → weight_in kept + l < 2 ^ 64
+levels_light ls kept x n l same weighs is light = omega (arith, ap weight_in same, weighs, is, light)
 
 none_drawn : {A S : Type 0} (next : S → S) (source : S) (s : Kll A) (xs : List A) → length xs ≡ 0 → source ≡ after_draws next source (coins_of_updates s xs)
 none_drawn next source s [] none = refl
