@@ -50,7 +50,7 @@ impl<T: Ord> Model for Levels<T> {
     ghost invariant = { λ x. AreStored T.cmp x.k x.items.items x.bounds.items x.total_capacity };
 }
 
-#[tactic(auto, using(crate::proofs::Flats::bounded, crate::proofs::FullLevels::full_by_levels))]
+#[tactic(auto, using(crate::proofs::layout::Flats::bounded, crate::proofs::layout::Full::full_by_levels))]
 impl<T: Ord + Drop> Levels<T> {
     /// Creates one empty level, which does not count as sorted.
     pub(crate) fn new(alloc: Global, k: u16) -> Result<Self, AllocError>
@@ -218,7 +218,7 @@ impl<T: Ord + Drop> Levels<T> {
 }
 
 /// Returns the items of one level.
-#[tactic(auto, using(crate::proofs::Flats::bounded))]
+#[tactic(auto, using(crate::proofs::layout::Flats::bounded))]
 pub(crate) fn level_slice<'a, T>(items: &'a [T], bounds: &[usize], level: usize) -> &'a [T]
     requires flat { IsFlat items.now bounds.now }
     requires within { level + 1 < length bounds.now }
@@ -228,7 +228,7 @@ pub(crate) fn level_slice<'a, T>(items: &'a [T], bounds: &[usize], level: usize)
 }
 
 /// Returns the weight of the items that a query counts.
-#[tactic(auto, using(crate::proofs::Flats::bounded, crate::proofs::Legals::of_levels))]
+#[tactic(auto, using(crate::proofs::layout::Flats::bounded, crate::proofs::layout::Legal::of_levels))]
 pub(crate) fn weight_counted<T: Ord>(
     items: &[T],
     bounds: &[usize],

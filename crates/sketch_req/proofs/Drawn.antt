@@ -6,7 +6,7 @@ use Rattle.std.proofs.Common.{◌≡◌, ◌≢◌, ℕ, suc, ◌/◌, ◌%◌, 
 use Rattle.std.proofs.lemmas.Bool.{cases_Bool, cases_eq}
 use Rattle.sketch_base.specs.Bag.{Taken, with_level}
 use Rattle.sketch_base.specs.Trace.{Put, Compact, Fresh, Turned, Event, At, changed, is_req, events_at}
-use Rattle.sketch_base.proofs.Changes.{changed-there, changed-other}
+use Rattle.sketch_base.proofs.bags.Acts.{changed-there, changed-other}
 use Rattle.sketch_req.specs.Level.{taken_side, turns_coin}
 use Rattle.sketch_req.specs.Schedule.{Layout, new_layout, layout_at, taken, compacted, filled, compact_level, compacted_at, actions_if_full, layouts_if_full, put_layouts, update_actions, update_layouts}
 use Rattle.sketch_req.specs.ScheduleLaws.{AreDrawn}

@@ -11,17 +11,13 @@ use Rattle.sketch_base.specs.declared.common.SearchCriteria.TheVariants.{Inclusi
 use Rattle.sketch_base.specs.Bag.{expanded, repeated, sort}
 use Rattle.sketch_base.specs.Queries.{SameAnswer, quantile_in, quantile_place}
 use Rattle.sketch_base.specs.Query.{counted, true_rank}
-use Rattle.sketch_base.proofs.Entries.{if-same, SameAnswer-itself, SameAnswer-trans, counted-parted, quantile-same}
-use Rattle.sketch_base.proofs.Fixed.{length-sort}
-use Rattle.sketch_base.proofs.Items.{SameItems-refl}
-use Rattle.sketch_base.proofs.OneExtreme.{one_least, one_greatest}
-use Rattle.sketch_base.proofs.PassedFronts.{counts-passed, counts-failed}
-use Rattle.sketch_base.proofs.QuantilePlaces.{item-enclosed}
-use Rattle.sketch_base.proofs.SketchViews.{length-expanded}
-use Rattle.sketch_base.proofs.Sorting.{IsSorted-sort}
-use Rattle.sketch_base.proofs.Sums.{sum_by-sort}
-use Rattle.sketch_base.proofs.ExactTails.{both_counts}
-use Rattle.sketch_base.proofs.Worlds.{one}
+use Rattle.sketch_base.proofs.views.Entries.{if-same, SameAnswer-itself, SameAnswer-trans, counted-parted, quantile-same, item-enclosed, length-expanded}
+use Rattle.sketch_base.proofs.plays.Plays.{length-sort, one}
+use Rattle.sketch_base.proofs.bags.Alike.{SameItems-refl}
+use Rattle.sketch_base.proofs.order.Extremes.{one_least, one_greatest, counts-passed, counts-failed}
+use Rattle.sketch_base.proofs.order.Order.{IsSorted-sort}
+use Rattle.sketch_base.proofs.bags.Acts.{sum_by-sort}
+use Rattle.sketch_base.proofs.tails.ExactTails.{both_counts}
 use Rattle.sketch_req.specs.Actions.{bag_of}
 use Rattle.sketch_req.specs.Relative.{off_protected_end}
 use Rattle.sketch_req.specs.Sketch.{Req, IsSound}

@@ -6,7 +6,7 @@ use Rattle.std.proofs.Common.{◌≡◌, ◌≢◌, ℕ, Bool, true, false, not,
 use Rattle.std.proofs.lemmas.Bool.{cases_Bool, cases_eq, and_left, and_right, false≢true}
 use Rattle.sketch_base.specs.Fair.{reaches}
 use Rattle.sketch_base.specs.Trace.{Action, Forget, Clear, Event, Snap, At, changed, joins_actions, events_at}
-use Rattle.sketch_base.proofs.Changes.{changed-there, changed-other, changed-itself}
+use Rattle.sketch_base.proofs.bags.Acts.{changed-there, changed-other, changed-itself}
 use Rattle.sketch_req.specs.Schedule.{Layout, new_layout, joined_layouts, are_full, redraw_actions, actions_if_full, walk_actions, update_actions, update_layouts, merge_layouts}
 use Rattle.sketch_req.specs.ScheduleLaws.{merge_events, AreDrawn}
 use Rattle.sketch_req.specs.Walk.{AreOwn}

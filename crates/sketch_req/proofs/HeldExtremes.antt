@@ -11,8 +11,8 @@ use Rattle.sketch_base.specs.Bag.{Bag, SameItems, AlikeReq, sort, with_level}
 use Rattle.sketch_base.specs.Extremes.{TiesWithOne, IsExtremeOf, IsAtMost, IsLeastOf, IsGreatestOf}
 use Rattle.sketch_base.specs.Queries.{SameAnswer}
 use Rattle.sketch_base.specs.Trace.{Action, Work, act, acts, alone, bit_of, draws, next_bit}
-use Rattle.sketch_base.proofs.Entries.{SameAnswer-itself}
-use Rattle.sketch_base.proofs.AllParts.{AllIn, all-alike, all-compaction, all-alike-levels, all-flat, all-by-level, all-map}
+use Rattle.sketch_base.proofs.views.Entries.{SameAnswer-itself}
+use Rattle.sketch_base.proofs.bags.Parts.{AllIn, all-alike, all-compaction, all-alike-levels, all-flat, all-by-level, all-map}
 use Rattle.sketch_req.specs.Actions.{bag_of, coin_kind}
 use Rattle.sketch_req.specs.Level.{Level, taken_side}
 use Rattle.sketch_req.specs.Schedule.{Layout, new_layout, layouts_of, layout_at, is_full, are_full, taken, compacted, compact_level, compacted_at, step_layouts, steps_actions, steps_layouts, walk_layouts, layouts_if_full, filled}

@@ -8,12 +8,10 @@ use Rattle.sketch_base.specs.Exact.{IsExactUpTo}
 use Rattle.sketch_base.specs.Lengths.{takes, bag_lengths, TakesFew}
 use Rattle.sketch_base.specs.Query.{counted}
 use Rattle.sketch_base.specs.Trace.{Action, Compact, Redraw, Coin, At, Work, World, act, acts, bit_of, draws, next_bit}
-use Rattle.sketch_base.proofs.Acts.{rank}
-use Rattle.sketch_base.proofs.Compactions.{compacted}
-use Rattle.sketch_base.proofs.Falling.{counted-falls}
-use Rattle.sketch_base.proofs.Fixed.{length-level_at, lengths-happens}
-use Rattle.sketch_base.proofs.ExactTails.{SparesOrFills, spares-lowest, spares-greatest, exact-as, exact-beside}
-use Rattle.sketch_base.proofs.Worlds.{one}
+use Rattle.sketch_base.proofs.bags.Acts.{rank, compacted}
+use Rattle.sketch_base.proofs.order.Order.{counted-falls}
+use Rattle.sketch_base.proofs.plays.Plays.{length-level_at, lengths-happens, one}
+use Rattle.sketch_base.proofs.tails.ExactTails.{SparesOrFills, spares-lowest, spares-greatest, exact-as, exact-beside}
 use Rattle.sketch_req.specs.ScheduleLaws.{tail_side}
 use Rattle.sketch_req.specs.declared.RankAccuracy.{RankAccuracy}
 use Rattle.sketch_req.specs.declared.RankAccuracy.TheVariants.{HighRank, LowRank}

@@ -11,9 +11,8 @@ use Rattle.sketch_base.specs.Queries.{SameAnswer}
 use Rattle.sketch_base.specs.Bag.{SameItems, AlikeReq, sort, level_at}
 use Rattle.sketch_base.specs.Tied.{TiesSpellOne}
 use Rattle.sketch_base.specs.Trace.{Action}
-use Rattle.sketch_base.proofs.Items.{SameItems-append, SameItems-back, SameItems-refl, SameItems-trans}
-use Rattle.sketch_base.proofs.OneExtreme.{one_least, one_greatest}
-use Rattle.sketch_base.proofs.Tied.{same-sorted, same-ends, same-text}
+use Rattle.sketch_base.proofs.bags.Alike.{SameItems-append, SameItems-back, SameItems-refl, SameItems-trans, same-sorted, same-ends, same-text}
+use Rattle.sketch_base.proofs.order.Extremes.{one_least, one_greatest}
 use Rattle.sketch_req.specs.Actions.{bag_of}
 use Rattle.sketch_req.specs.Imaged.{IsSameLevel, IsSameSketch}
 use Rattle.sketch_req.specs.Level.{Level, IsLevelMerged}

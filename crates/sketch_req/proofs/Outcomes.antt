@@ -6,14 +6,13 @@ use Rattle.sketch_base.specs.Bag.{retained}
 use Rattle.sketch_base.specs.Random.{after_draws, bits_from}
 use Rattle.sketch_base.specs.declared.error.ErrorKind.{ErrorKind}
 use Rattle.sketch_base.specs.declared.error.ErrorKind.TheVariants.{InvalidArgument, OutOfMemory}
-use Rattle.sketch_base.proofs.Exits.{accepted, no_value, returned, with_error}
+use Rattle.sketch_base.proofs.calls.Calls.{accepted, no_value, returned, with_error, accepted_alone, memory-refused, no_refusal, none_or_some, refused_as}
 use Rattle.sketch_req.specs.Actions.{bag_of}
 use Rattle.sketch_req.specs.Merged.{IsMergedBy, coins_of_merge_by}
 use Rattle.sketch_req.specs.Sketch.{Req, IsSound, IsUpdated, coins_of_update}
 use Rattle.sketch_req.specs.Updates.{AreUpdated, IsDrawnFrom, coins_of_updates}
 use Rattle.std.specs.Cmp.{IsTotalOrder}
 use Rattle.sketch_req.proofs.MadeSketches.{none_taken}
-use Rattle.sketch_base.proofs.RefusedCalls.{accepted_alone, no_memory, no_refusal, none_or_some, refused_as}
 use Rattle.sketch_req.proofs.Refusals.{not_apart, not_both, not_full_both}
 use Rattle.sketch_req.proofs.UpdatesInTurn.{updates_none}
 
@@ -51,7 +50,7 @@ module _ {A S T : Type 0} (cmp : A → A → Ordering) (bit : S → Bool) (next 
 
   pub update_failed : (x : A) {y : ErrorKind} → IsErrAnd r (λ e. e ≡ y) → y ≡ OutOfMemory → IsSound cmp new → new ≡ s → after ≡ source → (IsFull s → ⊥) →
       UpdateEnds x
-  update_failed x h short sound same still not_full = grind (arith, common_steps, short_of, no_value, with_error, no_memory)
+  update_failed x h short sound same still not_full = grind (arith, common_steps, short_of, no_value, with_error, memory-refused)
 
   -- ---- updates by all items
 
@@ -70,7 +69,7 @@ module _ {A S T : Type 0} (cmp : A → A → Ordering) (bit : S → Bool) (next 
 
   pub updates_failed : (xs : List A) {y : ErrorKind} → IsErrAnd r (λ e. e ≡ y) → y ≡ OutOfMemory → IsSound cmp new → new ≡ s →
       IsDrawnFrom next (coins_of_updates s xs) source after → (length xs ≡ 0 → ⊥) → (AreTooMany s xs → ⊥) → UpdatesEnd xs
-  updates_failed xs h short sound same drawn some few = grind (arith, common_steps, short_of, no_value, with_error, no_memory, no_refusal)
+  updates_failed xs h short sound same drawn some few = grind (arith, common_steps, short_of, no_value, with_error, memory-refused, no_refusal)
 
   -- ---- a merge
 
@@ -88,7 +87,7 @@ module _ {A S T : Type 0} (cmp : A → A → Ordering) (bit : S → Bool) (next 
   pub merge_failed : (redraws : Bool) (t : Req A) {y : ErrorKind} → IsErrAnd r (λ e. e ≡ y) → y ≡ OutOfMemory → IsSound cmp new → new ≡ s → after ≡ source →
       (t.n ≡ 0 → ⊥) →
       (AreApart s t → ⊥) → MergeEnds redraws t
-  merge_failed redraws t h short sound same still some near = grind (arith, common_steps, short_of, no_value, with_error, no_memory)
+  merge_failed redraws t h short sound same still some near = grind (arith, common_steps, short_of, no_value, with_error, memory-refused)
 
   pub merge_refused : (redraws : Bool) (t : Req A) {y : ErrorKind} → IsErrAnd r (λ e. e ≡ y) → y ≡ InvalidArgument → IsSound cmp new → new ≡ s →
       after ≡ source →

@@ -2,7 +2,7 @@
 use Rattle.std.proofs.Common.{◌≡◌, ◌≢◌, ◌∙◌, ℕ, List, Result, Err, IsErrAnd, IfErr, IfOk, sym}
 use Rattle.sketch_base.specs.declared.error.ErrorKind.{ErrorKind}
 use Rattle.sketch_base.specs.declared.error.ErrorKind.TheVariants.{InvalidArgument, InvalidData}
-use Rattle.sketch_base.proofs.Exits.{data_not_argument, no_found, returned, with_error}
+use Rattle.sketch_base.proofs.calls.Calls.{data_not_argument, no_found, returned, with_error}
 use Rattle.sketch_req.specs.Sketch.{Req}
 
 module _ {A T : Type 0} (Found : T → Type 0) (IsBody : Req A → List ℕ → Type 0) (r : Result T ErrorKind) where

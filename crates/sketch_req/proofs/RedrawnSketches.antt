@@ -2,8 +2,8 @@
 use Rattle.std.proofs.Common.{◌≡◌, Bool, List, flat_map, sym, ap, ◌∙◌, Ordering}
 use Rattle.std.specs.Cmp.{IsTotalOrder}
 use Rattle.sketch_base.specs.Bag.{SameItems}
-use Rattle.sketch_base.proofs.Entries.{SameAnswer-itself}
-use Rattle.sketch_base.proofs.Items.{SameItems-refl}
+use Rattle.sketch_base.proofs.views.Entries.{SameAnswer-itself}
+use Rattle.sketch_base.proofs.bags.Alike.{SameItems-refl}
 use Rattle.sketch_req.specs.Redrawn.{redrawn, redrawn_sketch}
 use Rattle.sketch_req.specs.Sketch.{Req, IsSound, items_in}
 use Rattle.sketch_req.proofs.Copies.{sound-alike}

@@ -9,7 +9,7 @@ use Rattle.std.proofs.lemmas.List.Sums.{sum_by-cons}
 use Rattle.sketch_base.specs.Bag.{Bag, AlikeReq}
 use Rattle.sketch_base.specs.Random.{bits_from, after_draws}
 use Rattle.sketch_base.specs.Trace.{Action, Redraw, Work, act, acts, alone, bag_after, draws_of, next_bit}
-use Rattle.sketch_base.proofs.Changes.{changed-there, changed-other}
+use Rattle.sketch_base.proofs.bags.Acts.{changed-there, changed-other}
 use Rattle.sketch_req.specs.Actions.{bag_of, coins_of}
 use Rattle.sketch_req.specs.Level.{Level, turns_coin, redrawn_level}
 use Rattle.sketch_req.specs.Merged.{redrawn_if, redraws_of}

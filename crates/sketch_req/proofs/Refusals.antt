@@ -4,7 +4,7 @@ use Rattle.std.proofs.lemmas.Bool.{false≢true}
 use Rattle.std.proofs.lemmas.Result.{IfErr-weaker}
 use Rattle.sketch_base.specs.declared.error.ErrorKind.{ErrorKind}
 use Rattle.sketch_base.specs.declared.error.ErrorKind.TheVariants.{InvalidArgument, InvalidData, OutOfMemory}
-use Rattle.sketch_base.proofs.Exits.{memory_not_argument, memory_not_data}
+use Rattle.sketch_base.proofs.calls.Calls.{memory_not_argument, memory_not_data}
 use Rattle.sketch_req.specs.Held.{Held}
 use Rattle.sketch_req.specs.Sketch.{sketch_of}
 

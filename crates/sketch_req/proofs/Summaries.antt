@@ -11,18 +11,13 @@ use Rattle.sketch_base.specs.Exact.{IsExactUpTo}
 use Rattle.sketch_base.specs.Lengths.{Along, TakesEven, acts_on_lengths, bag_lengths, lengths_after, world_lengths}
 use Rattle.sketch_base.specs.Query.{counted}
 use Rattle.sketch_base.specs.Trace.{Action, Put, Join, At, Work, World, act, acts, alone, bag_after, bag_beside, draws, draws_of, events_at, joins_actions, next_bit}
-use Rattle.sketch_base.proofs.Acts.{rank, weigh-added, moved-keeps, weigh-empty}
-use Rattle.sketch_base.proofs.Counts.{SameCounts, SameCounts-from_sorted, same_length}
-use Rattle.sketch_base.proofs.Alikes.{rank-alike}
-use Rattle.sketch_base.proofs.Entries.{SameAnswer-itself}
-use Rattle.sketch_base.proofs.Extremes.{least-on, greatest-on, least-parts, greatest-parts}
-use Rattle.sketch_base.proofs.Fixed.{lengths-happens, lengths-play}
-use Rattle.sketch_base.proofs.Items.{SameItems-refl, SameItems-back, SameItems-append}
-use Rattle.sketch_base.proofs.PlaysInParts.{in_turn-append, play-at}
-use Rattle.sketch_base.proofs.Sorting.{SameItems-sort}
-use Rattle.sketch_base.proofs.Sums.{sum_by-expanded}
-use Rattle.sketch_base.proofs.ExactTails.{both_counts, exact-as, exact-more, exact-both}
-use Rattle.sketch_base.proofs.Worlds.{one}
+use Rattle.sketch_base.proofs.bags.Acts.{rank, weigh-added, moved-keeps, weigh-empty, sum_by-expanded}
+use Rattle.sketch_base.proofs.order.Order.{SameCounts, SameCounts-from_sorted, same_length, SameItems-sort}
+use Rattle.sketch_base.proofs.bags.Alike.{rank-alike, SameItems-refl, SameItems-back, SameItems-append}
+use Rattle.sketch_base.proofs.views.Entries.{SameAnswer-itself}
+use Rattle.sketch_base.proofs.order.Extremes.{least-on, greatest-on, least-parts, greatest-parts}
+use Rattle.sketch_base.proofs.plays.Plays.{lengths-happens, lengths-play, in_turn-append, play-at, one}
+use Rattle.sketch_base.proofs.tails.ExactTails.{both_counts, exact-as, exact-more, exact-both}
 use Rattle.sketch_req.specs.Actions.{bag_of}
 use Rattle.sketch_req.specs.Imaged.{IsSameLevel}
 use Rattle.sketch_req.specs.ImageLaws.{OneSketch, AllReadBack, without_coins}

@@ -4,7 +4,7 @@ use Rattle.std.specs.Cmp.{IsTotalOrder}
 use Rattle.std.proofs.lemmas.List.{drop_more}
 use Rattle.sketch_base.specs.Random.{after_draws}
 use Rattle.sketch_base.specs.Trace.{Action, draws_of}
-use Rattle.sketch_base.proofs.CallsInTurn.{draws-append, source-composes}
+use Rattle.sketch_base.proofs.plays.Plays.{draws-append, source-composes}
 use Rattle.sketch_req.specs.Level.{Level, appended}
 use Rattle.sketch_req.specs.Schedule.{Layout, layouts_of, nominal_sum, retained_of, update_actions, update_layouts, actions_if_full, layouts_if_full}
 use Rattle.sketch_req.specs.ScheduleLaws.{AreLayouts, updates_actions, updates_layouts}

@@ -10,15 +10,12 @@ use Rattle.sketch_base.specs.Extremes.{IsLeastOf, IsGreatestOf}
 use Rattle.sketch_base.specs.Queries.{SameAnswer}
 use Rattle.sketch_base.specs.Random.{bits_from, after_draws}
 use Rattle.sketch_base.specs.Trace.{Action, Put, Work, act, acts, alone, bag_after, draws, draws_of, next_bit}
-use Rattle.sketch_base.proofs.Alikes.{acts-req}
-use Rattle.sketch_base.proofs.AllParts.{all-same}
-use Rattle.sketch_base.proofs.CallsInTurn.{acts-enough, bits-take, bits-drop, draws-append}
-use Rattle.sketch_base.proofs.Entries.{SameAnswer-itself}
-use Rattle.sketch_base.proofs.Extremes.{least-on, greatest-on, least_itself, greatest_itself}
-use Rattle.sketch_base.proofs.Items.{SameItems-refl, SameItems-trans, SameItems-back, SameItems-append}
-use Rattle.sketch_base.proofs.OneExtreme.{one_least, one_greatest}
-use Rattle.sketch_base.proofs.PlaysInParts.{in_turn-append}
-use Rattle.sketch_base.proofs.Sorting.{SameItems-sort}
+use Rattle.sketch_base.proofs.bags.Alike.{acts-req, SameItems-refl, SameItems-trans, SameItems-back, SameItems-append}
+use Rattle.sketch_base.proofs.bags.Parts.{all-same}
+use Rattle.sketch_base.proofs.plays.Plays.{acts-enough, bits-take, bits-drop, draws-append, in_turn-append}
+use Rattle.sketch_base.proofs.views.Entries.{SameAnswer-itself}
+use Rattle.sketch_base.proofs.order.Extremes.{least-on, greatest-on, least_itself, greatest_itself, one_least, one_greatest}
+use Rattle.sketch_base.proofs.order.Order.{SameItems-sort}
 use Rattle.sketch_req.specs.Actions.{bag_of, coins_of}
 use Rattle.sketch_req.specs.Imaged.{IsSameLevel, IsSameSketch}
 use Rattle.sketch_req.specs.Level.{Level}

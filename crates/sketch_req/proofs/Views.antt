@@ -13,10 +13,10 @@ use Rattle.sketch_base.specs.Bag.{SameItems, expanded, repeated, sort}
 use Rattle.sketch_base.specs.Pairs.{SamePairs, copies, extreme_among}
 use Rattle.sketch_base.specs.Queries.{SameAnswer}
 use Rattle.sketch_base.specs.Views.{IsThere, IsViewOf, View}
-use Rattle.sketch_base.proofs.Items.{SameItems-trans}
-use Rattle.sketch_base.proofs.Results.{ok-weaker}
-use Rattle.sketch_base.proofs.SketchViews.{built-view}
-use Rattle.sketch_base.proofs.WeightedItems.{extreme-among, same-length, same-sorted, same-sum, same-weights}
+use Rattle.sketch_base.proofs.bags.Alike.{SameItems-trans}
+use Rattle.sketch_base.proofs.calls.Calls.{ok-weaker}
+use Rattle.sketch_base.proofs.views.Entries.{built-view}
+use Rattle.sketch_base.proofs.views.Built.{extreme-among, alike-length, same-sorted, same-sum, same-weights}
 use Rattle.sketch_req.specs.Actions.{bag_of}
 use Rattle.sketch_req.specs.Level.{Level}
 use Rattle.sketch_req.specs.Pairs.{pairs_of, weighed}
@@ -107,7 +107,7 @@ module _ {A : Type 0} {cmp : A → A → Ordering} (order : IsTotalOrder cmp) (s
   are-weighed same = record {
     some = same-weights cmp (pairs_of s.levels) pairs same (All-from_recursion (λ (p : A × ℕ). 0 < p.1) (pairs_of s.levels) (pairs-weigh s.levels));
     sum = same-sum cmp (pairs_of s.levels) pairs same ∙ (weigh-pairs cmp s.k s.accuracy s.levels sound.placed ∙ sound.weighs_n);
-    long = sym (same-length cmp (pairs_of s.levels) pairs same);
+    long = sym (alike-length cmp (pairs_of s.levels) pairs same);
     entries = subst (λ (xs : List A). SameItems cmp (sort cmp xs) (sort cmp (copies pairs))) (copies-pairs cmp s.k s.accuracy 0 s.levels sound.placed)
         (same-sorted cmp order (pairs_of s.levels) pairs same);
   }

@@ -11,7 +11,7 @@ ghost use Rattle.sketch_kll.specs.Stored.{KeepsRoom};
 use super::{Levels, is_at_capacity};
 use sketch_base::common::random::RandomBits;
 
-#[tactic(auto, using(crate::proofs::Flats::bounded, crate::proofs::FullLevels::spare_holds))]
+#[tactic(auto, using(crate::proofs::layout::Flats::bounded, crate::proofs::layout::Full::spare_holds))]
 impl<T: Ord + Drop> Levels<T> {
     /// Returns whether the walk reaches a level: it exists, and the levels are at or over their
     /// total capacity.

@@ -36,7 +36,7 @@ impl<T: Ord + Drop> Levels<T> {
     }
 }
 
-#[tactic(auto, using(crate::proofs::Flats::bounded))]
+#[tactic(auto, using(crate::proofs::layout::Flats::bounded))]
 impl<T: Clone + Ord> Levels<T> {
     /// Returns clones of the items, and a clone for each extreme that they go beyond, and makes
     /// room for the items that will be kept. Taking the items then needs no more memory.

@@ -1,7 +1,7 @@
 use Rattle.std.proofs.Common.{◌++◌, [], ◌∷◌, refl, arith}
 use Rattle.std.proofs.lemmas.Grind.{common_steps}
 use Rattle.quantile_sketches.specs.Answer.{answer_text}
-use Rattle.quantile_sketches.proofs.Outputs.{writes-then, writes-fail}
+use Rattle.quantile_sketches.proofs.writing.Answers.{writes-then, writes-fail}
 use Rattle.quantile_sketches.proofs.answer.write_answer.Goals as goal
 
 pub returns-in_err-add-in-Ok-Image : goal.returns-in_err-add-in-Ok-Image

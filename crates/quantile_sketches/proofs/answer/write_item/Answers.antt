@@ -2,7 +2,7 @@ use Rattle.std.proofs.Common.{List, [], ◌∷◌, ℕ, ◌+◌, ◌++◌, subst
 use Rattle.std.specs.Int.{w64}
 use Rattle.std.proofs.lemmas.Int.{to_z-of_z}
 use Rattle.quantile_sketches.specs.Output.{Writes}
-use Rattle.quantile_sketches.proofs.Decimals.{with_minus, without_minus}
+use Rattle.quantile_sketches.proofs.writing.Answers.{with_minus, without_minus}
 use Rattle.quantile_sketches.proofs.answer.write_item.Goals as goal
 use Rattle.quantile_sketches.proofs.answer.write_item.Goals.{then-item-lt0, else-item-lt0}
 

@@ -1,6 +1,6 @@
 use Rattle.sketch_req.specs.declared.RankAccuracy.TheVariants.{HighRank, LowRank}
 use Rattle.quantile_sketches.specs.Reader.{parse_accuracy}
-use Rattle.quantile_sketches.proofs.ReadWords.{first-name, no-name, second-name, word-read}
+use Rattle.quantile_sketches.proofs.reading.Words.{first-name, no-name, second-name, word-read}
 use Rattle.quantile_sketches.proofs.command.parse_accuracy.Goals as goal
 
 pub returns-in-Some-clause-value : goal.returns-in-Some-clause-value

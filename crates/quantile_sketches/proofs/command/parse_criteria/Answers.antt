@@ -1,6 +1,6 @@
 use Rattle.sketch_base.specs.declared.common.SearchCriteria.TheVariants.{Inclusive, Exclusive}
 use Rattle.quantile_sketches.specs.Reader.{parse_criteria}
-use Rattle.quantile_sketches.proofs.ReadWords.{first-name, no-name, second-name, word-read}
+use Rattle.quantile_sketches.proofs.reading.Words.{first-name, no-name, second-name, word-read}
 use Rattle.quantile_sketches.proofs.command.parse_criteria.Goals as goal
 
 pub returns-in-Some-clause-value : goal.returns-in-Some-clause-value

@@ -10,14 +10,14 @@ use Rattle.quantile_sketches.specs.Lines.{lines}
 use Rattle.quantile_sketches.specs.Reader.{kll_grammar, req_grammar}
 use Rattle.quantile_sketches.specs.ReqBehaviour.{req}
 use Rattle.quantile_sketches.specs.Served.{ServesFamily, ServesRun, KllPromise, ReqPromise}
-use Rattle.quantile_sketches.proofs.KllRuns.{sound-small}
-use Rattle.quantile_sketches.proofs.ReqRuns.{alike-exact}
-use Rattle.quantile_sketches.proofs.Standing.{standing-is, standing-shape, standing-weight, standing-extremes, given}
-use Rattle.quantile_sketches.proofs.RunsBehindAnswers.{answers-rest}
-use Rattle.quantile_sketches.proofs.KllKind.{kll_kind_lawful}
-use Rattle.quantile_sketches.proofs.KllObeys.{kll-obeys}
-use Rattle.quantile_sketches.proofs.ReqObeys.{req-obeys}
-use Rattle.quantile_sketches.proofs.ReqKind.{req_kind_lawful}
+use Rattle.quantile_sketches.proofs.runs.Kll.{sound-small}
+use Rattle.quantile_sketches.proofs.runs.Req.{alike-exact}
+use Rattle.quantile_sketches.proofs.runs.Runs.{standing-is, standing-shape, standing-weight, standing-extremes, given}
+use Rattle.quantile_sketches.proofs.serving.Lines.{answers-rest}
+use Rattle.quantile_sketches.proofs.kll.Rules.{kll_kind_lawful}
+use Rattle.quantile_sketches.proofs.kll.Obeys.{kll-obeys}
+use Rattle.quantile_sketches.proofs.req.Obeys.{req-obeys}
+use Rattle.quantile_sketches.proofs.req.Rules.{req_kind_lawful}
 use Rattle.quantile_sketches.proofs.lines.answers_rest_on_runs.Goals as goal
 
 -- for REQ and for KLL

@@ -4,7 +4,7 @@ use Rattle.sketch_base.specs.SpellingLaws.{i64_prefix_free, i64_ties}
 use Rattle.sketch_req.proofs.OneText.{one_sketch}
 use Rattle.quantile_sketches.specs.Lines.{lines}
 use Rattle.quantile_sketches.specs.Reader.{req_grammar}
-use Rattle.quantile_sketches.proofs.SummariesBehindAnswers.{answers-told-first, shown-true}
+use Rattle.quantile_sketches.proofs.serving.Summaries.{answers-told-first, shown-true}
 use Rattle.quantile_sketches.proofs.lines.answers_rest_on_streams.Goals as goal
 
 pub returns : goal.returns

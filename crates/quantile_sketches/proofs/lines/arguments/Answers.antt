@@ -5,7 +5,7 @@ use Rattle.std.proofs.lemmas.Slice.Eq.{bytes_eq-Decides}
 use Rattle.std.specs.Option.{option_map}
 use Rattle.quantile_sketches.specs.Command.{arguments_of}
 use Rattle.quantile_sketches.specs.LineWords.{unsigned_of}
-use Rattle.quantile_sketches.proofs.DigitNumbers.{parses_unsigned}
+use Rattle.quantile_sketches.proofs.reading.Words.{parses_unsigned}
 use Rattle.quantile_sketches.proofs.lines.arguments.Goals as goal
 
 -- without a seed nothing is asked for

@@ -1,4 +1,4 @@
-use Rattle.quantile_sketches.proofs.DigitNumbers.{parses_unsigned, parses_item}
+use Rattle.quantile_sketches.proofs.reading.Words.{parses_unsigned, parses_item}
 use Rattle.quantile_sketches.proofs.lines.numbers_are_parsed.Goals as goal
 
 pub returns-clause-unsigned : goal.returns-clause-unsigned

@@ -1,7 +1,7 @@
 use Rattle.std.proofs.Common.{None, Ok, Err, Result, OnErr, replicate}
 use Rattle.quantile_sketches.specs.declared.table.TheConstants.{SLOTS}
-use Rattle.quantile_sketches.proofs.FirstLine.{nothing_ahead}
-use Rattle.quantile_sketches.proofs.LineRuns.{begins-after, serves-after}
+use Rattle.quantile_sketches.proofs.reading.Lines.{nothing_ahead}
+use Rattle.quantile_sketches.proofs.serving.Lines.{begins-after, serves-after}
 use denote.MutBor.{MutBor}
 use Rattle.quantile_sketches.proofs.lines.serve_family.Goals as goal
 

@@ -1,6 +1,6 @@
 use Rattle.std.proofs.Common.{◌≡◌, ◌+◌, ◌-◌, ◌++◌, ℕ, List, sym, arith, drop}
 use Rattle.std.specs.Fmt.{decimal}
-use Rattle.quantile_sketches.proofs.Decimals.{put_more, put_last, tenth}
+use Rattle.quantile_sketches.proofs.writing.Answers.{put_more, put_last, tenth}
 use Rattle.quantile_sketches.proofs.output.put_digits.Goals as goal
 
 pub loop-rest-preserved : goal.loop-rest-preserved

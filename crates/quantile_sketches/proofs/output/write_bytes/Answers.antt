@@ -1,5 +1,5 @@
 use Rattle.std.proofs.Common.{[], Err, refl}
-use Rattle.quantile_sketches.proofs.Outputs.{keeps_same, writes-some, writes-stop}
+use Rattle.quantile_sketches.proofs.writing.Answers.{keeps_same, writes-some, writes-stop}
 use Rattle.quantile_sketches.proofs.output.write_bytes.Goals as goal
 
 pub returns : goal.returns

@@ -1,4 +1,4 @@
-use Rattle.quantile_sketches.proofs.Outputs.{keeps-appends, write-keeps}
+use Rattle.quantile_sketches.proofs.writing.Answers.{keeps-appends, write-keeps}
 use Rattle.quantile_sketches.proofs.output.write_some.Goals as goal
 
 pub returns-in-Ok-eq0-clause-err : goal.returns-in-Ok-eq0-clause-err

@@ -1,5 +1,5 @@
 use Rattle.std.proofs.Common.{◌++◌, refl}
-use Rattle.quantile_sketches.proofs.Outputs.{writes-early, writes-on}
+use Rattle.quantile_sketches.proofs.writing.Answers.{writes-early, writes-on}
 use Rattle.quantile_sketches.proofs.output.write_through.Goals as goal
 
 pub returns-in_err-write_out : goal.returns-in_err-write_out

@@ -2,7 +2,7 @@ use Rattle.std.proofs.Common.{arith}
 use Rattle.std.proofs.lemmas.Grind.{common_steps}
 use Rattle.std.proofs.Common.{ap, ◌∙◌}
 use Rattle.quantile_sketches.specs.HexText.{hex_of}
-use Rattle.quantile_sketches.proofs.HexDigits.{found-or, hex_found, no_hex}
+use Rattle.quantile_sketches.proofs.reading.Words.{found-or, hex_found, no_hex}
 use Rattle.quantile_sketches.proofs.table.decoded.Goals as goal
 
 pub returns-in_ok-image_bytes-in-Ok-clause-bytes : goal.returns-in_ok-image_bytes-in-Ok-clause-bytes

@@ -1,4 +1,4 @@
-use Rattle.quantile_sketches.proofs.SlotCalls.{turns-absent, turns-told, joins-absent, joins-other}
+use Rattle.quantile_sketches.proofs.slots.Slots.{turns-absent, turns-told, joins-absent, joins-other}
 use Rattle.quantile_sketches.proofs.table.merge.Goals as goal
 
 pub returns : goal.returns

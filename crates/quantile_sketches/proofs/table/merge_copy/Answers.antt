@@ -1,7 +1,6 @@
 use Rattle.quantile_sketches.specs.declared.answer.Refusal.TheVariants.{Sketch}
 use Rattle.quantile_sketches.specs.LineSteps.{JoinsCopy}
-use Rattle.quantile_sketches.proofs.SlotCalls.{turns-told, copy_refused}
-use Rattle.quantile_sketches.proofs.Slots.{error_is, copy_tried, copy_fails}
+use Rattle.quantile_sketches.proofs.slots.Slots.{turns-told, copy_refused, error_is, copy_tried, copy_fails}
 use Rattle.quantile_sketches.proofs.table.merge_copy.Goals as goal
 
 pub returns : goal.returns

@@ -1,4 +1,4 @@
-use Rattle.quantile_sketches.proofs.SlotCalls.{turns-told}
+use Rattle.quantile_sketches.proofs.slots.Slots.{turns-told}
 use Rattle.quantile_sketches.proofs.table.redraw.Goals as goal
 
 pub returns : goal.returns

@@ -1,6 +1,6 @@
 use Rattle.std.proofs.Common.{ℕ, List, Ok, Err, subst}
 use Rattle.quantile_sketches.specs.declared.answer.Refusal.TheVariants.{Sketch}
-use Rattle.quantile_sketches.proofs.Slots.{error_is, reads_back, stays_unread}
+use Rattle.quantile_sketches.proofs.slots.Slots.{error_is, reads_back, stays_unread}
 use Rattle.quantile_sketches.proofs.table.reread.Goals as goal
 
 pub returns-in_err-sketch : goal.returns-in_err-sketch

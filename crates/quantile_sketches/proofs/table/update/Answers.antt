@@ -2,8 +2,7 @@ use Rattle.std.proofs.Common.{if◌then◌else◌, refl, inl, ap}
 use Rattle.sketch_base.specs.declared.error.ErrorKind.TheVariants.{InvalidArgument, OutOfMemory}
 use Rattle.quantile_sketches.specs.declared.answer.Refusal.TheVariants.{Sketch}
 use Rattle.quantile_sketches.specs.LineSteps.{Cloned}
-use Rattle.quantile_sketches.proofs.SlotCalls.{turns-told}
-use Rattle.quantile_sketches.proofs.Slots.{refused_early, error_is}
+use Rattle.quantile_sketches.proofs.slots.Slots.{turns-told, refused_early, error_is}
 use Rattle.quantile_sketches.proofs.table.update.Goals as goal
 
 pub returns-then-is_full : goal.returns-then-is_full

@@ -1,4 +1,4 @@
-use Rattle.quantile_sketches.proofs.HexDigits.{tested_more, tested_whole}
+use Rattle.quantile_sketches.proofs.reading.Words.{tested_more, tested_whole}
 use Rattle.quantile_sketches.proofs.text.is_hex.Goals as goal
 
 pub loop-i-preserved : goal.loop-i-preserved

@@ -1,4 +1,4 @@
-use Rattle.quantile_sketches.proofs.HexDigits.{Tested}
+use Rattle.quantile_sketches.proofs.reading.Words.{Tested}
 use Rattle.quantile_sketches.proofs.text.is_hex.Given as goal
 
 abbrev pub invariant-loop-i : goal.invariant-loop-i

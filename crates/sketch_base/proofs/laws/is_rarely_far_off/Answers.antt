@@ -1,4 +1,4 @@
-use Rattle.sketch_base.proofs.SquaredErrors.{within_moments, within_few}
+use Rattle.sketch_base.proofs.spread.Squares.{within_moments, within_few}
 use Rattle.sketch_base.proofs.laws.is_rarely_far_off.Goals as goal
 
 pub returns-clause-moments : goal.returns-clause-moments

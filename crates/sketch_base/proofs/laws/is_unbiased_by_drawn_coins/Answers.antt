@@ -1,4 +1,4 @@
-use Rattle.sketch_base.proofs.Fair.{fair_is_unbiased}
+use Rattle.sketch_base.proofs.unbiased.Fair.{fair_is_unbiased}
 use Rattle.sketch_base.proofs.laws.is_unbiased_by_drawn_coins.Goals as goal
 
 pub returns : goal.returns

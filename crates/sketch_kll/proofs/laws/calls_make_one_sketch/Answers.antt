@@ -1,4 +1,4 @@
-use Rattle.sketch_kll.proofs.OneCall.{one-update, one-list, one-weighted, one-merge, one-image}
+use Rattle.sketch_kll.proofs.calls.InTurn.{one-update, one-list, one-weighted, one-merge, one-image}
 use Rattle.sketch_kll.proofs.laws.calls_make_one_sketch.Goals as goal
 
 pub returns-clause-update : goal.returns-clause-update

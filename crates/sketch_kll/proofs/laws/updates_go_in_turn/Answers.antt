@@ -1,4 +1,4 @@
-use Rattle.sketch_kll.proofs.UpdatesGoOn.{one_updates, updates_go_on}
+use Rattle.sketch_kll.proofs.calls.InTurn.{one_updates, updates_go_on}
 use Rattle.sketch_kll.proofs.laws.updates_go_in_turn.Goals as goal
 
 pub returns : goal.returns

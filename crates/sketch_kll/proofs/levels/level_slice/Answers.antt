@@ -1,6 +1,6 @@
 use Rattle.std.proofs.Common.{ℕ, arith, ap, ◌∙◌, get_or}
 use Rattle.std.specs.List.{between}
-use Rattle.sketch_kll.proofs.Flats.{level_between}
+use Rattle.sketch_kll.proofs.layout.Flats.{level_between}
 use Rattle.sketch_kll.proofs.levels.level_slice.Goals as goal
 
 pub returns : goal.returns

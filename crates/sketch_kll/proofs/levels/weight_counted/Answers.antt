@@ -3,8 +3,8 @@ use Rattle.sketch_base.specs.Query.{counted}
 use Rattle.sketch_kll.specs.Flat.{levels_in}
 use Rattle.sketch_kll.specs.Levels.{weight_in}
 use Rattle.sketch_kll.specs.Rank.{counted_weight}
-use Rattle.sketch_kll.proofs.Flats.{length-bounds}
-use Rattle.sketch_kll.proofs.Rank.{more_weight}
+use Rattle.sketch_kll.proofs.layout.Flats.{length-bounds}
+use Rattle.sketch_kll.proofs.views.Views.{more_weight}
 use Rattle.sketch_kll.proofs.levels.weight_counted.Goals as goal
 use Rattle.sketch_kll.proofs.levels.weight_counted.Goals.{After-count_in_order-counted, After-count_all}
 

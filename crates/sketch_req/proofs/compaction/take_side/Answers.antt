@@ -2,7 +2,7 @@ use Rattle.std.proofs.Common.{arith, ◌≡◌, ℕ, ◌+◌, ◌-◌, ◌/◌, 
 use Rattle.std.specs.Vec.Iter.{drain_items}
 use Rattle.std.proofs.lemmas.Bool.{false≢true}
 use Rattle.sketch_base.specs.Bag.{half}
-use Rattle.sketch_base.proofs.Fixed.{length-half}
+use Rattle.sketch_base.proofs.plays.Plays.{length-half}
 use Rattle.sketch_req.proofs.compaction.take_side.Given.{Over}
 use Rattle.sketch_req.proofs.compaction.take_side.Goals.{After-into_iter-item-iterator, Joined-not-skips, in-HighRank, in-LowRank, then-not-skips, else-not-skips}
 use Rattle.sketch_req.proofs.compaction.take_side.Goals as goal

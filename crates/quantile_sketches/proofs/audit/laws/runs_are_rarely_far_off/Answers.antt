@@ -1,4 +1,4 @@
-use Rattle.quantile_sketches.proofs.KllRuns.{run-moments, run-rare}
+use Rattle.quantile_sketches.proofs.runs.Kll.{run-moments, run-rare}
 use Rattle.quantile_sketches.proofs.audit.laws.runs_are_rarely_far_off.Goals as goal
 
 pub returns-clause-moments : goal.returns-clause-moments

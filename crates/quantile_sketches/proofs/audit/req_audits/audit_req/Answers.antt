@@ -1,7 +1,7 @@
 use Rattle.std.proofs.Common.{◌*◌, ℕ, length, sym, ap, ◌∙◌}
-use Rattle.quantile_sketches.proofs.Given.{three}
-use Rattle.quantile_sketches.proofs.ReqKind.{req_kind_lawful}
-use Rattle.quantile_sketches.proofs.ReqAudits.{sum-updated, sum-fair, sum-redrawn, weights-relative, weights-exact}
+use Rattle.quantile_sketches.proofs.slots.Slots.{three}
+use Rattle.quantile_sketches.proofs.req.Rules.{req_kind_lawful}
+use Rattle.quantile_sketches.proofs.runs.Req.{sum-updated, sum-fair, sum-redrawn, weights-relative, weights-exact}
 use Rattle.quantile_sketches.proofs.audit.req_audits.audit_req.Goals as goal
 
 pub audit_family-requires-clause-lawful : goal.audit_family-requires-clause-lawful

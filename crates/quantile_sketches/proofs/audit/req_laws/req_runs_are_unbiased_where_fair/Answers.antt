@@ -1,4 +1,4 @@
-use Rattle.quantile_sketches.proofs.ReqFair.{run-unbiased_where_fair}
+use Rattle.quantile_sketches.proofs.req.Fair.{run-unbiased_where_fair}
 use Rattle.quantile_sketches.proofs.audit.req_laws.req_runs_are_unbiased_where_fair.Goals as goal
 
 pub returns : goal.returns

@@ -1,4 +1,4 @@
-use Rattle.quantile_sketches.proofs.ReqReady.{run-stays_fair, run-unbiased_where_redrawn}
+use Rattle.quantile_sketches.proofs.req.Fair.{run-stays_fair, run-unbiased_where_redrawn}
 use Rattle.quantile_sketches.proofs.audit.req_laws.req_runs_stay_fair.Goals as goal
 
 pub returns : goal.returns

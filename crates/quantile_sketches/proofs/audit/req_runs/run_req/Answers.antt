@@ -6,14 +6,13 @@ use Rattle.quantile_sketches.specs.ReqReady.{stays_fair}
 use Rattle.quantile_sketches.specs.ReqRules.{req_rules}
 use Rattle.quantile_sketches.specs.ReqUpdated.{was_only_updated, AreRelative, AreRelativeToCounts}
 use Rattle.quantile_sketches.specs.Run.{AreUnbiasedWhere, WithEnoughBits}
-use Rattle.quantile_sketches.proofs.Given.{given, both, five}
-use Rattle.quantile_sketches.proofs.AfterCommands.{close-by, ranks-by}
-use Rattle.quantile_sketches.proofs.ReqFair.{run-unbiased_where_fair}
-use Rattle.quantile_sketches.proofs.ReqKind.{req_kind_lawful}
-use Rattle.quantile_sketches.proofs.ReqReady.{run-unbiased_where_redrawn}
-use Rattle.quantile_sketches.proofs.ReqRuns.{req-load, run-ordered, run-levels, run-small, run-tails-own, run-images, unbiased-updated, by-law}
-use Rattle.quantile_sketches.proofs.ReqUpdated.{run-are_relative, run-are_relative_to_counts}
-use Rattle.quantile_sketches.proofs.RunSummaries.{run-summaries, summaries-tails}
+use Rattle.quantile_sketches.proofs.slots.Slots.{given, both, five}
+use Rattle.quantile_sketches.proofs.runs.Runs.{close-by, ranks-by}
+use Rattle.quantile_sketches.proofs.req.Fair.{run-unbiased_where_fair, run-unbiased_where_redrawn}
+use Rattle.quantile_sketches.proofs.req.Rules.{req_kind_lawful}
+use Rattle.quantile_sketches.proofs.runs.Req.{req-load, run-ordered, run-levels, run-small, run-tails-own, run-images, unbiased-updated, by-law}
+use Rattle.quantile_sketches.proofs.req.Updated.{run-are_relative, run-are_relative_to_counts}
+use Rattle.quantile_sketches.proofs.req.Tails.{run-summaries, summaries-tails}
 use Rattle.quantile_sketches.proofs.audit.req_runs.run_req.Goals as goal
 
 pub run_family-requires-clause-lawful : goal.run_family-requires-clause-lawful

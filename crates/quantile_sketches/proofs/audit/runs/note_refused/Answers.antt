@@ -1,5 +1,5 @@
 use Rattle.std.proofs.Common.{◌≡◌, ℕ, List, OnOk, if◌then◌else◌, ap, ◌++◌, ◌∷◌, [], is_ok, sym, subst, arith}
-use Rattle.quantile_sketches.proofs.CallErrors.{push_told}
+use Rattle.quantile_sketches.proofs.kll.Obeys.{push_told}
 use Rattle.quantile_sketches.proofs.audit.runs.note_refused.Goals as goal
 
 pub returns-in-Err : goal.returns-in-Err

@@ -1,4 +1,4 @@
-use Rattle.quantile_sketches.proofs.Verbs.{asked-by}
+use Rattle.quantile_sketches.proofs.reading.Words.{asked-by}
 use Rattle.quantile_sketches.proofs.command.Request.parse.Goals as goal
 
 pub returns : goal.returns

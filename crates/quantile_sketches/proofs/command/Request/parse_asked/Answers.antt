@@ -1,6 +1,6 @@
 use Rattle.std.proofs.Common.{Bool, inl, inr, sym, ap, ◌∙◌}
 use Rattle.quantile_sketches.specs.Command.{parse_merge_redrawn, parse_redraw, parse_update_weighted}
-use Rattle.quantile_sketches.proofs.AskedVerbs.{asks-merge, asks-mergeu, asks-new, asks-question, asks-redraw, asks-reset, asks-roundtrip, asks-update, asks-updatew}
+use Rattle.quantile_sketches.proofs.reading.Words.{asks-merge, asks-mergeu, asks-new, asks-question, asks-redraw, asks-reset, asks-roundtrip, asks-update, asks-updatew}
 use Rattle.quantile_sketches.proofs.command.Request.parse_asked.Goals as goal
 use Rattle.quantile_sketches.proofs.command.Request.parse_asked.Goals.{then-WEIGHS+else-is-6, else-WEIGHS, then-REDRAWS+else-is-7, else-REDRAWS, then-REDRAWS-2+else-is-8, else-REDRAWS-2}
 

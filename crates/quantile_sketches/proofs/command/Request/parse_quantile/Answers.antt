@@ -1,5 +1,5 @@
 use Rattle.quantile_sketches.specs.Reader.{parse_criteria, parse_number}
-use Rattle.quantile_sketches.proofs.ReadWords.{then-none, then-read}
+use Rattle.quantile_sketches.proofs.reading.Words.{then-none, then-read}
 use Rattle.quantile_sketches.proofs.command.Request.parse_quantile.Goals as goal
 
 pub returns-in_err-total : goal.returns-in_err-total

@@ -1,5 +1,5 @@
 use Rattle.std.proofs.Common.{refl, sym, ◌∙◌}
-use Rattle.quantile_sketches.proofs.AskedVerbs.{asks-cdf, asks-image, asks-load, asks-nothing, asks-pmf, asks-quantile, asks-rank}
+use Rattle.quantile_sketches.proofs.reading.Words.{asks-cdf, asks-image, asks-load, asks-nothing, asks-pmf, asks-quantile, asks-rank}
 use Rattle.quantile_sketches.proofs.command.Request.parse_question.Goals as goal
 
 pub returns-then-is : goal.returns-then-is

@@ -3,8 +3,7 @@ use Rattle.quantile_sketches.specs.LineWords.{at_end, item_of}
 use Rattle.quantile_sketches.specs.Reader.{parse_criteria}
 use Rattle.quantile_sketches.specs.declared.command.Request.{Request}
 use Rattle.quantile_sketches.specs.declared.command.Request.TheVariants.{Rank}
-use Rattle.quantile_sketches.proofs.ReadItems.{read-back}
-use Rattle.quantile_sketches.proofs.ReadWords.{then-none, then-read}
+use Rattle.quantile_sketches.proofs.reading.Words.{read-back, then-none, then-read}
 use Rattle.quantile_sketches.proofs.command.Request.parse_rank.Goals as goal
 
 pub returns-in_err-criteria : goal.returns-in_err-criteria

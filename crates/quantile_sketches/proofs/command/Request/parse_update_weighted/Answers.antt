@@ -7,7 +7,7 @@ use Rattle.quantile_sketches.specs.Reader.{parse_number}
 use Rattle.quantile_sketches.specs.declared.commands.Command.TheVariants.{UpdateWeighted}
 use Rattle.quantile_sketches.specs.declared.command.Request.TheVariants.{Run}
 use Rattle.quantile_sketches.specs.declared.command.Request.{Request}
-use Rattle.quantile_sketches.proofs.DigitNumbers.{item_fits}
+use Rattle.quantile_sketches.proofs.reading.Words.{item_fits}
 use mir.Val.{to_z, of_z}
 use Rattle.quantile_sketches.proofs.command.Request.parse_update_weighted.Goals as goal
 

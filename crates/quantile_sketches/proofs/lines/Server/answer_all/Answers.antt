@@ -1,7 +1,6 @@
 use Rattle.std.proofs.Common.{Ok, refl}
 use Rattle.std.specs.Io.Buffered.{reader_remaining}
-use Rattle.quantile_sketches.proofs.AnsweredLines.{AnswersLine, line-found, line-written, line-unwritten}
-use Rattle.quantile_sketches.proofs.LineRuns.{ends-broken, ends-early, ends-flushed, running-out, running-start}
+use Rattle.quantile_sketches.proofs.serving.Lines.{AnswersLine, line-found, line-written, line-unwritten, ends-broken, ends-early, ends-flushed, running-out, running-start}
 use Rattle.quantile_sketches.proofs.lines.Server.answer_all.Goals.{In-Some}
 use Rattle.quantile_sketches.proofs.lines.Server.answer_all.Goals.at as past
 use Rattle.quantile_sketches.proofs.lines.Server.answer_all.Goals as goal

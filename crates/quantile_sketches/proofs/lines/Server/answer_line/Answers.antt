@@ -1,7 +1,7 @@
 use Rattle.std.proofs.Common.{arith}
 use Rattle.std.proofs.lemmas.Grind.{common_steps}
 use Rattle.std.specs.Io.Buffered.{reader_remaining}
-use Rattle.quantile_sketches.proofs.AnsweredLines.{buffered-answered, read-answered}
+use Rattle.quantile_sketches.proofs.serving.Lines.{buffered-answered, read-answered}
 use Rattle.quantile_sketches.proofs.lines.Server.answer_line.Goals as goal
 
 pub returns-clause-answered : goal.returns-clause-answered

@@ -1,4 +1,4 @@
-use Rattle.quantile_sketches.proofs.Slots.{slot_made}
+use Rattle.quantile_sketches.proofs.slots.Slots.{slot_made}
 use Rattle.quantile_sketches.proofs.table.Table.create.Goals as goal
 
 pub returns : goal.returns

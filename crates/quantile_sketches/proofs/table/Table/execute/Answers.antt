@@ -1,6 +1,6 @@
 use Rattle.std.proofs.Common.{arith}
 use Rattle.quantile_sketches.specs.LineSteps.{Turns, Cloned, Empties, RoundTrips}
-use Rattle.quantile_sketches.proofs.Slots.{changed-slot}
+use Rattle.quantile_sketches.proofs.slots.Slots.{changed-slot}
 use Rattle.quantile_sketches.proofs.table.Table.execute.Goals as goal
 
 pub returns-in-Update : goal.returns-in-Update

@@ -1,6 +1,6 @@
 use Rattle.std.proofs.Common.{Some, None, refl, sym, le_refl, ◌∙◌}
 use Rattle.quantile_sketches.specs.Outcome.{sketch_at}
-use Rattle.quantile_sketches.proofs.Slots.{within_all, none-moved, moved-one, all-moved}
+use Rattle.quantile_sketches.proofs.slots.Slots.{within_all, none-moved, moved-one, all-moved}
 use Rattle.quantile_sketches.proofs.table.Table.into_map.Goals.{in-Some+in_ok-insert+in-Some-1, in-Some+in_ok-insert+in-None-1, in_default}
 use Rattle.quantile_sketches.proofs.table.Table.into_map.Goals as goal
 

@@ -2,7 +2,7 @@ use Rattle.std.proofs.Common.{ℕ, List, Ok, Err, inl, inr, ap, ◌∙◌, subst
 use Rattle.quantile_sketches.specs.declared.answer.Refusal.TheVariants.{Sketch}
 use Rattle.quantile_sketches.specs.LineSteps.{ReadsImage}
 use Rattle.quantile_sketches.specs.LineWords.{image_in}
-use Rattle.quantile_sketches.proofs.Slots.{slot_made, error_is}
+use Rattle.quantile_sketches.proofs.slots.Slots.{slot_made, error_is}
 use Rattle.quantile_sketches.proofs.table.Table.load.Goals as goal
 
 pub returns-in_err-decoded : goal.returns-in_err-decoded

@@ -1,6 +1,6 @@
 use Rattle.std.proofs.lemmas.Bool.{eq-eqb, ne_eqb}
 use Rattle.quantile_sketches.specs.LineSteps.{Turns, JoinsCopy}
-use Rattle.quantile_sketches.proofs.Slots.{emptied_for_a_while, changed-slot}
+use Rattle.quantile_sketches.proofs.slots.Slots.{emptied_for_a_while, changed-slot}
 use Rattle.quantile_sketches.proofs.table.Table.merge.Goals as goal
 
 pub returns-then-into-source : goal.returns-then-into-source

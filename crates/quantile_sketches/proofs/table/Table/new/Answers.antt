@@ -1,6 +1,6 @@
 use Rattle.std.proofs.Common.{◌≤◌, ℕ, sym, subst}
 use Rattle.quantile_sketches.specs.declared.table.TheConstants.{SLOTS}
-use Rattle.quantile_sketches.proofs.Slots.{one-more-empty}
+use Rattle.quantile_sketches.proofs.slots.Slots.{one-more-empty}
 use Rattle.quantile_sketches.proofs.table.Table.new.Goals as goal
 
 pub loop-i-preserved : goal.loop-i-preserved

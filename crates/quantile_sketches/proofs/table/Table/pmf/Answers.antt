@@ -3,8 +3,7 @@ use Rattle.sketch_base.specs.Queried.{IsPmf}
 use Rattle.quantile_sketches.specs.declared.answer.Refusal.TheVariants.{Sketch}
 use Rattle.quantile_sketches.specs.LineSteps.{AnswersMasses}
 use Rattle.quantile_sketches.specs.LineWords.{items_in_line}
-use Rattle.quantile_sketches.proofs.SlotCalls.{asks-held, masses-refused, masses-error, masses-given}
-use Rattle.quantile_sketches.proofs.Slots.{error_is}
+use Rattle.quantile_sketches.proofs.slots.Slots.{asks-held, masses-refused, masses-error, masses-given, error_is}
 use Rattle.quantile_sketches.proofs.table.Table.pmf.Goals as goal
 
 pub returns : goal.returns

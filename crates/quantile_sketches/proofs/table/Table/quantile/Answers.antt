@@ -3,8 +3,7 @@ use Rattle.sketch_base.specs.Queried.{IsQuantile}
 use Rattle.quantile_sketches.specs.declared.answer.Answer.TheVariants.{Item}
 use Rattle.quantile_sketches.specs.declared.answer.Refusal.TheVariants.{Sketch}
 use Rattle.quantile_sketches.specs.LineSteps.{Replies}
-use Rattle.quantile_sketches.proofs.SlotCalls.{asks-held}
-use Rattle.quantile_sketches.proofs.Slots.{error_is}
+use Rattle.quantile_sketches.proofs.slots.Slots.{asks-held, error_is}
 use Rattle.quantile_sketches.proofs.table.Table.quantile.Goals as goal
 
 pub returns : goal.returns

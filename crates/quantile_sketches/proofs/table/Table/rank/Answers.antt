@@ -3,7 +3,7 @@ use Rattle.std.specs.Int.{w64}
 use Rattle.std.proofs.lemmas.Int.{to_z-of_z}
 use Rattle.sketch_base.specs.Queried.{IsRank}
 use Rattle.quantile_sketches.specs.declared.answer.Answer.TheVariants.{Rank}
-use Rattle.quantile_sketches.proofs.SlotCalls.{asks-held}
+use Rattle.quantile_sketches.proofs.slots.Slots.{asks-held}
 use Rattle.quantile_sketches.proofs.table.Table.rank.Goals as goal
 
 pub returns : goal.returns

@@ -1,7 +1,7 @@
 use Rattle.std.proofs.Common.{◌∙◌}
 use Rattle.sketch_base.specs.Random.{next_state}
 use Rattle.quantile_sketches.specs.Behaviour.{coin_of_state}
-use Rattle.quantile_sketches.proofs.Slots.{item_of_clone, done_is}
+use Rattle.quantile_sketches.proofs.slots.Slots.{item_of_clone, done_is}
 use Rattle.quantile_sketches.proofs.table.Table.reply.Goals as goal
 
 pub returns-in-Run : goal.returns-in-Run

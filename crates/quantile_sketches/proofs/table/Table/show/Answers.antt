@@ -2,8 +2,7 @@ use Rattle.std.proofs.Common.{Err, inl, inr, ap, ◌∙◌, refl}
 use Rattle.hex.specs.Hex.{encode_lower}
 use Rattle.quantile_sketches.specs.LineSteps.{Shows}
 use Rattle.quantile_sketches.specs.declared.answer.Refusal.TheVariants.{Sketch}
-use Rattle.quantile_sketches.proofs.SlotCalls.{asks-held}
-use Rattle.quantile_sketches.proofs.Slots.{error_is}
+use Rattle.quantile_sketches.proofs.slots.Slots.{asks-held, error_is}
 use Rattle.quantile_sketches.proofs.table.Table.show.Goals as goal
 
 pub returns : goal.returns

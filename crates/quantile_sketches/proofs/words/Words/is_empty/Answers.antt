@@ -1,5 +1,5 @@
 use Rattle.std.proofs.Common.{◌∙◌, sym}
-use Rattle.quantile_sketches.proofs.LineParts.{nothing_left}
+use Rattle.quantile_sketches.proofs.reading.Lines.{nothing_left}
 use Rattle.quantile_sketches.proofs.words.Words.is_empty.Goals as goal
 
 pub returns : goal.returns

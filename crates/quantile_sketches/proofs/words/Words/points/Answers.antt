@@ -1,7 +1,7 @@
 use Rattle.std.proofs.Common.{arith, ap, sym}
 use Rattle.std.proofs.lemmas.Grind.{common_steps}
 use Rattle.quantile_sketches.specs.LineWords.{are_items, items_in_line, rise}
-use Rattle.quantile_sketches.proofs.ReadItems.{rise-step}
+use Rattle.quantile_sketches.proofs.reading.Words.{rise-step}
 use Rattle.quantile_sketches.proofs.words.Words.points.Goals as goal
 
 pub loop-words-init : goal.loop-words-init

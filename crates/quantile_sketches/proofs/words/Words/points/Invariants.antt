@@ -1,6 +1,6 @@
 use Rattle.std.proofs.Common.{◌≡◌, length, ◌&&◌}
 use Rattle.quantile_sketches.specs.LineWords.{are_items, items_in_line, rise}
-use Rattle.quantile_sketches.proofs.ReadItems.{rise_after}
+use Rattle.quantile_sketches.proofs.reading.Words.{rise_after}
 use Rattle.quantile_sketches.proofs.words.Words.points.Given as goal
 
 abbrev pub invariant-loop-words : goal.invariant-loop-words

@@ -1,8 +1,8 @@
 use Rattle.std.proofs.Common.{of_calls, rules}
 use Rattle.std.proofs.lemmas.List.Sorted.{IsPartitionPoint-from_clause}
 use Rattle.sketch_base.specs.Query.{counted}
-use Rattle.sketch_base.proofs.Counts.{counted-parts}
-use Rattle.sketch_base.proofs.Entries.{counted-parted}
+use Rattle.sketch_base.proofs.order.Order.{counted-parts}
+use Rattle.sketch_base.proofs.views.Entries.{counted-parted}
 use Rattle.sketch_base.proofs.common.counting.count_in_order.Goals as goal
 
 pub returns : goal.returns

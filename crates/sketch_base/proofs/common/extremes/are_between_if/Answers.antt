@@ -3,7 +3,7 @@ use Rattle.std.proofs.Common.{◌≡◌, ◌-◌, Bool, true, false, not, length
 use Rattle.std.proofs.ByRecursion.{All-get_or}
 use Rattle.std.proofs.lemmas.Bool.{false≢true}
 use Rattle.sketch_base.specs.Extremes.{IsBetween}
-use Rattle.sketch_base.proofs.SortedEnds.{between-ends}
+use Rattle.sketch_base.proofs.order.Extremes.{between-ends}
 use Rattle.sketch_base.proofs.common.extremes.are_between_if.Goals.{then-not-is_gt, else-not-is_gt}
 use Rattle.sketch_base.proofs.common.extremes.are_between_if.Goals as goal
 

@@ -1,5 +1,5 @@
 use Rattle.std.proofs.Common.{refl}
-use Rattle.sketch_base.proofs.Extremes.{least_kept, least_with_all, greatest_kept, greatest_with_all}
+use Rattle.sketch_base.proofs.order.Extremes.{least_kept, least_with_all, greatest_kept, greatest_with_all}
 use Rattle.sketch_base.proofs.common.extremes.clone_passing_extremes.Goals as goal
 
 pub returns-then-are_within : goal.returns-then-are_within

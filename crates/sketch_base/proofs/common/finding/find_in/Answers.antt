@@ -1,7 +1,7 @@
 use Rattle.std.proofs.Common.{ℕ, ◌≤◌, ◌<◌, subst}
 use Rattle.sketch_base.specs.Bag.{expanded, repeated}
-use Rattle.sketch_base.proofs.QuantilePlaces.{item-enclosed}
-use Rattle.sketch_base.proofs.Sorting.{IsSorted-sort}
+use Rattle.sketch_base.proofs.views.Entries.{item-enclosed}
+use Rattle.sketch_base.proofs.order.Order.{IsSorted-sort}
 use Rattle.sketch_base.proofs.common.finding.find_in.Goals as goal
 
 pub returns-then-place-rank_weight : goal.returns-then-place-rank_weight

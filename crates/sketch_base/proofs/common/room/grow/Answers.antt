@@ -1,7 +1,7 @@
 use Rattle.std.proofs.Common.{arith}
 use Rattle.std.proofs.Common.{◌+◌, ◌-◌, ◌/◌, ◌≤◌, ◌∙◌, ap, max, subst, vec_len, vec_capacity}
 use Rattle.std.proofs.lemmas.Result.{on_ok_weaker}
-use Rattle.sketch_base.proofs.RoomCounts.{quarter-some}
+use Rattle.sketch_base.proofs.moving.Moving.{quarter-some}
 use Rattle.sketch_base.proofs.common.room.grow.Goals as goal
 
 pub returns : goal.returns

@@ -3,9 +3,8 @@ use Rattle.std.proofs.lemmas.Fn.{always_returns_same}
 use Rattle.std.proofs.lemmas.List.{reverse-reverse}
 use Rattle.std.proofs.lemmas.List.Sorted.{ranks_by, sum_by-IsPermutation}
 use Rattle.sketch_base.specs.Views.{IsView}
-use Rattle.sketch_base.proofs.BuiltViews.{built-joined}
-use Rattle.sketch_base.proofs.JoinedViews.{joined-view, sorted-items}
-use Rattle.sketch_base.proofs.MovedCounts.{some-unless_zero}
+use Rattle.sketch_base.proofs.views.Built.{built-joined, joined-view, sorted-items}
+use Rattle.sketch_base.proofs.moving.Moving.{some-unless_zero}
 use Rattle.sketch_base.proofs.sorted_view.SortedView.build.Given.{Over}
 use Rattle.sketch_base.proofs.sorted_view.SortedView.build.Goals.{After-reverse}
 use Rattle.sketch_base.proofs.sorted_view.SortedView.build.Goals as goal

@@ -3,9 +3,9 @@ use Rattle.std.specs.Prelude.{Some, slice_get}
 use Rattle.sketch_base.specs.declared.common.Rank.{Rank}
 use Rattle.sketch_base.specs.Query.{true_rank}
 use Rattle.sketch_base.specs.Queries.{cdf_of, ranks_of, spread_out}
-use Rattle.sketch_base.proofs.Answered.{answer}
-use Rattle.sketch_base.proofs.Distributions.{ranks-end, ranks-more, ranks-last, ranks-rise}
-use Rattle.sketch_base.proofs.ViewAnswers.{at-entries, entries-there}
+use Rattle.sketch_base.proofs.calls.Calls.{answer}
+use Rattle.sketch_base.proofs.views.Entries.{ranks-end, ranks-more, ranks-last, ranks-rise}
+use Rattle.sketch_base.proofs.views.Built.{at-entries, entries-there}
 use Rattle.sketch_base.proofs.sorted_view.SortedView.cdf.Given.{Over}
 use Rattle.sketch_base.proofs.sorted_view.SortedView.cdf.Goals.{After-push_reserved-2}
 use Rattle.sketch_base.proofs.sorted_view.SortedView.cdf.Goals as goal

@@ -1,7 +1,7 @@
 use Rattle.std.proofs.Common.{is_some, ap, length, refl}
 use Rattle.sketch_base.specs.Queries.{cdf_of}
-use Rattle.sketch_base.proofs.Answered.{answer-too, told-fit}
-use Rattle.sketch_base.proofs.Distributions.{differences-left, increasing-told, ranks-sum}
+use Rattle.sketch_base.proofs.calls.Calls.{answer-too, told-fit}
+use Rattle.sketch_base.proofs.views.Entries.{differences-left, increasing-told, ranks-sum}
 use Rattle.sketch_base.proofs.sorted_view.SortedView.pmf.Goals as goal
 
 pub returns : goal.returns

@@ -4,8 +4,8 @@ use Rattle.sketch_base.specs.declared.common.Rank.{Rank}
 use Rattle.sketch_base.specs.Queries.{SameAnswer}
 use Rattle.sketch_base.specs.Queried.{quantile_of}
 use Rattle.sketch_base.specs.Views.{queried_view}
-use Rattle.sketch_base.proofs.Entries.{zip-more}
-use Rattle.sketch_base.proofs.ViewAnswers.{clone-answers}
+use Rattle.sketch_base.proofs.views.Entries.{zip-more}
+use Rattle.sketch_base.proofs.views.Built.{clone-answers}
 use Rattle.sketch_base.proofs.sorted_view.SortedView.quantiles.Goals as goal
 
 pub loop-fraction-preserved : goal.loop-fraction-preserved

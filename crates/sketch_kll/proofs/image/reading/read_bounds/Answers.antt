@@ -1,8 +1,8 @@
 use Rattle.std.proofs.lemmas.Grind.{common_steps}
 use Rattle.std.proofs.Common.{arith, length, ap, refl}
-use Rattle.sketch_base.proofs.Exits.{refused_if}
-use Rattle.sketch_base.proofs.FixedNumbers.{same_32}
-use Rattle.sketch_kll.proofs.ImagePlaces.{all_counted, bounds_found, no_more_bounds, one_bound}
+use Rattle.sketch_base.proofs.calls.Calls.{refused_if}
+use Rattle.sketch_base.proofs.images.Spelled.{same_32}
+use Rattle.sketch_kll.proofs.images.Places.{all_counted, bounds_found, no_more_bounds, one_bound}
 use Rattle.sketch_kll.proofs.image.reading.read_bounds.Goals as goal
 
 pub returns-in_err-offset-clause-refused : goal.returns-in_err-offset-clause-refused

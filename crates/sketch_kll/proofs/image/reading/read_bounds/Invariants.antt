@@ -1,5 +1,5 @@
 use Rattle.std.proofs.Common.{◌≡◌, ◌+◌, ◌≤◌, vec_len, vec_capacity}
-use Rattle.sketch_kll.proofs.ImagePlaces.{BoundsRead}
+use Rattle.sketch_kll.proofs.images.Places.{BoundsRead}
 use Rattle.sketch_kll.proofs.image.reading.read_bounds.Given as goal
 
 abbrev pub invariant-loop : goal.invariant-loop

@@ -1,7 +1,7 @@
 use Rattle.std.proofs.lemmas.Grind.{common_steps}
 use Rattle.std.proofs.Common.{arith, refl, ap}
-use Rattle.sketch_kll.proofs.Flats.{length-bounds}
-use Rattle.sketch_kll.proofs.StoredLevels.{empty_stored, new_levels}
+use Rattle.sketch_kll.proofs.layout.Flats.{length-bounds}
+use Rattle.sketch_kll.proofs.sketches.Stored.{empty_stored, new_levels}
 use Rattle.sketch_kll.specs.Stored.{Stored}
 use Rattle.sketch_kll.proofs.levels.Levels.clear.Goals as goal
 use Rattle.sketch_kll.proofs.levels.Levels.clear.Goals.{After-fill}

@@ -1,8 +1,8 @@
 use Rattle.std.proofs.lemmas.Grind.{common_steps}
 use Rattle.std.proofs.Common.{arith}
 use Rattle.std.proofs.lemmas.Result.{IfOk-weaker}
-use Rattle.sketch_base.proofs.Items.{SameItems-clones}
-use Rattle.sketch_kll.proofs.Flats.{length-items}
+use Rattle.sketch_base.proofs.bags.Alike.{SameItems-clones}
+use Rattle.sketch_kll.proofs.layout.Flats.{length-items}
 use Rattle.sketch_kll.proofs.levels.Levels.clone_with_room.Goals as goal
 
 pub returns-clause-clones : goal.returns-clause-clones

@@ -5,10 +5,9 @@ use Rattle.sketch_kll.specs.Levels.{retained_in, compacted, SameLevels}
 use Rattle.sketch_kll.specs.Flat.{levels_in}
 use Rattle.sketch_kll.specs.Steps.{needs_sorting}
 use Rattle.sketch_kll.specs.Stored.{Stored}
-use Rattle.sketch_kll.proofs.Flats.{length-items}
-use Rattle.sketch_kll.proofs.RaisedLevels.{raised_is, Raises}
-use Rattle.sketch_kll.proofs.StoredLevels.{CompactedStored, known_total, compacted_stored, raised_sorted}
-use Rattle.sketch_kll.proofs.JoinedLevels.{whole_slice}
+use Rattle.sketch_kll.proofs.layout.Flats.{length-items, raised_is, Raises}
+use Rattle.sketch_kll.proofs.sketches.Stored.{CompactedStored, known_total, compacted_stored, raised_sorted}
+use Rattle.sketch_kll.proofs.merges.Joined.{whole_slice}
 use Rattle.sketch_kll.proofs.levels.Levels.compact.Goals as goal
 use Rattle.sketch_kll.proofs.levels.Levels.compact.Goals.at as past
 use Rattle.sketch_kll.proofs.levels.Levels.compact.Goals.{After-random_bit-arg-1, After-truncate, Joined-level-len, then-level-len, else-level-len}

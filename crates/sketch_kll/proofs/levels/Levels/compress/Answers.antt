@@ -5,10 +5,9 @@ use Rattle.std.specs.Cmp.{IsTotalOrder}
 use Rattle.sketch_kll.specs.Levels.{SameLevels, UpperSorted}
 use Rattle.sketch_kll.specs.Compress.{passes, stepped, stepped_source}
 use Rattle.sketch_kll.specs.Stored.{KeepsRoom, Stored}
-use Rattle.sketch_kll.proofs.Flats.{SameLevels-refl}
-use Rattle.sketch_kll.proofs.CompressWalks.{behind_start, no_62nd_level, stepped_passed, walk_step, walk_more, WalkStep, Behind}
-use Rattle.sketch_kll.proofs.Compresses.{walk_ended}
-use Rattle.sketch_kll.proofs.FullLevels.{full_holds}
+use Rattle.sketch_kll.proofs.layout.Flats.{SameLevels-refl}
+use Rattle.sketch_kll.proofs.plays.Compresses.{behind_start, no_62nd_level, stepped_passed, walk_step, walk_more, WalkStep, Behind, walk_ended}
+use Rattle.sketch_kll.proofs.layout.Full.{full_holds}
 use Rattle.sketch_kll.proofs.levels.Levels.compress.Goals as goal
 use Rattle.sketch_kll.proofs.levels.Levels.compress.Goals.at as past
 use Rattle.sketch_kll.proofs.levels.Levels.compress.Goals.{Joined-not-level_passes, then-not-level_passes, else-not-level_passes}

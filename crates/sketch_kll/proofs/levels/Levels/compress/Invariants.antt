@@ -3,7 +3,7 @@ use Rattle.sketch_kll.specs.Levels.{retained_in, weight_in, SameLevels}
 use Rattle.sketch_kll.specs.Capacity.{total_of}
 use Rattle.sketch_kll.specs.Compress.{walked}
 use Rattle.sketch_kll.specs.Stored.{KeepsRoom}
-use Rattle.sketch_kll.proofs.CompressWalks.{Behind, walked_source}
+use Rattle.sketch_kll.proofs.plays.Compresses.{Behind, walked_source}
 use Rattle.sketch_kll.proofs.levels.Levels.compress.Given as goal
 
 abbrev pub invariant-loop-self : goal.invariant-loop-self

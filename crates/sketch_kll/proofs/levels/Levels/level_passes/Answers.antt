@@ -3,8 +3,8 @@ use Rattle.sketch_kll.specs.Capacity.{capacity_at}
 use Rattle.sketch_kll.specs.Flat.{levels_in}
 use Rattle.sketch_kll.specs.Steps.{is_full}
 use Rattle.sketch_kll.specs.Stored.{Stored}
-use Rattle.sketch_kll.proofs.Flats.{bound_falls_to, length-bounds}
-use Rattle.sketch_kll.proofs.FullLevels.{passes_is}
+use Rattle.sketch_kll.proofs.layout.Flats.{bound_falls_to, length-bounds}
+use Rattle.sketch_kll.proofs.layout.Full.{passes_is}
 use Rattle.sketch_kll.specs.Compress.{passes}
 use Rattle.sketch_kll.proofs.levels.Levels.level_passes.Goals as goal
 

@@ -1,7 +1,6 @@
 use Rattle.std.proofs.lemmas.Grind.{common_steps}
 use Rattle.std.proofs.Common.{◌∙◌, arith, sym}
-use Rattle.sketch_kll.proofs.FullLevels.{full_holds, seeks_end, seeks_on, seeks_start}
-use Rattle.sketch_kll.proofs.NoMoreLevels.{full_level_low}
+use Rattle.sketch_kll.proofs.layout.Full.{full_holds, seeks_end, seeks_on, seeks_start, full_level_low}
 use Rattle.sketch_kll.proofs.levels.Levels.level_to_compact.Goals as goal
 
 pub loop-level-init : goal.loop-level-init

@@ -1,5 +1,5 @@
 use Rattle.std.proofs.Common.{◌-◌, ◌<◌, length}
-use Rattle.sketch_kll.proofs.FullLevels.{SeeksFull}
+use Rattle.sketch_kll.proofs.layout.Full.{SeeksFull}
 use Rattle.sketch_kll.proofs.levels.Levels.level_to_compact.Given as goal
 
 abbrev pub invariant-loop-level : goal.invariant-loop-level

@@ -1,6 +1,6 @@
 use Rattle.std.proofs.Common.{◌∙◌, sym}
-use Rattle.sketch_kll.proofs.Flats.{SameLevels-refl}
-use Rattle.sketch_kll.proofs.FullLevels.{with_room_spare}
+use Rattle.sketch_kll.proofs.layout.Flats.{SameLevels-refl}
+use Rattle.sketch_kll.proofs.layout.Full.{with_room_spare}
 use Rattle.sketch_kll.proofs.levels.Levels.make_place.Goals as goal
 
 pub returns-then-not-is_full-clause-levels : goal.returns-then-not-is_full-clause-levels

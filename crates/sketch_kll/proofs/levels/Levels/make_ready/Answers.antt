@@ -4,9 +4,9 @@ use Rattle.std.proofs.lemmas.Grind.{get_or_default_zero}
 use Rattle.sketch_kll.specs.Flat.{levels_in}
 use Rattle.sketch_kll.specs.Levels.{retained_in}
 use Rattle.sketch_kll.specs.Stored.{Stored}
-use Rattle.sketch_kll.proofs.Flats.{bound_within, length-bounds, length-items}
-use Rattle.sketch_kll.proofs.LevelClones.{same_clones, cloned}
-use Rattle.sketch_kll.proofs.StoredLevels.{kept_still, clones_told}
+use Rattle.sketch_kll.proofs.layout.Flats.{bound_within, length-bounds, length-items}
+use Rattle.sketch_kll.proofs.layout.Alike.{same_clones, cloned}
+use Rattle.sketch_kll.proofs.sketches.Stored.{kept_still, clones_told}
 use Rattle.sketch_kll.proofs.levels.Levels.make_ready.Goals as goal
 
 -- where level 0 begins

@@ -2,10 +2,8 @@ use Rattle.std.proofs.Common.{◌∷◌, List, Bool, IsTrue, drop, ap, subst, ar
 use Rattle.sketch_kll.specs.Flat.{levels_in}
 use Rattle.sketch_kll.specs.Join.{joined}
 use Rattle.sketch_kll.specs.Stored.{Stored}
-use Rattle.sketch_kll.proofs.AlikeCompactions.{first-same}
-use Rattle.sketch_kll.proofs.LevelClones.{ClonedRuns, cloned_runs}
-use Rattle.sketch_kll.proofs.Merged.{merged_by_calls, merged_only, joined_size, joined-first}
-use Rattle.sketch_kll.proofs.MergedSketches.{merged_same}
+use Rattle.sketch_kll.proofs.layout.Alike.{first-same, ClonedRuns, cloned_runs}
+use Rattle.sketch_kll.proofs.merges.Merged.{merged_by_calls, merged_only, joined_size, joined-first, merged_same}
 use Rattle.sketch_kll.proofs.levels.Levels.merge.Goals as goal
 use Rattle.sketch_kll.proofs.levels.Levels.merge.Goals.at as past
 use Rattle.sketch_kll.proofs.levels.Levels.merge.Goals.{After-as_slice-other_bounds}

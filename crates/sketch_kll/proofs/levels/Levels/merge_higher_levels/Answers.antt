@@ -6,9 +6,9 @@ use Rattle.sketch_kll.specs.Flat.{levels_in}
 use Rattle.sketch_kll.specs.Join.{joined_bounds}
 use Rattle.sketch_kll.specs.Levels.{retained_in}
 use Rattle.sketch_kll.specs.Stored.{Stored}
-use Rattle.sketch_kll.proofs.Flats.{length-items}
-use Rattle.sketch_kll.proofs.JoinedLevels.{prepared, joined_fit, whole_slice}
-use Rattle.sketch_kll.proofs.StoredLevels.{JoinedStored, known_total, joined_stored}
+use Rattle.sketch_kll.proofs.layout.Flats.{length-items}
+use Rattle.sketch_kll.proofs.merges.Joined.{prepared, joined_fit, whole_slice}
+use Rattle.sketch_kll.proofs.sketches.Stored.{JoinedStored, known_total, joined_stored}
 use Rattle.sketch_kll.proofs.levels.Levels.merge_higher_levels.Goals as goal
 use Rattle.sketch_kll.proofs.levels.Levels.merge_higher_levels.Goals.{After-drop-upper, Joined-len-others, then-len-others, else-len-others}
 use Rattle.sketch_kll.proofs.levels.Levels.merge_higher_levels.Goals.at as past

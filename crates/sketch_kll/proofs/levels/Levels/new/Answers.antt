@@ -1,4 +1,4 @@
-use Rattle.sketch_kll.proofs.StoredLevels.{empty_stored, new_levels}
+use Rattle.sketch_kll.proofs.sketches.Stored.{empty_stored, new_levels}
 use Rattle.std.proofs.Common.{refl}
 use Rattle.sketch_kll.proofs.levels.Levels.new.Goals as goal
 

@@ -1,6 +1,6 @@
 use Rattle.std.proofs.Common.{[], ◌∷◌, ap, ◌∙◌}
 use Rattle.sketch_kll.specs.Stored.{Stored}
-use Rattle.sketch_kll.proofs.StoredLevels.{put_stored}
+use Rattle.sketch_kll.proofs.sketches.Stored.{put_stored}
 use Rattle.sketch_kll.specs.Steps.{put_all}
 use Rattle.sketch_kll.proofs.levels.Levels.push.Goals as goal
 

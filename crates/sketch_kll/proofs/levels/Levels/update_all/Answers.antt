@@ -2,8 +2,8 @@ use Rattle.std.proofs.Common.{◌≡◌, ◌∷◌, [], ◌∙◌, ◌<◌, ◌^
 use Rattle.std.specs.Vec.Iter.{into_iter_items}
 use Rattle.sketch_kll.specs.Levels.{SameLevels, retained_in, weight_in}
 use Rattle.sketch_kll.specs.Steps.{compacted_if_full}
-use Rattle.sketch_kll.proofs.Takes.{room_below, taking_more, taking_none}
-use Rattle.sketch_kll.proofs.PutItems.{retained-put}
+use Rattle.sketch_kll.proofs.plays.Updates.{room_below, taking_more, taking_none}
+use Rattle.sketch_kll.proofs.layout.Flats.{retained-put}
 use Rattle.sketch_kll.proofs.levels.Levels.update_all.Given.{Over}
 use Rattle.sketch_kll.proofs.levels.Levels.update_all.Goals.{After-compact_if_full}
 use Rattle.sketch_kll.proofs.levels.Levels.update_all.Goals as goal

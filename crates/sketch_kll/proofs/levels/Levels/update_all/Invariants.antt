@@ -1,7 +1,7 @@
 use Rattle.std.proofs.Common.{◌≡◌, ◌+◌, ◌++◌, ◌≤◌, length}
 use Rattle.std.specs.Vec.Iter.{into_iter_items, into_iter_len}
 use Rattle.sketch_kll.specs.Levels.{retained_in}
-use Rattle.sketch_kll.proofs.Takes.{Taking}
+use Rattle.sketch_kll.proofs.plays.Updates.{Taking}
 use Rattle.sketch_kll.proofs.levels.Levels.update_all.Given as goal
 
 abbrev pub invariant-loop-item : goal.invariant-loop-item

@@ -1,7 +1,7 @@
 use Rattle.std.proofs.Common.{◌≡◌, ◌+◌, ◌∙◌, length, get_or, inl, inr, arith, length-set}
 use Rattle.std.proofs.lemmas.Bool.{cases_lt}
 use Rattle.std.proofs.lemmas.List.{get_or_past}
-use Rattle.sketch_kll.proofs.JoinedLevels.{joined_bounds_is}
+use Rattle.sketch_kll.proofs.merges.Joined.{joined_bounds_is}
 use Rattle.sketch_kll.proofs.levels.merging.add_bounds.Goals as goal
 
 pub returns : goal.returns

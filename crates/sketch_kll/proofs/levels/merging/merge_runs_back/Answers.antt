@@ -1,9 +1,9 @@
 use Rattle.std.proofs.lemmas.Grind.{common_steps}
 use Rattle.std.proofs.Common.{arith, ◌≡◌, ℕ, List, ◌+◌, ◌-◌, ◌<◌, ◌≤◌, ◌++◌, length, get_or, take, drop, reverse, refl, sym, ap, ap₂, subst, ◌∙◌, append_assoc, length-drop, length-take-le, le_refl, take-append-drop}
-use Rattle.sketch_base.proofs.Pourings.{reverse_back}
+use Rattle.sketch_base.proofs.moving.Moving.{reverse_back}
 use Rattle.sketch_kll.specs.Flat.{levels_in}
-use Rattle.sketch_kll.proofs.Flats.{bound_at, bound_within, length-bounds}
-use Rattle.sketch_kll.proofs.JoinedLevels.{AreJoining, IsRunAt, NextRuns, run_at, next_runs, joining_start, joining_more, joining_end, moved_run}
+use Rattle.sketch_kll.proofs.layout.Flats.{bound_at, bound_within, length-bounds}
+use Rattle.sketch_kll.proofs.merges.Joined.{AreJoining, IsRunAt, NextRuns, run_at, next_runs, joining_start, joining_more, joining_end, moved_run}
 use Rattle.sketch_kll.proofs.levels.merging.merge_runs_back.Goals.{After-move_back}
 use Rattle.sketch_kll.proofs.levels.merging.merge_runs_back.Goals as goal
 use Rattle.sketch_kll.proofs.levels.merging.merge_runs_back.Goals.at as past

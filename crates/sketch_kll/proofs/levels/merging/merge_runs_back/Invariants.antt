@@ -1,6 +1,6 @@
 use Rattle.std.proofs.Common.{◌≡◌, ◌+◌, ◌-◌, ◌≤◌, ◌++◌, get_or, length, take, drop, reverse, vec_capacity}
 use Rattle.sketch_kll.specs.Flat.{levels_in}
-use Rattle.sketch_kll.proofs.JoinedLevels.{AreJoining}
+use Rattle.sketch_kll.proofs.merges.Joined.{AreJoining}
 use Rattle.sketch_kll.proofs.levels.merging.merge_runs_back.Given as goal
 
 abbrev pub invariant-loop-level : goal.invariant-loop-level

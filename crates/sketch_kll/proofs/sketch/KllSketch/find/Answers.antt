@@ -3,8 +3,7 @@ use Rattle.std.proofs.lemmas.Bool.{ne_eqb}
 use Rattle.std.specs.Prelude.{Option, Some, IfSome, ◌==◌}
 use Rattle.sketch_base.specs.Bag.{expanded}
 use Rattle.sketch_base.specs.Queries.{SameAnswer}
-use Rattle.sketch_base.proofs.QuantilePlaces.{quantile-at}
-use Rattle.sketch_base.proofs.SketchViews.{length-expanded}
+use Rattle.sketch_base.proofs.views.Entries.{quantile-at, length-expanded}
 use Rattle.sketch_kll.specs.Sketch.{bag_of}
 use Rattle.sketch_kll.proofs.sketch.KllSketch.find.Goals as goal
 

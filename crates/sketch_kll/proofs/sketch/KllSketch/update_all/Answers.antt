@@ -1,15 +1,15 @@
 -- The goals at the return are what updates by all items make of the fields.
 use Rattle.std.proofs.Common.{◌≡◌, ◌<◌, ◌≤◌, ◌^◌, ◌+◌, ◌-◌, ℕ, List, [], ◌∷◌, length, ap, refl, arith, ◌∙◌}
 use Rattle.sketch_base.specs.declared.error.ErrorKind.TheVariants.{OutOfMemory}
-use Rattle.sketch_base.proofs.Exits.{returned, with_error}
+use Rattle.sketch_base.proofs.calls.Calls.{returned, with_error}
 use Rattle.sketch_base.specs.Random.{after_draws}
 use Rattle.sketch_kll.specs.Levels.{weight_in}
 use Rattle.sketch_base.specs.Extremes.{newer_or}
 use Rattle.sketch_kll.specs.Sketch.{Kll, sketch_of}
 use Rattle.sketch_kll.specs.Updates.{coins_of_updates}
-use Rattle.sketch_kll.proofs.SketchCalls.{still_seen, still_sound}
-use Rattle.sketch_kll.proofs.CompactedSizes.{length-same}
-use Rattle.sketch_kll.proofs.UpdatesInTurn.{UpdatesFields, updates_fields, updates_none, updates_seen}
+use Rattle.sketch_kll.proofs.calls.Calls.{still_seen, still_sound}
+use Rattle.sketch_kll.proofs.layout.Compacted.{length-same}
+use Rattle.sketch_kll.proofs.calls.InTurn.{UpdatesFields, updates_fields, updates_none, updates_seen}
 use Rattle.sketch_kll.proofs.sketch.KllSketch.update_all.Given.{Over}
 use Rattle.sketch_kll.proofs.sketch.KllSketch.update_all.Goals.{After-set_if_some-2}
 use Rattle.sketch_kll.proofs.sketch.KllSketch.update_all.Goals as goal

@@ -1,9 +1,8 @@
 use Rattle.std.proofs.Common.{◌≡◌, length, refl, sym, ◌∙◌, ap, is_some}
 use Rattle.sketch_base.specs.Bag.{expanded}
 use Rattle.sketch_base.specs.Queries.{cdf_of}
-use Rattle.sketch_base.proofs.Answered.{answer-too, told-fit}
-use Rattle.sketch_base.proofs.Distributions.{differences-left, increasing-told, ranks-sum}
-use Rattle.sketch_base.proofs.SketchViews.{length-expanded}
+use Rattle.sketch_base.proofs.calls.Calls.{answer-too, told-fit}
+use Rattle.sketch_base.proofs.views.Entries.{differences-left, increasing-told, ranks-sum, length-expanded}
 use Rattle.sketch_req.specs.Actions.{bag_of}
 use Rattle.sketch_req.proofs.sketch.ReqSketch.pmf.Goals as goal
 

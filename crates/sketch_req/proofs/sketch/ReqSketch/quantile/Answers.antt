@@ -1,4 +1,4 @@
-use Rattle.sketch_base.proofs.SketchViews.{quantile-result}
+use Rattle.sketch_base.proofs.views.Entries.{quantile-result}
 use Rattle.sketch_req.proofs.sketch.ReqSketch.quantile.Goals as goal
 
 pub returns : goal.returns

@@ -1,4 +1,4 @@
-use Rattle.sketch_base.proofs.SketchViews.{quantiles-result}
+use Rattle.sketch_base.proofs.views.Entries.{quantiles-result}
 use Rattle.sketch_req.proofs.sketch.ReqSketch.quantiles.Goals as goal
 
 pub returns : goal.returns

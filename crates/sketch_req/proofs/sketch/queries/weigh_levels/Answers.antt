@@ -1,7 +1,7 @@
 use Rattle.std.proofs.Common.{arith, ℕ, List, ap, length, subst, sym}
 use Rattle.sketch_base.specs.Pairs.{SamePairs}
-use Rattle.sketch_base.proofs.Exits.{returned, with_error}
-use Rattle.sketch_base.proofs.WeightedItems.{same-length}
+use Rattle.sketch_base.proofs.calls.Calls.{returned, with_error}
+use Rattle.sketch_base.proofs.views.Built.{alike-length}
 use Rattle.sketch_req.proofs.Views.{pairs-more, pairs-room}
 use Rattle.sketch_req.proofs.sketch.queries.weigh_levels.Goals as goal
 
@@ -9,7 +9,7 @@ pub push_clones-requires-clause-room : goal.push_clones-requires-clause-room
 push_clones-requires-clause-room g c =
     let i = c.loop-level.invariant in
     let room = pairs-room c.args.levels.now c.loop-level.level-index c.level-item.result c.loop-level-test.true c.level-item.is in
-    omega (arith, room, i.room, ap length c.items_slice.ensures.value, same-length g.T.Ord.cmp _ _ i.same, c.loop-level.weighted.ok.0)
+    omega (arith, room, i.room, ap length c.items_slice.ensures.value, alike-length g.T.Ord.cmp _ _ i.same, c.loop-level.weighted.ok.0)
 
 pub returns-in_err-push_clones-clause-some : goal.returns-in_err-push_clones-clause-some
 returns-in_err-push_clones-clause-some g c =

@@ -4,7 +4,7 @@ use Rattle.sketch_base.specs.declared.error.ErrorKind.{ErrorKind}
 use Rattle.sketch_base.specs.declared.error.ErrorKind.TheVariants.{InvalidArgument}
 use Rattle.sketch_kll.specs.Sketch.{Kll}
 use Rattle.quantile_sketches.specs.KllBehaviour.{JoinsIn, MergesIn}
-use Rattle.quantile_sketches.proofs.Outputs.{ok-so}
+use Rattle.quantile_sketches.proofs.writing.Answers.{ok-so}
 use Rattle.quantile_sketches.proofs.family.kll.KllSketchFamily.merge.Goals as goal
 
 -- a merge that redraws no coins, and one that would

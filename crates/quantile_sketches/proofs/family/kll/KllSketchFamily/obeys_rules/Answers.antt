@@ -1,4 +1,4 @@
-use Rattle.quantile_sketches.proofs.KllObeys.{kll-obeys}
+use Rattle.quantile_sketches.proofs.kll.Obeys.{kll-obeys}
 use Rattle.quantile_sketches.proofs.family.kll.KllSketchFamily.obeys_rules.Goals as goal
 
 pub returns : goal.returns

@@ -1,8 +1,8 @@
 use Rattle.std.proofs.Common.{◌≡◌, ◌-◌, ◌^◌, ◌<◌, ℕ, Result, Ok, Err, IfErr, arith}
 use Rattle.sketch_base.specs.declared.error.ErrorKind.{ErrorKind}
 use Rattle.sketch_base.specs.declared.error.ErrorKind.TheVariants.{OutOfMemory}
-use Rattle.quantile_sketches.proofs.Given.{both-done}
-use Rattle.quantile_sketches.proofs.Outputs.{ok-so}
+use Rattle.quantile_sketches.proofs.slots.Slots.{both-done}
+use Rattle.quantile_sketches.proofs.writing.Answers.{ok-so}
 use Rattle.quantile_sketches.proofs.family.kll.KllSketchFamily.update.Goals as goal
 
 -- an update of a sketch that isn't full fails only if it runs out of memory

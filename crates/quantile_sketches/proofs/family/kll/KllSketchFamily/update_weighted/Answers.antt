@@ -1,4 +1,4 @@
-use Rattle.quantile_sketches.proofs.Outputs.{ok-so}
+use Rattle.quantile_sketches.proofs.writing.Answers.{ok-so}
 use Rattle.quantile_sketches.proofs.family.kll.KllSketchFamily.update_weighted.Goals as goal
 
 pub returns : goal.returns

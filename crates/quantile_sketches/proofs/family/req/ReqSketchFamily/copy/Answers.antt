@@ -1,6 +1,6 @@
 use Rattle.sketch_req.specs.Imaged.{IsSameSketch}
 use Rattle.sketch_req.specs.Sketch.{IsSound}
-use Rattle.quantile_sketches.proofs.CallErrors.{memory_told}
+use Rattle.quantile_sketches.proofs.kll.Obeys.{memory_told}
 use Rattle.quantile_sketches.proofs.family.req.ReqSketchFamily.copy.Goals as goal
 
 pub returns : goal.returns

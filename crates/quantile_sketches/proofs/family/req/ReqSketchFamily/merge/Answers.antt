@@ -1,4 +1,4 @@
-use Rattle.quantile_sketches.proofs.Outputs.{ok-so}
+use Rattle.quantile_sketches.proofs.writing.Answers.{ok-so}
 use Rattle.quantile_sketches.proofs.family.req.ReqSketchFamily.merge.Goals as goal
 
 pub returns-then-redraws : goal.returns-then-redraws

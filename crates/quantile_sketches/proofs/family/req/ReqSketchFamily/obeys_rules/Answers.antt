@@ -1,4 +1,4 @@
-use Rattle.quantile_sketches.proofs.ReqObeys.{req-obeys}
+use Rattle.quantile_sketches.proofs.req.Obeys.{req-obeys}
 use Rattle.quantile_sketches.proofs.family.req.ReqSketchFamily.obeys_rules.Goals as goal
 
 pub returns : goal.returns

@@ -6,7 +6,7 @@ use Rattle.std.specs.Bool.{beq}
 use Rattle.std.specs.Option.{option_eq}
 use Rattle.std.specs.Cmp.Lexicographic.{pointwise}
 use Rattle.sketch_kll.specs.Copy.{same_sketch}
-use Rattle.sketch_kll.proofs.Copies.{levels-equal}
+use Rattle.sketch_kll.proofs.layout.Alike.{levels-equal}
 use Rattle.sketch_kll.proofs.sketch.copies.KllSketchPartialEq.eq.Goals as goal
 use Rattle.sketch_kll.proofs.sketch.copies.KllSketchPartialEq.eq.Goals.at as past
 use Rattle.sketch_kll.proofs.sketch.copies.KllSketchPartialEq.eq.Goals.{then-own-others, else-own-others, then-self-other, else-self-other, then-self-other-2, else-self-other-2, then-own-others-2, else-own-others-2, then-eq, else-eq, then-eq-2, else-eq-2, Joined-eq-2}

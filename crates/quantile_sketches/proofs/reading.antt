@@ -1,0 +1,3 @@
+-- How lines are read.
+pub mod Lines
+pub mod Words

@@ -1,0 +1,3 @@
+-- What stands behind the answers to lines.
+pub mod Lines
+pub mod Summaries

@@ -1,0 +1,2 @@
+-- How answers are written.
+pub mod Answers

@@ -1,0 +1,2 @@
+-- What calls return.
+pub mod Calls

@@ -1,0 +1,2 @@
+-- Bytes and what they spell.
+pub mod Spelled

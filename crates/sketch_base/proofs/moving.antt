@@ -1,0 +1,2 @@
+-- Items that are moved between vectors.
+pub mod Moving

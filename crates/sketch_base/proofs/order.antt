@@ -1,0 +1,3 @@
+-- Items in order.
+pub mod Extremes
+pub mod Order

@@ -1,0 +1,2 @@
+-- Ranks that are exact.
+pub mod ExactTails

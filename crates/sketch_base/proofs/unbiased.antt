@@ -1,0 +1,4 @@
+-- Ranks are right on average over all coin words.
+pub mod Average
+pub mod Fair
+pub mod Mirrored

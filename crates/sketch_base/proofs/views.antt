@@ -1,0 +1,3 @@
+-- Views of sketches.
+pub mod Built
+pub mod Entries

@@ -1,0 +1,3 @@
+-- What calls of a sketch return, and calls in turn.
+pub mod Calls
+pub mod InTurn

@@ -1,0 +1,5 @@
+-- Images of sketches.
+pub mod Places
+pub mod Read
+pub mod Texts
+pub mod Written

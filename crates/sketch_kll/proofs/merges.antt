@@ -1,0 +1,4 @@
+-- Merges.
+pub mod Actions
+pub mod Joined
+pub mod Merged

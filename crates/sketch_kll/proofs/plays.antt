@@ -1,0 +1,3 @@
+-- What updates and compressions do, as actions.
+pub mod Compresses
+pub mod Updates

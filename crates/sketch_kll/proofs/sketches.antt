@@ -1,0 +1,2 @@
+-- Sketches as they are stored.
+pub mod Stored

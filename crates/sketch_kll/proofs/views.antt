@@ -1,0 +1,2 @@
+-- Views of levels.
+pub mod Views

@@ -1,0 +1,3 @@
+-- Updates with a weight.
+pub mod Digits
+pub mod Weighted
