@@ -1,7 +1,7 @@
 -- What updates, redraws and merges add to fair traces: they turn only drawn coins, if each level whose next compaction
 -- turns its coin has drawn one.
 use Rattle.std.proofs.lemmas.Grind.{common_steps}
-use Rattle.std.proofs.Common.{◌≡◌, ℕ, zero, suc, ◌+◌, Bool, true, false, ◌&&◌, List, [], ◌∷◌, ◌++◌, length, refl, sym, ap, ap₂, ◌∙◌, arith, inl, inr}
+use Rattle.std.proofs.Common.{◌≡◌, ℕ, zero, suc, ◌+◌, Bool, true, false, List, [], ◌∷◌, ◌++◌, length, refl, sym, ap, ◌∙◌, arith, inl, inr}
 use Rattle.std.specs.Prelude.{⊤}
 use Rattle.std.proofs.lemmas.Bool.{cases_Bool, false≢true, or_right}
 use Rattle.std.proofs.lemmas.List.{append-nil}
@@ -70,8 +70,7 @@ module _ {A : Type 0} (slot : ℕ) where
   fair-redrawn : (s : ℕ) (ls : List Layout) (actions : List (Action A)) (rest : List (Event A)) (drawn : ℕ → ℕ → Bool) →
       ((more : ℕ → ℕ → Bool) → Rises drawn more → AreDrawn ls (more s) → IsFair (events_at s actions ++ rest) more) →
       IsFair (events_at s (redraw_actions ls ++ actions) ++ rest) drawn
-  fair-redrawn s ls actions rest drawn go =
-      fair-redraws s 0 ls actions rest drawn (λ more up a. go more up (λ j e. let place : 0 + j ≡ j = omega arith in rw place at (a j e)))
+  fair-redrawn s ls actions rest drawn go = grind (arith, common_steps, fair-redraws)
 
   -- a redraw alone
   pub fair-redraw : (s : ℕ) (rest : List (Event A)) (ls : List Layout) (drawn : ℕ → ℕ → Bool) → GoesFair s rest ls drawn → IsFair (events_at s (redraw_actions ls) ++ rest) drawn
@@ -109,9 +108,7 @@ module _ {A : Type 0} (slot : ℕ) where
       ((more : ℕ → ℕ → Bool) → Rises drawn more → IsFair rest more) → IsFair (events_at s actions ++ rest) drawn
   fair-apart s [] rest drawn o apart go = go drawn (λ t j e. e)
   fair-apart s (Put h x ∷ more) rest drawn o apart go = fair-apart s more rest drawn o.1 apart go
-  fair-apart s (Compact h Fresh taken ∷ more) rest drawn o apart go =
-      ap₂ (λ (a b : Bool). a && b) o.0 (fair-apart s more rest (with_drawn drawn s h) o.1 apart (λ m up. go m (λ t j d. up t j (rises-with drawn s h t j d))))
+  fair-apart s (Compact h Fresh taken ∷ more) rest drawn o apart go = grind (arith, common_steps, with_drawn, rises-with, fair-apart s more rest (with_drawn drawn s h) o.1 apart (λ m up. go m (λ t j d. up t j (rises-with drawn s h t j d))))
   fair-apart s (Compact h Turned taken ∷ more) rest drawn o apart go = grind (arith, common_steps, reaches-own, or_right, fair-apart s more rest drawn o.1 apart go)
-  fair-apart s (Redraw h ∷ more) rest drawn o apart go =
-      fair-apart s more rest (with_drawn drawn s h) o.1 apart (λ m up. go m (λ t j d. up t j (rises-with drawn s h t j d)))
+  fair-apart s (Redraw h ∷ more) rest drawn o apart go = grind (arith, common_steps, with_drawn, rises-with, fair-apart s more rest (with_drawn drawn s h) o.1 apart (λ m up. go m (λ t j d. up t j (rises-with drawn s h t j d))))
   fair-apart s (other ∷ more) rest drawn o apart go = absurd (false≢true o.0)
