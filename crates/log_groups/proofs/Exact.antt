@@ -7,9 +7,9 @@ use Rattle.sketch_req.specs.Sketch as req
 use Rattle.sketch_req.specs.Summaries.{Summarizes, IsProtectedFraction}
 use Rattle.sketch_req.specs.Views as req_views
 use Rattle.sketch_req.specs.declared.RankAccuracy.TheVariants.{HighRank}
-use Rattle.sketch_req.proofs.ExactAnswers.{tail-quantiles, view-of-itself, near-protected}
-use Rattle.sketch_req.proofs.MadeSketches.{empty_sound}
-use Rattle.sketch_req.proofs.Summaries.{empty-summarizes, updates-summarize}
+use Rattle.sketch_req.proofs.tails.Answers.{tail-quantiles, view-of-itself, near-protected}
+use Rattle.sketch_req.proofs.calls.Calls.{empty_sound}
+use Rattle.sketch_req.proofs.tails.Summaries.{empty-summarizes, updates-summarize}
 use Rattle.log_groups.specs.Exact.{TopIsExact}
 use Rattle.log_groups.specs.Fed.{IsFedFrom}
 use Rattle.log_groups.specs.declared.sketch.Kind.TheVariants.{Req as OfReq}

@@ -19,7 +19,7 @@ use Rattle.sketch_req.specs.Imaged.{IsSameLevel, IsSameSketch}
 use Rattle.sketch_req.specs.Level.{Level}
 use Rattle.sketch_req.specs.Sketch.{Req as ReqSketch}
 use Rattle.sketch_req.specs.Written.{image_text}
-use Rattle.sketch_req.proofs.OneText.{one_sketch}
+use Rattle.sketch_req.proofs.images.Texts.{one_sketch}
 use Rattle.sketches_c.specs.Calls.{ReadsNothing}
 use Rattle.sketches_c.specs.Frames.{Holds, IsMarked}
 use Rattle.sketches_c.specs.Sketches.{IsOfImage, IsOfNoImage}

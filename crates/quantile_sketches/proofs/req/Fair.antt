@@ -20,8 +20,7 @@ use Rattle.quantile_sketches.specs.Run.{AreUnbiasedWhere, WithEnoughBits}
 use Rattle.quantile_sketches.proofs.req.Rules.{req_lawful, merged_as}
 use Rattle.quantile_sketches.proofs.plans.Streams.{run-ranks}
 use Rattle.sketch_req.specs.Schedule.{Layout, merge_layouts}
-use Rattle.sketch_req.proofs.ByUpdates.{none_drawn as new-drawn}
-use Rattle.sketch_req.proofs.FairSlots.{Stands, stands-end, stands-same, stands-clear, stands-forget, stands-redraw, stands-update, stands-merge, stands-merge_redrawn}
+use Rattle.sketch_req.proofs.unbiased.Fair.{none_drawn as new-drawn, Stands, stands-end, stands-same, stands-clear, stands-forget, stands-redraw, stands-update, stands-merge, stands-merge_redrawn}
 use Rattle.quantile_sketches.specs.declared.commands.Command.TheVariants.{New, Update, UpdateWeighted, Merge, Reset, RoundTrip, Redraw, MergeRedrawn}
 use Rattle.quantile_sketches.specs.ReqReady.{Fairness, new_fairness, updated_fairness, with_ready, merged_fairness, fairness_in, accepted_fairness, stays_fair}
 use Rattle.quantile_sketches.proofs.req.Shapes.{updated_shape, events_merged, req_merge_events, accepted_req_events, req_merge_shapes, accepted_req_shapes, either-way}

@@ -15,7 +15,7 @@ use Rattle.sketch_req.specs.LevelImage.{forgotten}
 use Rattle.sketch_req.specs.Schedule.{Layout, layouts_of, retained_of, merge_layouts}
 use Rattle.sketch_req.specs.Sketch.{Req, IsSound}
 use Rattle.sketch_req.specs.declared.RankAccuracy.{RankAccuracy}
-use Rattle.sketch_req.proofs.WrittenSketches.{layouts_forgotten}
+use Rattle.sketch_req.proofs.images.Written.{layouts_forgotten}
 use Rattle.quantile_sketches.specs.ReqKind.{req_kind, req_shape}
 use Rattle.quantile_sketches.specs.ReqRules.{ReqShape, new_shape, is_same, is_too_much, req_rules}
 use Rattle.quantile_sketches.specs.RunSteps.{IsPlainCopy, IsReadBack, Refuses, Acts, merge_of, IsFresh, IsUpdated, IsWeighted, IsRedrawn, IsSketchMerged}
@@ -33,9 +33,9 @@ use Rattle.sketch_base.specs.declared.error.ErrorKind.{ErrorKind}
 use Rattle.sketch_base.specs.declared.error.ErrorKind.TheVariants.{InvalidArgument, OutOfMemory}
 use Rattle.sketch_base.proofs.images.Spelled.{IsPrefixFree}
 use Rattle.sketch_req.specs.Redrawn.{coins_of_redraw}
-use Rattle.sketch_req.proofs.OneText.{one_sketch}
-use Rattle.sketch_req.proofs.Rank.{retained_is}
-use Rattle.sketch_req.proofs.Redraws.{layouts-redrawn, redraws-are, redraws-draw}
+use Rattle.sketch_req.proofs.images.Texts.{one_sketch}
+use Rattle.sketch_req.proofs.views.Views.{retained_is}
+use Rattle.sketch_req.proofs.sketches.Copies.{layouts-redrawn, redraws-are, redraws-draw}
 use Rattle.quantile_sketches.specs.Calls.{Obeys, ObeysRules}
 use Rattle.quantile_sketches.specs.Rules.{none_if}
 use Rattle.quantile_sketches.specs.ReqBehaviour.{req, IsEmptyOf, IsMade, IsImaged, IsLoaded, IsUnfit, TakesIn, DrawsAnew, JoinsIn}

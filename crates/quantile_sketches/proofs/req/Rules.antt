@@ -9,16 +9,15 @@ use Rattle.quantile_sketches.specs.ReqRules.{req_rules, ReqShape, new_shape, is_
 use Rattle.quantile_sketches.proofs.plans.Bare.{bare_action, bare-append, bare-if, AreBare, bare-joins}
 use Rattle.sketch_base.specs.Ranks.{true_ranks}
 use Rattle.sketch_req.specs.ScheduleLaws.{AreLayouts, IsLegalFrom}
-use Rattle.sketch_req.proofs.LegalWalks.{Leads, leads-none, leads-redraws, room_leads}
-use Rattle.sketch_req.proofs.Unbiased.{room_compacts, ranks-compacts, ranks-update, merge_by_req}
+use Rattle.sketch_req.proofs.plays.Legal.{Leads, leads-none, leads-redraws, room_leads, lengths_at, along-even, fits-legal, update_legal, update_lengths, merge_legal, merge_lengths}
+use Rattle.sketch_req.proofs.unbiased.Fair.{room_compacts, ranks-compacts, ranks-update, merge_by_req}
 use Rattle.std.proofs.lemmas.Bool.Decides.{nat_tests}
 use Rattle.std.proofs.lemmas.Bool.{false≢true, ne_eqb, or_parts}
 use Rattle.sketch_base.specs.Lengths.{acts_on_lengths, lengths_after, Along, LeavesTail}
 use Rattle.sketch_base.proofs.bags.Acts.{changed-there, changed-itself, obeys}
 use Rattle.sketch_req.specs.Sections.{IsLegalK}
-use Rattle.sketch_req.proofs.WalkCapacities.{update_weighs, merge_weighs, update_two, merge_two, update_few, merge_few, update_retains, merge_retains}
-use Rattle.sketch_req.proofs.LegalLayouts.{new_is, filled_are, joined_are}
-use Rattle.sketch_req.proofs.LegalTraces.{lengths_at, along-even, fits-legal, update_legal, update_lengths, merge_legal, merge_lengths}
+use Rattle.sketch_req.proofs.layouts.Capacities.{update_weighs, merge_weighs, update_two, merge_two, update_few, merge_few, update_retains, merge_retains}
+use Rattle.sketch_req.proofs.layouts.Layouts.{new_is, filled_are, joined_are}
 use Rattle.quantile_sketches.specs.RuleLaws.{lengths_by, IsLegalBy, DoWell, AreLawful, IsLawful}
 use Rattle.quantile_sketches.specs.ReqKind.{FitsReq, MeetsReq, req_kind}
 use Rattle.quantile_sketches.proofs.kll.Rules.{unless-there}
@@ -31,11 +30,11 @@ use Rattle.sketch_base.proofs.bags.Alike.{acts-req}
 use Rattle.sketch_base.proofs.plays.Plays.{length-sort}
 use Rattle.sketch_req.specs.Walk.{AreOwn}
 use Rattle.sketch_kll.proofs.weights.Weighted.{put-levels}
-use Rattle.sketch_req.proofs.Bags.{alike-refl, alike-trans, AlikeLevels}
-use Rattle.sketch_req.proofs.FairWalks.{own-room, own-update}
-use Rattle.sketch_req.proofs.Walks.{own-bag, own-req}
-use Rattle.sketch_req.proofs.Rank.{weight_is}
-use Rattle.sketch_req.proofs.Redraws.{own-redraws}
+use Rattle.sketch_req.proofs.walks.Actions.{alike-refl, alike-trans, AlikeLevels}
+use Rattle.sketch_req.proofs.unbiased.Drawn.{own-room, own-update}
+use Rattle.sketch_req.proofs.walks.Walks.{own-bag, own-req}
+use Rattle.sketch_req.proofs.views.Views.{weight_is}
+use Rattle.sketch_req.proofs.sketches.Copies.{own-redraws}
 use Rattle.quantile_sketches.specs.declared.commands.Command.{Command}
 use Rattle.quantile_sketches.specs.Plan.{Plan, is_refused, accepted_events, events_of, plan_after, after_commands, trace_from, plan_of}
 use Rattle.quantile_sketches.specs.ReqPlan.{ReqCommand}

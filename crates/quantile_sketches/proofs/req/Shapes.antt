@@ -17,8 +17,8 @@ use Rattle.quantile_sketches.proofs.req.Rules.{may_be_k, not-false, same_accurac
 use Rattle.sketch_base.specs.Lengths.{bag_lengths, start_lengths}
 use Rattle.sketch_req.specs.ScheduleLaws.{IsLegalFrom}
 use Rattle.sketch_req.specs.declared.RankAccuracy.TheVariants.{HighRank}
-use Rattle.sketch_req.proofs.WalkCapacities.{upper_weighs, new_below, update_below}
-use Rattle.sketch_req.proofs.LegalTraces.{fits-legal, update_legal, merge_legal}
+use Rattle.sketch_req.proofs.layouts.Capacities.{upper_weighs, new_below, update_below}
+use Rattle.sketch_req.proofs.plays.Legal.{fits-legal, update_legal, merge_legal}
 use Rattle.quantile_sketches.specs.RuleLaws.{lengths_by}
 use Rattle.quantile_sketches.specs.ReqKind.{FitsReq}
 use Rattle.std.specs.Prelude.{⊤}

@@ -26,7 +26,7 @@ use Rattle.sketch_base.specs.Ranks.{rank_of_trace}
 use Rattle.sketch_req.specs.ScheduleLaws.{tail_side}
 use Rattle.sketch_req.specs.declared.RankAccuracy.{RankAccuracy}
 use Rattle.sketch_req.specs.declared.RankAccuracy.TheVariants.{HighRank, LowRank}
-use Rattle.sketch_req.proofs.LegalTraces.{leaves-append, update_leaves, merge_leaves}
+use Rattle.sketch_req.proofs.plays.Legal.{leaves-append, update_leaves, merge_leaves}
 use Rattle.quantile_sketches.specs.declared.commands.Command.TheVariants.{New, Update, Merge, Reset, Redraw, MergeRedrawn}
 use Rattle.sketch_req.specs.Relative.{off_protected_end}
 use Rattle.quantile_sketches.specs.Run.{stream_of}
@@ -39,9 +39,8 @@ use Rattle.sketch_req.specs.Sketch.{Req}
 use Rattle.quantile_sketches.specs.Outcome.{SlotMap, ArePlanned, ArePlayed, AreSound, WeighStreams, HaveExtremes}
 use Rattle.quantile_sketches.specs.ReqOutcome.{TailsAreExact}
 use Rattle.quantile_sketches.specs.RunSummaries.{AreSummaries}
-use Rattle.sketch_req.proofs.ExactAnswers.{tail-ranks}
-use Rattle.sketch_req.proofs.KeptTails.{is_protected, spares-tail}
-use Rattle.sketch_req.proofs.Summaries.{off-is, off-rank, off-alike}
+use Rattle.sketch_req.proofs.tails.Answers.{tail-ranks}
+use Rattle.sketch_req.proofs.tails.Summaries.{is_protected, spares-tail, off-is, off-rank, off-alike}
 
 -- The accepted commands of a REQ run give the same tail numbers as all its commands, and the same trace except for some
 -- round trips.

@@ -1,6 +1,6 @@
 -- A slot that was only updated is like a fresh sketch that took its stream, so it is unbiased and its errors are relative.
 use Rattle.std.proofs.lemmas.Grind.{common_steps}
-use Rattle.sketch_req.proofs.Relatives.{updates_relative, updates_relative_to_counts}
+use Rattle.sketch_req.proofs.relative.Relative.{updates_relative, updates_relative_to_counts}
 use Rattle.std.specs.Cmp.{IsTotalOrder}
 use Rattle.std.proofs.Common.{◌≡◌, ℕ, suc, ◌+◌, ◌-◌, ◌*◌, ◌^◌, ◌<◌, ◌≤◌, Bool, true, false, ◌&&◌, ◌==◌, if◌then◌else◌, List, [], ◌∷◌, ◌++◌, length, count_by, Option, None, Some, IsTrue, refl, sym, ap, ap₂, ◌∙◌, subst, arith, eqb-true, append_assoc, append-nil, Ordering}
 use Rattle.std.proofs.Math.Nat.{mul-le-mul_left}
@@ -21,7 +21,7 @@ use Rattle.sketch_req.specs.Schedule.{Layout, new_layout, actions_if_full, put_l
 use Rattle.sketch_req.specs.ScheduleLaws.{updates_actions, updates_layouts, updates_trace}
 use Rattle.sketch_req.specs.Sections.{IsLegalK}
 use Rattle.sketch_req.specs.declared.RankAccuracy.{RankAccuracy}
-use Rattle.sketch_req.proofs.Unbiased.{AreCompacts, room_compacts, unbiased_list}
+use Rattle.sketch_req.proofs.unbiased.Fair.{AreCompacts, room_compacts, unbiased_list}
 use Rattle.quantile_sketches.specs.declared.commands.Command.TheVariants.{New, Update, UpdateWeighted, Merge, Reset, RoundTrip, Redraw, MergeRedrawn}
 use Rattle.quantile_sketches.specs.Plan.{Plan, start_plan, count_of, events_of, plan_after, trace_from, trace_of, plan_of, after_commands}
 use Rattle.quantile_sketches.specs.ReqPlan.{ReqCommand, shape_in, shape_at}

@@ -25,11 +25,11 @@ use Rattle.sketch_req.specs.Sketch.{Req}
 use Rattle.sketch_req.specs.Walk.{AreLevels}
 use Rattle.sketch_req.specs.Written.{image_text}
 use Rattle.sketch_req.specs.declared.RankAccuracy.{RankAccuracy}
-use Rattle.sketch_req.proofs.WalkCapacities.{upper_weighs}
-use Rattle.sketch_req.proofs.Layouts.{length-layouts}
-use Rattle.sketch_req.proofs.OneText.{one_sketch}
-use Rattle.sketch_req.proofs.Rank.{retained_is}
-use Rattle.sketch_req.proofs.WrittenSketches.{written_lem}
+use Rattle.sketch_req.proofs.layouts.Capacities.{upper_weighs}
+use Rattle.sketch_req.proofs.layouts.Layouts.{length-layouts}
+use Rattle.sketch_req.proofs.images.Texts.{one_sketch}
+use Rattle.sketch_req.proofs.views.Views.{retained_is}
+use Rattle.sketch_req.proofs.images.Written.{written_lem}
 use Rattle.quantile_sketches.specs.Outcome.{SlotMap, sketch_at, ArePlanned, AreSound}
 use Rattle.quantile_sketches.specs.Plan.{start_plan, plan_of, trace_of, Plan}
 use Rattle.quantile_sketches.specs.Refused.{accepted_of, AreRefused}
@@ -49,7 +49,7 @@ use Rattle.quantile_sketches.proofs.req.Tails.{run-exact, req-left-out}
 use Rattle.quantile_sketches.proofs.plans.Streams.{run-ranks, all-counted}
 use Rattle.std.proofs.lemmas.Option.{get_or_from_slice_get}
 use Rattle.sketch_base.specs.declared.common.SearchCriteria.{SearchCriteria}
-use Rattle.sketch_req.proofs.Relatives.{updates_relative}
+use Rattle.sketch_req.proofs.relative.Relative.{updates_relative}
 use Rattle.quantile_sketches.specs.Audit.{word_of, AreWeights, AreRunWeights}
 use Rattle.quantile_sketches.specs.ReqFair.{is_fair_slot}
 use Rattle.quantile_sketches.specs.ReqReady.{stays_fair}

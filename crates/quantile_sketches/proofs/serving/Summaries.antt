@@ -43,7 +43,7 @@ use Rattle.quantile_sketches.specs.SummariesBehindLines.{Told, IsAsTold, Origins
 use Rattle.quantile_sketches.proofs.slots.Carried.{in_slot-held}
 use Rattle.quantile_sketches.proofs.kll.Obeys.{no-err}
 use Rattle.quantile_sketches.proofs.slots.Slots.{in_slot-none}
-use Rattle.sketch_req.proofs.Summaries.{empty-summarizes, update-summarizes, merge-summarizes, redrawn-summarizes, copy-summarizes, forgotten-summarizes}
+use Rattle.sketch_req.proofs.tails.Summaries.{empty-summarizes, update-summarizes, merge-summarizes, redrawn-summarizes, copy-summarizes, forgotten-summarizes}
 
 -- accuracies that don't differ are the same
 same-side : (a b : RankAccuracy) → (a ≢ b → ⊥) → a ≡ b

@@ -1,4 +1,4 @@
-use Rattle.sketch_req.proofs.Summaries.{empty-summarizes, update-summarizes, updates-summarize, merge-summarizes, empty-adds, redrawn-summarizes, copy-summarizes}
+use Rattle.sketch_req.proofs.tails.Summaries.{empty-summarizes, update-summarizes, updates-summarize, merge-summarizes, empty-adds, redrawn-summarizes, copy-summarizes}
 use Rattle.sketch_req.proofs.laws.calls_keep_summaries.Goals as goal
 
 pub returns : goal.returns

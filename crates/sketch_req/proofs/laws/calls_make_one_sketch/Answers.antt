@@ -1,4 +1,4 @@
-use Rattle.sketch_req.proofs.OneCall.{one-list, one-update, one-merge, one-image}
+use Rattle.sketch_req.proofs.calls.OneCall.{one-list, one-update, one-merge, one-image}
 use Rattle.sketch_req.proofs.laws.calls_make_one_sketch.Goals as goal
 
 pub returns-clause-update : goal.returns-clause-update

@@ -1,9 +1,9 @@
 use Rattle.std.proofs.Common.{◌++◌}
-use Rattle.sketch_req.proofs.OneText.{one_sketch}
-use Rattle.sketch_req.proofs.WrittenSketches.{written_lem}
+use Rattle.sketch_req.proofs.images.Texts.{one_sketch}
+use Rattle.sketch_req.proofs.images.Written.{written_lem}
 use Rattle.sketch_req.specs.ImageLaws.{without_coins}
 use Rattle.sketch_req.specs.Written.{image_text}
-use Rattle.sketch_req.proofs.Summaries.{image-summarizes, written-summarizes}
+use Rattle.sketch_req.proofs.tails.Summaries.{image-summarizes, written-summarizes}
 use Rattle.sketch_req.proofs.laws.images_keep_summaries.Goals as goal
 
 pub returns-clause-image : goal.returns-clause-image

@@ -1,4 +1,4 @@
-use Rattle.sketch_req.proofs.Summaries.{any-order, smaller-tail}
+use Rattle.sketch_req.proofs.tails.Summaries.{any-order, smaller-tail}
 use Rattle.sketch_req.proofs.laws.summaries_are_of_any_order.Goals as goal
 
 pub returns : goal.returns

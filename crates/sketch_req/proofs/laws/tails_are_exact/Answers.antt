@@ -9,8 +9,8 @@ use Rattle.sketch_req.specs.Sketch.{empty_sketch}
 use Rattle.sketch_req.specs.Summaries.{Summarizes, IsProtectedPlace, IsNearProtectedEnd}
 use Rattle.sketch_req.specs.SummaryRows.{entries_under, tied, at_places}
 use Rattle.sketch_req.specs.declared.RankAccuracy.TheVariants.{HighRank, LowRank}
-use Rattle.sketch_req.proofs.Summaries.{empty-summarizes}
-use Rattle.sketch_req.proofs.ExactAnswers.{tail-ranks, tail-entries, tail-quantiles, view-of-itself, near-protected}
+use Rattle.sketch_req.proofs.tails.Summaries.{empty-summarizes}
+use Rattle.sketch_req.proofs.tails.Answers.{tail-ranks, tail-entries, tail-quantiles, view-of-itself, near-protected}
 use Rattle.sketch_req.proofs.laws.tails_are_exact.Goals as goal
 
 pub returns-clause-ranks : goal.returns-clause-ranks

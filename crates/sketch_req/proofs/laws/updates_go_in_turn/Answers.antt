@@ -1,4 +1,4 @@
-use Rattle.sketch_req.proofs.UpdatesInTurn.{one_updates, updates_go_on}
+use Rattle.sketch_req.proofs.calls.InTurn.{one_updates, updates_go_on}
 use Rattle.sketch_req.proofs.laws.updates_go_in_turn.Goals as goal
 
 pub returns : goal.returns

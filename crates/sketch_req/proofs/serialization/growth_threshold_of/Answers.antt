@@ -1,6 +1,6 @@
 use Rattle.std.proofs.Common.{arith, ap, ◌∙◌, ◌^◌, ◌-◌, ◌<◌, ℕ}
 use Rattle.std.proofs.lemmas.Nat.{one_shl}
-use Rattle.sketch_req.proofs.Sections.{sections_below}
+use Rattle.sketch_req.proofs.sections.Sections.{sections_below}
 use Rattle.sketch_req.proofs.serialization.growth_threshold_of.Goals as goal
 
 pub overflow_shl-result : goal.overflow_shl-result

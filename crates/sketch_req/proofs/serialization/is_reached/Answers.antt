@@ -1,5 +1,5 @@
 use Rattle.std.proofs.Common.{◌-◌, ◌≤◌, arith, leb-true, le-leb}
-use Rattle.sketch_req.proofs.Sections.{threshold_rises}
+use Rattle.sketch_req.proofs.sections.Sections.{threshold_rises}
 use Rattle.sketch_req.proofs.serialization.is_reached.Goals as goal
 
 pub returns-else-doublings-eq0 : goal.returns-else-doublings-eq0

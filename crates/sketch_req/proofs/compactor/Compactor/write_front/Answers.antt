@@ -1,7 +1,7 @@
 use Rattle.std.specs.Int.{w32, w64, to_le_bytes}
 use Rattle.std.proofs.Common.{◌∷◌, [], refl}
 use Rattle.std.proofs.lemmas.Result.{IfOk-weaker}
-use Rattle.sketch_req.proofs.LevelFronts.{extended, front_written, not_extended}
+use Rattle.sketch_req.proofs.images.Levels.{extended, front_written, not_extended}
 use Rattle.sketch_req.proofs.compactor.Compactor.write_front.Goals as goal
 
 pub returns-clause-ok : goal.returns-clause-ok

@@ -2,7 +2,7 @@ use Rattle.std.proofs.lemmas.List.{nil_from_length}
 use Rattle.sketch_req.specs.Level.{Level}
 use Rattle.sketch_req.specs.Pairs.{weighed, pairs_of}
 use Rattle.std.proofs.Common.{arith, ◌≡◌, ◌-◌, ◌<◌, ◌≤◌, ℕ, List, ◌∷◌, ◌++◌, ◌∙◌, sym, ap, ap₂, length}
-use Rattle.sketch_req.proofs.Pairs.{next-level}
+use Rattle.sketch_req.proofs.views.Views.{next-level}
 use Rattle.sketch_req.proofs.iter.ReqSketchIteratorIterator.next.Goals as goal
 
 one_less : {A : Type 0} {x : A} {xs ys : List A} → xs ≡ x ∷ ys → length ys < length xs

@@ -4,7 +4,7 @@ use Rattle.sketch_base.specs.Query.{true_rank}
 use Rattle.sketch_base.specs.Queries.{ranks_of}
 use Rattle.sketch_base.proofs.views.Entries.{ranks-end, ranks-more, ranks-last, ranks-rise, cdf-result, length-expanded}
 use Rattle.sketch_req.specs.Actions.{bag_of}
-use Rattle.sketch_req.proofs.Equations.{same_number}
+use Rattle.sketch_req.proofs.level.Changes.{same_number}
 use Rattle.sketch_base.proofs.calls.Calls.{answer, some_now}
 use Rattle.sketch_req.proofs.sketch.ReqSketch.cdf.Given.{Over}
 use Rattle.sketch_req.proofs.sketch.ReqSketch.cdf.Goals.{After-allocator-alloc, After-push_reserved-2}

@@ -4,8 +4,8 @@ use Rattle.sketch_req.specs.Sketch.{Req, IsSound, sketch_of}
 use Rattle.sketch_req.specs.Image.{accuracy_in, IsTold}
 use Rattle.sketch_req.specs.Held.{held_of}
 use Rattle.sketch_req.specs.declared.RankAccuracy.{RankAccuracy}
-use Rattle.sketch_req.proofs.Refusals.{pushed_alone, same_sketch}
-use Rattle.sketch_req.proofs.Sounds.{IsRebuilt, rebuilt}
+use Rattle.sketch_req.proofs.calls.Calls.{pushed_alone, same_sketch}
+use Rattle.sketch_req.proofs.sketches.Sound.{IsRebuilt, rebuilt}
 use Rattle.sketch_req.proofs.sketch.ReqSketch.from_level.Given.{Over}
 use Rattle.sketch_req.proofs.sketch.ReqSketch.from_level.Goals.{After-new-levels}
 use Rattle.sketch_req.proofs.sketch.ReqSketch.from_level.Goals as goal

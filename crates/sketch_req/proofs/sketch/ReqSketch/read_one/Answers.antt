@@ -5,10 +5,9 @@ use Rattle.sketch_req.specs.Level.{Level}
 use Rattle.sketch_req.specs.LevelImage.{Place, place_at, BeginsLevel, BeginsLevels}
 use Rattle.sketch_req.specs.Image.{IsOneBody, first_place}
 use Rattle.sketch_req.specs.declared.RankAccuracy.{RankAccuracy}
-use Rattle.sketch_req.proofs.Sounds.{one_of, alone}
-use Rattle.sketch_req.proofs.OneText.{same_levels, same_numbers}
-use Rattle.sketch_req.proofs.ReadEnds.{read_failed, read_refused}
-use Rattle.sketch_req.proofs.Refusals.{many_counted, still_many}
+use Rattle.sketch_req.proofs.sketches.Sound.{one_of, alone}
+use Rattle.sketch_req.proofs.images.Texts.{same_levels, same_numbers}
+use Rattle.sketch_req.proofs.calls.Calls.{read_failed, read_refused, many_counted, still_many}
 use Rattle.sketch_req.proofs.sketch.ReqSketch.read_one.Given.{Over}
 use Rattle.sketch_req.proofs.sketch.ReqSketch.read_one.Goals.{After-from_level, In_ok-level}
 use Rattle.sketch_req.proofs.sketch.ReqSketch.read_one.Goals as goal

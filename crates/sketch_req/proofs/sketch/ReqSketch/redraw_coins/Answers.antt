@@ -1,7 +1,7 @@
 use Rattle.sketch_base.specs.Random.{bits_from}
 use Rattle.sketch_req.specs.Schedule.{layouts_of, turning_levels}
 use Rattle.sketch_req.specs.Sketch.{sketch_of}
-use Rattle.sketch_req.proofs.RedrawnSketches.{redrawn-sound}
+use Rattle.sketch_req.proofs.sketches.Copies.{redrawn-sound}
 use Rattle.sketch_req.proofs.sketch.ReqSketch.redraw_coins.Goals as goal
 
 -- The sketch stays sound.

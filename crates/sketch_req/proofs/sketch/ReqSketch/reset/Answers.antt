@@ -1,4 +1,4 @@
-use Rattle.sketch_req.proofs.MadeSketches.{empty_sound}
+use Rattle.sketch_req.proofs.calls.Calls.{empty_sound}
 use Rattle.sketch_req.proofs.sketch.ReqSketch.reset.Goals as goal
 
 pub invariant_of-self : goal.invariant_of-self

@@ -9,8 +9,7 @@ use Rattle.sketch_req.specs.Level.{Level}
 use Rattle.sketch_req.specs.Pairs.{pairs_of}
 use Rattle.sketch_req.specs.Sketch.{Req, sketch_of}
 use Rattle.sketch_req.specs.Views.{queried}
-use Rattle.sketch_req.proofs.Pairs.{length-pairs}
-use Rattle.sketch_req.proofs.Views.{AreWeighed, are-weighed, entries-view, none-weighed}
+use Rattle.sketch_req.proofs.views.Views.{length-pairs, AreWeighed, are-weighed, entries-view, none-weighed}
 use Rattle.sketch_req.proofs.sketch.ReqSketch.sorted_view.Given.{Over}
 use Rattle.sketch_req.proofs.sketch.ReqSketch.sorted_view.Goals.{In_ok-weighted}
 use Rattle.sketch_req.proofs.sketch.ReqSketch.sorted_view.Goals as goal

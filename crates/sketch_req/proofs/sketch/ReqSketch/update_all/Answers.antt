@@ -5,10 +5,8 @@ use Rattle.sketch_base.specs.Extremes.{IsGreatestOf, IsLeastOf}
 use Rattle.sketch_req.specs.Imaged.{IsSameLevel}
 use Rattle.sketch_req.specs.Sketch.{Req, IsSound, newer_or, sketch_of}
 use Rattle.sketch_req.specs.Updates.{AreTakenInTurn}
-use Rattle.sketch_req.proofs.MadeSketches.{updates_make}
-use Rattle.sketch_req.proofs.Outcomes.{AreDone, UpdatesEnd, updates_done, updates_of_none}
-use Rattle.sketch_req.proofs.Refusals.{items_fit, light_still, weight_fits}
-use Rattle.sketch_req.proofs.UpdatedLevels.{not-full}
+use Rattle.sketch_req.proofs.calls.Calls.{updates_make, AreDone, UpdatesEnd, updates_done, updates_of_none, items_fit, light_still, weight_fits}
+use Rattle.sketch_req.proofs.sketches.Updated.{not-full}
 use Rattle.sketch_req.proofs.sketch.ReqSketch.update_all.Given.{Over}
 use Rattle.sketch_req.proofs.sketch.ReqSketch.update_all.Goals.{After-set_if_some-2, After-clone_passing_extremes}
 use Rattle.sketch_req.proofs.sketch.ReqSketch.update_all.Goals as goal

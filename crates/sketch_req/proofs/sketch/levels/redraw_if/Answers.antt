@@ -1,6 +1,6 @@
 use Rattle.std.proofs.Common.{arith, ◌≡◌, Bool, ℕ, ◌+◌, ap₂, drop, ◌<◌, List, length, length-set, set, ◌∙◌}
 use Rattle.sketch_req.specs.Level.{Level}
-use Rattle.sketch_req.proofs.Redraws.{drawn_so_far, source_by, redrawn-more}
+use Rattle.sketch_req.proofs.sketches.Copies.{drawn_so_far, source_by, redrawn-more}
 use Rattle.sketch_req.proofs.sketch.levels.redraw_if.Goals as goal
 
 -- one more level that has drawn, and what is left to draw after it

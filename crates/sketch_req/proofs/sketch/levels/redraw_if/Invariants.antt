@@ -1,5 +1,5 @@
 use Rattle.std.proofs.Common.{◌≡◌, drop, length, vec_capacity}
-use Rattle.sketch_req.proofs.Redraws.{drawn_so_far, redrawn_by, source_by}
+use Rattle.sketch_req.proofs.sketches.Copies.{drawn_so_far, redrawn_by, source_by}
 use Rattle.sketch_req.proofs.sketch.levels.redraw_if.Given as goal
 
 abbrev pub invariant-loop-level : goal.invariant-loop-level

@@ -2,7 +2,7 @@ use Rattle.std.proofs.Common.{arith, ℕ, List, ap, length, subst, sym}
 use Rattle.sketch_base.specs.Pairs.{SamePairs}
 use Rattle.sketch_base.proofs.calls.Calls.{returned, with_error}
 use Rattle.sketch_base.proofs.views.Built.{alike-length}
-use Rattle.sketch_req.proofs.Views.{pairs-more, pairs-room}
+use Rattle.sketch_req.proofs.views.Views.{pairs-more, pairs-room}
 use Rattle.sketch_req.proofs.sketch.queries.weigh_levels.Goals as goal
 
 pub push_clones-requires-clause-room : goal.push_clones-requires-clause-room

@@ -1,7 +1,7 @@
 use Rattle.std.proofs.Common.{arith}
 use Rattle.sketch_base.specs.Query.{counted}
 use Rattle.sketch_req.specs.Level.{criteria_of}
-use Rattle.sketch_req.proofs.Rank.{more_weight}
+use Rattle.sketch_req.proofs.views.Views.{more_weight}
 use Rattle.sketch_req.proofs.sketch.queries.weight_counted.Goals as goal
 
 pub overflow_mul-weight : goal.overflow_mul-weight

@@ -4,7 +4,7 @@ use Rattle.sketch_base.specs.declared.error.ErrorKind.{ErrorKind}
 use Rattle.sketch_base.specs.declared.error.ErrorKind.TheVariants.{OutOfMemory}
 use Rattle.sketch_req.specs.Actions.{bag_of}
 use Rattle.sketch_req.specs.Sketch.{Req, IsSound}
-use Rattle.sketch_req.proofs.Rank.{retained_is}
+use Rattle.sketch_req.proofs.views.Views.{retained_is}
 use Rattle.quantile_sketches.proofs.writing.Answers.{ok-so}
 use Rattle.quantile_sketches.proofs.family.req.ReqSketchFamily.update.Goals as goal
 

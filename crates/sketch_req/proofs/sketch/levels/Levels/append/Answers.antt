@@ -3,9 +3,8 @@ use Rattle.std.proofs.lemmas.Bool.{lt-leb}
 use Rattle.sketch_req.specs.Walk.{AreWalkedIfFull, appended_first}
 use Rattle.sketch_req.specs.Held.{IsHeld, Held}
 use Rattle.sketch_req.specs.Schedule.{layouts_of, are_full, retained_of}
-use Rattle.sketch_req.proofs.TakenInTurn.{first-appended}
-use Rattle.sketch_req.proofs.UpdatedLevels.{acted-spare, nominal-appended, placed-appended, retained-appended}
-use Rattle.sketch_req.proofs.Held.{with-levels}
+use Rattle.sketch_req.proofs.sketches.Updated.{first-appended, acted-spare, nominal-appended, placed-appended, retained-appended}
+use Rattle.sketch_req.proofs.sketches.Copies.{with-levels}
 use Rattle.sketch_req.proofs.sketch.levels.Levels.append.Given.{Over}
 use Rattle.sketch_req.proofs.sketch.levels.Levels.append.Goals.{In_ok-append}
 use Rattle.sketch_req.proofs.sketch.levels.Levels.append.Goals as goal

@@ -10,10 +10,9 @@ use Rattle.sketch_req.specs.Imaged.{IsSameLevel}
 use Rattle.sketch_req.specs.Schedule.{Layout, layouts_of, retained_of, weight_of}
 use Rattle.sketch_req.specs.ScheduleLaws.{updates_actions}
 use Rattle.sketch_req.specs.Walk.{AreLevels}
-use Rattle.sketch_req.proofs.Copies.{layouts-copied, placed-copied}
-use Rattle.sketch_req.proofs.Held.{with-levels}
-use Rattle.sketch_req.proofs.LevelEnds.{all_failed, part_drawn}
-use Rattle.sketch_req.proofs.TakenInTurn.{are-kept, next-item, taken-append, taken-one}
+use Rattle.sketch_req.proofs.sketches.Copies.{layouts-copied, placed-copied, with-levels}
+use Rattle.sketch_req.proofs.calls.Calls.{all_failed, part_drawn}
+use Rattle.sketch_req.proofs.sketches.Updated.{are-kept, next-item, taken-append, taken-one}
 use Rattle.sketch_req.proofs.sketch.levels.Levels.append_all.Given.{Over}
 use Rattle.sketch_req.proofs.sketch.levels.Levels.append_all.Goals.{After-new-copy, In_ok-copy_levels}
 use Rattle.sketch_req.proofs.sketch.levels.Levels.append_all.Goals as goal

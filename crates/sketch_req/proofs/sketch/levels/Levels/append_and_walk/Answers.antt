@@ -1,7 +1,7 @@
 use Rattle.std.proofs.Common.{ℕ, subst, ◌∙◌}
 use Rattle.sketch_req.specs.declared.RankAccuracy.{RankAccuracy}
 use Rattle.sketch_req.specs.Walk.{k_of, AreWalkedIfFull, appended_first}
-use Rattle.sketch_req.proofs.Held.{few-levels, own-levels}
+use Rattle.sketch_req.proofs.sketches.Copies.{few-levels, own-levels}
 use Rattle.sketch_req.proofs.sketch.levels.Levels.append_and_walk.Given.{Over}
 use Rattle.sketch_req.proofs.sketch.levels.Levels.append_and_walk.Goals.{In_ok-append_and_walk}
 use Rattle.sketch_req.proofs.sketch.levels.Levels.append_and_walk.Goals as goal

@@ -2,7 +2,7 @@ use Rattle.std.proofs.Common.{arith, ◌≡◌, ◌∷◌, [], true, ap, length,
 use Rattle.std.proofs.lemmas.Grind.{common_steps}
 use Rattle.sketch_req.specs.Level.{fresh}
 use Rattle.sketch_req.specs.Walk.{AreLevels}
-use Rattle.sketch_req.proofs.Held.{first-levels, held-sums, own-levels}
+use Rattle.sketch_req.proofs.sketches.Copies.{first-levels, held-sums, own-levels}
 use Rattle.sketch_req.proofs.sketch.levels.Levels.clear.Goals as goal
 
 pub add_level-requires-clause-legal : goal.add_level-requires-clause-legal

@@ -1,4 +1,4 @@
-use Rattle.sketch_req.proofs.Held.{few-levels}
+use Rattle.sketch_req.proofs.sketches.Copies.{few-levels}
 use Rattle.sketch_req.proofs.sketch.levels.Levels.new.Goals as goal
 
 pub sums-num_retained-requires : goal.sums-num_retained-requires

@@ -1,4 +1,4 @@
-use Rattle.sketch_req.proofs.Held.{held-redrawn}
+use Rattle.sketch_req.proofs.sketches.Copies.{held-redrawn}
 use Rattle.sketch_req.proofs.sketch.levels.Levels.redraw_coins.Goals as goal
 
 pub invariant_of-self : goal.invariant_of-self

@@ -3,9 +3,8 @@ use Rattle.sketch_base.specs.Bag.{level_at}
 use Rattle.sketch_req.specs.Arriving.{AreClones}
 use Rattle.sketch_req.specs.Merged.{item_lists}
 use Rattle.sketch_req.specs.Schedule.{Layout, layouts_of, layout_at}
-use Rattle.sketch_req.proofs.Buffers.{places-more}
-use Rattle.sketch_req.proofs.MergedLevels.{items-there, layout-there}
-use Rattle.sketch_req.proofs.ReservedWalks.{count-within}
+use Rattle.sketch_req.proofs.merges.Levels.{places-more, items-there, layout-there}
+use Rattle.sketch_req.proofs.walks.Walks.{count-within}
 use Rattle.sketch_req.proofs.sketch.levels.joining.clone_items.Goals as goal
 
 pub clone_beside-requires-clause-few : goal.clone_beside-requires-clause-few

@@ -3,12 +3,10 @@ use Rattle.sketch_req.specs.Level.{Level, fresh}
 use Rattle.sketch_req.specs.Merged.{IsCopied}
 use Rattle.sketch_req.specs.Walk.{IsPlaced, accuracy_of, k_of}
 use Rattle.sketch_req.specs.declared.RankAccuracy.{RankAccuracy}
-use Rattle.sketch_req.proofs.Buffers.{places-above, taken-there}
-use Rattle.sketch_req.proofs.ClonedBuffers.{are-clones}
-use Rattle.sketch_req.proofs.Held.{own-levels}
-use Rattle.sketch_req.proofs.MergedLevels.{IsAdded, all-joined-to, copied-few, is-added, joined-there, next-copied, next-joined, placed-at-place}
-use Rattle.sketch_req.proofs.WalkSteps.{own-there}
-use Rattle.sketch_req.proofs.Sounds.{few-placed}
+use Rattle.sketch_req.proofs.merges.Levels.{places-above, taken-there, are-clones, IsAdded, all-joined-to, copied-few, is-added, joined-there, next-copied, next-joined, placed-at-place}
+use Rattle.sketch_req.proofs.sketches.Copies.{own-levels}
+use Rattle.sketch_req.proofs.walks.Steps.{own-there}
+use Rattle.sketch_req.proofs.sketches.Sound.{few-placed}
 use Rattle.sketch_req.proofs.sketch.levels.joining.join_levels.Given.{Over}
 use Rattle.sketch_req.proofs.sketch.levels.joining.join_levels.Goals.{After-add_level, After-index_mut-in-loop-level}
 use Rattle.sketch_req.proofs.sketch.levels.joining.join_levels.Goals as goal

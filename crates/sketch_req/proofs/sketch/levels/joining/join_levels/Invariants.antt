@@ -1,7 +1,7 @@
 use Rattle.std.proofs.Common.{◌≡◌, ℕ, ◌<◌, ◌≤◌, length, get_or, max, vec_capacity}
 use Rattle.sketch_req.specs.Walk.{accuracy_of, k_of}
 use Rattle.sketch_req.specs.declared.compactor.Arrivals.{Arrivals}
-use Rattle.sketch_req.proofs.MergedLevels.{AreJoinedTo}
+use Rattle.sketch_req.proofs.merges.Levels.{AreJoinedTo}
 use Rattle.sketch_req.proofs.sketch.levels.joining.join_levels.Given as goal
 
 abbrev pub invariant-loop-level : goal.invariant-loop-level

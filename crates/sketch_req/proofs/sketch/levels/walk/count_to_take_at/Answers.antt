@@ -3,8 +3,8 @@ use Rattle.std.specs.Option.{option_map}
 use Rattle.sketch_req.specs.Level.{Level}
 use Rattle.sketch_req.specs.Schedule.{Layout, layout_of, layouts_of, layout_at, joined_layout}
 use Rattle.sketch_req.specs.Walk.{k_of, accuracy_of, holding, taken_if_full}
-use Rattle.sketch_req.proofs.Layouts.{length-layouts}
-use Rattle.sketch_req.proofs.MergedLevels.{joined-at, joined-past, k-at, layout-there, reads}
+use Rattle.sketch_req.proofs.layouts.Layouts.{length-layouts}
+use Rattle.sketch_req.proofs.merges.Levels.{joined-at, joined-past, k-at, layout-there, reads}
 use Rattle.sketch_req.proofs.sketch.levels.walk.count_to_take_at.Given.{Over}
 use Rattle.sketch_req.proofs.sketch.levels.walk.count_to_take_at.Goals.{After-unwrap_or-own}
 use Rattle.sketch_req.proofs.sketch.levels.walk.count_to_take_at.Goals as goal

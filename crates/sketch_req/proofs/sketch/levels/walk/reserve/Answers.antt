@@ -3,11 +3,10 @@ use Rattle.sketch_req.specs.Arriving.{CanArrive, HasRoom}
 use Rattle.sketch_req.specs.Level.{Level}
 use Rattle.sketch_req.specs.Schedule.{Layout, layouts_of, layout_at, joined_layouts, filled, steps_layouts}
 use Rattle.sketch_req.specs.Walk.{k_of, taken_if_full, with_more}
-use Rattle.sketch_req.proofs.Buffers.{places-more}
-use Rattle.sketch_req.proofs.Layouts.{length-layouts, retained-with}
-use Rattle.sketch_req.proofs.MergedLevels.{joined-count}
-use Rattle.sketch_req.proofs.ReservedWalks.{IsPlanned, planned-few, planned-more, planned-rise, length-more}
-use Rattle.sketch_req.proofs.WalkCapacities.{length-joined, retained-joined}
+use Rattle.sketch_req.proofs.merges.Levels.{places-more, joined-count}
+use Rattle.sketch_req.proofs.layouts.Layouts.{length-layouts, retained-with}
+use Rattle.sketch_req.proofs.walks.Walks.{IsPlanned, planned-few, planned-more, planned-rise, length-more}
+use Rattle.sketch_req.proofs.layouts.Capacities.{length-joined, retained-joined}
 use Rattle.sketch_req.proofs.sketch.levels.walk.reserve.Given.{Over}
 use Rattle.sketch_req.proofs.sketch.levels.walk.reserve.Goals.{Joined-up-gt0, then-up-gt0, else-up-gt0}
 use Rattle.sketch_req.proofs.sketch.levels.walk.reserve.Goals as goal

@@ -3,7 +3,7 @@ use Rattle.sketch_req.specs.Arriving.{CanArrive}
 use Rattle.sketch_req.specs.Schedule.{layouts_of, layout_at, joined_layouts, steps_layouts}
 use Rattle.sketch_req.specs.Walk.{k_of, taken_if_full, with_more}
 use Rattle.sketch_req.specs.declared.compactor.Arrivals.{Arrivals}
-use Rattle.sketch_req.proofs.ReservedWalks.{IsPlanned}
+use Rattle.sketch_req.proofs.walks.Walks.{IsPlanned}
 use Rattle.sketch_req.proofs.sketch.levels.walk.reserve.Given as goal
 
 abbrev pub invariant-loop-level : goal.invariant-loop-level

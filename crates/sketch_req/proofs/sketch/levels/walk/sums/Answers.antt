@@ -1,6 +1,6 @@
 use Rattle.std.proofs.Common.{arith, ◌≡◌, ℕ, ◌*◌, ◌+◌, ◌<◌, ◌≤◌, refl}
 use Rattle.sketch_req.specs.Schedule.{Layout, nominal}
-use Rattle.sketch_req.proofs.Totals.{sum-more, nominal-there}
+use Rattle.sketch_req.proofs.sections.Sections.{sum-more, nominal-there}
 use Rattle.sketch_req.proofs.sketch.levels.walk.sums.Goals as goal
 
 -- The loop keeps the sums over the levels so far.

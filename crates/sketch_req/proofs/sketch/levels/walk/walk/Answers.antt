@@ -7,12 +7,12 @@ use Rattle.sketch_req.specs.Schedule.{are_full, layouts_of, layout_at, steps_act
 use Rattle.sketch_req.specs.Held.{IsHeld, held_of}
 use Rattle.sketch_req.specs.Walk.{AreWalked, AreWalkedIfFull, accuracy_of, k_of, taken_if_full}
 use Rattle.sketch_req.specs.declared.RankAccuracy.{RankAccuracy}
-use Rattle.sketch_req.proofs.Buffers.{places-above, taken-there}
-use Rattle.sketch_req.proofs.Held.{few-levels, held-sums, own-levels}
-use Rattle.sketch_req.proofs.Layouts.{length-layouts}
-use Rattle.sketch_req.proofs.UpdatedLevels.{acted-spare, acted-walk}
-use Rattle.sketch_req.proofs.WalkSteps.{own-there, raised}
-use Rattle.sketch_req.proofs.Turns.{IsReady, is-ready, next-pending, pending-above, pending-start, ready-up}
+use Rattle.sketch_req.proofs.merges.Levels.{places-above, taken-there}
+use Rattle.sketch_req.proofs.sketches.Copies.{few-levels, held-sums, own-levels}
+use Rattle.sketch_req.proofs.layouts.Layouts.{length-layouts}
+use Rattle.sketch_req.proofs.sketches.Updated.{acted-spare, acted-walk}
+use Rattle.sketch_req.proofs.walks.Steps.{own-there, raised}
+use Rattle.sketch_req.proofs.walks.Turns.{IsReady, is-ready, next-pending, pending-above, pending-start, ready-up}
 use Rattle.sketch_req.proofs.sketch.levels.walk.walk.Goals.{After-sums-num_retained, Else-num_retained-capacity, After-index_mut-in-loop-level, After-len-count, After-parameters-k, After-add_level}
 use Rattle.sketch_req.proofs.sketch.levels.walk.walk.Goals as goal
 use Rattle.sketch_req.proofs.sketch.levels.walk.walk.Goals.at as past

@@ -1,7 +1,7 @@
 use Rattle.std.proofs.Common.{◌≡◌, ℕ, ◌<◌, ◌≤◌, length, get_or, vec_len, vec_capacity}
 use Rattle.sketch_req.specs.Walk.{accuracy_of, k_of}
 use Rattle.sketch_req.specs.declared.compactor.Arrivals.{Arrivals}
-use Rattle.sketch_req.proofs.Turns.{IsPending}
+use Rattle.sketch_req.proofs.walks.Turns.{IsPending}
 use Rattle.sketch_req.proofs.sketch.levels.walk.walk.Given as goal
 
 abbrev pub invariant-loop-level : goal.invariant-loop-level

@@ -4,7 +4,7 @@ use Rattle.sketch_req.specs.Actions.{bag_of}
 use Rattle.sketch_req.specs.Level.{Level}
 use Rattle.sketch_req.specs.Rank.{counted_weight}
 use Rattle.sketch_req.specs.declared.sketch.ReqSketch.TheInside.{Inside}
-use Rattle.sketch_req.proofs.Rank.{rank_is}
+use Rattle.sketch_req.proofs.views.Views.{rank_is}
 use Rattle.sketch_req.proofs.sketch.queries.ReqSketchRanked.rank_weight.Goals as goal
 
 -- the rank, as callers see the levels

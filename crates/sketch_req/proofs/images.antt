@@ -1,0 +1,4 @@
+-- Images of sketches.
+pub mod Levels
+pub mod Texts
+pub mod Written

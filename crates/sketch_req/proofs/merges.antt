@@ -1,0 +1,3 @@
+-- Merges.
+pub mod Levels
+pub mod Merges

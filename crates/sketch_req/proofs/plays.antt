@@ -1,0 +1,2 @@
+-- The traces of updates and merges.
+pub mod Legal

@@ -1,0 +1,2 @@
+-- The sections of a level.
+pub mod Sections

@@ -1,0 +1,3 @@
+-- The exact tail.
+pub mod Answers
+pub mod Summaries

@@ -1,0 +1,3 @@
+-- Ranks are right on average.
+pub mod Drawn
+pub mod Fair

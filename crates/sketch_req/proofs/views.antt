@@ -1,0 +1,2 @@
+-- Views of sketches.
+pub mod Views

@@ -1,0 +1,5 @@
+-- Walks, as actions on bags.
+pub mod Actions
+pub mod Steps
+pub mod Turns
+pub mod Walks
