@@ -72,7 +72,7 @@ impl<W: Write + Drop> TakeFile for Lines<'_, W> {
     ) -> Result<(), Failure> {
         self.summary.reader.position.begin(name)?;
         let mut input = BufReader::with_capacity(alloc, MOST_AHEAD, input).map_err(Fault::Input)?;
-        if self.summary.reader.wants_header() {
+        if self.summary.reader.reading.has_header {
             let mut line = Vec::new(alloc);
             if next_line(&mut input, &mut line).map_err(Fault::Input)? {
                 self.summary.reader.read_header(alloc, &line)?;

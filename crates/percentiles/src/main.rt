@@ -4,7 +4,7 @@
 #![tactic(auto)]
 
 use clap::error::ErrorKind as Kind;
-use failure::{Failure, Misuse};
+use failure::Failure;
 use images::{Images, write_images};
 use lines::{Lines, TakeFile};
 use log_groups::answers::Surety;
@@ -218,9 +218,8 @@ fn status_of_failure<R: Print + Eprint + AllocGlobal>(rt: &R, name: &str, failur
             Ok(()) => WHOLE,
             Err(_) => FAILED,
         },
-        Failure::Misuse(misuse) => {
-            let text = misuse.text();
-            let _told = eprintln!(rt; "{name}: {text}; see {name} -h");
+        failure if failure.is_misuse() => {
+            let _told = eprintln!(rt; "{name}: {failure}; see {name} -h");
             MISUSED
         }
         failure => {
@@ -234,9 +233,7 @@ fn status_of_failure<R: Print + Eprint + AllocGlobal>(rt: &R, name: &str, failur
 fn words_of<R: Env + AllocGlobal>(rt: &R) -> Result<Vec<String>, Failure> {
     match env::args(rt) {
         Ok(words) => Ok(words.collect(rt.alloc())?),
-        Err(error) if error.kind() == ErrorKind::InvalidData => Err(Failure::Misuse(
-            Misuse::NoText,
-        )),
+        Err(error) if error.kind() == ErrorKind::InvalidData => Err(Failure::NoText),
         Err(error) => Err(Failure::from(Fault::Input(error))),
     }
 }

@@ -1,6 +1,6 @@
 //! The options of the three commands.
 use crate::commands::command_of;
-use crate::failure::{Failure, Misuse};
+use crate::failure::Failure;
 use clap::ArgMatches;
 use log_groups::answers::Column;
 use log_groups::fields::{Place, Separator};
@@ -174,8 +174,8 @@ fn making_of(matches: &ArgMatches<'_>) -> Result<Making, Failure> {
     let kind = match size {
         8.. if is_kll => Kind::Kll(size),
         4..=1024 if !is_kll && size % 2 == 0 => Kind::Req(size),
-        _ if is_kll => return Err(Failure::Misuse(Misuse::KllSize)),
-        _ => return Err(Failure::Misuse(Misuse::ReqSize)),
+        _ if is_kll => return Err(Failure::KllSize),
+        _ => return Err(Failure::ReqSize),
     };
     Ok(Making {
         kind,
@@ -228,18 +228,18 @@ impl Reading<'_> {
     /// Checks that fields are numbers, unless they have names, and that weights can be taken.
     fn check(&self, kind: Kind) -> Result<(), Failure> {
         if self.weight.is_some() && matches!(kind, Kind::Req(_)) {
-            return Err(Failure::Misuse(Misuse::Weight));
+            return Err(Failure::Weight);
         }
         if self.has_header || self.form == Form::Json {
             return Ok(());
         }
         if !self.groups.iter().all(|name| Place::parse(name).is_some()) {
-            return Err(Failure::Misuse(Misuse::Groups));
+            return Err(Failure::Groups);
         }
         if Place::parse(self.value).is_none()
             || self.weight.is_some_and(|name| Place::parse(name).is_none())
         {
-            return Err(Failure::Misuse(Misuse::Value));
+            return Err(Failure::Value);
         }
         Ok(())
     }
@@ -250,7 +250,7 @@ fn separator_of(word: &str) -> Result<Separator, Failure> {
     match word.as_bytes() {
         b"\\t" => Ok(Separator::Byte(b'\t')),
         [byte] => Ok(Separator::Byte(*byte)),
-        _ => Err(Failure::Misuse(Misuse::Separator)),
+        _ => Err(Failure::Separator),
     }
 }
 
@@ -266,7 +266,7 @@ fn showing_of<'a>(
         for name in list.split(',') {
             let column = column_of(name, taking)?;
             if columns.contains(&column) {
-                return Err(Failure::Misuse(Misuse::Twice));
+                return Err(Failure::Twice);
             }
             columns.push(column)?;
         }
@@ -275,7 +275,7 @@ fn showing_of<'a>(
     if let Some(list) = matches.get_str("limits") {
         for limit in list.split(',') {
             let Number::Exact(_) = read_number(limit.as_bytes(), MOST_DECIMALS) else {
-                return Err(Failure::Misuse(Misuse::Limit));
+                return Err(Failure::Limit);
             };
             columns.push(Column::AtMost(limit))?;
             columns.push(Column::Share(limit))?;
@@ -303,11 +303,11 @@ fn format_of(word: &str) -> Format {
 fn column_of(name: &str, taking: Taking) -> Result<Column<'_>, Failure> {
     match name {
         "min" => Ok(Column::Min),
-        "sum" if taking.reads_images => Err(Failure::Misuse(Misuse::Sum)),
+        "sum" if taking.reads_images => Err(Failure::Sum),
         "sum" => Ok(Column::Sum),
         _ => match fraction_of(name) {
             Some(fraction) => Ok(Column::Point(name, fraction)),
-            None => Err(Failure::Misuse(Misuse::Percentile)),
+            None => Err(Failure::Percentile),
         },
     }
 }

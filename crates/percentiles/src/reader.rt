@@ -3,7 +3,7 @@ ghost use Rattle.std.specs.Prelude.{◌≡◌, ◌++◌, OnOk};
 ghost use Rattle.log_groups.specs.Fields.{IsPlain, key_of};
 ghost use Rattle.percentiles.specs.Reads.{reads};
 
-use crate::failure::{Failure, Header};
+use crate::failure::Failure;
 use crate::options::{Form, Reading};
 use crate::reports::{Position, Reason, Reports};
 use json::{Error as JsonError, Scratch, Value};
@@ -17,7 +17,7 @@ use std::alloc::{AllocError, Global};
 /// Reads lines, and keeps what is to be told of them.
 #[derive(Drop)]
 pub struct Reader<'o> {
-    reading: &'o Reading<'o>,
+    pub reading: &'o Reading<'o>,
     columns: Columns,
     pub position: Position,
     pub reports: Reports,
@@ -74,16 +74,11 @@ impl<'o> Reader<'o> {
         Ok(key.push(self.columns.joint())?)
     }
 
-    /// Returns whether the first line of each file is its header.
-    pub fn wants_header(&self) -> bool {
-        self.reading.has_header
-    }
-
     /// Finds the fields by the names of a header.
     pub fn read_header(&mut self, alloc: Global, line: &[u8]) -> Result<(), Failure> {
         let line = self.position.next(line);
         let Some(names) = self.columns.names(alloc, line)? else {
-            return Err(Failure::Header(Header::OpenQuote));
+            return Err(Failure::OpenQuote);
         };
         self.columns.value = found(self.reading.value, &names)?;
         self.columns.groups.clear();
@@ -204,14 +199,14 @@ fn found(wanted: &str, names: &[Vec<u8>]) -> Result<Place, Failure> {
     for (i, name) in names.iter().enumerate() {
         if name.as_slice() == wanted.as_bytes() {
             if place.is_some() {
-                return Err(Failure::Header(Header::TwoFields));
+                return Err(Failure::TwoFields);
             }
             place = Some(Place::Front(i.saturating_add(1)));
         }
     }
     match place.or_else(|| Place::parse(wanted)) {
         Some(place) => Ok(place),
-        None => Err(Failure::Header(Header::NoField)),
+        None => Err(Failure::NoField),
     }
 }
 
