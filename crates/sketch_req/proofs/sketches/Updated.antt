@@ -14,7 +14,7 @@ use Rattle.sketch_base.specs.Random.{bits_from, after_draws}
 use Rattle.sketch_base.specs.Trace.{Put, Action, draws_of}
 use Rattle.sketch_base.proofs.order.Order.{short_sorted}
 use Rattle.sketch_base.proofs.bags.Parts.{all-append, all-flat, all-by-level}
-use Rattle.sketch_base.proofs.order.Extremes.{least-one, greatest-one, least-parts, greatest-parts}
+use Rattle.sketch_base.proofs.order.Extremes.{least-one, greatest-one, least-parts, greatest-parts, least_of_both, greatest_of_both}
 use Rattle.sketch_req.specs.Actions.{bag_of}
 use Rattle.sketch_req.specs.Level.{Level, IsLevel, appended}
 use Rattle.sketch_req.specs.Moved.{is_moved}
