@@ -172,10 +172,3 @@ shorter xs behind ys bare some e f =
     let a : length behind ≡ length xs - position_or_len is_blank xs = ap length e ∙ length-drop (position_or_len is_blank xs) xs in
     let b : length ys ≡ length behind - position_or_len is_no_blank behind = ap length f ∙ length-drop (position_or_len is_no_blank behind) behind in
     omega (arith, one, a, b, some)
-
--- a field counted from the last one
-pub field-back : (fs : List (List ℕ)) (k : ℕ) → k < length fs → get_or fs (length fs - 1 - k) [] ≡ get_or (reverse fs) k []
-field-back fs k l = sym (get_or-reverse fs k [] l)
-
-pub field-beyond : (fs : List (List ℕ)) (k : ℕ) → length fs ≤ k → [] ≡ get_or (reverse fs) k []
-field-beyond fs k l = sym (get_or-eq_default (reverse fs) [] (let e = length-reverse fs in omega (arith, e, l)))

@@ -39,11 +39,6 @@ module _ {S : Type 0} (takes : S → List ℕ → S → Type 0) where
     subst (λ (b : List ℕ). takes old (take n b) new) same'' took,
   )
 
-  -- a line is taken where nothing was taken before
-  pub next-kept : {X : Type 0} (remaining : X → Option (List ℕ)) (x x' : X) (left' : Option (List ℕ)) (old old' new : S) → old' ≡ old → x' ≡ x →
-      NextTaken takes (remaining x') left' old' new → NextTaken takes (remaining x) left' old new
-  next-kept remaining x x' left' old old' new same same_left took = rw (← same_left, ← same) took
-
   all-more : (s t u : S) (ls : List (List ℕ)) (l : List ℕ) → AllTaken takes s ls t → takes t l u → AllTaken takes s (ls ++ l ∷ []) u
   all-more s t u [] l is took = (u, subst (λ r. takes r l u) is took, refl)
   all-more s t u (k ∷ ks) l (next, first, rest) took = (next, first, all-more next t u ks l rest took)

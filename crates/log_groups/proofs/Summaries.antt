@@ -68,10 +68,6 @@ row-of kind xs (Some g) h = exact kind xs g h.1
 pub rows-exact : RowsAreExact
 rows-exact kind pairs groups so key = row-of kind (numbers_of key pairs) (group_of groups key) (so key)
 
--- groups are as they were
-pub kept-same : (groups : Groups) → AreKept groups groups
-kept-same groups = record { groups = λ q. refl; total = refl }
-
 -- ---- lines
 
 -- the groups after what a line was read as

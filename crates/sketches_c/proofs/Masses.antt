@@ -8,10 +8,6 @@ use Rattle.sketch_base.specs.declared.common.Rank.{Rank}
 use Rattle.sketch_base.specs.declared.common.SearchCriteria.{SearchCriteria}
 use Rattle.sketches_c.specs.Calls.{masses_of}
 
-pub weights_back : (n : ℕ) (weights : List ℕ) → map (λ (r : Rank). r.weight) (ranks_of n weights) ≡ weights
-weights_back n [] = refl
-weights_back n (w ∷ weights) = ap (λ (ws : List ℕ). w ∷ ws) (weights_back n weights)
-
 cdf_count : (q : Queried ℤ) (criteria : SearchCriteria) (points : List ℤ) → length (cdf_of q.cmp criteria q.entries points) ≡ length points + 1
 cdf_count q criteria points =
     length-append (map (λ y. true_rank q.cmp y criteria q.entries) points) (length q.entries ∷ []) ∙ ap (λ k. k + 1) (length-map points (λ y. true_rank q.cmp y criteria q.entries))

@@ -218,7 +218,7 @@ impl Sketch {
     }
 
     /// Hands over the weights, if there is room for exactly one for each point and one more.
-    #[tactic(auto, using(crate::proofs::Codes::refused, crate::proofs::Codes::told_apart, crate::proofs::Masses::masses_count, crate::proofs::Masses::weights_back))]
+    #[tactic(auto, using(crate::proofs::Codes::refused, crate::proofs::Codes::told_apart, crate::proofs::Masses::masses_count, sketch_base::proofs::views::Entries::weights_back))]
     pub(crate) fn hand_masses(
         &self,
         points: &[i64],

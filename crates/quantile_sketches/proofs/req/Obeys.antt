@@ -129,9 +129,6 @@ module _ {A : Type 0} {cmp : A → A → Ordering} (o : IsTotalOrder cmp) (spell
   own-greatest : (x : Option A) → IsGreatestOf cmp (option_to_list x ++ []) x
   own-greatest x = grind (arith, common_steps)
 
-  no-coins : (level : Level A) → level.coin ≡ false → (h : ℕ) → coins_of (level ∷ []) h ≡ false
-  no-coins level e h = grind (arith, common_steps)
-
   empty-of : (k : ℕ) (accuracy : RankAccuracy) (shape : Option ReqShape) (s : Req A) → IsEmptyOf cmp spelling k accuracy s → shape ≡ Some (new_shape k accuracy) →
       IsFresh (req_kind cmp spelling) shape s
   empty-of k accuracy shape s is e = grind (arith, common_steps, same-shape)

@@ -142,15 +142,6 @@ module _ {S C : Type 0} (grammar : Grammar C) (behaviour : Behaviour S ℤ C) wh
   ends-flushed run ok (Ok done) out end = ends-well (running-out run ok out) refl refl end
   ends-flushed run ok (Err e) out end = ends-broken (running-out run ok out) (Err e) refl
 
-  -- nothing was read yet
-  pub ends-unstarted : {E : Type 0} (slots : List (Option S)) (coins : ℕ) (t w : Option (List ℕ)) (r : Result Unit E) → IsErr r → IfSome t (Ends grammar behaviour slots coins r w w)
-  ends-unstarted slots coins t w r fails = grind (arith, common_steps, appends_none)
-
-  -- nothing was written yet, which is a beginning of what is written
-  pub begins-unstarted : (slots : List (Option S)) (coins : ℕ) (t w : Option (List ℕ)) →
-      IfSome t (λ text. (sent : List ℕ) × BeginsServing grammar behaviour slots coins (lines text) sent × Appends w w sent)
-  begins-unstarted slots coins t w = grind (arith, common_steps, appends_none)
-
   -- however a run ends, a beginning of what is written is out
   pub begins-after : {E : Type 0} (slots : List (Option S)) (coins : ℕ) (left t w w' : Option (List ℕ)) (r : Result Unit E) → left ≡ t →
       IfSome left (Ends grammar behaviour slots coins r w w') →

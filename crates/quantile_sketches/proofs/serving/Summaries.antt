@@ -43,11 +43,8 @@ use Rattle.quantile_sketches.specs.SummariesBehindLines.{Told, IsAsTold, Origins
 use Rattle.quantile_sketches.proofs.slots.Carried.{in_slot-held}
 use Rattle.quantile_sketches.proofs.kll.Obeys.{no-err}
 use Rattle.quantile_sketches.proofs.slots.Slots.{in_slot-none}
+use Rattle.sketch_req.proofs.merges.Merges.{same-accuracy}
 use Rattle.sketch_req.proofs.tails.Summaries.{empty-summarizes, update-summarizes, merge-summarizes, redrawn-summarizes, copy-summarizes, forgotten-summarizes}
-
--- accuracies that don't differ are the same
-same-side : (a b : RankAccuracy) → (a ≢ b → ⊥) → a ≡ b
-same-side a b h = grind (arith, common_steps, false≢true)
 
 module _ {A Source : Type 0} {cmp : A → A → Ordering} (order : IsTotalOrder cmp) (spelling : A → Option (List ℕ)) (one : OneSketch cmp spelling)
     (bit : Source → Bool) (next : Source → Source) where
@@ -91,7 +88,7 @@ module _ {A Source : Type 0} {cmp : A → A → Ordering} (order : IsTotalOrder 
   joined redraws (Some w) (Some v) p s t coins coins' good good' h = record { sound = h.5; as_told = go v.stream good'.as_told.1 }
     where
       same : s.accuracy ≡ p.accuracy
-      same = same-side s.accuracy p.accuracy (λ differ. no-err tt InvalidArgument (h.0.1 (inl differ)))
+      same = same-accuracy s.accuracy p.accuracy (λ differ. no-err tt InvalidArgument (h.0.1 (inl differ)))
 
       go : (more : List A) → Summarizes cmp p more v.tail → IsAsTold cmp (Some (told_joined w more v.tail)) t
       go [] is = subst (λ (x : Req A). IsAsTold cmp (Some w) x) (sym ((h.2 same is.length_is).1)) good.as_told

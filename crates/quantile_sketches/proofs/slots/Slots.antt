@@ -175,10 +175,6 @@ module _ {S Source : Type 0} (changed : Change Source S) (slot : Option S) where
   pub turns-absent : (coins : Source) → slot ≡ None → Turns changed slot coins (Err AbsentSlot) slot coins
   turns-absent coins is = subst (λ (o : Option S). Turns changed o coins (Err AbsentSlot) slot coins) (sym is) (refl, is, refl)
 
-  -- its sketch changes
-  pub turns-done : (s t : S) (coins coins' : Source) → slot ≡ Some s → changed s coins (Ok tt) t coins' → Turns changed slot coins (Ok tt) (Some t) coins'
-  turns-done s t coins coins' is done = subst (λ (o : Option S). Turns changed o coins (Ok tt) (Some t) coins') (sym is) (t, refl, done)
-
   -- what its sketch tells is the verdict
   pub turns-told : (s t : S) (coins coins' : Source) (told : Result Unit ErrorKind) (r : Result Unit Refusal) → slot ≡ Some s →
       MatchResult told (λ done. r ≡ Ok done) (λ e. IsErrAnd r (λ refusal. refusal ≡ Sketch e)) → changed s coins told t coins' →
@@ -196,9 +192,6 @@ module _ {S Source : Type 0} (joined : S → Change Source S) (source slot : Opt
 
 -- what comes of a question, by what the slot holds
 module _ {S : Type 0} (told : S → Reply → Type 0) (slot : Option S) where
-  pub asks-absent : slot ≡ None → Asks told slot (Err AbsentSlot)
-  asks-absent is = subst (λ (o : Option S). Asks told o (Err AbsentSlot)) (sym is) refl
-
   pub asks-held : (s : S) (r : Reply) → slot ≡ Some s → told s r → Asks told slot r
   asks-held s r is h = subst (λ (o : Option S). Asks told o r) (sym is) h
 

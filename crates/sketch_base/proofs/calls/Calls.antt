@@ -10,12 +10,6 @@ use Rattle.sketch_base.specs.Queried.{IsAnswered}
 -- What holds where a call returns that has failed, or that hasn't.
 
 module _ {T E : Type 0} where
-  pub at_error : {Q : E → Type 0} (r : Result T E) (P : E → Type 0) → IsErrAnd r Q → ((e : E) → Q e → P e) → IfErr r P
-  at_error r P h f = grind (arith, common_steps)
-
-  pub error_known : (r : Result T E) (P : E → Type 0) → IsErrAnd r P → IfErr r P
-  error_known r P h = grind (arith, common_steps)
-
   -- the error that a call passes on
   pub returned : (r : Result T E) (x : E) → IsErrAnd r (λ e. e ≡ x) → r ≡ Err x
   returned r x h = grind (arith, common_steps)
@@ -25,10 +19,6 @@ module _ {T E : Type 0} where
 
   pub only_error : {x y : E} (r : Result T E) → IsErrAnd r (λ e. e ≡ x) → x ≡ y → IfErr r (λ e. e ≡ y)
   only_error r h f = grind (arith, common_steps)
-
-  -- the error of a call whose argument wasn't refused
-  pub error_if : {x y : E} {P : Type 0} (r : Result T E) → IsErrAnd r (λ e. e ≡ x) → (P → x ≡ y) → IfErr r (λ e. P → e ≡ y)
-  error_if r h f = grind (arith, common_steps)
 
   -- an error of another kind than y, or what follows if it is y
   pub refused_if : {x y : E} {P : Type 0} (r : Result T E) → IsErrAnd r (λ e. e ≡ x) → (x ≡ y → P) → IfErr r (λ e. e ≡ y → P)
@@ -47,9 +37,6 @@ module _ {T E : Type 0} where
 
   pub error_is : {x y : E} {r : Result T E} → r ≡ Err x → r ≡ Err y → x ≡ y
   error_is {x} e f = ap (error_or x) (sym e ∙ f)
-
-  pub not_ok : (r : Result T E) → IsErr r → is_ok r ≡ false
-  not_ok r e = grind (arith, common_steps)
 
   pub no_error : {x : T} {e : E} → Ok x ≡ Err e → ⊥
   no_error is = cc
@@ -140,14 +127,8 @@ some_now e none = omega (arith, e, none)
 pub none_or_some : {n : ℕ} → n ≡ 0 → 0 < n → ⊥
 none_or_some none some = omega (arith, none, some)
 
-pub none_not : {n m : ℕ} → n ≡ m → n ≡ 0 → 0 < m → ⊥
-none_not e none some = omega (arith, e, none, some)
-
 pub not_between : {n m : ℕ} → n < m → m ≤ n → ⊥
 not_between low high = omega (arith, low, high)
-
-pub not_heavy : {n : ℕ} → n < 2 ^ 64 → 2 ^ 64 ≤ n → ⊥
-not_heavy light heavy = omega (arith, light, heavy)
 
 -- What holds of a value in a result or an option may be weakened.
 

@@ -46,9 +46,6 @@ module _ {A : Type 0} {cmp : A → A → Ordering} (o : IsTotalOrder cmp) where
       bounds = rw (take_longer items i y lt e) (all-append (Bounds y) (take i items) (y ∷ []) (all-map (Bounds x) (Bounds y) (λ z. trans y x z b) (take i items) h.bounds) (self, tt));
     }
 
-    pub whole_so_far : (items : List A) (i : ℕ) (x : A) → length items ≤ i → IsSoFar Bounds items i x → IsExtreme cmp Bounds items x
-    whole_so_far items i x le h = record { ties = h.ties; bounds = rw (take_all i items le) at h.bounds }
-
   -- the bounds of the least and of the greatest item; both are transitive, and each item bounds itself
   abbrev pub Least : A → A → Type 0
   Least x y = IsAtMost cmp x y

@@ -180,12 +180,6 @@ module _ {A : Type 0} {cmp : A → A → Ordering} (order : IsTotalOrder cmp) wh
   distinct-spread before (x ∷ xs) (c ∷ cs) e up h = distinct-copies (c - before) x (spread_over c xs cs) (omega (arith)) (begins-above cmp x c xs cs h.0 up.1)
       ∙ (ap (λ m. 1 + m) (distinct-spread c xs cs (omega (arith, e)) up.1 h.1) ∙ omega arith)
 
-  -- permuted pairs stand for the same items
-  pub copies-moved : (ps qs : List (A × ℕ)) → IsPermutation ps qs → SameItems cmp (sort cmp (copies ps)) (sort cmp (copies qs))
-  copies-moved ps qs same = items-from_counts order (sort cmp (copies ps)) (sort cmp (copies qs)) (Ordered-sort order (copies ps)) (Ordered-sort order (copies qs)) (λ z c.
-      let one : A → ℕ = λ x. cond (counted cmp z c x) 1 0 in
-      sum_by-sort one cmp (copies ps) ∙ (sum-copies one ps ∙ (grind (arith, common_steps, sum_by-IsPermutation, sum_by-sort, sum-copies))))
-
   -- weighted items, and the same items sorted
   module _ (joins : Bool) (weighted pairs : List (A × ℕ)) (same : IsPermutation weighted pairs) (sorted : IsSorted cmp (items_in pairs)) (weights : All (λ (pair : A × ℕ). 0 < pair.1) weighted) where
     up : Ordered order (items_in pairs)
@@ -275,11 +269,6 @@ module _ {A : Type 0} (v : View A) (xs : List A) (cumulated : List ℕ) (least g
     (k : ℕ) (empty : b ≡ nat_eq k 0) (len : k ≡ length xs) where
   pub entries-there : b ≡ false → length xs ≤ length (spread_out xs cumulated) → 0 < length v.entries
   entries-there e fits = omega (arith, some-unless_empty b k xs empty e len, fits, ap (λ (w : View A). length w.entries) is)
-
-  pub no-entries : b ≡ true → 0 < length v.entries → false ≡ true
-  no-entries e some =
-      let none : length v.entries ≡ 0 = grind (arith, common_steps, emptied) in
-      absurd (omega (arith, some, none))
 
 -- what holds of the entries that a view's items stand for holds of the view's entries
 pub at-entries : {A : Type 0} (P : List A → Type 0) (v : View A) (ys xs : List A) (ns cumulated : List ℕ) (least greatest : Option A) →

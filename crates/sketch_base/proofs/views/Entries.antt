@@ -50,12 +50,6 @@ module _ {A : Type 0} {cmp : A → A → Ordering} (order : IsTotalOrder cmp) wh
   rank-rises : (criteria : SearchCriteria) (entries : List A) (y z : A) → cmp y z ≡ Less → true_rank cmp y criteria entries ≤ true_rank cmp z criteria entries
   rank-rises criteria entries y z lt = grind (arith, common_steps, sum_by-le-sum_by, below-next)
 
-  -- of strictly increasing split points the next one has at least the same rank
-  pub next-rank-more : (criteria : SearchCriteria) (items points : List A) (i : ℕ) (y d : A) (n : ℕ) → IsIncreasing cmp points → i + 1 < length points → y ≡ get_or points i y →
-      n ≡ true_rank cmp y criteria items → n ≤ true_rank cmp (get_or points (i + 1) d) criteria items
-  next-rank-more criteria items points i y d n up l at e =
-      omega (arith, e ∙ ap (λ z. true_rank cmp z criteria items) (at ∙ get_or_default points i y d (omega arith)), rank-rises criteria items (get_or points i d) (get_or points (i + 1) d) (up i d l))
-
   increasing-tail : (y : A) (ys : List A) → IsIncreasing cmp (y ∷ ys) → IsIncreasing cmp ys
   increasing-tail y ys up k d l = let e : suc k + 1 ≡ suc (k + 1) = omega arith in rw e at (up (suc k) d (omega arith))
 
@@ -87,9 +81,9 @@ pub increasing-told : {A : Type 0} (cmp : A → A → Ordering) (points : List A
 increasing-told cmp points h i d l = less-told _ (λ no. h (λ up. no (up i d l)))
 
 -- ranks of weights have these weights
-weights-ranks_of : (n : ℕ) (weights : List ℕ) → map (λ (r : Rank). r.weight) (ranks_of n weights) ≡ weights
-weights-ranks_of n [] = refl
-weights-ranks_of n (w ∷ ws) = ap (λ l. w ∷ l) (weights-ranks_of n ws)
+pub weights_back : (n : ℕ) (weights : List ℕ) → map (λ (r : Rank). r.weight) (ranks_of n weights) ≡ weights
+weights_back n [] = refl
+weights_back n (w ∷ ws) = ap (λ l. w ∷ l) (weights_back n ws)
 
 -- one more rank: that of the next split point
 pub ranks-more : {A : Type 0} (f : A → ℕ) (n : ℕ) (points : List A) (i w : ℕ) (y : A) (ranks new : List Rank) → i < length points → ranks ≡ ranks_of n (map f (take i points)) →
@@ -151,7 +145,7 @@ module _ {A : Type 0} {cmp : A → A → Ordering} (order : IsTotalOrder cmp) wh
   -- the ranks of a distribution never decrease
   pub ranks-rise : (criteria : SearchCriteria) (entries points : List A) (n : ℕ) (ranks : List Rank) → IsIncreasing cmp points →
       ranks ≡ ranks_of n (cdf_of cmp criteria entries points) → IsNonDecreasing (map (λ (r : Rank). r.weight) ranks)
-  ranks-rise criteria entries points n ranks up e = grind (arith, common_steps, weights-ranks_of, cdf-non_decreasing)
+  ranks-rise criteria entries points n ranks up e = grind (arith, common_steps, weights_back, cdf-non_decreasing)
 
   -- the ranks of its differences sum to the number of entries
   pub ranks-sum : (criteria : SearchCriteria) (entries points : List A) (n : ℕ) (ranks : List Rank) → IsIncreasing cmp points →

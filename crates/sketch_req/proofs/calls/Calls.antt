@@ -243,10 +243,6 @@ module _ {A S T : Type 0} (cmp : A → A → Ordering) (bit : S → Bool) (next 
     memory : IfErr r (λ e. s.n < 2 ^ 64 - 1 → retained (bag_of s.levels) < 4294967295 → e ≡ OutOfMemory);
   }
 
-  pub update_failed : (x : A) {y : ErrorKind} → IsErrAnd r (λ e. e ≡ y) → y ≡ OutOfMemory → IsSound cmp new → new ≡ s → after ≡ source → (IsFull s → ⊥) →
-      UpdateEnds x
-  update_failed x h short sound same still not_full = grind (arith, common_steps, short_of, no_value, with_error, memory-refused)
-
   -- ---- updates by all items
 
   abbrev pub UpdatesEnd : List A → Type 0
@@ -262,10 +258,6 @@ module _ {A S T : Type 0} (cmp : A → A → Ordering) (bit : S → Bool) (next 
     memory : IfErr r (λ e. s.n + length xs < 2 ^ 64 → retained (bag_of s.levels) < 4294967295 → e ≡ OutOfMemory);
   }
 
-  pub updates_failed : (xs : List A) {y : ErrorKind} → IsErrAnd r (λ e. e ≡ y) → y ≡ OutOfMemory → IsSound cmp new → new ≡ s →
-      IsDrawnFrom next (coins_of_updates s xs) source after → (length xs ≡ 0 → ⊥) → (AreTooMany s xs → ⊥) → UpdatesEnd xs
-  updates_failed xs h short sound same drawn some few = grind (arith, common_steps, short_of, no_value, with_error, memory-refused, no_refusal)
-
   -- ---- a merge
 
   abbrev pub MergeEnds : Bool → Req A → Type 0
@@ -279,23 +271,10 @@ module _ {A S T : Type 0} (cmp : A → A → Ordering) (bit : S → Bool) (next 
     memory : IfErr r (λ e. s.accuracy ≡ t.accuracy → s.n + t.n < 2 ^ 64 → retained (bag_of s.levels) + retained (bag_of t.levels) < 2 ^ 32 → e ≡ OutOfMemory);
   }
 
-  pub merge_failed : (redraws : Bool) (t : Req A) {y : ErrorKind} → IsErrAnd r (λ e. e ≡ y) → y ≡ OutOfMemory → IsSound cmp new → new ≡ s → after ≡ source →
-      (t.n ≡ 0 → ⊥) →
-      (AreApart s t → ⊥) → MergeEnds redraws t
-  merge_failed redraws t h short sound same still some near = grind (arith, common_steps, short_of, no_value, with_error, memory-refused)
-
   pub merge_refused : (redraws : Bool) (t : Req A) {y : ErrorKind} → IsErrAnd r (λ e. e ≡ y) → y ≡ InvalidArgument → IsSound cmp new → new ≡ s →
       after ≡ source →
       (s.accuracy ≡ t.accuracy → t.n ≡ 0 → ⊥) → AreApart s t → MergeEnds redraws t
   merge_refused redraws t h refusal sound same still some apart = grind (arith, common_steps, refused_of, no_value, with_error, refused_as, not_apart)
-
-  pub update_refused : (x : A) {y : ErrorKind} → IsErrAnd r (λ e. e ≡ y) → y ≡ InvalidArgument → IsSound cmp new → new ≡ s → after ≡ source → IsFull s →
-      UpdateEnds x
-  update_refused x h refusal sound same still full = grind (arith, common_steps, refused_of, no_value, with_error, refused_as, not_full_both)
-
-  pub updates_refused : (xs : List A) {y : ErrorKind} → IsErrAnd r (λ e. e ≡ y) → y ≡ InvalidArgument → IsSound cmp new → new ≡ s → after ≡ source →
-      IsDrawnFrom next (coins_of_updates s xs) source after → (length xs ≡ 0 → ⊥) → AreTooMany s xs → UpdatesEnd xs
-  updates_refused xs h refusal sound same still drawn some many = grind (arith, common_steps, refused_of, no_value, with_error, refused_as, not_both)
 
 -- ---- calls that are done
 

@@ -128,7 +128,8 @@ module _ {A : Type 0} {cmp : A → A → Ordering} (order : IsTotalOrder cmp) wh
       let later = rw (← same_source) at room in
       (alike-after order bit next source after k accuracy joins more layouts 0 start ms ns alike later, later.source_is ∙ sym (source-composes next source joins more))
 
-same-accuracy : (a b : RankAccuracy) → (a ≢ b → ⊥) → a ≡ b
+-- accuracies that don't differ are the same
+pub same-accuracy : (a b : RankAccuracy) → (a ≢ b → ⊥) → a ≡ b
 same-accuracy HighRank HighRank n = refl
 same-accuracy LowRank LowRank n = refl
 same-accuracy a b n = absurd (n (λ e. cc))
