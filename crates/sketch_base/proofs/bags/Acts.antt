@@ -1,7 +1,7 @@
 -- What compactions and other actions do to bags, and to the sums over them. A compaction takes items of one level and sends up half,
 -- each of which then weighs twice as much. A sum over a bag, such as a rank, is a sum over its levels, so only two terms change.
 use Rattle.std.proofs.lemmas.Grind.{common_steps}
-use Rattle.std.proofs.Common.{◌≡◌, ℕ, suc, ◌+◌, ◌*◌, ◌^◌, true, false, List, [], ◌∷◌, replicate, flat_map, sum_by, refl, sym, ap, ◌∙◌, arith, Ordering, zero, ◌-◌, ◌≤◌, Bool, not, ◌&&◌, ◌==◌, ◌++◌, length, zero-add, add-zero, ◌≢◌, if◌then◌else◌, eqb-true, ◌<◌, ◌||◌, eqb, sum, fold, ◌⊎◌, IsTrue, take, drop, inl, inr, ⊎_elim}
+use Rattle.std.proofs.Common.{◌≡◌, ℕ, suc, ◌+◌, ◌*◌, ◌^◌, true, false, List, [], ◌∷◌, replicate, flat_map, sum_by, refl, sym, ap, ◌∙◌, arith, Ordering, zero, ◌≤◌, Bool, not, ◌&&◌, ◌==◌, ◌++◌, length, zero-add, add-zero, ◌≢◌, if◌then◌else◌, eqb-true, ◌<◌, ◌||◌, eqb, sum, fold, ◌⊎◌, IsTrue, take, drop, inl, inr, ⊎_elim}
 use Rattle.std.proofs.lemmas.List.Sums.{sum_by-cons, sum_by-append, sum_by-take-drop, fold-append, sum-map}
 use Rattle.std.proofs.lemmas.List.Folds.{sum_by-replicate}
 use Rattle.sketch_base.specs.Bag.{Bag, insert_in_order, sort, weigh, repeated, expanded, half, Taken, AllButLeftover, cut, parity_up, level_at, with_level, compaction, empty_bag}

@@ -1,6 +1,6 @@
 -- What a call returns that fails, refuses or finds. Each clause of a contract speaks of one of these cases, and a call that passes on
 -- what another one returned has the same cases.
-use Rattle.std.proofs.Common.{arith, OnOk, OnErr, IfOk, ◌≡◌, ◌∙◌, false, Result, Ok, Err, IfErr, IsErr, IsErrAnd, is_ok, sym, ap, ◌↔◌, ℕ, ◌<◌, subst, ◌≤◌, ◌^◌}
+use Rattle.std.proofs.Common.{arith, OnOk, OnErr, IfOk, ◌≡◌, ◌∙◌, Result, Ok, Err, IfErr, IsErrAnd, sym, ap, ◌↔◌, ℕ, ◌<◌, subst, ◌≤◌}
 use Rattle.std.proofs.lemmas.Grind.{common_steps}
 use Rattle.sketch_base.specs.declared.error.ErrorKind.{ErrorKind}
 use Rattle.sketch_base.specs.declared.error.ErrorKind.TheVariants.{InvalidArgument, InvalidData, OutOfMemory}

@@ -1,6 +1,6 @@
 -- The least and the greatest item of a list, found item by item, and of two lists together. They are unique up to comparing equal.
 use Rattle.std.proofs.Common.{◌≡◌, ℕ, ◌+◌, ◌<◌, List, [], ◌∷◌, ◌++◌, length, take, get_or, sym, ap, ◌∙◌, zero, suc, ◌≤◌, true, false, Ordering, is_gt, is_lt, inl, inr, arith, Bool, if◌then◌else◌, ⊎_elim, Option, None, Some, refl, subst, append-nil, Equal, count_by, ◌-◌, IsSorted}
-use Rattle.std.proofs.lemmas.List.{take_more, take_all}
+use Rattle.std.proofs.lemmas.List.{take_more}
 use Rattle.std.specs.List.{AllByRecursion}
 use Rattle.std.specs.Cmp.{IsTotalOrder}
 use Rattle.std.proofs.lemmas.Cmp.{upto, tied_itself, tied_back, alike_right}

@@ -1,9 +1,9 @@
 -- Sorted lists, their fronts and ends, and lists that compare equal once sorted. Every query counts the same in two lists exactly if they
 -- compare equal place by place once sorted.
-use Rattle.std.proofs.Common.{arith, ◌≡◌, true, false, Option, Some, Ordering, Less, Equal, is_gt, is_lt, is_le, ℕ, zero, suc, ◌+◌, ◌-◌, ◌*◌, ◌%◌, ◌^◌, ◌≤◌, Bool, cond, not, ◌&&◌, ◌==◌, List, [], ◌∷◌, length, take, drop, count_by, refl, mul-le-mul_left, ◌++◌, sym, ap, ◌∙◌, Greater, ◌<◌, get_or, IsPermutation, IsSorted}
+use Rattle.std.proofs.Common.{arith, ◌≡◌, true, false, Ordering, Less, Equal, is_gt, is_lt, is_le, ℕ, zero, suc, ◌+◌, ◌-◌, ◌*◌, ◌%◌, ◌^◌, ◌≤◌, Bool, cond, not, ◌&&◌, ◌==◌, List, [], ◌∷◌, length, take, drop, count_by, refl, mul-le-mul_left, ◌++◌, sym, ap, ◌∙◌, Greater, ◌<◌, get_or, IsPermutation, IsSorted}
 use Rattle.std.proofs.lemmas.Grind.{common_steps}
 use Rattle.std.specs.Cmp.{IsTotalOrder}
-use Rattle.std.specs.Ordering.{ordering_reverse, partial_le}
+use Rattle.std.specs.Ordering.{ordering_reverse}
 use Rattle.std.proofs.lemmas.Bool.{false≢true}
 use Rattle.std.specs.Prelude.{⊤}
 use Rattle.std.proofs.lemmas.List.Sums.{sum_by-cons, sum_by-take-le, sum_by-append}

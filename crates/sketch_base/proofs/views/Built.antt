@@ -22,7 +22,7 @@ use Rattle.sketch_base.proofs.bags.Parts.{all-map}
 use Rattle.sketch_base.proofs.order.Order.{Ordered, Ordered-sort, below, counted-equal, items-from_counts, SameCounts-from_items, sorted_items, equal-from_neither, less-from_is_lt, Rises, non_decreasing_from_rises, IsSorted-from_ordered, Ordered-from_sorted, sorted_same}
 use Rattle.sketch_base.proofs.views.Entries.{Ordered-spread_over, same-spread, zip-push, sum-ones}
 use Rattle.sketch_base.proofs.bags.Acts.{sum_by-sort}
-use Rattle.sketch_base.proofs.moving.Moving.{emptied, some-unless_empty}
+use Rattle.sketch_base.proofs.moving.Moving.{some-unless_empty}
 use Rattle.std.proofs.lemmas.List.Elements.{length_all_zip}
 use Rattle.sketch_base.proofs.bags.Alike.{SameItems-append}
 

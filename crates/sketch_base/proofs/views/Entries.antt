@@ -11,7 +11,7 @@ use Rattle.sketch_base.specs.declared.common.SearchCriteria.{SearchCriteria}
 use Rattle.sketch_base.specs.Query.{counted, true_rank}
 use Rattle.sketch_base.specs.declared.common.Rank.{Rank}
 use Rattle.sketch_base.specs.Queries.{IsIncreasing, cdf_of, pmf_of, differences, ranks_of, SameAnswer, quantile_in, spread_over, quantile_place, IsSplitAt, AreCumulated, spread_out, weight_before}
-use Rattle.std.proofs.lemmas.List.{take_more, take_all, take_at, map_push, get_or_default, length-replicate}
+use Rattle.std.proofs.lemmas.List.{take_more, take_all, take_at, map_push, length-replicate}
 use Rattle.sketch_base.proofs.order.Order.{lt_of_le_of_lt, counted-monotone, le_not_gt, less-from_is_lt, not_lt_gt, equal-from_neither, Rises, non_decreasing_from_rises, rises_from_zero, Ordered, Ordered-sort, SameCounts-from_items, items-from_counts}
 use mathlib.Core.Path.{fun_ext}
 use Rattle.std.specs.List.{AllByRecursion, AllZip, HoldsAt, AllWithin}
