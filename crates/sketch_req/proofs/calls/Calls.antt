@@ -5,7 +5,7 @@ use Rattle.std.proofs.lemmas.Result.{IfOk-from_err, IfErr-weaker}
 use Rattle.sketch_base.specs.Trace.{draws_of}
 use Rattle.sketch_base.specs.declared.error.ErrorKind.{ErrorKind}
 use Rattle.sketch_base.specs.declared.error.ErrorKind.TheVariants.{OutOfMemory, InvalidArgument, InvalidData}
-use Rattle.sketch_base.proofs.calls.Calls.{on_error, only_error, memory_not_argument, memory_not_data, accepted, no_value, returned, with_error, accepted_alone, memory-refused, no_refusal, none_or_some, refused_as, data_not_argument, no_found}
+use Rattle.sketch_base.proofs.calls.Calls.{on_error, only_error, memory_not_argument, memory_not_data, accepted, no_value, returned, with_error, accepted_alone, none_or_some, refused_as, data_not_argument, no_found}
 use Rattle.sketch_req.specs.Held.{Held, held_of}
 use Rattle.sketch_req.specs.Schedule.{layouts_of, layouts_if_full, retained_of}
 use Rattle.sketch_req.specs.ScheduleLaws.{updates_actions}
