@@ -1,5 +1,5 @@
 -- KLL sketches do what the rules of their kind say, and return errors for their reasons alone.
-use Rattle.std.proofs.Common.{arith, ◌≡◌, ◌⊎◌, Bool, true, false, Result, Ok, Err, IfOk, IfErr, OnOk, IsErrAnd, is_ok, if◌then◌else◌, refl, rules, ◌≢◌, ℕ, ◌+◌, ◌-◌, ◌^◌, ◌==◌, nat_lt, List, Option, None, Some, sym, ap, ap₂, ◌∙◌, ◌<◌, length, min, inl, inr, eqb-true, Ordering}
+use Rattle.std.proofs.Common.{arith, ◌≡◌, ◌⊎◌, Bool, true, false, Result, Ok, Err, IfOk, IfErr, OnOk, IsErrAnd, is_ok, if◌then◌else◌, refl, ◌≢◌, ℕ, ◌+◌, ◌-◌, ◌^◌, ◌==◌, nat_lt, List, Option, None, Some, sym, ap, ap₂, ◌∙◌, ◌<◌, length, min, inl, inr, eqb-true, Ordering}
 use Rattle.std.proofs.lemmas.Grind.{common_steps}
 use Rattle.std.specs.Prelude.{IsErrOf, MatchResult, ◌↔◌, IsTrue}
 use Rattle.sketch_base.specs.declared.error.ErrorKind.{ErrorKind}

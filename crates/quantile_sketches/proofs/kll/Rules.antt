@@ -1,5 +1,5 @@
 -- KLL's rules are lawful, so KLL sketches are a lawful kind, and all that holds of every run holds of theirs.
-use Rattle.std.proofs.Common.{rules, arith, ◌≡◌, ℕ, zero, suc, ◌-◌, ◌/◌, Bool, if◌then◌else◌, List, [], ◌∷◌, length, map, slice_index, refl, ap, ◌∙◌, ◌+◌, ◌*◌, ◌^◌, ◌<◌, ◌≤◌, true, false, sum, count_by, Some, sym, ap₂, subst, eqb-true, ◌==◌, ◌||◌, nat_lt, Ordering, drop, Option}
+use Rattle.std.proofs.Common.{arith, ◌≡◌, ℕ, zero, suc, ◌-◌, ◌/◌, Bool, if◌then◌else◌, List, [], ◌∷◌, length, map, slice_index, refl, ap, ◌∙◌, ◌+◌, ◌*◌, ◌^◌, ◌<◌, ◌≤◌, false, sum, count_by, Some, sym, ap₂, subst, eqb-true, ◌==◌, ◌||◌, nat_lt, Ordering, drop, Option}
 use Rattle.std.proofs.lemmas.Grind.{common_steps}
 use Rattle.sketch_base.specs.Lengths.{acts_on_lengths, act_on_lengths, lengths_after, MeetsEight, Along, IsLegalKll, bag_lengths}
 use Rattle.sketch_base.specs.Trace.{Action, Put, Work, Pull, Join, Compact, Fresh, Event, Snap, At, World, IsKll, play, start, events_at, act, acts, alone, bag_after, draws, draws_of, next_bit}

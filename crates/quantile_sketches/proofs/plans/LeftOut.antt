@@ -1,6 +1,6 @@
 -- The refused commands of a run may as well be left out: the accepted ones alone give the same plan, streams and coins.
 use Rattle.std.proofs.lemmas.Grind.{common_steps}
-use Rattle.std.proofs.Common.{◌≡◌, ℕ, suc, ◌+◌, ◌<◌, ◌≤◌, Bool, true, false, ◌==◌, not, if◌then◌else◌, List, [], ◌∷◌, ◌++◌, length, get_or, Option, None, Some, refl, sym, ap, ◌∙◌, ◌⊎◌, subst, arith, append_assoc, append-nil, zero-add, length-append, rules, fold, ap₂, eqb-true}
+use Rattle.std.proofs.Common.{◌≡◌, ℕ, suc, ◌+◌, ◌<◌, ◌≤◌, Bool, true, false, ◌==◌, not, if◌then◌else◌, List, [], ◌∷◌, ◌++◌, length, get_or, Option, None, Some, refl, sym, ap, ◌∙◌, ◌⊎◌, subst, arith, append_assoc, append-nil, zero-add, length-append, fold, ap₂, eqb-true}
 use Rattle.std.specs.Prelude.{MatchOption, All, Contains, ◌↔◌}
 use Rattle.std.proofs.Math.Bool.{or-false}
 use Rattle.std.proofs.lemmas.Bool.{false≢true, cases_lt, eq-eqb, ne_eqb, or_right}

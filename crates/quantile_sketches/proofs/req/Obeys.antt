@@ -1,5 +1,5 @@
 -- REQ sketches do what the rules of their kind say. Copies, and what is read from an image, are as a run requires.
-use Rattle.std.proofs.Common.{arith, ◌≡◌, ℕ, zero, suc, false, List, [], ◌∷◌, map, Option, refl, sym, ap, ◌∙◌, subst, Ordering, rules, ◌≢◌, ◌⊎◌, ◌++◌, ◌+◌, ◌-◌, ◌^◌, ◌<◌, ◌≤◌, ◌==◌, if◌then◌else◌, Bool, true, None, Some, Result, Ok, Err, ap₂, inl, inr, eqb-true}
+use Rattle.std.proofs.Common.{arith, ◌≡◌, ℕ, zero, suc, false, List, [], ◌∷◌, map, Option, refl, sym, ap, ◌∙◌, subst, Ordering, ◌≢◌, ◌⊎◌, ◌++◌, ◌+◌, ◌-◌, ◌^◌, ◌<◌, ◌≤◌, ◌==◌, if◌then◌else◌, Bool, true, None, Some, Result, Ok, Err, ap₂, inl, inr, eqb-true}
 use Rattle.std.proofs.lemmas.Grind.{common_steps}
 use mathlib.Core.Path.{fun_ext}
 use Rattle.std.specs.Cmp.{IsTotalOrder}

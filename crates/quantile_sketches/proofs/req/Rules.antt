@@ -1,5 +1,5 @@
 -- REQ's rules are lawful, so REQ sketches are a lawful kind. Its merges, with coins redrawn or not, don't change true ranks.
-use Rattle.std.proofs.Common.{rules, arith, ◌≡◌, ℕ, zero, suc, Bool, if◌then◌else◌, List, [], ◌∷◌, length, map, refl, true, ◌++◌, append-nil, ◌%◌, ◌+◌, ◌^◌, ◌<◌, ◌≤◌, false, ◌||◌, ◌&&◌, ◌==◌, not, sum, Some, sym, ap, ◌∙◌, subst, nat_le, Option, ap₂, Ordering}
+use Rattle.std.proofs.Common.{arith, ◌≡◌, ℕ, zero, suc, Bool, if◌then◌else◌, List, [], ◌∷◌, length, map, refl, true, ◌++◌, append-nil, ◌%◌, ◌+◌, ◌^◌, ◌<◌, ◌≤◌, false, ◌||◌, ◌&&◌, ◌==◌, not, sum, Some, sym, ap, ◌∙◌, subst, nat_le, Option, ap₂, Ordering}
 use Rattle.std.proofs.lemmas.Grind.{common_steps}
 use Rattle.sketch_base.specs.Trace.{Redraw, Action, joins_actions, events_at, Event, Snap, Work, World, Put, act, acts, alone, next_bit}
 use Rattle.sketch_req.specs.Schedule.{Layout, is_full, are_full, layout_at, step_actions, steps_actions, actions_if_full, redraws_from, merge_actions_by, redraw_actions, counts_of, retained_of, update_actions, update_layouts, merge_layouts, put_layouts}

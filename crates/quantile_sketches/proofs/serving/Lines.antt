@@ -17,7 +17,7 @@ use Rattle.quantile_sketches.specs.Reader.{Grammar}
 use Rattle.quantile_sketches.specs.LineSteps.{Answers, Reply, Slots, in_slot, reply_of, Makes, ReadsImage, CarriesOutItem}
 use Rattle.quantile_sketches.specs.LineWords.{words, image_in}
 use Rattle.quantile_sketches.proofs.reading.Lines.{lines-first, takes_buffered, takes_read}
-use Rattle.quantile_sketches.proofs.writing.Answers.{all-out, appends_none, writes-none, writes-on, writes-as}
+use Rattle.quantile_sketches.proofs.writing.Answers.{all-out, writes-none, writes-on, writes-as}
 use Rattle.std.specs.Io.Buffered.{reader_buffer, reader_remaining}
 use Rattle.std.specs.List.{position_or_len}
 use Rattle.std.specs.declared.io.buffered.BufReader.{BufReader}

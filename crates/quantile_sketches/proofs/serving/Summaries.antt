@@ -1,6 +1,6 @@
 -- The sketches behind the answers to lines summarize what is told of them, also after images were loaded.
 use Rattle.std.proofs.lemmas.Grind.{common_steps, get_or-set_at}
-use Rattle.std.proofs.Common.{◌≡◌, ◌≢◌, ℕ, ℤ, ◌==◌, Bool, true, false, if◌then◌else◌, List, [], ◌∷◌, replicate, set, Option, None, Some, Ok, Err, is_ok, is_some, refl, sym, ap, ◌∙◌, subst, inl, inr, eqb-true, arith, Ordering, Result}
+use Rattle.std.proofs.Common.{◌≡◌, ℕ, ℤ, ◌==◌, Bool, true, false, if◌then◌else◌, List, [], ◌∷◌, replicate, set, Option, None, Some, Ok, Err, is_ok, is_some, refl, sym, ap, ◌∙◌, subst, inl, inr, eqb-true, arith, Ordering, Result}
 use Rattle.std.specs.Cmp.{IsTotalOrder}
 use Rattle.std.specs.Option.{option_and_then, option_map}
 use Rattle.std.specs.Ordering.{int_cmp}

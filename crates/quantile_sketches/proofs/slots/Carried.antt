@@ -1,5 +1,5 @@
 -- What comes of a command of runs on a table's slots is a step of a run.
-use Rattle.std.proofs.Common.{rules, arith, ◌≡◌, ◌≢◌, ◌⊎◌, ℕ, ◌==◌, Bool, true, false, not, Option, None, Some, is_some, is_ok, set, Result, Ok, Err, refl, sym, ap, ap₂, ◌∙◌, subst, inl, inr, eqb-true}
+use Rattle.std.proofs.Common.{arith, ◌≡◌, ◌≢◌, ◌⊎◌, ℕ, ◌==◌, Bool, true, false, not, Option, None, Some, is_some, is_ok, set, Result, Ok, Err, refl, sym, ap, ap₂, ◌∙◌, subst, inl, inr, eqb-true}
 use Rattle.std.proofs.lemmas.Grind.{common_steps, get_or-set_at}
 use Rattle.std.specs.Prelude.{IsTrue, MatchOption, ◌↔◌, ⊤}
 use Rattle.std.proofs.lemmas.Bool.{eqb-false, false≢true}
