@@ -1,7 +1,7 @@
 use Rattle.std.proofs.Common.{◌≡◌, ◌++◌, ◌≤◌, length, vec_capacity}
 use Rattle.std.specs.Vec.Iter.{drain_items, DrainKeeps}
 use Rattle.sketch_base.specs.Bag.{half}
-use Rattle.sketch_req.proofs.compaction.take_side.Given as goal
+use Rattle.sketch_req.proofs.compaction.take_last.Given as goal
 
 abbrev pub invariant-loop-item : goal.invariant-loop-item
 invariant-loop-item g l = record {
