@@ -1,13 +1,14 @@
-use Rattle.std.proofs.Common.{◌≡◌, ◌++◌, ◌≤◌, length, vec_capacity}
-use Rattle.std.specs.Vec.Iter.{drain_items, DrainKeeps}
+use Rattle.std.proofs.Common.{◌≡◌, ◌++◌, ◌≤◌, drop, length, reverse, take, vec_capacity}
 use Rattle.sketch_base.specs.Bag.{half}
 use Rattle.sketch_req.proofs.compaction.take_last.Given as goal
 
-abbrev pub invariant-loop-item : goal.invariant-loop-item
-invariant-loop-item g l = record {
-  can_next : (goal.iterator-loop-item g).can_next l.item-iterator;
-  is_finite : (goal.iterator-loop-item g).is_finite l.item-iterator;
-  keeps : DrainKeeps l.initial.item-iterator l.item-iterator;
-  halves : l.out.items ++ half l.skips (drain_items l.item-iterator) ≡ half l.odd (drain_items l.initial.item-iterator);
-  room : length (half l.odd (drain_items l.initial.item-iterator)) ≤ vec_capacity l.out;
+abbrev pub invariant-loop-items : goal.invariant-loop-items
+invariant-loop-items g l = record {
+  within : l.kept ≤ length l.items.items;
+  before : take l.kept l.items.items ≡ take l.kept l.initial.items.items;
+  halves : l.out.items ++ half l.skips (reverse (drop l.kept l.items.items)) ≡ half l.initial.skips (reverse (drop l.kept l.initial.items.items));
+  room : length (half l.initial.skips (reverse (drop l.kept l.initial.items.items))) ≤ vec_capacity l.out;
 }
+
+abbrev pub decreases-loop-items : goal.decreases-loop-items
+decreases-loop-items g l = length l.items.items
