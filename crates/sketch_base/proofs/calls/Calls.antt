@@ -103,13 +103,6 @@ wanted-too {IsFit = IsFit} {Others = Others} (Err e) same others told =
 
 -- Calls that are refused or aren't: what their clauses say, and the numbers that decide it.
 
--- a call that runs out of memory returns that and no other error
-pub memory-refused : {T P : Type 0} {r : Result T ErrorKind} → r ≡ Err OutOfMemory → (P → ⊥) → (r ≡ Err InvalidArgument → P) × (P → r ≡ Err InvalidArgument)
-memory-refused e never = (λ is. absurd (grind (arith, common_steps)), λ p. absurd (never p))
-
-pub no_refusal : {T : Type 0} {r : Result T ErrorKind} (P : Type 0) → r ≡ Err OutOfMemory → r ≡ Err InvalidArgument → P
-no_refusal P e is = absurd (grind (arith, common_steps))
-
 pub refused_as : {T E P : Type 0} {r : Result T E} {x : E} → r ≡ Err x → P → (r ≡ Err x → P) × (P → r ≡ Err x)
 refused_as e p = (λ _. p, λ _. e)
 

@@ -223,10 +223,6 @@ abbrev AreApart : {A : Type 0} → Req A → Req A → Type 0
 AreApart s t = (s.accuracy ≢ t.accuracy) ⊎ ((2 ^ 64 ≤ s.n + t.n) ⊎ (2 ^ 32 ≤ retained (bag_of s.levels) + retained (bag_of t.levels)))
 
 module _ {A S T : Type 0} (cmp : A → A → Ordering) (bit : S → Bool) (next : S → S) (s new : Req A) (source after : S) (r : Result T ErrorKind) where
-  -- the error of a call that ran out of memory
-  short_of : {x : ErrorKind} → IsErrAnd r (λ e. e ≡ x) → x ≡ OutOfMemory → r ≡ Err OutOfMemory
-  short_of {x} h short = returned r x h ∙ ap Err short
-
   -- of a call that was refused
   refused_of : {x : ErrorKind} → IsErrAnd r (λ e. e ≡ x) → x ≡ InvalidArgument → r ≡ Err InvalidArgument
   refused_of {x} h refusal = returned r x h ∙ ap Err refusal
