@@ -1,17 +1,8 @@
 /* What calls answer, on good and on bad input. */
+#include "check.h"
 #include "mezgoular.h"
 #include <math.h>
-#include <stdio.h>
 #include <stdlib.h>
-
-static int failed;
-#define CHECK(c) \
-    do { \
-        if (!(c)) { \
-            fprintf(stderr, "%s:%d: not so: %s\n", __FILE__, __LINE__, #c); \
-            failed = 1; \
-        } \
-    } while (0)
 
 /* What holds for both families: F names one, NEW(s, floats) makes a sketch in which few items are all kept. */
 #define BOTH(F, ID, NEW) \

@@ -1,8 +1,8 @@
 /* Each allocation of each call refused in turn: the call does without, or the answer is MZ_OUT_OF_MEMORY and sketches are as
  * before; nothing is lost.
  * Linked with -Wl,--wrap=malloc,--wrap=realloc,--wrap=free. */
+#include "check.h"
 #include "mezgoular.h"
-#include <stdio.h>
 #include <stdlib.h>
 
 void *__real_malloc(size_t), *__real_realloc(void *, size_t);
@@ -11,14 +11,6 @@ void *__wrap_malloc(size_t), *__wrap_realloc(void *, size_t);
 void __wrap_free(void *);
 
 static long left = -1, live;
-static int failed;
-#define CHECK(c) \
-    do { \
-        if (!(c)) { \
-            fprintf(stderr, "%s:%d: not so: %s\n", __FILE__, __LINE__, #c); \
-            failed = 1; \
-        } \
-    } while (0)
 
 static int refuses(void) { return left >= 0 && left-- == 0; }
 void *__wrap_malloc(size_t n) {
