@@ -4,7 +4,7 @@ use Rattle.std.specs.Cmp.{IsTotalOrder}
 use Rattle.std.proofs.lemmas.Bool.{lt-leb, ne_eqb}
 use Rattle.std.proofs.lemmas.List.{get_or-set_same}
 use Rattle.sketch_req.specs.Arriving.{HasRoom}
-use Rattle.sketch_req.specs.Level.{Level, IsLevel, IsCompacted, IsTakenIn, IsTurned, coin_of, draws_coin, is_full_with, nominal_of, taken_count, with_coming, fresh}
+use Rattle.sketch_req.specs.Level.{Level, IsLevel, IsCompacted, IsTakenIn, IsStepped, coin_of, draws_coin, is_full_with, nominal_of, taken_count, with_coming, fresh}
 use Rattle.sketch_req.specs.Schedule.{Layout, layout_of, layouts_of, layout_at, is_full, taken, retained_of, steps_actions, steps_layouts, weight_of}
 use Rattle.sketch_req.specs.Sections.{IsLegalK}
 use Rattle.sketch_req.specs.Walk.{AreLevels, AreWalked, IsPlaced, taken_if_full}
@@ -232,7 +232,7 @@ module _ {A S : Type 0} {cmp : A → A → Ordering} (order : IsTotalOrder cmp) 
   -- the next turn
   pub next-pending : (n : ℕ) (now after : S) (ls : List (Level A)) (old new : Level A) (coming up : List A) (room above : Vec A Global) → retained_of (layouts_of start) < 2 ^ 32 →
       IsPending n now ls coming room → n < length ls → old ≡ get_or ls n old → weight_of (layouts_of start) < 2 ^ 64 → IsLegalK k → HasRise n above →
-      IsTurned cmp old coming (bit now) up new → IsLevel cmp new →
+      IsStepped cmp old coming (bit now) up new → IsLevel cmp new →
       after ≡ (if is_full_with old coming && draws_coin (with_coming cmp old coming) then next now else now) → IsPending (n + 1) after (set ls n new) up above
   next-pending n now after ls old new coming up room above small p within there fits legal space t sound coins = go (is_full_with old coming) refl
     where

@@ -29,7 +29,7 @@ use sketch_base::common::random::RandomBits;
 use sketch_base::error::Error;
 use std::alloc::AllocError;
 use std::marker::Model;
-use walk::{add_level, append_and_walk, give_back, reserve, sums, walk};
+use walk::{add_level, append_and_walk, shrink, reserve, sums, walk};
 
 /// The levels of a sketch, from level 0 up, and the sums over them. A contract sees them as the
 /// record `Held` of specs/Held.
@@ -118,7 +118,7 @@ impl<T: Clone + Ord> Levels<T> {
         ensures memory { IfErr result (λ e. e ≡ OutOfMemory) }
     {
         append_and_walk(&mut self.compactors, item, coins)?;
-        give_back(&mut self.compactors, (self.num_retained / 8).max(24) - 24);
+        shrink(&mut self.compactors, (self.num_retained / 8).max(24) - 24);
         (self.num_retained, self.capacity) = sums(self.compactors.as_slice());
         Ok(())
     }
@@ -180,7 +180,7 @@ impl<T: Clone + Ord> Levels<T> {
         join_levels(&mut self.compactors, more, lists);
         redraw_if(redraws, &mut self.compactors, coins);
         walk(&mut self.compactors, ups, coins);
-        give_back(&mut self.compactors, 0);
+        shrink(&mut self.compactors, 0);
         (self.num_retained, self.capacity) = sums(self.compactors.as_slice());
         Ok(())
     }

@@ -151,11 +151,11 @@ pub(super) fn walk<T: Clone + Ord, B: RandomBits>(
 
 /// Shrinks levels that have too much room. Level 0, which soon grows again, keeps room for `spare`
 /// more items.
-pub(super) fn give_back<T: Clone + Ord>(levels: &mut Vec<Compactor<T>>, spare: usize)
+pub(super) fn shrink<T: Clone + Ord>(levels: &mut Vec<Compactor<T>>, spare: usize)
     ensures { levels.new.items ≡ levels.old.items }
 {
     for level in 0..levels.len() {
-        levels[level].give_back(if level == 0 { spare } else { 0 });
+        levels[level].shrink(if level == 0 { spare } else { 0 });
     }
 }
 

@@ -24,4 +24,4 @@ walked g c =
 pub sums-requires : goal.sums-requires
 sums-requires g c =
     let walked = walked g (past.sums-requires g c).In_ok-append_and_walk in
-    record { few = few-levels g.T.Ord.cmp _ _ _ _ walked.acted.placed (c.as_slice.ensures.value ∙ c.give_back.ensures) }
+    record { few = few-levels g.T.Ord.cmp _ _ _ _ walked.acted.placed (c.as_slice.ensures.value ∙ c.shrink.ensures) }
