@@ -131,8 +131,7 @@ impl Groups {
         &mut self,
         alloc: Global,
         key: &[u8],
-        item: i64,
-        weight: u64,
+        (item, weight): (i64, u64),
         form: Form,
     ) -> Result<(), Fault> {
         match self.groups.get_mut(key) {

@@ -126,7 +126,7 @@ impl<'o, W: Write + Drop> Lines<'o, W> {
         };
         let form = self.summary.form;
         let groups = &mut self.summary.groups;
-        groups.add_weighted(alloc, &self.key, item, weight, form)
+        groups.add_weighted(alloc, &self.key, (item, weight), form)
     }
 
     /// Writes an image of each group.
