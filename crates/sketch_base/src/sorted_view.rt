@@ -11,6 +11,7 @@ ghost use Rattle.sketch_base.specs.Queried.{AreQuantiles, EndsAt, IsCdf, IsPmf, 
 ghost use Rattle.sketch_base.specs.Queries.{IsFraction};
 ghost use Rattle.sketch_base.specs.Views.{IsView, SameView, queried_view, view_from};
 
+use crate::common::counting::count_near;
 use crate::common::extremes::clone_found;
 use crate::common::{Rank, SearchCriteria, queries};
 use crate::error::Error;
@@ -210,8 +211,10 @@ impl<T: Clone + Ord> SortedView<T> {
         let total = queries::entries_of(items, cumulated);
         let alloc = *self.items.allocator();
         let mut ranks = Vec::with_capacity(alloc, points.len().saturating_add(1))?;
+        let mut count = 0;
         for point in points {
-            let weight = queries::rank_among(items, cumulated, point, criteria);
+            count = count_near(items, count, point, criteria);
+            let weight = queries::entries_before(cumulated, count);
             ranks.push_reserved(Rank { weight, total });
         }
         let weight = total;

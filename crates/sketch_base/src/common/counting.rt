@@ -28,6 +28,30 @@ pub fn count_in_order<T: Ord>(items: &[T], query: &T, criteria: SearchCriteria) 
     items.partition_point(|item| counts(item, query, criteria))
 }
 
+/// How far beyond a guess a count is looked for first.
+const AHEAD: usize = 16;
+
+/// Returns what `count_in_order` does, sooner if the count is at or just beyond a guess.
+pub fn count_near<T: Ord>(
+    items: &[T],
+    guess: usize,
+    query: &T,
+    criteria: SearchCriteria,
+) -> usize
+    requires guess { guess ≤ length items.now }
+    requires sorted { IsSorted T.cmp items.now }
+    ensures within { result ≤ length items.now }
+    ensures parts { IsSplitAt (counted T.cmp query.now criteria) items.now result }
+{
+    let start = guess.saturating_sub(1);
+    let end = guess.saturating_add(AHEAD).min(items.len());
+    let found = count_in_order(&items[start..end], query, criteria);
+    if 0 < found && found < end - start {
+        return start + found;
+    }
+    count_in_order(items, query, criteria)
+}
+
 /// Returns whether a query counts an item.
 fn counts<T: Ord>(item: &T, query: &T, criteria: SearchCriteria) -> bool
     ensures { result ≡ counted T.cmp query.now criteria item.now }

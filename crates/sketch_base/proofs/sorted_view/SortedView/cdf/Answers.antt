@@ -1,10 +1,10 @@
 use Rattle.std.proofs.Common.{arith, ◌≡◌, ◌+◌, ◌<◌, ℕ, List, [], ◌∷◌, ◌++◌, length, ap, refl, sym, ◌∙◌}
 use Rattle.std.specs.Prelude.{Some, slice_get}
 use Rattle.sketch_base.specs.declared.common.Rank.{Rank}
-use Rattle.sketch_base.specs.Query.{true_rank}
+use Rattle.sketch_base.specs.Query.{counted, true_rank}
 use Rattle.sketch_base.specs.Queries.{cdf_of, ranks_of, spread_out}
 use Rattle.sketch_base.proofs.calls.Calls.{answer}
-use Rattle.sketch_base.proofs.views.Entries.{ranks-end, ranks-more, ranks-last, ranks-rise}
+use Rattle.sketch_base.proofs.views.Entries.{count-spread_out, ranks-end, ranks-more, ranks-last, ranks-rise}
 use Rattle.sketch_base.proofs.views.Built.{at-entries, entries-there}
 use Rattle.sketch_base.proofs.sorted_view.SortedView.cdf.Given.{Over}
 use Rattle.sketch_base.proofs.sorted_view.SortedView.cdf.Goals.{After-push_reserved-2}
@@ -17,13 +17,17 @@ one-further i n l = omega arith
 pub loop-point-preserved : goal.loop-point-preserved
 loop-point-preserved g c =
     let entries = spread_out c.as_slice-items.result.now c.as_slice-cumulated.result.now in
+    let i = c.loop-point.invariant in
+    let split = c.count_near-count.ensures in
+    let counts = count-spread_out (counted g.T.Ord.cmp c.point-item.result c.args.criteria) c.as_slice-items.result.now c.as_slice-cumulated.result.now c.count_near-count.result split.within i.cumulates split.parts in
     record {
-      ranks = ranks-more (λ (y : g.row.T.Denot). true_rank g.T.Ord.cmp y c.args.criteria entries) (length entries) c.args.points.now c.loop-point.point-index c.rank_among-weight.result
-          c.point-item.result c.loop-point.ranks.items c.push_reserved.new.self.items c.loop-point-test.true c.loop-point.invariant.ranks c.point-item.is c.rank_among-weight.ensures.value
-          (c.push_reserved.ensures.items ∙ ap (λ (n : ℕ). let rank : Rank = record { weight = c.rank_among-weight.result; total = n } in c.loop-point.ranks.items ++ rank ∷ []) c.entries_of-total.ensures.value);
-      cumulates = c.loop-point.invariant.cumulates;
-      sorted = c.loop-point.invariant.sorted;
-      room = omega (arith, one-further _ _ c.loop-point-test.true, c.push_reserved.ensures.len, c.push_reserved.ensures.capacity, c.loop-point.invariant.room);
+      ranks = ranks-more (λ (y : g.row.T.Denot). true_rank g.T.Ord.cmp y c.args.criteria entries) (length entries) c.args.points.now c.loop-point.point-index c.entries_before-weight.result
+          c.point-item.result c.loop-point.ranks.items c.push_reserved.new.self.items c.loop-point-test.true i.ranks c.point-item.is (c.entries_before-weight.ensures.value ∙ sym counts)
+          (c.push_reserved.ensures.items ∙ ap (λ (n : ℕ). let rank : Rank = record { weight = c.entries_before-weight.result; total = n } in c.loop-point.ranks.items ++ rank ∷ []) c.entries_of-total.ensures.value);
+      cumulates = i.cumulates;
+      sorted = i.sorted;
+      near = split.within;
+      room = omega (arith, one-further _ _ c.loop-point-test.true, c.push_reserved.ensures.len, c.push_reserved.ensures.capacity, i.room);
     }
 
 -- what the vector holds in the end
