@@ -1,13 +1,11 @@
 -- How a line is split at its spaces: the index of a byte, spaces at the front, and the words one after another.
 use Rattle.std.proofs.lemmas.Grind.{common_steps}
-use Rattle.std.proofs.Common.{◌≡◌, ℕ, suc, ◌+◌, ◌<◌, ◌==◌, Bool, true, not, List, [], ◌∷◌, length, take, drop, refl, sym, ap, ◌∙◌, arith, inl, inr, length-drop, take_all, ◌-◌, eqb-true, Option}
+use Rattle.std.proofs.Common.{◌≡◌, ℕ, suc, ◌+◌, ◌<◌, ◌==◌, Bool, true, not, List, [], ◌∷◌, length, take, drop, refl, sym, ap, ◌∙◌, arith, inl, inr, length-drop, take_all, ◌-◌, eqb-true}
 use Rattle.std.specs.List.{prefix_len, position_or_len, slice_split, onto_first, filter}
 use Rattle.std.proofs.lemmas.Bool.{cases_Bool, cases_lt, cond-true, cond-false, ne_eqb, not_from_true}
 use Rattle.std.proofs.lemmas.List.Folds.{length-prefix_len}
 use Rattle.std.proofs.lemmas.List.Splits.{slice_split-cons_yes, slice_split-cons_no}
 use Rattle.quantile_sketches.specs.LineWords.{words}
-use Rattle.std.specs.Io.Buffered.{reader_buffer, reader_capacity, reader_inner, reader_remaining}
-use Rattle.std.specs.declared.io.buffered.BufReader.{BufReader}
 use Rattle.sketch_base.proofs.lines.FirstLine.{position-no}
 
 abbrev is_space : ℕ → Bool
@@ -88,8 +86,3 @@ nothing_left bs (x ∷ xs) ws is e = (λ h. absurd (omega (arith, eqb-true (leng
 -- the rest of a list, written as a slice to its end
 pub to_end : (t : List ℕ) (n : ℕ) → take (length t - n) (drop n t) ≡ drop n t
 to_end t n = take_all (length t - n) (drop n t) (let l = length-drop n t in omega (arith, l))
-
--- a reader that has read nothing ahead has what its inner reader has
-pub nothing_ahead : {T A : Type 0} (remaining : T → Option (List ℕ)) (r : BufReader T A) (inner : T) → reader_inner r ≡ inner → reader_buffer r ≡ [] → reader_capacity r ≡ 16384 →
-    reader_remaining remaining r ≡ remaining inner
-nothing_ahead remaining r inner e b n = grind (arith, common_steps)
