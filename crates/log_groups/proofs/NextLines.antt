@@ -1,35 +1,17 @@
 -- Lines that are taken from an input one after another.
-use Rattle.std.proofs.Common.{◌≡◌, ◌∙◌, ℕ, ◌+◌, ◌≤◌, ◌<◌, ◌==◌, ◌⊎◌, Bool, true, false, List, [], ◌∷◌, ◌++◌, length, take, sym, ap, subst, refl, arith, Option, Some, None, IfSome, Result, Ok, Err, OnErr}
+use Rattle.std.proofs.Common.{◌≡◌, ◌∙◌, ℕ, ◌+◌, ◌==◌, ◌⊎◌, Bool, true, false, List, [], ◌∷◌, ◌++◌, length, sym, ap, subst, refl, arith, Option, Some, None, IfSome, Result, Ok, Err, OnErr}
 use Rattle.std.proofs.lemmas.List.{append_assoc, append-nil, length-append}
-use Rattle.std.specs.Io.BufRead.{DropsConsumable, drop_through}
-use Rattle.std.specs.Io.Buffered.{reader_buffer, reader_remaining}
+use Rattle.std.specs.Io.BufRead.{drop_through}
 use Rattle.std.specs.Io.KnownBytes.{IsAtEnd}
 use Rattle.std.specs.List.{position_or_len}
 use Rattle.std.specs.Option.{unwrap_or}
 use Rattle.std.proofs.lemmas.List.Sums.{position_or_len_is}
 use Rattle.memchr.specs.Find.{IsFirstByte, is_byte}
-use Rattle.std.specs.declared.io.buffered.BufReader.{BufReader}
 use Rattle.sketch_base.specs.TextLines.{lines, TakesLine}
-use Rattle.sketch_base.proofs.lines.FirstLine.{lines-first, takes_buffered}
+use Rattle.sketch_base.proofs.lines.FirstLine.{lines-first}
 use Rattle.log_groups.specs.Lines.{NextTaken, AllTaken, FirstTaken}
 
--- a place that isn't the end is before it
-inside : (n : ℕ) {k l m : ℕ} → n ≤ k → (n ≡ l → ⊥) → k ≡ m → l ≡ m → n < m
-inside n most ends e f = omega (arith, most, ends, e, f)
-
 module _ {S : Type 0} (takes : S → List ℕ → S → Type 0) where
-  -- a line that lies whole in the buffer, which was read three times
-  pub buffered-taken : {T A : Type 0} (remaining : T → Option (List ℕ)) (input : BufReader T A) (left : Option (List ℕ)) (n : ℕ) {b b' b'' : List ℕ}
-      (old new : S) → n ≡ position_or_len (λ x. x == 10) b → n ≤ length b → (n ≡ length b' → ⊥) →
-      b ≡ reader_buffer input → b' ≡ reader_buffer input → b'' ≡ reader_buffer input →
-      DropsConsumable (reader_remaining remaining input) left (Some (length (reader_buffer input))) (n + 1) →
-      takes old (take n b'') new → NextTaken takes (reader_remaining remaining input) left old new
-  buffered-taken remaining input left n old new place most ends same same' same'' dropped took = (
-    take n (reader_buffer input),
-    takes_buffered _ (reader_buffer input) _ left n (place ∙ ap (position_or_len (λ x. x == 10)) same) (inside n most ends (ap length same) (ap length same')) dropped,
-    subst (λ (b : List ℕ). takes old (take n b) new) same'' took,
-  )
-
   all-more : (s t u : S) (ls : List (List ℕ)) (l : List ℕ) → AllTaken takes s ls t → takes t l u → AllTaken takes s (ls ++ l ∷ []) u
   all-more s t u [] l is took = (u, subst (λ r. takes r l u) is took, refl)
   all-more s t u (k ∷ ks) l (next, first, rest) took = (next, first, all-more next t u ks l rest took)
