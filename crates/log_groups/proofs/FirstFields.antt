@@ -1,11 +1,11 @@
 -- The first field of a text, and those behind it.
-use Rattle.std.proofs.Common.{◌≡◌, ℕ, zero, suc, reverse, ◌+◌, ◌<◌, ◌≤◌, Bool, true, false, not, cond, List, [], ◌∷◌, length, filter, take, drop, get_or, ◌-◌, refl, sym, ap, subst, ◌∙◌, arith, inl, inr, length-drop}
+use Rattle.std.proofs.Common.{◌≡◌, ℕ, zero, suc, ◌+◌, ◌<◌, ◌≤◌, Bool, true, false, not, cond, List, [], ◌∷◌, length, filter, take, drop, get_or, ◌-◌, refl, sym, ap, subst, ◌∙◌, arith, inl, inr, length-drop}
 use Rattle.std.proofs.Math.Nat.{eq-or-lt_of_le}
 use Rattle.std.proofs.Math.Seq.{drop-cons}
 use Rattle.std.specs.List.{All, slice_split, onto_first, position_or_len}
-use Rattle.std.proofs.lemmas.Bool.{cases_Bool, cond-true, not_from_false}
-use Rattle.std.proofs.Math.ListN.{get_or-eq_default}
-use Rattle.std.proofs.lemmas.List.{take_all, drop_all, get_or-reverse, length-reverse}
+use Rattle.std.proofs.lemmas.Bool.{cases_Bool}
+use Rattle.sketch_base.proofs.lines.FirstLine.{position-no}
+use Rattle.std.proofs.lemmas.List.{take_all, drop_all}
 use Rattle.std.proofs.lemmas.List.Splits.{slice_split_first, slice_split_none}
 use Rattle.std.proofs.lemmas.List.Sums.{fails_before_first, passes_at_first, prefix_len-le-length}
 use Rattle.log_groups.specs.Fields.{is_blank, is_no_blank, is_some_text, words_of}
@@ -34,9 +34,6 @@ module _ (p : ℕ → Bool) where
 
   pub split-end : (xs : List ℕ) (k : ℕ) → position_or_len p xs ≡ length xs → get_or (slice_split p xs) (k + 1) [] ≡ []
   split-end xs k e = ap (λ fs. get_or fs (k + 1) []) (split-one xs e) ∙ get-behind xs [] k
-
-  position-no : (x : ℕ) (xs : List ℕ) → p x ≡ false → position_or_len p (x ∷ xs) ≡ suc (position_or_len p xs)
-  position-no x xs e = cond-true (not (p x)) (1 + position_or_len p xs) 0 (not_from_false (p x) e) ∙ (let one : 1 + position_or_len p xs ≡ suc (position_or_len p xs) = omega arith in one)
 
 words-blank : (b : ℕ) (xs : List ℕ) → is_blank b ≡ true → words_of (b ∷ xs) ≡ words_of xs
 words-blank b xs e = ap (λ c. filter is_some_text (cond c ([] ∷ slice_split is_blank xs) (onto_first b (slice_split is_blank xs)))) e

@@ -4,7 +4,6 @@ mod FirstFields
 mod OneRun
 mod Lookups
 mod Adding
-mod FirstLine
 mod Reordered
 mod Summaries
 pub mod NextLines

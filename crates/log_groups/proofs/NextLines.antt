@@ -1,44 +1,17 @@
 -- Lines that are taken from an input one after another.
-use Rattle.std.proofs.Common.{◌≡◌, ◌∙◌, ℕ, ◌+◌, ◌≤◌, ◌<◌, ◌==◌, ◌⊎◌, Bool, true, false, List, [], ◌∷◌, ◌++◌, length, take, sym, ap, subst, refl, arith, Option, Some, None, IfSome, Result, Ok, Err, OnErr}
+use Rattle.std.proofs.Common.{◌≡◌, ◌∙◌, ℕ, ◌+◌, ◌==◌, ◌⊎◌, Bool, true, false, List, [], ◌∷◌, ◌++◌, length, sym, ap, subst, refl, arith, Option, Some, None, IfSome, Result, Ok, Err, OnErr}
 use Rattle.std.proofs.lemmas.List.{append_assoc, append-nil, length-append}
-use Rattle.std.specs.Io.BufRead.{DropsConsumable, DropsThrough, strip_last, take_through, drop_through}
-use Rattle.std.specs.Io.Buffered.{reader_buffer, reader_remaining}
+use Rattle.std.specs.Io.BufRead.{drop_through}
 use Rattle.std.specs.Io.KnownBytes.{IsAtEnd}
 use Rattle.std.specs.List.{position_or_len}
 use Rattle.std.specs.Option.{unwrap_or}
 use Rattle.std.proofs.lemmas.List.Sums.{position_or_len_is}
 use Rattle.memchr.specs.Find.{IsFirstByte, is_byte}
-use Rattle.std.specs.declared.io.buffered.BufReader.{BufReader}
-use Rattle.log_groups.specs.Lines.{lines, TakesLine, NextTaken, AllTaken, FirstTaken}
-use Rattle.log_groups.proofs.FirstLine.{lines-first, takes_buffered, takes_read}
-
--- a place that isn't the end is before it
-inside : (n : ℕ) {k l m : ℕ} → n ≤ k → (n ≡ l → ⊥) → k ≡ m → l ≡ m → n < m
-inside n most ends e f = omega (arith, most, ends, e, f)
-
--- what was read isn't empty
-some-read : {k l m n : ℕ} → m ≡ l → m ≡ k + n → k ≡ 0 → (n ≡ 0 → ⊥) → 0 < l
-some-read long more none some = omega (arith, long, more, none, some)
-
--- a line that is read behind nothing, with its line feed
-pub read-line : (left left' : Option (List ℕ)) (line before : List ℕ) {m k n : ℕ} (bare : List ℕ) → m ≡ length line → m ≡ k + n → k ≡ 0 → (n ≡ 0 → ⊥) →
-    IfSome left (λ xs. line ≡ before ++ take_through 10 xs) → before ≡ [] → DropsThrough left left' 10 → bare ≡ strip_last 10 line → TakesLine left bare left'
-read-line left left' line before bare long more none some bytes nothing rest stripped =
-    takes_read line bare left left' (some-read long more none some) (subst (λ (front : List ℕ). IfSome left (λ xs. line ≡ front ++ take_through 10 xs)) nothing bytes) rest stripped
+use Rattle.sketch_base.specs.TextLines.{lines, TakesLine}
+use Rattle.sketch_base.proofs.lines.FirstLine.{lines-first}
+use Rattle.log_groups.specs.Lines.{NextTaken, AllTaken, FirstTaken}
 
 module _ {S : Type 0} (takes : S → List ℕ → S → Type 0) where
-  -- a line that lies whole in the buffer, which was read three times
-  pub buffered-taken : {T A : Type 0} (remaining : T → Option (List ℕ)) (input : BufReader T A) (left : Option (List ℕ)) (n : ℕ) {b b' b'' : List ℕ}
-      (old new : S) → n ≡ position_or_len (λ x. x == 10) b → n ≤ length b → (n ≡ length b' → ⊥) →
-      b ≡ reader_buffer input → b' ≡ reader_buffer input → b'' ≡ reader_buffer input →
-      DropsConsumable (reader_remaining remaining input) left (Some (length (reader_buffer input))) (n + 1) →
-      takes old (take n b'') new → NextTaken takes (reader_remaining remaining input) left old new
-  buffered-taken remaining input left n old new place most ends same same' same'' dropped took = (
-    take n (reader_buffer input),
-    takes_buffered _ (reader_buffer input) _ left n (place ∙ ap (position_or_len (λ x. x == 10)) same) (inside n most ends (ap length same) (ap length same')) dropped,
-    subst (λ (b : List ℕ). takes old (take n b) new) same'' took,
-  )
-
   all-more : (s t u : S) (ls : List (List ℕ)) (l : List ℕ) → AllTaken takes s ls t → takes t l u → AllTaken takes s (ls ++ l ∷ []) u
   all-more s t u [] l is took = (u, subst (λ r. takes r l u) is took, refl)
   all-more s t u (k ∷ ks) l (next, first, rest) took = (next, first, all-more next t u ks l rest took)
@@ -52,21 +25,15 @@ module _ {S : Type 0} (takes : S → List ℕ → S → Type 0) where
   running-start None old = tt
   running-start (Some text) old = (text, refl, [], refl, refl, refl)
 
-  first-cut : (rest line : List ℕ) → 0 < length rest → line ≡ strip_last 10 (take_through 10 rest) → lines rest ≡ line ∷ lines (drop_through 10 rest)
-  first-cut [] line some is = absurd (omega (arith, some))
-  first-cut (x ∷ xs) line some is = lines-first x xs ∙ ap (λ l. l ∷ lines (drop_through 10 (x ∷ xs))) (sym is)
-
   pub running-next : (t left left' : Option (List ℕ)) (old mid new : S) (count : ℕ) → Running t left old count mid →
       NextTaken takes left left' mid new → Running t left' old (count + 1) new
   running-next None left left' old mid new count run next = tt
   running-next (Some text) left left' old mid new count (rest, is, front, parts, many, so) (line, cuts, took) =
-      let cut : TakesLine (Some rest) line left' = subst (λ o. TakesLine o line left') is cuts in
-      let more : front ++ lines rest ≡ (front ++ line ∷ []) ++ lines (drop_through 10 rest) =
-      ap (λ ls. front ++ ls) (first-cut rest line cut.0 cut.1) ∙ sym (append_assoc front (line ∷ []) (lines (drop_through 10 rest))) in (
+      let cut : TakesLine (Some rest) line left' = subst (λ o. TakesLine o line left') is cuts in (
         drop_through 10 rest,
         cut.2,
         front ++ line ∷ [],
-        parts ∙ more,
+        cc (lines-first rest cut.0, cut.1, append_assoc front (line ∷ []) (lines (drop_through 10 rest))),
         (let n = length-append front (line ∷ []) in omega (arith, many, n)),
         all-more old mid new front line so took,
       )

@@ -4,8 +4,8 @@ use Rattle.std.proofs.lemmas.Bool.{cases_Bool, cond-true, cond-false}
 use Rattle.std.proofs.lemmas.List.{append_assoc, append-nil, map-append}
 use Rattle.std.proofs.lemmas.List.Elements.{filter-append}
 use Rattle.log_groups.specs.Fed.{IsFed, IsFedFrom, Takes, empty_of}
-use Rattle.log_groups.specs.Found.{same_key, group_of, sketch_of, total_of, IsAdded, AreKept}
-use Rattle.log_groups.specs.Lines.{lines}
+use Rattle.log_groups.specs.Found.{same_key, group_of, sketch_of, total_of, IsAdded}
+use Rattle.sketch_base.specs.TextLines.{lines}
 use Rattle.log_groups.specs.Summary.{Reads, IsAlike, AreRead, numbers_of, IsSummary, Took, taken_of, AddsUp, IsSummaryOf, IsExactRow, RowsAreExact, LinesAddUp}
 use Rattle.log_groups.specs.declared.groups.Group.{Group}
 use Rattle.log_groups.specs.declared.groups.Groups.{Groups}

@@ -5,7 +5,8 @@ use Rattle.std.specs.Ordering.{int_cmp}
 use Rattle.sketch_base.specs.Extremes.{IsLeastOf, IsGreatestOf}
 use Rattle.log_groups.specs.Fed.{IsFed, n_of, least_of, greatest_of}
 use Rattle.log_groups.specs.Found.{same_key, group_of, total_of, IsAdded, AreKept}
-use Rattle.log_groups.specs.Lines.{lines, AllTaken}
+use Rattle.sketch_base.specs.TextLines.{lines}
+use Rattle.log_groups.specs.Lines.{AllTaken}
 use Rattle.log_groups.specs.declared.groups.Group.{Group}
 use Rattle.log_groups.specs.declared.groups.Groups.{Groups}
 use Rattle.log_groups.specs.declared.sketch.Kind.{Kind}

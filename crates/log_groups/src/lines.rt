@@ -3,7 +3,8 @@ ghost use Rattle.std.specs.Prelude.{◌≡◌, ℕ, ◌≤◌, ◌==◌, ◌⊎�
 ghost use Rattle.std.specs.Io.BufRead.{strip_last};
 ghost use Rattle.std.specs.Io.KnownBytes.{IsAtEnd};
 ghost use Rattle.std.specs.List.{position_or_len};
-ghost use Rattle.log_groups.specs.Lines.{NextTaken, TakesLine, AllTaken, FirstTaken, lines};
+ghost use Rattle.sketch_base.specs.TextLines.{lines, TakesLine};
+ghost use Rattle.log_groups.specs.Lines.{NextTaken, AllTaken, FirstTaken};
 
 use crate::fault::Fault;
 use memchr::memchr;

@@ -3,7 +3,7 @@ ghost use Rattle.std.specs.Prelude.{◌≡◌, ◌+◌, ℕ, ℤ, List, Option, 
 ghost use Rattle.std.specs.Option.{option_map};
 ghost use Rattle.log_groups.specs.Fed.{FedIsOneRun};
 ghost use Rattle.log_groups.specs.Found.{group_of};
-ghost use Rattle.log_groups.specs.Lines.{lines};
+ghost use Rattle.sketch_base.specs.TextLines.{lines};
 ghost use Rattle.log_groups.specs.Summary.{Took, Left, AddsUp, IsSummaryOf, LinesAddUp, RowsAreExact};
 
 use crate::fault::Fault;

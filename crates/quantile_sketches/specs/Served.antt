@@ -12,7 +12,8 @@ use Rattle.quantile_sketches.specs.declared.table.TheConstants.{SLOTS}
 use Rattle.quantile_sketches.specs.KllBehaviour.{kll}
 use Rattle.quantile_sketches.specs.KllRules.{kll_look, kll_kind}
 use Rattle.quantile_sketches.specs.KllRun.{IsWithinCapacity}
-use Rattle.quantile_sketches.specs.Lines.{lines, Serves, BeginsServing}
+use Rattle.sketch_base.specs.TextLines.{lines}
+use Rattle.quantile_sketches.specs.Lines.{Serves, BeginsServing}
 use Rattle.quantile_sketches.specs.Outcome.{WeighsStream, HasExtremes}
 use Rattle.quantile_sketches.specs.Reader.{kll_grammar, req_grammar}
 use Rattle.quantile_sketches.specs.ReqBehaviour.{req}

@@ -20,7 +20,7 @@ use Rattle.quantile_sketches.specs.declared.command.Request.{Request}
 use Rattle.quantile_sketches.specs.declared.command.Request.TheVariants.{Run, Load}
 use Rattle.quantile_sketches.specs.LineSteps.{Slots, in_slot, Reply, Answers}
 use Rattle.quantile_sketches.specs.LineWords.{words, image_in}
-use Rattle.quantile_sketches.specs.Lines.{lines}
+use Rattle.sketch_base.specs.TextLines.{lines}
 use Rattle.quantile_sketches.specs.Reader.{Grammar, req_grammar}
 use Rattle.quantile_sketches.specs.Served.{req_of_i64}
 use Rattle.quantile_sketches.specs.declared.table.TheConstants.{SLOTS}

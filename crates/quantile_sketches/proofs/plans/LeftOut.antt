@@ -23,7 +23,6 @@ use Rattle.sketch_base.proofs.plays.Plays.{coins-at}
 use Rattle.sketch_base.proofs.bags.Acts.{changed-own}
 use Rattle.quantile_sketches.specs.RuleLaws.{IsLawful}
 use Rattle.quantile_sketches.specs.Run.{accepted_streams, stream_of}
-use Rattle.quantile_sketches.proofs.plans.Streams.{streams_after}
 
 -- The numbers of the refused commands, after one more command.
 
@@ -190,12 +189,6 @@ module _ {A C Shape : Type 0} (rules : Rules A C Shape) where
     lengths = fold (λ world e. lengths_after e world) plan.lengths (if b then [] else accepted_events rules plan command);
   }
 
-  -- a command that changes nothing
-  record Leaves (plan : Plan Shape) (command : Command A C) : Type 0 where
-    plan_is : plan_after rules plan command ≡ plan
-    drawn_are : coins (events_of rules plan command) ≡ 0
-    trace_is : rules.read_back_actions ≡ [] → events_of rules plan command ≡ []
-
   -- one more command
   pub state-more : {T : Type 0} (accepted : Plan Shape → T → Command A C → T) (start : T) (done fewer : List (Command A C)) (c : Command A C) → plan_of rules done ≡ plan_of rules fewer →
       after_commands rules accepted start_plan start done ≡ after_commands rules accepted start_plan start fewer →
@@ -209,15 +202,6 @@ module _ {A C Shape : Type 0} (rules : Rules A C Shape) where
     streams = state-more (λ plan. accepted_streams) (λ q. []) done fewer c h.plan h.streams;
     drawn = omega (arith, coins-more rules done c, coins-more rules fewer c, h.drawn, ap (λ (p : Plan Shape). coins (events_of rules p c)) h.plan);
     trace = λ z. trace-more rules done c ∙ (ap₂ (λ (t : List (Event A)) (p : Plan Shape). t ++ events_of rules p c) (h.trace z) h.plan ∙ sym (trace-more rules fewer c));
-  }
-
-  left-same : (done fewer : List (Command A C)) → IsLeftOut rules done fewer → (c : Command A C) → Leaves (plan_of rules done) c →
-      streams_after rules (plan_of rules done) (stream_of rules done) c ≡ stream_of rules done → IsLeftOut rules (done ++ c ∷ []) fewer
-  left-same done fewer h c l streams = record {
-    plan = plan-append rules start_plan done c ∙ (l.plan_is ∙ h.plan);
-    streams = after-append rules (λ plan. accepted_streams) start_plan (λ q. []) done c ∙ (streams ∙ h.streams);
-    drawn = omega (arith, coins-more rules done c, l.drawn_are, h.drawn);
-    trace = λ z. trace-more rules done c ∙ (ap (λ (t : List (Event A)). trace_of rules done ++ t) (l.trace_is z) ∙ (append-nil (trace_of rules done) ∙ h.trace z));
   }
 
 -- what a round trip leaves unchanged, it leaves unchanged whether it is refused or not
@@ -255,20 +239,25 @@ module _ {A C Shape S : Type 0} (kind : Kind A C Shape S) (word : List Bool) (co
       add false among = more done (accepted_of refused done) c h
 
 module _ {A C Shape S : Type 0} {kind : Kind A C Shape S} (lawful : IsLawful kind) where
-  -- a round trip changes nothing that is planned
-  leaves-trip : (plan : Plan Shape) (slot : ℕ) → Leaves kind.look.rules plan (RoundTrip slot)
-  leaves-trip plan slot = grind (arith, common_steps, plan, changed-own, coins-at)
-
-  -- nor does a refused command
+  -- a refused command changes nothing that is planned
   leaves : (word : List Bool) (refused : List ℕ) (before : List (Command A C)) (command : Command A C) (P : Type 0) → IsRefusedExactly kind word refused before command P → P →
-      Leaves kind.look.rules (plan_of kind.look.rules before) command
-  leaves word refused before command P h p = grind (arith, common_steps, leaves-trip)
+      let rules = kind.look.rules in let plan = plan_of rules before in
+      (plan_after rules plan command ≡ plan) × (coins (events_of rules plan command) ≡ 0) × (rules.read_back_actions ≡ [] → events_of rules plan command ≡ [])
+  leaves word refused before command P h p = grind (arith, common_steps, changed-own, coins-at)
 
   -- a command that is refused may be left out
   pub left-refused : (word : List Bool) (refused : List ℕ) (done fewer : List (Command A C)) (command : Command A C) (P : Type 0) → IsRefusedExactly kind word refused done command P → P →
       IsLeftOut kind.look.rules done fewer → IsLeftOut kind.look.rules (done ++ command ∷ []) fewer
-  left-refused word refused done fewer command P h p l = left-same kind.look.rules done fewer l command (leaves word refused done command P h p)
-      (state-left kind word refused done (λ plan. accepted_streams) (λ plan streams slot. refl) (stream_of kind.look.rules done) command P h p)
+  left-refused word refused done fewer command P h p l =
+      let rules = kind.look.rules in
+      let same = leaves word refused done command P h p in
+      let streams = state-left kind word refused done (λ plan. accepted_streams) (λ plan streams slot. refl) (stream_of rules done) command P h p in
+      record {
+        plan = plan-append rules start_plan done command ∙ (same.0 ∙ l.plan);
+        streams = after-append rules (λ plan. accepted_streams) start_plan (λ q. []) done command ∙ (streams ∙ l.streams);
+        drawn = omega (arith, coins-more rules done command, same.1, l.drawn);
+        trace = λ z. trace-more rules done command ∙ (ap (λ (t : List (Event A)). trace_of rules done ++ t) (same.2 z) ∙ (append-nil (trace_of rules done) ∙ l.trace z));
+      }
 
   -- all refused commands may be left out
   pub left-out : (word : List Bool) (commands : List (Command A C)) (refused : List ℕ) → AreRefused kind word commands refused → IsLeftOut kind.look.rules commands (accepted_of refused commands)

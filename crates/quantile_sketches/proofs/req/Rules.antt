@@ -60,14 +60,9 @@ module _ (A : Type 0) where
   bare-redraws h [] = refl
   bare-redraws h (layout ∷ above) = bare-append (if turns_coin layout.state then Redraw h ∷ [] else []) _ (bare-if (turns_coin layout.state) _ _ refl refl) (bare-redraws (suc h) above)
 
-  -- the actions of either merge
-  bare-merge : (redraws : Bool) (k : ℕ) (accuracy : RankAccuracy) (layouts others : List Layout) →
-      map bare_action (merge_actions_by {A = A} redraws k accuracy layouts others) ≡ merge_actions_by redraws k accuracy layouts others
-  bare-merge redraws k accuracy layouts others = grind (arith, common_steps, bare-joins, bare-room, bare-if, bare-append, bare-redraws)
-
   -- REQ's rules depend on no item
   pub req-bare : AreBare {A = A} req_rules req_rules
-  req-bare = grind (arith, common_steps, bare-room, bare-redraws, bare-merge)
+  req-bare = grind (arith, common_steps, bare-joins, bare-room, bare-if, bare-append, bare-redraws)
 
 -- REQ's merges, with coins redrawn or not, don't change true ranks, nor do redraws, which lead to the same layouts.
 

@@ -1,8 +1,8 @@
 -- Lines one after another: the run goes on by one, or ends where its answer can't be written. Each is answered by the sketches of a run of
 -- the commands that were accepted before it.
 use Rattle.std.proofs.lemmas.Grind.{common_steps}
-use Rattle.std.proofs.Common.{◌≡◌, ℕ, ℤ, ◌<◌, List, [], ◌∷◌, ◌++◌, length, refl, sym, ap, ◌∙◌, arith, Option, Some, None, IfSome, Result, Ok, Err, IsOk, IsErr, OnOk, ◌+◌, ◌==◌, take, subst, zero-add, replicate, Bool, OnErr}
-use Rattle.std.specs.Io.BufRead.{take_through, drop_through, strip_last, DropsConsumable, DropsThrough}
+use Rattle.std.proofs.Common.{◌≡◌, ℕ, ℤ, List, [], ◌∷◌, ◌++◌, length, refl, sym, ap, ◌∙◌, arith, Option, Some, None, IfSome, Result, Ok, Err, IsOk, IsErr, OnOk, subst, zero-add, replicate, Bool, OnErr}
+use Rattle.std.specs.Io.BufRead.{drop_through}
 use Rattle.std.specs.Io.KnownBytes.{Appends, IsAtEnd}
 use Rattle.std.proofs.lemmas.List.{append_assoc, append-nil}
 use Rattle.std.proofs.lemmas.Option.{IfSome_then, MatchOption-at_some}
@@ -11,16 +11,14 @@ use Rattle.quantile_sketches.specs.declared.answer.Answer.{Answer}
 use Rattle.quantile_sketches.specs.declared.answer.Refusal.{Refusal}
 use Rattle.quantile_sketches.specs.Answer.{answer_text}
 use Rattle.quantile_sketches.specs.Command.{request_of}
-use Rattle.quantile_sketches.specs.Lines.{lines, BeginsServing, Ends, Serves, TakesLine}
+use Rattle.sketch_base.specs.TextLines.{lines, TakesLine}
+use Rattle.quantile_sketches.specs.Lines.{BeginsServing, Ends, Serves}
 use Rattle.quantile_sketches.specs.Output.{Writes}
 use Rattle.quantile_sketches.specs.Reader.{Grammar}
 use Rattle.quantile_sketches.specs.LineSteps.{Answers, Reply, Slots, in_slot, reply_of, Makes, ReadsImage, CarriesOutItem}
 use Rattle.quantile_sketches.specs.LineWords.{words, image_in}
-use Rattle.quantile_sketches.proofs.reading.Lines.{lines-first, takes_buffered, takes_read}
+use Rattle.sketch_base.proofs.lines.FirstLine.{lines-first}
 use Rattle.quantile_sketches.proofs.writing.Answers.{all-out, writes-none, writes-on, writes-as}
-use Rattle.std.specs.Io.Buffered.{reader_buffer, reader_remaining}
-use Rattle.std.specs.List.{position_or_len}
-use Rattle.std.specs.declared.io.buffered.BufReader.{BufReader}
 use Rattle.std.specs.Prelude.{⊤}
 use mathlib.Core.Path.{fun_ext}
 use Rattle.sketch_base.specs.Random.{next_state}
@@ -105,17 +103,13 @@ module _ {S C : Type 0} (grammar : Grammar C) (behaviour : Behaviour S ℤ C) wh
         more : List ℕ
         more = answer_text a ++ (10 ∷ [])
 
-        behind : (rest : List ℕ) → 0 < length rest → line ≡ strip_last 10 (take_through 10 rest) → lines rest ≡ line ∷ lines (drop_through 10 rest)
-        behind [] some l = absurd (omega (arith, some))
-        behind (x ∷ xs) some l = lines-first x xs ∙ ap (λ (t : List ℕ). t ∷ lines (drop_through 10 (x ∷ xs))) (sym l)
-
         step : (text done : List ℕ) (reached : Reached text left slots coins slots' coins' done) → TakesLine (Some reached.rest) line left' →
             Reached text left' slots coins slots'' coins'' (done ++ more)
         step text done reached (some, is, dropped) = record {
           front = reached.front ++ (line ∷ []);
           rest = drop_through 10 reached.rest;
           left_is = dropped;
-          lines_are = cc (behind reached.rest some is, append_assoc reached.front (line ∷ []) (lines (drop_through 10 reached.rest)));
+          lines_are = cc (lines-first reached.rest some, append_assoc reached.front (line ∷ []) (lines (drop_through 10 reached.rest)));
           goes = goes-on slots coins reached.front done slots' coins' line a slots'' coins'' reached.goes answered;
         }
 
@@ -175,27 +169,6 @@ module _ {S C : Type 0} (grammar : Grammar C) (behaviour : Behaviour S ℤ C) wh
   pub line-found : (left left' : Option (List ℕ)) (slots slots' : List (Option S)) (coins coins' : ℕ) (found : Option Reply) (a : Reply) → found ≡ Some a →
       IfSome found (AnswersLine left left' slots coins slots' coins') → AnswersLine left left' slots coins slots' coins' a
   line-found left left' slots slots' coins coins' found a is answered = MatchOption-at_some _ _ a is answered
-
-  -- a line that lies whole in the buffer
-  pub buffered-answered : {T A : Type 0} (remaining : T → Option (List ℕ)) (input : BufReader T A) (left : Option (List ℕ)) (n : ℕ) {b : List ℕ}
-      {slots slots' : List (Option S)} {coins coins' : ℕ} {a : Reply} → n ≡ position_or_len (λ c. c == 10) b → n < length b → b ≡ reader_buffer input →
-      DropsConsumable (reader_remaining remaining input) left (Some (length (reader_buffer input))) (n + 1) →
-      Answers behaviour (request_of grammar (words (take n b))) slots coins a slots' coins' →
-      AnswersLine (reader_remaining remaining input) left slots coins slots' coins' a
-  buffered-answered remaining input left n {b} place within same dropped answered =
-      (take n (reader_buffer input), takes_buffered remaining input left n (rw same at place) (rw same at within) dropped, rw same at answered)
-
-  -- a line that is read behind nothing, with its line feed
-  pub read-answered : (left left' : Option (List ℕ)) {line before cut : List ℕ} {m k n : ℕ} (bare : List ℕ) {slots slots' : List (Option S)} {coins coins' : ℕ} {a : Reply} →
-      m ≡ length line → m ≡ k + n → k ≡ 0 → (n ≡ 0 → ⊥) → IfSome left (λ xs. line ≡ before ++ take_through 10 xs) → before ≡ [] → DropsThrough left left' 10 →
-      bare ≡ strip_last 10 cut → cut ≡ line → Answers behaviour (request_of grammar (words bare)) slots coins a slots' coins' →
-      AnswersLine left left' slots coins slots' coins' a
-  read-answered left left' {line} bare long more none some bytes nothing rest stripped whole answered = (
-    bare,
-    takes_read line bare left left' (omega (arith, long, more, none, some)) (subst (λ (front : List ℕ). IfSome left (λ xs. line ≡ front ++ take_through 10 xs)) nothing bytes) rest
-        (stripped ∙ ap (strip_last 10) whole),
-    answered,
-  )
 
   module _ {T E T' E' : Type 0} {r : Result T E} {r' : Result T' E'} {t left w0 w w' : Option (List ℕ)} {waiting waiting' : List ℕ}
       {slots slots' : List (Option S)} {coins coins' : ℕ} (left' : Option (List ℕ)) (slots'' : List (Option S)) (coins'' : ℕ) (a : Reply)

@@ -55,8 +55,8 @@ module _ {A : Type 0} (f : A → ℕ) where
   abbrev pub rank : Bag A → ℕ
   rank bag = weigh (sum_by f) 0 bag.levels
 
-  weigh-with_level : (h k : ℕ) (change : List A → List A) (levels : List (List A)) →
-      weigh (sum_by f) k (with_level [] h change levels) + 2 ^ (h + k) * sum_by f (level_at levels h) ≡ weigh (sum_by f) k levels + 2 ^ (h + k) * sum_by f (change (level_at levels h))
+  weigh-with_level : (h k : ℕ) (change : List A → List A) (levels : List (List A)) → weigh (sum_by f) k (with_level [] h change levels)
+      + 2 ^ (h + k) * sum_by f (level_at levels h) ≡ weigh (sum_by f) k levels + 2 ^ (h + k) * sum_by f (change (level_at levels h))
   weigh-with_level zero k change [] = rw zero-add (omega arith)
   weigh-with_level zero k change (level ∷ above) = rw zero-add (omega arith)
   weigh-with_level (suc h) k change [] = grind (arith, common_steps, weigh-with_level h (suc k) change)

@@ -31,8 +31,8 @@ takes-few : (stay : ℕ) (taken : Taken) (n : ℕ) → TakesFew stay taken n →
 takes-few stay taken n few = grind (arith, common_steps)
 
 module _ {A : Type 0} where
-  load-with_level : (h k : ℕ) (change : List A → List A) (levels : List (List A)) →
-      load_from k (with_level [] h change levels) + (h + k) * (2 ^ (h + k) * length (level_at levels h)) ≡ load_from k levels + (h + k) * (2 ^ (h + k) * length (change (level_at levels h)))
+  load-with_level : (h k : ℕ) (change : List A → List A) (levels : List (List A)) → load_from k (with_level [] h change levels)
+      + (h + k) * (2 ^ (h + k) * length (level_at levels h)) ≡ load_from k levels + (h + k) * (2 ^ (h + k) * length (change (level_at levels h)))
   load-with_level zero k change [] = rw zero-add (omega arith)
   load-with_level zero k change (level ∷ above) = rw zero-add (omega arith)
   load-with_level (suc h) k change [] = grind (arith, common_steps, load-with_level h (suc k) change)

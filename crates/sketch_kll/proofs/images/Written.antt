@@ -100,19 +100,15 @@ spelled_small {A} cmp spelling s items h few e spelled = grind (arith, common_st
 
 -- ---- the parts of an image, one after the other
 
--- the items of the levels have spellings and, if there are two or more items, the extremes do too
-pub record Spelled {A : Type 0} (spelling : A → Option (List ℕ)) (s : Kll A) : Type 0 where
-  pub stored_too : AllSpelled spelling (stored s.is_sorted s.levels)
-  pub ends_too : 2 ≤ s.n → AllSpelled spelling (ends_of s)
-
--- if its parts have spellings, so does all that is written
-pub spelled_whole : {A : Type 0} (spelling : A → Option (List ℕ)) (s : Kll A) → Spelled spelling s → AllSpelled spelling (written_items s)
-spelled_whole {A} spelling s p = go s.n refl
+-- if the items of the levels have spellings and, if there are two or more items, the extremes do too, so does all that is written
+pub spelled_whole : {A : Type 0} (spelling : A → Option (List ℕ)) (s : Kll A) → AllSpelled spelling (stored s.is_sorted s.levels) →
+    (2 ≤ s.n → AllSpelled spelling (ends_of s)) → AllSpelled spelling (written_items s)
+spelled_whole {A} spelling s inner ends = go s.n refl
   where
     go : (n : ℕ) → s.n ≡ n → AllSpelled spelling (items_by_count s n)
     go zero is = tt
-    go (suc zero) is = p.stored_too
-    go (suc (suc n)) is = all-append (λ (x : A). IsSome (spelling x)) (ends_of s) (stored s.is_sorted s.levels) (p.ends_too (omega (arith, is))) p.stored_too
+    go (suc zero) is = inner
+    go (suc (suc n)) is = all-append (λ (x : A). IsSome (spelling x)) (ends_of s) (stored s.is_sorted s.levels) (ends (omega (arith, is))) inner
 
 -- Levels and places, written one after the other.
 

@@ -316,8 +316,8 @@ module _ (A : Type 0) where
   behind redraws k accuracy joined = if redraws then redraw_actions joined ++ actions_if_full k accuracy joined else actions_if_full k accuracy joined
 
   -- a merge joins levels and goes on from them
-  merge_is : (redraws : Bool) (k : ℕ) (accuracy : RankAccuracy) (ls others : List Layout) →
-      merge_actions_by {A = A} redraws k accuracy ls others ≡ joins_actions (length others) 0 ++ behind redraws k accuracy (joined_layouts k ls others)
+  merge_is : (redraws : Bool) (k : ℕ) (accuracy : RankAccuracy) (ls others : List Layout) → merge_actions_by {A = A} redraws k accuracy ls others ≡
+      joins_actions (length others) 0 ++ behind redraws k accuracy (joined_layouts k ls others)
   merge_is true k accuracy ls others = refl
   merge_is false k accuracy ls others = refl
 

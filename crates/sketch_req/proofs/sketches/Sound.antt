@@ -45,8 +45,8 @@ imaged_at cmp place level legal low said h =
     assumption
 
 -- so are several
-pub levels_at : {A : Type 0} (cmp : A → A → Ordering) (spelling : A → Option (List ℕ)) (place : Place) (text : List ℕ) (levels : List (Level A)) (rest : List ℕ) →
-    IsLegalK place.k → place.lg_weight + length levels ≤ 64 → (0 < place.lg_weight → place.is_said_sorted ≡ true) →
+pub levels_at : {A : Type 0} (cmp : A → A → Ordering) (spelling : A → Option (List ℕ)) (place : Place) (text : List ℕ) (levels : List (Level A)) (rest : List ℕ) → IsLegalK place.k →
+    place.lg_weight + length levels ≤ 64 → (0 < place.lg_weight → place.is_said_sorted ≡ true) →
     BeginsLevels cmp spelling place text levels rest → AreLevels cmp place.k place.accuracy place.lg_weight levels
 levels_at cmp spelling place text [] rest legal few said h = tt
 levels_at cmp spelling place text (l ∷ ls) rest legal few said h =

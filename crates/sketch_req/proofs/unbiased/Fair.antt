@@ -4,7 +4,7 @@ use Rattle.std.proofs.Common.{ℕ, zero, suc, Bool, false, List, [], ◌∷◌, 
 use Rattle.std.proofs.lemmas.Bool.{false≢true, cases_Bool, cases_eq, and_left, and_right}
 use Rattle.sketch_base.specs.Trace.{Event, events_at, Action, Forget, Clear, Snap, At, changed, joins_actions, Coin, Compact, is_req, is_req_action, coins, play, start}
 use Rattle.sketch_base.specs.Fair.{IsByUpdates, reaches}
-use Rattle.sketch_req.specs.Schedule.{Layout, new_layout, update_actions, update_layouts, joined_layouts, are_full, redraw_actions, actions_if_full, walk_actions, merge_layouts, layout_at, taken, put_layouts, merge_actions, merge_actions_by}
+use Rattle.sketch_req.specs.Schedule.{Layout, new_layout, update_actions, update_layouts, joined_layouts, are_full, redraw_actions, actions_if_full, walk_actions, merge_layouts, layout_at, taken, put_layouts, merge_actions_by}
 use Rattle.sketch_req.specs.ScheduleLaws.{updates_actions, updates_trace, AreDrawn, merge_events}
 use Rattle.sketch_req.specs.declared.RankAccuracy.{RankAccuracy}
 use Rattle.sketch_req.proofs.unbiased.Drawn.{HoldsByDrawn, by-update, Rises, takes_req, IsFair, fair-update, fair-joins, fair-redraw, fair-merge_redrawn, fair-apart, reaches-own, reaches-joins, own-update, own-room}
@@ -225,19 +225,11 @@ module _ {A : Type 0} where
   joins_req (suc more) h rest r = (refl, joins_req more (suc h) rest r)
 
 module _ (A : Type 0) where
-  -- so are those of a merge
-  pub merge_req : (k : ℕ) (accuracy : RankAccuracy) (ls others : List Layout) → AllByRecursion (λ action. IsTrue (is_req_action {A = A} action)) (merge_actions k accuracy ls others)
-  merge_req k accuracy ls others = grind (arith, common_steps, joins_req, compacts_req, room_compacts)
-
-  -- and those of a merge of either kind
-  pub merge_by_req : (redraws : Bool) (k : ℕ) (accuracy : RankAccuracy) (ls others : List Layout) →
-      AllByRecursion (λ action. IsTrue (is_req_action {A = A} action)) (merge_actions_by redraws k accuracy ls others)
-  merge_by_req true k accuracy ls others =
-      let joined = joined_layouts k ls others in
-      joins_req (length others) 0 (redraw_actions joined ++ actions_if_full k accuracy joined)
-      (all-append (λ action. IsTrue (is_req_action {A = A} action)) (redraw_actions joined) (actions_if_full k accuracy joined)
-      (own-req (redraw_actions joined) (own-redraws A 0 joined)) (compacts_req (actions_if_full k accuracy joined) (room_compacts A k accuracy joined)))
-  merge_by_req false k accuracy ls others = merge_req k accuracy ls others
+  -- so are those of a merge of either kind
+  pub merge_by_req : (redraws : Bool) (k : ℕ) (accuracy : RankAccuracy) (ls others : List Layout) → AllByRecursion (λ action. IsTrue (is_req_action {A = A} action))
+      (merge_actions_by redraws k accuracy ls others)
+  merge_by_req redraws k accuracy ls others =
+      grind (arith, common_steps, joins_req, compacts_req, room_compacts A, all-append (λ action. IsTrue (is_req_action {A = A} action)), own-req, own-redraws A 0)
 
 module _ {A : Type 0} (test : A → Bool) where
   -- compactions leave true ranks as they are

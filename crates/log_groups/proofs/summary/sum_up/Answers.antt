@@ -1,4 +1,4 @@
-use Rattle.log_groups.specs.Lines.{lines}
+use Rattle.sketch_base.specs.TextLines.{lines}
 use Rattle.log_groups.proofs.Summaries.{if-all, lines-add-up, from-none}
 use Rattle.log_groups.proofs.summary.sum_up.Goals as goal
 

@@ -6,7 +6,7 @@ use Rattle.sketch_base.specs.Random.{next_state}
 use Rattle.sketch_base.specs.SpellingLaws.{i64_prefix_free, i64_ties}
 use Rattle.quantile_sketches.specs.Behaviour.{coin_of_state}
 use Rattle.quantile_sketches.specs.KllBehaviour.{kll}
-use Rattle.quantile_sketches.specs.Lines.{lines}
+use Rattle.sketch_base.specs.TextLines.{lines}
 use Rattle.quantile_sketches.specs.Reader.{kll_grammar, req_grammar}
 use Rattle.quantile_sketches.specs.ReqBehaviour.{req}
 use Rattle.quantile_sketches.specs.Served.{ServesFamily, ServesRun, KllPromise, ReqPromise}
