@@ -29,7 +29,7 @@ use sketch_base::common::random::RandomBits;
 use sketch_base::error::Error;
 use std::alloc::AllocError;
 use std::marker::Model;
-use walk::{add_level, append_and_walk, shrink, reserve, sums, walk};
+use walk::{add_level, append_and_walk, reserve, shrink, sums, walk};
 
 /// The levels of a sketch, from level 0 up, and the sums over them. A contract sees them as the
 /// record `Held` of specs/Held.

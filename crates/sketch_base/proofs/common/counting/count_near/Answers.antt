@@ -10,11 +10,14 @@ use Rattle.sketch_base.proofs.common.counting.count_near.Goals as goal
 -- a split within a part of a list, neither at its front nor at its end, splits the list
 split_within : {A : Type 0} (test : A → Bool) (xs : List A) (start size found : ℕ) → IsPartitionedBy test xs → start + size ≤ length xs → 0 < found → found < size →
     IsSplitAt test (take size (drop start xs)) found → IsSplitAt test xs (start + found)
-split_within test xs start size found parted within some more split = (
-  λ k d l b. parted k (start + (found - 1)) d (omega (arith, b)) (omega arith) (grind (arith, common_steps, split.0 (found - 1) d, get_or-take size (drop start xs) (found - 1) d, get_or-drop start xs (found - 1) d)),
-  λ k d l b. grind (arith, common_steps, cases_Bool (test (get_or xs k d)), parted (start + found) k d l b, split.1 found d, get_or-take size (drop start xs) found d, get_or-drop start xs found d,
-  length-take size (drop start xs), length-drop start xs),
-)
+split_within test xs start size found parted within some more split =
+    let ys = drop start xs in (
+      λ k d l b. parted k (start + (found - 1)) d (omega (arith, b)) (omega arith) (grind (arith, common_steps, split.0 (found - 1) d, get_or-take size ys (found - 1) d, get_or-drop start xs (found - 1) d)),
+      λ k d l b.
+          let yes = parted (start + found) k d l b in
+          let no = split.1 found d in
+          grind (arith, common_steps, cases_Bool (test (get_or xs k d)), yes, no, get_or-take size ys found d, get_or-drop start xs found d, length-take size ys, length-drop start xs),
+    )
 
 pub returns-then-found-end-clause-parts : goal.returns-then-found-end-clause-parts
 returns-then-found-end-clause-parts g c = split_within (counted g.T.Ord.cmp c.args.query.now c.args.criteria) c.args.items.now c.saturating_sub-start.result (c.min-end.result - c.saturating_sub-start.result)
