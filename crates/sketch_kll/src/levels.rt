@@ -89,12 +89,15 @@ impl<T: Ord + Drop> Levels<T> {
         self.total_capacity = total_capacity(self.k, MINIMUM_CAPACITY, 1);
     }
 
-    /// Frees memory beyond room for an eighth more items and one more level.
+    /// Frees memory beyond one more level, and beyond an eighth more items if there is room for over
+    /// a quarter more.
     pub(crate) fn shrink(&mut self)
         ensures kept { KeepsLevels self.old self.new }
     {
         let len = self.items.len();
-        self.items.shrink_to(len + len / 8);
+        if self.items.capacity() - len > len / 4 {
+            self.items.shrink_to(len + len / 8);
+        }
         self.bounds.shrink_to(self.bounds.len() + 1);
     }
 
