@@ -19,7 +19,7 @@ use crate::compaction::compact_level;
 use sketch_base::common::SearchCriteria;
 use sketch_base::common::counting::{count_all, count_in_order};
 use sketch_base::common::random::RandomBits;
-use sketch_base::common::room::reserve_next;
+use sketch_base::common::room::{reserve_next, shrink_if_loose};
 use std::alloc::{AllocError, Global};
 use std::marker::Model;
 
@@ -94,10 +94,7 @@ impl<T: Ord + Drop> Levels<T> {
     pub(crate) fn shrink(&mut self)
         ensures kept { KeepsLevels self.old self.new }
     {
-        let len = self.items.len();
-        if self.items.capacity() - len > len / 4 {
-            self.items.shrink_to(len + len / 8);
-        }
+        shrink_if_loose(&mut self.items, 0);
         self.bounds.shrink_to(self.bounds.len() + 1);
     }
 

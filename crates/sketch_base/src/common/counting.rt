@@ -32,7 +32,12 @@ pub fn count_in_order<T: Ord>(items: &[T], query: &T, criteria: SearchCriteria) 
 const AHEAD: usize = 16;
 
 /// Returns what `count_in_order` does, sooner if the count is at or just beyond a guess.
-pub fn count_near<T: Ord>(items: &[T], guess: usize, query: &T, criteria: SearchCriteria) -> usize
+pub(crate) fn count_near<T: Ord>(
+    items: &[T],
+    guess: usize,
+    query: &T,
+    criteria: SearchCriteria,
+) -> usize
     requires guess { guess ≤ length items.now }
     requires sorted { IsSorted T.cmp items.now }
     ensures within { result ≤ length items.now }

@@ -42,6 +42,18 @@ fn grow<T: Drop>(items: &mut Vec<T>, most: usize) -> Result<(), AllocError>
     items.reserve_exact((len / 4 + 4).min(left))
 }
 
+/// Shrinks the vector if it has room for over a quarter more items and for over `spare` more. It
+/// then keeps room for an eighth more, or for `spare` if that is more.
+pub fn shrink_if_loose<T: Drop>(items: &mut Vec<T>, spare: usize)
+    ensures items { items.new.items ≡ items.old.items }
+    ensures len { vec_len items.new ≡ vec_len items.old }
+{
+    let len = items.len();
+    if items.capacity() - len > spare.max(len / 4) {
+        items.shrink_to(len.saturating_add(spare.max(len / 8)));
+    }
+}
+
 /// Moves the items to the other vector and swaps the two, if the first has room for over a quarter
 /// more items. The other one is emptied first, and grows if it lacks room for the items. If memory
 /// runs out, the items stay where they are.
